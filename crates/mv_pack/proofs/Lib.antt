@@ -1,0 +1,2 @@
+pub mod GtinLemmas
+pub mod MarketLemmas

@@ -1,0 +1,12 @@
+use Rattle.std.proofs.Common.{◌≡◌, ◌≤◌, ◌<◌, get_or, true, arith}
+use Rattle.mv_pack.specs.Gtin.{is_digit}
+use Rattle.mv_pack.proofs.GtinLemmas.{digit_bounds, passes_at, weight_times_digit, weighted_sum-drop}
+use Rattle.mv_pack.proofs.gtin.sum_of.Goals as goal
+
+pub loop-byte-preserved : goal.loop-byte-preserved
+loop-byte-preserved c =
+    let x = get_or c.args.digits.now c.loop-byte.byte-index 0 in
+    let here = digit_bounds x (passes_at is_digit c.args.digits.now c.loop-byte.byte-index 0 c.requires.digits c.loop-byte-test.true) in
+    let step = weighted_sum-drop c.loop-byte.weight c.args.digits.now c.loop-byte.byte-index c.loop-byte-test.true in
+    let most = weight_times_digit c.loop-byte.weight x c.loop-byte.invariant.weight here.1 in
+    record { rest = omega arith; positive = omega arith; weight = omega arith; bound = omega arith }

@@ -1,0 +1,3 @@
+pub mod Gtin
+pub mod Market
+pub mod Fault

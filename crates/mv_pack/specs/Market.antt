@@ -1,0 +1,17 @@
+-- Markets: the Member States that a product is sold in, by the two capital letters of ISO 3166-1.
+use Rattle.std.specs.Prelude.{◌≡◌, ℕ, ◌==◌, ◌&&◌, not, Bool, List, length, nat_le, if◌then◌else◌, IsTrue, Result, Ok, Err}
+use Rattle.std.specs.List.{list_all}
+use Rattle.mv_pack.specs.declared.fault.PackFault.{PackFault}
+use Rattle.mv_pack.specs.declared.fault.PackFault.TheVariants.{Market}
+
+-- a byte is one of the letters A to Z
+abbrev pub is_capital : ℕ → Bool
+is_capital c = nat_le 65 c && nat_le c 90
+
+-- two capital letters
+abbrev pub IsMarket : List ℕ → Type 0
+IsMarket t = (length t ≡ 2) × IsTrue (list_all is_capital t)
+
+-- what reading a text gives: the market, or the fault
+abbrev pub read_market : List ℕ → Result (List ℕ) PackFault
+read_market t = if (length t == 2) && list_all is_capital t then Ok t else Err Market

@@ -1,0 +1,105 @@
+//! Product codes.
+ghost use Rattle.std.specs.Prelude.{◌≡◌, ◌+◌, ◌*◌, ◌-◌, ◌≤◌, ◌↔◌, length, map, IsOk, IsTrue};
+ghost use Rattle.std.specs.List.{list_all};
+ghost use Rattle.mv_pack.specs.Gtin.{is_digit, weighted_sum, padded, read_gtin, IsGtinText, digit_values};
+
+use crate::PackFault;
+use std::marker::Model;
+use std::str;
+
+/// A Global Trade Item Number, by its 14 digits.
+#[derive(Clone, Copy, Debug, PartialEq, Eq, PartialOrd, Ord, Hash)]
+pub struct Gtin {
+    bytes: [u8; 14],
+}
+
+impl Model for Gtin {
+    ghost use Rattle.std.specs.Prelude.{◌≡◌, List, ℕ, length};
+    ghost use Rattle.mv_pack.specs.Gtin.{IsGtin};
+
+    ghost Value = { List ℕ };
+
+    ghost view = { λ g. g.bytes };
+
+    ghost invariant = { λ g. IsGtin g.bytes };
+
+    ghost inverse = { λ b. record { bytes = b } };
+}
+
+impl Gtin {
+    /// Reads a GTIN of 8, 12, 13 or 14 digits, with zeros on its left to 14.
+    ///
+    /// The first of these that holds is the fault: P1, another number of bytes; P2, a byte that is no digit; P3, the
+    /// last digit is not the check digit of the others (GS1 General Specifications, section 7.9).
+    #[tactic(auto, using(crate::proofs::GtinLemmas::padded_digits, crate::proofs::GtinLemmas::length_padded))]
+    pub fn read(text: &str) -> Result<Gtin, PackFault>
+        ensures exact { result ≡ read_gtin text.now }
+        ensures accepted { IsOk result ↔ IsGtinText text.now }
+    {
+        let digits = text.as_bytes();
+        let len = digits.len();
+        if len != 8 && (len < 12 || 14 < len) {
+            return Err(PackFault::Length);
+        }
+        if !are_digits(digits) {
+            return Err(PackFault::Digit);
+        }
+        let bytes = padded_to_14(digits);
+        if sum_of(&bytes) % 10 != 0 {
+            return Err(PackFault::CheckDigit);
+        }
+        Ok(Gtin { bytes })
+    }
+
+    /// The 14 digits, as text.
+    pub fn as_str(&self) -> &str
+        ensures { result.now ≡ self.now }
+    {
+        let Ok(text) = str::from_utf8(&self.bytes) else {
+            unreachable!();
+        };
+        text
+    }
+
+    /// The 14 numbers.
+    pub fn digits(&self) -> [u8; 14]
+        ensures { result ≡ digit_values self.now }
+    {
+        let mut digits = [0; 14];
+        for i in 0..14 {
+            digits[i] = self.bytes[i].saturating_sub(b'0');
+        }
+        digits
+    }
+}
+
+pub(crate) fn are_digits(text: &[u8]) -> bool
+    ensures { result ≡ list_all is_digit text.now }
+{
+    text.iter().all(|b| b.is_ascii_digit())
+}
+
+/// The digits behind zeros, 14 in all.
+fn padded_to_14(digits: &[u8]) -> [u8; 14]
+    requires { length digits.now ≤ 14 }
+    ensures { result ≡ padded digits.now }
+{
+    let mut bytes = [b'0'; 14];
+    bytes[14 - digits.len()..].copy_from_slice(digits);
+    bytes
+}
+
+/// The sum of the digits with the weights 3, 1, 3, 1 and so on.
+fn sum_of(digits: &[u8]) -> u32
+    requires short { length digits.now ≤ 14 }
+    requires digits { IsTrue (list_all is_digit digits.now) }
+    ensures { result ≡ weighted_sum 3 digits.now }
+{
+    let mut sum = 0u32;
+    let mut weight = 3u32;
+    for byte in digits {
+        sum += weight * (*byte - b'0') as u32;
+        weight = 4 - weight;
+    }
+    sum
+}

@@ -1,0 +1,18 @@
+//! Messages between parties, and their JSON form.
+//!
+//! Used by every crate above. Its contract: a value is read as a message exactly where the definitions in `specs/`
+//! say so, else the first fault in their order is answered; what is written is read back. This crate knows no link,
+//! no hub and no line of the program.
+#![tactic(auto)]
+
+mod fault;
+mod field;
+mod markets;
+mod message;
+mod text;
+
+pub use fault::MessageFault;
+pub use field::Field;
+pub use markets::Markets;
+pub use message::{Message, Party, Product};
+pub use text::Text;

@@ -1,0 +1,26 @@
+//! Why a link gives no frame.
+
+ghost use Rattle.std.specs.Prelude.{◌≡◌};
+
+/// Why a link gives no frame.
+#[derive(Clone, Copy, Debug, PartialEq, Eq)]
+pub enum LinkFault {
+    /// L1: every item that was pushed has been relayed.
+    Nothing,
+    /// L4: memory was refused.
+    Memory,
+}
+
+impl LinkFault {
+    ghost use Rattle.mv_link.specs.Fault.{code_of};
+
+    /// The number of the fault, as `L1`.
+    pub fn code(self) -> &'static str
+        ensures { result.now ≡ code_of self }
+    {
+        match self {
+            LinkFault::Nothing => "L1",
+            LinkFault::Memory => "L4",
+        }
+    }
+}

@@ -1,0 +1,74 @@
+//! The end of a link that frames come to: it takes each item once and in order.
+
+ghost use Rattle.std.specs.Prelude.{◌≡◌, ◌+◌, ◌<◌, ◌≤◌};
+
+use crate::Frame;
+use std::marker::Model;
+
+/// How the number of a frame stands to what was accepted.
+#[derive(Clone, Copy, Debug, PartialEq, Eq)]
+pub enum Look {
+    /// It is the next: it is to be accepted.
+    Next,
+    /// It was accepted before.
+    Old,
+    /// Frames before it are missing; the next is `expected`.
+    Gap { expected: u32 },
+}
+
+/// The receiving end of one link, seen as how many frames it accepted.
+#[derive(Clone, Copy, Debug, PartialEq, Eq)]
+pub struct Incoming {
+    count: u32,
+}
+
+impl Model for Incoming {
+    ghost use Rattle.std.specs.Prelude.{ℕ};
+
+    ghost Value = { ℕ };
+
+    ghost view = { λ a. a.count };
+
+    ghost inverse = { λ n. record { count = n } };
+}
+
+impl Incoming {
+    /// A receiving end that accepted nothing.
+    pub fn new() -> Incoming
+        ensures { result ≡ 0 }
+    {
+        Incoming { count: 0 }
+    }
+
+    /// How many frames were accepted.
+    pub fn count(&self) -> u32
+        ensures { result ≡ self.now }
+    {
+        self.count
+    }
+
+    /// How a frame stands to what was accepted. Nothing changes.
+    pub fn look(&self, frame: &Frame) -> Look
+        ensures next { frame.now.number ≡ self.now + 1 → result ≡ Look.Next }
+        ensures old { frame.now.number ≤ self.now → result ≡ Look.Old }
+        ensures gap { self.now + 1 < frame.now.number → result ≡ Look.Gap (self.now + 1) }
+    {
+        if frame.number <= self.count {
+            return Look::Old;
+        }
+        let expected = self.count + 1;
+        if frame.number == expected {
+            Look::Next
+        } else {
+            Look::Gap { expected }
+        }
+    }
+
+    /// Accepts the next frame.
+    pub fn advance(&mut self)
+        requires { self.old < 4294967295 }
+        ensures { self.new ≡ self.old + 1 }
+    {
+        self.count += 1;
+    }
+}

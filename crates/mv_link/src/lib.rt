@@ -1,0 +1,20 @@
+//! Numbered links: what is pushed at one end is accepted at the other in order, each item once.
+//!
+//! There is a link for each ordered pair of parties, a party and itself included. The hub keeps the sending ends, the
+//! system the receiving ends. The contract: each frame that is relayed is a frame of every list that ends with what the
+//! sending end holds, and frames that come in any order are accepted as a prefix of their list. This crate knows no hub.
+#![tactic(auto)]
+
+mod fault;
+mod incoming;
+mod item;
+mod laws;
+mod outgoing;
+mod reach;
+
+pub use fault::LinkFault;
+pub use incoming::{Incoming, Look};
+pub use item::{Frame, Item};
+pub use laws::accepted_is_prefix;
+pub use outgoing::Outgoing;
+pub use reach::{PARTIES_LIMIT, Reach};

@@ -1,0 +1,117 @@
+//! The end of a link that items are pushed at. It keeps the last of them in a ring of the window's size.
+
+ghost use Rattle.std.specs.Prelude.{◌≡◌, ◌+◌, ◌-◌, ◌<◌, ◌≤◌, ◌↔◌, ◌⊎◌, List, [], ◌∷◌, ◌++◌, length, IsTrue, IsOk, OnOk, OnErr, IfOk, IfErr, IsErrOf};
+
+use crate::{Frame, Item, LinkFault};
+use circular_buffer::HeapCircularBuffer;
+use std::alloc::{AllocError, Global};
+use std::marker::Model;
+
+/// The sending end of one link. Its items are numbered from 1 in the order in which they were pushed.
+#[derive(Drop)]
+pub struct Outgoing {
+    alloc: Global,
+    held: HeapCircularBuffer<Item>,
+    total: u32,
+    sent: u32,
+}
+
+impl Model for Outgoing {
+    ghost use Rattle.mv_link.specs.Sending.{Sending, IsSending};
+
+    ghost Value = { Sending };
+
+    ghost view = { λ a. record { window = a.held.capacity; total = a.total; sent = a.sent; held = a.held.items } };
+
+    ghost invariant = { λ a. IsSending (record { window = a.held.capacity; total = a.total; sent = a.sent; held = a.held.items }) };
+}
+
+impl Outgoing {
+    ghost use Rattle.mv_link.specs.declared.item.Item.{Item as AnItem};
+    ghost use Rattle.mv_link.specs.Sending.{new_sending, with_item, with_relayed, HasRoom, EndsWithHeld, IsFrameOfAll};
+
+    /// A sending end with a window of 2 to 256 items. Refused for want of memory.
+    pub fn new(alloc: Global, window: u32) -> Result<Outgoing, AllocError>
+        requires { (2 ≤ window) × (window ≤ 256) }
+        ensures { IfOk result (λ made. made ≡ new_sending window) }
+    {
+        let held = HeapCircularBuffer::with_capacity(alloc, window as usize)?;
+        Ok(Outgoing {
+            alloc,
+            held,
+            total: 0,
+            sent: 0,
+        })
+    }
+
+    /// How many items were pushed.
+    pub fn total(&self) -> u32
+        ensures { result ≡ self.now.total }
+    {
+        self.total
+    }
+
+    /// How many items were relayed.
+    pub fn sent(&self) -> u32
+        ensures { result ≡ self.now.sent }
+    {
+        self.sent
+    }
+
+    /// Whether so many more items fit: none that waits to be relayed is pushed out, and numbers stay in 32 bits.
+    pub fn room(&self, count: u32) -> bool
+        ensures { IsTrue result ↔ HasRoom self.now count }
+    {
+        let waiting = u64::from(self.total - self.sent);
+        let window = self.held.capacity() as u64;
+        let more = u64::from(count);
+        waiting + more <= window && u64::from(self.total) + more <= u64::from(u32::MAX)
+    }
+
+    /// Pushes an item. It is always taken: what it pushes out of a full window was relayed.
+    pub fn push(&mut self, item: Item) -> Result<(), (LinkFault, Item)>
+        requires { HasRoom self.old 1 }
+        ensures ok { IsOk result }
+        ensures pushed { self.new ≡ with_item self.old item }
+        ensures grows { (list : List AnItem) → EndsWithHeld self.old list
+            → EndsWithHeld self.new (list ++ item ∷ []) }
+    {
+        let _ = self.held.push_back(item);
+        self.total += 1;
+        Ok(())
+    }
+
+    /// The frame of this number, which is held.
+    fn frame(&self, number: u32) -> Result<Frame, LinkFault>
+        requires { ((self.now.total - self.now.window) < number) × (number ≤ self.now.total) }
+        ensures number { IfOk result (λ frame. frame.number ≡ number) }
+        ensures frame { IfOk result (λ frame. IsFrameOfAll self.now frame) }
+        ensures memory { IfErr result (λ fault. fault ≡ LinkFault.Memory) }
+    {
+        let behind = (self.total - number) as usize;
+        let place = self.held.len() - 1 - behind;
+        let item = self.held.get(place).unwrap();
+        let item = item.copy(self.alloc)?;
+        Ok(Frame { number, item })
+    }
+
+    /// The next frame that was not relayed yet: L1 where there is none, L4 for want of memory.
+    pub fn relay(&mut self) -> Result<Frame, LinkFault>
+        ensures number { IfOk result (λ frame. frame.number ≡ self.old.sent + 1) }
+        ensures frame { IfOk result (λ frame. IsFrameOfAll self.old frame) }
+        ensures ok { OnOk result (self.new ≡ with_relayed self.old) }
+        ensures waiting { OnOk result (self.old.sent < self.old.total) }
+        ensures nothing { IsErrOf result LinkFault.Nothing ↔ (self.old.sent ≡ self.old.total) }
+        ensures others { IfErr result (λ fault. (fault ≡ LinkFault.Nothing) ⊎ (fault ≡ LinkFault.Memory)) }
+        ensures memory { IsErrOf result LinkFault.Memory → self.old.sent < self.old.total }
+        ensures err { OnErr result (self.new ≡ self.old) }
+    {
+        if self.sent == self.total {
+            return Err(LinkFault::Nothing);
+        }
+        let number = self.sent + 1;
+        let frame = self.frame(number)?;
+        self.sent = number;
+        Ok(frame)
+    }
+}

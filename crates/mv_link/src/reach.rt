@@ -1,0 +1,58 @@
+//! The parties that a message reaches.
+
+ghost use Rattle.std.specs.Prelude.{◌≡◌, ◌≤◌, length};
+ghost use Rattle.std.specs.List.Sorted.{IsStrictlyIncreasing};
+
+use arrayvec::ArrayVec;
+use mv_message::Party;
+use std::marker::Model;
+
+/// The most parties that a system has.
+pub const PARTIES_LIMIT: usize = 64;
+
+/// A set of parties, in ascending order. It takes no memory of its own.
+#[derive(Clone, Debug, PartialEq, Eq, Drop)]
+pub struct Reach {
+    parties: ArrayVec<Party, PARTIES_LIMIT>,
+}
+
+impl Model for Reach {
+    ghost use Rattle.std.specs.Prelude.{ℕ, List};
+    ghost use Rattle.std.specs.List.Sorted.{IsStrictlyIncreasing};
+
+    ghost Value = { List ℕ };
+
+    ghost view = { λ r. r.parties.items };
+
+    ghost invariant = { λ r. IsStrictlyIncreasing r.parties.items };
+
+    ghost inverse = { λ xs. record { parties = record { items = xs } } };
+}
+
+impl Reach {
+    /// The set of these parties, each of which is greater than the one before it.
+    pub fn new(parties: ArrayVec<Party, PARTIES_LIMIT>) -> Reach
+        requires { IsStrictlyIncreasing parties.items }
+        ensures { result ≡ parties.items }
+    {
+        Reach { parties }
+    }
+
+    /// The parties, ascending.
+    pub fn as_slice(&self) -> &[Party]
+        ensures value { result.now ≡ self.now }
+        ensures ascending { IsStrictlyIncreasing result.now }
+    {
+        self.parties.as_slice()
+    }
+
+    /// A set of its own of the same parties. It takes no memory.
+    pub fn copy(&self) -> Reach
+        ensures { result ≡ self.now }
+    {
+        let Ok(parties) = self.parties.clone() else {
+            unreachable!();
+        };
+        Reach { parties }
+    }
+}

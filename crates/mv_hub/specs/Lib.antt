@@ -1,0 +1,6 @@
+pub mod Record
+pub mod Parties
+pub mod Targets
+pub mod Links
+pub mod Fault
+pub mod Hub

@@ -1,0 +1,44 @@
+-- The parties and the markets that they serve: each territory is served by one repository (Article 32).
+use Rattle.std.specs.Prelude.{ℕ, List, [], ◌∷◌, ◌++◌, length, nat_eq, nat_lt, Bool, false, ◌==◌, ◌||◌, if◌then◌else◌, slice_index_or, filter, Result, Ok, Err}
+use Rattle.std.specs.List.{list_any, range_with_len}
+use Rattle.std.specs.Cmp.Lexicographic.{pointwise}
+use Rattle.mv_hub.specs.declared.fault.HubFault.{HubFault}
+use Rattle.mv_hub.specs.declared.fault.HubFault.TheVariants.{NoParty, TooMany, ServedTwice}
+
+-- two markets are the same
+abbrev pub is_same_market : List ℕ → List ℕ → Bool
+is_same_market = pointwise nat_eq
+
+-- the list has the market
+abbrev pub has_market : List (List ℕ) → List ℕ → Bool
+has_market markets market = list_any (λ m. is_same_market m market) markets
+
+-- who serves the first markets serves one of the others
+abbrev pub serves_one : List (List ℕ) → List (List ℕ) → Bool
+serves_one served wanted = list_any (has_market wanted) served
+
+-- the markets that a party serves: party i the i-th list, from 0
+abbrev pub served_by : List (List (List ℕ)) → ℕ → List (List ℕ)
+served_by parties party = slice_index_or parties party []
+
+-- the parties that serve one of these markets, ascending
+abbrev pub serving : List (List (List ℕ)) → List (List ℕ) → List ℕ
+serving parties wanted = filter (λ party. serves_one (served_by parties party) wanted) (range_with_len 0 (length parties))
+
+-- a market stands twice in the list
+abbrev pub has_twice : List (List ℕ) → Bool
+has_twice [] = false
+has_twice (market ∷ markets) = has_market markets market || has_twice markets
+
+-- the markets of all parties, one list behind the other
+abbrev pub all_markets : List (List (List ℕ)) → List (List ℕ)
+all_markets [] = []
+all_markets (markets ∷ rest) = markets ++ all_markets rest
+
+-- the parties of these lists, or the first fault: 1 to 64 of them, and no market is served twice
+abbrev pub parties_of : List (List (List ℕ)) → Result (List (List (List ℕ))) HubFault
+parties_of lists =
+    if length lists == 0 then Err NoParty
+    else (if nat_lt 64 (length lists) then Err TooMany
+    else (if has_twice (all_markets lists) then Err ServedTwice
+    else Ok lists))

@@ -1,0 +1,40 @@
+-- The hub's record, its audit trail (Regulation (EU) 2016/161, Article 35(1)): the oldest entry stands first.
+use Rattle.std.specs.Prelude.{ℕ, List, [], ◌∷◌, length, nat_eq, Bool, true, false, ◌==◌, ◌&&◌, not, if◌then◌else◌}
+use Rattle.std.specs.Cmp.Lexicographic.{pointwise}
+use Rattle.mv_message.specs.declared.message.Message.{Message}
+use Rattle.mv_message.specs.declared.message.Message.TheVariants.{Master}
+use Rattle.mv_hub.specs.declared.entry.Entry.{Entry}
+use Rattle.mv_hub.specs.declared.entry.Entry.TheVariants.{Routed, Closed}
+
+-- the messages that were routed from a party, in order
+abbrev pub routed_from : List Entry → ℕ → List Message
+routed_from [] party = []
+routed_from (Routed from k message ∷ entries) party =
+    if from == party then message ∷ routed_from entries party else routed_from entries party
+routed_from (Closed from to ∷ entries) party = routed_from entries party
+
+-- how many messages were routed from a party
+abbrev pub routed_count : List Entry → ℕ → ℕ
+routed_count entries party = length (routed_from entries party)
+
+-- two product codes are the same
+abbrev pub is_same_gtin : List ℕ → List ℕ → Bool
+is_same_gtin = pointwise nat_eq
+
+-- the markets of a product once these entries follow, where those markets were its before
+abbrev pub market_table_after : List (List ℕ) → List Entry → List ℕ → List (List ℕ)
+market_table_after markets [] gtin = markets
+market_table_after markets (Routed from k (Master named product) ∷ entries) gtin =
+    market_table_after (if is_same_gtin named gtin then product.markets else markets) entries gtin
+market_table_after markets (Closed from to ∷ entries) gtin = market_table_after markets entries gtin
+
+-- the markets of a product: those of its last routed master, none where there is no master
+abbrev pub market_table : List Entry → List ℕ → List (List ℕ)
+market_table entries gtin = market_table_after [] entries gtin
+
+-- no entry closes the link between two parties
+abbrev pub is_open : List Entry → ℕ → ℕ → Bool
+is_open [] sender receiver = true
+is_open (Routed from k message ∷ entries) sender receiver = is_open entries sender receiver
+is_open (Closed from to ∷ entries) sender receiver =
+    not (from == sender && to == receiver) && is_open entries sender receiver

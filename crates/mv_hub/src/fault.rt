@@ -1,0 +1,66 @@
+//! Why the hub refuses a call. Each fault has its number.
+
+ghost use Rattle.std.specs.Prelude.{◌≡◌};
+
+use mv_message::Party;
+
+/// Why parties cannot be made, or why the hub gives no frame.
+#[derive(Clone, Copy, Debug, PartialEq, Eq)]
+pub enum HubFault {
+    /// H1: there is no party.
+    NoParty,
+    /// H2: there are more than 64 parties.
+    TooMany,
+    /// H3: a market is served twice.
+    ServedTwice,
+    /// H4: there is no such party.
+    StrangerParty,
+    /// H8: every item of the link has been relayed.
+    Nothing,
+    /// H7: memory was refused.
+    Memory,
+}
+
+impl HubFault {
+    ghost use Rattle.mv_hub.specs.Fault.{code_of};
+
+    /// The number of the fault, as `H3`.
+    pub fn code(self) -> &'static str
+        ensures { result.now ≡ code_of self }
+    {
+        match self {
+            HubFault::NoParty => "H1",
+            HubFault::TooMany => "H2",
+            HubFault::ServedTwice => "H3",
+            HubFault::StrangerParty => "H4",
+            HubFault::Nothing => "H8",
+            HubFault::Memory => "H7",
+        }
+    }
+}
+
+/// Why the hub does not route a message.
+#[derive(Clone, Copy, Debug, PartialEq, Eq)]
+pub enum RouteFault {
+    /// H4: there is no such party.
+    StrangerParty,
+    /// H5: the link to this party, the least such, has no room for what the message would put on it.
+    Busy(Party),
+    /// H7: memory was refused.
+    Memory,
+}
+
+impl RouteFault {
+    ghost use Rattle.mv_hub.specs.Fault.{route_code_of};
+
+    /// The number of the fault, as `H5`.
+    pub fn code(self) -> &'static str
+        ensures { result.now ≡ route_code_of self }
+    {
+        match self {
+            RouteFault::StrangerParty => "H4",
+            RouteFault::Busy(_) => "H5",
+            RouteFault::Memory => "H7",
+        }
+    }
+}

@@ -1,0 +1,5 @@
+pub mod Log
+pub mod Order
+pub mod Product
+pub mod Effect
+pub mod Repository

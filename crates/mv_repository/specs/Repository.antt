@@ -1,0 +1,24 @@
+-- What a repository is seen as. No table is part of it: all that it answers is the meaning of its log by stamp order.
+use Rattle.std.specs.Prelude.{ℕ, List, [], ◌∷◌, ◌++◌, Option}
+use Rattle.mv_message.specs.declared.message.Product.{Product}
+use Rattle.mv_link.specs.declared.item.Item.{Item}
+use Rattle.mv_repository.specs.declared.entry.LogEntry.{LogEntry}
+use Rattle.mv_repository.specs.Order.{ordered}
+use Rattle.mv_repository.specs.Product.{last_product}
+
+pub record RepositoryState : Type 0 where
+  pub party : ℕ            -- whose repository it is
+  pub log : List LogEntry  -- what it applied, the oldest entry first
+
+-- a repository that applied nothing
+abbrev pub new_repository : ℕ → RepositoryState
+new_repository party = record { party = party; log = [] }
+
+-- the repository once an item from a sender is applied
+abbrev pub with_applied : RepositoryState → ℕ → Item → RepositoryState
+with_applied repository sender item =
+    record repository { log = repository.log ++ record { sender = sender; item = item } ∷ [] }
+
+-- the product that a log means under a code: that of the master with the greatest stamp
+abbrev pub product_of : List LogEntry → List ℕ → Option Product
+product_of log gtin = last_product (ordered log) gtin

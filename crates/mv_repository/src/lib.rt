@@ -1,0 +1,12 @@
+//! A national repository: its log, and the copy that the log means.
+//!
+//! The system is its only user. The contract: a repository is seen as its party and its log; whatever it answers is the
+//! meaning of that log in the order of the hub's stamps, by the definitions in `specs/`. A refused call has changed
+//! nothing. This crate knows no hub, no JSON and no thread.
+#![tactic(auto)]
+
+mod effect;
+mod entry;
+
+pub use effect::Effect;
+pub use entry::LogEntry;

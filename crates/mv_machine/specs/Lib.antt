@@ -4,3 +4,4 @@ pub mod State
 pub mod Steps
 pub mod Runs
 pub mod Lawful
+pub mod Laws

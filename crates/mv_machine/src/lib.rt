@@ -4,10 +4,12 @@
 //! of the machine keeps. It stands on the definitions of the hub and of the repository.
 #![tactic(auto)]
 
+mod laws;
 mod limits;
 mod reply;
 mod step;
 
+pub use laws::runs_are_lawful;
 pub use limits::{Limits, LimitsFault};
 pub use reply::{Refusal, Reply};
 pub use step::Step;

@@ -8,6 +8,7 @@
 mod fault;
 mod field;
 mod form;
+pub mod laws;
 mod lists;
 mod markets;
 pub mod members;

@@ -109,19 +109,20 @@ each_spelled {A} reader f (item d ds) xs h =
     let rest = each_spelled reader f ds b.0 b.1 in
     let whole : (a.0 ∷ b.0) ≡ xs = cc in
     subst (λ (zs : List A). SpellEach reader (item d ds) zs × (suc (count_of ds) ≡ length zs)) whole
-      ((t.0, as_str_ok d t.0 (some_or_ok (Kind f) (as_str d) t.0 t.1), of_field_ok f (reader t.0) a.0 t.2, rest.0), ap (λ n. suc n) rest.1)
+    ((t.0, as_str_ok d t.0 (some_or_ok (Kind f) (as_str d) t.0 t.1), of_field_ok f (reader t.0) a.0 t.2, rest.0), ap (λ n. suc n) rest.1)
 
 each_is_read : {A : Type 0} (reader : List ℕ → Result A PackFault) (f : Field) (ds : Items) (xs : List A) → SpellEach reader ds xs → (read_each reader f ds ≡ Ok xs) × (are_texts ds ≡ true) × (count_of ds ≡ length xs)
 each_is_read reader f no_items [] h = (refl, refl, refl)
 each_is_read reader f no_items (x ∷ xs) h = absurd h
 each_is_read reader f (item d ds) [] h = absurd h
 each_is_read reader f (item d ds) (x ∷ xs) h =
-    let rest = each_is_read reader f ds xs h.3 in
-    (ap (λ d. read_item reader f d and_then λ y. read_each reader f ds and_then λ ys. Ok (y ∷ ys)) h.1
-      ∙ ap (λ r. of_field f r and_then λ y. read_each reader f ds and_then λ ys. Ok (y ∷ ys)) h.2
-      ∙ ap (λ r. r and_then λ ys. Ok (x ∷ ys)) rest.0,
-    ap (λ d. is_some (as_str d) && are_texts ds) h.1 ∙ rest.1,
-    ap (λ n. suc n) rest.2)
+    let rest = each_is_read reader f ds xs h.3 in (
+      ap (λ d. read_item reader f d and_then λ y. read_each reader f ds and_then λ ys. Ok (y ∷ ys)) h.1
+          ∙ ap (λ r. of_field f r and_then λ y. read_each reader f ds and_then λ ys. Ok (y ∷ ys)) h.2
+          ∙ ap (λ r. r and_then λ ys. Ok (x ∷ ys)) rest.0,
+      ap (λ d. is_some (as_str d) && are_texts ds) h.1 ∙ rest.1,
+      ap (λ n. suc n) rest.2,
+    )
 
 regrouped : {A B C : Type 0} (r : Result A MessageFault) (f : A → Result B MessageFault) (g : B → Result C MessageFault) → ((r and_then f) and_then g) ≡ (r and_then λ x. f x and_then g)
 regrouped (Ok x) f g = refl
@@ -131,16 +132,18 @@ texts_ok : (most : ℕ) (f : Field) (d : Data) (ds : Items) → texts_at most f 
 unfolding texts_at
 texts_ok most f d ds h =
     let counted : Items → Result Items MessageFault = λ es.
-      cond (not (are_texts es)) (Err (Kind f)) (cond ((count_of es == 0) || nat_lt most (count_of es)) (Err (Count f)) (Ok es)) in
+    cond (not (are_texts es)) (Err (Kind f)) (cond ((count_of es == 0) || nat_lt most (count_of es)) (Err (Count f)) (Ok es)) in
     let a = both_ok (member_at f d and_then λ x. some_or (Kind f) (as_array x)) counted ds (regrouped (member_at f d) (λ x. some_or (Kind f) (as_array x)) counted ∙ h) in
     let b = both_ok (member_at f d) (λ x. some_or (Kind f) (as_array x)) a.0 a.1 in
     let texts = unrefused (not (are_texts a.0)) (Kind f) (cond ((count_of a.0 == 0) || nat_lt most (count_of a.0)) (Err (Count f)) (Ok a.0)) ds a.2 in
     let kept = unrefused ((count_of a.0 == 0) || nat_lt most (count_of a.0)) (Count f) (Ok a.0) ds texts.1 in
     let bounds = count_within (count_of a.0) most kept.0 in
     let same : a.0 ≡ ds = cc in
-    subst (λ (es : Items). (get (field_name f) d ≡ Some (array es)) × (1 ≤ count_of es) × (count_of es ≤ most)) same
-      (some_or_ok (Missing f) (get (field_name f) d) b.0 b.1 ∙ ap (λ x. Some x) (as_array_ok b.0 a.0 (some_or_ok (Kind f) (as_array b.0) a.0 b.2)),
-      bounds.0, bounds.1)
+    subst (λ (es : Items). (get (field_name f) d ≡ Some (array es)) × (1 ≤ count_of es) × (count_of es ≤ most)) same (
+      some_or_ok (Missing f) (get (field_name f) d) b.0 b.1 ∙ ap (λ x. Some x) (as_array_ok b.0 a.0 (some_or_ok (Kind f) (as_array b.0) a.0 b.2)),
+      bounds.0,
+      bounds.1,
+    )
 
 -- a field that is read as a list is a spelling of it
 pub spelled_list : {A : Type 0} (reader : List ℕ → Result A PackFault) (most : ℕ) (f : Field) (d : Data) (xs : List A) → (texts_at most f d and_then read_each reader f) ≡ Ok xs → SpellsList reader most d f xs
@@ -155,7 +158,7 @@ unfolding texts_at
 spelling_list_is_read reader most f d xs (ds, found, low, high, spelling) =
     let each = each_is_read reader f ds xs spelling in
     ap (λ o. (some_or (Missing f) o and_then λ x. some_or (Kind f) (as_array x) and_then λ es.
-      cond (not (are_texts es)) (Err (Kind f)) (cond ((count_of es == 0) || nat_lt most (count_of es)) (Err (Count f)) (Ok es))) and_then read_each reader f) found
+    cond (not (are_texts es)) (Err (Kind f)) (cond ((count_of es == 0) || nat_lt most (count_of es)) (Err (Count f)) (Ok es))) and_then read_each reader f) found
     ∙ ap (λ b. cond (not b) (Err (Kind f)) (cond ((count_of ds == 0) || nat_lt most (count_of ds)) (Err (Count f)) (Ok ds)) and_then read_each reader f) each.1
     ∙ ap (λ b. cond b (Err (Count f)) (Ok ds) and_then read_each reader f) (ap (λ n. (n == 0) || nat_lt most n) each.2 ∙ within_count (length xs) most low high)
     ∙ each.0

@@ -35,9 +35,10 @@ same_bytes s t e = (bytes_eq-Decides s t).0 e
 -- no key is unknown, so each is one of the names
 all_known : (names keys : List (List ℕ)) → find (λ key. not (is_among names key)) keys ≡ None → AllByRecursion (Contains names) keys
 all_known names [] h = tt
-all_known names (k ∷ ks) h = elim (is_among names k) as (λ b. is_among names k ≡ b → cond (not b) (Some k) (find (λ key. not (is_among names key)) ks) ≡ None → Contains names k × AllByRecursion (Contains names) ks)
-  [ true ↦ λ known e. (Contains-from_any same_bytes k names known, all_known names ks e)
-  | false ↦ λ known e. cc ] refl h
+all_known names (k ∷ ks) h = elim (is_among names k) as (λ b. is_among names k ≡ b → cond (not b) (Some k) (find (λ key. not (is_among names key)) ks) ≡ None → Contains names k × AllByRecursion (Contains names) ks) [
+  | true ↦ λ known e. (Contains-from_any same_bytes k names known, all_known names ks e)
+  | false ↦ λ known e. cc
+] refl h
 
 none_unknown : (names keys : List (List ℕ)) → AllByRecursion (Contains names) keys → find (λ key. not (is_among names key)) keys ≡ None
 none_unknown names [] h = refl
@@ -51,7 +52,7 @@ unless_ok form (Some key) known h = cc
 
 master_named : (t : List ℕ) → form_named t ≡ Some forms.Master → t ≡ codes "master"
 master_named t h = elim (bytes_eq t (codes "master")) as (λ b. bytes_eq t (codes "master") ≡ b → cond b (Some forms.Master) None ≡ Some forms.Master → t ≡ codes "master")
-  [ true ↦ λ e _. same_bytes t (codes "master") e | false ↦ λ _ e. cc ] refl h
+    [ true ↦ λ e _. same_bytes t (codes "master") e | false ↦ λ _ e. cc ] refl h
 
 -- an object whose form and keys are known
 opened : (d : Data) (m : Message) → read_message d ≡ Ok m → (form : Form) × (form_at d ≡ Ok form) × HasOnly form d × (message_at form d ≡ Ok m)
@@ -78,8 +79,15 @@ master_of common form gtin markets name pack_size pack_type scheme strength =
     common and_then λ common. form and_then λ form. gtin and_then λ gtin. markets and_then λ markets. name and_then λ name.
     pack_size and_then λ pack_size. pack_type and_then λ pack_type. scheme and_then λ scheme. strength and_then λ strength.
     Ok (messages.Master gtin (record {
-      scheme = scheme; name = name; common = common; form = form; strength = strength;
-      pack_type = pack_type; pack_size = pack_size; markets = markets }))
+      scheme = scheme;
+      name = name;
+      common = common;
+      form = form;
+      strength = strength;
+      pack_type = pack_type;
+      pack_size = pack_size;
+      markets = markets;
+    }))
 
 -- each field of a master that was read gave its part
 record Parts (c f g : Result (List ℕ) MessageFault) (ms : Result (List (List ℕ)) MessageFault) (n ps pt sc st : Result (List ℕ) MessageFault) (m : Message) : Type 0 where
@@ -99,8 +107,20 @@ record Parts (c f g : Result (List ℕ) MessageFault) (ms : Result (List (List �
 parts : (c f g : Result (List ℕ) MessageFault) (ms : Result (List (List ℕ)) MessageFault) (n ps pt sc st : Result (List ℕ) MessageFault) (m : Message) → master_of c f g ms n ps pt sc st ≡ Ok m → Parts c f g ms n ps pt sc st m
 unfolding master_of
 parts (Ok c) (Ok f) (Ok g) (Ok ms) (Ok n) (Ok ps) (Ok pt) (Ok sc) (Ok st) m h =
-    record { gtin = g; product = record { scheme = sc; name = n; common = c; form = f; strength = st; pack_type = pt; pack_size = ps; markets = ms };
-      whole = cc; common = refl; form = refl; code = refl; markets = refl; name = refl; pack_size = refl; pack_type = refl; scheme = refl; strength = refl }
+    record {
+      gtin = g;
+      product = record { scheme = sc; name = n; common = c; form = f; strength = st; pack_type = pt; pack_size = ps; markets = ms };
+      whole = cc;
+      common = refl;
+      form = refl;
+      code = refl;
+      markets = refl;
+      name = refl;
+      pack_size = refl;
+      pack_type = refl;
+      scheme = refl;
+      strength = refl;
+    }
 parts (Ok c) (Ok f) (Ok g) (Ok ms) (Ok n) (Ok ps) (Ok pt) (Ok sc) (Err e) m h = cc
 parts (Ok c) (Ok f) (Ok g) (Ok ms) (Ok n) (Ok ps) (Ok pt) (Err e) st m h = cc
 parts (Ok c) (Ok f) (Ok g) (Ok ms) (Ok n) (Ok ps) (Err e) sc st m h = cc
@@ -117,13 +137,22 @@ master_spelled d m named only h =
     let t = both_ok (text_at fields.Msg d) (λ t. some_or (Kind fields.Msg) (form_named t)) forms.Master named in
     let msg : HasText d fields.Msg (codes "master") = text_ok fields.Msg d t.0 t.1 ∙ ap (λ x. Some (string x)) (master_named t.0 (some_or_ok (Kind fields.Msg) (form_named t.0) forms.Master t.2)) in
     let p = parts (free_text_at fields.Common d) (free_text_at fields.Form d) (gtin_at fields.Gtin d) (markets_at fields.Markets d) (free_text_at fields.Name d)
-      (free_text_at fields.PackSize d) (free_text_at fields.PackType d) (free_text_at fields.Scheme d) (free_text_at fields.Strength d) m h in
-    subst (Reads d) p.whole (only, msg, spelled read_gtin fields.Gtin d p.gtin p.code,
-      (free_text_ok fields.Common d p.product.common p.common, free_text_ok fields.Form d p.product.form p.form,
-      spelled_list read_market MOST_MARKETS fields.Markets d p.product.markets p.markets,
-      free_text_ok fields.Name d p.product.name p.name, free_text_ok fields.PackSize d p.product.pack_size p.pack_size,
-      free_text_ok fields.PackType d p.product.pack_type p.pack_type, free_text_ok fields.Scheme d p.product.scheme p.scheme,
-      free_text_ok fields.Strength d p.product.strength p.strength))
+    (free_text_at fields.PackSize d) (free_text_at fields.PackType d) (free_text_at fields.Scheme d) (free_text_at fields.Strength d) m h in
+    subst (Reads d) p.whole (
+      only,
+      msg,
+      spelled read_gtin fields.Gtin d p.gtin p.code,
+      (
+        free_text_ok fields.Common d p.product.common p.common,
+        free_text_ok fields.Form d p.product.form p.form,
+        spelled_list read_market MOST_MARKETS fields.Markets d p.product.markets p.markets,
+        free_text_ok fields.Name d p.product.name p.name,
+        free_text_ok fields.PackSize d p.product.pack_size p.pack_size,
+        free_text_ok fields.PackType d p.product.pack_type p.pack_type,
+        free_text_ok fields.Scheme d p.product.scheme p.scheme,
+        free_text_ok fields.Strength d p.product.strength p.strength,
+      ),
+    )
 
 message_spelled : (d : Data) (m : Message) (form : Form) → form_at d ≡ Ok form → HasOnly form d → message_at form d ≡ Ok m → Reads d m
 message_spelled d m forms.Master named only h = master_spelled d m named only h
@@ -156,14 +185,14 @@ master_is_read d p gtin code markets h =
     let sc = free_text_is_read fields.Scheme d p.scheme h.6 in
     let st = free_text_is_read fields.Strength d p.strength h.7 in
     master_whole (free_text_at fields.Common d) (free_text_at fields.Form d) (gtin_at fields.Gtin d) (markets_at fields.Markets d) (free_text_at fields.Name d)
-      (free_text_at fields.PackSize d) (free_text_at fields.PackType d) (free_text_at fields.Scheme d) (free_text_at fields.Strength d) gtin p c f code markets n ps pt sc st
+    (free_text_at fields.PackSize d) (free_text_at fields.PackType d) (free_text_at fields.Scheme d) (free_text_at fields.Strength d) gtin p c f code markets n ps pt sc st
 
 spelled_is_read : (d : Data) (m : Message) → Reads d m → read_message d ≡ Ok m
 unfolding form_at gtin_at markets_at
 spelled_is_read d (messages.Master gtin product) h =
     let named : form_at d ≡ Ok forms.Master = ap (λ r. r and_then λ t. some_or (Kind fields.Msg) (form_named t)) (text_is_read fields.Msg d (codes "master") h.1) in
     reopened d (messages.Master gtin product) forms.Master h.0 named
-      (master_is_read d product gtin (spelling_is_read read_gtin fields.Gtin d gtin h.2) (spelling_list_is_read read_market MOST_MARKETS fields.Markets d product.markets h.3.2) h.3)
+    (master_is_read d product gtin (spelling_is_read read_gtin fields.Gtin d gtin h.2) (spelling_list_is_read read_market MOST_MARKETS fields.Markets d product.markets h.3.2) h.3)
 
 -- a value is read as a message exactly where it is a spelling of it
 pub reads_exactly : (d : Data) (m : Message) → (read_message d ≡ Ok m) ↔ Reads d m
@@ -177,9 +206,10 @@ markets_legal (item d ds) (m ∷ ms) h = (read_market_is_market h.0 m h.2, marke
 
 spelled_is_legal : (d : Data) (m : Message) → Reads d m → IsLegal m
 spelled_is_legal d (messages.Master gtin product) h =
-    let p = h.3 in
-    (read_gtin_is_gtin h.2.0 gtin h.2.2,
-      (p.0.1, p.1.1, (p.2.2, p.2.3, markets_legal p.2.0 product.markets p.2.4), p.3.1, p.4.1, p.5.1, p.6.1, p.7.1))
+    let p = h.3 in (
+      read_gtin_is_gtin h.2.0 gtin h.2.2,
+      (p.0.1, p.1.1, (p.2.2, p.2.3, markets_legal p.2.0 product.markets p.2.4), p.3.1, p.4.1, p.5.1, p.6.1, p.7.1),
+    )
 
 -- what is read is legal
 pub read_is_legal : (d : Data) (m : Message) → read_message d ≡ Ok m → IsLegal m
@@ -191,16 +221,40 @@ markets_spelled (m ∷ ms) h = (m, refl, read_market_of m h.0, markets_spelled m
 
 -- the names of a master's fields, each at its place
 master_names : AllByRecursion (Contains (names_of forms.Master)) (names_of forms.Master)
-master_names =
-    ((0, omega arith, refl), ((1, omega arith, refl), ((2, omega arith, refl), ((3, omega arith, refl), ((4, omega arith, refl),
-    ((5, omega arith, refl), ((6, omega arith, refl), ((7, omega arith, refl), ((8, omega arith, refl), ((9, omega arith, refl), tt))))))))))
+master_names = (
+  (0, omega arith, refl),
+  (
+    (1, omega arith, refl),
+    (
+      (2, omega arith, refl),
+      (
+        (3, omega arith, refl),
+        (
+          (4, omega arith, refl),
+          ((5, omega arith, refl), ((6, omega arith, refl), ((7, omega arith, refl), ((8, omega arith, refl), ((9, omega arith, refl), tt))))),
+        ),
+      ),
+    ),
+  ),
+)
 
 value_spells : (m : Message) → IsLegal m → Reads (value_of m) m
 value_spells (messages.Master gtin product) h =
-    let p = h.1 in
-    ((_, refl, master_names), refl, (gtin, refl, read_gtin_of gtin h.0),
-    ((refl, p.0), (refl, p.1), (strings product.markets, refl, p.2.0, p.2.1, markets_spelled product.markets p.2.2),
-    (refl, p.3), (refl, p.4), (refl, p.5), (refl, p.6), (refl, p.7)))
+    let p = h.1 in (
+      (_, refl, master_names),
+      refl,
+      (gtin, refl, read_gtin_of gtin h.0),
+      (
+        (refl, p.0),
+        (refl, p.1),
+        (strings product.markets, refl, p.2.0, p.2.1, markets_spelled product.markets p.2.2),
+        (refl, p.3),
+        (refl, p.4),
+        (refl, p.5),
+        (refl, p.6),
+        (refl, p.7),
+      ),
+    )
 
 -- each legal message is read back from its value
 pub reads_back : (m : Message) → IsLegal m → read_message (value_of m) ≡ Ok m

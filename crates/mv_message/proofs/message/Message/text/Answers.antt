@@ -13,4 +13,4 @@ returns-clause-reads_back c =
     let value = c.in_ok-to_value.ensures.value in
     let shallow = subst (λ (d : Data). depth d ≤ max_depth) (sym value) (value_depth c.args.self.now) in
     text_reads_back c.args.self.now _ (IsUtf8-string_bytes c.in_ok-to_string.field-0)
-      (c.in_ok-to_string.ensures.reads_back shallow ∙ ap (λ d. Some d) value)
+    (c.in_ok-to_string.ensures.reads_back shallow ∙ ap (λ d. Some d) value)

@@ -7,7 +7,7 @@ use Rattle.mv_repository.specs.declared.entry.LogEntry.{LogEntry}
 
 -- an entry with its place in the log
 pub record Placed : Type 0 where
-  pub place : ℕ         -- counted from 0
+  pub place : ℕ  -- counted from 0
   pub entry : LogEntry
 
 -- where an item stands: by its stamp, and receipts behind every stamp of 32 bits

@@ -7,6 +7,10 @@
 
 mod effect;
 mod entry;
+mod repository;
+mod sender;
 
 pub use effect::Effect;
 pub use entry::LogEntry;
+pub use repository::Repository;
+pub use sender::FromSender;

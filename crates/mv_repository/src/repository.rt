@@ -4,7 +4,7 @@ ghost use Rattle.std.specs.Prelude.{◌≡◌, ◌<◌, ℕ, List, Bool, false, 
 ghost use Rattle.std.specs.Option.{option_copied, option_map};
 ghost use Rattle.mv_repository.specs.Order.{rank, ordered};
 ghost use Rattle.mv_repository.specs.Product.{is_same_gtin};
-ghost use Rattle.mv_repository.specs.Copy.{is_master, product_in, last_master, entry_of};
+ghost use Rattle.mv_repository.specs.Copy.{is_master, product_in, last_master, entry_of, is_late};
 
 use crate::{Effect, FromSender, LogEntry};
 use indexmap::IndexMap;
@@ -82,6 +82,16 @@ impl Repository {
         Some(&self.log[place])
     }
 
+    /// Whether an item that comes last stands before the last master of a code by stamp.
+    fn is_late(&self, gtin: &Gtin, item: &Item) -> bool
+        ensures { result ≡ is_late item.now (last_master gtin.now (ordered self.now.log)) }
+    {
+        match self.last_master(gtin) {
+            Some(last) => rank(item) < rank(&last.item),
+            None => false,
+        }
+    }
+
     /// The product that is known under a code. The log isn't searched.
     pub fn product(&self, gtin: &Gtin) -> Option<&Product>
         ensures { option_copied result ≡ product_of self.now.log gtin.now }
@@ -128,11 +138,7 @@ impl Repository {
     {
         let entry = ready_entry(self.alloc, &mut self.log, sender, item)?;
         let place = self.log.len();
-        let is_late = match self.last_master(&gtin) {
-            Some(last) => rank(item) < rank(&last.item),
-            None => false,
-        };
-        if !is_late {
+        if !self.is_late(&gtin, item) {
             self.masters.insert(gtin, place)?;
         }
         self.log.push_reserved(entry);

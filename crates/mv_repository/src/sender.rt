@@ -1,6 +1,6 @@
 //! The items of a log that came from one party.
 
-ghost use Rattle.std.specs.Prelude.{◌≡◌};
+ghost use Rattle.std.specs.Prelude.{◌≡◌, [], ◌∷◌, IfSome, IfNone};
 ghost use Rattle.std.specs.Iterator.{YieldsFirstRef, item_count};
 ghost use Rattle.mv_repository.specs.Log.{items_from};
 
@@ -19,6 +19,7 @@ pub struct FromSender<'a> {
 impl<'a> Model for FromSender<'a> {
     ghost use Rattle.std.specs.Prelude.{List};
     ghost use Rattle.mv_link.specs.declared.item.Item.{Item as AnItem};
+    ghost use Rattle.mv_repository.specs.Log.{items_from};
 
     ghost Value = { List AnItem };
 
@@ -41,13 +42,24 @@ impl<'a> Iterator for FromSender<'a> {
     ghost remaining = { item_count (λ it. it) };
 
     fn next(&mut self) -> Option<&'a Item> {
-        let sender = self.sender;
-        let place = self
-            .entries
-            .iter()
-            .position(|entry| entry.sender == sender)?;
-        let entry = &self.entries[place];
-        self.entries = &self.entries[place + 1..];
-        Some(&entry.item)
+        let (item, rest) = split_first_from(self.entries, self.sender)?;
+        self.entries = rest;
+        Some(item)
     }
+}
+
+/// The first item from a party, and the entries behind it.
+fn split_first_from(log: &[LogEntry], sender: Party) -> Option<(&Item, &[LogEntry])>
+    ensures first { IfSome result (λ first.
+        items_from log.now sender ≡ first.0.now ∷ items_from first.1.now sender) }
+    ensures none { IfNone result (items_from log.now sender ≡ []) }
+{
+    let mut entries = log;
+    while let Some((entry, rest)) = entries.split_first() {
+        if entry.sender == sender {
+            return Some((&entry.item, rest));
+        }
+        entries = rest;
+    }
+    None
 }

@@ -1,6 +1,6 @@
 use Rattle.std.proofs.Common.{◌≡◌, length, Ok}
 use Rattle.std.specs.List.{All}
-use Rattle.mv_pairs.proofs.Row.from_fn.Given as goal
+use Rattle.mv_pairs.proofs.row.Row.from_fn.Given as goal
 
 abbrev pub invariant-loop : goal.invariant-loop
 invariant-loop g l = record {

@@ -1,5 +1,5 @@
 -- What the hub is seen as. Neither links nor tables are part of it: they follow from the record.
-use Rattle.std.specs.Prelude.{ℕ, List, [], ◌∷◌, ◌++◌, ◌+◌, ◌-◌, length, Bool, ◌||◌, nat_lt, replicate, find, Option, Some, None, Result, Ok, Err, if◌then◌else◌}
+use Rattle.std.specs.Prelude.{ℕ, List, [], ◌∷◌, ◌++◌, ◌+◌, ◌-◌, length, Bool, ◌||◌, ◌&&◌, ◌==◌, not, nat_lt, replicate, find, Option, Some, None, Result, Ok, Err, if◌then◌else◌}
 use Rattle.std.specs.List.{range_with_len}
 use Rattle.mv_message.specs.declared.message.Message.{Message}
 use Rattle.mv_link.specs.declared.item.Item.{Item}
@@ -8,6 +8,8 @@ use Rattle.mv_hub.specs.declared.entry.Entry.{Entry}
 use Rattle.mv_hub.specs.declared.entry.Entry.TheVariants.{Routed}
 use Rattle.mv_hub.specs.declared.fault.RouteFault.{RouteFault}
 use Rattle.mv_hub.specs.declared.fault.RouteFault.TheVariants.{StrangerParty, Busy}
+use Rattle.mv_hub.specs.declared.fault.HubFault.{HubFault}
+use Rattle.mv_hub.specs.declared.fault.HubFault.TheVariants.{StrangerParty as Stranger, Nothing}
 use Rattle.mv_hub.specs.Record.{routed_count}
 use Rattle.mv_hub.specs.Targets.{reach}
 use Rattle.mv_hub.specs.Links.{gained, link_items}
@@ -63,6 +65,13 @@ busy_fault None = None
 unfoldable pub route_fault : HubState → ℕ → Message → Option RouteFault
 route_fault hub from message =
     if nat_lt from (length hub.parties) then busy_fault (busy_party hub from message) else Some StrangerParty
+
+-- why a link gives no frame now, memory aside, the first reason that holds
+abbrev pub relay_fault : HubState → ℕ → ℕ → Option HubFault
+relay_fault hub from to =
+    if not (nat_lt from (length hub.parties) && nat_lt to (length hub.parties)) then Some Stranger
+    else (if sent_of hub from to == length (items_on hub from to) then Some Nothing
+    else None)
 
 -- the hub once the next message of a party is routed
 abbrev pub with_routed : HubState → ℕ → Message → HubState

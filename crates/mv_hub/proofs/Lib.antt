@@ -1,1 +1,4 @@
 pub mod RecordLemmas
+pub mod NumberLemmas
+pub mod PartiesLemmas
+pub mod LinksLemmas

@@ -1,7 +1,8 @@
 //! What the routing of a message puts on one link, and how that is pushed.
 
-ghost use Rattle.std.specs.Prelude.{◌≡◌, ◌+◌, ◌<◌, ℕ, [], ◌∷◌, length, slice_index_or};
+ghost use Rattle.std.specs.Prelude.{◌≡◌, ◌+◌, ◌<◌, ◌≤◌, ℕ, [], ◌∷◌, length, slice_index_or};
 ghost use Rattle.mv_link.specs.Sending.{HasRoom};
+ghost use Rattle.mv_pairs.specs.Pairs.{IsSquare};
 ghost use Rattle.mv_hub.specs.Kept.{Gains, GainsRow, link_at};
 
 use mv_link::{Item, Outgoing};
@@ -73,8 +74,9 @@ fn put(link: &mut Outgoing, gain: Gain)
 
 /// Pushes on each link from a party what it gains, the link to party 0 first in the list.
 pub(crate) fn put_row(links: &mut PairTable<Outgoing>, from: Party, gains: Vec<Gain>)
-    requires from { from < length links.old }
-    requires each { length gains.items ≡ length links.old }
+    requires square { IsSquare (length gains.items) links.old }
+    requires few { length gains.items ≤ 64 }
+    requires from { from < length gains.items }
     requires room { (to : ℕ) → to < length gains.items
         → HasRoom (link_at links.old from to) (length (slice_index_or gains.items to [])) }
     ensures { GainsRow from gains.items links.old links.new }

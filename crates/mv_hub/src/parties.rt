@@ -109,28 +109,42 @@ fn repeats(before: &[Vec<Market>], list: &[Market]) -> bool
     ensures { result ≡ has_twice (all_markets (map (λ list. list.items) before.now) ++ list.now) }
 {
     for i in 0..list.len() {
-        let market = list[i];
-        if is_served(before, market) || list[..i].contains(&market) {
+        if stands(before, &list[..i], list[i]) {
             return true;
         }
     }
     false
 }
 
+/// Whether a market stands in one of the lists or in the last one.
+fn stands(lists: &[Vec<Market>], last: &[Market], market: Market) -> bool
+    ensures { result ≡ has_market (all_markets (map (λ list. list.items) lists.now) ++ last.now) market }
+{
+    is_served(lists, market) || has_market(last, market)
+}
+
 /// Whether a market stands in one of the lists.
 fn is_served(lists: &[Vec<Market>], market: Market) -> bool
     ensures { result ≡ has_market (all_markets (map (λ list. list.items) lists.now)) market }
 {
-    lists.iter().any(|list| list.contains(&market))
+    for list in lists {
+        if has_market(list.as_slice(), market) {
+            return true;
+        }
+    }
+    false
+}
+
+/// Whether a market stands in the list.
+fn has_market(markets: &[Market], market: Market) -> bool
+    ensures { result ≡ has_market markets.now market }
+{
+    markets.contains(&market)
 }
 
 /// The same lists of markets.
 fn as_markets(alloc: Global, lists: Vec<Vec<Market>>) -> Result<Vec<Markets>, AllocError>
     ensures { IfOk result (λ made. made.items ≡ map (λ list. list.items) lists.items) }
 {
-    let mut made = Vec::with_capacity(alloc, lists.len())?;
-    for list in lists {
-        made.push(Markets::new(list))?;
-    }
-    Ok(made)
+    lists.into_iter().map(Markets::new).collect(alloc)
 }

@@ -1,7 +1,7 @@
 -- Links that gain items.
 use Rattle.std.proofs.Common.{◌≡◌, ◌≢◌, ℕ, ◌+◌, ◌<◌, ◌≤◌, List, [], ◌∷◌, ◌++◌, length, get_or, take, ◌-◌, sym, refl, ap, ◌∙◌, subst, arith, ◌⊎◌, inl, inr, append_assoc, append-nil}
 use Rattle.std.proofs.lemmas.Bool.{cases_eq}
-use Rattle.std.proofs.lemmas.List.{get_or-take, get_or-append_right, take-take, length_push}
+use Rattle.std.proofs.lemmas.List.{get_or-take, get_or-append_right, take-take, take_at, length_push}
 use Rattle.mv_link.specs.declared.item.Item.{Item}
 use Rattle.mv_link.specs.Sending.{Sending, EndsWithHeld, new_sending}
 use Rattle.mv_pairs.specs.Pairs.{put, IsSquare}
@@ -16,7 +16,7 @@ last-of_front whole old new last d front popped =
     let none : length new - length new ≡ 0 = omega arith in
     ( sym (get_or-take (length old) whole (length new) d (omega arith)) ∙ ap (λ l. get_or l (length new) d) (sym front ∙ popped)
         ∙ get_or-append_right new (last ∷ []) (length new) (length new) d refl (omega arith) ∙ ap (λ n. get_or (last ∷ []) n d) none
-    , sym (take-all_of new (last ∷ [])) ∙ ap (take (length new)) (sym popped ∙ front) ∙ take-take (length new) (length old) whole (omega arith)
+    , sym (take_at new (last ∷ []) (length new) refl) ∙ ap (take (length new)) (sym popped ∙ front) ∙ take-take (length new) (length old) whole (omega arith)
     , count )
 
 -- of the links from a party, those to this party and the parties above it gained their member of the list, and the others are as they were

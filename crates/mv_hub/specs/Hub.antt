@@ -1,5 +1,5 @@
 -- What the hub is seen as. Neither links nor tables are part of it: they follow from the record.
-use Rattle.std.specs.Prelude.{ℕ, List, [], ◌∷◌, ◌++◌, ◌+◌, ◌-◌, length, Bool, ◌||◌, ◌&&◌, ◌==◌, not, nat_lt, replicate, find, Option, Some, None, Result, Ok, Err, if◌then◌else◌}
+use Rattle.std.specs.Prelude.{ℕ, List, [], ◌∷◌, ◌++◌, ◌+◌, ◌-◌, length, map, Bool, ◌||◌, ◌&&◌, ◌==◌, not, nat_lt, replicate, find, Option, Some, None, Result, Ok, Err, if◌then◌else◌}
 use Rattle.std.specs.List.{range_with_len}
 use Rattle.mv_message.specs.declared.message.Message.{Message}
 use Rattle.mv_link.specs.declared.item.Item.{Item}
@@ -44,6 +44,10 @@ next_entry hub from message = Routed from (routed_count hub.entries from + 1) me
 -- what the routing of a message would put on a link
 abbrev pub next_items : HubState → ℕ → Message → ℕ → List Item
 next_items hub from message to = gained hub.parties hub.entries (next_entry hub from message) from to
+
+-- what the routing of a message would put on each link of its sender, the link to party 0 first
+abbrev pub gains_of : HubState → ℕ → Message → List (List Item)
+gains_of hub from message = map (next_items hub from message) (range_with_len 0 (length hub.parties))
 
 -- a link has no room for what the routing of a message would put on it: items not yet relayed are never more than the
 -- window, and their numbers have 32 bits

@@ -1,15 +1,21 @@
 //! The hub: its record, a link for each ordered pair of parties, and tables by which no call walks the record.
 
-ghost use Rattle.std.specs.Prelude.{◌≡◌, ◌+◌, ◌<◌, ◌≤◌, length, IfOk, OnOk, OnErr, option_map};
+ghost use Rattle.std.specs.Prelude.{◌≡◌, ◌+◌, ◌<◌, ◌≤◌, [], ◌∷◌, ◌++◌, ◌==◌, ◌&&◌, ◌||◌, length, IfOk, OnOk, OnErr, option_map, None};
+ghost use Rattle.std.specs.List.{list_any};
+ghost use Rattle.mv_message.specs.declared.message.Message.{Message as AMessage};
 ghost use Rattle.mv_link.specs.Frames.{IsFrameOf};
-ghost use Rattle.mv_hub.specs.Record.{routed_count, last_markets, is_open};
-ghost use Rattle.mv_hub.specs.Targets.{reach};
-ghost use Rattle.mv_hub.specs.Kept.{Carries};
+ghost use Rattle.mv_hub.specs.Record.{routed_count, last_markets, market_table, is_open};
+ghost use Rattle.mv_hub.specs.Targets.{reach, is_query};
+ghost use Rattle.mv_hub.specs.Parties.{serves_one, served_by};
+ghost use Rattle.mv_hub.specs.declared.entry.Entry.TheVariants.{Routed};
+ghost use Rattle.mv_hub.specs.Kept.{Carries, AreMarkets};
 ghost use Rattle.mv_hub.specs.Fault.{FailsBy, RouteFailsBy};
 
+use crate::gain::{Gain, put_row};
 use crate::{Entry, HubFault, Parties, RouteFault};
+use arrayvec::ArrayVec;
 use indexmap::IndexMap;
-use mv_link::{Frame, Outgoing, Reach};
+use mv_link::{Frame, Item, LinkFault, Outgoing, PARTIES_LIMIT, Reach};
 use mv_message::{Markets, Message, Party};
 use mv_pack::{Gtin, Market};
 use mv_pairs::PairTable;
@@ -43,7 +49,7 @@ impl Model for Hub {
 }
 
 impl Hub {
-    ghost use Rattle.mv_hub.specs.Hub.{new_hub, sent_of, items_on, route_fault, relay_fault, with_routed, with_relayed};
+    ghost use Rattle.mv_hub.specs.Hub.{new_hub, sent_of, items_on, next_items, gains_of, busy_party, route_fault, relay_fault, with_routed, with_relayed};
 
     /// A hub where nothing has happened, whose links keep their last `window` items. Refused for want of memory.
     pub fn new(alloc: Global, parties: Parties, window: u32) -> Result<Hub, AllocError>
@@ -111,6 +117,133 @@ impl Hub {
         *self.open_links.at(from, to)
     }
 
+    /// The markets of a product, by its last routed master.
+    fn market_table(&self, gtin: &Gtin) -> &[Market]
+        ensures { result.now ≡ market_table self.now.entries gtin.now }
+    {
+        match self.markets.get(gtin) {
+            Some(markets) => markets.as_slice(),
+            None => &[],
+        }
+    }
+
+    /// Whether a party serves one of the markets, and the link to it is open.
+    fn is_reached(&self, from: Party, to: Party, before: &[Market], after: &[Market]) -> bool
+        requires from { from < length self.now.parties }
+        requires to { to < length self.now.parties }
+        ensures { result ≡ ((serves_one (served_by self.now.parties to) before.now
+            || serves_one (served_by self.now.parties to) after.now)
+            && is_open self.now.entries from to) }
+    {
+        let parties = self.parties();
+        (parties.serves(to, before) || parties.serves(to, after)) && self.is_open(from, to)
+    }
+
+    /// The parties that a message from a party reaches.
+    fn reach(&self, from: Party, message: &Message) -> Reach
+        requires { from < length self.now.parties }
+        ensures { result ≡ reach self.now.parties self.now.entries from message.now }
+    {
+        let Message::Master { gtin, product } = message;
+        let before = self.market_table(gtin);
+        let after = product.markets.as_slice();
+        let mut found: ArrayVec<Party, PARTIES_LIMIT> = ArrayVec::new();
+        for to in 0..self.parties().len() {
+            if self.is_reached(from, to, before, after) {
+                found.push(to);
+            }
+        }
+        Reach::new(found)
+    }
+
+    /// How many items the routing of a message that reaches these parties puts on a link.
+    fn gain_count(&self, from: Party, to: Party, reached: &Reach) -> u32
+        requires from { from < length self.now.parties }
+        requires to { to < length self.now.parties }
+        ensures { (message : AMessage)
+            → reached.now ≡ reach self.now.parties self.now.entries from message
+            → result ≡ length (next_items self.now from message to) }
+    {
+        let receipts = u32::from(to == from && self.is_open(from, from));
+        receipts + u32::from(has_party(reached, to))
+    }
+
+    /// The least party whose link has no room for what the routing of a message that reaches these parties puts on it.
+    fn busy_party(&self, from: Party, reached: &Reach) -> Option<Party>
+        requires { from < length self.now.parties }
+        ensures { (message : AMessage)
+            → reached.now ≡ reach self.now.parties self.now.entries from message
+            → result ≡ busy_party self.now from message }
+    {
+        for to in 0..self.parties().len() {
+            let count = self.gain_count(from, to, reached);
+            if !self.link(from, to).room(count) {
+                return Some(to);
+            }
+        }
+        None
+    }
+
+    /// What the routing of a message that reaches these parties puts on a link.
+    fn gain(&self, from: Party, to: Party, message: &Message, reached: &Reach) -> Result<Gain, AllocError>
+        requires from { from < length self.now.parties }
+        requires to { to < length self.now.parties }
+        requires few { length self.now.entries < 4294967295 }
+        requires reached { reached.now ≡ reach self.now.parties self.now.entries from message.now }
+        ensures { IfOk result (λ gain. gain ≡ next_items self.now from message.now to) }
+    {
+        let k = self.routed_count(from) + 1;
+        let receipt = if to == from && self.is_open(from, from) {
+            Some(Item::Receipt { k, reach: reached.copy(), query: is_query(message) })
+        } else {
+            None
+        };
+        let carried = if has_party(reached, to) {
+            let Ok(message) = message.copy(self.alloc) else {
+                return Err(AllocError);
+            };
+            let stamp = self.record().len() as u32 + 1;
+            Some(Item::Carried { k, stamp, message })
+        } else {
+            None
+        };
+        Ok(Gain::new(receipt, carried))
+    }
+
+    /// What the routing of a message that reaches these parties puts on each link of its sender.
+    fn gains(&self, from: Party, message: &Message, reached: &Reach) -> Result<Vec<Gain>, AllocError>
+        requires from { from < length self.now.parties }
+        requires few { length self.now.entries < 4294967295 }
+        requires reached { reached.now ≡ reach self.now.parties self.now.entries from message.now }
+        ensures { IfOk result (λ gains. gains.items ≡ gains_of self.now from message.now) }
+    {
+        let mut gains = Vec::new(self.alloc);
+        for to in 0..self.parties().len() {
+            gains.push(self.gain(from, to, message, reached)?)?;
+        }
+        Ok(gains)
+    }
+
+    /// Puts the next message of a party into the record and the tables, and its gains on the links.
+    fn put_routed(&mut self, from: Party, message: &Message, gains: Vec<Gain>) -> Result<(), AllocError>
+        requires from { from < length self.old.parties }
+        requires few { length self.old.entries < 4294967295 }
+        requires room { busy_party self.old from message.now ≡ None }
+        requires gains { gains.items ≡ gains_of self.old from message.now }
+        ensures ok { OnOk result (self.new ≡ with_routed self.old from message.now) }
+        ensures err { OnErr result (self.new ≡ self.old) }
+    {
+        let k = self.routed_count(from) + 1;
+        let Ok(copy) = message.copy(self.alloc) else {
+            return Err(AllocError);
+        };
+        record(self.alloc, &mut self.entries, &mut self.markets, from, k, copy)?;
+        // Nothing fails from here on.
+        put_row(&mut self.links, from, gains);
+        self.counts[from as usize] = k;
+        Ok(())
+    }
+
     /// How many items were put on the link from one party to another.
     pub fn total(&self, from: Party, to: Party) -> u32
         requires from { from < length self.now.parties }
@@ -145,7 +278,21 @@ impl Hub {
         ensures err { OnErr result (self.new ≡ self.old) }
         ensures fault { RouteFailsBy (route_fault self.old from message.now) result }
     {
-        Err(RouteFault::Memory)
+        if from >= self.parties().len() {
+            return Err(RouteFault::StrangerParty);
+        }
+        let reached = self.reach(from, message);
+        if let Some(to) = self.busy_party(from, &reached) {
+            return Err(RouteFault::Busy(to));
+        }
+        let k = self.routed_count(from) + 1;
+        let Ok(gains) = self.gains(from, message, &reached) else {
+            return Err(RouteFault::Memory);
+        };
+        let Ok(()) = self.put_routed(from, message, gains) else {
+            return Err(RouteFault::Memory);
+        };
+        Ok((k, reached))
     }
 
     /// The next frame of the link from one party to another that was not relayed yet.
@@ -160,6 +307,62 @@ impl Hub {
         ensures err { OnErr result (self.new ≡ self.old) }
         ensures fault { FailsBy (relay_fault self.old from to) result }
     {
-        Err(HubFault::Memory)
+        let count = self.parties().len();
+        if from >= count || to >= count {
+            return Err(HubFault::StrangerParty);
+        }
+        let link = self.links.at_mut(from, to);
+        match link.relay() {
+            Ok(frame) => Ok(frame),
+            Err(LinkFault::Nothing) => Err(HubFault::Nothing),
+            Err(LinkFault::Memory) => Err(HubFault::Memory),
+        }
     }
+}
+
+/// Whether a party is among those that are reached.
+fn has_party(reached: &Reach, party: Party) -> bool
+    ensures { result ≡ list_any (λ other. other == party) reached.now }
+{
+    reached.as_slice().contains(&party)
+}
+
+/// Whether a message asks about a pack.
+fn is_query(message: &Message) -> bool
+    ensures { result ≡ is_query message.now }
+{
+    match message {
+        Message::Master { .. } => false,
+    }
+}
+
+/// Puts a routed message at the end of the record, and into the table the markets that it names. Where memory is refused
+/// neither has changed.
+fn record(
+    alloc: Global,
+    entries: &mut Vec<Entry>,
+    markets: &mut IndexMap<Gtin, Markets>,
+    from: Party,
+    k: u32,
+    message: Message,
+) -> Result<(), AllocError>
+    requires { AreMarkets entries.old.items markets.old.entries }
+    ensures ok { OnOk result (entries.new.items ≡ entries.old.items ++ Routed from k message ∷ []) }
+    ensures markets { OnOk result (AreMarkets entries.new.items markets.new.entries) }
+    ensures err { OnErr result ((entries.new.items ≡ entries.old.items)
+        × (markets.new.entries ≡ markets.old.entries)) }
+{
+    let Message::Master { gtin, product } = &message;
+    let gtin = *gtin;
+    let named = product.markets.copy(alloc)?;
+    entries.reserve(1)?;
+    markets.reserve(1)?;
+    // Nothing fails from here on.
+    let Ok(()) = entries.push(Entry::Routed { from, k, message }) else {
+        unreachable!()
+    };
+    let Ok(_) = markets.insert(gtin, named) else {
+        unreachable!()
+    };
+    Ok(())
 }

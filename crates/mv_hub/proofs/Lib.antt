@@ -2,3 +2,4 @@ pub mod RecordLemmas
 pub mod NumberLemmas
 pub mod PartiesLemmas
 pub mod LinksLemmas
+pub mod HubLemmas

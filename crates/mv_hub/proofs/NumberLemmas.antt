@@ -1,12 +1,12 @@
 -- Searches and filters over the numbers below a count.
-use Rattle.std.proofs.Common.{◌≡◌, ℕ, zero, suc, ◌+◌, ◌-◌, ◌<◌, ◌≤◌, Bool, true, false, ◌||◌, List, [], ◌∷◌, ◌++◌, length, cond, Option, Some, None, get_or, sym, refl, ap, ◌∙◌, subst, arith, zero-add, length-append}
-use Rattle.std.specs.Prelude.{filter, find}
+use Rattle.std.proofs.Common.{◌≡◌, ℕ, zero, suc, ◌+◌, ◌-◌, ◌<◌, ◌≤◌, Bool, true, false, ◌||◌, ◌&&◌, eqb-true, List, [], ◌∷◌, ◌++◌, length, cond, Option, Some, None, get_or, sym, refl, ap, ◌∙◌, subst, arith, zero-add, length-append}
+use Rattle.std.specs.Prelude.{filter, find, ◌==◌}
 use Rattle.std.specs.Option.{option_or}
 use Rattle.std.specs.List.{range_with_len, list_any}
 use Rattle.std.specs.List.Sorted.{IsStrictlyIncreasing}
-use Rattle.std.proofs.lemmas.Bool.{eq-eqb, ne_eqb}
+use Rattle.std.proofs.lemmas.Bool.{eq-eqb}
 use Rattle.std.proofs.lemmas.List.Elements.{filter-append}
-use Rattle.std.proofs.lemmas.List.Folds.{find-append}
+use Rattle.std.proofs.lemmas.List.Folds.{find-append, list_any-append, list_any_at}
 use Rattle.std.proofs.lemmas.List.FromFn.{get_or-range_with_len, length-range_with_len}
 use Rattle.std.proofs.lemmas.List.Kept.{IsStrictlyIncreasing-filter}
 
@@ -70,3 +70,33 @@ none-at p (w ∷ xs) x ys none = none-at p xs x ys (later (p w) w (find p (xs ++
 pub find-none_at : (p : ℕ → Bool) (i n : ℕ) → i < n → find p (range_with_len 0 n) ≡ None → p i ≡ false
 find-none_at p i n lt none =
     none-at p (range_with_len 0 i) i (range_with_len (i + 1) (n - i - 1)) (ap (find p) (sym (range-split i n lt)) ∙ none)
+
+-- a number stands among those of a list that pass if it is in the list and passes
+any-filter : (p : ℕ → Bool) (x : ℕ) (xs : List ℕ) → list_any (λ other. other == x) (filter p xs) ≡ (list_any (λ other. other == x) xs && p x)
+any-filter p x [] = refl
+any-filter p x (y ∷ ys) =
+    by-head (p y) (y ∷ []) (filter p ys)
+    ∙ ap (λ b. (p y && ((y == x) || false)) || b) (any-filter p x ys)
+    ∙ join (p y) (y == x) (list_any (λ other. other == x) ys) (p x) (λ e. ap p (eqb-true y x e))
+  where
+    by-head : (b : Bool) (first rest : List ℕ) → list_any (λ other. other == x) (cond b (first ++ rest) rest)
+        ≡ ((b && list_any (λ other. other == x) first) || list_any (λ other. other == x) rest)
+    by-head true first rest = list_any-append (λ other. other == x) first rest
+    by-head false first rest = refl
+
+    join : (passes same later here : Bool) → (same ≡ true → passes ≡ here)
+        → ((passes && (same || false)) || (later && here)) ≡ ((same || later) && here)
+    join true true later here equal = equal refl
+    join false true true here equal = refl
+    join false true false here equal = equal refl
+    join true false true here equal = refl
+    join true false false here equal = refl
+    join false false later here equal = refl
+
+-- of the numbers below a count, one stands among those that pass if it passes
+pub any-filter_range : (p : ℕ → Bool) (x n : ℕ) → x < n → list_any (λ other. other == x) (filter p (range_with_len 0 n)) ≡ p x
+any-filter_range p x n lt =
+    let there : list_any (λ other. other == x) (range_with_len 0 n) ≡ true =
+        list_any_at (λ other. other == x) (range_with_len 0 n) x 0 (omega (arith, length-range_with_len 0 n))
+          (eq-eqb (get_or (range_with_len 0 n) x 0) x (get_or-range_with_len 0 n x 0 lt ∙ zero-add x)) in
+    any-filter p x (range_with_len 0 n) ∙ ap (λ b. b && p x) there

@@ -1,6 +1,7 @@
 //! The hub: its record, a link for each ordered pair of parties, and tables by which no call walks the record.
 
-ghost use Rattle.std.specs.Prelude.{◌≡◌, ◌+◌, ◌<◌, ◌≤◌, [], ◌∷◌, ◌++◌, ◌==◌, ◌&&◌, ◌||◌, length, IfOk, OnOk, OnErr, option_map, None};
+ghost use Rattle.std.specs.Prelude.{◌≡◌, ◌+◌, ◌<◌, ◌≤◌, [], ◌∷◌, ◌++◌, ◌==◌, ◌&&◌, ◌||◌, length, IfOk, OnOk, OnErr, option_map, None, if◌then◌else◌};
+ghost use Rattle.std.specs.Option.{option_to_list};
 ghost use Rattle.std.specs.List.{list_any};
 ghost use Rattle.mv_message.specs.declared.message.Message.{Message as AMessage};
 ghost use Rattle.mv_link.specs.Frames.{IsFrameOf};
@@ -49,6 +50,7 @@ impl Model for Hub {
 }
 
 impl Hub {
+    ghost use Rattle.mv_link.specs.declared.item.Item.TheVariants.{Receipt, Carried};
     ghost use Rattle.mv_hub.specs.Hub.{new_hub, sent_of, items_on, next_items, gains_of, busy_party, route_fault, relay_fault, with_routed, with_relayed};
 
     /// A hub where nothing has happened, whose links keep their last `window` items. Refused for want of memory.
@@ -156,6 +158,15 @@ impl Hub {
         Reach::new(found)
     }
 
+    /// Whether the routing of a message puts a receipt on a link.
+    fn has_receipt(&self, from: Party, to: Party) -> bool
+        requires from { from < length self.now.parties }
+        requires to { to < length self.now.parties }
+        ensures { result ≡ ((to == from) && is_open self.now.entries from from) }
+    {
+        to == from && self.is_open(from, to)
+    }
+
     /// How many items the routing of a message that reaches these parties puts on a link.
     fn gain_count(&self, from: Party, to: Party, reached: &Reach) -> u32
         requires from { from < length self.now.parties }
@@ -164,8 +175,7 @@ impl Hub {
             → reached.now ≡ reach self.now.parties self.now.entries from message
             → result ≡ length (next_items self.now from message to) }
     {
-        let receipts = u32::from(to == from && self.is_open(from, from));
-        receipts + u32::from(has_party(reached, to))
+        u32::from(self.has_receipt(from, to)) + u32::from(has_party(reached, to))
     }
 
     /// The least party whose link has no room for what the routing of a message that reaches these parties puts on it.
@@ -184,6 +194,48 @@ impl Hub {
         None
     }
 
+    /// The receipt that the routing of a message that reaches these parties puts on a link, if it does.
+    fn receipt(&self, from: Party, to: Party, message: &Message, reached: &Reach) -> Option<Item>
+        requires from { from < length self.now.parties }
+        requires to { to < length self.now.parties }
+        requires few { length self.now.entries < 4294967295 }
+        ensures { option_to_list result ≡ (if (to == from) && is_open self.now.entries from from
+            then Receipt (routed_count self.now.entries from + 1) reached.now (is_query message.now) ∷ []
+            else []) }
+    {
+        if !self.has_receipt(from, to) {
+            return None;
+        }
+        Some(Item::Receipt {
+            k: self.routed_count(from) + 1,
+            reach: reached.copy(),
+            query: is_query(message),
+        })
+    }
+
+    /// The message as the routing of it puts it on a link, if it reaches the party there.
+    fn carried(&self, from: Party, to: Party, message: &Message, reached: &Reach) -> Result<Option<Item>, AllocError>
+        requires from { from < length self.now.parties }
+        requires few { length self.now.entries < 4294967295 }
+        ensures { IfOk result (λ carried. option_to_list carried
+            ≡ (if list_any (λ other. other == to) reached.now
+                then Carried (routed_count self.now.entries from + 1) (length self.now.entries + 1)
+                    message.now ∷ []
+                else [])) }
+    {
+        if !has_party(reached, to) {
+            return Ok(None);
+        }
+        let Ok(message) = message.copy(self.alloc) else {
+            return Err(AllocError);
+        };
+        Ok(Some(Item::Carried {
+            k: self.routed_count(from) + 1,
+            stamp: self.record().len() as u32 + 1,
+            message,
+        }))
+    }
+
     /// What the routing of a message that reaches these parties puts on a link.
     fn gain(&self, from: Party, to: Party, message: &Message, reached: &Reach) -> Result<Gain, AllocError>
         requires from { from < length self.now.parties }
@@ -192,21 +244,8 @@ impl Hub {
         requires reached { reached.now ≡ reach self.now.parties self.now.entries from message.now }
         ensures { IfOk result (λ gain. gain ≡ next_items self.now from message.now to) }
     {
-        let k = self.routed_count(from) + 1;
-        let receipt = if to == from && self.is_open(from, from) {
-            Some(Item::Receipt { k, reach: reached.copy(), query: is_query(message) })
-        } else {
-            None
-        };
-        let carried = if has_party(reached, to) {
-            let Ok(message) = message.copy(self.alloc) else {
-                return Err(AllocError);
-            };
-            let stamp = self.record().len() as u32 + 1;
-            Some(Item::Carried { k, stamp, message })
-        } else {
-            None
-        };
+        let receipt = self.receipt(from, to, message, reached);
+        let carried = self.carried(from, to, message, reached)?;
         Ok(Gain::new(receipt, carried))
     }
 

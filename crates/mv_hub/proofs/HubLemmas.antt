@@ -1,5 +1,6 @@
 -- What the hub keeps, through a routing and a relay.
 use Rattle.std.proofs.Common.{◌≡◌, ◌≢◌, ℕ, ◌+◌, ◌-◌, ◌<◌, ◌≤◌, Bool, true, false, ◌&&◌, ◌||◌, not, List, [], ◌∷◌, ◌++◌, length, map, get_or, set, cond, Option, Some, None, sym, refl, ap, ◌∙◌, subst, arith, inl, inr, append-nil, eqb, zero-add, length-append, length-set, get_or-set_same, get_or-set_other}
+use mir.Val.{bool_byte}
 use Rattle.std.specs.Prelude.{nat_lt, ◌==◌, replicate, find}
 use Rattle.std.specs.List.{All, list_any, range_with_len}
 use Rattle.std.specs.Map.{lookup}
@@ -18,7 +19,8 @@ use Rattle.mv_hub.specs.declared.entry.Entry.TheVariants.{Routed, Closed}
 use Rattle.mv_hub.specs.Record.{routed_from, routed_count, last_markets, last_markets_after, is_same_gtin, is_open}
 use Rattle.mv_hub.specs.Targets.{reach, is_reached, is_query}
 use Rattle.mv_hub.specs.Links.{gained, link_items}
-use Rattle.mv_hub.specs.Hub.{HubState, new_hub, sent_of, items_on, next_items, gains_of, is_busy, busy_party, with_relayed}
+use Rattle.mv_hub.specs.Hub.{HubState, new_hub, sent_of, items_on, next_items, gains_of, is_busy, busy_party, busy_fault, route_fault, with_relayed}
+use Rattle.mv_hub.specs.declared.fault.RouteFault.TheVariants.{StrangerParty}
 use Rattle.mv_hub.specs.Kept.{link_at, sent_table, AreCounts, AreMarkets, AreOpen, Carries, AreLinks, IsKept, Gains, GainsRow}
 use Rattle.mv_hub.proofs.RecordLemmas.{routed_from-append, link_items-push, gained_other}
 use Rattle.mv_hub.proofs.NumberLemmas.{any-filter_range, find-none_at}
@@ -77,7 +79,7 @@ next_items-are hub from to message reached receipts carried lt e first second =
     ∙ sym (ap (λ b. cond b (cond open_here (Receipt k (reach hub.parties hub.entries from message) (is_query message) ∷ []) []
           ++ cond (is_reached hub.parties hub.entries from message to) last []) []) (eq-eqb from from refl))
 
-length-choices : {A : Type 0} (a b : Bool) (x y : A) → length (cond a (x ∷ []) [] ++ cond b (y ∷ []) []) ≡ cond a 1 0 + cond b 1 0
+length-choices : {A : Type 0} (a b : Bool) (x y : A) → length (cond a (x ∷ []) [] ++ cond b (y ∷ []) []) ≡ bool_byte a + bool_byte b
 length-choices true true x y = refl
 length-choices true false x y = refl
 length-choices false true x y = refl
@@ -87,7 +89,7 @@ length-choices false false x y = refl
 pub length-next_items : (hub : HubState) (from to : ℕ) (message : Message) (reached : List ℕ)
     → to < length hub.parties → reached ≡ reach hub.parties hub.entries from message
     → length (next_items hub from message to)
-    ≡ cond ((to == from) && is_open hub.entries from from) 1 0 + cond (list_any (λ other. other == to) reached) 1 0
+    ≡ bool_byte ((to == from) && is_open hub.entries from from) + bool_byte (list_any (λ other. other == to) reached)
 length-next_items hub from to message reached lt e =
     ap length (sym (next_items-are hub from to message reached _ _ lt e refl refl))
     ∙ length-choices ((to == from) && is_open hub.entries from from) (list_any (λ other. other == to) reached) _ _
@@ -239,3 +241,96 @@ pub markets-routed : (entries : List Entry) (old new : List (List ℕ × List (L
 markets-routed entries old new from k message are updates gtin =
     updates gtin ∙ ap (λ m. last_markets_after m (Routed from k message ∷ []) gtin) (are gtin)
     ∙ sym (last_markets_after-append None entries (Routed from k message ∷ []) gtin)
+
+-- a link that was relayed from carries what it did
+carries-relayed : (window : ℕ) (items : List Item) (old new : Sending) → Carries window items old → new ≡ link_relayed old → Carries window items new
+carries-relayed window items old new carries e =
+    subst (Carries window items) (sym e)
+      (record { window = carries.window; ends = record { front = carries.ends.front; whole = carries.ends.whole; count = carries.ends.count } })
+
+-- all that the hub keeps, once an item was relayed
+pub kept-relayed : (parties : List (List (List ℕ))) (window : ℕ) (entries : List Entry) (counts : List ℕ) (table : List (List ℕ × List (List ℕ)))
+    (open_links : List (List Bool)) (links : List (List Sending)) (from to : ℕ) (new : Sending)
+    → IsKept parties window entries counts table open_links links → from < length parties → to < length parties
+    → new ≡ link_relayed (link_at links from to)
+    → IsKept parties window entries counts table open_links (put links from to new)
+kept-relayed parties window entries counts table open_links links from to new kept is_from is_to e = record {
+  some = kept.some;
+  few = kept.few;
+  wide = kept.wide;
+  narrow = kept.narrow;
+  are_counts = kept.are_counts;
+  are_markets = kept.are_markets;
+  are_open = kept.are_open;
+  are_links = record {
+    square = square-put (length parties) links from to new kept.are_links.square;
+    values = put-each_pair (λ a b v. a < length parties → b < length parties → Carries window (link_items parties entries a b) v) links from to new (new_sending 0)
+      (λ _ _. carries-relayed window (link_items parties entries from to) (link_at links from to) new (kept.are_links.values from to is_from is_to) e) kept.are_links.values;
+  };
+}
+
+-- what is known of a link, by what the hub is seen as
+pub record LinkFacts (hub : HubState) (from to : ℕ) (link : Sending) : Type 0 where
+  pub carries : Carries hub.window (items_on hub from to) link
+  pub sent : link.sent ≡ sent_of hub from to
+
+pub link-facts : (parties : List (List (List ℕ))) (window : ℕ) (entries : List Entry) (links : List (List Sending)) (hub : HubState) (from to : ℕ) (link : Sending)
+    → AreLinks parties window entries links → view parties window entries links ≡ hub → from < length hub.parties → to < length hub.parties
+    → link_at links from to ≡ link → LinkFacts hub from to link
+link-facts parties window entries links hub from to link are seen is_from is_to at =
+    subst (λ (h : HubState). from < length h.parties → to < length h.parties → LinkFacts h from to link) seen
+      (λ p q. record {
+        carries = subst (Carries window (link_items parties entries from to)) at (are.values from to p q);
+        sent = ap (λ (v : Sending). v.sent) (sym at) ∙ sym (sent-at links from to);
+      }) is_from is_to
+
+-- and what the hub is seen as, once an item was relayed
+pub view-relayed : (parties : List (List (List ℕ))) (window : ℕ) (entries : List Entry) (links : List (List Sending)) (hub : HubState) (from to : ℕ) (new : Sending)
+    → view parties window entries links ≡ hub → new.sent ≡ sent_of hub from to + 1
+    → view parties window entries (put links from to new) ≡ with_relayed hub from to
+view-relayed parties window entries links hub from to new seen e =
+    subst (λ (h : HubState). new.sent ≡ sent_of h from to + 1 → view parties window entries (put links from to new) ≡ with_relayed h from to) seen
+      (λ e. ap {A = List (List ℕ)} {B = HubState} (λ l. record { parties = parties; window = window; entries = entries; sent = l })
+        (put-map (λ v. v.sent) links from to new ∙ ap (put (sent_table links) from to) e)) e
+
+-- a hub where nothing has happened keeps what it should
+pub kept-new : (parties : List (List (List ℕ))) (window : ℕ) (open_links : List (List Bool)) (links : List (List Sending))
+    → 1 ≤ length parties → length parties ≤ 64 → 2 ≤ window → window ≤ 256
+    → IsSquare (length parties) open_links → All (All (λ b. b ≡ true)) open_links
+    → IsSquare (length parties) links → All (All (λ v. v ≡ new_sending window)) links
+    → IsKept parties window [] (replicate (length parties) 0) [] open_links links
+unfolding link_items
+kept-new parties window open_links links some few wide narrow open_square all_open square fresh = record {
+  some = some;
+  few = few;
+  wide = wide;
+  narrow = narrow;
+  are_counts = record { each = length-replicate (length parties) 0; values = λ party lt. get_or-replicate (length parties) party 0 0 lt };
+  are_markets = λ gtin. refl;
+  are_open = record { square = open_square; values = λ from to p q. cell-all (λ b. b ≡ true) (length parties) open_links from to true open_square all_open p q };
+  are_links = record {
+    square = square;
+    values = λ from to p q.
+      let e = cell-all (λ v. v ≡ new_sending window) (length parties) links from to (new_sending 0) square fresh p q in
+      subst (Carries window []) (sym e) (record { window = refl; ends = record { front = []; whole = refl; count = refl } });
+  };
+}
+
+-- and is seen as such
+pub view-new : (parties : List (List (List ℕ))) (window : ℕ) (links : List (List Sending))
+    → IsSquare (length parties) links → All (All (λ v. v ≡ new_sending window)) links → view parties window [] links ≡ new_hub parties window
+view-new parties window links square fresh =
+    ap {A = List (List ℕ)} {B = HubState} (λ l. record { parties = parties; window = window; entries = []; sent = l })
+      (table-all (λ (v : Sending). v.sent) 0 (length parties) links square (λ k d lt j e below. ap (λ (v : Sending). v.sent) (fresh k d lt j e below)))
+
+-- why a message of a stranger, and of a party, is not routed
+pub route_fault-stranger : (hub : HubState) (from : ℕ) (message : Message) → length hub.parties ≤ from → route_fault hub from message ≡ Some StrangerParty
+unfolding route_fault
+route_fault-stranger hub from message ge =
+    ap (λ b. cond b (busy_fault (busy_party hub from message)) (Some StrangerParty)) (le-ltb from (length hub.parties) ge)
+
+pub route_fault-party : (hub : HubState) (from : ℕ) (message : Message) → from < length hub.parties
+    → route_fault hub from message ≡ busy_fault (busy_party hub from message)
+unfolding route_fault
+route_fault-party hub from message lt =
+    ap (λ b. cond b (busy_fault (busy_party hub from message)) (Some StrangerParty)) (lt-ltb from (length hub.parties) lt)

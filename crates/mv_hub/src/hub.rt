@@ -1,11 +1,12 @@
 //! The hub: its record, a link for each ordered pair of parties, and tables by which no call walks the record.
 
-ghost use Rattle.std.specs.Prelude.{◌≡◌, ◌+◌, ◌<◌, ◌≤◌, [], ◌∷◌, ◌++◌, ◌==◌, ◌&&◌, ◌||◌, length, IfOk, OnOk, OnErr, option_map, None, if◌then◌else◌};
+ghost use Rattle.std.specs.Prelude.{◌≡◌, ◌+◌, ◌<◌, ◌≤◌, [], ◌∷◌, ◌++◌, ◌==◌, ◌&&◌, ◌||◌, ℕ, List, length, IfOk, OnOk, OnErr, Option, Some, None, true, option_map, if◌then◌else◌};
 ghost use Rattle.std.specs.Option.{option_to_list};
 ghost use Rattle.std.specs.List.{list_any};
 ghost use Rattle.mv_message.specs.declared.message.Message.{Message as AMessage};
+ghost use Rattle.mv_message.specs.declared.message.Message.TheVariants.{Master};
 ghost use Rattle.mv_link.specs.Frames.{IsFrameOf};
-ghost use Rattle.mv_hub.specs.Record.{routed_count, last_markets, market_table, is_open};
+ghost use Rattle.mv_hub.specs.Record.{routed_count, last_markets, last_markets_after, market_table, is_open, is_same_gtin};
 ghost use Rattle.mv_hub.specs.Targets.{reach, is_query};
 ghost use Rattle.mv_hub.specs.Parties.{serves_one, served_by};
 ghost use Rattle.mv_hub.specs.declared.entry.Entry.TheVariants.{Routed};
@@ -17,7 +18,7 @@ use crate::{Entry, HubFault, Parties, RouteFault};
 use arrayvec::ArrayVec;
 use indexmap::IndexMap;
 use mv_link::{Frame, Item, LinkFault, Outgoing, PARTIES_LIMIT, Reach};
-use mv_message::{Markets, Message, Party};
+use mv_message::{Markets, Message, Party, Product};
 use mv_pack::{Gtin, Market};
 use mv_pairs::PairTable;
 use std::alloc::{AllocError, Global};
@@ -51,6 +52,7 @@ impl Model for Hub {
 
 impl Hub {
     ghost use Rattle.mv_link.specs.declared.item.Item.TheVariants.{Receipt, Carried};
+    ghost use Rattle.mv_link.specs.Sending.{new_sending};
     ghost use Rattle.mv_hub.specs.Hub.{new_hub, sent_of, items_on, next_items, gains_of, busy_party, route_fault, relay_fault, with_routed, with_relayed};
 
     /// A hub where nothing has happened, whose links keep their last `window` items. Refused for want of memory.
@@ -61,8 +63,17 @@ impl Hub {
     {
         let count = parties.len();
         let counts = vec![in alloc; 0; count as usize]?;
-        let open_links = PairTable::from_fn(alloc, count, || Ok(true))?;
-        let links = PairTable::from_fn(alloc, count, || Outgoing::new(alloc, window))?;
+        let open_links = PairTable::from_fn(alloc, count, || -> Result<bool, AllocError>
+            ensures { IfOk result (λ is_open. is_open ≡ true) }
+        {
+            Ok(true)
+        })?;
+        let links = PairTable::from_fn(alloc, count, || -> Result<Outgoing, AllocError>
+            requires { (2 ≤ window) × (window ≤ 256) }
+            ensures { IfOk result (λ link. link ≡ new_sending window) }
+        {
+            Outgoing::new(alloc, window)
+        })?;
         Ok(Hub {
             alloc,
             parties,
@@ -146,7 +157,16 @@ impl Hub {
         requires { from < length self.now.parties }
         ensures { result ≡ reach self.now.parties self.now.entries from message.now }
     {
-        let Message::Master { gtin, product } = message;
+        match message {
+            Message::Master { gtin, product } => self.master_reach(from, gtin, product),
+        }
+    }
+
+    /// The parties that a master from a party reaches.
+    fn master_reach(&self, from: Party, gtin: &Gtin, product: &Product) -> Reach
+        requires { from < length self.now.parties }
+        ensures { result ≡ reach self.now.parties self.now.entries from (Master gtin.now product.now) }
+    {
         let before = self.market_table(gtin);
         let after = product.markets.as_slice();
         let mut found: ArrayVec<Party, PARTIES_LIMIT> = ArrayVec::new();
@@ -351,11 +371,12 @@ impl Hub {
             return Err(HubFault::StrangerParty);
         }
         let link = self.links.at_mut(from, to);
-        match link.relay() {
-            Ok(frame) => Ok(frame),
-            Err(LinkFault::Nothing) => Err(HubFault::Nothing),
-            Err(LinkFault::Memory) => Err(HubFault::Memory),
-        }
+        let frame = match link.relay() {
+            Ok(frame) => frame,
+            Err(LinkFault::Nothing) => return Err(HubFault::Nothing),
+            Err(LinkFault::Memory) => return Err(HubFault::Memory),
+        };
+        Ok(frame)
     }
 }
 
@@ -375,6 +396,17 @@ fn is_query(message: &Message) -> bool
     }
 }
 
+/// The markets that a message names for a product.
+fn named_markets(alloc: Global, message: &Message) -> Result<(Gtin, Markets), AllocError>
+    ensures { IfOk result (λ named. (from k : ℕ) (before : Option (List (List ℕ))) (gtin : List ℕ)
+        → last_markets_after before (Routed from k message.now ∷ []) gtin
+            ≡ (if is_same_gtin named.0 gtin then Some named.1 else before)) }
+{
+    match message {
+        Message::Master { gtin, product } => Ok((*gtin, product.markets.copy(alloc)?)),
+    }
+}
+
 /// Puts a routed message at the end of the record, and into the table the markets that it names. Where memory is refused
 /// neither has changed.
 fn record(
@@ -391,9 +423,7 @@ fn record(
     ensures err { OnErr result ((entries.new.items ≡ entries.old.items)
         × (markets.new.entries ≡ markets.old.entries)) }
 {
-    let Message::Master { gtin, product } = &message;
-    let gtin = *gtin;
-    let named = product.markets.copy(alloc)?;
+    let (gtin, named) = named_markets(alloc, &message)?;
     entries.reserve(1)?;
     markets.reserve(1)?;
     // Nothing fails from here on.

@@ -1,0 +1,4 @@
+pub mod InputLemmas
+pub mod OutputLemmas
+pub mod RepliesLemmas
+pub mod ServedLemmas

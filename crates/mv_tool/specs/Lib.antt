@@ -1,0 +1,4 @@
+pub mod Lines
+pub mod Output
+pub mod Replies
+pub mod Served

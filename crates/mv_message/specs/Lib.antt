@@ -1,2 +1,6 @@
 pub mod Fields
 pub mod Fault
+pub mod Members
+pub mod Reading
+pub mod Forms
+pub mod Messages

@@ -7,12 +7,19 @@
 
 mod fault;
 mod field;
+mod form;
+mod lists;
 mod markets;
+pub mod members;
 mod message;
+mod reading;
 mod text;
+mod writing;
 
 pub use fault::MessageFault;
 pub use field::Field;
+pub use lists::MOST_MARKETS;
 pub use markets::Markets;
 pub use message::{Message, Party, Product};
+pub use reading::MOST_TEXT_BYTES;
 pub use text::Text;

@@ -1,9 +1,15 @@
 //! What parties send each other.
 
 ghost use Rattle.std.specs.Prelude.{◌≡◌, IfOk, IfErr};
+ghost use Rattle.serde_json.specs.View.{view};
+ghost use Rattle.mv_message.specs.Reading.{Gives};
 
-use crate::{Markets, MessageFault, Text};
+use crate::form::{Form, form_of, known_form};
+use crate::lists::markets_of;
+use crate::reading::{free_text_of, gtin_of};
+use crate::{Field, Markets, MessageFault, Text};
 use mv_pack::Gtin;
+use serde_json::Value;
 use std::alloc::{AllocError, Global};
 
 /// A party, by its number from 0.
@@ -56,6 +62,75 @@ pub enum Message {
 }
 
 impl Message {
+    ghost use Rattle.mv_message.specs.Messages.{read_bytes, read_message, master_at};
+
+    /// Reads a message from the bytes of a JSON text.
+    ///
+    /// The first of these that holds is the fault: M1, the bytes are no JSON; then those of `from_value`. M9 may stand
+    /// in place of any answer where memory was refused.
+    #[tactic(auto, using(crate::proofs::ValueLemmas::utf8_test, crate::proofs::ValueLemmas::utf8_fact))]
+    pub fn read(alloc: Global, bytes: &[u8]) -> Result<Message, MessageFault>
+        ensures { Gives result (read_bytes bytes.now) }
+    {
+        match Value::from_slice(alloc, bytes) {
+            Ok(value) => Message::from_value(alloc, &value),
+            Err(error) => {
+                if error.is_memory() {
+                    Err(MessageFault::Memory)
+                } else {
+                    Err(MessageFault::NotJson)
+                }
+            }
+        }
+    }
+
+    /// Reads a message from a JSON value.
+    ///
+    /// The first of these that holds is the fault: M2, the value is no object; M3 or M5 of `msg`; M4 with the first
+    /// key, in byte order, that the message does not have; then the faults of the fields, in byte order of their names.
+    /// M9 may stand in place of any answer where memory was refused.
+    #[tactic(auto, unfolding(crate::specs::Messages::read_message))]
+    pub fn from_value(alloc: Global, value: &Value) -> Result<Message, MessageFault>
+        ensures { Gives result (read_message (view value.now)) }
+    {
+        let Some(members) = value.as_object() else {
+            return Err(MessageFault::NotObject);
+        };
+        let form = known_form(alloc, members, form_of(value)?)?;
+        match form {
+            Form::Master => Message::master_of(alloc, value),
+        }
+    }
+
+    /// The product master that the fields of an object give.
+    #[tactic(auto, unfolding(crate::specs::Messages::master_at))]
+    fn master_of(alloc: Global, value: &Value) -> Result<Message, MessageFault>
+        ensures { Gives result (master_at (view value.now)) }
+    {
+        let common = free_text_of(alloc, value, Field::Common)?;
+        let form = free_text_of(alloc, value, Field::Form)?;
+        let gtin = gtin_of(value, Field::Gtin)?;
+        let markets = markets_of(alloc, value, Field::Markets)?;
+        let name = free_text_of(alloc, value, Field::Name)?;
+        let pack_size = free_text_of(alloc, value, Field::PackSize)?;
+        let pack_type = free_text_of(alloc, value, Field::PackType)?;
+        let scheme = free_text_of(alloc, value, Field::Scheme)?;
+        let strength = free_text_of(alloc, value, Field::Strength)?;
+        Ok(Message::Master {
+            gtin,
+            product: Product {
+                scheme,
+                name,
+                common,
+                form,
+                strength,
+                pack_type,
+                pack_size,
+                markets,
+            },
+        })
+    }
+
     /// A message of its own that equals this one. The only refusal is M9, for want of memory.
     pub fn copy(&self, alloc: Global) -> Result<Message, MessageFault>
         ensures copy { IfOk result (λ message. message ≡ self.now) }

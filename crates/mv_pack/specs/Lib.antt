@@ -1,3 +1,4 @@
 pub mod Gtin
 pub mod Market
 pub mod Fault
+pub mod Laws

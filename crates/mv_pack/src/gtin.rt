@@ -1,7 +1,7 @@
 //! Product codes.
 ghost use Rattle.std.specs.Prelude.{◌≡◌, ◌+◌, ◌*◌, ◌-◌, ◌≤◌, ◌↔◌, length, map, IsOk, IsTrue};
 ghost use Rattle.std.specs.List.{list_all};
-ghost use Rattle.mv_pack.specs.Gtin.{is_digit, weighted_sum, padded, read_gtin, IsGtinText, digit_values};
+ghost use Rattle.mv_pack.specs.Gtin.{is_digit, check_sum, padded, read_gtin, IsGtinText, digit_values};
 
 use crate::PackFault;
 use std::marker::Model;
@@ -37,15 +37,14 @@ impl Gtin {
         ensures accepted { IsOk result ↔ IsGtinText text.now }
     {
         let digits = text.as_bytes();
-        let len = digits.len();
-        if len != 8 && (len < 12 || 14 < len) {
+        if !matches!(digits.len(), 8 | 12 | 13 | 14) {
             return Err(PackFault::Length);
         }
         if !are_digits(digits) {
             return Err(PackFault::Digit);
         }
-        let bytes = padded_to_14(digits);
-        if sum_of(&bytes) % 10 != 0 {
+        let bytes = padded(digits);
+        if check_sum(&bytes) % 10 != 0 {
             return Err(PackFault::CheckDigit);
         }
         Ok(Gtin { bytes })
@@ -80,7 +79,7 @@ pub(crate) fn are_digits(text: &[u8]) -> bool
 }
 
 /// The digits behind zeros, 14 in all.
-fn padded_to_14(digits: &[u8]) -> [u8; 14]
+fn padded(digits: &[u8]) -> [u8; 14]
     requires { length digits.now ≤ 14 }
     ensures { result ≡ padded digits.now }
 {
@@ -90,10 +89,10 @@ fn padded_to_14(digits: &[u8]) -> [u8; 14]
 }
 
 /// The sum of the digits with the weights 3, 1, 3, 1 and so on.
-fn sum_of(digits: &[u8]) -> u32
+fn check_sum(digits: &[u8]) -> u32
     requires short { length digits.now ≤ 14 }
     requires digits { IsTrue (list_all is_digit digits.now) }
-    ensures { result ≡ weighted_sum 3 digits.now }
+    ensures { result ≡ check_sum digits.now }
 {
     let mut sum = 0u32;
     let mut weight = 3u32;

@@ -7,8 +7,12 @@
 
 mod fault;
 mod gtin;
+pub mod laws;
 mod market;
 
 pub use fault::PackFault;
 pub use gtin::Gtin;
 pub use market::Market;
+
+#[cfg(test)]
+mod tests;

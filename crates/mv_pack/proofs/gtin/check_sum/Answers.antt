@@ -1,8 +1,15 @@
 use Rattle.std.proofs.Common.{◌≡◌, ◌≤◌, ◌<◌, get_or, true, arith}
 use Rattle.mv_pack.specs.Gtin.{is_digit}
-use Rattle.mv_pack.proofs.GtinLemmas.{digit_bounds, passes_at, weight_times_digit, weighted_sum-drop}
-use Rattle.mv_pack.proofs.gtin.sum_of.Goals as goal
+use Rattle.mv_pack.proofs.GtinLemmas.{weighted_sum_is_check_sum, digit_bounds, passes_at, weight_times_digit, weighted_sum-drop}
+use Rattle.mv_pack.proofs.gtin.check_sum.Goals as goal
 
+-- the weights from the first digit on give the whole sum
+pub loop-byte-init : goal.loop-byte-init
+loop-byte-init c =
+    let whole = weighted_sum_is_check_sum c.args.digits.now in
+    record { rest = omega arith; positive = omega arith; weight = omega arith; bound = omega arith }
+
+-- one digit more, with its weight
 pub loop-byte-preserved : goal.loop-byte-preserved
 loop-byte-preserved c =
     let x = get_or c.args.digits.now c.loop-byte.byte-index 0 in

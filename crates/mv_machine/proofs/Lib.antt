@@ -1,0 +1,3 @@
+pub mod PrefixLemmas
+pub mod LawfulLemmas
+pub mod BoundLemmas

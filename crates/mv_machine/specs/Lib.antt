@@ -1,0 +1,7 @@
+pub mod Limits
+pub mod Replies
+pub mod State
+pub mod Steps
+pub mod Runs
+pub mod Lawful
+pub mod Laws

@@ -1,0 +1,22 @@
+-- Which replies are allowed to steps, want of memory included, and what they leave.
+use Rattle.std.specs.Prelude.{◌≡◌, List, [], ◌∷◌, IsTrue, MatchBool}
+use Rattle.mv_machine.specs.declared.step.Step.{Step}
+use Rattle.mv_machine.specs.declared.reply.Reply.{Reply}
+use Rattle.mv_machine.specs.Replies.{takes_memory, wants_memory}
+use Rattle.mv_machine.specs.State.{State}
+use Rattle.mv_machine.specs.Steps.{outcome}
+
+-- The step may get this reply and leave this state: those of its row, or, where the row takes memory, the refusal for want
+-- of memory with nothing changed.
+unfoldable pub Allows : State → Step → Reply → State → Type 0
+Allows old step reply new =
+    MatchBool (wants_memory reply)
+        ((new ≡ old) × IsTrue (takes_memory (outcome old step).reply))
+        ((reply ≡ (outcome old step).reply) × (new ≡ (outcome old step).state))
+
+-- the steps may get these replies, one after another, and leave this state
+abbrev pub Runs : State → List Step → List Reply → State → Type 0
+Runs old [] [] new = new ≡ old
+Runs old (step ∷ steps) (reply ∷ replies) new = (between : State) × Allows old step reply between × Runs between steps replies new
+Runs old [] (reply ∷ replies) new = ⊥
+Runs old (step ∷ steps) [] new = ⊥

@@ -1,0 +1,72 @@
+-- The state of the list machine: the whole system as plain lists.
+use Rattle.std.specs.Prelude.{◌≡◌, ◌<◌, ◌&&◌, ℕ, List, [], length, drop, Bool, slice_index_or, slice_set, nat_lt, replicate}
+use Rattle.mv_message.specs.declared.message.Message.{Message}
+use Rattle.mv_link.specs.declared.item.Item.{Item}
+use Rattle.mv_pairs.specs.Pairs.{cell, put, IsSquare}
+use Rattle.mv_hub.specs.declared.entry.Entry.{Entry}
+use Rattle.mv_hub.specs.Record.{routed_count}
+use Rattle.mv_hub.specs.Links.{link_items}
+use Rattle.mv_repository.specs.declared.entry.LogEntry.{LogEntry}
+use Rattle.mv_repository.specs.Log.{items_from}
+use Rattle.mv_machine.specs.Limits.{Bounds}
+
+pub record State : Type 0 where
+  pub parties : List (List (List ℕ))    -- the markets that each party serves, party 0 first
+  pub limits : Bounds
+  pub submissions : List (List Message) -- what each party submitted, the oldest first
+  pub entries : List Entry              -- the hub's record, the oldest entry first
+  pub sent : List (List ℕ)              -- how many frames of each link were relayed, by sender and receiver
+  pub wires : List (List (List ℕ))      -- the numbers of the frames under way on each link, the front first
+  pub logs : List (List LogEntry)       -- what each repository applied, the oldest entry first
+
+-- a party of the system
+abbrev pub is_party : State → ℕ → Bool
+is_party st party = nat_lt party (length st.parties)
+
+-- two parties of the system
+abbrev pub are_parties : State → ℕ → ℕ → Bool
+are_parties st from to = is_party st from && is_party st to
+
+-- what a party submitted
+abbrev pub submissions_of : State → ℕ → List Message
+submissions_of st party = slice_index_or st.submissions party []
+
+-- what a party submitted and the hub has not routed yet: its uplink
+abbrev pub waiting_of : State → ℕ → List Message
+waiting_of st party = drop (routed_count st.entries party) (submissions_of st party)
+
+-- how many frames of a link were relayed
+abbrev pub sent_of : State → ℕ → ℕ → ℕ
+sent_of st from to = cell st.sent from to 0
+
+-- the numbers of the frames under way on a link
+abbrev pub wire_of : State → ℕ → ℕ → List ℕ
+wire_of st from to = cell st.wires from to []
+
+-- what a repository applied
+abbrev pub log_of : State → ℕ → List LogEntry
+log_of st party = slice_index_or st.logs party []
+
+-- what the record says was put on a link
+abbrev pub items_on : State → ℕ → ℕ → List Item
+items_on st from to = link_items st.parties st.entries from to
+
+-- how many items of a sender a repository applied
+abbrev pub applied_count : State → ℕ → ℕ → ℕ
+applied_count st from to = length (items_from (log_of st to) from)
+
+-- the state with other frames under way on a link
+abbrev pub with_wire : State → ℕ → ℕ → List ℕ → State
+with_wire st from to numbers = record st { wires = put st.wires from to numbers }
+
+-- the state where a system opens: nothing has happened
+abbrev pub opening : List (List (List ℕ)) → Bounds → State
+opening parties limits = record {
+  parties = parties;
+  limits = limits;
+  submissions = replicate (length parties) [];
+  entries = [];
+  sent = replicate (length parties) (replicate (length parties) 0);
+  wires = replicate (length parties) (replicate (length parties) []);
+  logs = replicate (length parties) [];
+}

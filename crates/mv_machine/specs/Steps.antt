@@ -1,0 +1,118 @@
+-- What each step answers and leaves where there is memory: a row for each kind of step, its refusals in their order.
+use Rattle.std.specs.Prelude.{◌==◌, ◌+◌, ◌-◌, ℕ, List, [], ◌∷◌, ◌++◌, length, not, Bool, if◌then◌else◌, slice_set, slice_get, Option, Some, None, nat_lt, nat_le, find}
+use Rattle.std.specs.List.{range_with_len}
+use Rattle.mv_message.specs.declared.message.Message.{Message}
+use Rattle.mv_link.specs.declared.item.Item.{Item}
+use Rattle.mv_pairs.specs.Pairs.{put}
+use Rattle.mv_hub.specs.declared.entry.Entry.{Entry}
+use Rattle.mv_hub.specs.declared.entry.Entry.TheVariants.{Routed as RoutedEntry}
+use Rattle.mv_hub.specs.Record.{routed_count}
+use Rattle.mv_hub.specs.Targets.{reach}
+use Rattle.mv_hub.specs.Links.{gained}
+use Rattle.mv_repository.specs.Effect.{effect_of}
+use Rattle.mv_machine.specs.declared.step.Step.{Step}
+use Rattle.mv_machine.specs.declared.step.Step.TheVariants.{Submit, Route, Relay, Apply}
+use Rattle.mv_machine.specs.declared.reply.Reply.{Reply}
+use Rattle.mv_machine.specs.declared.reply.Reply.TheVariants.{Submitted, Routed, Relayed, Applied, Old, Gap, Refused}
+use Rattle.mv_machine.specs.declared.reply.Refusal.{Refusal}
+use Rattle.mv_machine.specs.declared.reply.Refusal.TheVariants.{Party, UplinkFull, SenderFull, UplinkEmpty, Busy, WireFull, WireEmpty, Nothing}
+use Rattle.mv_machine.specs.State.{State, is_party, are_parties, submissions_of, waiting_of, sent_of, wire_of, log_of, items_on, applied_count, with_wire}
+
+-- a reply and the state that the step leaves
+pub record Outcome : Type 0 where
+  pub reply : Reply
+  pub state : State
+
+-- a refused step changes nothing
+abbrev pub refused : Refusal → State → Outcome
+refused refusal st = record { reply = Refused refusal; state = st }
+
+-- a party submits a message: it is the last of the party's submissions
+unfoldable pub submit : State → ℕ → Message → Outcome
+submit st from message =
+    if not (is_party st from) then refused Party st
+    else (if length (waiting_of st from) == st.limits.uplink then refused UplinkFull st
+    else (if length (submissions_of st from) == st.limits.submissions then refused SenderFull st
+    else record {
+      reply = Submitted (length (submissions_of st from) + 1);
+      state = record st { submissions = slice_set st.submissions from (submissions_of st from ++ message ∷ []) };
+    }))
+
+-- the entry by which the next message of a party is routed
+abbrev pub next_entry : State → ℕ → Message → Entry
+next_entry st from message = RoutedEntry from (routed_count st.entries from + 1) message
+
+-- a link has no room for what the routing of a message would put on it: what waits to be relayed is never more than the
+-- window
+unfoldable pub is_full : State → ℕ → Message → ℕ → Bool
+is_full st from message to =
+    nat_lt st.limits.window (length (items_on st from to) - sent_of st from to
+        + length (gained st.parties st.entries (next_entry st from message) from to))
+
+-- the hub routes a message unless a link is full, of which the least is named
+abbrev pub route_unless : State → ℕ → Message → Option ℕ → Outcome
+route_unless st from message (Some to) = refused (Busy to) st
+route_unless st from message None = record {
+  reply = Routed (routed_count st.entries from + 1) (reach st.parties st.entries from message);
+  state = record st { entries = st.entries ++ next_entry st from message ∷ [] };
+}
+
+-- the hub routes the front of an uplink, where there is one
+abbrev pub route_front : State → ℕ → Option Message → Outcome
+route_front st from None = refused UplinkEmpty st
+route_front st from (Some message) =
+    route_unless st from message (find (is_full st from message) (range_with_len 0 (length st.parties)))
+
+-- the hub routes the next message of a party
+unfoldable pub route : State → ℕ → Outcome
+route st from =
+    if not (is_party st from) then refused Party st
+    else route_front st from (slice_get (submissions_of st from) (routed_count st.entries from))
+
+-- the next frame of a link goes on its wire
+unfoldable pub relay : State → ℕ → ℕ → Outcome
+relay st from to =
+    if not (are_parties st from to) then refused Party st
+    else (if nat_le st.limits.wire (length (wire_of st from to)) then refused WireFull st
+    else (if sent_of st from to == length (items_on st from to) then refused Nothing st
+    else record {
+      reply = Relayed (sent_of st from to + 1);
+      state = record st {
+        sent = put st.sent from to (sent_of st from to + 1);
+        wires = put st.wires from to (wire_of st from to ++ (sent_of st from to + 1) ∷ []);
+      };
+    }))
+
+-- a repository applies the member of the link that the next frame bears. A link always has it; a frame of no member would
+-- be dropped, as one behind a gap is
+abbrev pub apply_next : State → ℕ → ℕ → ℕ → List ℕ → Option Item → Outcome
+apply_next st from to number rest (Some item) = record {
+  reply = Applied number (effect_of item);
+  state = record st {
+    wires = put st.wires from to rest;
+    logs = slice_set st.logs to (log_of st to ++ record { sender = from; item = item } ∷ []);
+  };
+}
+apply_next st from to number rest None = record { reply = Gap number number; state = with_wire st from to rest }
+
+-- the frame in front of a wire is taken: it is old, it is behind a gap, or it is the next
+unfoldable pub apply_front : State → ℕ → ℕ → List ℕ → Outcome
+apply_front st from to [] = refused WireEmpty st
+apply_front st from to (number ∷ rest) =
+    if nat_le number (applied_count st from to) then record { reply = Old number; state = with_wire st from to rest }
+    else (if nat_lt (applied_count st from to + 1) number
+      then record { reply = Gap number (applied_count st from to + 1); state = with_wire st from to rest }
+    else apply_next st from to number rest (slice_get (items_on st from to) (number - 1)))
+
+-- a repository takes the front frame of a link
+unfoldable pub apply : State → ℕ → ℕ → Outcome
+apply st from to =
+    if not (are_parties st from to) then refused Party st
+    else apply_front st from to (wire_of st from to)
+
+-- what a step answers and leaves where there is memory
+abbrev pub outcome : State → Step → Outcome
+outcome st (Submit from message) = submit st from message
+outcome st (Route from) = route st from
+outcome st (Relay from to) = relay st from to
+outcome st (Apply from to) = apply st from to

@@ -1,0 +1,125 @@
+//! The limits of a system.
+
+ghost use Rattle.std.specs.Prelude.{◌≡◌};
+ghost use Rattle.mv_machine.specs.Limits.{is_between};
+
+use std::marker::Model;
+
+/// How much a system holds at most.
+#[derive(Clone, Copy, Debug, PartialEq, Eq)]
+pub struct Limits {
+    window: u32,
+    wire: u32,
+    uplink: u32,
+    submissions: u32,
+}
+
+impl Model for Limits {
+    ghost use Rattle.mv_machine.specs.Limits.{Bounds, AreBounds};
+
+    ghost Value = { Bounds };
+
+    ghost view = { λ l. record { window = l.window; wire = l.wire; uplink = l.uplink; submissions = l.submissions } };
+
+    ghost invariant = { λ l. AreBounds (record { window = l.window; wire = l.wire; uplink = l.uplink; submissions = l.submissions }) };
+
+    ghost inverse = { λ b. record { window = b.window; wire = b.wire; uplink = b.uplink; submissions = b.submissions } };
+}
+
+impl Limits {
+    ghost use Rattle.mv_machine.specs.Limits.{limits_of, AreBounds};
+
+    /// The limits of these numbers: items that each link keeps (2 to 256), frames under way on each link (1 to 64),
+    /// messages of each party under way to the hub (1 to 64), and messages that each party submits in all (1 to
+    /// 1,000,000). The first that is out of its range is the fault, O1 to O4.
+    pub fn of(window: u32, wire: u32, uplink: u32, submissions: u32) -> Result<Limits, LimitsFault>
+        ensures { result ≡ limits_of window wire uplink submissions }
+    {
+        if !is_between(2, 256, window) {
+            return Err(LimitsFault::Window);
+        }
+        if !is_between(1, 64, wire) {
+            return Err(LimitsFault::Wire);
+        }
+        if !is_between(1, 64, uplink) {
+            return Err(LimitsFault::Uplink);
+        }
+        if !is_between(1, 1_000_000, submissions) {
+            return Err(LimitsFault::Submissions);
+        }
+        Ok(Limits {
+            window,
+            wire,
+            uplink,
+            submissions,
+        })
+    }
+
+    /// How many items each link keeps, 2 to 256.
+    pub fn window(&self) -> u32
+        ensures value { result ≡ self.now.window }
+        ensures bounds { AreBounds self.now }
+    {
+        self.window
+    }
+
+    /// How many frames are under way on each link at most, 1 to 64.
+    pub fn wire(&self) -> u32
+        ensures value { result ≡ self.now.wire }
+        ensures bounds { AreBounds self.now }
+    {
+        self.wire
+    }
+
+    /// How many messages of each party are under way to the hub at most, 1 to 64.
+    pub fn uplink(&self) -> u32
+        ensures value { result ≡ self.now.uplink }
+        ensures bounds { AreBounds self.now }
+    {
+        self.uplink
+    }
+
+    /// How many messages each party submits at most, 1 to 1,000,000.
+    pub fn submissions(&self) -> u32
+        ensures value { result ≡ self.now.submissions }
+        ensures bounds { AreBounds self.now }
+    {
+        self.submissions
+    }
+}
+
+/// Whether a number lies between two others, both included.
+fn is_between(least: u32, most: u32, number: u32) -> bool
+    ensures { result ≡ is_between least most number }
+{
+    least <= number && number <= most
+}
+
+/// Which limit is out of its range.
+#[derive(Clone, Copy, Debug, PartialEq, Eq)]
+pub enum LimitsFault {
+    /// O1: the window is not 2 to 256.
+    Window,
+    /// O2: the wire is not 1 to 64.
+    Wire,
+    /// O3: the uplink is not 1 to 64.
+    Uplink,
+    /// O4: the submissions are not 1 to 1,000,000.
+    Submissions,
+}
+
+impl LimitsFault {
+    ghost use Rattle.mv_machine.specs.Limits.{code_of};
+
+    /// The number of the fault, as `O1`.
+    pub fn code(self) -> &'static str
+        ensures { result.now ≡ code_of self }
+    {
+        match self {
+            LimitsFault::Window => "O1",
+            LimitsFault::Wire => "O2",
+            LimitsFault::Uplink => "O3",
+            LimitsFault::Submissions => "O4",
+        }
+    }
+}

@@ -1,0 +1,70 @@
+//! The replies to steps.
+
+ghost use Rattle.std.specs.Prelude.{◌≡◌};
+
+use mv_link::Reach;
+use mv_message::Party;
+use mv_repository::Effect;
+
+/// What a step is answered.
+#[derive(Debug, PartialEq, Eq, Drop)]
+pub enum Reply {
+    /// The message is the `k`-th that the party submitted, counted from one.
+    Submitted { k: u32 },
+    /// The `k`-th message of the party was routed to these parties.
+    Routed { k: u32, reach: Reach },
+    /// The frame of this number went on the wire.
+    Relayed { number: u32 },
+    /// The frame of this number was applied, with this effect.
+    Applied { number: u32, effect: Effect },
+    /// The frame of this number was applied before, and was dropped.
+    Old { number: u32 },
+    /// The frame of this number was dropped, since the frame `expected` has not been applied.
+    Gap { number: u32, expected: u32 },
+    /// The step was refused, and nothing changed.
+    Refused(Refusal),
+}
+
+/// Why a step was refused. Nothing has changed then.
+#[derive(Clone, Copy, Debug, PartialEq, Eq)]
+pub enum Refusal {
+    /// S1: a party that the step names does not exist.
+    Party,
+    /// S3: as many messages of the party are under way to the hub as the uplink takes.
+    UplinkFull,
+    /// S4: the party has submitted as many messages as it may.
+    SenderFull,
+    /// S5: no message of the party waits to be routed.
+    UplinkEmpty,
+    /// S6: the link to this party, the least such, has no room for what the message would put on it.
+    Busy(Party),
+    /// S7: as many frames are under way on the link as the wire takes.
+    WireFull,
+    /// S8: no frame is under way on the link.
+    WireEmpty,
+    /// S11: every item of the link has been relayed.
+    Nothing,
+    /// S14: memory was refused.
+    Memory,
+}
+
+impl Refusal {
+    ghost use Rattle.mv_machine.specs.Replies.{code_of};
+
+    /// The number of the refusal, as `S5`.
+    pub fn code(self) -> &'static str
+        ensures { result.now ≡ code_of self }
+    {
+        match self {
+            Refusal::Party => "S1",
+            Refusal::UplinkFull => "S3",
+            Refusal::SenderFull => "S4",
+            Refusal::UplinkEmpty => "S5",
+            Refusal::Busy(_) => "S6",
+            Refusal::WireFull => "S7",
+            Refusal::WireEmpty => "S8",
+            Refusal::Nothing => "S11",
+            Refusal::Memory => "S14",
+        }
+    }
+}

@@ -1,0 +1,16 @@
+//! The steps of the system.
+
+use mv_message::{Message, Party};
+
+/// One step of the system.
+#[derive(Debug, PartialEq, Eq, Drop)]
+pub enum Step {
+    /// A party submits a message to the hub.
+    Submit { from: Party, message: Message },
+    /// The hub routes the next message of a party.
+    Route { from: Party },
+    /// The next frame of a link goes on its wire.
+    Relay { from: Party, to: Party },
+    /// A repository takes the front frame of the wire from a party.
+    Apply { from: Party, to: Party },
+}

@@ -1,0 +1,3 @@
+pub mod MembersLemmas
+pub mod ListLemmas
+pub mod ValueLemmas

@@ -1,0 +1,18 @@
+-- Lists of values.
+use Rattle.std.proofs.Common.{◌≡◌, ℕ, ◌&&◌, List, [], ◌∷◌, length, suc, ap, refl}
+use Rattle.std.specs.Prelude.{is_some}
+use Rattle.std.specs.List.{list_all}
+use Rattle.serde_json.specs.Find.{as_str}
+use Rattle.serde_json.specs.View.{view, items_view}
+use Rattle.serde_json.specs.declared.value.Value.{Value}
+use Rattle.mv_message.specs.Reading.{are_texts, count_of}
+
+-- all values are texts where all members are
+pub all_are_texts : (vs : List Value) → list_all (λ v. is_some (as_str (view v))) vs ≡ are_texts (items_view vs)
+all_are_texts [] = refl
+all_are_texts (v ∷ vs) = ap (λ b. is_some (as_str (view v)) && b) (all_are_texts vs)
+
+-- there are as many values as members
+pub count_is_length : (vs : List Value) → count_of (items_view vs) ≡ length vs
+count_is_length [] = refl
+count_is_length (v ∷ vs) = ap (λ n. suc n) (count_is_length vs)

@@ -1,0 +1,94 @@
+-- What reading a part of a JSON value gives: its meaning, or the first fault.
+use Rattle.std.specs.Prelude.{◌≡◌, ◌≢◌, ℕ, suc, ◌==◌, ◌&&◌, ◌||◌, not, Bool, true, nat_lt, if◌then◌else◌, List, [], ◌∷◌, ◌++◌, length, is_some, Option, Some, None, Result, Ok, Err}
+use Rattle.serde_json.specs.Data.{Data, Items, no_items, item}
+use Rattle.serde_json.specs.Find.{get, as_str, as_array}
+use Rattle.mv_pack.specs.Gtin.{read_gtin}
+use Rattle.mv_pack.specs.Market.{read_market}
+use Rattle.mv_pack.specs.declared.fault.PackFault.{PackFault}
+use Rattle.mv_message.specs.declared.field.Field.{Field}
+use Rattle.mv_message.specs.declared.fault.MessageFault.{MessageFault}
+use Rattle.mv_message.specs.declared.fault.MessageFault.TheVariants.{Missing, Kind, Pack, Count, TextLength, Memory}
+use Rattle.mv_message.specs.declared.reading.TheConstants.{MOST_TEXT_BYTES}
+use Rattle.mv_message.specs.declared.lists.TheConstants.{MOST_MARKETS}
+use Rattle.mv_message.specs.Fields.{field_name}
+
+-- the next step on what was read, or the fault that there was
+infixl 10 ◌and_then◌
+abbrev pub ◌and_then◌ : {A B : Type 0} → Result A MessageFault → (A → Result B MessageFault) → Result B MessageFault
+(Ok meaning) and_then next = next meaning
+(Err fault) and_then next = Err fault
+
+-- what there is, or the fault where there is nothing
+abbrev pub some_or : {A : Type 0} → MessageFault → Option A → Result A MessageFault
+some_or fault None = Err fault
+some_or fault (Some x) = Ok x
+
+-- a refusal of a reader of values is a fault of the field (M6)
+abbrev pub of_field : {A : Type 0} → Field → Result A PackFault → Result A MessageFault
+of_field field (Ok meaning) = Ok meaning
+of_field field (Err fault) = Err (Pack field fault)
+
+-- the value of a field, else M3
+abbrev pub member_at : Field → Data → Result Data MessageFault
+member_at field value = some_or (Missing field) (get (field_name field) value)
+
+-- the text of a field: M3, M5
+abbrev pub text_at : Field → Data → Result (List ℕ) MessageFault
+text_at field value = member_at field value and_then λ found. some_or (Kind field) (as_str found)
+
+-- the product code of a field: M3, M5, M6
+unfoldable pub gtin_at : Field → Data → Result (List ℕ) MessageFault
+gtin_at field value = text_at field value and_then λ text. of_field field (read_gtin text)
+
+-- a text of 1 to 200 bytes, else M8
+abbrev pub limited : Field → List ℕ → Result (List ℕ) MessageFault
+limited field text =
+    if (length text == 0) || nat_lt MOST_TEXT_BYTES (length text) then Err (TextLength field) else Ok text
+
+-- the free text of a field: M3, M5, M8
+unfoldable pub free_text_at : Field → Data → Result (List ℕ) MessageFault
+free_text_at field value = text_at field value and_then limited field
+
+-- ---- lists of texts
+
+-- whether all members of a list are texts
+abbrev pub are_texts : Items → Bool
+are_texts no_items = true
+are_texts (item value items) = is_some (as_str value) && are_texts items
+
+-- how many members a list has
+abbrev pub count_of : Items → ℕ
+count_of no_items = 0
+count_of (item value items) = suc (count_of items)
+
+-- the list of a field, all of whose members are texts, 1 to most of them: M3, M5, M7
+unfoldable pub texts_at : ℕ → Field → Data → Result Items MessageFault
+texts_at most field value =
+    member_at field value and_then λ found.
+    some_or (Kind field) (as_array found) and_then λ items.
+    if not (are_texts items) then Err (Kind field)
+    else (if (count_of items == 0) || nat_lt most (count_of items) then Err (Count field)
+    else Ok items)
+
+-- a member of a list, by its reader
+abbrev pub read_item : {A : Type 0} → (List ℕ → Result A PackFault) → Field → Data → Result A MessageFault
+read_item reader field value = some_or (Kind field) (as_str value) and_then λ text. of_field field (reader text)
+
+-- each member of a list in its order, or the fault of the first bad one
+abbrev pub read_each : {A : Type 0} → (List ℕ → Result A PackFault) → Field → Items → Result (List A) MessageFault
+read_each reader field no_items = Ok []
+read_each reader field (item value items) =
+    read_item reader field value and_then λ first. read_each reader field items and_then λ rest. Ok (first ∷ rest)
+
+-- the markets of a field, 1 to 32: M3, M5, M7, M6
+unfoldable pub markets_at : Field → Data → Result (List (List ℕ)) MessageFault
+markets_at field value = texts_at MOST_MARKETS field value and_then read_each read_market field
+
+-- what reading gives, behind what was read before
+abbrev pub with_front : {A : Type 0} → List A → Result (List A) MessageFault → Result (List A) MessageFault
+with_front front reading = reading and_then λ rest. Ok (front ++ rest)
+
+-- A function returned what reading gives, or memory was refused.
+abbrev pub Gives : {A : Type 0} → Result A MessageFault → Result A MessageFault → Type 0
+Gives (Ok meaning) reading = reading ≡ Ok meaning
+Gives (Err fault) reading = fault ≢ Memory → reading ≡ Err fault

@@ -1,4 +1,5 @@
 pub mod InputLemmas
 pub mod OutputLemmas
 pub mod RepliesLemmas
+pub mod ListLemmas
 pub mod ServedLemmas

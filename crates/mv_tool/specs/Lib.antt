@@ -2,3 +2,5 @@ pub mod Lines
 pub mod Output
 pub mod Replies
 pub mod Served
+pub mod Fields
+pub mod Reading

@@ -4,8 +4,15 @@
 mod answering;
 mod engine;
 mod fault;
+mod field;
 mod input;
 mod limits;
+mod line_fault;
+mod market_lists;
 mod output;
+mod reading;
 
 pub use fault::ServeFault;
+pub use field::LineField;
+pub use line_fault::LineFault;
+pub use market_lists::MarketLists;

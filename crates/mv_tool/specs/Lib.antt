@@ -4,3 +4,5 @@ pub mod Replies
 pub mod Served
 pub mod Fields
 pub mod Reading
+pub mod Kinds
+pub mod Requests

@@ -6,13 +6,16 @@ mod engine;
 mod fault;
 mod field;
 mod input;
+mod kind;
 mod limits;
 mod line_fault;
 mod market_lists;
 mod output;
 mod reading;
+mod request;
 
 pub use fault::ServeFault;
 pub use field::LineField;
 pub use line_fault::LineFault;
 pub use market_lists::MarketLists;
+pub use request::Request;

@@ -2,4 +2,5 @@ pub mod InputLemmas
 pub mod OutputLemmas
 pub mod RepliesLemmas
 pub mod ListLemmas
+pub mod ReplyLineLemmas
 pub mod ServedLemmas

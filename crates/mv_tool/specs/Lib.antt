@@ -6,3 +6,4 @@ pub mod Fields
 pub mod Reading
 pub mod Kinds
 pub mod Requests
+pub mod ReplyLines

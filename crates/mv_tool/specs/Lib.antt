@@ -7,3 +7,5 @@ pub mod Reading
 pub mod Kinds
 pub mod Requests
 pub mod ReplyLines
+pub mod Openings
+pub mod Sessions

@@ -9,3 +9,4 @@ pub mod Requests
 pub mod ReplyLines
 pub mod Openings
 pub mod Sessions
+pub mod Statuses

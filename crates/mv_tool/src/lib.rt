@@ -5,6 +5,7 @@
 #![tactic(auto)]
 
 mod answering;
+mod command_line;
 mod engine;
 mod fault;
 mod field;
@@ -19,8 +20,10 @@ mod reading;
 mod reply_line;
 mod request;
 mod session;
+mod status;
 mod steps;
 
+pub use command_line::command;
 pub use fault::ServeFault;
 pub use field::LineField;
 pub use line_fault::LineFault;
@@ -28,4 +31,5 @@ pub use market_lists::MarketLists;
 pub use open_fault::OpenFault;
 pub use reply_line::{line_fault_text, opened_text, refused_text, reply_text};
 pub use request::Request;
+pub use status::Status;
 pub use steps::serve;

@@ -1,1 +1,5 @@
 pub mod RecordLemmas
+pub mod NumberLemmas
+pub mod PartiesLemmas
+pub mod LinksLemmas
+pub mod HubLemmas

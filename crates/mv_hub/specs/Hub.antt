@@ -1,5 +1,5 @@
 -- What the hub is seen as. Neither links nor tables are part of it: they follow from the record.
-use Rattle.std.specs.Prelude.{ℕ, List, [], ◌∷◌, ◌++◌, ◌+◌, ◌-◌, length, Bool, ◌||◌, nat_lt, replicate, find, Option, Some, None, Result, Ok, Err, if◌then◌else◌}
+use Rattle.std.specs.Prelude.{ℕ, List, [], ◌∷◌, ◌++◌, ◌+◌, ◌-◌, length, map, Bool, ◌||◌, ◌&&◌, ◌==◌, not, nat_lt, replicate, find, Option, Some, None, Result, Ok, Err, if◌then◌else◌}
 use Rattle.std.specs.List.{range_with_len}
 use Rattle.mv_message.specs.declared.message.Message.{Message}
 use Rattle.mv_link.specs.declared.item.Item.{Item}
@@ -8,6 +8,8 @@ use Rattle.mv_hub.specs.declared.entry.Entry.{Entry}
 use Rattle.mv_hub.specs.declared.entry.Entry.TheVariants.{Routed}
 use Rattle.mv_hub.specs.declared.fault.RouteFault.{RouteFault}
 use Rattle.mv_hub.specs.declared.fault.RouteFault.TheVariants.{StrangerParty, Busy}
+use Rattle.mv_hub.specs.declared.fault.HubFault.{HubFault}
+use Rattle.mv_hub.specs.declared.fault.HubFault.TheVariants.{StrangerParty as Stranger, Nothing}
 use Rattle.mv_hub.specs.Record.{routed_count}
 use Rattle.mv_hub.specs.Targets.{reach}
 use Rattle.mv_hub.specs.Links.{gained, link_items}
@@ -43,6 +45,10 @@ next_entry hub from message = Routed from (routed_count hub.entries from + 1) me
 abbrev pub next_items : HubState → ℕ → Message → ℕ → List Item
 next_items hub from message to = gained hub.parties hub.entries (next_entry hub from message) from to
 
+-- what the routing of a message would put on each link of its sender, the link to party 0 first
+abbrev pub gains_of : HubState → ℕ → Message → List (List Item)
+gains_of hub from message = map (next_items hub from message) (range_with_len 0 (length hub.parties))
+
 -- a link has no room for what the routing of a message would put on it: items not yet relayed are never more than the
 -- window, and their numbers have 32 bits
 unfoldable pub is_busy : HubState → ℕ → Message → ℕ → Bool
@@ -63,6 +69,13 @@ busy_fault None = None
 unfoldable pub route_fault : HubState → ℕ → Message → Option RouteFault
 route_fault hub from message =
     if nat_lt from (length hub.parties) then busy_fault (busy_party hub from message) else Some StrangerParty
+
+-- why a link gives no frame now, memory aside, the first reason that holds
+abbrev pub relay_fault : HubState → ℕ → ℕ → Option HubFault
+relay_fault hub from to =
+    if not (nat_lt from (length hub.parties) && nat_lt to (length hub.parties)) then Some Stranger
+    else (if sent_of hub from to == length (items_on hub from to) then Some Nothing
+    else None)
 
 -- the hub once the next message of a party is routed
 abbrev pub with_routed : HubState → ℕ → Message → HubState

@@ -4,3 +4,4 @@ pub mod Targets
 pub mod Links
 pub mod Fault
 pub mod Hub
+pub mod Kept

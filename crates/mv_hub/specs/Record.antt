@@ -1,5 +1,5 @@
 -- The hub's record, its audit trail (Regulation (EU) 2016/161, Article 35(1)): the oldest entry stands first.
-use Rattle.std.specs.Prelude.{ℕ, List, [], ◌∷◌, length, nat_eq, Bool, true, false, ◌==◌, ◌&&◌, not, if◌then◌else◌}
+use Rattle.std.specs.Prelude.{ℕ, List, [], ◌∷◌, length, nat_eq, Bool, true, false, ◌==◌, ◌&&◌, not, Option, Some, None, unwrap_or, if◌then◌else◌}
 use Rattle.std.specs.Cmp.Lexicographic.{pointwise}
 use Rattle.mv_message.specs.declared.message.Message.{Message}
 use Rattle.mv_message.specs.declared.message.Message.TheVariants.{Master}
@@ -21,16 +21,20 @@ routed_count entries party = length (routed_from entries party)
 abbrev pub is_same_gtin : List ℕ → List ℕ → Bool
 is_same_gtin = pointwise nat_eq
 
--- the markets of a product once these entries follow, where those markets were its before
-abbrev pub market_table_after : List (List ℕ) → List Entry → List ℕ → List (List ℕ)
-market_table_after markets [] gtin = markets
-market_table_after markets (Routed from k (Master named product) ∷ entries) gtin =
-    market_table_after (if is_same_gtin named gtin then product.markets else markets) entries gtin
-market_table_after markets (Closed from to ∷ entries) gtin = market_table_after markets entries gtin
+-- the markets that the last master of a product names once these entries follow, where those were named before
+abbrev pub last_markets_after : Option (List (List ℕ)) → List Entry → List ℕ → Option (List (List ℕ))
+last_markets_after markets [] gtin = markets
+last_markets_after markets (Routed from k (Master named product) ∷ entries) gtin =
+    last_markets_after (if is_same_gtin named gtin then Some product.markets else markets) entries gtin
+last_markets_after markets (Closed from to ∷ entries) gtin = last_markets_after markets entries gtin
 
--- the markets of a product: those of its last routed master, none where there is no master
+-- the markets that the last routed master of a product names, none where there is no master
+abbrev pub last_markets : List Entry → List ℕ → Option (List (List ℕ))
+last_markets entries gtin = last_markets_after None entries gtin
+
+-- the markets of a product: those of its last routed master, the empty list where there is no master
 abbrev pub market_table : List Entry → List ℕ → List (List ℕ)
-market_table entries gtin = market_table_after [] entries gtin
+market_table entries gtin = unwrap_or (last_markets entries gtin) []
 
 -- no entry closes the link between two parties
 abbrev pub is_open : List Entry → ℕ → ℕ → Bool

@@ -7,6 +7,11 @@
 
 mod entry;
 mod fault;
+mod gain;
+mod hub;
+mod parties;
 
 pub use entry::Entry;
 pub use fault::{HubFault, RouteFault};
+pub use hub::Hub;
+pub use parties::Parties;

@@ -294,3 +294,11 @@ run-sound old [] (reply ∷ replies) new sound run = absurd run
 run-sound old (step ∷ steps) [] new sound run = absurd run
 run-sound old (step ∷ steps) (reply ∷ replies) new sound run =
     run-sound run.0 steps replies new (step-sound old step reply run.0 run.1 sound) run.2
+
+-- a run and one more step
+pub runs-push : (old : State) (steps : List Step) (replies : List Reply) (between : State) (step : Step) (reply : Reply) (new : State)
+    → Runs old steps replies between → Allows between step reply new → Runs old (steps ++ step ∷ []) (replies ++ reply ∷ []) new
+runs-push old [] [] between step reply new run allowed = (new, subst (λ (st : State). Allows st step reply new) run allowed, refl)
+runs-push old (x ∷ steps) (y ∷ replies) between step reply new run allowed = (run.0, run.1, runs-push run.0 steps replies between step reply new run.2 allowed)
+runs-push old [] (y ∷ replies) between step reply new run allowed = absurd run
+runs-push old (x ∷ steps) [] between step reply new run allowed = absurd run

@@ -13,3 +13,6 @@ pub use laws::{runs_are_lawful, stamps_fit};
 pub use limits::{Limits, LimitsFault};
 pub use reply::{Refusal, Reply};
 pub use step::Step;
+
+#[cfg(test)]
+mod tests;

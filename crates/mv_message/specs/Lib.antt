@@ -4,3 +4,4 @@ pub mod Members
 pub mod Reading
 pub mod Forms
 pub mod Messages
+pub mod Reads

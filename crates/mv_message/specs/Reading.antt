@@ -84,10 +84,6 @@ read_each reader field (item value items) =
 unfoldable pub markets_at : Field → Data → Result (List (List ℕ)) MessageFault
 markets_at field value = texts_at MOST_MARKETS field value and_then read_each read_market field
 
--- what reading gives, behind what was read before
-abbrev pub with_front : {A : Type 0} → List A → Result (List A) MessageFault → Result (List A) MessageFault
-with_front front reading = reading and_then λ rest. Ok (front ++ rest)
-
 -- A function returned what reading gives, or memory was refused.
 abbrev pub Gives : {A : Type 0} → Result A MessageFault → Result A MessageFault → Type 0
 Gives (Ok meaning) reading = reading ≡ Ok meaning

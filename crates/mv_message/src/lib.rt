@@ -8,6 +8,7 @@
 mod fault;
 mod field;
 mod form;
+pub mod laws;
 mod lists;
 mod markets;
 pub mod members;
@@ -23,3 +24,6 @@ pub use markets::Markets;
 pub use message::{Message, Party, Product};
 pub use reading::MOST_TEXT_BYTES;
 pub use text::Text;
+
+#[cfg(test)]
+mod tests;

@@ -10,7 +10,8 @@ ghost use Rattle.mv_message.specs.Members.{is_among, first_unknown};
 use serde_json::{Map, Value};
 
 /// The first key of an object, in byte order, that is none of these names.
-#[tactic(auto, using(crate::proofs::MembersLemmas::first_unknown_of_entries))]
+///
+/// It takes no memory: a caller that keeps the key copies it.
 pub fn first_unknown<'a>(members: &'a Map<String, Value>, names: &[&str]) -> Option<&'a str>
     ensures { option_map (λ key. key.now) result
         ≡ first_unknown (map (λ name. name.now) names.now) (members_view members.now.entries) }
@@ -21,7 +22,7 @@ pub fn first_unknown<'a>(members: &'a Map<String, Value>, names: &[&str]) -> Opt
     }
 }
 
-/// The first key that is none of these names.
+/// The first such key, as the object holds it.
 fn unknown_key<'a>(members: &'a Map<String, Value>, names: &[&str]) -> Option<&'a String>
     ensures { option_copied result
         ≡ find (λ key. not (is_among (map (λ name. name.now) names.now) (string_bytes key)))
@@ -38,7 +39,7 @@ fn has_name(names: &[&str], key: &str) -> bool
     any_name(names, key)
 }
 
-/// Whether a key is one of these names.
+/// The same, where a clause sees each name behind its reference.
 fn any_name(names: &[&str], key: &str) -> bool
     ensures { result ≡ list_any (λ name. bytes_eq key.now name.now) names.now }
 {

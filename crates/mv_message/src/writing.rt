@@ -1,9 +1,10 @@
 //! Writes messages, as JSON values and as texts.
 
-ghost use Rattle.std.specs.Prelude.{◌≡◌, IfOk, IfErr, string_bytes};
+ghost use Rattle.std.specs.Prelude.{◌≡◌, IfOk, IfErr, Ok, string_bytes};
 ghost use Rattle.serde_json.specs.View.{view};
 ghost use Rattle.serde_json.specs.Written.{compact_text};
-ghost use Rattle.mv_message.specs.Messages.{value_of, master_value};
+ghost use Rattle.mv_message.specs.Messages.{value_of, master_value, read_bytes};
+ghost use Rattle.mv_message.specs.Reads.{IsLegal};
 
 use crate::lists::market_values;
 use crate::{Message, MessageFault, Product};
@@ -24,9 +25,12 @@ impl Message {
 
     /// The canonical text of the message: its value with no blanks, the keys in byte order. The only refusal is M9, for
     /// want of memory.
-    #[tactic(auto, using(crate::proofs::ValueLemmas::no_float))]
+    #[tactic(auto, using(crate::proofs::ValueLemmas::no_float, crate::proofs::ValueLemmas::value_depth))]
     pub fn text(&self, alloc: Global) -> Result<String, MessageFault>
         ensures text { IfOk result (λ text. string_bytes text ≡ compact_text (value_of self.now)) }
+        // Of a legal message it is read back as that message.
+        ensures reads_back { IfOk result
+            (λ text. IsLegal self.now → read_bytes (string_bytes text) ≡ Ok self.now) }
         ensures memory { IfErr result (λ fault. fault ≡ MessageFault.Memory) }
     {
         Ok(self.to_value(alloc)?.to_string(alloc)?)

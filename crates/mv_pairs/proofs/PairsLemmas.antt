@@ -1,7 +1,7 @@
 -- Reads of a table that was written.
-use Rattle.std.proofs.Common.{◌≡◌, ◌≢◌, ℕ, zero, suc, ◌+◌, ◌<◌, List, [], ◌∷◌, length, map, get_or, set, sym, refl, ap, ◌∙◌, subst, arith, ◌⊎◌, inl, inr, get_or-set_same, get_or-set_other, length-set}
+use Rattle.std.proofs.Common.{◌≡◌, ◌≢◌, ℕ, zero, suc, ◌<◌, List, [], ◌∷◌, length, map, get_or, set, sym, refl, ap, ◌∙◌, subst, arith, ◌⊎◌, inl, inr, get_or-set_same, get_or-set_other, length-set}
 use Rattle.std.proofs.lemmas.Bool.{cases_eq, cases_lt}
-use Rattle.std.proofs.lemmas.List.Elements.{All-nil, All-replicate}
+use Rattle.std.proofs.lemmas.List.Elements.{All-nil}
 use Rattle.std.proofs.lemmas.List.{get_or_past, set_past, get_or-replicate, length-replicate, set-get_or, length-map}
 use Rattle.std.proofs.lemmas.Option.{slice_get-get_or}
 use Rattle.std.specs.List.{All}
@@ -12,13 +12,13 @@ use Rattle.mv_pairs.specs.Pairs.{cell, put, IsSquare}
 pub put-each : {A : Type 0} (P : ℕ → A → Type 0) (xs : List A) (i : ℕ) (v d : A) → P i v → ((j : ℕ) → P j (get_or xs j d)) → (j : ℕ) → P j (get_or (set xs i v) j d)
 put-each P xs i v d new old j =
     let here : P i (get_or (set xs i v) i d) =
-        elim (cases_lt i (length xs)) as (λ _. P i (get_or (set xs i v) i d)) [
-          inl lt ↦ subst (P i) (sym (get_or-set_same xs i v d lt)) new
-        | inr ge ↦ subst (λ l. P i (get_or l i d)) (sym (set_past xs i v ge)) (old i)
-        ] in
+    elim (cases_lt i (length xs)) as (λ _. P i (get_or (set xs i v) i d)) [
+      | inl lt ↦ subst (P i) (sym (get_or-set_same xs i v d lt)) new
+      | inr ge ↦ subst (λ l. P i (get_or l i d)) (sym (set_past xs i v ge)) (old i)
+    ] in
     elim (cases_eq j i) as (λ _. P j (get_or (set xs i v) j d)) [
-      inl e ↦ subst (λ u. P u (get_or (set xs i v) u d)) (sym e) here
-    | inr ne ↦ subst (P j) (sym (get_or-set_other xs i j v d ne)) (old j)
+      | inl e ↦ subst (λ u. P u (get_or (set xs i v) u d)) (sym e) here
+      | inr ne ↦ subst (P j) (sym (get_or-set_other xs i j v d ne)) (old j)
     ]
 
 -- the same for the pairs of a table
@@ -99,7 +99,7 @@ map-all f x (suc n) (v ∷ xs) e a =
 pub table-all : {A B : Type 0} (f : A → B) (x : B) (n : ℕ) (t : List (List A)) → IsSquare n t → All (All (λ v. f v ≡ x)) t → map (map f) t ≡ replicate n (replicate n x)
 table-all f x n t h a =
     map-all (map f) (replicate n x) n t h.rows
-      (λ k d lt. map-all f x n (get_or t k d) (ap length (get_or-any t k d [] lt) ∙ h.row k (subst (λ m. k < m) h.rows lt)) (a k d lt))
+    (λ k d lt. map-all f x n (get_or t k d) (ap length (get_or-any t k d [] lt) ∙ h.row k (subst (λ m. k < m) h.rows lt)) (a k d lt))
 
 -- what holds of all holds at each pair
 pub cell-all : {A : Type 0} (P : A → Type 0) (n : ℕ) (t : List (List A)) (s r : ℕ) (d : A) → IsSquare n t → All (All P) t → s < n → r < n → P (cell t s r d)
@@ -112,9 +112,9 @@ put-read t s r v d e = ap (put t s r) e ∙ put-cell t s r d
 -- what holds of all values, and of the default, holds at each place
 pub read-any : {A : Type 0} (P : A → Type 0) (xs : List A) (i : ℕ) (d : A) → All P xs → P d → P (get_or xs i d)
 read-any P xs i d a p = elim (cases_lt i (length xs)) as (λ _. P (get_or xs i d)) [
-    inl lt ↦ a i d lt
+  | inl lt ↦ a i d lt
   | inr ge ↦ subst P (sym (get_or_past xs i d ge)) p
-  ]
+]
 
 pub cell-any : {A : Type 0} (P : A → Type 0) (t : List (List A)) (s r : ℕ) (d : A) → All (All P) t → P d → P (cell t s r d)
 cell-any P t s r d a p = read-any P (get_or t s []) r d (read-any (All P) t s [] a (All-nil P)) p

@@ -1,5 +1,6 @@
 pub mod Log
 pub mod Order
 pub mod Product
+pub mod Copy
 pub mod Effect
 pub mod Repository

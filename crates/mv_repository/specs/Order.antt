@@ -1,13 +1,14 @@
 -- A log in the order of the hub's stamps: carried entries by stamp, those of one stamp in the order of the log, and behind
 -- them the receipts in the order of the log.
-use Rattle.std.specs.Prelude.{ℕ, List, [], ◌∷◌, ◌+◌, Bool, nat_lt, if◌then◌else◌}
+use Rattle.std.specs.Bool.{⊤}
+use Rattle.std.specs.Prelude.{◌≡◌, ℕ, List, [], ◌∷◌, ◌++◌, ◌+◌, length, Bool, true, ◌||◌, ◌&&◌, ◌==◌, nat_lt, Some, slice_get, if◌then◌else◌}
 use Rattle.mv_link.specs.declared.item.Item.{Item}
 use Rattle.mv_link.specs.declared.item.Item.TheVariants.{Receipt, Carried}
 use Rattle.mv_repository.specs.declared.entry.LogEntry.{LogEntry}
 
 -- an entry with its place in the log
 pub record Placed : Type 0 where
-  pub place : ℕ         -- counted from 0
+  pub place : ℕ  -- counted from 0
   pub entry : LogEntry
 
 -- where an item stands: by its stamp, and receipts behind every stamp of 32 bits
@@ -32,3 +33,34 @@ ordered_after placed place (entry ∷ log) = ordered_after (put_in (record { pla
 -- the log in the order of stamps
 abbrev pub ordered : List LogEntry → List Placed
 ordered log = ordered_after [] 0 log
+
+-- an entry stands before another: by stamp, and of one stamp by its place in the log
+abbrev pub stands_before : Placed → Placed → Bool
+stands_before first second =
+    nat_lt (rank first.entry.item) (rank second.entry.item) || (rank first.entry.item == rank second.entry.item && nat_lt first.place second.place)
+
+-- an entry stands before each of these
+abbrev pub StandsBeforeAll : Placed → List Placed → Type 0
+StandsBeforeAll entry [] = ⊤
+StandsBeforeAll entry (first ∷ rest) = (stands_before entry first ≡ true) × StandsBeforeAll entry rest
+
+-- each entry stands before all that follow
+abbrev pub Ascends : List Placed → Type 0
+Ascends [] = ⊤
+Ascends (first ∷ rest) = StandsBeforeAll first rest × Ascends rest
+
+-- each entry is the one at its place in the log
+abbrev pub AreOf : List LogEntry → List Placed → Type 0
+AreOf log [] = ⊤
+AreOf log (first ∷ rest) = (slice_get log first.place ≡ Some first.entry) × AreOf log rest
+
+-- the order of a log with one more entry is the order before, with that entry put in its place
+abbrev pub OneMoreIsPutIn : Type 0
+OneMoreIsPutIn = (log : List LogEntry) (entry : LogEntry)
+    → ordered (log ++ entry ∷ []) ≡ put_in (record { place = length log; entry = entry }) (ordered log)
+
+-- the order has each entry of the log once, by stamp and then by place
+pub record IsOrderOf (log : List LogEntry) (placed : List Placed) : Type 0 where
+  pub entries : AreOf log placed
+  pub ascends : Ascends placed
+  pub count : length placed ≡ length log

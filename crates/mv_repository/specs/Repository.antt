@@ -7,7 +7,7 @@ use Rattle.mv_repository.specs.Order.{ordered}
 use Rattle.mv_repository.specs.Product.{last_product}
 
 pub record RepositoryState : Type 0 where
-  pub party : ℕ            -- whose repository it is
+  pub party : ℕ  -- whose repository it is
   pub log : List LogEntry  -- what it applied, the oldest entry first
 
 -- a repository that applied nothing

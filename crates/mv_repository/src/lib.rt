@@ -7,6 +7,12 @@
 
 mod effect;
 mod entry;
+mod laws;
+mod repository;
+mod sender;
 
 pub use effect::Effect;
 pub use entry::LogEntry;
+pub use laws::{one_more_is_put_in, ordered_is_the_order};
+pub use repository::Repository;
+pub use sender::FromSender;

@@ -1,7 +1,8 @@
 use Rattle.std.proofs.Common.{◌≡◌, drop}
 use Rattle.serde_json.specs.View.{items_view}
 use Rattle.mv_pack.specs.Market.{read_market}
-use Rattle.mv_message.specs.Reading.{read_each, with_front}
+use Rattle.mv_message.specs.Reading.{read_each}
+use Rattle.mv_message.proofs.ListLemmas.{with_front}
 use Rattle.mv_message.proofs.lists.markets_in.Given as goal
 
 abbrev pub invariant-loop-value : goal.invariant-loop-value

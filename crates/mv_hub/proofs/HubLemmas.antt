@@ -1,0 +1,336 @@
+-- What the hub keeps, through a routing and a relay.
+use Rattle.std.proofs.Common.{◌≡◌, ◌≢◌, ℕ, ◌+◌, ◌-◌, ◌<◌, ◌≤◌, Bool, true, false, ◌&&◌, ◌||◌, not, List, [], ◌∷◌, ◌++◌, length, map, get_or, set, cond, Option, Some, None, sym, refl, ap, ◌∙◌, subst, arith, inl, inr, append-nil, eqb, zero-add, length-append, length-set, get_or-set_same, get_or-set_other}
+use mir.Val.{bool_byte}
+use Rattle.std.specs.Prelude.{nat_lt, ◌==◌, replicate, find}
+use Rattle.std.specs.List.{All, list_any, range_with_len}
+use Rattle.std.specs.Map.{lookup}
+use Rattle.std.proofs.lemmas.Bool.{cases_eq, cases_lt, eq-eqb, ne_eqb, lt-ltb, le-ltb, ltb-false}
+use Rattle.std.proofs.lemmas.List.{get_or-replicate, length-replicate}
+use Rattle.std.proofs.lemmas.List.FromFn.{get_or-map-range_with_len, length-map-range_with_len}
+use Rattle.mv_message.specs.declared.message.Message.{Message}
+use Rattle.mv_message.specs.declared.message.Message.TheVariants.{Master}
+use Rattle.mv_link.specs.declared.item.Item.{Item}
+use Rattle.mv_link.specs.declared.item.Item.TheVariants.{Receipt, Carried}
+use Rattle.mv_link.specs.Sending.{Sending, EndsWithHeld, HasRoom, new_sending, with_relayed as link_relayed}
+use Rattle.mv_pairs.specs.Pairs.{cell, put, IsSquare}
+use Rattle.mv_pairs.proofs.PairsLemmas.{put-each_pair, square-put, cell-map, put-map, cell-all, table-all}
+use Rattle.mv_hub.specs.declared.entry.Entry.{Entry}
+use Rattle.mv_hub.specs.declared.entry.Entry.TheVariants.{Routed, Closed}
+use Rattle.mv_hub.specs.Record.{routed_from, routed_count, last_markets, last_markets_after, is_same_gtin, is_open}
+use Rattle.mv_hub.specs.Targets.{reach, is_reached, is_query}
+use Rattle.mv_hub.specs.Links.{gained, link_items}
+use Rattle.mv_hub.specs.Hub.{HubState, new_hub, sent_of, items_on, next_items, gains_of, is_busy, busy_party, busy_fault, route_fault, with_relayed}
+use Rattle.mv_hub.specs.declared.fault.RouteFault.TheVariants.{StrangerParty}
+use Rattle.mv_hub.specs.Kept.{link_at, sent_table, AreCounts, AreMarkets, AreOpen, Carries, AreLinks, IsKept, Gains, GainsRow}
+use Rattle.mv_hub.proofs.RecordLemmas.{routed_from-append, link_items-push, gained_other}
+use Rattle.mv_hub.proofs.NumberLemmas.{any-filter_range, find-none_at}
+
+-- what the hub is seen as
+abbrev pub view : List (List (List ℕ)) → ℕ → List Entry → List (List Sending) → HubState
+view parties window entries links = record { parties = parties; window = window; entries = entries; sent = sent_table links }
+
+-- no more messages of one party were routed than there are entries
+pub routed_count_most : (entries : List Entry) (party : ℕ) → routed_count entries party ≤ length entries
+routed_count_most [] party = omega arith
+routed_count_most (Routed from k message ∷ entries) party = one (eqb from party) (routed_count_most entries party)
+  where
+    one : (b : Bool) → length (routed_from entries party) ≤ length entries
+        → length (cond b (message ∷ routed_from entries party) (routed_from entries party)) ≤ length (Routed from k message ∷ entries)
+    one true most = omega arith
+    one false most = omega arith
+routed_count_most (Closed from to ∷ entries) party = let most = routed_count_most entries party in omega arith
+
+last_markets_after-append : (markets : Option (List (List ℕ))) (before after : List Entry) (gtin : List ℕ)
+    → last_markets_after markets (before ++ after) gtin ≡ last_markets_after (last_markets_after markets before gtin) after gtin
+last_markets_after-append markets [] after gtin = refl
+last_markets_after-append markets (Routed from k (Master named product) ∷ before) after gtin =
+    last_markets_after-append (cond (is_same_gtin named gtin) (Some product.markets) markets) before after gtin
+last_markets_after-append markets (Closed from to ∷ before) after gtin = last_markets_after-append markets before after gtin
+
+is_open-routed : (entries : List Entry) (sender k : ℕ) (message : Message) (from to : ℕ)
+    → is_open (entries ++ Routed sender k message ∷ []) from to ≡ is_open entries from to
+is_open-routed [] sender k message from to = refl
+is_open-routed (Routed a j m ∷ entries) sender k message from to = is_open-routed entries sender k message from to
+is_open-routed (Closed a b ∷ entries) sender k message from to =
+    ap (λ o. not ((a == from) && (b == to)) && o) (is_open-routed entries sender k message from to)
+
+-- a party stands among those that a message reaches if the message reaches it
+pub has_party-reach : (parties : List (List (List ℕ))) (entries : List Entry) (from : ℕ) (message : Message) (reached : List ℕ) (to : ℕ)
+    → to < length parties → reached ≡ reach parties entries from message
+    → list_any (λ other. other == to) reached ≡ is_reached parties entries from message to
+unfolding reach
+has_party-reach parties entries from message reached to lt e =
+    ap (list_any (λ other. other == to)) e ∙ any-filter_range (is_reached parties entries from message) to (length parties) lt
+
+-- what the routing of a message puts on a link, by whom it reaches
+pub next_items-are : (hub : HubState) (from to : ℕ) (message : Message) (reached : List ℕ) (receipts carried : List Item)
+    → to < length hub.parties → reached ≡ reach hub.parties hub.entries from message
+    → receipts ≡ cond ((to == from) && is_open hub.entries from from) (Receipt (routed_count hub.entries from + 1) reached (is_query message) ∷ []) []
+    → carried ≡ cond (list_any (λ other. other == to) reached) (Carried (routed_count hub.entries from + 1) (length hub.entries + 1) message ∷ []) []
+    → receipts ++ carried ≡ next_items hub from message to
+unfolding gained
+next_items-are hub from to message reached receipts carried lt e first second =
+    let k = routed_count hub.entries from + 1 in
+    let open_here = (to == from) && is_open hub.entries from from in
+    let last = Carried k (length hub.entries + 1) message ∷ [] in
+    ap (λ l. l ++ carried) (first ∙ ap (λ r. cond open_here (Receipt k r (is_query message) ∷ []) []) e)
+    ∙ ap (λ l. cond open_here (Receipt k (reach hub.parties hub.entries from message) (is_query message) ∷ []) [] ++ l)
+        (second ∙ ap (λ b. cond b last []) (has_party-reach hub.parties hub.entries from message reached to lt e))
+    ∙ sym (ap (λ b. cond b (cond open_here (Receipt k (reach hub.parties hub.entries from message) (is_query message) ∷ []) []
+          ++ cond (is_reached hub.parties hub.entries from message to) last []) []) (eq-eqb from from refl))
+
+length-choices : {A : Type 0} (a b : Bool) (x y : A) → length (cond a (x ∷ []) [] ++ cond b (y ∷ []) []) ≡ bool_byte a + bool_byte b
+length-choices true true x y = refl
+length-choices true false x y = refl
+length-choices false true x y = refl
+length-choices false false x y = refl
+
+-- and how many items
+pub length-next_items : (hub : HubState) (from to : ℕ) (message : Message) (reached : List ℕ)
+    → to < length hub.parties → reached ≡ reach hub.parties hub.entries from message
+    → length (next_items hub from message to)
+    ≡ bool_byte ((to == from) && is_open hub.entries from from) + bool_byte (list_any (λ other. other == to) reached)
+length-next_items hub from to message reached lt e =
+    ap length (sym (next_items-are hub from to message reached _ _ lt e refl refl))
+    ∙ length-choices ((to == from) && is_open hub.entries from from) (list_any (λ other. other == to) reached) _ _
+
+-- a link is busy exactly where it has no room
+pub not_busy : (hub : HubState) (from to : ℕ) (message : Message) (link : Sending) (count : ℕ)
+    → Carries hub.window (items_on hub from to) link → link.sent ≡ sent_of hub from to → count ≡ length (next_items hub from message to)
+    → HasRoom link count → is_busy hub from message to ≡ false
+unfolding is_busy
+not_busy hub from to message link count carries sent e room =
+    let total = carries.ends.count in
+    let window = carries.window in
+    let first = le-ltb hub.window (length (items_on hub from to) - sent_of hub from to + length (next_items hub from message to)) (omega arith) in
+    let second = le-ltb 4294967295 (length (items_on hub from to) + length (next_items hub from message to)) (omega arith) in
+    ap (λ b. b || nat_lt 4294967295 (length (items_on hub from to) + length (next_items hub from message to))) first ∙ second
+
+either : (a b : Bool) → (a ≡ false → b ≡ false → ⊥) → (a || b) ≡ true
+either true b neither = refl
+either false true neither = refl
+either false false neither = absurd (neither refl refl)
+
+pub busy : (hub : HubState) (from to : ℕ) (message : Message) (link : Sending) (count : ℕ)
+    → Carries hub.window (items_on hub from to) link → link.sent ≡ sent_of hub from to → count ≡ length (next_items hub from message to)
+    → (HasRoom link count → ⊥) → is_busy hub from message to ≡ true
+unfolding is_busy
+busy hub from to message link count carries sent e full =
+    let total = carries.ends.count in
+    let window = carries.window in
+    either (nat_lt hub.window (length (items_on hub from to) - sent_of hub from to + length (next_items hub from message to)))
+      (nat_lt 4294967295 (length (items_on hub from to) + length (next_items hub from message to)))
+      (λ a b. full (omega (arith, ltb-false _ _ a), omega (arith, ltb-false _ _ b)))
+
+-- a link that is not busy has room
+pub room : (hub : HubState) (from to : ℕ) (message : Message) (link : Sending)
+    → Carries hub.window (items_on hub from to) link → link.sent ≡ sent_of hub from to
+    → is_busy hub from message to ≡ false → HasRoom link (length (next_items hub from message to))
+unfolding is_busy
+room hub from to message link carries sent free =
+    let total = carries.ends.count in
+    let window = carries.window in
+    let parts = neither (nat_lt hub.window (length (items_on hub from to) - sent_of hub from to + length (next_items hub from message to)))
+      (nat_lt 4294967295 (length (items_on hub from to) + length (next_items hub from message to))) free in
+    (omega (arith, ltb-false _ _ parts.0), omega (arith, ltb-false _ _ parts.1))
+  where
+    neither : (a b : Bool) → (a || b) ≡ false → (a ≡ false) × (b ≡ false)
+    neither true b e = absurd (cc)
+    neither false b e = (refl, e)
+
+-- how many items of a link were relayed
+pub sent-at : (links : List (List Sending)) (from to : ℕ) → cell (sent_table links) from to 0 ≡ (link_at links from to).sent
+sent-at links from to = cell-map (λ v. v.sent) links from to (new_sending 0)
+
+-- where no link is busy, each has room for its gain
+pub rooms : (parties : List (List (List ℕ))) (window : ℕ) (entries : List Entry) (links : List (List Sending)) (gains : List (List Item)) (from : ℕ) (message : Message)
+    → AreLinks parties window entries links → from < length parties → busy_party (view parties window entries links) from message ≡ None
+    → gains ≡ gains_of (view parties window entries links) from message
+    → (to : ℕ) → to < length gains → HasRoom (link_at links from to) (length (get_or gains to []))
+unfolding busy_party
+rooms parties window entries links gains from message are is_from none e to lt =
+    let hub = view parties window entries links in
+    let count : length gains ≡ length parties = ap length e ∙ length-map-range_with_len (next_items hub from message) 0 (length parties) in
+    let is_to : to < length parties = omega arith in
+    let gain : get_or gains to [] ≡ next_items hub from message to =
+        ap (λ l. get_or l to []) e ∙ get_or-map-range_with_len (next_items hub from message) 0 (length parties) to to [] is_to (zero-add to) in
+    subst (λ l. HasRoom (link_at links from to) (length l)) (sym gain)
+      (room hub from to message (link_at links from to) (are.values from to is_from is_to) (sym (sent-at links from to))
+        (find-none_at (is_busy hub from message) to (length parties) is_to none))
+
+-- the counts once a message was routed
+counts-routed : (n : ℕ) (entries : List Entry) (counts : List ℕ) (from : ℕ) (message : Message) → AreCounts n entries counts → from < n
+    → AreCounts n (entries ++ Routed from (routed_count entries from + 1) message ∷ []) (set counts from (routed_count entries from + 1))
+counts-routed n entries counts from message are lt =
+    let k = routed_count entries from + 1 in
+    let more = λ (party : ℕ). ap length (routed_from-append entries (Routed from k message ∷ []) party) in
+    record {
+      each = length-set counts from k ∙ are.each;
+      values = λ party below. elim (cases_eq party from) as (λ _. get_or (set counts from k) party 0 ≡ routed_count (entries ++ Routed from k message ∷ []) party) [
+          inl same ↦
+            let here : get_or (set counts from k) from 0 ≡ routed_count (entries ++ Routed from k message ∷ []) from =
+                get_or-set_same counts from k 0 (omega (arith, are.each))
+                ∙ sym (more from ∙ ap (λ b. length (routed_from entries from ++ cond b (message ∷ []) [])) (eq-eqb from from refl)
+                  ∙ length-append (routed_from entries from) (message ∷ [])) in
+            subst (λ p. get_or (set counts from k) p 0 ≡ routed_count (entries ++ Routed from k message ∷ []) p) (sym same) here
+        | inr other ↦
+            get_or-set_other counts from party k 0 other ∙ are.values party below
+            ∙ sym (more party ∙ ap (λ b. length (routed_from entries party ++ cond b (message ∷ []) [])) (ne_eqb from party (λ e. other (sym e)))
+              ∙ ap length (append-nil (routed_from entries party)))
+        ];
+    }
+
+carries-gain : (window : ℕ) (items more : List Item) (old new : Sending) → Carries window items old → Gains more old new → Carries window (items ++ more) new
+carries-gain window items more old new carries gains = record { window = gains.window ∙ carries.window; ends = gains.ends items carries.ends }
+
+-- the links once each link from the sender gained what the record puts on it
+links-routed : (parties : List (List (List ℕ))) (window : ℕ) (entries : List Entry) (old new : List (List Sending)) (gains : List (List Item)) (from : ℕ) (message : Message)
+    → AreLinks parties window entries old → gains ≡ gains_of (view parties window entries old) from message → GainsRow from gains old new
+    → AreLinks parties window (entries ++ Routed from (routed_count entries from + 1) message ∷ []) new
+links-routed parties window entries old new gains from message are e row =
+    let hub = view parties window entries old in
+    let entry = Routed from (routed_count entries from + 1) message in
+    let count : length gains ≡ length parties = ap length e ∙ length-map-range_with_len (next_items hub from message) 0 (length parties) in
+    record {
+      square = subst (λ n. IsSquare n new) count row.square;
+      values = λ party to is_party is_to.
+        subst (λ l. Carries window l (link_at new party to)) (sym (link_items-push parties entries entry party to))
+        (elim (cases_eq party from) as (λ _. Carries window (link_items parties entries party to ++ gained parties entries entry party to) (link_at new party to)) [
+          inl same ↦
+            let gain : get_or gains to [] ≡ next_items hub from message to =
+                ap (λ l. get_or l to []) e ∙ get_or-map-range_with_len (next_items hub from message) 0 (length parties) to to [] is_to (zero-add to) in
+            let here : Carries window (link_items parties entries from to ++ gained parties entries entry from to) (link_at new from to) =
+                subst (λ l. Carries window (link_items parties entries from to ++ l) (link_at new from to)) gain
+                (carries-gain window (link_items parties entries from to) (get_or gains to []) (link_at old from to) (link_at new from to)
+                  (are.values from to (subst (λ p. p < length parties) same is_party) is_to) (row.gained to (omega arith))) in
+            subst (λ p. Carries window (link_items parties entries p to ++ gained parties entries entry p to) (link_at new p to)) (sym same) here
+        | inr other ↦
+            subst (Carries window (link_items parties entries party to ++ gained parties entries entry party to)) (sym (row.others party to other))
+            (subst (λ l. Carries window l (link_at old party to))
+              (sym (ap (λ l. link_items parties entries party to ++ l) (gained_other parties entries from (routed_count entries from + 1) message party to (ne_eqb from party (λ e. other (sym e))))
+                ∙ append-nil (link_items parties entries party to)))
+              (are.values party to is_party is_to))
+        ]);
+    }
+
+-- all that the hub keeps, once a message was routed
+pub kept-routed : (parties : List (List (List ℕ))) (window : ℕ) (entries : List Entry) (counts : List ℕ) (table new_table : List (List ℕ × List (List ℕ)))
+    (open_links : List (List Bool)) (old new : List (List Sending)) (gains : List (List Item)) (from : ℕ) (message : Message)
+    → IsKept parties window entries counts table open_links old → from < length parties
+    → gains ≡ gains_of (view parties window entries old) from message → GainsRow from gains old new
+    → AreMarkets (entries ++ Routed from (routed_count entries from + 1) message ∷ []) new_table
+    → IsKept parties window (entries ++ Routed from (routed_count entries from + 1) message ∷ []) (set counts from (routed_count entries from + 1)) new_table open_links new
+kept-routed parties window entries counts table new_table open_links old new gains from message kept lt e row markets = record {
+  some = kept.some;
+  few = kept.few;
+  wide = kept.wide;
+  narrow = kept.narrow;
+  are_counts = counts-routed (length parties) entries counts from message kept.are_counts lt;
+  are_markets = markets;
+  are_open = record {
+    square = kept.are_open.square;
+    values = λ a b is_a is_b. kept.are_open.values a b is_a is_b ∙ sym (is_open-routed entries from (routed_count entries from + 1) message a b);
+  };
+  are_links = links-routed parties window entries old new gains from message kept.are_links e row;
+}
+
+-- the table once a master was routed
+pub markets-routed : (entries : List Entry) (old new : List (List ℕ × List (List ℕ))) (from k : ℕ) (message : Message) → AreMarkets entries old
+    → ((gtin : List ℕ) → lookup (is_same_gtin gtin) new ≡ last_markets_after (lookup (is_same_gtin gtin) old) (Routed from k message ∷ []) gtin)
+    → AreMarkets (entries ++ Routed from k message ∷ []) new
+markets-routed entries old new from k message are updates gtin =
+    updates gtin ∙ ap (λ m. last_markets_after m (Routed from k message ∷ []) gtin) (are gtin)
+    ∙ sym (last_markets_after-append None entries (Routed from k message ∷ []) gtin)
+
+-- a link that was relayed from carries what it did
+carries-relayed : (window : ℕ) (items : List Item) (old new : Sending) → Carries window items old → new ≡ link_relayed old → Carries window items new
+carries-relayed window items old new carries e =
+    subst (Carries window items) (sym e)
+      (record { window = carries.window; ends = record { front = carries.ends.front; whole = carries.ends.whole; count = carries.ends.count } })
+
+-- all that the hub keeps, once an item was relayed
+pub kept-relayed : (parties : List (List (List ℕ))) (window : ℕ) (entries : List Entry) (counts : List ℕ) (table : List (List ℕ × List (List ℕ)))
+    (open_links : List (List Bool)) (links : List (List Sending)) (from to : ℕ) (new : Sending)
+    → IsKept parties window entries counts table open_links links → from < length parties → to < length parties
+    → new ≡ link_relayed (link_at links from to)
+    → IsKept parties window entries counts table open_links (put links from to new)
+kept-relayed parties window entries counts table open_links links from to new kept is_from is_to e = record {
+  some = kept.some;
+  few = kept.few;
+  wide = kept.wide;
+  narrow = kept.narrow;
+  are_counts = kept.are_counts;
+  are_markets = kept.are_markets;
+  are_open = kept.are_open;
+  are_links = record {
+    square = square-put (length parties) links from to new kept.are_links.square;
+    values = put-each_pair (λ a b v. a < length parties → b < length parties → Carries window (link_items parties entries a b) v) links from to new (new_sending 0)
+      (λ _ _. carries-relayed window (link_items parties entries from to) (link_at links from to) new (kept.are_links.values from to is_from is_to) e) kept.are_links.values;
+  };
+}
+
+-- what is known of a link, by what the hub is seen as
+pub record LinkFacts (hub : HubState) (from to : ℕ) (link : Sending) : Type 0 where
+  pub carries : Carries hub.window (items_on hub from to) link
+  pub sent : link.sent ≡ sent_of hub from to
+
+pub link-facts : (parties : List (List (List ℕ))) (window : ℕ) (entries : List Entry) (links : List (List Sending)) (hub : HubState) (from to : ℕ) (link : Sending)
+    → AreLinks parties window entries links → view parties window entries links ≡ hub → from < length hub.parties → to < length hub.parties
+    → link_at links from to ≡ link → LinkFacts hub from to link
+link-facts parties window entries links hub from to link are seen is_from is_to at =
+    subst (λ (h : HubState). from < length h.parties → to < length h.parties → LinkFacts h from to link) seen
+      (λ p q. record {
+        carries = subst (Carries window (link_items parties entries from to)) at (are.values from to p q);
+        sent = ap (λ (v : Sending). v.sent) (sym at) ∙ sym (sent-at links from to);
+      }) is_from is_to
+
+-- and what the hub is seen as, once an item was relayed
+pub view-relayed : (parties : List (List (List ℕ))) (window : ℕ) (entries : List Entry) (links : List (List Sending)) (hub : HubState) (from to : ℕ) (new : Sending)
+    → view parties window entries links ≡ hub → new.sent ≡ sent_of hub from to + 1
+    → view parties window entries (put links from to new) ≡ with_relayed hub from to
+view-relayed parties window entries links hub from to new seen e =
+    subst (λ (h : HubState). new.sent ≡ sent_of h from to + 1 → view parties window entries (put links from to new) ≡ with_relayed h from to) seen
+      (λ e. ap {A = List (List ℕ)} {B = HubState} (λ l. record { parties = parties; window = window; entries = entries; sent = l })
+        (put-map (λ v. v.sent) links from to new ∙ ap (put (sent_table links) from to) e)) e
+
+-- a hub where nothing has happened keeps what it should
+pub kept-new : (parties : List (List (List ℕ))) (window : ℕ) (open_links : List (List Bool)) (links : List (List Sending))
+    → 1 ≤ length parties → length parties ≤ 64 → 2 ≤ window → window ≤ 256
+    → IsSquare (length parties) open_links → All (All (λ b. b ≡ true)) open_links
+    → IsSquare (length parties) links → All (All (λ v. v ≡ new_sending window)) links
+    → IsKept parties window [] (replicate (length parties) 0) [] open_links links
+unfolding link_items
+kept-new parties window open_links links some few wide narrow open_square all_open square fresh = record {
+  some = some;
+  few = few;
+  wide = wide;
+  narrow = narrow;
+  are_counts = record { each = length-replicate (length parties) 0; values = λ party lt. get_or-replicate (length parties) party 0 0 lt };
+  are_markets = λ gtin. refl;
+  are_open = record { square = open_square; values = λ from to p q. cell-all (λ b. b ≡ true) (length parties) open_links from to true open_square all_open p q };
+  are_links = record {
+    square = square;
+    values = λ from to p q.
+      let e = cell-all (λ v. v ≡ new_sending window) (length parties) links from to (new_sending 0) square fresh p q in
+      subst (Carries window []) (sym e) (record { window = refl; ends = record { front = []; whole = refl; count = refl } });
+  };
+}
+
+-- and is seen as such
+pub view-new : (parties : List (List (List ℕ))) (window : ℕ) (links : List (List Sending))
+    → IsSquare (length parties) links → All (All (λ v. v ≡ new_sending window)) links → view parties window [] links ≡ new_hub parties window
+view-new parties window links square fresh =
+    ap {A = List (List ℕ)} {B = HubState} (λ l. record { parties = parties; window = window; entries = []; sent = l })
+      (table-all (λ (v : Sending). v.sent) 0 (length parties) links square (λ k d lt j e below. ap (λ (v : Sending). v.sent) (fresh k d lt j e below)))
+
+-- why a message of a stranger, and of a party, is not routed
+pub route_fault-stranger : (hub : HubState) (from : ℕ) (message : Message) → length hub.parties ≤ from → route_fault hub from message ≡ Some StrangerParty
+unfolding route_fault
+route_fault-stranger hub from message ge =
+    ap (λ b. cond b (busy_fault (busy_party hub from message)) (Some StrangerParty)) (le-ltb from (length hub.parties) ge)
+
+pub route_fault-party : (hub : HubState) (from : ℕ) (message : Message) → from < length hub.parties
+    → route_fault hub from message ≡ busy_fault (busy_party hub from message)
+unfolding route_fault
+route_fault-party hub from message lt =
+    ap (λ b. cond b (busy_fault (busy_party hub from message)) (Some StrangerParty)) (lt-ltb from (length hub.parties) lt)

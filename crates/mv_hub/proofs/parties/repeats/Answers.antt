@@ -1,0 +1,19 @@
+use Rattle.std.proofs.Common.{◌≡◌, ◌∙◌, ◌++◌, ◌+◌, false, map, take, get_or, sym, ap}
+use Rattle.mv_hub.specs.Parties.{has_market, has_twice, all_markets}
+use Rattle.mv_hub.proofs.PartiesLemmas.{repeats-more, repeats-found}
+use Rattle.mv_hub.proofs.parties.repeats.Goals as goal
+
+-- the market at hand stands before it, so the front up to it has it twice
+pub returns-then-stands : goal.returns-then-stands
+returns-then-stands c =
+    let before = all_markets (map (λ list. list.items) c.args.before.now) in
+    let more = repeats-more before c.args.list.now c.loop-i.i c.index-list-i.result c.loop-i-test.true c.loop-i.invariant in
+    let here = c.index-list-i.is in
+    sym (repeats-found before c.args.list.now (c.loop-i.i + 1)
+      (more ∙ ap (λ m. has_market (before ++ take c.loop-i.i c.args.list.now) m) (sym here) ∙ sym c.stands.ensures ∙ c.if-stands.true))
+
+pub loop-i-preserved : goal.loop-i-preserved
+loop-i-preserved c =
+    let before = all_markets (map (λ list. list.items) c.args.before.now) in
+    let more = repeats-more before c.args.list.now c.loop-i.i c.index-list-i.result c.loop-i-test.true c.loop-i.invariant in
+    more ∙ ap (λ m. has_market (before ++ take c.loop-i.i c.args.list.now) m) (sym c.index-list-i.is) ∙ sym c.stands.ensures ∙ c.if-stands.false

@@ -1,0 +1,67 @@
+-- What the hub keeps beside its record, and how that follows from the record.
+use Rattle.std.specs.Prelude.{◌≡◌, ◌≢◌, ◌<◌, ◌≤◌, ℕ, List, [], ◌++◌, length, map, Bool, true, slice_index_or}
+use Rattle.std.specs.Map.{lookup}
+use Rattle.mv_link.specs.declared.item.Item.{Item}
+use Rattle.mv_link.specs.Sending.{Sending, EndsWithHeld, new_sending}
+use Rattle.mv_pairs.specs.Pairs.{cell, IsSquare}
+use Rattle.mv_hub.specs.declared.entry.Entry.{Entry}
+use Rattle.mv_hub.specs.Record.{routed_count, is_same_gtin, last_markets, is_open}
+use Rattle.mv_hub.specs.Links.{link_items}
+
+-- the sending end of a link, by sender and receiver
+abbrev pub link_at : List (List Sending) → ℕ → ℕ → Sending
+link_at links from to = cell links from to (new_sending 0)
+
+-- how many items of each link were relayed, by sender and receiver
+abbrev pub sent_table : List (List Sending) → List (List ℕ)
+sent_table links = map (map (λ v. v.sent)) links
+
+-- how many messages were routed from each party, party 0 first
+pub record AreCounts (parties : ℕ) (entries : List Entry) (counts : List ℕ) : Type 0 where
+  pub each : length counts ≡ parties
+  pub values : (party : ℕ) → party < parties → slice_index_or counts party 0 ≡ routed_count entries party
+
+-- the markets that the last routed master of each product names
+abbrev pub AreMarkets : List Entry → List (List ℕ × List (List ℕ)) → Type 0
+AreMarkets entries table = (gtin : List ℕ) → lookup (is_same_gtin gtin) table ≡ last_markets entries gtin
+
+-- whether each link is open, by sender and receiver
+pub record AreOpen (parties : ℕ) (entries : List Entry) (open_links : List (List Bool)) : Type 0 where
+  pub square : IsSquare parties open_links
+  pub values : (from to : ℕ) → from < parties → to < parties → cell open_links from to true ≡ is_open entries from to
+
+-- a sending end with this window, on which these items were pushed
+pub record Carries (size : ℕ) (items : List Item) (link : Sending) : Type 0 where
+  pub window : link.window ≡ size
+  pub ends : EndsWithHeld link items
+
+-- on each link there was pushed what the record puts on it
+pub record AreLinks (parties : List (List (List ℕ))) (window : ℕ) (entries : List Entry) (links : List (List Sending)) : Type 0 where
+  pub square : IsSquare (length parties) links
+  pub values : (from to : ℕ) → from < length parties → to < length parties
+      → Carries window (link_items parties entries from to) (link_at links from to)
+
+-- all that the hub keeps follows from the record
+pub record IsKept (parties : List (List (List ℕ))) (window : ℕ) (entries : List Entry) (counts : List ℕ)
+    (table : List (List ℕ × List (List ℕ))) (open_links : List (List Bool)) (links : List (List Sending)) : Type 0 where
+  pub some : 1 ≤ length parties
+  pub few : length parties ≤ 64
+  pub wide : 2 ≤ window
+  pub narrow : window ≤ 256
+  pub are_counts : AreCounts (length parties) entries counts
+  pub are_markets : AreMarkets entries table
+  pub are_open : AreOpen (length parties) entries open_links
+  pub are_links : AreLinks parties window entries links
+
+-- these items were pushed on a sending end, and nothing else changed
+pub record Gains (items : List Item) (old new : Sending) : Type 0 where
+  pub window : new.window ≡ old.window
+  pub sent : new.sent ≡ old.sent
+  pub ends : (list : List Item) → EndsWithHeld old list → EndsWithHeld new (list ++ items)
+
+-- on each link from a party there was pushed its member of a list, the link to party 0 first, and no other link changed
+pub record GainsRow (from : ℕ) (gains : List (List Item)) (old new : List (List Sending)) : Type 0 where
+  pub square : IsSquare (length gains) new
+  pub gained : (to : ℕ) → to < length gains → Gains (slice_index_or gains to []) (link_at old from to) (link_at new from to)
+  pub others : (party to : ℕ) → party ≢ from → link_at new party to ≡ link_at old party to
+  pub sent : sent_table new ≡ sent_table old

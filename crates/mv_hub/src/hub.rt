@@ -1,0 +1,437 @@
+//! The hub: its record, a link for each ordered pair of parties, and tables by which no call walks the record.
+
+ghost use Rattle.std.specs.Prelude.{◌≡◌, ◌+◌, ◌<◌, ◌≤◌, [], ◌∷◌, ◌++◌, ◌==◌, ◌&&◌, ◌||◌, ℕ, List, length, IfOk, OnOk, OnErr, Option, Some, None, true, option_map, if◌then◌else◌};
+ghost use Rattle.std.specs.Option.{option_to_list};
+ghost use Rattle.std.specs.List.{list_any};
+ghost use Rattle.mv_message.specs.declared.message.Message.{Message as AMessage};
+ghost use Rattle.mv_message.specs.declared.message.Message.TheVariants.{Master};
+ghost use Rattle.mv_link.specs.Frames.{IsFrameOf};
+ghost use Rattle.mv_hub.specs.Record.{routed_count, last_markets, last_markets_after, market_table, is_open, is_same_gtin};
+ghost use Rattle.mv_hub.specs.Targets.{reach, is_query};
+ghost use Rattle.mv_hub.specs.Parties.{serves_one, served_by};
+ghost use Rattle.mv_hub.specs.declared.entry.Entry.TheVariants.{Routed};
+ghost use Rattle.mv_hub.specs.Kept.{Carries, AreMarkets};
+ghost use Rattle.mv_hub.specs.Fault.{FailsBy, RouteFailsBy};
+
+use crate::gain::{Gain, put_row};
+use crate::{Entry, HubFault, Parties, RouteFault};
+use arrayvec::ArrayVec;
+use indexmap::IndexMap;
+use mv_link::{Frame, Item, LinkFault, Outgoing, PARTIES_LIMIT, Reach};
+use mv_message::{Markets, Message, Party, Product};
+use mv_pack::{Gtin, Market};
+use mv_pairs::PairTable;
+use std::alloc::{AllocError, Global};
+use std::marker::Model;
+
+/// The hub: the parties, the record of what it did, and what waits on each link to be relayed.
+#[derive(Drop)]
+pub struct Hub {
+    alloc: Global,
+    parties: Parties,
+    window: u32,
+    entries: Vec<Entry>,
+    counts: Vec<u32>,
+    markets: IndexMap<Gtin, Markets>,
+    open_links: PairTable<bool>,
+    links: PairTable<Outgoing>,
+}
+
+impl Model for Hub {
+    ghost use Rattle.mv_hub.specs.Hub.{HubState};
+    ghost use Rattle.mv_hub.specs.Kept.{IsKept, sent_table};
+
+    ghost Value = { HubState };
+
+    ghost view = { λ a. record { parties = a.parties; window = a.window; entries = a.entries.items;
+        sent = sent_table a.links } };
+
+    ghost invariant = { λ a. IsKept a.parties a.window a.entries.items a.counts.items a.markets.entries
+        a.open_links a.links };
+}
+
+impl Hub {
+    ghost use Rattle.mv_link.specs.declared.item.Item.TheVariants.{Receipt, Carried};
+    ghost use Rattle.mv_link.specs.Sending.{new_sending};
+    ghost use Rattle.mv_hub.specs.Hub.{new_hub, sent_of, items_on, next_items, gains_of, busy_party, route_fault, relay_fault, with_routed, with_relayed};
+
+    /// A hub where nothing has happened, whose links keep their last `window` items. Refused for want of memory.
+    pub fn new(alloc: Global, parties: Parties, window: u32) -> Result<Hub, AllocError>
+        requires wide { 2 ≤ window }
+        requires narrow { window ≤ 256 }
+        ensures { IfOk result (λ hub. hub ≡ new_hub parties window) }
+    {
+        let count = parties.len();
+        let counts = vec![in alloc; 0; count as usize]?;
+        let open_links = PairTable::from_fn(alloc, count, || -> Result<bool, AllocError>
+            ensures { IfOk result (λ is_open. is_open ≡ true) }
+        {
+            Ok(true)
+        })?;
+        let links = PairTable::from_fn(alloc, count, || -> Result<Outgoing, AllocError>
+            requires { (2 ≤ window) × (window ≤ 256) }
+            ensures { IfOk result (λ link. link ≡ new_sending window) }
+        {
+            Outgoing::new(alloc, window)
+        })?;
+        Ok(Hub {
+            alloc,
+            parties,
+            window,
+            entries: Vec::new(alloc),
+            counts,
+            markets: IndexMap::new(alloc),
+            open_links,
+            links,
+        })
+    }
+
+    /// The parties.
+    pub fn parties(&self) -> &Parties
+        ensures value { result.now ≡ self.now.parties }
+        ensures some { 1 ≤ length self.now.parties }
+        ensures few { length self.now.parties ≤ 64 }
+    {
+        &self.parties
+    }
+
+    /// The record, the oldest entry first.
+    pub fn record(&self) -> &[Entry]
+        ensures { result.now ≡ self.now.entries }
+    {
+        self.entries.as_slice()
+    }
+
+    /// How many messages of a party were routed.
+    pub fn routed_count(&self, from: Party) -> u32
+        requires { from < length self.now.parties }
+        ensures value { result ≡ routed_count self.now.entries from }
+        ensures most { routed_count self.now.entries from ≤ length self.now.entries }
+    {
+        self.counts[from as usize]
+    }
+
+    /// The sending end of a link, on which there was pushed what the record puts on the link.
+    fn link(&self, from: Party, to: Party) -> &Outgoing
+        requires from { from < length self.now.parties }
+        requires to { to < length self.now.parties }
+        ensures carries { Carries self.now.window (items_on self.now from to) result.now }
+        ensures sent { result.now.sent ≡ sent_of self.now from to }
+    {
+        self.links.at(from, to)
+    }
+
+    /// Whether a link is open.
+    fn is_open(&self, from: Party, to: Party) -> bool
+        requires from { from < length self.now.parties }
+        requires to { to < length self.now.parties }
+        ensures { result ≡ is_open self.now.entries from to }
+    {
+        *self.open_links.at(from, to)
+    }
+
+    /// The markets of a product, by its last routed master.
+    fn market_table(&self, gtin: &Gtin) -> &[Market]
+        ensures { result.now ≡ market_table self.now.entries gtin.now }
+    {
+        match self.markets.get(gtin) {
+            Some(markets) => markets.as_slice(),
+            None => &[],
+        }
+    }
+
+    /// Whether a party serves one of the markets, and the link to it is open.
+    fn is_reached(&self, from: Party, to: Party, before: &[Market], after: &[Market]) -> bool
+        requires from { from < length self.now.parties }
+        requires to { to < length self.now.parties }
+        ensures { result ≡ ((serves_one (served_by self.now.parties to) before.now
+            || serves_one (served_by self.now.parties to) after.now)
+            && is_open self.now.entries from to) }
+    {
+        let parties = self.parties();
+        (parties.serves(to, before) || parties.serves(to, after)) && self.is_open(from, to)
+    }
+
+    /// The parties that a message from a party reaches.
+    fn reach(&self, from: Party, message: &Message) -> Reach
+        requires { from < length self.now.parties }
+        ensures { result ≡ reach self.now.parties self.now.entries from message.now }
+    {
+        match message {
+            Message::Master { gtin, product } => self.master_reach(from, gtin, product),
+        }
+    }
+
+    /// The parties that a master from a party reaches.
+    fn master_reach(&self, from: Party, gtin: &Gtin, product: &Product) -> Reach
+        requires { from < length self.now.parties }
+        ensures { result ≡ reach self.now.parties self.now.entries from (Master gtin.now product.now) }
+    {
+        let before = self.market_table(gtin);
+        let after = product.markets.as_slice();
+        let mut found: ArrayVec<Party, PARTIES_LIMIT> = ArrayVec::new();
+        for to in 0..self.parties().len() {
+            if self.is_reached(from, to, before, after) {
+                found.push(to);
+            }
+        }
+        Reach::new(found)
+    }
+
+    /// Whether the routing of a message puts a receipt on a link.
+    fn has_receipt(&self, from: Party, to: Party) -> bool
+        requires from { from < length self.now.parties }
+        requires to { to < length self.now.parties }
+        ensures { result ≡ ((to == from) && is_open self.now.entries from from) }
+    {
+        to == from && self.is_open(from, to)
+    }
+
+    /// How many items the routing of a message that reaches these parties puts on a link.
+    fn gain_count(&self, from: Party, to: Party, reached: &Reach) -> u32
+        requires from { from < length self.now.parties }
+        requires to { to < length self.now.parties }
+        ensures { (message : AMessage)
+            → reached.now ≡ reach self.now.parties self.now.entries from message
+            → result ≡ length (next_items self.now from message to) }
+    {
+        u32::from(self.has_receipt(from, to)) + u32::from(has_party(reached, to))
+    }
+
+    /// The least party whose link has no room for what the routing of a message that reaches these parties puts on it.
+    fn busy_party(&self, from: Party, reached: &Reach) -> Option<Party>
+        requires { from < length self.now.parties }
+        ensures { (message : AMessage)
+            → reached.now ≡ reach self.now.parties self.now.entries from message
+            → result ≡ busy_party self.now from message }
+    {
+        for to in 0..self.parties().len() {
+            let count = self.gain_count(from, to, reached);
+            if !self.link(from, to).room(count) {
+                return Some(to);
+            }
+        }
+        None
+    }
+
+    /// The receipt that the routing of a message that reaches these parties puts on a link, if it does.
+    fn receipt(&self, from: Party, to: Party, message: &Message, reached: &Reach) -> Option<Item>
+        requires from { from < length self.now.parties }
+        requires to { to < length self.now.parties }
+        requires few { length self.now.entries < 4294967295 }
+        ensures { option_to_list result ≡ (if (to == from) && is_open self.now.entries from from
+            then Receipt (routed_count self.now.entries from + 1) reached.now (is_query message.now) ∷ []
+            else []) }
+    {
+        if !self.has_receipt(from, to) {
+            return None;
+        }
+        Some(Item::Receipt {
+            k: self.routed_count(from) + 1,
+            reach: reached.copy(),
+            query: is_query(message),
+        })
+    }
+
+    /// The message as the routing of it puts it on a link, if it reaches the party there.
+    fn carried(&self, from: Party, to: Party, message: &Message, reached: &Reach) -> Result<Option<Item>, AllocError>
+        requires from { from < length self.now.parties }
+        requires few { length self.now.entries < 4294967295 }
+        ensures { IfOk result (λ carried. option_to_list carried
+            ≡ (if list_any (λ other. other == to) reached.now
+                then Carried (routed_count self.now.entries from + 1) (length self.now.entries + 1)
+                    message.now ∷ []
+                else [])) }
+    {
+        if !has_party(reached, to) {
+            return Ok(None);
+        }
+        let Ok(message) = message.copy(self.alloc) else {
+            return Err(AllocError);
+        };
+        Ok(Some(Item::Carried {
+            k: self.routed_count(from) + 1,
+            stamp: self.record().len() as u32 + 1,
+            message,
+        }))
+    }
+
+    /// What the routing of a message that reaches these parties puts on a link.
+    fn gain(&self, from: Party, to: Party, message: &Message, reached: &Reach) -> Result<Gain, AllocError>
+        requires from { from < length self.now.parties }
+        requires to { to < length self.now.parties }
+        requires few { length self.now.entries < 4294967295 }
+        requires reached { reached.now ≡ reach self.now.parties self.now.entries from message.now }
+        ensures { IfOk result (λ gain. gain ≡ next_items self.now from message.now to) }
+    {
+        let receipt = self.receipt(from, to, message, reached);
+        let carried = self.carried(from, to, message, reached)?;
+        Ok(Gain::new(receipt, carried))
+    }
+
+    /// What the routing of a message that reaches these parties puts on each link of its sender.
+    fn gains(&self, from: Party, message: &Message, reached: &Reach) -> Result<Vec<Gain>, AllocError>
+        requires from { from < length self.now.parties }
+        requires few { length self.now.entries < 4294967295 }
+        requires reached { reached.now ≡ reach self.now.parties self.now.entries from message.now }
+        ensures { IfOk result (λ gains. gains.items ≡ gains_of self.now from message.now) }
+    {
+        let mut gains = Vec::new(self.alloc);
+        for to in 0..self.parties().len() {
+            gains.push(self.gain(from, to, message, reached)?)?;
+        }
+        Ok(gains)
+    }
+
+    /// Puts the next message of a party into the record and the tables, and its gains on the links.
+    fn put_routed(&mut self, from: Party, message: &Message, gains: Vec<Gain>) -> Result<(), AllocError>
+        requires from { from < length self.old.parties }
+        requires few { length self.old.entries < 4294967295 }
+        requires room { busy_party self.old from message.now ≡ None }
+        requires gains { gains.items ≡ gains_of self.old from message.now }
+        ensures ok { OnOk result (self.new ≡ with_routed self.old from message.now) }
+        ensures err { OnErr result (self.new ≡ self.old) }
+    {
+        let k = self.routed_count(from) + 1;
+        let Ok(copy) = message.copy(self.alloc) else {
+            return Err(AllocError);
+        };
+        record(self.alloc, &mut self.entries, &mut self.markets, from, k, copy)?;
+        // Nothing fails from here on.
+        put_row(&mut self.links, from, gains);
+        self.counts[from as usize] = k;
+        Ok(())
+    }
+
+    /// How many items were put on the link from one party to another.
+    pub fn total(&self, from: Party, to: Party) -> u32
+        requires from { from < length self.now.parties }
+        requires to { to < length self.now.parties }
+        ensures { result ≡ length (items_on self.now from to) }
+    {
+        self.link(from, to).total()
+    }
+
+    /// The markets that the last routed master of a product names, `None` where no master of it was routed.
+    pub fn markets(&self, gtin: &Gtin) -> Option<&[Market]>
+        ensures { option_map (λ markets. markets.now) result ≡ last_markets self.now.entries gtin.now }
+    {
+        match self.markets.get(gtin) {
+            Some(markets) => Some(markets.as_slice()),
+            None => None,
+        }
+    }
+
+    /// Routes the next message of a party: it goes into the record, a receipt of it onto the party's link to itself, and
+    /// the message onto the link to each party that it reaches, under its place in the record as stamp. Answers its number
+    /// among the messages of the party, from one, and whom it reaches.
+    ///
+    /// The first of these that holds is the fault: H4, there is no such party; H5, a link has no room for what it would
+    /// gain, the least such; H7, memory was refused.
+    pub fn route(&mut self, from: Party, message: &Message) -> Result<(u32, Reach), RouteFault>
+        requires { length self.old.entries < 4294967295 }
+        ensures number { IfOk result (λ routed. routed.0 ≡ routed_count self.old.entries from + 1) }
+        ensures reach { IfOk result (λ routed.
+            routed.1 ≡ reach self.old.parties self.old.entries from message.now) }
+        ensures ok { OnOk result (self.new ≡ with_routed self.old from message.now) }
+        ensures err { OnErr result (self.new ≡ self.old) }
+        ensures fault { RouteFailsBy (route_fault self.old from message.now) result }
+    {
+        if from >= self.parties().len() {
+            return Err(RouteFault::StrangerParty);
+        }
+        let reached = self.reach(from, message);
+        if let Some(to) = self.busy_party(from, &reached) {
+            return Err(RouteFault::Busy(to));
+        }
+        let k = self.routed_count(from) + 1;
+        let Ok(gains) = self.gains(from, message, &reached) else {
+            return Err(RouteFault::Memory);
+        };
+        let Ok(()) = self.put_routed(from, message, gains) else {
+            return Err(RouteFault::Memory);
+        };
+        Ok((k, reached))
+    }
+
+    /// The next frame of the link from one party to another that was not relayed yet.
+    ///
+    /// The first of these that holds is the fault: H4, one of the parties is none; H8, every item of the link has been
+    /// relayed; H7, memory was refused.
+    pub fn relay(&mut self, from: Party, to: Party) -> Result<Frame, HubFault>
+        ensures number { IfOk result (λ frame. frame.number ≡ sent_of self.old from to + 1) }
+        ensures frame { IfOk result (λ frame. IsFrameOf (items_on self.old from to) frame) }
+        ensures waiting { OnOk result (sent_of self.old from to < length (items_on self.old from to)) }
+        ensures ok { OnOk result (self.new ≡ with_relayed self.old from to) }
+        ensures err { OnErr result (self.new ≡ self.old) }
+        ensures fault { FailsBy (relay_fault self.old from to) result }
+    {
+        let count = self.parties().len();
+        if from >= count || to >= count {
+            return Err(HubFault::StrangerParty);
+        }
+        let link = self.links.at_mut(from, to);
+        let frame = match link.relay() {
+            Ok(frame) => frame,
+            Err(LinkFault::Nothing) => return Err(HubFault::Nothing),
+            Err(LinkFault::Memory) => return Err(HubFault::Memory),
+        };
+        Ok(frame)
+    }
+}
+
+/// Whether a party is among those that are reached.
+fn has_party(reached: &Reach, party: Party) -> bool
+    ensures { result ≡ list_any (λ other. other == party) reached.now }
+{
+    reached.as_slice().contains(&party)
+}
+
+/// Whether a message asks about a pack.
+fn is_query(message: &Message) -> bool
+    ensures { result ≡ is_query message.now }
+{
+    match message {
+        Message::Master { .. } => false,
+    }
+}
+
+/// The markets that a message names for a product.
+fn named_markets(alloc: Global, message: &Message) -> Result<(Gtin, Markets), AllocError>
+    ensures { IfOk result (λ named. (from k : ℕ) (before : Option (List (List ℕ))) (gtin : List ℕ)
+        → last_markets_after before (Routed from k message.now ∷ []) gtin
+            ≡ (if is_same_gtin named.0 gtin then Some named.1 else before)) }
+{
+    match message {
+        Message::Master { gtin, product } => Ok((*gtin, product.markets.copy(alloc)?)),
+    }
+}
+
+/// Puts a routed message at the end of the record, and into the table the markets that it names. Where memory is refused
+/// neither has changed.
+fn record(
+    alloc: Global,
+    entries: &mut Vec<Entry>,
+    markets: &mut IndexMap<Gtin, Markets>,
+    from: Party,
+    k: u32,
+    message: Message,
+) -> Result<(), AllocError>
+    requires { AreMarkets entries.old.items markets.old.entries }
+    ensures ok { OnOk result (entries.new.items ≡ entries.old.items ++ Routed from k message ∷ []) }
+    ensures markets { OnOk result (AreMarkets entries.new.items markets.new.entries) }
+    ensures err { OnErr result ((entries.new.items ≡ entries.old.items)
+        × (markets.new.entries ≡ markets.old.entries)) }
+{
+    let (gtin, named) = named_markets(alloc, &message)?;
+    entries.reserve(1)?;
+    markets.reserve(1)?;
+    // Nothing fails from here on.
+    let Ok(()) = entries.push(Entry::Routed { from, k, message }) else {
+        unreachable!()
+    };
+    let Ok(_) = markets.insert(gtin, named) else {
+        unreachable!()
+    };
+    Ok(())
+}

@@ -1,0 +1,203 @@
+-- Lemmas on the last master of a code, and on the table that finds it.
+use Rattle.std.proofs.Common.{◌≡◌, ℕ, ◌<◌, List, [], ◌∷◌, ◌++◌, length, refl, sym, ◌∙◌, ap, subst, Bool, true, false, cond, true≢false, Option, Some, None, IsSome, IfSome}
+use Rattle.std.specs.Bool.{⊤}
+use Rattle.std.specs.Map.{lookup}
+use Rattle.std.specs.Prelude.{slice_get}
+use Rattle.std.proofs.lemmas.Option.{slice_get_within, none-some}
+use Rattle.std.specs.Cmp.Lexicographic.{same_text}
+use Rattle.std.specs.Option.{option_map, option_or, option_and_then}
+use Rattle.mv_message.specs.declared.message.Message.TheVariants.{Master}
+use Rattle.mv_message.specs.declared.message.Product.{Product}
+use Rattle.mv_link.specs.declared.item.Item.{Item}
+use Rattle.mv_link.specs.declared.item.Item.TheVariants.{Receipt, Carried}
+use Rattle.mv_repository.specs.declared.entry.LogEntry.{LogEntry}
+use Rattle.mv_repository.specs.Order.{Placed, passes, put_in, ordered, stands_before, StandsBeforeAll, Ascends, AreOf}
+use Rattle.mv_repository.specs.Product.{is_same_gtin, product_after, last_product_after, last_product}
+use Rattle.mv_repository.specs.Copy.{is_master, product_in, last_master, place_of, entry_of, is_late, IsCopyOf}
+use Rattle.mv_repository.proofs.OrderLemmas.{placed_at, passes_behind, ordered-ascends, ordered-push, ordered-of}
+
+-- the last of x, which came last, and the last before
+abbrev pub later : Placed → Option Placed → Option Placed
+later x None = Some x
+later x (Some y) = cond (passes x y) (Some y) (Some x)
+
+abbrev pub this_master : List ℕ → Placed → Option Placed
+this_master gtin x = cond (is_master gtin x.entry.item) (Some x) None
+
+-- what passes an entry passes the last master behind it
+last_passed : (gtin : List ℕ) (x y : Placed) (ys : List Placed) → passes x y ≡ true → StandsBeforeAll y ys → IfSome (last_master gtin ys) (λ z. passes x z ≡ true)
+last_passed gtin x y [] e h = tt
+last_passed gtin x y (z ∷ zs) e h =
+    by (last_master gtin zs) (last_passed gtin x y zs e h.1) (is_master gtin z.entry.item)
+  where
+    by : (o : Option Placed) → IfSome o (λ z. passes x z ≡ true) → (b : Bool) → IfSome (option_or o (cond b (Some z) None)) (λ z. passes x z ≡ true)
+    by (Some w) p b = p
+    by None p true = passes_behind x y z e h.0
+    by None p false = tt
+
+-- the last master once one more entry is put in its place
+pub last-put_in : (gtin : List ℕ) (x : Placed) (xs : List Placed) → Ascends xs
+    → last_master gtin (put_in x xs) ≡ cond (is_master gtin x.entry.item) (later x (last_master gtin xs)) (last_master gtin xs)
+last-put_in gtin x [] a = refl
+last-put_in gtin x (y ∷ ys) a = by (passes x y) refl (last-put_in gtin x ys a.1)
+  where
+    front : (o : Option Placed) → IfSome o (λ z. passes x z ≡ true) → (b : Bool) → option_or o (cond b (Some x) None) ≡ cond b (later x o) o
+    front None p true = refl
+    front None p false = refl
+    front (Some z) p true = sym (ap (λ b. cond b (Some z) (Some x)) p)
+    front (Some z) p false = refl
+
+    all_passed : passes x y ≡ true → (o : Option Placed) → IfSome o (λ z. passes x z ≡ true) → (b : Bool) → IfSome (option_or o (cond b (Some y) None)) (λ z. passes x z ≡ true)
+    all_passed e (Some z) p b = p
+    all_passed e None p true = e
+    all_passed e None p false = tt
+
+    behind : passes x y ≡ false → (o : Option Placed) (b c : Bool) → option_or (cond b (later x o) o) (cond c (Some y) None) ≡ cond b (later x (option_or o (cond c (Some y) None))) (option_or o (cond c (Some y) None))
+    behind e o false c = refl
+    behind e None true true = sym (ap (λ b. cond b (Some y) (Some x)) e)
+    behind e None true false = refl
+    behind e (Some z) true c = either (passes x z)
+      where
+        either : (b : Bool) → option_or (cond b (Some z) (Some x)) (cond c (Some y) None) ≡ cond b (Some z) (Some x)
+        either true = refl
+        either false = refl
+
+    by : (b : Bool) → passes x y ≡ b
+        → last_master gtin (put_in x ys) ≡ cond (is_master gtin x.entry.item) (later x (last_master gtin ys)) (last_master gtin ys)
+        → last_master gtin (cond b (x ∷ y ∷ ys) (y ∷ put_in x ys)) ≡ cond (is_master gtin x.entry.item) (later x (last_master gtin (y ∷ ys))) (last_master gtin (y ∷ ys))
+    by true e r = front (last_master gtin (y ∷ ys)) (all_passed e (last_master gtin ys) (last_passed gtin x y ys e a.0) (is_master gtin y.entry.item)) (is_master gtin x.entry.item)
+    by false e r = ap (λ o. option_or o (this_master gtin y)) r ∙ behind e (last_master gtin ys) (is_master gtin x.entry.item) (is_master gtin y.entry.item)
+
+-- the last master describes a product
+product_of_master : (gtin : List ℕ) (item : Item) → is_master gtin item ≡ true → IsSome (product_in item)
+product_of_master gtin (Carried k stamp (Master named product)) e = refl
+product_of_master gtin (Receipt k reach query) e = absurd (true≢false (sym e))
+
+last_describes : (gtin : List ℕ) (xs : List Placed) → IfSome (last_master gtin xs) (λ z. IsSome (product_in z.entry.item))
+last_describes gtin [] = tt
+last_describes gtin (y ∷ ys) = by (last_master gtin ys) (last_describes gtin ys) (is_master gtin y.entry.item) refl
+  where
+    by : (o : Option Placed) → IfSome o (λ z. IsSome (product_in z.entry.item)) → (b : Bool) → is_master gtin y.entry.item ≡ b → IfSome (option_or o (cond b (Some y) None)) (λ z. IsSome (product_in z.entry.item))
+    by (Some z) p b e = p
+    by None p true e = product_of_master gtin y.entry.item e
+    by None p false e = tt
+
+product_step : (gtin : List ℕ) (item : Item) (known : Option Product) → product_after item gtin known ≡ cond (is_master gtin item) (option_or (product_in item) known) known
+product_step gtin (Carried k stamp (Master named product)) known = refl
+product_step gtin (Receipt k reach query) known = refl
+
+product_after_last : (gtin : List ℕ) (known : Option Product) (xs : List Placed)
+    → last_product_after known xs gtin ≡ option_or (option_and_then (λ z. product_in z.entry.item) (last_master gtin xs)) known
+product_after_last gtin known [] = refl
+product_after_last gtin known (y ∷ ys) =
+    product_after_last gtin (product_after y.entry.item gtin known) ys
+    ∙ ap (λ o. option_or (option_and_then (λ z. product_in z.entry.item) (last_master gtin ys)) o) (product_step gtin y.entry.item known)
+    ∙ by (last_master gtin ys) (last_describes gtin ys) (is_master gtin y.entry.item)
+  where
+    some : (o p : Option Product) → IsSome o → option_or o p ≡ option_or o known
+    some (Some product) p h = refl
+    some None p h = absurd (true≢false (sym h))
+
+    by : (o : Option Placed) → IfSome o (λ z. IsSome (product_in z.entry.item)) → (b : Bool)
+        → option_or (option_and_then (λ z. product_in z.entry.item) o) (cond b (option_or (product_in y.entry.item) known) known)
+        ≡ option_or (option_and_then (λ z. product_in z.entry.item) (option_or o (cond b (Some y) None))) known
+    by None p true = refl
+    by None p false = refl
+    by (Some z) p b = some (product_in z.entry.item) (cond b (option_or (product_in y.entry.item) known) known) p
+
+or_none : (o : Option Product) → option_or o None ≡ o
+or_none None = refl
+or_none (Some product) = refl
+
+-- the product of a code is that of the entry of its last master
+pub product_of_last : (gtin : List ℕ) (xs : List Placed) (last : Option LogEntry) → last ≡ option_map entry_of (last_master gtin xs)
+    → option_and_then (λ entry. product_in entry.item) last ≡ last_product xs gtin
+product_of_last gtin xs last e =
+    ap (option_and_then (λ (entry : LogEntry). product_in entry.item)) e
+    ∙ sym (product_after_last gtin None xs ∙ or_none (option_and_then (λ z. product_in z.entry.item) (last_master gtin xs)) ∙ by (last_master gtin xs))
+  where
+    by : (o : Option Placed) → option_and_then (λ z. product_in z.entry.item) o ≡ option_and_then (λ (entry : LogEntry). product_in entry.item) (option_map entry_of o)
+    by None = refl
+    by (Some z) = refl
+
+-- the last master stands at its place in the log
+last_at : (log : List LogEntry) (gtin : List ℕ) (xs : List Placed) → AreOf log xs → IfSome (last_master gtin xs) (λ z. slice_get log z.place ≡ Some z.entry)
+last_at log gtin [] s = tt
+last_at log gtin (y ∷ ys) s = by (last_master gtin ys) (last_at log gtin ys s.1) (is_master gtin y.entry.item)
+  where
+    by : (o : Option Placed) → IfSome o (λ z. slice_get log z.place ≡ Some z.entry) → (b : Bool) → IfSome (option_or o (cond b (Some y) None)) (λ z. slice_get log z.place ≡ Some z.entry)
+    by (Some z) p b = p
+    by None p true = s.0
+    by None p false = tt
+
+-- what the table finds is the last master
+pub found_at : (log : List LogEntry) (masters : List (List ℕ × ℕ)) (gtin : List ℕ) (place : ℕ) → IsCopyOf log masters
+    → lookup (is_same_gtin gtin) masters ≡ Some place → (option_map entry_of (last_master gtin (ordered log)) ≡ slice_get log place) × (place < length log)
+found_at log masters gtin place copy e =
+    by (last_master gtin (ordered log)) (last_at log gtin (ordered log) (ordered-of log)) (sym (copy gtin) ∙ e)
+  where
+    by : (o : Option Placed) → IfSome o (λ z. slice_get log z.place ≡ Some z.entry) → option_map place_of o ≡ Some place
+        → (option_map entry_of o ≡ slice_get log place) × (place < length log)
+    by None p h = absurd (none-some place h)
+    by (Some z) p h =
+        let k : z.place ≡ place = cc in
+        let at : slice_get log place ≡ Some z.entry = subst (λ i. slice_get log i ≡ Some z.entry) k p in
+        (sym at, slice_get_within log place z.entry at)
+
+-- the last master of a code once one more entry came
+last-push : (log : List LogEntry) (entry : LogEntry) (gtin : List ℕ)
+    → last_master gtin (ordered (log ++ entry ∷ []))
+    ≡ cond (is_master gtin entry.item) (later (placed_at (length log) entry) (last_master gtin (ordered log))) (last_master gtin (ordered log))
+last-push log entry gtin =
+    ap (last_master gtin) (ordered-push log entry) ∙ last-put_in gtin (placed_at (length log) entry) (ordered log) (ordered-ascends log)
+
+-- an entry that is no master leaves the table as it should be
+pub copy-noted : (log : List LogEntry) (masters : List (List ℕ × ℕ)) (entry : LogEntry) → IsCopyOf log masters
+    → ((gtin : List ℕ) → is_master gtin entry.item ≡ false) → IsCopyOf (log ++ entry ∷ []) masters
+copy-noted log masters entry copy none gtin =
+    copy gtin
+    ∙ ap (option_map place_of) (sym (last-push log entry gtin ∙ ap (λ b. cond b (later (placed_at (length log) entry) (last_master gtin (ordered log))) (last_master gtin (ordered log))) (none gtin)))
+
+-- so does a master that comes late
+pub copy-late : (log : List LogEntry) (masters : List (List ℕ × ℕ)) (entry : LogEntry) (named : List ℕ) → IsCopyOf log masters
+    → ((gtin : List ℕ) → is_master gtin entry.item ≡ is_same_gtin named gtin)
+    → is_late entry.item (last_master named (ordered log)) ≡ true → IsCopyOf (log ++ entry ∷ []) masters
+copy-late log masters entry named copy names late gtin =
+    copy gtin
+    ∙ ap (option_map place_of) (sym (last-push log entry gtin ∙ ap (λ b. cond b (later x (last_master gtin (ordered log))) (last_master gtin (ordered log))) (names gtin)
+    ∙ by (is_same_gtin named gtin) refl))
+  where
+    x : Placed
+    x = placed_at (length log) entry
+
+    stays : (o : Option Placed) → is_late entry.item o ≡ true → later x o ≡ o
+    stays None e = absurd (true≢false (sym e))
+    stays (Some z) e = ap (λ b. cond b (Some z) (Some x)) e
+
+    by : (b : Bool) → is_same_gtin named gtin ≡ b → cond b (later x (last_master gtin (ordered log))) (last_master gtin (ordered log)) ≡ last_master gtin (ordered log)
+    by true e = stays (last_master gtin (ordered log)) (subst (λ g. is_late entry.item (last_master g (ordered log)) ≡ true) (same_text named gtin (sym e)) late)
+    by false e = refl
+
+-- any other master takes the place of its code
+pub copy-latest : (log : List LogEntry) (masters masters' : List (List ℕ × ℕ)) (entry : LogEntry) (named : List ℕ) (place : ℕ) → IsCopyOf log masters
+    → ((gtin : List ℕ) → is_master gtin entry.item ≡ is_same_gtin named gtin)
+    → is_late entry.item (last_master named (ordered log)) ≡ false
+    → ((gtin : List ℕ) → lookup (is_same_gtin gtin) masters' ≡ cond (is_same_gtin named gtin) (Some place) (lookup (is_same_gtin gtin) masters))
+    → place ≡ length log → IsCopyOf (log ++ entry ∷ []) masters'
+copy-latest log masters masters' entry named place copy names late updates at gtin =
+    updates gtin
+    ∙ ap (λ n. cond (is_same_gtin named gtin) (Some n) (lookup (is_same_gtin gtin) masters)) at
+    ∙ by (is_same_gtin named gtin) refl
+    ∙ ap (option_map place_of) (sym (last-push log entry gtin ∙ ap (λ b. cond b (later x (last_master gtin (ordered log))) (last_master gtin (ordered log))) (names gtin)))
+  where
+    x : Placed
+    x = placed_at (length log) entry
+
+    goes : (o : Option Placed) → is_late entry.item o ≡ false → later x o ≡ Some x
+    goes None e = refl
+    goes (Some z) e = ap (λ b. cond b (Some z) (Some x)) e
+
+    by : (b : Bool) → is_same_gtin named gtin ≡ b
+        → cond b (Some (length log)) (lookup (is_same_gtin gtin) masters) ≡ option_map place_of (cond b (later x (last_master gtin (ordered log))) (last_master gtin (ordered log)))
+    by true e = ap (option_map place_of) (sym (goes (last_master gtin (ordered log)) (subst (λ g. is_late entry.item (last_master g (ordered log)) ≡ false) (same_text named gtin (sym e)) late)))
+    by false e = copy gtin

@@ -1,0 +1,26 @@
+-- Where the master is late the table stays; else its place is the one that the table finds.
+use Rattle.std.proofs.Common.{◌≡◌, ◌∙◌, List, ℕ, sym, ap, rules, length, false, true}
+use Rattle.mv_repository.specs.declared.entry.LogEntry.{LogEntry}
+use Rattle.mv_repository.specs.Copy.{is_master, is_late, last_master, IsCopyOf}
+use Rattle.mv_repository.specs.Order.{ordered}
+use Rattle.mv_repository.specs.Product.{is_same_gtin}
+use Rattle.mv_repository.proofs.ProductLemmas.{copy-late, copy-latest}
+use Rattle.mv_repository.proofs.repository.Repository.apply_master.Goals.{then-not-is_late+in_ok-insert, else-not-is_late}
+use Rattle.mv_repository.proofs.repository.Repository.apply_master.Goals as goal
+
+pub invariant_of-self-3 : goal.invariant_of-self-3
+invariant_of-self-3 c =
+    let log = c.ready_entry.new.log.items in
+    let copy : IsCopyOf log c.self.inside.masters.entries = rw c.ready_entry.ensures.items c.self.invariant in
+    let names : (gtin : List ℕ) → is_master gtin c.in_ok-entry.entry.item ≡ is_same_gtin c.args.gtin gtin =
+    λ gtin. ap (λ (e : LogEntry). is_master gtin e.item) c.in_ok-entry.ensures.entry ∙ c.requires gtin in
+    let late : is_late c.in_ok-entry.entry.item (last_master c.args.gtin (ordered log)) ≡ c.is_late.result =
+    ap (λ (e : LogEntry). is_late e.item (last_master c.args.gtin (ordered log))) c.in_ok-entry.ensures.entry ∙ sym c.is_late.ensures in
+    let place : c.len-place.result ≡ length log = search rules in
+    rw c.push_reserved.ensures.items
+    (elim c.if-not-is_late.branch [
+      | then-not-is_late+in_ok-insert w ↦ rw w.self-inside-is
+          (copy-latest log c.self.inside.masters.entries _ c.in_ok-entry.entry c.args.gtin c.len-place.result copy names (late ∙ w.if-not-is_late.true) w.in_ok-insert.ensures.updates.0 place)
+      | else-not-is_late w ↦ rw w.self-inside-is
+          (copy-late log c.self.inside.masters.entries c.in_ok-entry.entry c.args.gtin copy names (late ∙ w.if-not-is_late.false))
+    ])

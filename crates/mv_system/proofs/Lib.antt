@@ -1,0 +1,4 @@
+pub mod WireLemmas
+pub mod SystemLemmas
+pub mod RouteLemmas
+pub mod OpeningLemmas

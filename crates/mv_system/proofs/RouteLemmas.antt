@@ -1,0 +1,109 @@
+-- The hub's routing against the row of the list machine.
+use Rattle.std.proofs.Common.{◌≡◌, ℕ, zero, suc, ◌+◌, ◌-◌, ◌*◌, ◌<◌, ◌≤◌, Bool, true, false, List, [], ◌∷◌, ◌++◌, length, get_or, cond, Some, None, Option, Ok, Err, sym, refl, ap, ◌∙◌, subst, arith}
+use Rattle.std.specs.Prelude.{slice_get, IsTrue, find, nat_lt, not, ◌==◌, ◌||◌, ◌&&◌, Result}
+use Rattle.std.specs.List.{range_with_len}
+use Rattle.std.proofs.lemmas.Bool.{lt-ltb, le-ltb}
+use Rattle.mv_message.specs.declared.message.Message.{Message}
+use Rattle.mv_hub.specs.declared.fault.HubFault.{HubFault}
+use Rattle.mv_hub.specs.declared.fault.HubFault.TheVariants as hub
+use Rattle.mv_hub.specs.declared.fault.RouteFault.{RouteFault}
+use Rattle.mv_hub.specs.declared.fault.RouteFault.TheVariants.{StrangerParty, Busy, Memory}
+use Rattle.mv_hub.specs.Record.{routed_count}
+use Rattle.mv_hub.specs.Fault.{FailsBy, RouteFailsBy}
+use Rattle.mv_hub.specs.Hub.{HubState, sent_of, items_on, next_items, is_busy, busy_party, busy_fault, route_fault, relay_fault}
+use Rattle.mv_hub.proofs.RecordLemmas.{link_items-few, gained-few}
+use Rattle.mv_machine.specs.declared.reply.Reply.{Reply}
+use Rattle.mv_machine.specs.declared.reply.Refusal.TheVariants.{Party}
+use Rattle.mv_machine.specs.Replies.{takes_memory}
+use Rattle.mv_machine.specs.State.{State, is_party, submissions_of}
+use Rattle.mv_machine.specs.Steps.{Outcome, refused, is_full, route_unless, route_front, route}
+use Rattle.mv_machine.proofs.BoundLemmas.{routed_count-few}
+use Rattle.mv_system.specs.World.{Parts, state_of, IsSystem, RelayFails, RouteRefuses}
+
+-- the row of a party with a message that waits
+pub route_waiting : (st : State) (from : ℕ) (message : Message) → is_party st from ≡ true → slice_get (submissions_of st from) (routed_count st.entries from) ≡ Some message
+    → route st from ≡ route_unless st from message (find (is_full st from message) (range_with_len 0 (length st.parties)))
+unfolding route
+route_waiting st from message party next =
+    ap (λ b. cond (not b) (refused Party st) (route_front st from (slice_get (submissions_of st from) (routed_count st.entries from)))) party ∙ ap (route_front st from) next
+
+-- tests that agree find the same
+find-same : (f g : ℕ → Bool) (xs : List ℕ) → ((x : ℕ) → f x ≡ g x) → find f xs ≡ find g xs
+find-same f g [] same = refl
+find-same f g (x ∷ xs) same = ap (λ b. cond b (Some x) (find f xs)) (same x) ∙ ap (λ rest. cond (g x) (Some x) rest) (find-same f g xs same)
+
+or-false : (b : Bool) → (b || false) ≡ b
+or-false true = refl
+or-false false = refl
+
+-- a link is full to the hub where it is full to the list machine: its numbers never need more than 32 bits
+busy_is_full : (p : Parts) (from to : ℕ) (message : Message) → IsSystem p → from < length p.hub.parties → is_busy p.hub from message to ≡ is_full (state_of p) from message to
+unfolding is_busy is_full
+busy_is_full p from to message k from_lt =
+    let items = link_items-few p.hub.parties p.hub.entries from to in
+    let more = gained-few p.hub.parties p.hub.entries from (routed_count p.hub.entries from + 1) message from to in
+    let routed = routed_count-few (state_of p) from k.lawful from_lt in
+    let numbers : nat_lt 4294967295 (length (items_on p.hub from to) + length (next_items p.hub from message to)) ≡ false =
+          le-ltb _ _ (omega (arith, items, more, routed, k.submissions_few from, k.bounds.submissions_most)) in
+    ap (λ b. nat_lt p.hub.window (length (items_on p.hub from to) - sent_of p.hub from to + length (next_items p.hub from message to)) || b) numbers
+    ∙ or-false _
+    ∙ ap (λ w. nat_lt w (length (items_on p.hub from to) - sent_of p.hub from to + length (next_items p.hub from message to))) k.window
+
+pub busy_party_is_full : (p : Parts) (from : ℕ) (message : Message) → IsSystem p → from < length p.hub.parties
+    → busy_party p.hub from message ≡ find (is_full (state_of p) from message) (range_with_len 0 (length p.hub.parties))
+unfolding busy_party
+busy_party_is_full p from message k from_lt =
+    find-same (is_busy p.hub from message) (is_full (state_of p) from message) (range_with_len 0 (length p.hub.parties)) (λ to. busy_is_full p from to message k from_lt)
+
+-- why the hub does not route the message of a party
+pub route_fault-party : (h : HubState) (from : ℕ) (message : Message) → nat_lt from (length h.parties) ≡ true → route_fault h from message ≡ busy_fault (busy_party h from message)
+unfolding route_fault
+route_fault-party h from message party = ap (λ b. cond b (busy_fault (busy_party h from message)) (Some StrangerParty)) party
+
+not_busy : (full : Option ℕ) → busy_fault full ≡ None → full ≡ None
+not_busy None e = refl
+not_busy (Some to) e = absurd (cc)
+
+busy_with : (full : Option ℕ) (to : ℕ) → busy_fault full ≡ Some (Busy to) → full ≡ Some to
+busy_with None to e = absurd (cc)
+busy_with (Some other) to e = cc
+
+stranger_never : (full : Option ℕ) → busy_fault full ≡ Some StrangerParty → ⊥
+stranger_never None e = absurd (cc)
+stranger_never (Some to) e = absurd (cc)
+
+-- where the hub routed, no link was full
+pub routed_full : {A : Type 0} (full : Option ℕ) (value : A) → RouteFailsBy (busy_fault full) (Ok value) → full ≡ None
+routed_full full value fails = not_busy full fails
+
+-- the hub's refusal is the row's
+pub refuses : (A : Type 0) (st : State) (from : ℕ) (message : Message) (full : Option ℕ) (fault : RouteFault)
+    → route st from ≡ route_unless st from message full → RouteFailsBy {A = A} (busy_fault full) (Err fault) → RouteRefuses st from fault st
+refuses A st from message full StrangerParty row fails = stranger_never full fails
+refuses A st from message full (Busy to) row fails = (row ∙ ap (route_unless st from message) (busy_with full to fails), refl)
+refuses A st from message full Memory row fails =
+    (subst (λ (x : Outcome). IsTrue (takes_memory x.reply)) (sym (row ∙ ap (route_unless st from message) (not_busy full fails))) refl, refl)
+
+none_where : (b : Bool) → cond b (Some hub.Nothing) None ≡ None → b ≡ false
+none_where false e = refl
+none_where true e = absurd (cc)
+
+nothing_where : (b : Bool) (fault : HubFault) → cond b (Some hub.Nothing) None ≡ Some fault → (b ≡ true) × (fault ≡ hub.Nothing)
+nothing_where false fault e = absurd (cc)
+nothing_where true fault e = (refl, cc)
+
+relay_told : {A : Type 0} (sent total : ℕ) (result : Result A HubFault) → FailsBy (cond (sent == total) (Some hub.Nothing) None) result → RelayFails sent total result
+relay_told sent total (Ok value) fails = none_where (sent == total) fails
+relay_told sent total (Err hub.Memory) fails = none_where (sent == total) fails
+relay_told sent total (Err hub.Nothing) fails = (nothing_where (sent == total) hub.Nothing fails).0
+relay_told sent total (Err hub.NoParty) fails = let no = (nothing_where (sent == total) hub.NoParty fails).1 in cc
+relay_told sent total (Err hub.TooMany) fails = let no = (nothing_where (sent == total) hub.TooMany fails).1 in cc
+relay_told sent total (Err hub.ServedTwice) fails = let no = (nothing_where (sent == total) hub.ServedTwice fails).1 in cc
+relay_told sent total (Err hub.StrangerParty) fails = let no = (nothing_where (sent == total) hub.StrangerParty fails).1 in cc
+
+-- the hub's refusal of a frame, between parties
+pub relay_fails : {A : Type 0} (h : HubState) (from to : ℕ) (result : Result A HubFault) → (nat_lt from (length h.parties) && nat_lt to (length h.parties)) ≡ true
+    → FailsBy (relay_fault h from to) result → RelayFails (sent_of h from to) (length (items_on h from to)) result
+relay_fails h from to result parties fails =
+    relay_told (sent_of h from to) (length (items_on h from to)) result
+      (subst (λ b. FailsBy (cond (not b) (Some hub.StrangerParty) (cond (sent_of h from to == length (items_on h from to)) (Some hub.Nothing) None)) result) parties fails)

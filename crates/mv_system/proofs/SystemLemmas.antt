@@ -1,0 +1,333 @@
+-- What the parts of the system say of the list machine's lists, and what each change of a part keeps.
+use Rattle.std.proofs.Common.{◌≡◌, ℕ, zero, suc, ◌+◌, ◌-◌, ◌*◌, ◌<◌, ◌≤◌, Bool, true, false, List, [], ◌∷◌, ◌++◌, length, get_or, set, cond, map, drop, Some, None, Option, Ok, Err, sym, refl, ap, ◌∙◌, subst, arith, length-append, length-set, eqb, eqb-true, ltb-true, add-zero, ◌⊎◌, inl, inr, get_or-set_same, get_or-set_other}
+use Rattle.std.specs.Prelude.{slice_get, option_map, IsTrue, find, nat_lt, nat_le, not, ◌==◌, ◌&&◌, ◌||◌, replicate, Result}
+use Rattle.std.specs.List.{range_with_len, All}
+use Rattle.std.proofs.lemmas.Bool.{and_parts, not-false, eqb-false}
+use Rattle.std.proofs.lemmas.List.{length-map, length-replicate}
+use Rattle.mv_message.specs.declared.message.Message.{Message}
+use Rattle.mv_link.specs.declared.item.Item.{Item}
+use Rattle.mv_link.specs.declared.item.Frame.{Frame}
+use Rattle.mv_link.specs.Frames.{IsFrameOf}
+use Rattle.mv_pairs.specs.Pairs.{cell, put, IsSquare}
+use Rattle.mv_pairs.proofs.PairsLemmas.{put-each, put-each_pair, square-put, square-map, cell-map, put-map, cell-put_same, cell-put_other}
+use Rattle.mv_hub.specs.declared.entry.Entry.{Entry}
+use Rattle.mv_hub.specs.Record.{routed_count}
+use Rattle.mv_hub.specs.Links.{gained}
+use Rattle.mv_hub.specs.Hub.{HubState, items_on}
+use Rattle.mv_hub.proofs.RecordLemmas.{link_items-push, link_items-few}
+use Rattle.mv_repository.specs.declared.entry.LogEntry.{LogEntry}
+use Rattle.mv_repository.specs.Log.{items_from}
+use Rattle.mv_repository.specs.Repository.{RepositoryState, new_repository, with_applied}
+use Rattle.mv_machine.specs.Limits.{Bounds, AreBounds}
+use Rattle.mv_machine.specs.State.{State, is_party, are_parties, submissions_of, waiting_of, sent_of, wire_of, log_of, applied_count, items_on as link_of}
+use Rattle.mv_machine.specs.Lawful.{IsLawful, IsWellFormed}
+use Rattle.mv_machine.proofs.LawfulLemmas.{IsSound, applied-sound, submitted-sound, items_from-push}
+use Rattle.mv_machine.proofs.BoundLemmas.{routed_count-few, entries-few}
+use Rattle.mv_system.specs.Wire.{WireState, new_wire, numbers_of}
+use Rattle.mv_system.specs.World.{Parts, wire_at, repository_at, state_of, AllFramesOf, FitsWire, IsSystem}
+use Rattle.mv_system.proofs.WireLemmas.{length-numbers_of, numbers_of-front}
+
+pub sound_of : (p : Parts) → IsSystem p → IsSound (state_of p)
+sound_of p k = record { well_formed = k.well_formed; lawful = k.lawful }
+
+-- a member of a list through a function of each
+pub get_or-map_any : {A B : Type 0} (f : A → B) (xs : List A) (i : ℕ) (d : A) → get_or (map f xs) i (f d) ≡ f (get_or xs i d)
+get_or-map_any f [] i d = refl
+get_or-map_any f (x ∷ xs) zero d = refl
+get_or-map_any f (x ∷ xs) (suc i) d = get_or-map_any f xs i d
+
+pub map-set : {A B : Type 0} (f : A → B) (xs : List A) (i : ℕ) (v : A) → map f (set xs i v) ≡ set (map f xs) i (f v)
+map-set f [] i v = refl
+map-set f (x ∷ xs) zero v = refl
+map-set f (x ∷ xs) (suc i) v = ap (λ l. f x ∷ l) (map-set f xs i v)
+
+pub wires-at : (wires : List (List WireState)) (from to : ℕ) → cell (map (map (λ w. numbers_of w.frames)) wires) from to [] ≡ numbers_of (wire_at wires from to).frames
+wires-at wires from to = cell-map (λ w. numbers_of w.frames) wires from to (new_wire 0)
+
+pub logs-at : (repositories : List RepositoryState) (party : ℕ) → get_or (map (λ r. r.log) repositories) party [] ≡ (repository_at repositories party).log
+logs-at repositories party = get_or-map_any (λ (r : RepositoryState). r.log) repositories party (new_repository 0)
+
+-- what is known of the link between two parties
+pub record LinkFacts (p : Parts) (st : State) (from to : ℕ) (wire : WireState) : Type 0 where
+  pub from_party : from < length p.hub.parties
+  pub to_party : to < length p.hub.parties
+  pub seen : numbers_of wire.frames ≡ wire_of st from to
+  pub len : length wire.frames ≡ length (wire_of st from to)
+  pub limits : st.limits ≡ p.limits
+  pub linked : link_of st from to ≡ items_on p.hub from to
+  pub frames : AllFramesOf p.hub from to wire.frames
+  pub fits : FitsWire p.limits.wire wire
+
+pub link_facts : (p : Parts) (st : State) (from to : ℕ) (wire : WireState)
+    → IsSystem p → state_of p ≡ st → IsTrue (are_parties st from to) → wire_at p.wires from to ≡ wire → LinkFacts p st from to wire
+link_facts p st from to wire k view both at =
+    subst (λ (t : State). IsTrue (are_parties t from to) → LinkFacts p t from to wire) view (λ both.
+      let parts = and_parts (nat_lt from (length p.hub.parties)) (nat_lt to (length p.hub.parties)) both in
+      let from_party = ltb-true from (length p.hub.parties) parts.0 in
+      let to_party = ltb-true to (length p.hub.parties) parts.1 in
+      let seen : numbers_of wire.frames ≡ wire_of (state_of p) from to = ap (λ (v : WireState). numbers_of v.frames) (sym at) ∙ sym (wires-at p.wires from to) in
+      record {
+        from_party = from_party;
+        to_party = to_party;
+        seen = seen;
+        len = sym (length-numbers_of wire.frames) ∙ ap length seen;
+        limits = refl;
+        linked = refl;
+        frames = subst (λ (v : WireState). AllFramesOf p.hub from to v.frames) at (k.frames from to);
+        fits = subst (FitsWire p.limits.wire) at (k.wires_fit from to from_party to_party);
+      }) both
+
+-- a wire is written
+pub wire_view : (p : Parts) (st : State) (from to : ℕ) (wire : WireState) (numbers : List ℕ)
+    → state_of p ≡ st → numbers_of wire.frames ≡ numbers → state_of (record p { wires = put p.wires from to wire }) ≡ record st { wires = put st.wires from to numbers }
+wire_view p st from to wire numbers view e =
+    subst (λ (t : State). state_of (record p { wires = put p.wires from to wire }) ≡ record t { wires = put t.wires from to numbers }) view
+    (ap {A = List (List (List ℕ))} {B = State} (λ l. record (state_of p) { wires = l })
+      (put-map (λ w. numbers_of w.frames) p.wires from to wire ∙ ap (put (map (map (λ w. numbers_of w.frames)) p.wires) from to) e))
+
+pub AllFramesOf-drop : (hub : HubState) (from to : ℕ) (frames : List Frame) → AllFramesOf hub from to frames → AllFramesOf hub from to (drop 1 frames)
+AllFramesOf-drop hub from to [] all = tt
+AllFramesOf-drop hub from to (frame ∷ frames) all = all.1
+
+pub AllFramesOf-push : (hub : HubState) (from to : ℕ) (frames : List Frame) (frame : Frame) → AllFramesOf hub from to frames → IsFrameOf (items_on hub from to) frame → AllFramesOf hub from to (frames ++ frame ∷ [])
+AllFramesOf-push hub from to [] frame all one = (one, tt)
+AllFramesOf-push hub from to (first ∷ frames) frame all one = (all.0, AllFramesOf-push hub from to frames frame all.1 one)
+
+slice_get-append : {A : Type 0} (xs ys : List A) (i : ℕ) (x : A) → slice_get xs i ≡ Some x → slice_get (xs ++ ys) i ≡ Some x
+slice_get-append [] ys i x e = absurd (cc)
+slice_get-append (a ∷ xs) ys zero x e = e
+slice_get-append (a ∷ xs) ys (suc i) x e = slice_get-append xs ys i x e
+
+-- frames stay those of their links when the record gains an entry
+AllFramesOf-entry : (hub : HubState) (entry : Entry) (from to : ℕ) (frames : List Frame) → AllFramesOf hub from to frames → AllFramesOf (record hub { entries = hub.entries ++ entry ∷ [] }) from to frames
+AllFramesOf-entry hub entry from to [] all = tt
+AllFramesOf-entry hub entry from to (frame ∷ frames) all =
+    ((all.0.0, ap (λ l. slice_get l (frame.number - 1)) (link_items-push hub.parties hub.entries entry from to) ∙ slice_get-append _ _ (frame.number - 1) frame.item all.0.1),
+      AllFramesOf-entry hub entry from to frames all.1)
+
+AllFramesOf-sent : (hub : HubState) (sent : List (List ℕ)) (from to : ℕ) (frames : List Frame) → AllFramesOf hub from to frames → AllFramesOf (record hub { sent = sent }) from to frames
+AllFramesOf-sent hub sent from to [] all = tt
+AllFramesOf-sent hub sent from to (frame ∷ frames) all = (all.0, AllFramesOf-sent hub sent from to frames all.1)
+
+pub AllFramesOf-front : (hub : HubState) (from to : ℕ) (frames : List Frame) (frame : Frame) → AllFramesOf hub from to frames → slice_get frames 0 ≡ Some frame → IsFrameOf (items_on hub from to) frame
+AllFramesOf-front hub from to [] frame all e = absurd (cc)
+AllFramesOf-front hub from to (first ∷ frames) frame all e = let same : first ≡ frame = cc in subst (λ (x : Frame). IsFrameOf (items_on hub from to) x) same all.0
+
+-- the system with one wire written
+pub wire_kept : (p : Parts) (from to : ℕ) (wire : WireState) → IsSystem p → AllFramesOf p.hub from to wire.frames → FitsWire p.limits.wire wire
+    → IsSystem (record p { wires = put p.wires from to wire })
+wire_kept p from to wire k frames fits =
+    let square = square-put (length p.hub.parties) p.wires from to wire k.wires_square in
+    record {
+      well_formed = record {
+        submissions_each = k.well_formed.submissions_each;
+        logs_each = k.well_formed.logs_each;
+        sent_each = k.well_formed.sent_each;
+        wires_each = square-map (length p.hub.parties) (λ w. numbers_of w.frames) (put p.wires from to wire) square;
+      };
+      lawful = record {
+        entries_fit = k.lawful.entries_fit;
+        entries_name_parties = k.lawful.entries_name_parties;
+        routed_in_order = k.lawful.routed_in_order;
+        applied_in_order = k.lawful.applied_in_order;
+        senders_are_parties = k.lawful.senders_are_parties;
+      };
+      parties_least = k.parties_least;
+      parties_most = k.parties_most;
+      window = k.window;
+      bounds = k.bounds;
+      submissions_few = k.submissions_few;
+      wires_square = square;
+      wires_fit = put-each_pair (λ i j w. i < length p.hub.parties → j < length p.hub.parties → FitsWire p.limits.wire w) p.wires from to wire (new_wire 0) (λ _ _. fits) k.wires_fit;
+      frames = put-each_pair (λ i j w. AllFramesOf p.hub i j w.frames) p.wires from to wire (new_wire 0) frames k.frames;
+      accepted_square = k.accepted_square;
+      accepted = k.accepted;
+      owners = k.owners;
+    }
+
+-- the system with other submissions of one party
+pub submissions_kept : (p : Parts) (from : ℕ) (messages : List Message) → IsSystem p → IsSound (state_of (record p { submissions = set p.submissions from messages }))
+    → length messages ≤ p.limits.submissions → IsSystem (record p { submissions = set p.submissions from messages })
+submissions_kept p from messages k sound few = record {
+  well_formed = sound.well_formed;
+  lawful = sound.lawful;
+  parties_least = k.parties_least;
+  parties_most = k.parties_most;
+  window = k.window;
+  bounds = k.bounds;
+  submissions_few = put-each (λ party l. length l ≤ p.limits.submissions) p.submissions from messages [] few k.submissions_few;
+  wires_square = k.wires_square;
+  wires_fit = k.wires_fit;
+  frames = k.frames;
+  accepted_square = k.accepted_square;
+  accepted = k.accepted;
+  owners = k.owners;
+}
+
+-- the system with one more entry in the record
+pub entered_kept : (p : Parts) (entry : Entry) → IsSystem p → IsSound (state_of (record p { hub = record p.hub { entries = p.hub.entries ++ entry ∷ [] } }))
+    → IsSystem (record p { hub = record p.hub { entries = p.hub.entries ++ entry ∷ [] } })
+entered_kept p entry k sound = record {
+  well_formed = sound.well_formed;
+  lawful = sound.lawful;
+  parties_least = k.parties_least;
+  parties_most = k.parties_most;
+  window = k.window;
+  bounds = k.bounds;
+  submissions_few = k.submissions_few;
+  wires_square = k.wires_square;
+  wires_fit = k.wires_fit;
+  frames = λ from to. AllFramesOf-entry p.hub entry from to _ (k.frames from to);
+  accepted_square = k.accepted_square;
+  accepted = k.accepted;
+  owners = k.owners;
+}
+
+-- the system with other counts of what was relayed
+pub sent_kept : (p : Parts) (sent : List (List ℕ)) → IsSystem p → IsSquare (length p.hub.parties) sent → IsSystem (record p { hub = record p.hub { sent = sent } })
+sent_kept p sent k square = record {
+  well_formed = record {
+    submissions_each = k.well_formed.submissions_each;
+    logs_each = k.well_formed.logs_each;
+    sent_each = square;
+    wires_each = k.well_formed.wires_each;
+  };
+  lawful = record {
+    entries_fit = k.lawful.entries_fit;
+    entries_name_parties = k.lawful.entries_name_parties;
+    routed_in_order = k.lawful.routed_in_order;
+    applied_in_order = k.lawful.applied_in_order;
+    senders_are_parties = k.lawful.senders_are_parties;
+  };
+  parties_least = k.parties_least;
+  parties_most = k.parties_most;
+  window = k.window;
+  bounds = k.bounds;
+  submissions_few = k.submissions_few;
+  wires_square = k.wires_square;
+  wires_fit = k.wires_fit;
+  frames = λ from to. AllFramesOf-sent p.hub sent from to _ (k.frames from to);
+  accepted_square = k.accepted_square;
+  accepted = k.accepted;
+  owners = k.owners;
+}
+
+-- a repository applied an item from a sender
+pub log_view : (p : Parts) (st : State) (from to : ℕ) (item : Item) (accepted : List (List ℕ)) → state_of p ≡ st
+    → state_of (record p { accepted = accepted; repositories = set p.repositories to (with_applied (repository_at p.repositories to) from item) })
+    ≡ record st { logs = set st.logs to (log_of st to ++ record { sender = from; item = item } ∷ []) }
+log_view p st from to item accepted view =
+    subst (λ (t : State). state_of (record p { accepted = accepted; repositories = set p.repositories to (with_applied (repository_at p.repositories to) from item) })
+      ≡ record t { logs = set t.logs to (log_of t to ++ record { sender = from; item = item } ∷ []) }) view
+    (ap {A = List (List LogEntry)} {B = State} (λ l. record (state_of p) { logs = l })
+      (map-set (λ (r : RepositoryState). r.log) p.repositories to (with_applied (repository_at p.repositories to) from item)
+       ∙ ap (λ log. set (map (λ (r : RepositoryState). r.log) p.repositories) to (log ++ record { sender = from; item = item } ∷ [])) (sym (logs-at p.repositories to))))
+
+length-one_if : {A : Type 0} (b : Bool) (x : A) → length (cond b (x ∷ []) []) ≡ cond b 1 0
+length-one_if true x = refl
+length-one_if false x = refl
+
+-- how many items of each sender each repository applied, once one more of a sender is applied
+applied_more : (st : State) (from to i j : ℕ) (item : Item) → to < length st.logs
+    → applied_count (record st { logs = set st.logs to (log_of st to ++ record { sender = from; item = item } ∷ []) }) i j
+    ≡ applied_count st i j + cond (eqb to j && eqb from i) 1 0
+applied_more st from to i j item lt = by (eqb to j) refl
+  where
+    log : List LogEntry
+    log = log_of st to ++ record { sender = from; item = item } ∷ []
+
+    by : (same : Bool) → eqb to j ≡ same → length (items_from (get_or (set st.logs to log) j []) i) ≡ length (items_from (get_or st.logs j []) i) + cond (eqb to j && eqb from i) 1 0
+    by true e =
+        subst (λ r. length (items_from (get_or (set st.logs to log) r []) i) ≡ length (items_from (get_or st.logs r []) i) + cond (eqb to j && eqb from i) 1 0) (eqb-true to j e)
+        (ap (λ l. length (items_from l i)) (get_or-set_same st.logs to log [] lt)
+         ∙ ap length (items_from-push (log_of st to) (record { sender = from; item = item }) i)
+         ∙ length-append (items_from (log_of st to) i) (cond (eqb from i) (item ∷ []) [])
+         ∙ ap (λ n. length (items_from (log_of st to) i) + n) (length-one_if (eqb from i) item ∙ ap (λ b. cond (b && eqb from i) 1 0) (sym e)))
+    by false e =
+        ap (λ l. length (items_from l i)) (get_or-set_other st.logs to j log [] (λ same. eqb-false to j e (sym same)))
+        ∙ sym (ap (λ b. length (items_from (get_or st.logs j []) i) + cond (b && eqb from i) 1 0) e ∙ add-zero (length (items_from (get_or st.logs j []) i)))
+
+-- the counts of what was applied, once one of them is greater by one
+accepted_more : (n : ℕ) (t : List (List ℕ)) (from to i j : ℕ) → IsSquare n t → from < n → to < n
+    → cell (put t from to (cell t from to 0 + 1)) i j 0 ≡ cell t i j 0 + cond (eqb to j && eqb from i) 1 0
+accepted_more n t from to i j square from_lt to_lt = by (eqb to j) (eqb from i) refl refl
+  where
+    by : (a b : Bool) → eqb to j ≡ a → eqb from i ≡ b → cell (put t from to (cell t from to 0 + 1)) i j 0 ≡ cell t i j 0 + cond (eqb to j && eqb from i) 1 0
+    by true true e f =
+        rw (e, f)
+        (subst (λ r. cell (put t from to (cell t from to 0 + 1)) i r 0 ≡ cell t i r 0 + 1) (eqb-true to j e)
+        (subst (λ s. cell (put t from to (cell t from to 0 + 1)) s to 0 ≡ cell t s to 0 + 1) (eqb-true from i f)
+        (cell-put_same n t from to (cell t from to 0 + 1) 0 square from_lt to_lt)))
+    by false b e f = rw e (cell-put_other t from to i j _ 0 (inr (λ same. eqb-false to j e (sym same))) ∙ sym (add-zero (cell t i j 0)))
+    by true false e f = rw (e, f) (cell-put_other t from to i j _ 0 (inl (λ same. eqb-false from i f (sym same))) ∙ sym (add-zero (cell t i j 0)))
+
+-- the system once a repository applied the next item of a sender
+pub logged_kept : (p : Parts) (from to : ℕ) (item : Item) → IsSystem p → from < length p.hub.parties → to < length p.hub.parties
+    → slice_get (link_of (state_of p) from to) (applied_count (state_of p) from to) ≡ Some item
+    → IsSystem (record p { accepted = put p.accepted from to (cell p.accepted from to 0 + 1); repositories = set p.repositories to (with_applied (repository_at p.repositories to) from item) })
+logged_kept p from to item k from_lt to_lt next =
+    let more = put p.accepted from to (cell p.accepted from to 0 + 1) in
+    let seen = log_view p (state_of p) from to item more refl in
+    let sound : IsSound (state_of (record p { accepted = more; repositories = set p.repositories to (with_applied (repository_at p.repositories to) from item) })) =
+          subst IsSound (sym seen) (applied-sound (state_of p) from to item (sound_of p k) from_lt next) in
+    record {
+      well_formed = sound.well_formed;
+      lawful = sound.lawful;
+      parties_least = k.parties_least;
+      parties_most = k.parties_most;
+      window = k.window;
+      bounds = k.bounds;
+      submissions_few = k.submissions_few;
+      wires_square = k.wires_square;
+      wires_fit = k.wires_fit;
+      frames = k.frames;
+      accepted_square = square-put (length p.hub.parties) p.accepted from to _ k.accepted_square;
+      accepted = λ i j i_lt j_lt.
+        accepted_more (length p.hub.parties) p.accepted from to i j k.accepted_square from_lt to_lt
+        ∙ ap (λ n. n + cond (eqb to j && eqb from i) 1 0) (k.accepted i j i_lt j_lt)
+        ∙ sym (applied_more (state_of p) from to i j item (omega (arith, k.well_formed.logs_each, to_lt)))
+        ∙ ap (λ (t : State). applied_count t i j) (sym seen);
+      owners = put-each (λ party r. party < length p.hub.parties → r.party ≡ party) p.repositories to (with_applied (repository_at p.repositories to) from item) (new_repository 0)
+        (k.owners to) k.owners;
+    }
+
+-- the front frame of the next number bears the next item of the link
+pub front_item : (p : Parts) (st : State) (from to : ℕ) (wire : WireState) (frame : Frame)
+    → LinkFacts p st from to wire → slice_get wire.frames 0 ≡ Some frame → slice_get (wire_of st from to) 0 ≡ Some (applied_count st from to + 1)
+    → slice_get (link_of st from to) (applied_count st from to) ≡ Some frame.item
+front_item p st from to wire frame facts front next =
+    let x : Some frame.number ≡ slice_get (wire_of st from to) 0 = sym (ap (λ l. slice_get l 0) (sym facts.seen) ∙ numbers_of-front wire.frames ∙ ap (option_map (λ f. f.number)) front) in
+    let number : frame.number ≡ applied_count st from to + 1 = cc in
+    ap (λ l. slice_get l (applied_count st from to)) facts.linked ∙ ap (slice_get (items_on p.hub from to)) (omega (arith, number)) ∙ (AllFramesOf-front p.hub from to wire.frames frame facts.frames front).1
+
+-- a party of the list machine has its place among the parts
+pub party-place : (p : Parts) (st : State) (party : ℕ) → state_of p ≡ st → IsTrue (is_party st party) → party < length p.hub.parties
+party-place p st party view is = subst (λ (t : State). IsTrue (is_party t party) → party < length p.hub.parties) view (ltb-true party (length p.hub.parties)) is
+
+-- the same of two parties
+pub record ArePlaces (p : Parts) (from to : ℕ) : Type 0 where
+  pub from_party : from < length p.hub.parties
+  pub to_party : to < length p.hub.parties
+
+pub parties-places : (p : Parts) (st : State) (from to : ℕ) → state_of p ≡ st → IsTrue (are_parties st from to) → ArePlaces p from to
+parties-places p st from to view both =
+    subst (λ (t : State). IsTrue (are_parties t from to) → ArePlaces p from to) view (λ both.
+      let parts = and_parts (nat_lt from (length p.hub.parties)) (nat_lt to (length p.hub.parties)) both in
+      record { from_party = ltb-true from (length p.hub.parties) parts.0; to_party = ltb-true to (length p.hub.parties) parts.1 }) both
+
+-- what a repository applied of a sender is far from 2 ^ 32 items
+pub applied_count-few : (p : Parts) (from to : ℕ) → IsSystem p → ArePlaces p from to → applied_count (state_of p) from to ≤ 2000000
+applied_count-few p from to k places =
+    let order = k.lawful.applied_in_order from to places.from_party places.to_party in
+    let items = link_items-few p.hub.parties p.hub.entries from to in
+    let routed = routed_count-few (state_of p) from k.lawful places.from_party in
+    omega (arith, ap length order.1, length-append (items_from (log_of (state_of p) to) from) order.0, items, routed, k.submissions_few from, k.bounds.submissions_most)
+
+-- what waits of a party's submissions
+pub waiting-count : (p : Parts) (party : ℕ) → IsSystem p → party < length p.hub.parties → routed_count p.hub.entries party ≤ length (submissions_of (state_of p) party)
+waiting-count p party k lt = routed_count-few (state_of p) party k.lawful lt
+
+-- the record is short enough for one more entry
+pub entries-short : (p : Parts) → IsSystem p → length p.hub.entries < 4294967295
+entries-short p k =
+    let few = entries-few (state_of p) k.lawful k.parties_most (λ party. omega (arith, k.submissions_few party, k.bounds.submissions_most)) in omega (arith, few)

@@ -1,0 +1,29 @@
+-- Frames and their numbers.
+use Rattle.std.proofs.Common.{◌≡◌, ℕ, suc, ◌+◌, ◌-◌, ◌<◌, ◌≤◌, List, [], ◌∷◌, ◌++◌, length, drop, refl, ap, sym, ◌∙◌, arith, length-append}
+use Rattle.std.specs.Prelude.{slice_get, option_map}
+use Rattle.circular_buffer.specs.Buffer.{keep_last}
+use Rattle.mv_link.specs.declared.item.Frame.{Frame}
+use Rattle.mv_system.specs.Wire.{numbers_of}
+
+-- a list that is not too long is kept whole
+pub keep_all : {A : Type 0} (n : ℕ) (xs : List A) (x : A) → length xs < n → keep_last n (xs ++ x ∷ []) ≡ xs ++ x ∷ []
+keep_all n xs x short =
+    let none : length (xs ++ x ∷ []) - n ≡ 0 = omega (arith, length-append xs (x ∷ [])) in ap (λ k. drop k (xs ++ x ∷ [])) none
+
+pub numbers_of-front : (frames : List Frame) → slice_get (numbers_of frames) 0 ≡ option_map (λ f. f.number) (slice_get frames 0)
+numbers_of-front [] = refl
+numbers_of-front (frame ∷ frames) = refl
+
+pub ruleset front_of_numbers = (numbers_of-front)
+
+pub length-numbers_of : (frames : List Frame) → length (numbers_of frames) ≡ length frames
+length-numbers_of [] = refl
+length-numbers_of (frame ∷ frames) = ap suc (length-numbers_of frames)
+
+pub numbers_of-drop : (frames : List Frame) → numbers_of (drop 1 frames) ≡ drop 1 (numbers_of frames)
+numbers_of-drop [] = refl
+numbers_of-drop (frame ∷ frames) = refl
+
+pub numbers_of-push : (frames : List Frame) (frame : Frame) → numbers_of (frames ++ frame ∷ []) ≡ numbers_of frames ++ frame.number ∷ []
+numbers_of-push [] frame = refl
+numbers_of-push (first ∷ frames) frame = ap (λ l. first.number ∷ l) (numbers_of-push frames frame)

@@ -1,0 +1,25 @@
+use Rattle.std.proofs.Common.{drop, length, arith, sym, ap, subst, ◌∙◌, length-drop}
+use Rattle.mv_system.specs.Wire.{WireState, new_wire, numbers_of}
+use Rattle.mv_system.specs.World.{parts_of, AllFramesOf, FitsWire}
+use Rattle.mv_system.proofs.WireLemmas.{numbers_of-drop}
+use Rattle.mv_system.proofs.SystemLemmas.{link_facts, wire_kept, wire_view, AllFramesOf-drop}
+use Rattle.mv_system.proofs.world.World.drop_front.Goals as goal
+
+pub invariant_of-self : goal.invariant_of-self
+invariant_of-self c =
+    let a = c.self.inside in
+    let p = parts_of a.limits a.hub a.submissions.items a.wires a.accepted a.repositories.items in
+    let wire = c.at_mut-wire.result.now in
+    let facts = link_facts p c.args.self.now c.args.from c.args.to wire c.self.invariant c.self.view_is c.requires (c.at_mut-wire.ensures.value (new_wire 0)) in
+    wire_kept p c.args.from c.args.to c.drop_front.new.self c.self.invariant
+      (subst (λ (w : WireState). AllFramesOf a.hub c.args.from c.args.to w.frames) (sym c.drop_front.ensures) (AllFramesOf-drop a.hub c.args.from c.args.to wire.frames facts.frames))
+      (subst (FitsWire a.limits.wire) (sym c.drop_front.ensures) (record { size = facts.fits.size; within = omega (arith, facts.fits.within, length-drop 1 wire.frames) }))
+
+pub returns : goal.returns
+returns c =
+    let a = c.self.inside in
+    let p = parts_of a.limits a.hub a.submissions.items a.wires a.accepted a.repositories.items in
+    let wire = c.at_mut-wire.result.now in
+    let facts = link_facts p c.args.self.now c.args.from c.args.to wire c.self.invariant c.self.view_is c.requires (c.at_mut-wire.ensures.value (new_wire 0)) in
+    wire_view p c.args.self.now c.args.from c.args.to c.drop_front.new.self _ c.self.view_is
+      (ap (λ (w : WireState). numbers_of w.frames) c.drop_front.ensures ∙ numbers_of-drop wire.frames ∙ ap (drop 1) facts.seen)

@@ -1,0 +1,37 @@
+use Rattle.std.proofs.Common.{[], ◌∷◌, ◌++◌, length, arith, sym, ap, subst, ◌∙◌, length-append}
+use Rattle.mv_link.specs.Frames.{IsFrameOf}
+use Rattle.mv_machine.specs.State.{State, items_on}
+use Rattle.mv_system.specs.Wire.{WireState, new_wire, numbers_of}
+use Rattle.mv_system.specs.World.{parts_of, AllFramesOf, FitsWire}
+use Rattle.mv_system.proofs.WireLemmas.{numbers_of-push}
+use Rattle.mv_system.proofs.SystemLemmas.{link_facts, wire_kept, wire_view, AllFramesOf-push}
+use Rattle.mv_system.proofs.world.World.push_frame.Goals as goal
+
+pub push-requires : goal.push-requires
+push-requires c =
+    let a = c.self.inside in
+    let p = parts_of a.limits a.hub a.submissions.items a.wires a.accepted a.repositories.items in
+    let facts = link_facts p c.args.self.now c.args.from c.args.to c.at_mut-wire.result.now c.self.invariant c.self.view_is c.requires.parties (c.at_mut-wire.ensures.value (new_wire 0)) in
+    omega (arith, facts.len, facts.fits.size, c.requires.room, ap (λ l. l.wire) facts.limits)
+
+pub invariant_of-self : goal.invariant_of-self
+invariant_of-self c =
+    let a = c.self.inside in
+    let p = parts_of a.limits a.hub a.submissions.items a.wires a.accepted a.repositories.items in
+    let wire = c.at_mut-wire.result.now in
+    let frame = c.args.frame in
+    let facts = link_facts p c.args.self.now c.args.from c.args.to wire c.self.invariant c.self.view_is c.requires.parties (c.at_mut-wire.ensures.value (new_wire 0)) in
+    let of_link = subst (λ (t : State). IsFrameOf (items_on t c.args.from c.args.to) frame) (sym c.self.view_is) c.requires.frame in
+    wire_kept p c.args.from c.args.to c.push.new.self c.self.invariant
+      (subst (λ (w : WireState). AllFramesOf a.hub c.args.from c.args.to w.frames) (sym c.push.ensures) (AllFramesOf-push a.hub c.args.from c.args.to wire.frames frame facts.frames of_link))
+      (subst (FitsWire a.limits.wire) (sym c.push.ensures)
+        (record { size = facts.fits.size; within = omega (arith, facts.len, c.requires.room, ap (λ l. l.wire) facts.limits, length-append wire.frames (frame ∷ [])) }))
+
+pub returns : goal.returns
+returns c =
+    let a = c.self.inside in
+    let p = parts_of a.limits a.hub a.submissions.items a.wires a.accepted a.repositories.items in
+    let wire = c.at_mut-wire.result.now in
+    let facts = link_facts p c.args.self.now c.args.from c.args.to wire c.self.invariant c.self.view_is c.requires.parties (c.at_mut-wire.ensures.value (new_wire 0)) in
+    wire_view p c.args.self.now c.args.from c.args.to c.push.new.self _ c.self.view_is
+      (ap (λ (w : WireState). numbers_of w.frames) c.push.ensures ∙ numbers_of-push wire.frames c.args.frame ∙ ap (λ l. l ++ c.args.frame.number ∷ []) facts.seen)

@@ -1,0 +1,167 @@
+//! The system, one step at a time and in whole runs.
+
+ghost use Rattle.std.specs.Prelude.{◌≡◌, ◌<◌, ◌≤◌, ℕ, List, length, IfOk, OnErr, IsTrue};
+ghost use mathlib.Core.List.{IsPrefix};
+ghost use Rattle.mv_hub.specs.Record.{routed_from};
+ghost use Rattle.mv_repository.specs.Log.{items_from};
+ghost use Rattle.mv_machine.specs.State.{opening, is_party, submissions_of, log_of, items_on};
+ghost use Rattle.mv_machine.specs.Runs.{Allows, Runs};
+ghost use Rattle.mv_machine.specs.Lawful.{IsLawful, IsWellFormed};
+ghost use Rattle.mv_system.specs.Wire.{new_wire};
+
+use crate::opening::{new_repositories, no_submissions};
+use crate::submissions::Submissions;
+use crate::wire::Wire;
+use mv_hub::{Entry, Hub, Parties};
+use mv_link::Incoming;
+use mv_machine::{Limits, Reply, Step};
+use mv_message::{Message, Party};
+use mv_pairs::PairTable;
+use mv_repository::{LogEntry, Repository};
+use std::alloc::{AllocError, Global};
+use std::marker::Model;
+
+mod changes;
+mod readers;
+mod steps;
+
+/// The system, seen as the state of the list machine.
+#[derive(Drop)]
+pub struct World {
+    alloc: Global,
+    limits: Limits,
+    hub: Hub,
+    submissions: Vec<Submissions>,
+    wires: PairTable<Wire>,
+    accepted: PairTable<Incoming>,
+    repositories: Vec<Repository>,
+}
+
+impl Model for World {
+    ghost use Rattle.mv_machine.specs.State.{State};
+    ghost use Rattle.mv_system.specs.World.{parts_of, state_of, IsSystem};
+
+    ghost Value = { State };
+
+    ghost view = { λ w. state_of (parts_of w.limits w.hub w.submissions.items w.wires w.accepted w.repositories.items) };
+
+    ghost invariant = { λ w. IsSystem (parts_of w.limits w.hub w.submissions.items w.wires w.accepted w.repositories.items) };
+}
+
+impl World {
+    /// A system where nothing has happened. Refused for want of memory.
+    pub fn open(alloc: Global, parties: Parties, limits: Limits) -> Result<World, AllocError>
+        ensures { IfOk result (λ world. world ≡ opening parties limits) }
+    {
+        let count = parties.len();
+        let size = limits.wire();
+        let wires = PairTable::from_fn(alloc, count, || -> Result<Wire, AllocError>
+            ensures { IfOk result (λ wire. wire ≡ new_wire size) }
+        {
+            let wire = Wire::new(alloc, size)?;
+            Ok(wire)
+        })?;
+        let accepted = PairTable::from_fn(alloc, count, || -> Result<Incoming, AllocError>
+            ensures { IfOk result (λ incoming. incoming ≡ 0) }
+        {
+            Ok(Incoming::new())
+        })?;
+        let submissions = no_submissions(alloc, count)?;
+        let repositories = new_repositories(alloc, count)?;
+        let hub = Hub::new(alloc, parties, limits.window())?;
+        Ok(World {
+            alloc,
+            limits,
+            hub,
+            submissions,
+            wires,
+            accepted,
+            repositories,
+        })
+    }
+
+    /// Whether there is a party of this number.
+    pub fn is_party(&self, party: Party) -> bool
+        ensures { result ≡ is_party self.now party }
+    {
+        party < self.hub.parties().len()
+    }
+
+    /// What a party submitted, the oldest message first.
+    pub fn sub(&self, party: Party) -> &[Message]
+        requires { IsTrue (is_party self.now party) }
+        ensures { result.now ≡ submissions_of self.now party }
+    {
+        self.submissions[party as usize].as_slice()
+    }
+
+    /// The hub's record, the oldest entry first.
+    pub fn record(&self) -> &[Entry]
+        ensures { result.now ≡ self.now.entries }
+    {
+        self.hub.record()
+    }
+
+    /// What a repository applied, the oldest entry first.
+    pub fn log(&self, party: Party) -> &[LogEntry]
+        requires { IsTrue (is_party self.now party) }
+        ensures { result.now ≡ log_of self.now party }
+    {
+        self.repositories[party as usize].log()
+    }
+
+    /// The repository of a party. What it answers is the meaning of its log.
+    pub fn repository(&self, party: Party) -> &Repository
+        requires { IsTrue (is_party self.now party) }
+        ensures party { result.now.party ≡ party }
+        ensures log { result.now.log ≡ log_of self.now party }
+    {
+        &self.repositories[party as usize]
+    }
+
+    /// The hub.
+    pub fn hub(&self) -> &Hub
+        ensures parties { result.now.parties ≡ self.now.parties }
+        ensures window { result.now.window ≡ self.now.limits.window }
+        ensures entries { result.now.entries ≡ self.now.entries }
+        ensures sent { result.now.sent ≡ self.now.sent }
+    {
+        &self.hub
+    }
+
+    /// Takes one step, and answers as the list machine does. A refused step has changed nothing.
+    pub fn step(&mut self, step: &Step) -> Reply
+        ensures allowed { Allows self.old step.now result self.new }
+        ensures well_formed { IsWellFormed self.new }
+        ensures lawful { IsLawful self.new }
+    {
+        let reply = self.take_step(step);
+        self.check_lawful();
+        reply
+    }
+
+    /// Takes steps in order. Refused for want of memory, it has taken none.
+    ///
+    /// Whatever the steps and whatever their order: what each repository applied from each sender is a prefix of what the
+    /// record put on their link for the markets that it serves, in order and each once, and what was routed from a sender is
+    /// a prefix of what it submitted.
+    pub fn run(&mut self, steps: &[Step]) -> Result<Vec<Reply>, AllocError>
+        ensures run { IfOk result (λ replies. Runs self.old steps.now replies.items self.new) }
+        ensures applied { (from to : ℕ) → from < length self.new.parties → to < length self.new.parties
+            → IsPrefix (items_from (log_of self.new to) from) (items_on self.new from to) }
+        ensures routed { (party : ℕ) → party < length self.new.parties
+            → IsPrefix (routed_from self.new.entries party) (submissions_of self.new party) }
+        ensures well_formed { IsWellFormed self.new }
+        ensures lawful { IsLawful self.new }
+        ensures err { OnErr result (self.new ≡ self.old) }
+    {
+        self.check_lawful();
+        let mut replies = Vec::new(self.alloc);
+        replies.reserve(steps.len())?;
+        for step in steps {
+            let reply = self.step(step);
+            replies.push_reserved(reply);
+        }
+        Ok(replies)
+    }
+}

@@ -1,0 +1,138 @@
+//! The changes of the system, each one equation on the lists. Only these open the fields of the system to write.
+
+ghost use Rattle.std.specs.Prelude.{◌≡◌, ◌<◌, ◌+◌, ◌∷◌, [], ◌++◌, ℕ, length, IfOk, IfErr, IsSome, Some, None, OnOk, OnErr, IsTrue, slice_get, slice_set, drop};
+ghost use Rattle.mv_pairs.specs.Pairs.{put};
+ghost use Rattle.mv_link.specs.Frames.{IsFrameOf};
+ghost use Rattle.mv_hub.specs.Record.{routed_count};
+ghost use Rattle.mv_machine.specs.State.{is_party, are_parties, submissions_of, waiting_of, sent_of, wire_of, log_of, items_on, applied_count, with_wire};
+ghost use Rattle.mv_machine.specs.Steps.{route};
+ghost use Rattle.mv_machine.specs.declared.reply.Reply.TheVariants.{Routed};
+ghost use Rattle.mv_system.specs.World.{RouteRefuses, RelayFails, Logs, Applies};
+
+use crate::world::World;
+use mv_hub::{HubFault, RouteFault};
+use mv_link::{Frame, Reach};
+use mv_message::{Message, Party};
+use mv_repository::Effect;
+use std::alloc::AllocError;
+
+impl World {
+    /// A party submits a copy of a message. Refused for want of memory.
+    pub(super) fn put_submission(&mut self, from: Party, message: &Message) -> Result<(), AllocError>
+        requires party { IsTrue (is_party self.old from) }
+        requires room { length (submissions_of self.old from) < self.old.limits.submissions }
+        ensures ok { OnOk result (self.new ≡ record self.old {
+            submissions = slice_set self.old.submissions from (submissions_of self.old from ++ message.now ∷ []) }) }
+        ensures err { OnErr result (self.new ≡ self.old) }
+    {
+        let of_sender = &mut self.submissions[from as usize];
+        of_sender.push(self.alloc, message)?;
+        Ok(())
+    }
+
+    /// Routes the front of an uplink.
+    pub(super) fn put_routed(&mut self, from: Party) -> Result<(u32, Reach), RouteFault>
+        requires party { IsTrue (is_party self.old from) }
+        requires some { IsSome (slice_get (submissions_of self.old from) (routed_count self.old.entries from)) }
+        ensures ok { IfOk result (λ routed. route self.old from
+            ≡ record { reply = Routed routed.0 routed.1; state = self.new }) }
+        ensures err { IfErr result (λ fault. RouteRefuses self.old from fault self.new) }
+    {
+        let place = self.hub.routed_count(from) as usize;
+        let of_sender = &self.submissions[from as usize];
+        let Some(message) = of_sender.get(place) else {
+            unreachable!();
+        };
+        match self.hub.route(from, message) {
+            Ok(routed) => Ok(routed),
+            Err(fault) => return Err(fault),
+        }
+    }
+
+    /// Takes the next frame of a link from the hub, which is not yet on the wire.
+    fn next_frame(&mut self, from: Party, to: Party) -> Result<Frame, HubFault>
+        requires { IsTrue (are_parties self.old from to) }
+        ensures number { IfOk result (λ frame. frame.number ≡ sent_of self.old from to + 1) }
+        ensures frame { IfOk result (λ frame. IsFrameOf (items_on self.old from to) frame) }
+        ensures ok { OnOk result (self.new ≡ record self.old {
+            sent = put self.old.sent from to (sent_of self.old from to + 1) }) }
+        ensures err { OnErr result (self.new ≡ self.old) }
+        ensures fault { RelayFails (sent_of self.old from to) (length (items_on self.old from to)) result }
+    {
+        match self.hub.relay(from, to) {
+            Ok(frame) => Ok(frame),
+            Err(fault) => return Err(fault),
+        }
+    }
+
+    /// Puts a frame of a link on its wire.
+    fn push_frame(&mut self, from: Party, to: Party, frame: Frame)
+        requires parties { IsTrue (are_parties self.old from to) }
+        requires room { length (wire_of self.old from to) < self.old.limits.wire }
+        requires frame { IsFrameOf (items_on self.old from to) frame }
+        ensures { self.new ≡ with_wire self.old from to (wire_of self.old from to ++ frame.number ∷ []) }
+    {
+        let wire = self.wires.at_mut(from, to);
+        wire.push(frame);
+    }
+
+    /// Puts the next frame of a link on its wire, and answers its number.
+    pub(super) fn put_relayed(&mut self, from: Party, to: Party) -> Result<u32, HubFault>
+        requires parties { IsTrue (are_parties self.old from to) }
+        requires room { length (wire_of self.old from to) < self.old.limits.wire }
+        ensures number { IfOk result (λ number. number ≡ sent_of self.old from to + 1) }
+        ensures ok { OnOk result (self.new ≡ record self.old {
+            sent = put self.old.sent from to (sent_of self.old from to + 1);
+            wires = put self.old.wires from to (wire_of self.old from to ++ (sent_of self.old from to + 1) ∷ []) }) }
+        ensures err { OnErr result (self.new ≡ self.old) }
+        ensures fault { RelayFails (sent_of self.old from to) (length (items_on self.old from to)) result }
+    {
+        let frame = match self.next_frame(from, to) {
+            Ok(frame) => frame,
+            Err(fault) => return Err(fault),
+        };
+        let number = frame.number;
+        self.push_frame(from, to, frame);
+        Ok(number)
+    }
+
+    /// Takes the frame in front of a wire away.
+    pub(super) fn drop_front(&mut self, from: Party, to: Party)
+        requires { IsTrue (are_parties self.old from to) }
+        ensures { self.new ≡ with_wire self.old from to (drop 1 (wire_of self.old from to)) }
+    {
+        let wire = self.wires.at_mut(from, to);
+        wire.drop_front();
+    }
+
+    /// Applies the frame in front of a wire, which is the next of its link and stays on the wire.
+    fn log_front(&mut self, from: Party, to: Party) -> Result<Effect, AllocError>
+        requires parties { IsTrue (are_parties self.old from to) }
+        requires next { slice_get (wire_of self.old from to) 0 ≡ Some (applied_count self.old from to + 1) }
+        ensures member { IsSome (slice_get (items_on self.old from to) (applied_count self.old from to)) }
+        ensures ok { IfOk result (λ effect. Logs self.old from to effect self.new) }
+        ensures err { OnErr result (self.new ≡ self.old) }
+    {
+        let Some(frame) = self.wires.at(from, to).front() else {
+            unreachable!();
+        };
+        let repository = &mut self.repositories[to as usize];
+        let effect = repository.apply(from, &frame.item)?;
+        let incoming = self.accepted.at_mut(from, to);
+        incoming.advance();
+        Ok(effect)
+    }
+
+    /// Applies the frame in front of a wire, which is the next of its link, and takes it away.
+    pub(super) fn put_applied(&mut self, from: Party, to: Party) -> Result<Effect, AllocError>
+        requires parties { IsTrue (are_parties self.old from to) }
+        requires next { slice_get (wire_of self.old from to) 0 ≡ Some (applied_count self.old from to + 1) }
+        ensures member { IsSome (slice_get (items_on self.old from to) (applied_count self.old from to)) }
+        ensures ok { IfOk result (λ effect. Applies self.old from to effect self.new) }
+        ensures err { OnErr result (self.new ≡ self.old) }
+    {
+        let effect = self.log_front(from, to)?;
+        self.drop_front(from, to);
+        Ok(effect)
+    }
+}

@@ -33,3 +33,6 @@ pub use reply_line::{line_fault_text, opened_text, refused_text, reply_text};
 pub use request::Request;
 pub use status::Status;
 pub use steps::serve;
+
+#[cfg(test)]
+mod tests;

@@ -1,0 +1,103 @@
+-- Lemmas on an input that comes in parts.
+use Rattle.std.proofs.Common.{◌≡◌, ℕ, ◌+◌, ◌<◌, List, [], ◌∷◌, ◌++◌, length, refl, sym, ◌∙◌, ap, arith, append_assoc, length-append, true, false, All}
+use Rattle.std.proofs.Common.{take, drop, get_or, drop-cons, add-one, append-nil}
+use Rattle.std.proofs.lemmas.List.{take-append-drop, map-append}
+use Rattle.std.proofs.lemmas.List.Elements.{All-append, filter-append}
+use Rattle.std.specs.Prelude.{cond, ◌==◌, map, filter}
+use Rattle.std.specs.Io.BufRead.{strip_last}
+use Rattle.mv_tool.specs.declared.fault.ServeFault.{ServeFault}
+use Rattle.mv_tool.specs.declared.fault.ServeFault.TheVariants.{Read, Write, Memory, TooManyLines, LineTooLong}
+use Rattle.mv_tool.specs.Lines.{whole_from, rest_from, pieces, last_piece, lines_of, has_byte}
+use Rattle.mv_tool.specs.Replies.{IsReplies}
+use Rattle.mv_tool.specs.Served.{Taken, Stopped, StopsAt, IsShort}
+use Rattle.mv_tool.proofs.RepliesLemmas.{IsReplies-append, IsReplies-nil}
+
+-- the whole pieces of two parts
+pub whole_from-append : (begun xs ys : List ℕ) → whole_from begun (xs ++ ys) ≡ whole_from begun xs ++ whole_from (rest_from begun xs) ys
+whole_from-append begun [] ys = refl
+whole_from-append begun (x ∷ xs) ys =
+    elim (x == 10) as (λ b. cond b (begun ∷ whole_from [] (xs ++ ys)) (whole_from (begun ++ x ∷ []) (xs ++ ys))
+    ≡ cond b (begun ∷ whole_from [] xs) (whole_from (begun ++ x ∷ []) xs) ++ whole_from (cond b (rest_from [] xs) (rest_from (begun ++ x ∷ []) xs)) ys) [
+      | true ↦ ap (λ l. begun ∷ l) (whole_from-append [] xs ys)
+      | false ↦ whole_from-append (begun ++ x ∷ []) xs ys
+    ]
+
+-- what two parts leave begun
+pub rest_from-append : (begun xs ys : List ℕ) → rest_from begun (xs ++ ys) ≡ rest_from (rest_from begun xs) ys
+rest_from-append begun [] ys = refl
+rest_from-append begun (x ∷ xs) ys =
+    elim (x == 10) as (λ b. cond b (rest_from [] (xs ++ ys)) (rest_from (begun ++ x ∷ []) (xs ++ ys))
+    ≡ rest_from (cond b (rest_from [] xs) (rest_from (begun ++ x ∷ []) xs)) ys) [
+      | true ↦ rest_from-append [] xs ys
+      | false ↦ rest_from-append (begun ++ x ∷ []) xs ys
+    ]
+
+-- the lines of two lists of pieces
+pub lines_of-append : (ps qs : List (List ℕ)) → lines_of (ps ++ qs) ≡ lines_of ps ++ lines_of qs
+lines_of-append ps qs = ap (filter has_byte) (map-append (strip_last 13) ps qs) ∙ filter-append has_byte (map (strip_last 13) ps) (map (strip_last 13) qs)
+
+-- the lines that end in two parts
+pub whole_lines-append : (begun xs ys : List ℕ) → lines_of (whole_from begun (xs ++ ys)) ≡ lines_of (whole_from begun xs) ++ lines_of (whole_from (rest_from begun xs) ys)
+whole_lines-append begun xs ys = ap lines_of (whole_from-append begun xs ys) ∙ lines_of-append (whole_from begun xs) (whole_from (rest_from begun xs) ys)
+
+-- the place where a later part stops is one of the whole
+pub stops_later : (fault : ServeFault) (begun : List ℕ) (count : ℕ) (front good bad tail : List ℕ)
+    → StopsAt fault (rest_from begun front) (count + length (whole_from begun front)) good bad → StopsAt fault begun count (front ++ good) (bad ++ tail)
+stops_later Read begun count front good bad tail why = why
+stops_later Write begun count front good bad tail why = why
+stops_later Memory begun count front good bad tail why = why
+stops_later TooManyLines begun count front good bad tail why =
+    (rw (whole_from-append begun front good, length-append) (omega (arith, why.0)), rw length-append (omega (arith, why.1)))
+stops_later LineTooLong begun count front good bad tail (full, next, more, e, other) =
+    (rw (rest_from-append begun front good) full, next, more ++ tail, ap (λ l. l ++ tail) e, other)
+
+-- a list is cut before and behind one member
+pub cut_at : (xs : List ℕ) (i d : ℕ) → i < length xs → xs ≡ take i xs ++ ((get_or xs i d ∷ []) ++ drop (i + 1) xs)
+cut_at xs i d h = sym (take-append-drop i xs) ∙ ap (λ l. take i xs ++ l) (drop-cons xs i d h ∙ ap (λ k. get_or xs i d ∷ drop k xs) (sym (add-one i)))
+
+module _ {S : Type 0} (Reply : S → List ℕ → List ℕ → S → Type 0) where
+  -- one part is taken, and then the next
+  pub taken_more : {begun xs begun' ys begun'' out other : List ℕ} {count count' count'' : ℕ} {a b c : S}
+      → Taken Reply begun count a xs begun' count' b out → Taken Reply begun' count' b ys begun'' count'' c other
+      → Taken Reply begun count a (xs ++ ys) begun'' count'' c (out ++ other)
+  taken_more {begun = begun} {xs = xs} {ys = ys} {out = out} {other = other} {a = a} {b = b} {c = c} first next = record {
+    rest = next.rest ∙ ap (λ l. rest_from l ys) first.rest ∙ sym (rest_from-append begun xs ys);
+    counted = rw (whole_from-append begun xs ys, length-append, ← first.rest) (omega (arith, first.counted, next.counted));
+    short = rw (whole_from-append begun xs ys, ← first.rest) (All-append IsShort _ _ first.short next.short);
+    replied = rw (whole_lines-append begun xs ys, ← first.rest) (IsReplies-append Reply a b c _ _ out other first.replied next.replied);
+  }
+
+  -- where the taking of a middle part stopped, it stopped in the whole
+  pub stopped_later : {begun front begun' out other back all : List ℕ} {count count' : ℕ} {a b : S} (fault : ServeFault) (tail : List ℕ)
+      → all ≡ front ++ (back ++ tail) → Taken Reply begun count a front begun' count' b out → Stopped Reply fault begun' count' b back other
+      → Stopped Reply fault begun count a all (out ++ other)
+  stopped_later {begun = begun} {front = front} {out = out} {other = other} {count = count} {a = a} {b = b} fault tail cut first stopped = record {
+    good = front ++ stopped.good;
+    bad = stopped.bad ++ tail;
+    cut = cut ∙ ap (λ l. front ++ (l ++ tail)) stopped.cut ∙ simp append_assoc;
+    why = stops_later fault begun count front stopped.good stopped.bad tail (rw (first.rest, first.counted) at stopped.why);
+    after = stopped.after;
+    replied = rw (whole_lines-append begun front stopped.good, ← first.rest) (IsReplies-append Reply a b stopped.after _ _ out other first.replied stopped.replied);
+  }
+
+  -- the taking stops before one byte
+  pub stopped_here : (kept begun : List ℕ) (count byte : ℕ) (a : S) (fault : ServeFault) → StopsAt fault begun count [] (byte ∷ [])
+      → (out : List ℕ) × (kept ≡ kept ++ out) × Stopped Reply fault begun count a (byte ∷ []) out
+  stopped_here kept begun count byte a fault why =
+      ([], sym (append-nil kept), record { good = []; bad = byte ∷ []; cut = refl; why = why; after = a; replied = IsReplies-nil Reply a })
+
+  -- what stopped a later part of the bytes, stopped their taking; `kept` are the replies before
+  pub grown_stopped : (kept kept' kept'' : List ℕ) {begun front begun' out back all : List ℕ} {count count' : ℕ} {a b : S} (fault : ServeFault) (tail : List ℕ)
+      → all ≡ front ++ (back ++ tail) → kept' ≡ kept ++ out → Taken Reply begun count a front begun' count' b out
+      → (other : List ℕ) × (kept'' ≡ kept' ++ other) × Stopped Reply fault begun' count' b back other
+      → (whole : List ℕ) × (kept'' ≡ kept ++ whole) × Stopped Reply fault begun count a all whole
+  grown_stopped kept kept' kept'' {out = out} fault tail cut grown first (other, more, stopped) =
+      (out ++ other, more ∙ ap (λ l. l ++ other) grown ∙ append_assoc kept out other, stopped_later fault tail cut first stopped)
+
+  -- one part is taken and then the next; `kept` are the replies before
+  pub grown_taken : (kept kept' kept'' : List ℕ) {begun xs begun' ys begun'' : List ℕ} {count count' count'' : ℕ} {a b c : S}
+      → (out : List ℕ) × (kept' ≡ kept ++ out) × Taken Reply begun count a xs begun' count' b out
+      → (other : List ℕ) × (kept'' ≡ kept' ++ other) × Taken Reply begun' count' b ys begun'' count'' c other
+      → (whole : List ℕ) × (kept'' ≡ kept ++ whole) × Taken Reply begun count a (xs ++ ys) begun'' count'' c whole
+  grown_taken kept kept' kept'' (out, grown, first) (other, more, next) =
+      (out ++ other, more ∙ ap (λ l. l ++ other) grown ∙ append_assoc kept out other, taken_more first next)

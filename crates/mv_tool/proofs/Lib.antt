@@ -1,0 +1,6 @@
+pub mod InputLemmas
+pub mod OutputLemmas
+pub mod RepliesLemmas
+pub mod ListLemmas
+pub mod ReplyLineLemmas
+pub mod ServedLemmas

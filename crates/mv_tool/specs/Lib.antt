@@ -1,0 +1,12 @@
+pub mod Lines
+pub mod Output
+pub mod Replies
+pub mod Served
+pub mod Fields
+pub mod Reading
+pub mod Kinds
+pub mod Requests
+pub mod ReplyLines
+pub mod Openings
+pub mod Sessions
+pub mod Statuses

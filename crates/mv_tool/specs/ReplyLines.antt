@@ -1,0 +1,92 @@
+-- The JSON value of each reply. Its text is the value's compact text: no blanks, the keys in byte order.
+use Rattle.std.specs.Prelude.{ℕ, List, map, codes}
+use Rattle.serde_json.specs.Data.{Data, number, unsigned, string, array, object, Items, Members, no_members, member}
+use Rattle.serde_json.specs.View.{items_of}
+use Rattle.mv_pack.specs.Fault.{code_of as pack_code}
+use Rattle.mv_message.specs.Fields.{field_name as message_field_name}
+use Rattle.mv_message.specs.Fault.{code_of as message_code}
+use Rattle.mv_message.specs.declared.fault.MessageFault.{MessageFault}
+use Rattle.mv_message.specs.declared.fault.MessageFault.TheVariants as message
+use Rattle.mv_repository.specs.declared.effect.Effect.{Effect}
+use Rattle.mv_repository.specs.Effect.{code_of as effect_code}
+use Rattle.mv_machine.specs.declared.reply.Reply.{Reply}
+use Rattle.mv_machine.specs.declared.reply.Reply.TheVariants.{Submitted, Routed, Relayed, Applied, Old, Gap, Refused}
+use Rattle.mv_machine.specs.declared.reply.Refusal.{Refusal}
+use Rattle.mv_machine.specs.declared.reply.Refusal.TheVariants.{Busy}
+use Rattle.mv_machine.specs.Replies.{code_of as refusal_code}
+use Rattle.mv_tool.specs.declared.line_fault.LineFault.{LineFault}
+use Rattle.mv_tool.specs.declared.line_fault.LineFault.TheVariants as line
+use Rattle.mv_tool.specs.Fields.{field_name}
+
+-- a whole number
+abbrev pub whole : ℕ → Data
+whole n = number (unsigned n)
+
+-- a list of whole numbers
+abbrev pub wholes : List ℕ → Items
+wholes ns = items_of (map whole ns)
+
+-- an object with one whole number
+abbrev pub numbered : List ℕ → ℕ → Data
+numbered key n = object (member key (whole n) no_members)
+
+-- a refusal by its number
+abbrev pub refused : List ℕ → Data
+refused code = object (member (codes "refused") (string code) no_members)
+
+-- a refusal that names a field
+abbrev pub refused_field : List ℕ → List ℕ → Data
+refused_field field code = object (member (codes "field") (string field) (member (codes "refused") (string code) no_members))
+
+-- the refusal of a text that is no value (M6): why it is none, and its field
+abbrev pub refused_pack : List ℕ → List ℕ → Data
+refused_pack fault field =
+    object (member (codes "fault") (string fault)
+    (member (codes "field") (string field)
+    (member (codes "refused") (string (codes "M6")) no_members)))
+
+-- the refusal of a fault of a message
+abbrev pub message_fault_value : MessageFault → Data
+message_fault_value (message.Missing field) = refused_field (message_field_name field) (codes "M3")
+message_fault_value (message.Unknown key) = refused_field key (codes "M4")
+message_fault_value (message.Kind field) = refused_field (message_field_name field) (codes "M5")
+message_fault_value (message.Pack field fault) = refused_pack (pack_code fault) (message_field_name field)
+message_fault_value (message.Count field) = refused_field (message_field_name field) (codes "M7")
+message_fault_value (message.TextLength field) = refused_field (message_field_name field) (codes "M8")
+message_fault_value message.NotJson = refused (codes "M1")
+message_fault_value message.NotObject = refused (codes "M2")
+message_fault_value message.Memory = refused (codes "M9")
+
+-- the refusal of a fault of a line
+abbrev pub line_fault_value : LineFault → Data
+line_fault_value line.NotJson = refused (codes "M1")
+line_fault_value line.NotObject = refused (codes "M2")
+line_fault_value (line.Missing field) = refused_field (field_name field) (codes "M3")
+line_fault_value (line.Unknown key) = refused_field key (codes "M4")
+line_fault_value (line.Kind field) = refused_field (field_name field) (codes "M5")
+line_fault_value (line.Pack field fault) = refused_pack (pack_code fault) (field_name field)
+line_fault_value (line.Message fault) = message_fault_value fault
+line_fault_value line.Memory = refused (codes "M9")
+
+-- the refusal of a step: S6 names the party whose link has no room
+abbrev pub refusal_value : Refusal → Data
+refusal_value (Busy party) =
+    object (member (codes "party") (whole party) (member (codes "refused") (string (codes "S6")) no_members))
+refusal_value refusal = refused (refusal_code refusal)
+
+-- the reply to an opening with so many parties
+abbrev pub opened_value : ℕ → Data
+opened_value count = numbered (codes "opened") count
+
+-- the reply to a step
+abbrev pub reply_value : Reply → Data
+reply_value (Submitted k) = numbered (codes "submitted") k
+reply_value (Routed k reach) =
+    object (member (codes "reach") (array (wholes reach)) (member (codes "routed") (whole k) no_members))
+reply_value (Relayed n) = numbered (codes "relayed") n
+reply_value (Applied n effect) =
+    object (member (codes "applied") (whole n) (member (codes "effect") (string (effect_code effect)) no_members))
+reply_value (Old n) = numbered (codes "old") n
+reply_value (Gap n expected) =
+    object (member (codes "expected") (whole expected) (member (codes "gap") (whole n) no_members))
+reply_value (Refused refusal) = refusal_value refusal

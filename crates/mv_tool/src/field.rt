@@ -1,0 +1,47 @@
+//! The fields of a line.
+
+ghost use Rattle.std.specs.Prelude.{◌≡◌};
+
+/// A field of a line, other than those of the message that it holds.
+#[derive(Clone, Copy, Debug, PartialEq, Eq)]
+pub enum LineField {
+    /// `do`: what is asked.
+    Do,
+    /// `from`: the party that something comes from.
+    From,
+    /// `message`: the message to submit.
+    Message,
+    /// `parties`: the markets that each party serves.
+    Parties,
+    /// `submissions`: how many messages each party submits at most.
+    Submissions,
+    /// `to`: the party that something goes to.
+    To,
+    /// `uplink`: how many messages of each party are under way to the hub at most.
+    Uplink,
+    /// `window`: how many items each link keeps.
+    Window,
+    /// `wire`: how many frames are under way on each link at most.
+    Wire,
+}
+
+impl LineField {
+    ghost use Rattle.mv_tool.specs.Fields.{field_name};
+
+    /// The name of the field.
+    pub fn as_str(self) -> &'static str
+        ensures { result.now ≡ field_name self }
+    {
+        match self {
+            LineField::Do => "do",
+            LineField::From => "from",
+            LineField::Message => "message",
+            LineField::Parties => "parties",
+            LineField::Submissions => "submissions",
+            LineField::To => "to",
+            LineField::Uplink => "uplink",
+            LineField::Window => "window",
+            LineField::Wire => "wire",
+        }
+    }
+}

@@ -1,0 +1,160 @@
+//! The line that is being read, and the replies that are still to be written.
+
+ghost use Rattle.std.specs.Prelude.{◌≡◌, ℕ, ◌<◌, ◌≤◌, List, [], ◌∷◌, ◌++◌, length, OnOk, IfErr, vec_items};
+ghost use Rattle.std.specs.Io.BufRead.{strip_last};
+ghost use Rattle.mv_tool.specs.Lines.{last_piece, lines_of};
+ghost use Rattle.mv_tool.specs.Replies.{IsReplies};
+ghost use Rattle.std.specs.Io.KnownBytes.{Appends};
+ghost use Rattle.mv_tool.specs.Served.{Taken, Stopped, Halted, HaltedLast};
+ghost use Rattle.mv_tool.specs.declared.limits.TheConstants.{LINE_LIMIT as line_limit, LINES_LIMIT as lines_limit};
+
+use crate::answering::Answering;
+use crate::fault::ServeFault;
+use crate::limits::{LINE_LIMIT, LINES_LIMIT};
+use crate::output::put_out;
+use std::alloc::Global;
+use std::io::Write;
+
+/// What has come of the line that is being read, how many lines came before it, and the replies to write.
+#[derive(Drop)]
+pub(crate) struct Input {
+    pub(crate) begun: Vec<u8>,
+    pub(crate) lines: u32,
+    pub(crate) replies: Vec<u8>,
+    ghost few: { lines ≤ lines_limit },
+    ghost not_behind: { 0 < length (vec_items begun) → lines < lines_limit },
+    ghost short: { length (vec_items begun) ≤ line_limit },
+}
+
+impl Input {
+    /// Nothing has come.
+    pub(crate) fn new(alloc: Global) -> Input
+        ensures begun { result.begun.items ≡ [] }
+        ensures lines { result.lines ≡ 0 }
+        ensures replies { result.replies.items ≡ [] }
+    {
+        Input {
+            begun: Vec::new(alloc),
+            lines: 0,
+            replies: Vec::new(alloc),
+        }
+    }
+
+    /// Takes the next bytes, and writes the replies to the lines that end in them.
+    pub(crate) fn answer_block<S: Answering, W: Write>(
+        &mut self,
+        answering: &mut S,
+        writer: &mut W,
+        bytes: &[u8],
+    ) -> Result<(), ServeFault>
+        ensures ok { OnOk result ((out : List ℕ) × Appends (W.contents writer.old) (W.contents writer.new) out
+            × Taken S.replies self.old.begun.items self.old.lines answering.old bytes.now
+            self.new.begun.items self.new.lines answering.new out) }
+        ensures err { IfErr result (λ fault.
+            Halted S.replies fault self.old.begun.items self.old.lines answering.old bytes.now
+            (W.contents writer.old) (W.contents writer.new)) }
+    {
+        self.replies.clear();
+        let taken = self.take_all(answering, bytes);
+        put_out(writer, self.replies.as_slice())?;
+        taken
+    }
+
+    /// Writes the reply to the last line, where the input doesn't end by a line feed.
+    pub(crate) fn answer_last<S: Answering, W: Write>(
+        &mut self,
+        answering: &mut S,
+        writer: &mut W,
+    ) -> Result<(), ServeFault>
+        ensures ok { OnOk result ((out : List ℕ) × Appends (W.contents writer.old) (W.contents writer.new) out
+            × IsReplies S.replies answering.old (lines_of (last_piece self.old.begun.items)) out answering.new) }
+        ensures err { IfErr result (λ fault.
+            HaltedLast S.replies fault answering.old (lines_of (last_piece self.old.begun.items))
+            (W.contents writer.old) (W.contents writer.new)) }
+    {
+        self.replies.clear();
+        let answered = self.finish(answering);
+        put_out(writer, self.replies.as_slice())?;
+        answered
+    }
+
+    /// Takes the next bytes, and answers the lines that end in them.
+    fn take_all<S: Answering>(&mut self, answering: &mut S, bytes: &[u8]) -> Result<(), ServeFault>
+        ensures ok { OnOk result ((out : List ℕ) × (self.new.replies.items ≡ self.old.replies.items ++ out)
+            × Taken S.replies self.old.begun.items self.old.lines answering.old bytes.now
+            self.new.begun.items self.new.lines answering.new out) }
+        ensures err { IfErr result (λ fault. (out : List ℕ) × (self.new.replies.items ≡ self.old.replies.items ++ out)
+            × Stopped S.replies fault self.old.begun.items self.old.lines answering.old bytes.now out) }
+    {
+        for byte in bytes {
+            self.take(answering, *byte)?;
+        }
+        Ok(())
+    }
+
+    /// Takes the next byte, and answers the line that it ends.
+    fn take<S: Answering>(&mut self, answering: &mut S, byte: u8) -> Result<(), ServeFault>
+        ensures ok { OnOk result ((out : List ℕ) × (self.new.replies.items ≡ self.old.replies.items ++ out)
+            × Taken S.replies self.old.begun.items self.old.lines answering.old (byte ∷ [])
+            self.new.begun.items self.new.lines answering.new out) }
+        ensures err { IfErr result (λ fault. (out : List ℕ) × (self.new.replies.items ≡ self.old.replies.items ++ out)
+            × Stopped S.replies fault self.old.begun.items self.old.lines answering.old (byte ∷ []) out) }
+    {
+        if self.lines == LINES_LIMIT {
+            return Err(ServeFault::TooManyLines);
+        }
+        if byte == b'\n' {
+            self.answer(answering)?;
+            self.begun.clear();
+            self.lines += 1;
+            return Ok(());
+        }
+        if self.begun.len() == LINE_LIMIT {
+            return Err(ServeFault::LineTooLong);
+        }
+        self.begun.push(byte)?;
+        Ok(())
+    }
+
+    /// Answers the line that has come, where it isn't empty.
+    fn answer<S: Answering>(&mut self, answering: &mut S) -> Result<(), ServeFault>
+        ensures ok { OnOk result ((out : List ℕ) × (self.new.replies.items ≡ self.old.replies.items ++ out)
+            × IsReplies S.replies answering.old (lines_of (self.old.begun.items ∷ [])) out answering.new) }
+        ensures fault { IfErr result (λ fault. fault ≡ ServeFault.Memory) }
+        ensures err { IfErr result (λ _. self.new.replies.items ≡ self.old.replies.items) }
+        ensures begun { self.new.begun ≡ self.old.begun }
+        ensures lines { self.new.lines ≡ self.old.lines }
+    {
+        let line = without_return(self.begun.as_slice());
+        if line.is_empty() {
+            return Ok(());
+        }
+        let mut text = answering.answer(line)?;
+        text.push('\n')?;
+        self.replies.extend_from_slice(text.as_bytes())?;
+        Ok(())
+    }
+
+    /// Answers the last line, if the input doesn't end by a line feed.
+    fn finish<S: Answering>(&mut self, answering: &mut S) -> Result<(), ServeFault>
+        ensures ok { OnOk result ((out : List ℕ) × (self.new.replies.items ≡ self.old.replies.items ++ out)
+            × IsReplies S.replies answering.old (lines_of (last_piece self.old.begun.items)) out answering.new) }
+        ensures fault { IfErr result (λ fault. fault ≡ ServeFault.Memory) }
+        ensures err { IfErr result (λ _. self.new.replies.items ≡ self.old.replies.items) }
+    {
+        if self.begun.is_empty() {
+            return Ok(());
+        }
+        self.answer(answering)
+    }
+}
+
+/// The bytes without a carriage return at their end.
+fn without_return(piece: &[u8]) -> &[u8]
+    ensures { result.now ≡ strip_last 13 piece.now }
+{
+    match piece {
+        [head @ .., b'\r'] => head,
+        _ => piece,
+    }
+}

@@ -1,0 +1,29 @@
+//! The exit statuses of the program.
+
+ghost use Rattle.std.specs.Prelude.{◌≡◌, ◌≤◌};
+ghost use Rattle.mv_tool.specs.Statuses.{status_code};
+
+/// How the program ended.
+#[derive(Clone, Copy, Debug, PartialEq, Eq)]
+pub enum Status {
+    /// 0: what was asked for is done, help included.
+    Done,
+    /// 1: the run ended early, and its fault stands on standard error.
+    Failed,
+    /// 2: the command line was refused, and the reason stands on standard error.
+    Refused,
+}
+
+impl Status {
+    /// The exit status.
+    pub fn code(self) -> u8
+        ensures code { result ≡ status_code self }
+        ensures few { result ≤ 2 }
+    {
+        match self {
+            Status::Done => 0,
+            Status::Failed => 1,
+            Status::Refused => 2,
+        }
+    }
+}

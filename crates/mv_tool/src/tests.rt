@@ -1,0 +1,358 @@
+//! Readers and writers that fail, limits, and the lines of worked examples.
+
+use super::*;
+use arrayvec::ArrayVec;
+use mv_link::Reach;
+use mv_machine::{Refusal, Reply, Step};
+use std::alloc::Global;
+use std::io;
+use std::io::{ErrorKind, Read, Write};
+use std::test::Fail;
+
+/// Gives the text in reads of at most `size` bytes, once `interrupted` reads were interrupted. The read number `fails_at` fails.
+#[derive(Drop)]
+struct Script<'a> {
+    text: &'a [u8],
+    size: usize,
+    reads: u32,
+    fails_at: u32,
+    interrupted: u32,
+}
+
+impl Read for Script<'_> {
+    fn read(&mut self, buf: &mut [u8]) -> io::Result<usize> {
+        if self.interrupted > 0 {
+            self.interrupted -= 1;
+            return Err(io::Error::new(ErrorKind::Interrupted, "interrupted"));
+        }
+        self.reads = self.reads.saturating_add(1);
+        if self.reads == self.fails_at {
+            return Err(io::Error::other("the read fails"));
+        }
+        let count = self.size.min(buf.len()).min(self.text.len());
+        let (front, rest) = self.text.split_at(count);
+        let room = &mut buf[..count];
+        room.copy_from_slice(front);
+        self.text = rest;
+        Ok(count)
+    }
+}
+
+/// Takes at most `size` bytes a write. The write number `fails_at` fails.
+#[derive(Drop)]
+struct Sink {
+    bytes: Vec<u8>,
+    size: usize,
+    writes: u32,
+    fails_at: u32,
+}
+
+impl Write for Sink {
+    fn write(&mut self, buf: &[u8]) -> io::Result<usize> {
+        self.writes = self.writes.saturating_add(1);
+        if self.writes == self.fails_at {
+            return Err(io::Error::other("the write fails"));
+        }
+        let count = self.size.min(buf.len());
+        self.bytes.extend_from_slice(&buf[..count])?;
+        Ok(count)
+    }
+
+    fn flush(&mut self) -> io::Result<()> {
+        Ok(())
+    }
+}
+
+fn script_of(text: &[u8], size: usize, fails_at: u32, interrupted: u32) -> Script<'_> {
+    Script {
+        text,
+        size,
+        reads: 0,
+        fails_at,
+        interrupted,
+    }
+}
+
+fn sink_of(alloc: Global, size: usize, fails_at: u32) -> Sink {
+    Sink {
+        bytes: Vec::new(alloc),
+        size,
+        writes: 0,
+        fails_at,
+    }
+}
+
+/// Lines that end by CR and LF, by LF and by the end; an empty one, one of a CR alone and one of blanks.
+const TEXT: &[u8] = b"{}\r\n\nx\n\r\n  \n{\"do\":\"fly\"}";
+
+const REPLIES: &[u8] = b"{\"field\":\"do\",\"refused\":\"M3\"}
+{\"refused\":\"M1\"}
+{\"refused\":\"M1\"}
+{\"field\":\"do\",\"refused\":\"M5\"}
+";
+
+#[test]
+fn answers_lines_that_come_in_reads_of_any_size(rt: HostRuntime) {
+    for size in 1..9usize {
+        let mut reader = script_of(TEXT, size, 0, 999);
+        let mut writer = sink_of(rt.alloc(), 7, 0);
+        assert_eq!(rt;
+            serve(rt.alloc(), &mut reader, &mut writer),
+            Ok(()),
+            "size {size}"
+        );
+        assert_eq!(rt; writer.bytes.as_slice(), REPLIES, "size {size}");
+    }
+}
+
+#[test]
+fn answers_the_whole_lines_before_a_read_that_fails(rt: HostRuntime) {
+    let mut reader = script_of(b"x\nx\nx", 1, 6, 0);
+    let mut writer = sink_of(rt.alloc(), 100, 0);
+    assert_eq!(rt;
+        serve(rt.alloc(), &mut reader, &mut writer),
+        Err(ServeFault::Read)
+    );
+    assert_eq!(rt;
+        writer.bytes.as_slice(),
+        b"{\"refused\":\"M1\"}\n{\"refused\":\"M1\"}\n".as_slice()
+    );
+    let mut often = script_of(TEXT, 100, 0, 1_000);
+    assert_eq!(rt;
+        serve(rt.alloc(), &mut often, &mut writer),
+        Err(ServeFault::Read)
+    );
+    assert_eq!(rt; often.reads, 0);
+}
+
+#[test]
+fn stops_at_a_write_that_fails_and_reads_no_more(rt: HostRuntime) {
+    let mut reader = script_of(b"x\nx\nx\n", 4, 0, 0);
+    let mut writer = sink_of(rt.alloc(), 100, 1);
+    assert_eq!(rt;
+        serve(rt.alloc(), &mut reader, &mut writer),
+        Err(ServeFault::Write)
+    );
+    assert_eq!(rt; reader.reads, 1);
+    let mut again = script_of(b"x\nx\nx\n", 4, 0, 0);
+    let mut third = sink_of(rt.alloc(), 7, 3);
+    assert_eq!(rt;
+        serve(rt.alloc(), &mut again, &mut third),
+        Err(ServeFault::Write)
+    );
+    assert_eq!(rt; third.bytes.as_slice(), b"{\"refused\":\"M1".as_slice());
+    let mut full = sink_of(rt.alloc(), 0, 0);
+    assert_eq!(rt;
+        serve(rt.alloc(), &mut again, &mut full),
+        Err(ServeFault::Write)
+    );
+}
+
+#[test]
+fn takes_no_longer_line_and_no_more_lines(rt: HostRuntime) -> Result<(), Fail> {
+    let mut line = vec![in rt.alloc(); b'x'; 65_535]?;
+    line.push(b'\r')?;
+    line.push(b'\n')?;
+    let mut longest = script_of(line.as_slice(), 10_000, 0, 0);
+    let mut writer = sink_of(rt.alloc(), 100, 0);
+    assert_eq!(rt; serve(rt.alloc(), &mut longest, &mut writer), Ok(()));
+    assert_eq!(rt;
+        writer.bytes.as_slice(),
+        b"{\"refused\":\"M1\"}\n".as_slice()
+    );
+    line.insert(0, b'x')?;
+    let mut long = script_of(line.as_slice(), 10_000, 0, 0);
+    assert_eq!(rt;
+        serve(rt.alloc(), &mut long, &mut writer),
+        Err(ServeFault::LineTooLong)
+    );
+    let mut empty = vec![in rt.alloc(); b'\n'; 1_000_000]?;
+    let mut many = script_of(empty.as_slice(), 10_000, 0, 0);
+    assert_eq!(rt; serve(rt.alloc(), &mut many, &mut writer), Ok(()));
+    empty.push(b'x')?;
+    let mut more = script_of(empty.as_slice(), 10_000, 0, 0);
+    assert_eq!(rt;
+        serve(rt.alloc(), &mut more, &mut writer),
+        Err(ServeFault::TooManyLines)
+    );
+    Ok(())
+}
+
+#[test]
+fn shows_faults_by_their_numbers(rt: HostRuntime) -> Result<(), Fail> {
+    let text = format!(in rt.alloc();
+        "{} {} {} {} {}",
+        ServeFault::Read,
+        ServeFault::Write,
+        ServeFault::Memory,
+        ServeFault::TooManyLines,
+        ServeFault::LineTooLong
+    )?;
+    assert_eq!(rt; text.as_str(), "V1 V2 V3 V4 V5");
+    Ok(())
+}
+
+#[test]
+fn answers_malformed_and_refused_lines(rt: HostRuntime) {
+    let lines = r#"{"do":"route","from":0}
+{"do":"open","parties":[["FI"],["FI"]],"submissions":9,"uplink":8,"window":8,"wire":8}
+{"do":"open","parties":[["FI"]],"submissions":9,"uplink":8,"window":1,"wire":8}
+{"do":"open","parties":[["FI"]],"submissions":9,"uplink":8,"window":8,"wire":8}
+{"do":"open","parties":[["FI"]],"submissions":9,"uplink":8,"window":8,"wire":8}
+{"do":"submit","from":0,"message":{"msg":"que
+{"do":"route","from":0}
+
+[]
+{"from":0}
+{"do":"fly"}
+{"do":"route","from":0,"x":1}
+{"do":"route","from":-1}
+{"do":"route","from":7}
+{"do":"route","from":4294967296}
+{"do":"submit","from":0,"message":[]}
+{"do":"submit","from":0,"message":{"msg":"master","x":1}}
+{"do":"submit","from":0,"message":{"common":"c","form":"f","gtin":"09506000134353","msg":"master"}}
+{"do":"submit","from":0,"message":{"common":"","msg":"master"}}
+{"do":"submit","from":0,"message":{"common":"c","form":"f","gtin":"09506000134352","markets":[],"msg":"master"}}
+{"do":"open","parties":[["fi"]],"submissions":9,"uplink":8,"window":8,"wire":8}
+{"do":"open","parties":["FI"],"submissions":9,"uplink":8,"window":8,"wire":8}
+{"do":"apply","from":0,"to":0}
+"#;
+    let replies = r#"{"refused":"C1"}
+{"refused":"H3"}
+{"refused":"O1"}
+{"opened":1}
+{"refused":"C2"}
+{"refused":"M1"}
+{"refused":"S5"}
+{"refused":"M2"}
+{"field":"do","refused":"M3"}
+{"field":"do","refused":"M5"}
+{"field":"x","refused":"M4"}
+{"field":"from","refused":"M5"}
+{"refused":"S1"}
+{"field":"from","refused":"M5"}
+{"refused":"M2"}
+{"field":"x","refused":"M4"}
+{"fault":"P3","field":"gtin","refused":"M6"}
+{"field":"common","refused":"M8"}
+{"field":"markets","refused":"M7"}
+{"fault":"P8","field":"parties","refused":"M6"}
+{"field":"parties","refused":"M5"}
+{"refused":"S8"}
+"#;
+    let mut reader = lines.as_bytes();
+    let mut writer = Vec::new(rt.alloc());
+    assert_eq!(rt; serve(rt.alloc(), &mut reader, &mut writer), Ok(()));
+    assert_eq!(rt; writer.as_slice(), replies.as_bytes());
+}
+
+#[test]
+fn reads_a_line_as_what_it_asks(rt: HostRuntime) {
+    let line = br#"{"do":"relay","from":0,"to":4294967295}"#;
+    match Request::read(rt.alloc(), line) {
+        Ok(Request::Step(Step::Relay { from, to })) => {
+            assert_eq!(rt; from, 0);
+            assert_eq!(rt; to, 4_294_967_295);
+        }
+        _ => assert!(rt; false, "it is a relay"),
+    }
+}
+
+#[test]
+fn writes_replies_as_canonical_texts(rt: HostRuntime) -> Result<(), Fail> {
+    let mut parties = ArrayVec::new();
+    parties.push(1);
+    parties.push(3);
+    let routed = Reply::Routed {
+        k: 2,
+        reach: Reach::new(parties),
+    };
+    assert_eq!(rt;
+        reply_text(rt.alloc(), &routed)?.as_str(),
+        r#"{"reach":[1,3],"routed":2}"#
+    );
+    let gap = Reply::Gap {
+        number: 2,
+        expected: 1,
+    };
+    assert_eq!(rt;
+        reply_text(rt.alloc(), &gap)?.as_str(),
+        r#"{"expected":1,"gap":2}"#
+    );
+    let old = Reply::Old { number: 2 };
+    assert_eq!(rt; reply_text(rt.alloc(), &old)?.as_str(), r#"{"old":2}"#);
+    let busy = Reply::Refused(Refusal::Busy(1));
+    assert_eq!(rt;
+        reply_text(rt.alloc(), &busy)?.as_str(),
+        r#"{"party":1,"refused":"S6"}"#
+    );
+    let missing = LineFault::Missing(LineField::To);
+    assert_eq!(rt;
+        line_fault_text(rt.alloc(), &missing)?.as_str(),
+        r#"{"field":"to","refused":"M3"}"#
+    );
+    assert_eq!(rt; opened_text(rt.alloc(), 64)?.as_str(), r#"{"opened":64}"#);
+    assert_eq!(rt;
+        refused_text(rt.alloc(), OpenFault::NotOpen.code())?.as_str(),
+        r#"{"refused":"C1"}"#
+    );
+    Ok(())
+}
+
+/// Runs the command on these words behind the program's name. Gives the exit status, and whether something was written to the
+/// output and to the faults.
+fn run_command(
+    alloc: Global,
+    words: &[&str],
+    writer: &mut Sink,
+    faults: &mut Sink,
+) -> Result<u8, Fail> {
+    let mut given = Vec::new(alloc);
+    given.push(String::from_str(alloc, "mvhub")?)?;
+    for word in words {
+        given.push(String::from_str(alloc, word)?)?;
+    }
+    let mut reader = TEXT;
+    Ok(command(alloc, given, &mut reader, writer, faults))
+}
+
+#[test]
+fn runs_what_the_words_ask_for(rt: HostRuntime) -> Result<(), Fail> {
+    let mut writer = sink_of(rt.alloc(), 100, 0);
+    let mut faults = sink_of(rt.alloc(), 100, 0);
+    let done = run_command(rt.alloc(), &["steps"], &mut writer, &mut faults)?;
+    assert_eq!(rt; done, Status::Done.code());
+    assert_eq!(rt; writer.bytes.as_slice(), REPLIES);
+    assert_eq!(rt; faults.bytes.is_empty(), true);
+    let mut failing = sink_of(rt.alloc(), 100, 1);
+    let failed = run_command(rt.alloc(), &["steps"], &mut failing, &mut faults)?;
+    assert_eq!(rt; failed, Status::Failed.code());
+    assert_eq!(rt; faults.bytes.as_slice(), b"mvhub: V2\n".as_slice());
+    Ok(())
+}
+
+#[test]
+fn refuses_other_words_and_writes_help(rt: HostRuntime) -> Result<(), Fail> {
+    let mut writer = sink_of(rt.alloc(), 100, 0);
+    let mut faults = sink_of(rt.alloc(), 100, 0);
+    for words in [
+        [].as_slice(),
+        ["fly"].as_slice(),
+        ["steps", "on"].as_slice(),
+    ] {
+        let refused = run_command(rt.alloc(), words, &mut writer, &mut faults)?;
+        assert_eq!(rt; refused, Status::Refused.code());
+    }
+    assert_eq!(rt; writer.bytes.is_empty(), true);
+    assert_eq!(rt; faults.bytes.is_empty(), false);
+    let helped = run_command(rt.alloc(), &["--help"], &mut writer, &mut faults)?;
+    assert_eq!(rt; helped, Status::Done.code());
+    assert_eq!(rt; writer.bytes.is_empty(), false);
+    let mut failing = sink_of(rt.alloc(), 100, 1);
+    let mut told = sink_of(rt.alloc(), 100, 0);
+    let unhelped = run_command(rt.alloc(), &["--help"], &mut failing, &mut told)?;
+    assert_eq!(rt; unhelped, Status::Failed.code());
+    assert_eq!(rt; told.bytes.as_slice(), b"mvhub: V2\n".as_slice());
+    Ok(())
+}

@@ -12,13 +12,13 @@ use Rattle.mv_link.specs.Frames.{IsFrameOf, accepted_after}
 use Rattle.mv_link.specs.Sending.{Sending, with_item, EndsWithHeld}
 
 -- the list with one more item ends with what is held then
-pub pushed : (s : Sending) (list : List Item) (item : Item) → EndsWithHeld s list
-    → EndsWithHeld (with_item s item) (list ++ item ∷ [])
-pushed s list item e =
-    let more = s.held ++ item ∷ [] in
-    let cut = length more - s.window in record {
+pub pushed : (sending : Sending) (list : List Item) (item : Item) → EndsWithHeld sending list
+    → EndsWithHeld (with_item sending item) (list ++ item ∷ [])
+pushed sending list item e =
+    let more = sending.held ++ item ∷ [] in
+    let cut = length more - sending.window in record {
       front = e.front ++ take cut more;
-      whole = ap (λ l. l ++ item ∷ []) e.whole ∙ append_assoc e.front s.held (item ∷ []) ∙ ap (λ l. e.front ++ l) (sym (take-append-drop cut more)) ∙ sym (append_assoc e.front (take cut more) (drop cut more));
+      whole = ap (λ l. l ++ item ∷ []) e.whole ∙ append_assoc e.front sending.held (item ∷ []) ∙ ap (λ l. e.front ++ l) (sym (take-append-drop cut more)) ∙ sym (append_assoc e.front (take cut more) (drop cut more));
       count = rw length-append (omega (arith, e.count));
     }
 

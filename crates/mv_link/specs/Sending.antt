@@ -7,10 +7,10 @@ use Rattle.mv_link.specs.Frames.{IsFrameOf}
 
 -- the sending end of a link
 pub record Sending : Type 0 where
-  pub window : ℕ         -- how many items are kept at most
-  pub total : ℕ          -- how many items were pushed
-  pub sent : ℕ           -- how many of them were relayed
-  pub held : List Item   -- the last items that were pushed, as many as the window keeps
+  pub window : ℕ  -- how many items are kept at most
+  pub total : ℕ  -- how many items were pushed
+  pub sent : ℕ  -- how many of them were relayed
+  pub held : List Item  -- the last items that were pushed, as many as the window keeps
 
 -- a sending end that nothing was pushed on
 abbrev pub new_sending : ℕ → Sending
@@ -18,30 +18,30 @@ new_sending window = record { window = window; total = 0; sent = 0; held = [] }
 
 -- one more item was pushed
 abbrev pub with_item : Sending → Item → Sending
-with_item s item = record s { total = s.total + 1; held = keep_last s.window (s.held ++ item ∷ []) }
+with_item sending item = record sending { total = sending.total + 1; held = keep_last sending.window (sending.held ++ item ∷ []) }
 
 -- one more item was relayed
 abbrev pub with_relayed : Sending → Sending
-with_relayed s = record s { sent = s.sent + 1 }
+with_relayed sending = record sending { sent = sending.sent + 1 }
 
 -- so many more items fit: what is not yet relayed is never pushed out, and numbers have 32 bits
 abbrev pub HasRoom : Sending → ℕ → Type 0
-HasRoom s count = ((s.total - s.sent) + count ≤ s.window) × (s.total + count ≤ 4294967295)
+HasRoom sending count = ((sending.total - sending.sent) + count ≤ sending.window) × (sending.total + count ≤ 4294967295)
 
 -- what every sending end keeps: the last items, those not yet relayed among them
-pub record IsSending (s : Sending) : Type 0 where
-  pub wide : 2 ≤ s.window
-  pub narrow : s.window ≤ 256
-  pub held : length s.held ≡ min s.window s.total
-  pub pushed : s.sent ≤ s.total
-  pub waiting : s.total - s.sent ≤ s.window
+pub record IsSending (sending : Sending) : Type 0 where
+  pub wide : 2 ≤ sending.window
+  pub narrow : sending.window ≤ 256
+  pub held : length sending.held ≡ min sending.window sending.total
+  pub pushed : sending.sent ≤ sending.total
+  pub waiting : sending.total - sending.sent ≤ sending.window
 
 -- a list of all that was pushed ends with what is held
-pub record EndsWithHeld (s : Sending) (list : List Item) : Type 0 where
+pub record EndsWithHeld (sending : Sending) (list : List Item) : Type 0 where
   pub front : List Item
-  pub whole : list ≡ front ++ s.held
-  pub count : length list ≡ s.total
+  pub whole : list ≡ front ++ sending.held
+  pub count : length list ≡ sending.total
 
 -- a frame of every list that ends with what is held
 abbrev pub IsFrameOfAll : Sending → Frame → Type 0
-IsFrameOfAll s frame = (list : List Item) → EndsWithHeld s list → IsFrameOf list frame
+IsFrameOfAll sending frame = (list : List Item) → EndsWithHeld sending list → IsFrameOf list frame

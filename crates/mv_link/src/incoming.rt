@@ -27,9 +27,9 @@ impl Model for Incoming {
 
     ghost Value = { ℕ };
 
-    ghost view = { λ a. a.count };
+    ghost view = { λ end. end.count };
 
-    ghost inverse = { λ n. record { count = n } };
+    ghost inverse = { λ count. record { count = count } };
 }
 
 impl Incoming {

@@ -11,10 +11,18 @@ use std::alloc::Global;
 pub enum Item {
     /// To the sender itself: its `k`-th message, counted from one, was routed to these parties; `query` says whether
     /// that message was a query.
-    Receipt { k: u32, reach: Reach, query: bool },
+    Receipt {
+        k: u32,
+        reach: Reach,
+        query: bool,
+    },
     /// The sender's `k`-th message, counted from one, and its stamp: the place in the hub's record of its routing,
     /// counted from one over all entries.
-    Carried { k: u32, stamp: u32, message: Message },
+    Carried {
+        k: u32,
+        stamp: u32,
+        message: Message,
+    },
 }
 
 impl Item {

@@ -6,5 +6,4 @@ ghost use Rattle.mv_link.specs.Frames.{AcceptedIsPrefix};
 /// order and each item once.
 pub fn accepted_is_prefix()
     ensures { AcceptedIsPrefix }
-{
-}
+{}

@@ -11,6 +11,8 @@ mod item;
 mod laws;
 mod outgoing;
 mod reach;
+#[cfg(test)]
+mod tests;
 
 pub use fault::LinkFault;
 pub use incoming::{Incoming, Look};

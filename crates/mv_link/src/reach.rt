@@ -22,11 +22,11 @@ impl Model for Reach {
 
     ghost Value = { List ℕ };
 
-    ghost view = { λ r. r.parties.items };
+    ghost view = { λ reach. reach.parties.items };
 
-    ghost invariant = { λ r. IsStrictlyIncreasing r.parties.items };
+    ghost invariant = { λ reach. IsStrictlyIncreasing reach.parties.items };
 
-    ghost inverse = { λ xs. record { parties = record { items = xs } } };
+    ghost inverse = { λ parties. record { parties = record { items = parties } } };
 }
 
 impl Reach {
@@ -50,9 +50,9 @@ impl Reach {
     pub fn copy(&self) -> Reach
         ensures { result ≡ self.now }
     {
-        let Ok(parties) = self.parties.clone() else {
+        let Ok(copied) = self.parties.clone() else {
             unreachable!();
         };
-        Reach { parties }
+        Reach { parties: copied }
     }
 }

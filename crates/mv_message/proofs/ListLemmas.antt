@@ -1,5 +1,5 @@
 -- Lists of values.
-use Rattle.std.proofs.Common.{◌≡◌, ℕ, ◌&&◌, List, [], ◌∷◌, ◌++◌, length, suc, ap, refl}
+use Rattle.std.proofs.Common.{◌≡◌, ◌&&◌, List, [], ◌∷◌, ◌++◌, length, suc, ap, refl}
 use Rattle.std.specs.Prelude.{is_some, Result, Ok}
 use Rattle.std.specs.List.{list_all}
 use Rattle.serde_json.specs.Find.{as_str}

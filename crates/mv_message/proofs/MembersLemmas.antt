@@ -1,6 +1,6 @@
 -- Keys of objects.
 use Rattle.std.proofs.Common.{◌≡◌, ℕ, ◌||◌, not, cond, true, false, map, Bool, List, [], ◌∷◌, ap, refl}
-use Rattle.std.specs.Prelude.{Option, Some, None, option_map, find, String, string_bytes}
+use Rattle.std.specs.Prelude.{Some, option_map, find, String, string_bytes}
 use Rattle.std.specs.declared.alloc.Global.{Global}
 use Rattle.std.specs.List.{list_any}
 use Rattle.serde_json.specs.View.{members_view}

@@ -7,7 +7,7 @@ use Rattle.serde_json.specs.Find.{get, as_str, as_array, as_object}
 use Rattle.mv_pack.specs.declared.fault.PackFault.{PackFault}
 use Rattle.mv_message.specs.declared.field.Field.{Field}
 use Rattle.mv_message.specs.declared.fault.MessageFault.{MessageFault}
-use Rattle.mv_message.specs.declared.fault.MessageFault.TheVariants.{Missing, Kind, Pack, Count, TextLength}
+use Rattle.mv_message.specs.declared.fault.MessageFault.TheVariants.{Missing, Kind, Count, TextLength}
 use Rattle.mv_message.specs.declared.reading.TheConstants.{MOST_TEXT_BYTES}
 use Rattle.mv_message.specs.Fields.{field_name}
 use Rattle.mv_message.specs.Reading.{◌and_then◌, some_or, of_field, member_at, text_at, limited, free_text_at, are_texts, count_of, texts_at, read_item, read_each}

@@ -1,20 +1,20 @@
 -- Reading a value gives a message exactly where the value is one of its spellings.
-use Rattle.std.proofs.Common.{◌≡◌, ◌∙◌, ◌↔◌, ◌≤◌, ◌<◌, ◌||◌, ◌&&◌, ℕ, suc, Bool, true, false, not, cond, List, [], ◌∷◌, length, map, ap, subst, refl, sym, arith}
+use Rattle.std.proofs.Common.{◌≡◌, ◌∙◌, ◌↔◌, ℕ, true, false, not, cond, List, [], ◌∷◌, ap, subst, refl, arith}
 use Rattle.std.specs.Prelude.{codes, Option, Some, None, Result, Ok, Err, find, bytes_eq, Contains, IsUtf8}
 use Rattle.std.specs.List.{AllByRecursion}
 use Rattle.std.specs.Cmp.Lexicographic.{nat_list_eq_equiv}
 use Rattle.std.proofs.lemmas.Map.Views.{Contains-from_any, list_any-from_Contains}
 use Rattle.std.proofs.lemmas.Slice.Eq.{bytes_eq-Decides}
-use Rattle.serde_json.specs.Data.{Data, string, array, object, Items, no_items, item, Members}
+use Rattle.serde_json.specs.Data.{Data, string, object, Items, no_items, item}
 use Rattle.serde_json.specs.Find.{as_object}
 use Rattle.serde_json.specs.Read.{read}
-use Rattle.mv_pack.specs.Gtin.{read_gtin, IsGtin}
+use Rattle.mv_pack.specs.Gtin.{read_gtin}
 use Rattle.mv_pack.specs.Market.{read_market, IsMarket}
 use Rattle.mv_pack.proofs.GtinLemmas.{read_gtin_of, read_gtin_is_gtin}
 use Rattle.mv_pack.proofs.MarketLemmas.{read_market_of, read_market_is_market}
 use Rattle.mv_message.specs.declared.field.Field.TheVariants as fields
 use Rattle.mv_message.specs.declared.fault.MessageFault.{MessageFault}
-use Rattle.mv_message.specs.declared.fault.MessageFault.TheVariants.{Kind, NotJson, NotObject, Unknown}
+use Rattle.mv_message.specs.declared.fault.MessageFault.TheVariants.{Kind, NotJson, NotObject}
 use Rattle.mv_message.specs.declared.form.Form.{Form}
 use Rattle.mv_message.specs.declared.form.Form.TheVariants as forms
 use Rattle.mv_message.specs.declared.lists.TheConstants.{MOST_MARKETS}
@@ -22,10 +22,10 @@ use Rattle.mv_message.specs.declared.message.Message.{Message}
 use Rattle.mv_message.specs.declared.message.Message.TheVariants as messages
 use Rattle.mv_message.specs.declared.message.Product.{Product}
 use Rattle.mv_message.specs.Members.{keys_of, is_among, first_unknown}
-use Rattle.mv_message.specs.Reading.{◌and_then◌, some_or, text_at, gtin_at, free_text_at, markets_at, texts_at, read_each}
+use Rattle.mv_message.specs.Reading.{◌and_then◌, some_or, text_at, gtin_at, free_text_at, markets_at}
 use Rattle.mv_message.specs.Forms.{form_named, form_at, names_of, unless_unknown, known_form_at}
 use Rattle.mv_message.specs.Messages.{read_message, read_bytes, master_at, message_at, value_of, strings}
-use Rattle.mv_message.specs.Reads.{HasOnly, HasText, SpellEach, HasProduct, Reads, IsLegal, AreMarkets}
+use Rattle.mv_message.specs.Reads.{HasOnly, HasText, SpellEach, HasProduct, Reads, IsLegal}
 use Rattle.mv_message.proofs.ValueLemmas.{utf8_test}
 use Rattle.mv_message.proofs.ReadingLemmas.{both_ok, some_or_ok, as_object_ok, text_ok, text_is_read, spelled, spelling_is_read, free_text_ok, free_text_is_read, spelled_list, spelling_list_is_read}
 

@@ -15,14 +15,40 @@ fn accepted<T: Drop>(answer: Result<T, MessageFault>) -> Result<T, Fail> {
     }
 }
 
-// The text that is written for a message that was read, and whether its copy, and what is read from its value, are it.
-fn written(alloc: Global, text: &str) -> Result<(String, bool, bool), Fail> {
-    let message = accepted(Message::read(alloc, text.as_bytes()))?;
+// The message that a text is.
+fn message_of(alloc: Global, text: &str) -> Result<Message, Fail> {
+    accepted(Message::read(alloc, text.as_bytes()))
+}
+
+// Whether a message is written as the text that it was read from.
+fn is_written_as_read(alloc: Global, text: &str) -> Result<bool, Fail> {
+    let message = message_of(alloc, text)?;
+    let written = accepted(message.text(alloc))?;
+    Ok(written.as_str() == text)
+}
+
+// Whether the copy of a message equals it.
+fn is_copied(alloc: Global, message: &Message) -> Result<bool, Fail> {
     let copy = accepted(message.copy(alloc))?;
-    let value = accepted(copy.to_value(alloc))?;
-    let again = accepted(Message::from_value(alloc, &value))?;
-    let text = accepted(message.text(alloc))?;
-    Ok((text, copy == message, again == message))
+    Ok(copy == *message)
+}
+
+// The message that is read from a message's value.
+fn read_again(alloc: Global, message: &Message) -> Result<Message, Fail> {
+    let value = accepted(message.to_value(alloc))?;
+    accepted(Message::from_value(alloc, &value))
+}
+
+// Whether what is read from the value of a message equals it.
+fn is_read_again(alloc: Global, text: &str) -> Result<bool, Fail> {
+    let message = message_of(alloc, text)?;
+    Ok(read_again(alloc, &message)? == message)
+}
+
+// Whether the copy of a message that is read equals it.
+fn is_read_and_copied(alloc: Global, text: &str) -> Result<bool, Fail> {
+    let message = message_of(alloc, text)?;
+    is_copied(alloc, &message)
 }
 
 // The number of the fault of some bytes, and the field or key that it names.
@@ -71,10 +97,9 @@ fn unknown_key(alloc: Global, text: &str) -> Result<String, Fail> {
 
 #[test]
 fn writes_a_master_as_it_was_read(rt: HostRuntime) -> Result<(), Fail> {
-    let (text, copied, read_again) = written(rt.alloc(), MASTER)?;
-    assert_eq!(rt; text.as_str(), MASTER);
-    assert!(rt; copied);
-    assert!(rt; read_again);
+    assert!(rt; is_written_as_read(rt.alloc(), MASTER)?);
+    assert!(rt; is_read_and_copied(rt.alloc(), MASTER)?);
+    assert!(rt; is_read_again(rt.alloc(), MASTER)?);
     Ok(())
 }
 

@@ -1,11 +1,10 @@
 -- Texts of capital letters.
 use Rattle.std.proofs.Common.{◌≡◌, ℕ, zero, suc, ◌<◌, ◌≤◌, List, [], ◌∷◌, Bool, true, length, get_or, ◌&&◌, false, ap, ◌∙◌, refl, subst, arith}
-use Rattle.std.specs.Prelude.{IsUtf8, ◌==◌, cond, Result, Ok, Err}
+use Rattle.std.specs.Prelude.{IsUtf8, ◌==◌, cond, Ok, Err}
 use Rattle.std.specs.List.{list_all}
 use Rattle.std.proofs.lemmas.Bool.Decides.{nat_tests}
 use Rattle.std.proofs.lemmas.Str.{IsUtf8-from_ascii}
 use Rattle.mv_pack.specs.Market.{is_capital, IsMarket, read_market}
-use Rattle.mv_pack.specs.declared.fault.PackFault.{PackFault}
 use Rattle.mv_pack.specs.declared.fault.PackFault.TheVariants.{Market}
 use Rattle.mv_pack.proofs.GtinLemmas.{and_left, and_right}
 

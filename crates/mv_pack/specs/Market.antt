@@ -1,5 +1,5 @@
 -- Markets: the Member States that a product is sold in, by the two capital letters of ISO 3166-1.
-use Rattle.std.specs.Prelude.{◌≡◌, ℕ, ◌==◌, ◌&&◌, not, Bool, List, length, nat_le, if◌then◌else◌, IsTrue, Result, Ok, Err}
+use Rattle.std.specs.Prelude.{◌≡◌, ℕ, ◌==◌, ◌&&◌, Bool, List, length, nat_le, if◌then◌else◌, IsTrue, Result, Ok, Err}
 use Rattle.std.specs.List.{list_all}
 use Rattle.mv_pack.specs.declared.fault.PackFault.{PackFault}
 use Rattle.mv_pack.specs.declared.fault.PackFault.TheVariants.{Market}

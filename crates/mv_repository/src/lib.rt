@@ -10,6 +10,8 @@ mod entry;
 mod laws;
 mod repository;
 mod sender;
+#[cfg(test)]
+mod tests;
 
 pub use effect::Effect;
 pub use entry::LogEntry;

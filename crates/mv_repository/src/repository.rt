@@ -71,7 +71,7 @@ impl Repository {
     pub fn from_sender(&self, sender: Party) -> FromSender<'_>
         ensures { result ≡ items_from self.now.log sender }
     {
-        FromSender::new(self.log.as_slice(), sender)
+        FromSender::new(self.log(), sender)
     }
 
     /// The entry of the last master of a code by stamp.

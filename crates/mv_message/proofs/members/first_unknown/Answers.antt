@@ -1,4 +1,4 @@
-use Rattle.std.proofs.Common.{◌≡◌, ◌∙◌, sym, ap, map}
+use Rattle.std.proofs.Common.{◌∙◌, sym, ap, map}
 use Rattle.std.specs.Prelude.{Some, option_map, string_bytes}
 use Rattle.std.specs.Option.{option_copied}
 use Rattle.mv_message.proofs.MembersLemmas.{first_unknown_of_entries}

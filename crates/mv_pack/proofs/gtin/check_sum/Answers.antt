@@ -1,4 +1,4 @@
-use Rattle.std.proofs.Common.{◌≡◌, ◌≤◌, ◌<◌, get_or, true, arith}
+use Rattle.std.proofs.Common.{get_or, arith}
 use Rattle.mv_pack.specs.Gtin.{is_digit}
 use Rattle.mv_pack.proofs.GtinLemmas.{weighted_sum_is_check_sum, digit_bounds, passes_at, weight_times_digit, weighted_sum-drop}
 use Rattle.mv_pack.proofs.gtin.check_sum.Goals as goal

@@ -1,5 +1,4 @@
-use Rattle.std.proofs.Common.{◌≡◌, ◌∙◌, ◌-◌, get_or, length, length-set, sym, ap, arith}
-use Rattle.std.proofs.lemmas.Grind.{common_steps}
+use Rattle.std.proofs.Common.{◌∙◌, ◌-◌, get_or, length, length-set, ap, arith}
 use Rattle.mv_pack.proofs.GtinLemmas.{next_value, all_values}
 use Rattle.mv_pack.proofs.gtin.Gtin.digits.Goals as goal
 

@@ -1,4 +1,4 @@
-use Rattle.std.proofs.Common.{◌≡◌, true, length, sym, subst, Err}
+use Rattle.std.proofs.Common.{◌≡◌, ℕ, true, length, sym, subst, Err}
 use Rattle.mv_pairs.proofs.PairsLemmas.{square-put}
 use Rattle.mv_machine.specs.State.{State, are_parties, sent_of, items_on}
 use Rattle.mv_system.specs.World.{parts_of, state_of, IsSystem, RelayFails}
@@ -10,8 +10,8 @@ pub returns-in-Err-clause-fault : goal.returns-in-Err-clause-fault
 returns-in-Err-clause-fault c =
     let a = c.self.inside in
     let parties = subst (λ (t : State). are_parties t c.args.from c.args.to ≡ true) (sym c.self.view_is) c.requires in
-    subst (λ (t : State). RelayFails (sent_of t c.args.from c.args.to) (length (items_on t c.args.from c.args.to)) (Err c.in-Err.fault)) c.self.view_is
-      (relay_fails a.hub c.args.from c.args.to (Err c.in-Err.fault) parties c.in-Err.ensures.fault)
+    subst (λ (t : State). RelayFails {A = ℕ} (sent_of t c.args.from c.args.to) (length (items_on t c.args.from c.args.to)) (Err c.in-Err.fault)) c.self.view_is
+      (relay_fails {A = ℕ} a.hub c.args.from c.args.to (Err c.in-Err.fault) parties c.in-Err.ensures.fault)
 
 pub invariant_of-self-2 : goal.invariant_of-self-2
 invariant_of-self-2 c =

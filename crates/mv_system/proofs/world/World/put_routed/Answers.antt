@@ -1,4 +1,4 @@
-use Rattle.std.proofs.Common.{◌≡◌, ◌+◌, ◌<◌, ◌∷◌, [], ◌++◌, ℕ, List, length, Some, true, arith, sym, ap, subst, ◌∙◌}
+use Rattle.std.proofs.Common.{◌≡◌, ◌+◌, ◌<◌, ◌∷◌, [], ◌++◌, ℕ, List, length, Some, Ok, Err, true, arith, sym, ap, subst, ◌∙◌}
 use Rattle.std.specs.Prelude.{slice_get, nat_lt}
 use Rattle.std.specs.Option.{option_copied}
 use Rattle.std.proofs.lemmas.List.{get_or_read}
@@ -33,10 +33,10 @@ returns-in-Err-clause-err c =
     let next : slice_get (submissions_of (state_of p) from) (routed_count a.hub.entries from) ≡ Some message =
           ap (λ l. slice_get l (routed_count a.hub.entries from)) (sym at) ∙ ap (slice_get c.index-of_sender.result.now) (sym c.routed_count-place.ensures.value) ∙ sym c.get.ensures ∙ ap option_copied c.in-Some.is in
     let row = route_waiting (state_of p) from message party next ∙ ap (route_unless (state_of p) from message) (sym (busy_party_is_full p from message c.self.invariant place)) in
-    let fails = subst (λ f. RouteFailsBy f (Rattle.std.proofs.Common.Err c.in-Err.fault)) (route_fault-party a.hub from message party) c.in-Err.ensures.fault in
+    let fails = subst (λ f. RouteFailsBy {A = ℕ} f (Err c.in-Err.fault)) (route_fault-party a.hub from message party) c.in-Err.ensures.fault in
     subst (λ (t : State). RouteRefuses t from c.in-Err.fault (state_of (parts_of a.limits c.route.new.self a.submissions.items a.wires a.accepted a.repositories.items))) c.self.view_is
     (subst (λ (h : HubState). RouteRefuses (state_of p) from c.in-Err.fault (state_of (parts_of a.limits h a.submissions.items a.wires a.accepted a.repositories.items))) (sym c.in-Err.ensures.err)
-    (refuses _ (state_of p) from message (busy_party a.hub from message) c.in-Err.fault row fails))
+    (refuses ℕ (state_of p) from message (busy_party a.hub from message) c.in-Err.fault row fails))
 
 pub invariant_of-self-2 : goal.invariant_of-self-2
 invariant_of-self-2 c =
@@ -65,7 +65,7 @@ returns-clause-ok c =
     let next : slice_get (submissions_of (state_of p) from) (routed_count a.hub.entries from) ≡ Some message =
           ap (λ l. slice_get l (routed_count a.hub.entries from)) (sym at) ∙ ap (slice_get c.index-of_sender.result.now) (sym c.routed_count-place.ensures.value) ∙ sym c.get.ensures ∙ ap option_copied c.in-Some.is in
     let row = route_waiting (state_of p) from message party next ∙ ap (route_unless (state_of p) from message) (sym (busy_party_is_full p from message c.self.invariant place)) in
-    let free = routed_full (busy_party a.hub from message) c.in-Ok.routed (subst (λ f. RouteFailsBy f (Rattle.std.proofs.Common.Ok c.in-Ok.routed)) (route_fault-party a.hub from message party) c.in-Ok.ensures.fault) in
+    let free = routed_full (busy_party a.hub from message) c.in-Ok.routed (subst (λ f. RouteFailsBy f (Ok c.in-Ok.routed)) (route_fault-party a.hub from message party) c.in-Ok.ensures.fault) in
     let after : State = state_of (parts_of a.limits (record a.hub { entries = a.hub.entries ++ next_entry a.hub from message ∷ [] }) a.submissions.items a.wires a.accepted a.repositories.items) in
     subst (λ (t : State). route t from ≡ record { reply = Routed c.in-Ok.routed.0 c.in-Ok.routed.1; state = state_of (parts_of a.limits c.route.new.self a.submissions.items a.wires a.accepted a.repositories.items) }) c.self.view_is
     (row ∙ ap (route_unless (state_of p) from message) free

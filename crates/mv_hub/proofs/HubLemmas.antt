@@ -75,9 +75,9 @@ next_items-are hub from to message reached receipts carried lt e first second =
     let last = Carried k (length hub.entries + 1) message ∷ [] in
     ap (λ l. l ++ carried) (first ∙ ap (λ r. cond open_here (Receipt k r (is_query message) ∷ []) []) e)
     ∙ ap (λ l. cond open_here (Receipt k (reach hub.parties hub.entries from message) (is_query message) ∷ []) [] ++ l)
-        (second ∙ ap (λ b. cond b last []) (has_party-reach hub.parties hub.entries from message reached to lt e))
+    (second ∙ ap (λ b. cond b last []) (has_party-reach hub.parties hub.entries from message reached to lt e))
     ∙ sym (ap (λ b. cond b (cond open_here (Receipt k (reach hub.parties hub.entries from message) (is_query message) ∷ []) []
-          ++ cond (is_reached hub.parties hub.entries from message to) last []) []) (eq-eqb from from refl))
+    ++ cond (is_reached hub.parties hub.entries from message to) last []) []) (eq-eqb from from refl))
 
 length-choices : {A : Type 0} (a b : Bool) (x y : A) → length (cond a (x ∷ []) [] ++ cond b (y ∷ []) []) ≡ bool_byte a + bool_byte b
 length-choices true true x y = refl
@@ -119,8 +119,8 @@ busy hub from to message link count carries sent e full =
     let total = carries.ends.count in
     let window = carries.window in
     either (nat_lt hub.window (length (items_on hub from to) - sent_of hub from to + length (next_items hub from message to)))
-      (nat_lt 4294967295 (length (items_on hub from to) + length (next_items hub from message to)))
-      (λ a b. full (omega (arith, ltb-false _ _ a), omega (arith, ltb-false _ _ b)))
+    (nat_lt 4294967295 (length (items_on hub from to) + length (next_items hub from message to)))
+    (λ a b. full (omega (arith, ltb-false _ _ a), omega (arith, ltb-false _ _ b)))
 
 -- a link that is not busy has room
 pub room : (hub : HubState) (from to : ℕ) (message : Message) (link : Sending)
@@ -131,7 +131,7 @@ room hub from to message link carries sent free =
     let total = carries.ends.count in
     let window = carries.window in
     let parts = neither (nat_lt hub.window (length (items_on hub from to) - sent_of hub from to + length (next_items hub from message to)))
-      (nat_lt 4294967295 (length (items_on hub from to) + length (next_items hub from message to))) free in
+    (nat_lt 4294967295 (length (items_on hub from to) + length (next_items hub from message to))) free in
     (omega (arith, ltb-false _ _ parts.0), omega (arith, ltb-false _ _ parts.1))
   where
     neither : (a b : Bool) → (a || b) ≡ false → (a ≡ false) × (b ≡ false)
@@ -153,10 +153,10 @@ rooms parties window entries links gains from message are is_from none e to lt =
     let count : length gains ≡ length parties = ap length e ∙ length-map-range_with_len (next_items hub from message) 0 (length parties) in
     let is_to : to < length parties = omega arith in
     let gain : get_or gains to [] ≡ next_items hub from message to =
-        ap (λ l. get_or l to []) e ∙ get_or-map-range_with_len (next_items hub from message) 0 (length parties) to to [] is_to (zero-add to) in
+    ap (λ l. get_or l to []) e ∙ get_or-map-range_with_len (next_items hub from message) 0 (length parties) to to [] is_to (zero-add to) in
     subst (λ l. HasRoom (link_at links from to) (length l)) (sym gain)
-      (room hub from to message (link_at links from to) (are.values from to is_from is_to) (sym (sent-at links from to))
-        (find-none_at (is_busy hub from message) to (length parties) is_to none))
+    (room hub from to message (link_at links from to) (are.values from to is_from is_to) (sym (sent-at links from to))
+    (find-none_at (is_busy hub from message) to (length parties) is_to none))
 
 -- the counts once a message was routed
 counts-routed : (n : ℕ) (entries : List Entry) (counts : List ℕ) (from : ℕ) (message : Message) → AreCounts n entries counts → from < n
@@ -167,17 +167,17 @@ counts-routed n entries counts from message are lt =
     record {
       each = length-set counts from k ∙ are.each;
       values = λ party below. elim (cases_eq party from) as (λ _. get_or (set counts from k) party 0 ≡ routed_count (entries ++ Routed from k message ∷ []) party) [
-          inl same ↦
+        | inl same ↦
             let here : get_or (set counts from k) from 0 ≡ routed_count (entries ++ Routed from k message ∷ []) from =
-                get_or-set_same counts from k 0 (omega (arith, are.each))
-                ∙ sym (more from ∙ ap (λ b. length (routed_from entries from ++ cond b (message ∷ []) [])) (eq-eqb from from refl)
-                  ∙ length-append (routed_from entries from) (message ∷ [])) in
+            get_or-set_same counts from k 0 (omega (arith, are.each))
+            ∙ sym (more from ∙ ap (λ b. length (routed_from entries from ++ cond b (message ∷ []) [])) (eq-eqb from from refl)
+            ∙ length-append (routed_from entries from) (message ∷ [])) in
             subst (λ p. get_or (set counts from k) p 0 ≡ routed_count (entries ++ Routed from k message ∷ []) p) (sym same) here
         | inr other ↦
             get_or-set_other counts from party k 0 other ∙ are.values party below
             ∙ sym (more party ∙ ap (λ b. length (routed_from entries party ++ cond b (message ∷ []) [])) (ne_eqb from party (λ e. other (sym e)))
-              ∙ ap length (append-nil (routed_from entries party)))
-        ];
+            ∙ ap length (append-nil (routed_from entries party)))
+      ];
     }
 
 carries-gain : (window : ℕ) (items more : List Item) (old new : Sending) → Carries window items old → Gains more old new → Carries window (items ++ more) new
@@ -194,23 +194,23 @@ links-routed parties window entries old new gains from message are e row =
     record {
       square = subst (λ n. IsSquare n new) count row.square;
       values = λ party to is_party is_to.
-        subst (λ l. Carries window l (link_at new party to)) (sym (link_items-push parties entries entry party to))
-        (elim (cases_eq party from) as (λ _. Carries window (link_items parties entries party to ++ gained parties entries entry party to) (link_at new party to)) [
-          inl same ↦
-            let gain : get_or gains to [] ≡ next_items hub from message to =
+          subst (λ l. Carries window l (link_at new party to)) (sym (link_items-push parties entries entry party to))
+          (elim (cases_eq party from) as (λ _. Carries window (link_items parties entries party to ++ gained parties entries entry party to) (link_at new party to)) [
+            | inl same ↦
+                let gain : get_or gains to [] ≡ next_items hub from message to =
                 ap (λ l. get_or l to []) e ∙ get_or-map-range_with_len (next_items hub from message) 0 (length parties) to to [] is_to (zero-add to) in
-            let here : Carries window (link_items parties entries from to ++ gained parties entries entry from to) (link_at new from to) =
+                let here : Carries window (link_items parties entries from to ++ gained parties entries entry from to) (link_at new from to) =
                 subst (λ l. Carries window (link_items parties entries from to ++ l) (link_at new from to)) gain
                 (carries-gain window (link_items parties entries from to) (get_or gains to []) (link_at old from to) (link_at new from to)
-                  (are.values from to (subst (λ p. p < length parties) same is_party) is_to) (row.gained to (omega arith))) in
-            subst (λ p. Carries window (link_items parties entries p to ++ gained parties entries entry p to) (link_at new p to)) (sym same) here
-        | inr other ↦
-            subst (Carries window (link_items parties entries party to ++ gained parties entries entry party to)) (sym (row.others party to other))
-            (subst (λ l. Carries window l (link_at old party to))
-              (sym (ap (λ l. link_items parties entries party to ++ l) (gained_other parties entries from (routed_count entries from + 1) message party to (ne_eqb from party (λ e. other (sym e))))
+                (are.values from to (subst (λ p. p < length parties) same is_party) is_to) (row.gained to (omega arith))) in
+                subst (λ p. Carries window (link_items parties entries p to ++ gained parties entries entry p to) (link_at new p to)) (sym same) here
+            | inr other ↦
+                subst (Carries window (link_items parties entries party to ++ gained parties entries entry party to)) (sym (row.others party to other))
+                (subst (λ l. Carries window l (link_at old party to))
+                (sym (ap (λ l. link_items parties entries party to ++ l) (gained_other parties entries from (routed_count entries from + 1) message party to (ne_eqb from party (λ e. other (sym e))))
                 ∙ append-nil (link_items parties entries party to)))
-              (are.values party to is_party is_to))
-        ]);
+                (are.values party to is_party is_to))
+          ]);
     }
 
 -- all that the hub keeps, once a message was routed
@@ -242,33 +242,6 @@ markets-routed entries old new from k message are updates gtin =
     updates gtin ∙ ap (λ m. last_markets_after m (Routed from k message ∷ []) gtin) (are gtin)
     ∙ sym (last_markets_after-append None entries (Routed from k message ∷ []) gtin)
 
--- a link that was relayed from carries what it did
-carries-relayed : (window : ℕ) (items : List Item) (old new : Sending) → Carries window items old → new ≡ link_relayed old → Carries window items new
-carries-relayed window items old new carries e =
-    subst (Carries window items) (sym e)
-      (record { window = carries.window; ends = record { front = carries.ends.front; whole = carries.ends.whole; count = carries.ends.count } })
-
--- all that the hub keeps, once an item was relayed
-pub kept-relayed : (parties : List (List (List ℕ))) (window : ℕ) (entries : List Entry) (counts : List ℕ) (table : List (List ℕ × List (List ℕ)))
-    (open_links : List (List Bool)) (links : List (List Sending)) (from to : ℕ) (new : Sending)
-    → IsKept parties window entries counts table open_links links → from < length parties → to < length parties
-    → new ≡ link_relayed (link_at links from to)
-    → IsKept parties window entries counts table open_links (put links from to new)
-kept-relayed parties window entries counts table open_links links from to new kept is_from is_to e = record {
-  some = kept.some;
-  few = kept.few;
-  wide = kept.wide;
-  narrow = kept.narrow;
-  are_counts = kept.are_counts;
-  are_markets = kept.are_markets;
-  are_open = kept.are_open;
-  are_links = record {
-    square = square-put (length parties) links from to new kept.are_links.square;
-    values = put-each_pair (λ a b v. a < length parties → b < length parties → Carries window (link_items parties entries a b) v) links from to new (new_sending 0)
-      (λ _ _. carries-relayed window (link_items parties entries from to) (link_at links from to) new (kept.are_links.values from to is_from is_to) e) kept.are_links.values;
-  };
-}
-
 -- what is known of a link, by what the hub is seen as
 pub record LinkFacts (hub : HubState) (from to : ℕ) (link : Sending) : Type 0 where
   pub carries : Carries hub.window (items_on hub from to) link
@@ -279,10 +252,10 @@ pub link-facts : (parties : List (List (List ℕ))) (window : ℕ) (entries : Li
     → link_at links from to ≡ link → LinkFacts hub from to link
 link-facts parties window entries links hub from to link are seen is_from is_to at =
     subst (λ (h : HubState). from < length h.parties → to < length h.parties → LinkFacts h from to link) seen
-      (λ p q. record {
-        carries = subst (Carries window (link_items parties entries from to)) at (are.values from to p q);
-        sent = ap (λ (v : Sending). v.sent) (sym at) ∙ sym (sent-at links from to);
-      }) is_from is_to
+    (λ p q. record {
+      carries = subst (Carries window (link_items parties entries from to)) at (are.values from to p q);
+      sent = ap (λ (v : Sending). v.sent) (sym at) ∙ sym (sent-at links from to);
+    }) is_from is_to
 
 -- and what the hub is seen as, once an item was relayed
 pub view-relayed : (parties : List (List (List ℕ))) (window : ℕ) (entries : List Entry) (links : List (List Sending)) (hub : HubState) (from to : ℕ) (new : Sending)
@@ -290,8 +263,8 @@ pub view-relayed : (parties : List (List (List ℕ))) (window : ℕ) (entries : 
     → view parties window entries (put links from to new) ≡ with_relayed hub from to
 view-relayed parties window entries links hub from to new seen e =
     subst (λ (h : HubState). new.sent ≡ sent_of h from to + 1 → view parties window entries (put links from to new) ≡ with_relayed h from to) seen
-      (λ e. ap {A = List (List ℕ)} {B = HubState} (λ l. record { parties = parties; window = window; entries = entries; sent = l })
-        (put-map (λ v. v.sent) links from to new ∙ ap (put (sent_table links) from to) e)) e
+    (λ e. ap {A = List (List ℕ)} {B = HubState} (λ l. record { parties = parties; window = window; entries = entries; sent = l })
+    (put-map (λ v. v.sent) links from to new ∙ ap (put (sent_table links) from to) e)) e
 
 -- a hub where nothing has happened keeps what it should
 pub kept-new : (parties : List (List (List ℕ))) (window : ℕ) (open_links : List (List Bool)) (links : List (List Sending))
@@ -311,8 +284,8 @@ kept-new parties window open_links links some few wide narrow open_square all_op
   are_links = record {
     square = square;
     values = λ from to p q.
-      let e = cell-all (λ v. v ≡ new_sending window) (length parties) links from to (new_sending 0) square fresh p q in
-      subst (Carries window []) (sym e) (record { window = refl; ends = record { front = []; whole = refl; count = refl } });
+        let e = cell-all (λ v. v ≡ new_sending window) (length parties) links from to (new_sending 0) square fresh p q in
+        subst (Carries window []) (sym e) (record { window = refl; ends = record { front = []; whole = refl; count = refl } });
   };
 }
 
@@ -321,7 +294,7 @@ pub view-new : (parties : List (List (List ℕ))) (window : ℕ) (links : List (
     → IsSquare (length parties) links → All (All (λ v. v ≡ new_sending window)) links → view parties window [] links ≡ new_hub parties window
 view-new parties window links square fresh =
     ap {A = List (List ℕ)} {B = HubState} (λ l. record { parties = parties; window = window; entries = []; sent = l })
-      (table-all (λ (v : Sending). v.sent) 0 (length parties) links square (λ k d lt j e below. ap (λ (v : Sending). v.sent) (fresh k d lt j e below)))
+    (table-all (λ (v : Sending). v.sent) 0 (length parties) links square (λ k d lt j e below. ap (λ (v : Sending). v.sent) (fresh k d lt j e below)))
 
 -- why a message of a stranger, and of a party, is not routed
 pub route_fault-stranger : (hub : HubState) (from : ℕ) (message : Message) → length hub.parties ≤ from → route_fault hub from message ≡ Some StrangerParty

@@ -13,11 +13,12 @@ pub last-of_front : {A : Type 0} (whole old new : List A) (last d : A) → old �
     → (get_or whole (length new) d ≡ last) × (new ≡ take (length new) whole) × (length old ≡ length new + 1)
 last-of_front whole old new last d front popped =
     let count : length old ≡ length new + 1 = ap length popped ∙ length_push new last in
-    let none : length new - length new ≡ 0 = omega arith in
-    ( sym (get_or-take (length old) whole (length new) d (omega arith)) ∙ ap (λ l. get_or l (length new) d) (sym front ∙ popped)
-        ∙ get_or-append_right new (last ∷ []) (length new) (length new) d refl (omega arith) ∙ ap (λ n. get_or (last ∷ []) n d) none
-    , sym (take_at new (last ∷ []) (length new) refl) ∙ ap (take (length new)) (sym popped ∙ front) ∙ take-take (length new) (length old) whole (omega arith)
-    , count )
+    let none : length new - length new ≡ 0 = omega arith in (
+      sym (get_or-take (length old) whole (length new) d (omega arith)) ∙ ap (λ l. get_or l (length new) d) (sym front ∙ popped)
+          ∙ get_or-append_right new (last ∷ []) (length new) (length new) d refl (omega arith) ∙ ap (λ n. get_or (last ∷ []) n d) none,
+      sym (take_at new (last ∷ []) (length new) refl) ∙ ap (take (length new)) (sym popped ∙ front) ∙ take-take (length new) (length old) whole (omega arith),
+      count,
+    )
 
 -- of the links from a party, those to this party and the parties above it gained their member of the list, and the others are as they were
 pub record RowFrom (from start : ℕ) (gains : List (List Item)) (old new : List (List Sending)) : Type 0 where
@@ -44,20 +45,20 @@ pub row-more : (from start : ℕ) (gains : List (List Item)) (old now : List (Li
 row-more from start gains old now link row is_from is_start more = record {
   square = square-put (length gains) now from start link row.square;
   gained = λ to above below. elim (cases_eq to start) as (λ _. Gains (get_or gains to []) (link_at old from to) (link_at (put now from start link) from to)) [
-      inl same ↦
+    | inl same ↦
         let here = cell-put_same (length gains) now from start link (new_sending 0) row.square is_from is_start in
         let first : Gains (get_or gains start []) (link_at old from start) (link_at (put now from start link) from start) =
-            subst (Gains (get_or gains start []) (link_at old from start)) (sym here)
-            (subst (λ v. Gains (get_or gains start []) v link) (row.others from start (inr (omega arith))) more) in
+        subst (Gains (get_or gains start []) (link_at old from start)) (sym here)
+        (subst (λ v. Gains (get_or gains start []) v link) (row.others from start (inr (omega arith))) more) in
         subst (λ t. Gains (get_or gains t []) (link_at old from t) (link_at (put now from start link) from t)) (sym same) first
     | inr other ↦
         subst (Gains (get_or gains to []) (link_at old from to)) (sym (cell-put_other now from start from to link (new_sending 0) (inr other)))
         (row.gained to (omega (arith, other)) below)
-    ];
+  ];
   others = λ party to. elim [
-      inl other ↦ cell-put_other now from start party to link (new_sending 0) (inl other) ∙ row.others party to (inl other)
+    | inl other ↦ cell-put_other now from start party to link (new_sending 0) (inl other) ∙ row.others party to (inl other)
     | inr below ↦ cell-put_other now from start party to link (new_sending 0) (inr (λ e. absurd (omega (arith, e, below)))) ∙ row.others party to (inr (omega (arith, below)))
-    ];
+  ];
   sent = put-map_same (λ v. v.sent) now from start link (new_sending 0) more.sent ∙ row.sent;
 }
 

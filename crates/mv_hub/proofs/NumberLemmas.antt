@@ -37,8 +37,11 @@ filter-range_more p n = ap (filter p) (range-more n) ∙ filter-append p (range_
 pub increasing-filter_range : (p : ℕ → Bool) (n : ℕ) → IsStrictlyIncreasing (filter p (range_with_len 0 n))
 increasing-filter_range p n =
     IsStrictlyIncreasing-filter p (range_with_len 0 n) (λ k lt.
-      omega (arith, get_or-range_with_len 0 n k 0 (omega (arith, length-range_with_len 0 n)),
-        get_or-range_with_len 0 n (k + 1) 0 (omega (arith, length-range_with_len 0 n))))
+    omega (
+      arith,
+      get_or-range_with_len 0 n k 0 (omega (arith, length-range_with_len 0 n)),
+      get_or-range_with_len 0 n (k + 1) 0 (omega (arith, length-range_with_len 0 n)),
+    ))
 
 -- the first number below a count that passes
 pub find-first : (p : ℕ → Bool) (i n : ℕ) → i < n → find p (range_with_len 0 i) ≡ None → p i ≡ true → find p (range_with_len 0 n) ≡ Some i
@@ -97,6 +100,6 @@ any-filter p x (y ∷ ys) =
 pub any-filter_range : (p : ℕ → Bool) (x n : ℕ) → x < n → list_any (λ other. other == x) (filter p (range_with_len 0 n)) ≡ p x
 any-filter_range p x n lt =
     let there : list_any (λ other. other == x) (range_with_len 0 n) ≡ true =
-        list_any_at (λ other. other == x) (range_with_len 0 n) x 0 (omega (arith, length-range_with_len 0 n))
-          (eq-eqb (get_or (range_with_len 0 n) x 0) x (get_or-range_with_len 0 n x 0 lt ∙ zero-add x)) in
+    list_any_at (λ other. other == x) (range_with_len 0 n) x 0 (omega (arith, length-range_with_len 0 n))
+    (eq-eqb (get_or (range_with_len 0 n) x 0) x (get_or-range_with_len 0 n x 0 lt ∙ zero-add x)) in
     any-filter p x (range_with_len 0 n) ∙ ap (λ b. b && p x) there

@@ -32,8 +32,8 @@ pub has_twice-push : (xs : List (List ℕ)) (market : List ℕ)
 has_twice-push [] market = refl
 has_twice-push (x ∷ xs) market =
     let here : has_market (xs ++ market ∷ []) x ≡ (has_market xs x || is_same_market x market) =
-        list_any-append (λ m. is_same_market m x) xs (market ∷ [])
-        ∙ ap (λ b. has_market xs x || b) (or-false (is_same_market market x) ∙ nat_list_eq_equiv.symm market x) in
+    list_any-append (λ m. is_same_market m x) xs (market ∷ [])
+    ∙ ap (λ b. has_market xs x || b) (or-false (is_same_market market x) ∙ nat_list_eq_equiv.symm market x) in
     ap (λ b. b || has_twice (xs ++ market ∷ [])) here ∙ ap (λ b. (has_market xs x || is_same_market x market) || b) (has_twice-push xs market)
     ∙ or-regroup (has_market xs x) (is_same_market x market) (has_twice xs) (has_market xs market)
 

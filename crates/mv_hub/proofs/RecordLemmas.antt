@@ -77,7 +77,7 @@ link_items_after-few parties before (Routed a k m ∷ entries) from to =
     routed_one : (c : Bool) → eqb a from ≡ c
         → length (link_items_after parties (before ++ Routed a k m ∷ []) entries from to) ≤ 2 * length (routed_from entries from)
         → length (gained parties before (Routed a k m) from to ++ link_items_after parties (before ++ Routed a k m ∷ []) entries from to)
-            ≤ 2 * length (cond (eqb a from) (m ∷ routed_from entries from) (routed_from entries from))
+        ≤ 2 * length (cond (eqb a from) (m ∷ routed_from entries from) (routed_from entries from))
     routed_one true e h = rw e (omega (arith, length-append (gained parties before (Routed a k m) from to) (link_items_after parties (before ++ Routed a k m ∷ []) entries from to), gained-few parties before a k m from to))
     routed_one false e h = rw (e, gained_other parties before a k m from to e) h
 

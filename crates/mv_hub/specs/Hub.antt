@@ -16,9 +16,9 @@ use Rattle.mv_hub.specs.Links.{gained, link_items}
 
 pub record HubState : Type 0 where
   pub parties : List (List (List ℕ))  -- the markets that each party serves, party 0 first
-  pub window : ℕ                      -- how many items each link keeps
-  pub entries : List Entry            -- the record, the oldest entry first
-  pub sent : List (List ℕ)            -- how many items of each link were relayed, by sender and receiver
+  pub window : ℕ  -- how many items each link keeps
+  pub entries : List Entry  -- the record, the oldest entry first
+  pub sent : List (List ℕ)  -- how many items of each link were relayed, by sender and receiver
 
 -- a hub where nothing has happened
 abbrev pub new_hub : List (List (List ℕ)) → ℕ → HubState
@@ -54,7 +54,7 @@ gains_of hub from message = map (next_items hub from message) (range_with_len 0 
 unfoldable pub is_busy : HubState → ℕ → Message → ℕ → Bool
 is_busy hub from message to =
     nat_lt hub.window (length (items_on hub from to) - sent_of hub from to + length (next_items hub from message to))
-        || nat_lt 4294967295 (length (items_on hub from to) + length (next_items hub from message to))
+    || nat_lt 4294967295 (length (items_on hub from to) + length (next_items hub from message to))
 
 -- the least party whose link has no room for the routing of a message
 unfoldable pub busy_party : HubState → ℕ → Message → Option ℕ

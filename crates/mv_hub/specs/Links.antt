@@ -13,8 +13,8 @@ unfoldable pub gained : List (List (List ℕ)) → List Entry → Entry → ℕ 
 gained parties before (Routed sender k message) from to =
     if sender == from
     then (if to == from && is_open before from from
-            then Receipt k (reach parties before from message) (is_query message) ∷ [] else [])
-        ++ (if is_reached parties before from message to then Carried k (length before + 1) message ∷ [] else [])
+    then Receipt k (reach parties before from message) (is_query message) ∷ [] else [])
+    ++ (if is_reached parties before from message to then Carried k (length before + 1) message ∷ [] else [])
     else []
 gained parties before (Closed sender receiver) from to = []
 

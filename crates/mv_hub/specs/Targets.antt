@@ -11,7 +11,7 @@ use Rattle.mv_hub.specs.Parties.{serves_one, served_by}
 unfoldable pub is_target : List (List (List ℕ)) → List Entry → Message → ℕ → Bool
 is_target parties entries (Master gtin product) party =
     serves_one (served_by parties party) (market_table entries gtin)
-        || serves_one (served_by parties party) product.markets
+    || serves_one (served_by parties party) product.markets
 
 -- a message from a party reaches another: it is a target, and the link between them is open
 unfoldable pub is_reached : List (List (List ℕ)) → List Entry → ℕ → Message → ℕ → Bool

@@ -6,7 +6,14 @@ use mv_message::{Message, Party};
 #[derive(Debug, PartialEq, Eq, Drop)]
 pub enum Entry {
     /// The hub routed a message: the `k`-th of the party `from`, counted from one.
-    Routed { from: Party, k: u32, message: Message },
+    Routed {
+        from: Party,
+        k: u32,
+        message: Message,
+    },
     /// The hub closed the link from one party to another, for ever.
-    Closed { from: Party, to: Party },
+    Closed {
+        from: Party,
+        to: Party,
+    },
 }

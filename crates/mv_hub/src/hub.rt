@@ -43,8 +43,12 @@ impl Model for Hub {
 
     ghost Value = { HubState };
 
-    ghost view = { λ a. record { parties = a.parties; window = a.window; entries = a.entries.items;
-        sent = sent_table a.links } };
+    ghost view = { λ a. record {
+      parties = a.parties;
+      window = a.window;
+      entries = a.entries.items;
+      sent = sent_table a.links;
+    } };
 
     ghost invariant = { λ a. IsKept a.parties a.window a.entries.items a.counts.items a.markets.entries
         a.open_links a.links };
@@ -63,17 +67,21 @@ impl Hub {
     {
         let count = parties.len();
         let counts = vec![in alloc; 0; count as usize]?;
-        let open_links = PairTable::from_fn(alloc, count, || -> Result<bool, AllocError>
-            ensures { IfOk result (λ is_open. is_open ≡ true) }
-        {
-            Ok(true)
-        })?;
-        let links = PairTable::from_fn(alloc, count, || -> Result<Outgoing, AllocError>
-            requires { (2 ≤ window) × (window ≤ 256) }
-            ensures { IfOk result (λ link. link ≡ new_sending window) }
-        {
-            Outgoing::new(alloc, window)
-        })?;
+        let open_links = PairTable::from_fn(
+            alloc,
+            count,
+            || -> Result<bool, AllocError>
+                ensures { IfOk result (λ is_open. is_open ≡ true) }
+            { Ok(true) },
+        )?;
+        let links = PairTable::from_fn(
+            alloc,
+            count,
+            || -> Result<Outgoing, AllocError>
+                requires { (2 ≤ window) × (window ≤ 256) }
+                ensures { IfOk result (λ link. link ≡ new_sending window) }
+            { Outgoing::new(alloc, window) },
+        )?;
         Ok(Hub {
             alloc,
             parties,
@@ -234,14 +242,20 @@ impl Hub {
     }
 
     /// The message as the routing of it puts it on a link, if it reaches the party there.
-    fn carried(&self, from: Party, to: Party, message: &Message, reached: &Reach) -> Result<Option<Item>, AllocError>
+    fn carried(
+        &self,
+        from: Party,
+        to: Party,
+        message: &Message,
+        reached: &Reach,
+    ) -> Result<Option<Item>, AllocError>
         requires from { from < length self.now.parties }
         requires few { length self.now.entries < 4294967295 }
         ensures { IfOk result (λ carried. option_to_list carried
             ≡ (if list_any (λ other. other == to) reached.now
-                then Carried (routed_count self.now.entries from + 1) (length self.now.entries + 1)
-                    message.now ∷ []
-                else [])) }
+            then Carried (routed_count self.now.entries from + 1) (length self.now.entries + 1)
+            message.now ∷ []
+            else [])) }
     {
         if !has_party(reached, to) {
             return Ok(None);
@@ -257,7 +271,13 @@ impl Hub {
     }
 
     /// What the routing of a message that reaches these parties puts on a link.
-    fn gain(&self, from: Party, to: Party, message: &Message, reached: &Reach) -> Result<Gain, AllocError>
+    fn gain(
+        &self,
+        from: Party,
+        to: Party,
+        message: &Message,
+        reached: &Reach,
+    ) -> Result<Gain, AllocError>
         requires from { from < length self.now.parties }
         requires to { to < length self.now.parties }
         requires few { length self.now.entries < 4294967295 }
@@ -270,7 +290,12 @@ impl Hub {
     }
 
     /// What the routing of a message that reaches these parties puts on each link of its sender.
-    fn gains(&self, from: Party, message: &Message, reached: &Reach) -> Result<Vec<Gain>, AllocError>
+    fn gains(
+        &self,
+        from: Party,
+        message: &Message,
+        reached: &Reach,
+    ) -> Result<Vec<Gain>, AllocError>
         requires from { from < length self.now.parties }
         requires few { length self.now.entries < 4294967295 }
         requires reached { reached.now ≡ reach self.now.parties self.now.entries from message.now }
@@ -284,7 +309,12 @@ impl Hub {
     }
 
     /// Puts the next message of a party into the record and the tables, and its gains on the links.
-    fn put_routed(&mut self, from: Party, message: &Message, gains: Vec<Gain>) -> Result<(), AllocError>
+    fn put_routed(
+        &mut self,
+        from: Party,
+        message: &Message,
+        gains: Vec<Gain>,
+    ) -> Result<(), AllocError>
         requires from { from < length self.old.parties }
         requires few { length self.old.entries < 4294967295 }
         requires room { busy_party self.old from message.now ≡ None }
@@ -296,7 +326,14 @@ impl Hub {
         let Ok(copy) = message.copy(self.alloc) else {
             return Err(AllocError);
         };
-        record(self.alloc, &mut self.entries, &mut self.markets, from, k, copy)?;
+        record(
+            self.alloc,
+            &mut self.entries,
+            &mut self.markets,
+            from,
+            k,
+            copy,
+        )?;
         // Nothing fails from here on.
         put_row(&mut self.links, from, gains);
         self.counts[from as usize] = k;
@@ -400,7 +437,7 @@ fn is_query(message: &Message) -> bool
 fn named_markets(alloc: Global, message: &Message) -> Result<(Gtin, Markets), AllocError>
     ensures { IfOk result (λ named. (from k : ℕ) (before : Option (List (List ℕ))) (gtin : List ℕ)
         → last_markets_after before (Routed from k message.now ∷ []) gtin
-            ≡ (if is_same_gtin named.0 gtin then Some named.1 else before)) }
+        ≡ (if is_same_gtin named.0 gtin then Some named.1 else before)) }
 {
     match message {
         Message::Master { gtin, product } => Ok((*gtin, product.markets.copy(alloc)?)),

@@ -72,14 +72,10 @@ fn keeps_its_log_in_the_order_of_arrival(rt: HostRuntime) -> Result<(), Fail> {
     }
     assert_eq!(rt; repository.party(), 1);
     assert_eq!(rt; repository.log().len(), 3);
-    assert_eq!(rt; repository.from_sender(1).count(), 2);
-    assert_eq!(rt; repository.from_sender(2).count(), 0);
-    assert!(rt;
-        matches!(
-            repository.from_sender(0).next(),
-            Some(Item::Receipt { k: 8, .. })
-        )
-    );
+    let mut items = repository.from_sender(1);
+    assert!(rt; matches!(items.next(), Some(Item::Receipt { k: 7, .. })));
+    assert!(rt; matches!(items.next(), Some(Item::Receipt { k: 9, .. })));
+    assert!(rt; items.next().is_none());
     Ok(())
 }
 

@@ -23,7 +23,8 @@ kind_named text =
 
 -- the fields of a line, in byte order of their names
 abbrev pub fields_of : LineKind → List LineField
-fields_of kinds.Open = fields.Do ∷ fields.Parties ∷ fields.Submissions ∷ fields.Uplink ∷ fields.Window ∷ fields.Wire ∷ []
+fields_of kinds.Open =
+    fields.Do ∷ fields.Parties ∷ fields.Submissions ∷ fields.Uplink ∷ fields.Window ∷ fields.Wire ∷ []
 fields_of kinds.Submit = fields.Do ∷ fields.From ∷ fields.Message ∷ []
 fields_of kinds.Route = fields.Do ∷ fields.From ∷ []
 fields_of kinds.Relay = fields.Do ∷ fields.From ∷ fields.To ∷ []

@@ -1,20 +1,23 @@
--- The replies to lines, by whatever a reply to one line may be: `Reply before line text after` says that the text is a right
--- reply to the line where `before` answers it, and that `after` answers the next.
+-- The replies to lines, by a rule that says what a reply to one line may be.
 use Rattle.std.specs.Prelude.{◌≡◌, ℕ, List, [], ◌∷◌, ◌++◌, flat_map}
 
--- each text is a reply to the line at its place
-abbrev pub AreReplies : {S : Type 0} → (S → List ℕ → List ℕ → S → Type 0) → S → List (List ℕ) → List (List ℕ) → S → Type 0
-AreReplies Reply before [] [] after = after ≡ before
-AreReplies Reply before [] (text ∷ texts) after = ⊥
-AreReplies Reply before (line ∷ lines) [] after = ⊥
-AreReplies {S = S} Reply before (line ∷ lines) (text ∷ texts) after =
-    (between : S) × Reply before line text between × AreReplies Reply between lines texts after
+-- Which replies to a line are right: what answers before the line, the line, the reply's text, and what answers the next line.
+abbrev pub ReplyRule : Type 0 → Type 1
+ReplyRule S = S → List ℕ → List ℕ → S → Type 0
+
+-- each text is a right reply to the line at its place
+abbrev pub AreReplies : {S : Type 0} → ReplyRule S → S → List (List ℕ) → List (List ℕ) → S → Type 0
+AreReplies rule before [] [] after = after ≡ before
+AreReplies rule before [] (text ∷ texts) after = ⊥
+AreReplies rule before (line ∷ lines) [] after = ⊥
+AreReplies {S = S} rule before (line ∷ lines) (text ∷ texts) after =
+    (between : S) × rule before line text between × AreReplies rule between lines texts after
 
 -- the bytes of texts that each end by a line feed (10)
 abbrev pub text_lines : List (List ℕ) → List ℕ
 text_lines texts = flat_map (λ text. text ++ 10 ∷ []) texts
 
--- these bytes are replies to the lines, each ended by a line feed
-abbrev pub IsReplies : {S : Type 0} → (S → List ℕ → List ℕ → S → Type 0) → S → List (List ℕ) → List ℕ → S → Type 0
-IsReplies Reply before lines out after =
-    (texts : List (List ℕ)) × (out ≡ text_lines texts) × AreReplies Reply before lines texts after
+-- these bytes are right replies to the lines, each ended by a line feed
+abbrev pub IsReplies : {S : Type 0} → ReplyRule S → S → List (List ℕ) → List ℕ → S → Type 0
+IsReplies rule before lines out after =
+    (texts : List (List ℕ)) × (out ≡ text_lines texts) × AreReplies rule before lines texts after

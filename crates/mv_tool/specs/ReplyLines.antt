@@ -36,7 +36,8 @@ refused code = object (member (codes "refused") (string code) no_members)
 
 -- a refusal that names a field
 abbrev pub refused_field : List ℕ → List ℕ → Data
-refused_field field code = object (member (codes "field") (string field) (member (codes "refused") (string code) no_members))
+refused_field field code =
+    object (member (codes "field") (string field) (member (codes "refused") (string code) no_members))
 
 -- the refusal of a text that is no value (M6): why it is none, and its field
 abbrev pub refused_pack : List ℕ → List ℕ → Data

@@ -1,4 +1,4 @@
--- What a line may be answered. What is open is the state of the list machine, or nothing before an opening has succeeded.
+-- What a line may be answered. What is open is the state of the list machine; nothing, before an opening succeeds.
 use Rattle.std.specs.Prelude.{◌≡◌, ℕ, List, length, Option, Some, None, Result, Ok, Err}
 use Rattle.serde_json.specs.Data.{Data}
 use Rattle.serde_json.specs.Written.{compact_text}

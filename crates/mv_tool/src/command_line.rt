@@ -16,8 +16,8 @@ enum Task {
 
 /// Reads the words, the program's name first, runs what they ask for, and answers the exit status, that of a `Status`.
 ///
-/// What is read comes from `reader`, what is asked for goes to `writer`, help too, and what went wrong to `faults`. A write to
-/// `faults` that fails is passed over. No clause says more: the text of a parse is its library's.
+/// What is read comes from `reader`, what is asked for goes to `writer`, help too, and what went wrong to `faults`. A
+/// write to `faults` that fails is passed over. No clause says more: the text of a parse is its library's.
 pub fn command<R: Read, W: Write, F: Write>(
     alloc: Global,
     words: Vec<String>,

@@ -11,8 +11,8 @@ use crate::limits::{BLOCK_LEN, INTERRUPTIONS_LIMIT};
 use std::alloc::Global;
 use std::io::{ErrorKind, Read, Write};
 
-/// Writes the reply to each line that is read, and nothing else. A line is known to be whole by its line feed, or by the end of
-/// the input.
+/// Writes the reply to each line that is read, and nothing else. A line is known to be whole by its line feed, or by the
+/// end of the input.
 pub(crate) fn answer_lines<S: Answering, R: Read, W: Write>(
     alloc: Global,
     answering: &mut S,

@@ -4,7 +4,7 @@ ghost use Rattle.std.specs.Prelude.{◌≡◌};
 
 /// A field of a line, other than those of the message that it holds.
 #[derive(Clone, Copy, Debug, PartialEq, Eq)]
-pub enum LineField {
+pub(crate) enum LineField {
     /// `do`: what is asked.
     Do,
     /// `from`: the party that something comes from.
@@ -29,7 +29,7 @@ impl LineField {
     ghost use Rattle.mv_tool.specs.Fields.{field_name};
 
     /// The name of the field.
-    pub fn as_str(self) -> &'static str
+    pub(crate) fn as_str(self) -> &'static str
         ensures { result.now ≡ field_name self }
     {
         match self {

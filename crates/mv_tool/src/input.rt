@@ -5,7 +5,7 @@ ghost use Rattle.std.specs.Io.BufRead.{strip_last};
 ghost use Rattle.mv_tool.specs.Lines.{last_piece, lines_of};
 ghost use Rattle.mv_tool.specs.Replies.{IsReplies};
 ghost use Rattle.std.specs.Io.KnownBytes.{Appends};
-ghost use Rattle.mv_tool.specs.Served.{Taken, Stopped, Halted, HaltedLast};
+ghost use Rattle.mv_tool.specs.Served.{Wrote, Readied, Taken, Stopped, Halted, HaltedLast};
 ghost use Rattle.mv_tool.specs.declared.limits.TheConstants.{LINE_LIMIT as line_limit, LINES_LIMIT as lines_limit};
 
 use crate::answering::Answering;
@@ -47,9 +47,9 @@ impl Input {
         writer: &mut W,
         bytes: &[u8],
     ) -> Result<(), ServeFault>
-        ensures ok { OnOk result ((out : List ℕ) × Appends (W.contents writer.old) (W.contents writer.new) out
-            × Taken S.replies self.old.begun.items self.old.lines answering.old bytes.now
-            self.new.begun.items self.new.lines answering.new out) }
+        ensures ok { OnOk result (Wrote (W.contents writer.old) (W.contents writer.new) (λ out.
+            Taken S.replies self.old.begun.items self.old.lines answering.old bytes.now
+            self.new.begun.items self.new.lines answering.new out)) }
         ensures err { IfErr result (λ fault.
             Halted S.replies fault self.old.begun.items self.old.lines answering.old bytes.now
             (W.contents writer.old) (W.contents writer.new)) }
@@ -66,8 +66,9 @@ impl Input {
         answering: &mut S,
         writer: &mut W,
     ) -> Result<(), ServeFault>
-        ensures ok { OnOk result ((out : List ℕ) × Appends (W.contents writer.old) (W.contents writer.new) out
-            × IsReplies S.replies answering.old (lines_of (last_piece self.old.begun.items)) out answering.new) }
+        ensures ok { OnOk result (Wrote (W.contents writer.old) (W.contents writer.new) (λ out.
+            IsReplies S.replies answering.old (lines_of (last_piece self.old.begun.items))
+            out answering.new)) }
         ensures err { IfErr result (λ fault.
             HaltedLast S.replies fault answering.old (lines_of (last_piece self.old.begun.items))
             (W.contents writer.old) (W.contents writer.new)) }
@@ -80,11 +81,13 @@ impl Input {
 
     /// Takes the next bytes, and answers the lines that end in them.
     fn take_all<S: Answering>(&mut self, answering: &mut S, bytes: &[u8]) -> Result<(), ServeFault>
-        ensures ok { OnOk result ((out : List ℕ) × (self.new.replies.items ≡ self.old.replies.items ++ out)
-            × Taken S.replies self.old.begun.items self.old.lines answering.old bytes.now
-            self.new.begun.items self.new.lines answering.new out) }
-        ensures err { IfErr result (λ fault. (out : List ℕ) × (self.new.replies.items ≡ self.old.replies.items ++ out)
-            × Stopped S.replies fault self.old.begun.items self.old.lines answering.old bytes.now out) }
+        ensures ok { OnOk result (Readied self.old.replies.items self.new.replies.items (λ out.
+            Taken S.replies self.old.begun.items self.old.lines answering.old bytes.now
+            self.new.begun.items self.new.lines answering.new out)) }
+        ensures err { IfErr result (λ fault.
+            Readied self.old.replies.items self.new.replies.items (λ out.
+            Stopped S.replies fault self.old.begun.items self.old.lines answering.old
+            bytes.now out)) }
     {
         for byte in bytes {
             self.take(answering, *byte)?;
@@ -94,11 +97,13 @@ impl Input {
 
     /// Takes the next byte, and answers the line that it ends.
     fn take<S: Answering>(&mut self, answering: &mut S, byte: u8) -> Result<(), ServeFault>
-        ensures ok { OnOk result ((out : List ℕ) × (self.new.replies.items ≡ self.old.replies.items ++ out)
-            × Taken S.replies self.old.begun.items self.old.lines answering.old (byte ∷ [])
-            self.new.begun.items self.new.lines answering.new out) }
-        ensures err { IfErr result (λ fault. (out : List ℕ) × (self.new.replies.items ≡ self.old.replies.items ++ out)
-            × Stopped S.replies fault self.old.begun.items self.old.lines answering.old (byte ∷ []) out) }
+        ensures ok { OnOk result (Readied self.old.replies.items self.new.replies.items (λ out.
+            Taken S.replies self.old.begun.items self.old.lines answering.old (byte ∷ [])
+            self.new.begun.items self.new.lines answering.new out)) }
+        ensures err { IfErr result (λ fault.
+            Readied self.old.replies.items self.new.replies.items (λ out.
+            Stopped S.replies fault self.old.begun.items self.old.lines answering.old
+            (byte ∷ []) out)) }
     {
         if self.lines == LINES_LIMIT {
             return Err(ServeFault::TooManyLines);
@@ -118,8 +123,9 @@ impl Input {
 
     /// Answers the line that has come, where it isn't empty.
     fn answer<S: Answering>(&mut self, answering: &mut S) -> Result<(), ServeFault>
-        ensures ok { OnOk result ((out : List ℕ) × (self.new.replies.items ≡ self.old.replies.items ++ out)
-            × IsReplies S.replies answering.old (lines_of (self.old.begun.items ∷ [])) out answering.new) }
+        ensures ok { OnOk result (Readied self.old.replies.items self.new.replies.items (λ out.
+            IsReplies S.replies answering.old (lines_of (self.old.begun.items ∷ []))
+            out answering.new)) }
         ensures fault { IfErr result (λ fault. fault ≡ ServeFault.Memory) }
         ensures err { IfErr result (λ _. self.new.replies.items ≡ self.old.replies.items) }
         ensures begun { self.new.begun ≡ self.old.begun }
@@ -137,8 +143,9 @@ impl Input {
 
     /// Answers the last line, if the input doesn't end by a line feed.
     fn finish<S: Answering>(&mut self, answering: &mut S) -> Result<(), ServeFault>
-        ensures ok { OnOk result ((out : List ℕ) × (self.new.replies.items ≡ self.old.replies.items ++ out)
-            × IsReplies S.replies answering.old (lines_of (last_piece self.old.begun.items)) out answering.new) }
+        ensures ok { OnOk result (Readied self.old.replies.items self.new.replies.items (λ out.
+            IsReplies S.replies answering.old (lines_of (last_piece self.old.begun.items))
+            out answering.new)) }
         ensures fault { IfErr result (λ fault. fault ≡ ServeFault.Memory) }
         ensures err { IfErr result (λ _. self.new.replies.items ≡ self.old.replies.items) }
     {

@@ -1,7 +1,7 @@
 //! The program's inside: lines in, reply lines out, over any reader and writer.
 //!
-//! The program is its user. The contract: `serve` writes the replies to the lines that it reads, by the definitions in `specs/`: what
-//! the lines of some bytes are, what a line asks, and which reply it may get from the list machine.
+//! The program is its user. The contract: `serve` writes the replies to the lines that it reads, by the definitions in
+//! `specs/`: what the lines of some bytes are, what a line asks, and which reply it may get from the list machine.
 #![tactic(auto)]
 
 mod answering;
@@ -25,12 +25,11 @@ mod steps;
 
 pub use command_line::command;
 pub use fault::ServeFault;
-pub use field::LineField;
-pub use line_fault::LineFault;
-pub use market_lists::MarketLists;
-pub use open_fault::OpenFault;
-pub use reply_line::{line_fault_text, opened_text, refused_text, reply_text};
-pub use request::Request;
+use field::LineField;
+use line_fault::LineFault;
+use market_lists::MarketLists;
+use open_fault::OpenFault;
+use request::Request;
 pub use status::Status;
 pub use steps::serve;
 

@@ -16,7 +16,7 @@ use std::marker::Model;
 
 /// A list of markets for each party, party 0 first.
 #[derive(Debug, Drop)]
-pub struct MarketLists {
+pub(crate) struct MarketLists {
     lists: Vec<Vec<Market>>,
 }
 
@@ -30,14 +30,14 @@ impl Model for MarketLists {
 
 impl MarketLists {
     /// The lists of a vector.
-    pub fn new(lists: Vec<Vec<Market>>) -> MarketLists
+    pub(crate) fn new(lists: Vec<Vec<Market>>) -> MarketLists
         ensures { result ≡ map (λ list. list.items) lists.items }
     {
         MarketLists { lists }
     }
 
     /// The lists.
-    pub fn into_lists(self) -> Vec<Vec<Market>>
+    pub(crate) fn into_lists(self) -> Vec<Vec<Market>>
         ensures { map (λ list. list.items) result.items ≡ self }
     {
         self.lists

@@ -9,7 +9,7 @@ use std::alloc::AllocError;
 
 /// Why a line is refused by what is open.
 #[derive(Clone, Copy, Debug, PartialEq, Eq)]
-pub enum OpenFault {
+pub(crate) enum OpenFault {
     /// C1: no opening has succeeded.
     NotOpen,
     /// C2: an opening has succeeded.
@@ -26,7 +26,7 @@ impl OpenFault {
     ghost use Rattle.mv_tool.specs.Openings.{code_of};
 
     /// The number of the fault, as `C1`.
-    pub fn code(self) -> &'static str
+    pub(crate) fn code(self) -> &'static str
         ensures { result.now ≡ code_of self }
     {
         match self {

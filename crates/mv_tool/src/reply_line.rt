@@ -13,7 +13,7 @@ use std::alloc::{AllocError, Global};
 
 /// The text of the reply to a step.
 #[tactic(auto, using(crate::proofs::ReplyLineLemmas::reply_no_float))]
-pub fn reply_text(alloc: Global, reply: &Reply) -> Result<String, AllocError>
+pub(crate) fn reply_text(alloc: Global, reply: &Reply) -> Result<String, AllocError>
     ensures { IfOk result (λ text. string_bytes text ≡ compact_text (reply_value reply.now)) }
 {
     reply_to_value(alloc, reply)?.to_string(alloc)
@@ -21,21 +21,21 @@ pub fn reply_text(alloc: Global, reply: &Reply) -> Result<String, AllocError>
 
 /// The text of the refusal of a line that asks nothing.
 #[tactic(auto, using(crate::proofs::ReplyLineLemmas::line_fault_no_float))]
-pub fn line_fault_text(alloc: Global, fault: &LineFault) -> Result<String, AllocError>
+pub(crate) fn line_fault_text(alloc: Global, fault: &LineFault) -> Result<String, AllocError>
     ensures { IfOk result (λ text. string_bytes text ≡ compact_text (line_fault_value fault.now)) }
 {
     line_fault_to_value(alloc, fault)?.to_string(alloc)
 }
 
 /// The text of the reply to an opening with so many parties.
-pub fn opened_text(alloc: Global, count: u32) -> Result<String, AllocError>
+pub(crate) fn opened_text(alloc: Global, count: u32) -> Result<String, AllocError>
     ensures { IfOk result (λ text. string_bytes text ≡ compact_text (opened_value count)) }
 {
     opened_to_value(alloc, count)?.to_string(alloc)
 }
 
 /// The text of a refusal by its number.
-pub fn refused_text(alloc: Global, code: &str) -> Result<String, AllocError>
+pub(crate) fn refused_text(alloc: Global, code: &str) -> Result<String, AllocError>
     ensures { IfOk result (λ text. string_bytes text ≡ compact_text (refused code.now)) }
 {
     refused(alloc, code)?.to_string(alloc)

@@ -15,7 +15,7 @@ use std::alloc::Global;
 
 /// What a line asks.
 #[derive(Debug, Drop)]
-pub enum Request {
+pub(crate) enum Request {
     /// To open a system of these parties and limits, which are as the line has them.
     Open {
         parties: MarketLists,
@@ -31,11 +31,11 @@ pub enum Request {
 impl Request {
     /// Reads a line.
     ///
-    /// The first of these that holds is the fault: M1, the bytes are no JSON; M2, the value is no object; M3 or M5 of `do`;
-    /// M4 with the first key, in byte order, that such lines do not have; then the faults of the fields, in byte order of
-    /// their names. Want of memory may stand in place of any answer.
+    /// The first of these that holds is the fault: M1, the bytes are no JSON; M2, the value is no object; M3 or M5 of
+    /// `do`; M4 with the first key, in byte order, that such lines do not have; then the faults of the fields, in byte
+    /// order of their names. Want of memory may stand in place of any answer.
     #[tactic(auto, using(mv_message::proofs::ValueLemmas::utf8_test, mv_message::proofs::ValueLemmas::utf8_fact))]
-    pub fn read(alloc: Global, line: &[u8]) -> Result<Request, LineFault>
+    pub(crate) fn read(alloc: Global, line: &[u8]) -> Result<Request, LineFault>
         ensures { Gives result (read_line line.now) }
     {
         match Value::from_slice(alloc, line) {

@@ -15,7 +15,7 @@ use mv_system::World;
 use std::alloc::{AllocError, Global};
 use std::marker::Model;
 
-/// The system that is open, seen as the state of the list machine, and none before an opening has succeeded.
+/// The system that is open, seen as the state of the list machine; none before an opening has succeeded.
 #[derive(Drop)]
 pub(crate) struct Session {
     alloc: Global,

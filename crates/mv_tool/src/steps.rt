@@ -11,10 +11,11 @@ use crate::session::Session;
 use std::alloc::Global;
 use std::io::{Read, Write};
 
-/// Writes the reply to each line that is read, in order, each ended by a line feed, and nothing else. An empty line gets none.
+/// Writes the reply to each line that is read, in order, each ended by a line feed, and nothing else. An empty line gets
+/// none.
 ///
-/// A line is at most 65,536 bytes long, and a run has at most 1,000,000. All whole lines of what one read gave are answered, and their
-/// replies written and flushed, before the next read.
+/// A line is at most 65,536 bytes long, and a run has at most 1,000,000. All whole lines of what one read gave are
+/// answered, and their replies written and flushed, before the next read.
 pub fn serve<R: Read, W: Write>(
     alloc: Global,
     reader: &mut R,

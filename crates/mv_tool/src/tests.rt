@@ -1,6 +1,7 @@
 //! Readers and writers that fail, limits, and the lines of worked examples.
 
 use super::*;
+use crate::reply_line::{line_fault_text, opened_text, refused_text, reply_text};
 use arrayvec::ArrayVec;
 use mv_link::Reach;
 use mv_machine::{Refusal, Reply, Step};
@@ -9,7 +10,8 @@ use std::io;
 use std::io::{ErrorKind, Read, Write};
 use std::test::Fail;
 
-/// Gives the text in reads of at most `size` bytes, once `interrupted` reads were interrupted. The read number `fails_at` fails.
+/// Gives the text in reads of at most `size` bytes, once `interrupted` reads were interrupted. The read number
+/// `fails_at` fails.
 #[derive(Drop)]
 struct Script<'a> {
     text: &'a [u8],
@@ -300,8 +302,7 @@ fn writes_replies_as_canonical_texts(rt: HostRuntime) -> Result<(), Fail> {
     Ok(())
 }
 
-/// Runs the command on these words behind the program's name. Gives the exit status, and whether something was written to the
-/// output and to the faults.
+/// Runs the command on these words behind the program's name. Gives the exit status.
 fn run_command(
     alloc: Global,
     words: &[&str],

@@ -14,11 +14,11 @@ put-requires c =
     let last = last-of_front c.args.gains.items c.loop-gain.gains.items left c.in-Some.gain [] c.loop-gain.invariant.rest c.in-Some.ensures.items in
     let to : length left ≡ c.len-to.result = omega arith in
     let link : link_at c.args.links.now c.args.from (length left) ≡ c.at_mut-link.result.now =
-        sym (c.loop-gain.invariant.row.others c.args.from (length left) (inr (omega (arith, last.2))))
-        ∙ ap (link_at c.loop-gain.links c.args.from) to ∙ c.at_mut-link.ensures.value (new_sending 0) in
+    sym (c.loop-gain.invariant.row.others c.args.from (length left) (inr (omega (arith, last.2))))
+    ∙ ap (link_at c.loop-gain.links c.args.from) to ∙ c.at_mut-link.ensures.value (new_sending 0) in
     subst (λ v. HasRoom v (length c.in-Some.gain)) link
-      (subst (λ g. HasRoom (link_at c.args.links.now c.args.from (length left)) (length g)) last.0
-        (c.requires.room (length left) (omega (arith, last.2, c.loop-gain.invariant.within))))
+    (subst (λ g. HasRoom (link_at c.args.links.now c.args.from (length left)) (length g)) last.0
+    (c.requires.room (length left) (omega (arith, last.2, c.loop-gain.invariant.within))))
 
 pub loop-gain-preserved : goal.loop-gain-preserved
 loop-gain-preserved c =
@@ -26,13 +26,13 @@ loop-gain-preserved c =
     let last = last-of_front c.args.gains.items c.loop-gain.gains.items left c.in-Some.gain [] c.loop-gain.invariant.rest c.in-Some.ensures.items in
     let to : c.len-to.result ≡ length left = omega arith in
     let link : link_at c.loop-gain.links c.args.from (length left) ≡ c.at_mut-link.result.now =
-        ap (link_at c.loop-gain.links c.args.from) (sym to) ∙ c.at_mut-link.ensures.value (new_sending 0) in
+    ap (link_at c.loop-gain.links c.args.from) (sym to) ∙ c.at_mut-link.ensures.value (new_sending 0) in
     record {
       row = rw to (row-more c.args.from (length left) c.args.gains.items c.args.links.now c.loop-gain.links c.put.new.link
           (subst (λ n. RowFrom c.args.from n c.args.gains.items c.args.links.now c.loop-gain.links) last.2 c.loop-gain.invariant.row)
           c.requires.from (omega (arith, last.2, c.loop-gain.invariant.within))
           (subst (λ g. Gains g (link_at c.loop-gain.links c.args.from (length left)) c.put.new.link) (sym last.0)
-            (subst (λ v. Gains c.in-Some.gain v c.put.new.link) (sym link) c.put.ensures)));
+          (subst (λ v. Gains c.in-Some.gain v c.put.new.link) (sym link) c.put.ensures)));
       rest = last.1;
       within = omega (arith, last.2, c.loop-gain.invariant.within);
     }

@@ -10,7 +10,7 @@ returns-then-repeats c =
     let last = c.as_slice.ensures.value ∙ ap (λ v. v.items) c.index-lists-i.is in
     let front = all_markets (map (λ list. list.items) (take c.loop-i.i c.args.lists.now)) in
     sym (lists-found (λ list. list.items) c.args.lists.now (c.loop-i.i + 1)
-      (ap has_twice more ∙ ap (λ l. has_twice (front ++ l)) (sym last) ∙ sym c.repeats.ensures ∙ c.if-repeats.true))
+    (ap has_twice more ∙ ap (λ l. has_twice (front ++ l)) (sym last) ∙ sym c.repeats.ensures ∙ c.if-repeats.true))
 
 pub loop-i-preserved : goal.loop-i-preserved
 loop-i-preserved c =

@@ -8,15 +8,15 @@ pub returns-then-has_market : goal.returns-then-has_market
 returns-then-has_market c =
     let i = c.loop-list.list-index in
     let more = has_market-lists_more (λ list. list.items) c.args.lists.now i c.list-item.result c.args.market
-        c.loop-list-test.true c.loop-list.invariant in
+    c.loop-list-test.true c.loop-list.invariant in
     let item = c.as_slice.ensures.value ∙ ap (λ v. v.items) c.list-item.is in
     sym (has_market-lists_found (λ list. list.items) c.args.lists.now (i + 1) c.args.market
-      (more ∙ ap (λ l. has_market l c.args.market) (sym item) ∙ sym c.has_market.ensures ∙ c.if-has_market.true))
+    (more ∙ ap (λ l. has_market l c.args.market) (sym item) ∙ sym c.has_market.ensures ∙ c.if-has_market.true))
 
 pub loop-list-preserved : goal.loop-list-preserved
 loop-list-preserved c =
     let i = c.loop-list.list-index in
     let more = has_market-lists_more (λ list. list.items) c.args.lists.now i c.list-item.result c.args.market
-        c.loop-list-test.true c.loop-list.invariant in
+    c.loop-list-test.true c.loop-list.invariant in
     let item = c.as_slice.ensures.value ∙ ap (λ v. v.items) c.list-item.is in
     more ∙ ap (λ l. has_market l c.args.market) (sym item) ∙ sym c.has_market.ensures ∙ c.if-has_market.false

@@ -10,7 +10,7 @@ returns-then-stands c =
     let more = repeats-more before c.args.list.now c.loop-i.i c.index-list-i.result c.loop-i-test.true c.loop-i.invariant in
     let here = c.index-list-i.is in
     sym (repeats-found before c.args.list.now (c.loop-i.i + 1)
-      (more ∙ ap (λ m. has_market (before ++ take c.loop-i.i c.args.list.now) m) (sym here) ∙ sym c.stands.ensures ∙ c.if-stands.true))
+    (more ∙ ap (λ m. has_market (before ++ take c.loop-i.i c.args.list.now) m) (sym here) ∙ sym c.stands.ensures ∙ c.if-stands.true))
 
 pub loop-i-preserved : goal.loop-i-preserved
 loop-i-preserved c =

@@ -12,7 +12,7 @@ returns-in_err-count-clause-err g c =
     rw (p.1, p.2, c.in_err-count.ensures.fault) (
       c.loop.invariant.0,
       Consumes-kept _ _ _ _ c.loop.invariant.1 c.in_err-count.ensures.err,
-      (c.loop.invariant.2, c.loop.invariant.3, c.loop.answering, c.loop.invariant.4.replied),
+      (c.loop.invariant.2, c.loop.invariant.3, (c.loop.answering, c.loop.invariant.4.replied)),
     )
 
 -- the bytes that were read stopped it

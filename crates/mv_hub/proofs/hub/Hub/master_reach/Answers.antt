@@ -22,9 +22,9 @@ loop-to-preserved c =
     let to = c.loop-to.to in
     let more = filter-range_more p to in
     let here : c.is_reached.result ≡ p to =
-        c.is_reached.ensures
-        ∙ ap (λ l. (serves_one (served_by hub.parties to) l || serves_one (served_by hub.parties to) c.as_slice-after.result.now) && is_open hub.entries c.args.from to) c.market_table-before.ensures
-        ∙ ap (λ l. (serves_one (served_by hub.parties to) (market_table hub.entries c.args.gtin.now) || serves_one (served_by hub.parties to) l) && is_open hub.entries c.args.from to) c.as_slice-after.ensures in
+    c.is_reached.ensures
+    ∙ ap (λ l. (serves_one (served_by hub.parties to) l || serves_one (served_by hub.parties to) c.as_slice-after.result.now) && is_open hub.entries c.args.from to) c.market_table-before.ensures
+    ∙ ap (λ l. (serves_one (served_by hub.parties to) (market_table hub.entries c.args.gtin.now) || serves_one (served_by hub.parties to) l) && is_open hub.entries c.args.from to) c.as_slice-after.ensures in
     grind (arith, common_steps)
 
 pub returns : goal.returns

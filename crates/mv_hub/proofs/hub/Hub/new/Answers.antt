@@ -16,11 +16,11 @@ invariant_of-result c =
     (subst (λ l. IsKept parties c.args.window [] l c.new-2.result.entries c.in_ok-open_links.open_links c.in_ok-links.links) (sym counts)
     (subst (λ l. IsKept parties c.args.window [] (replicate (length parties) 0) l c.in_ok-open_links.open_links c.in_ok-links.links) (sym c.new-2.ensures.empty)
     (kept-new parties c.args.window c.in_ok-open_links.open_links c.in_ok-links.links c.len-count.ensures.some c.len-count.ensures.few c.requires.wide c.requires.narrow
-      (subst (λ n. IsSquare n c.in_ok-open_links.open_links) count c.in_ok-open_links.ensures.square) c.in_ok-open_links.ensures.each
-      (subst (λ n. IsSquare n c.in_ok-links.links) count c.in_ok-links.ensures.square) c.in_ok-links.ensures.each)))
+    (subst (λ n. IsSquare n c.in_ok-open_links.open_links) count c.in_ok-open_links.ensures.square) c.in_ok-open_links.ensures.each
+    (subst (λ n. IsSquare n c.in_ok-links.links) count c.in_ok-links.ensures.square) c.in_ok-links.ensures.each)))
 
 pub returns : goal.returns
 returns c =
     ap (λ l. view c.args.parties c.args.window l c.in_ok-links.links) c.new.ensures.items
     ∙ view-new c.args.parties c.args.window c.in_ok-links.links
-        (subst (λ n. IsSquare n c.in_ok-links.links) c.len-count.ensures.value c.in_ok-links.ensures.square) c.in_ok-links.ensures.each
+    (subst (λ n. IsSquare n c.in_ok-links.links) c.len-count.ensures.value c.in_ok-links.ensures.square) c.in_ok-links.ensures.each

@@ -35,9 +35,9 @@ put_row-requires-clause-room c =
     let a = c.self.inside in
     let back = sym c.self.view_is in
     rooms a.parties a.window a.entries.items a.links c.args.gains.items c.args.from c.args.message.now c.self.invariant.are_links
-      (omega (arith, ap (λ (h : HubState). length h.parties) c.self.view_is, c.requires.from))
-      (subst (λ (h : HubState). busy_party h c.args.from c.args.message.now ≡ _) back c.requires.room)
-      (subst (λ (h : HubState). c.args.gains.items ≡ gains_of h c.args.from c.args.message.now) back c.requires.gains)
+    (omega (arith, ap (λ (h : HubState). length h.parties) c.self.view_is, c.requires.from))
+    (subst (λ (h : HubState). busy_party h c.args.from c.args.message.now ≡ _) back c.requires.room)
+    (subst (λ (h : HubState). c.args.gains.items ≡ gains_of h c.args.from c.args.message.now) back c.requires.gains)
 
 pub invariant_of-self-2 : goal.invariant_of-self-2
 invariant_of-self-2 c =
@@ -46,13 +46,13 @@ invariant_of-self-2 c =
     let message = c.args.message.now in
     let back = sym c.self.view_is in
     let count : c.routed_count-k.result + 1 ≡ routed_count a.entries.items from + 1 =
-        ap (λ n. n + 1) (c.routed_count-k.ensures.value ∙ ap (λ (h : HubState). routed_count h.entries from) back) in
+    ap (λ n. n + 1) (c.routed_count-k.ensures.value ∙ ap (λ (h : HubState). routed_count h.entries from) back) in
     let entries : c.record.new.entries.items ≡ a.entries.items ++ Routed from (routed_count a.entries.items from + 1) message ∷ [] =
-        c.in_ok-record.ensures.ok ∙ ap (λ k. a.entries.items ++ Routed from k c.in-Ok.copy ∷ []) count
-        ∙ ap (λ m. a.entries.items ++ Routed from (routed_count a.entries.items from + 1) m ∷ []) c.in-Ok.ensures.copy in
+    c.in_ok-record.ensures.ok ∙ ap (λ k. a.entries.items ++ Routed from k c.in-Ok.copy ∷ []) count
+    ∙ ap (λ m. a.entries.items ++ Routed from (routed_count a.entries.items from + 1) m ∷ []) c.in-Ok.ensures.copy in
     subst (λ l. IsKept a.parties a.window l (set a.counts.items from (c.routed_count-k.result + 1)) c.record.new.markets.entries a.open_links c.put_row.new.links) (sym entries)
     (subst (λ k. IsKept a.parties a.window (a.entries.items ++ Routed from (routed_count a.entries.items from + 1) message ∷ []) (set a.counts.items from k) c.record.new.markets.entries a.open_links c.put_row.new.links) (sym count)
     (kept-routed a.parties a.window a.entries.items a.counts.items a.markets.entries c.record.new.markets.entries a.open_links a.links c.put_row.new.links c.args.gains.items from message
-      c.self.invariant (omega (arith, ap (λ (h : HubState). length h.parties) c.self.view_is, c.requires.from))
-      (subst (λ (h : HubState). c.args.gains.items ≡ gains_of h from message) back c.requires.gains) c.put_row.ensures
-      (subst (λ l. AreMarkets l c.record.new.markets.entries) entries c.in_ok-record.ensures.markets)))
+    c.self.invariant (omega (arith, ap (λ (h : HubState). length h.parties) c.self.view_is, c.requires.from))
+    (subst (λ (h : HubState). c.args.gains.items ≡ gains_of h from message) back c.requires.gains) c.put_row.ensures
+    (subst (λ l. AreMarkets l c.record.new.markets.entries) entries c.in_ok-record.ensures.markets)))

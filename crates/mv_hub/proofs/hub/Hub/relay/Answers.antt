@@ -2,7 +2,7 @@ use Rattle.std.proofs.Common.{◌≡◌, ◌<◌, length, arith, ◌+◌, sym, �
 use Rattle.mv_link.specs.Sending.{new_sending}
 use Rattle.mv_pairs.proofs.PairsLemmas.{put-read}
 use Rattle.mv_hub.specs.Hub.{HubState}
-use Rattle.mv_hub.proofs.HubLemmas.{LinkFacts, view, link-facts, view-relayed, kept-relayed}
+use Rattle.mv_hub.proofs.HubLemmas.{LinkFacts, view, link-facts, view-relayed}
 use Rattle.mv_hub.proofs.hub.Hub.relay.Goals as goal
 
 -- a refused link is put back as it was
@@ -10,14 +10,14 @@ pub returns-in-Err-Nothing-clause-err : goal.returns-in-Err-Nothing-clause-err
 returns-in-Err-Nothing-clause-err c =
     let a = c.self.inside in
     ap (view a.parties a.window a.entries.items)
-      (put-read a.links c.args.from c.args.to c.relay.new.self (new_sending 0) (c.in-Err-Nothing.ensures.err ∙ sym (c.at_mut-link.ensures.value (new_sending 0))))
+    (put-read a.links c.args.from c.args.to c.relay.new.self (new_sending 0) (c.in-Err-Nothing.ensures.err ∙ sym (c.at_mut-link.ensures.value (new_sending 0))))
     ∙ c.self.view_is
 
 pub returns-in-Err-Memory-clause-err : goal.returns-in-Err-Memory-clause-err
 returns-in-Err-Memory-clause-err c =
     let a = c.self.inside in
     ap (view a.parties a.window a.entries.items)
-      (put-read a.links c.args.from c.args.to c.relay.new.self (new_sending 0) (c.in-Err-Memory.ensures.err ∙ sym (c.at_mut-link.ensures.value (new_sending 0))))
+    (put-read a.links c.args.from c.args.to c.relay.new.self (new_sending 0) (c.in-Err-Memory.ensures.err ∙ sym (c.at_mut-link.ensures.value (new_sending 0))))
     ∙ c.self.view_is
 
 pub returns-clause-number : goal.returns-clause-number
@@ -25,8 +25,8 @@ returns-clause-number c =
     let a = c.self.inside in
     let count = ap length c.parties.ensures.value in
     let facts : LinkFacts c.args.self.now c.args.from c.args.to c.at_mut-link.result.now =
-        link-facts a.parties a.window a.entries.items a.links c.args.self.now c.args.from c.args.to c.at_mut-link.result.now c.self.invariant.are_links c.self.view_is
-          (omega (arith, c.len-count.ensures.value, c.if-from-count.false)) (omega (arith, c.len-count.ensures.value, c.if-to-count.false)) (c.at_mut-link.ensures.value (new_sending 0)) in
+    link-facts a.parties a.window a.entries.items a.links c.args.self.now c.args.from c.args.to c.at_mut-link.result.now c.self.invariant.are_links c.self.view_is
+    (omega (arith, c.len-count.ensures.value, c.if-from-count.false)) (omega (arith, c.len-count.ensures.value, c.if-to-count.false)) (c.at_mut-link.ensures.value (new_sending 0)) in
     c.in-Ok.ensures.number ∙ ap (λ n. n + 1) facts.sent
 
 pub returns-clause-ok : goal.returns-clause-ok
@@ -34,7 +34,7 @@ returns-clause-ok c =
     let a = c.self.inside in
     let count = ap length c.parties.ensures.value in
     let facts : LinkFacts c.args.self.now c.args.from c.args.to c.at_mut-link.result.now =
-        link-facts a.parties a.window a.entries.items a.links c.args.self.now c.args.from c.args.to c.at_mut-link.result.now c.self.invariant.are_links c.self.view_is
-          (omega (arith, c.len-count.ensures.value, c.if-from-count.false)) (omega (arith, c.len-count.ensures.value, c.if-to-count.false)) (c.at_mut-link.ensures.value (new_sending 0)) in
+    link-facts a.parties a.window a.entries.items a.links c.args.self.now c.args.from c.args.to c.at_mut-link.result.now c.self.invariant.are_links c.self.view_is
+    (omega (arith, c.len-count.ensures.value, c.if-from-count.false)) (omega (arith, c.len-count.ensures.value, c.if-to-count.false)) (c.at_mut-link.ensures.value (new_sending 0)) in
     view-relayed a.parties a.window a.entries.items a.links c.args.self.now c.args.from c.args.to c.relay.new.self c.self.view_is
-      (ap (λ v. v.sent) c.in-Ok.ensures.ok ∙ ap (λ n. n + 1) facts.sent)
+    (ap (λ v. v.sent) c.in-Ok.ensures.ok ∙ ap (λ n. n + 1) facts.sent)

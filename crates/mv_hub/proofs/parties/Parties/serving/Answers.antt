@@ -11,5 +11,5 @@ loop-party-preserved c =
     grind (arith, common_steps)
 
 pub new-requires : goal.new-requires
-new-requires c = subst IsStrictlyIncreasing (sym c.loop-party.invariant.found) 
-      (increasing-filter_range (λ party. serves_one (served_by c.args.self.now party) c.args.wanted.now) c.loop-party.party)
+new-requires c = subst IsStrictlyIncreasing (sym c.loop-party.invariant.found)
+    (increasing-filter_range (λ party. serves_one (served_by c.args.self.now party) c.args.wanted.now) c.loop-party.party)

@@ -12,16 +12,21 @@ use std::test::Fail;
 /// The master of one product for Finland, in canonical form.
 const MASTER: &str = "{\"common\":\"paracetamol\",\"form\":\"tablet\",\"gtin\":\"09506000134352\",\"markets\":[\"FI\"],\"msg\":\"master\",\"name\":\"Examplin\",\"pack_size\":\"30\",\"pack_type\":\"blister\",\"scheme\":\"GTIN\",\"strength\":\"500 mg\"}";
 
+/// The message that a text is.
+fn message_of(rt: &HostRuntime, text: &str) -> Result<Message, MessageFault> {
+    Message::read(rt.alloc(), text.as_bytes())
+}
+
 /// The message, read again where memory was refused once.
 fn master(rt: &HostRuntime) -> Result<Message, Fail> {
-    match Message::read(rt.alloc(), MASTER.as_bytes()) {
+    match message_of(rt, MASTER) {
         Err(MessageFault::Memory) => {}
         first => {
             let message = first.ok().ok_or("a master")?;
             return Ok(message);
         }
     }
-    let message = Message::read(rt.alloc(), MASTER.as_bytes()).ok().ok_or("a master")?;
+    let message = message_of(rt, MASTER).ok().ok_or("a master")?;
     Ok(message)
 }
 
@@ -59,6 +64,23 @@ fn reply_at_last(rt: &impl Abort, world: &mut World, step: &Step) -> Reply {
     world.step(step)
 }
 
+/// Whether a reply says that the first message was routed to the party of Finland.
+fn is_routed(reply: &Reply) -> bool {
+    match reply {
+        Reply::Routed { k: 1, reach } => matches!(reach.as_slice(), [1]),
+        _ => false,
+    }
+}
+
+/// Whether the repository of Finland knows the product.
+fn is_known(rt: &impl Abort, world: &World, gtin: &Gtin) -> bool {
+    assert!(rt; world.is_party(1));
+    match world.repository(1).product(gtin) {
+        Some(product) => product.name.as_str() == "Examplin",
+        None => false,
+    }
+}
+
 #[test]
 fn carries_a_master_from_its_json_to_its_market(rt: HostRuntime) -> Result<(), Fail> {
     let message = master(&rt)?;
@@ -68,13 +90,8 @@ fn carries_a_master_from_its_json_to_its_market(rt: HostRuntime) -> Result<(), F
     };
     let reply = reply_at_last(&rt, &mut world, &Step::Submit { from: 0, message });
     assert_eq!(rt; reply, Reply::Submitted { k: 1 });
-    match reply_at_last(&rt, &mut world, &Step::Route { from: 0 }) {
-        Reply::Routed { k, reach } => {
-            assert_eq!(rt; k, 1);
-            assert!(rt; reach.as_slice() == [1].as_slice());
-        }
-        _ => assert!(rt; false),
-    }
+    let reply = reply_at_last(&rt, &mut world, &Step::Route { from: 0 });
+    assert!(rt; is_routed(&reply));
     let reply = reply_at_last(&rt, &mut world, &Step::Relay { from: 0, to: 1 });
     assert_eq!(rt; reply, Reply::Relayed { number: 1 });
     let reply = reply_at_last(&rt, &mut world, &Step::Apply { from: 0, to: 1 });
@@ -86,11 +103,7 @@ fn carries_a_master_from_its_json_to_its_market(rt: HostRuntime) -> Result<(), F
     let reply = reply_at_last(&rt, &mut world, &Step::Relay { from: 0, to: 2 });
     assert_eq!(rt; reply, Reply::Refused(Refusal::Nothing));
     assert_eq!(rt; lengths(&rt, &world), [1, 1, 1, 1]);
-
-    assert!(rt; world.is_party(1));
     let gtin = Gtin::read("09506000134352").ok().ok_or("a GTIN")?;
-    let known = world.repository(1).product(&gtin).ok_or("a product")?;
-    assert_eq!(rt; known.name.as_str(), "Examplin");
-    assert!(rt; known.markets.as_slice() == [Market::read("FI").ok().ok_or("a market")?].as_slice());
+    assert!(rt; is_known(&rt, &world, &gtin));
     Ok(())
 }

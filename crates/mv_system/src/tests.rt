@@ -6,7 +6,8 @@ use mv_link::Item;
 use mv_machine::{Limits, Refusal, Reply, Step};
 use mv_message::{Markets, Message, Party, Product, Text};
 use mv_pack::{Gtin, Market};
-use mv_repository::Effect;
+use mv_repository::{Effect, LogEntry};
+use std::process::Abort;
 use std::test::Fail;
 
 /// A free text.
@@ -61,95 +62,112 @@ fn submit(rt: &HostRuntime, from: Party, market: &str) -> Result<Step, Fail> {
     Ok(Step::Submit { from, message })
 }
 
-/// Whether a reply says that the k-th message was routed to these parties.
-fn is_routed(reply: &Reply, k: u32, parties: &[Party]) -> bool {
+/// The reply to a step.
+fn reply_to(world: &mut World, step: &Step) -> Reply {
+    world.step(step)
+}
+
+/// The reply where the hub routes the next message of a party.
+fn routed(world: &mut World, from: Party) -> Reply {
+    world.step(&Step::Route { from })
+}
+
+/// The reply where the next frame of a link goes on its wire.
+fn relayed(world: &mut World, from: Party, to: Party) -> Reply {
+    world.step(&Step::Relay { from, to })
+}
+
+/// The reply where a repository takes the front frame of a wire.
+fn applied(world: &mut World, from: Party, to: Party) -> Reply {
+    world.step(&Step::Apply { from, to })
+}
+
+/// Whether a reply says that the k-th message was routed to one party.
+fn is_routed(reply: &Reply, k: u32, party: Party) -> bool {
     match reply {
-        Reply::Routed { k: number, reach } => *number == k && reach.as_slice() == parties,
+        Reply::Routed { k: number, reach } => *number == k && matches!(reach.as_slice(), [only] if *only == party),
         _ => false,
     }
+}
+
+/// The name of the product that the repository of a party knows.
+fn has_product(rt: &impl Abort, world: &World, party: Party, gtin: &Gtin) -> bool {
+    assert!(rt; world.is_party(party));
+    match world.repository(party).product(gtin) {
+        Some(product) => product.name.as_str() == "Examplin",
+        None => false,
+    }
+}
+
+/// What every reader shows once the master was applied.
+fn shows_what_happened(rt: &impl Abort, world: &World) {
+    assert!(rt; world.is_party(0));
+    assert!(rt; world.is_party(1));
+    assert!(rt; !world.is_party(3));
+    assert!(rt; matches!(world.sub(0), [Message::Master { .. }]));
+    assert!(rt; matches!(world.record(), [Entry::Routed { from: 0, k: 1, .. }]));
+    assert!(rt; matches!(world.log(1), [LogEntry { sender: 0, item: Item::Carried { k: 1, stamp: 1, .. } }]));
+    assert_eq!(rt; world.hub().record().len(), 1);
 }
 
 #[test]
 fn carries_a_master_to_the_market_it_names(rt: HostRuntime) -> Result<(), Fail> {
     let mut world = opened(&rt, 8, 8, 8, 1000)?;
-    let reply = world.step(&submit(&rt, 0, "FI")?);
+    let reply = reply_to(&mut world, &submit(&rt, 0, "FI")?);
     assert_eq!(rt; reply, Reply::Submitted { k: 1 });
-    let reply = world.step(&Step::Route { from: 0 });
-    assert!(rt; is_routed(&reply, 1, [1].as_slice()));
-    let reply = world.step(&Step::Relay { from: 0, to: 1 });
-    assert_eq!(rt; reply, Reply::Relayed { number: 1 });
-    let reply = world.step(&Step::Apply { from: 0, to: 1 });
-    assert_eq!(rt; reply, Reply::Applied { number: 1, effect: Effect::Done });
-    let reply = world.step(&Step::Relay { from: 0, to: 0 });
-    assert_eq!(rt; reply, Reply::Relayed { number: 1 });
-    let reply = world.step(&Step::Apply { from: 0, to: 0 });
-    assert_eq!(rt; reply, Reply::Applied { number: 1, effect: Effect::Noted });
-    let reply = world.step(&Step::Relay { from: 0, to: 2 });
-    assert_eq!(rt; reply, Reply::Refused(Refusal::Nothing));
-
-    assert!(rt; world.is_party(0) && world.is_party(1) && world.is_party(2));
-    assert!(rt; !world.is_party(3));
-    let wanted = master(&rt, "FI")?;
-    assert!(rt; world.sub(0) == [wanted].as_slice());
-    assert!(rt; matches!(world.record(), [Entry::Routed { from: 0, k: 1, .. }]));
-    assert!(rt; matches!(world.log(1)[0].item, Item::Carried { k: 1, stamp: 1, .. }));
-    assert_eq!(rt; world.log(2).len(), 0);
+    assert!(rt; is_routed(&routed(&mut world, 0), 1, 1));
+    assert_eq!(rt; relayed(&mut world, 0, 1), Reply::Relayed { number: 1 });
+    assert_eq!(rt; applied(&mut world, 0, 1), Reply::Applied { number: 1, effect: Effect::Done });
+    assert_eq!(rt; relayed(&mut world, 0, 0), Reply::Relayed { number: 1 });
+    assert_eq!(rt; applied(&mut world, 0, 0), Reply::Applied { number: 1, effect: Effect::Noted });
+    assert_eq!(rt; relayed(&mut world, 0, 2), Reply::Refused(Refusal::Nothing));
+    shows_what_happened(&rt, &world);
     let gtin = gtin()?;
-    let known = world.repository(1).product(&gtin).ok_or("a product")?;
-    assert_eq!(rt; known.name.as_str(), "Examplin");
-    assert!(rt; world.repository(2).product(&gtin).is_none());
-    assert_eq!(rt; world.hub().total(0, 1), 1);
+    assert!(rt; has_product(&rt, &world, 1, &gtin));
+    assert!(rt; !has_product(&rt, &world, 2, &gtin));
     Ok(())
 }
 
 #[test]
 fn refuses_each_step_by_its_number(rt: HostRuntime) -> Result<(), Fail> {
     let mut world = opened(&rt, 8, 1, 8, 1)?;
-    let reply = world.step(&Step::Route { from: 0 });
-    assert_eq!(rt; reply, Reply::Refused(Refusal::UplinkEmpty));
-    let reply = world.step(&Step::Apply { from: 0, to: 1 });
-    assert_eq!(rt; reply, Reply::Refused(Refusal::WireEmpty));
-    let reply = world.step(&submit(&rt, 0, "FI")?);
+    assert_eq!(rt; routed(&mut world, 0), Reply::Refused(Refusal::UplinkEmpty));
+    assert_eq!(rt; applied(&mut world, 0, 1), Reply::Refused(Refusal::WireEmpty));
+    let reply = reply_to(&mut world, &submit(&rt, 0, "FI")?);
     assert_eq!(rt; reply, Reply::Submitted { k: 1 });
-    let reply = world.step(&submit(&rt, 0, "FI")?);
+    let reply = reply_to(&mut world, &submit(&rt, 0, "FI")?);
     assert_eq!(rt; reply, Reply::Refused(Refusal::SenderFull));
-    let reply = world.step(&Step::Route { from: 9 });
-    assert_eq!(rt; reply, Reply::Refused(Refusal::Party));
-    let reply = world.step(&Step::Route { from: 0 });
-    assert!(rt; is_routed(&reply, 1, [1].as_slice()));
-    let reply = world.step(&Step::Route { from: 0 });
-    assert_eq!(rt; reply, Reply::Refused(Refusal::UplinkEmpty));
-    let reply = world.step(&Step::Relay { from: 0, to: 1 });
-    assert_eq!(rt; reply, Reply::Relayed { number: 1 });
-    let reply = world.step(&Step::Relay { from: 0, to: 1 });
-    assert_eq!(rt; reply, Reply::Refused(Refusal::WireFull));
+    assert_eq!(rt; routed(&mut world, 9), Reply::Refused(Refusal::Party));
+    assert!(rt; is_routed(&routed(&mut world, 0), 1, 1));
+    assert_eq!(rt; routed(&mut world, 0), Reply::Refused(Refusal::UplinkEmpty));
+    assert_eq!(rt; relayed(&mut world, 0, 1), Reply::Relayed { number: 1 });
+    assert_eq!(rt; relayed(&mut world, 0, 1), Reply::Refused(Refusal::WireFull));
     Ok(())
 }
 
 #[test]
 fn refuses_what_a_full_window_or_uplink_has_no_room_for(rt: HostRuntime) -> Result<(), Fail> {
     let mut world = opened(&rt, 2, 8, 1, 1000)?;
-    for k in 1..3u32 {
-        let reply = world.step(&submit(&rt, 0, "FI")?);
-        assert_eq!(rt; reply, Reply::Submitted { k });
-        let reply = world.step(&Step::Route { from: 0 });
-        assert!(rt; is_routed(&reply, k, [1].as_slice()));
-    }
-    let reply = world.step(&submit(&rt, 0, "FI")?);
+    let _ = reply_to(&mut world, &submit(&rt, 0, "FI")?);
+    assert!(rt; is_routed(&routed(&mut world, 0), 1, 1));
+    let _ = reply_to(&mut world, &submit(&rt, 0, "FI")?);
+    assert!(rt; is_routed(&routed(&mut world, 0), 2, 1));
+    let reply = reply_to(&mut world, &submit(&rt, 0, "FI")?);
     assert_eq!(rt; reply, Reply::Submitted { k: 3 });
-    let reply = world.step(&submit(&rt, 0, "FI")?);
+    let reply = reply_to(&mut world, &submit(&rt, 0, "FI")?);
     assert_eq!(rt; reply, Reply::Refused(Refusal::UplinkFull));
-    let reply = world.step(&Step::Route { from: 0 });
-    assert_eq!(rt; reply, Reply::Refused(Refusal::Busy(0)));
-    let reply = world.step(&Step::Relay { from: 0, to: 0 });
-    assert_eq!(rt; reply, Reply::Relayed { number: 1 });
-    let reply = world.step(&Step::Route { from: 0 });
-    assert_eq!(rt; reply, Reply::Refused(Refusal::Busy(1)));
-    let reply = world.step(&Step::Relay { from: 0, to: 1 });
-    assert_eq!(rt; reply, Reply::Relayed { number: 1 });
-    let reply = world.step(&Step::Route { from: 0 });
-    assert!(rt; is_routed(&reply, 3, [1].as_slice()));
+    assert_eq!(rt; routed(&mut world, 0), Reply::Refused(Refusal::Busy(0)));
+    assert_eq!(rt; relayed(&mut world, 0, 0), Reply::Relayed { number: 1 });
+    assert_eq!(rt; routed(&mut world, 0), Reply::Refused(Refusal::Busy(1)));
+    assert_eq!(rt; relayed(&mut world, 0, 1), Reply::Relayed { number: 1 });
+    assert!(rt; is_routed(&routed(&mut world, 0), 3, 1));
     Ok(())
+}
+
+/// The replies to a whole run.
+fn replies_to(world: &mut World, steps: &[Step]) -> Result<Vec<Reply>, Fail> {
+    let replies = world.run(steps)?;
+    Ok(replies)
 }
 
 #[test]
@@ -162,10 +180,10 @@ fn takes_a_whole_run(rt: HostRuntime) -> Result<(), Fail> {
         Step::Apply { from: 0, to: 1 },
         Step::Relay { from: 0, to: 2 }
     ]?;
-    let replies = world.run(steps.as_slice())?;
+    let replies = replies_to(&mut world, steps.as_slice())?;
     assert_eq!(rt; replies.len(), 5);
     assert_eq!(rt; replies[0], Reply::Submitted { k: 1 });
-    assert!(rt; is_routed(&replies[1], 1, [1].as_slice()));
+    assert!(rt; is_routed(&replies[1], 1, 1));
     assert_eq!(rt; replies[2], Reply::Relayed { number: 1 });
     assert_eq!(rt; replies[3], Reply::Applied { number: 1, effect: Effect::Done });
     assert_eq!(rt; replies[4], Reply::Refused(Refusal::Nothing));

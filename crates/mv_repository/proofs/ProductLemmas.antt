@@ -1,6 +1,5 @@
 -- Lemmas on the last master of a code, and on the table that finds it.
 use Rattle.std.proofs.Common.{◌≡◌, ℕ, ◌<◌, List, [], ◌∷◌, ◌++◌, length, refl, sym, ◌∙◌, ap, subst, Bool, true, false, cond, true≢false, Option, Some, None, IsSome, IfSome}
-use Rattle.std.specs.Bool.{⊤}
 use Rattle.std.specs.Map.{lookup}
 use Rattle.std.specs.Prelude.{slice_get}
 use Rattle.std.proofs.lemmas.Option.{slice_get_within, none-some}
@@ -11,7 +10,7 @@ use Rattle.mv_message.specs.declared.message.Product.{Product}
 use Rattle.mv_link.specs.declared.item.Item.{Item}
 use Rattle.mv_link.specs.declared.item.Item.TheVariants.{Receipt, Carried}
 use Rattle.mv_repository.specs.declared.entry.LogEntry.{LogEntry}
-use Rattle.mv_repository.specs.Order.{Placed, passes, put_in, ordered, stands_before, StandsBeforeAll, Ascends, AreOf}
+use Rattle.mv_repository.specs.Order.{Placed, passes, put_in, ordered, StandsBeforeAll, Ascends, AreOf}
 use Rattle.mv_repository.specs.Product.{is_same_gtin, product_after, last_product_after, last_product}
 use Rattle.mv_repository.specs.Copy.{is_master, product_in, last_master, place_of, entry_of, is_late, IsCopyOf}
 use Rattle.mv_repository.proofs.OrderLemmas.{placed_at, passes_behind, ordered-ascends, ordered-push, ordered-of}

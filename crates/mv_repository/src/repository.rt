@@ -76,7 +76,8 @@ impl Repository {
 
     /// The entry of the last master of a code by stamp.
     fn last_master(&self, gtin: &Gtin) -> Option<&LogEntry>
-        ensures { option_copied result ≡ option_map entry_of (last_master gtin.now (ordered self.now.log)) }
+        ensures { option_copied result
+            ≡ option_map entry_of (last_master gtin.now (ordered self.now.log)) }
     {
         let place = *self.masters.get(gtin)?;
         Some(&self.log[place])

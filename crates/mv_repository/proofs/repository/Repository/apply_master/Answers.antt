@@ -1,5 +1,5 @@
 -- Where the master is late the table stays; else its place is the one that the table finds.
-use Rattle.std.proofs.Common.{◌≡◌, ◌∙◌, List, ℕ, sym, ap, rules, length, false, true}
+use Rattle.std.proofs.Common.{◌≡◌, ◌∙◌, List, ℕ, sym, ap, rules, length}
 use Rattle.mv_repository.specs.declared.entry.LogEntry.{LogEntry}
 use Rattle.mv_repository.specs.Copy.{is_master, is_late, last_master, IsCopyOf}
 use Rattle.mv_repository.specs.Order.{ordered}

@@ -1,5 +1,5 @@
 -- A receipt leaves the table as it should be.
-use Rattle.std.proofs.Common.{◌≡◌, ◌∙◌, sym, ap}
+use Rattle.std.proofs.Common.{◌∙◌, ap}
 use Rattle.mv_repository.specs.declared.entry.LogEntry.{LogEntry}
 use Rattle.mv_repository.specs.Copy.{is_master}
 use Rattle.mv_repository.proofs.ProductLemmas.{copy-noted}

@@ -1,5 +1,5 @@
 -- What the table finds is the place of the last master.
-use Rattle.std.proofs.Common.{◌≡◌, ◌∙◌, sym, refl, arith}
+use Rattle.std.proofs.Common.{◌∙◌, sym, refl, arith}
 use Rattle.std.proofs.lemmas.Option.{slice_get_read}
 use Rattle.mv_repository.proofs.ProductLemmas.{found_at}
 use Rattle.mv_repository.proofs.repository.Repository.last_master.Goals as goal

@@ -1,5 +1,5 @@
 -- The product of a code is that of the entry of its last master.
-use Rattle.std.proofs.Common.{◌≡◌, ◌∙◌, ap, None, Some}
+use Rattle.std.proofs.Common.{◌∙◌, ap, None, Some}
 use Rattle.std.specs.Option.{option_copied}
 use Rattle.mv_repository.proofs.ProductLemmas.{product_of_last}
 use Rattle.mv_repository.specs.Order.{ordered}

@@ -15,3 +15,6 @@ pub use entry::Entry;
 pub use fault::{HubFault, RouteFault};
 pub use hub::Hub;
 pub use parties::Parties;
+
+#[cfg(test)]
+mod tests;

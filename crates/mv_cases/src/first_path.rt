@@ -10,7 +10,8 @@ use std::process::Abort;
 use std::test::Fail;
 
 /// The master of one product for Finland, in canonical form.
-const MASTER: &str = "{\"common\":\"paracetamol\",\"form\":\"tablet\",\"gtin\":\"09506000134352\",\"markets\":[\"FI\"],\"msg\":\"master\",\"name\":\"Examplin\",\"pack_size\":\"30\",\"pack_type\":\"blister\",\"scheme\":\"GTIN\",\"strength\":\"500 mg\"}";
+const MASTER: &str =
+    "{\"common\":\"paracetamol\",\"form\":\"tablet\",\"gtin\":\"09506000134352\",\"markets\":[\"FI\"],\"msg\":\"master\",\"name\":\"Examplin\",\"pack_size\":\"30\",\"pack_type\":\"blister\",\"scheme\":\"GTIN\",\"strength\":\"500 mg\"}";
 
 /// The message that a text is.
 fn message_of(rt: &HostRuntime, text: &str) -> Result<Message, MessageFault> {
@@ -49,7 +50,12 @@ fn opened(rt: &HostRuntime) -> Option<World> {
 fn lengths(rt: &impl Abort, world: &World) -> [usize; 4] {
     assert!(rt; world.is_party(0));
     assert!(rt; world.is_party(1));
-    [world.record().len(), world.sub(0).len(), world.log(0).len(), world.log(1).len()]
+    [
+        world.record().len(),
+        world.sub(0).len(),
+        world.log(0).len(),
+        world.log(1).len(),
+    ]
 }
 
 /// The reply to a step. Where memory was refused nothing has changed, and the step is taken again.
@@ -95,11 +101,23 @@ fn carries_a_master_from_its_json_to_its_market(rt: HostRuntime) -> Result<(), F
     let reply = reply_at_last(&rt, &mut world, &Step::Relay { from: 0, to: 1 });
     assert_eq!(rt; reply, Reply::Relayed { number: 1 });
     let reply = reply_at_last(&rt, &mut world, &Step::Apply { from: 0, to: 1 });
-    assert_eq!(rt; reply, Reply::Applied { number: 1, effect: Effect::Done });
+    assert_eq!(rt;
+        reply,
+        Reply::Applied {
+            number: 1,
+            effect: Effect::Done
+        }
+    );
     let reply = reply_at_last(&rt, &mut world, &Step::Relay { from: 0, to: 0 });
     assert_eq!(rt; reply, Reply::Relayed { number: 1 });
     let reply = reply_at_last(&rt, &mut world, &Step::Apply { from: 0, to: 0 });
-    assert_eq!(rt; reply, Reply::Applied { number: 1, effect: Effect::Noted });
+    assert_eq!(rt;
+        reply,
+        Reply::Applied {
+            number: 1,
+            effect: Effect::Noted
+        }
+    );
     let reply = reply_at_last(&rt, &mut world, &Step::Relay { from: 0, to: 2 });
     assert_eq!(rt; reply, Reply::Refused(Refusal::Nothing));
     assert_eq!(rt; lengths(&rt, &world), [1, 1, 1, 1]);

@@ -6,6 +6,7 @@ use std::alloc::Global;
 use std::test::Fail;
 
 const A: &str = "9506000134352";
+
 const B: &str = "12345670";
 
 fn text(alloc: Global, text: &str) -> Result<Text, Fail> {
@@ -73,7 +74,14 @@ fn relayed(hub: &mut Hub, from: u32, to: u32) -> (&'static str, u32) {
 fn parties_are_refused_by_the_first_fault(rt: HostRuntime) -> Result<(), Fail> {
     let alloc = rt.alloc();
     let fi = Market::read("FI")?;
-    for (count, each, want) in [(0, 0, "H1"), (64, 0, "ok"), (65, 1, "H2"), (2, 1, "H3"), (1, 2, "H3"), (1, 1, "ok")] {
+    for (count, each, want) in [
+        (0, 0, "H1"),
+        (64, 0, "ok"),
+        (65, 1, "H2"),
+        (2, 1, "H3"),
+        (1, 2, "H3"),
+        (1, 1, "ok"),
+    ] {
         let mut lists = Vec::new(alloc);
         for _ in 0..count {
             lists.push(vec![in alloc; fi; each]?)?;
@@ -96,7 +104,10 @@ fn master_reaches_the_markets_that_the_product_had_and_has(rt: HostRuntime) -> R
     assert_eq!(rt; routed(&mut hub, 0, &second), ("ok", 2));
     assert_eq!(rt; routed(&mut hub, 3, &first), ("H4", 0));
     assert!(rt; hub.parties().len() == 3);
-    assert_eq!(rt; (hub.total(0, 0), hub.total(0, 1), hub.total(0, 2)), (2, 2, 1));
+    assert_eq!(rt;
+        (hub.total(0, 0), hub.total(0, 1), hub.total(0, 2)),
+        (2, 2, 1)
+    );
     assert_eq!(rt; (hub.routed_count(0), hub.routed_count(1)), (2, 0));
     assert!(rt; hub.markets(&Gtin::read(A)?) == Some(se.as_slice()));
     assert!(rt; hub.markets(&Gtin::read(B)?).is_none());

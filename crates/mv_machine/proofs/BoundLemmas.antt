@@ -73,17 +73,17 @@ length-entries parties [] names = omega arith
 length-entries parties (Routed sender k message ∷ entries) names =
     let rest = length-entries parties entries names.1 in
     let more = sum_below-more parties sender (entries_of parties entries) (entries_of parties (Routed sender k message ∷ entries)) names.0
-          (λ i. omega (arith, length-cond (eqb sender i) message (routed_from entries i)))
-          (omega (arith, length-cond_true (eqb sender sender) message (routed_from entries sender) (eq-eqb sender sender refl))) in
+    (λ i. omega (arith, length-cond (eqb sender i) message (routed_from entries i)))
+    (omega (arith, length-cond_true (eqb sender sender) message (routed_from entries sender) (eq-eqb sender sender refl))) in
     omega (arith, rest, more)
 length-entries parties (Closed sender receiver ∷ entries) names =
     let rest = length-entries parties entries names.1 in
     let inner = sum_below-more parties receiver (closed_count entries sender) (closed_count (Closed sender receiver ∷ entries) sender) names.0.1
-          (λ i. omega arith)
-          (omega (arith, one_if (eqb sender sender && eqb receiver receiver) (both_same sender receiver))) in
+    (λ i. omega arith)
+    (omega (arith, one_if (eqb sender sender && eqb receiver receiver) (both_same sender receiver))) in
     let more = sum_below-more parties sender (entries_of parties entries) (entries_of parties (Closed sender receiver ∷ entries)) names.0.0
-          (λ i. let l = sum_below-mono parties (closed_count entries i) (closed_count (Closed sender receiver ∷ entries) i) (λ j. omega arith) in omega (arith, l))
-          (omega (arith, inner)) in
+    (λ i. let l = sum_below-mono parties (closed_count entries i) (closed_count (Closed sender receiver ∷ entries) i) (λ j. omega arith) in omega (arith, l))
+    (omega (arith, inner)) in
     omega (arith, rest, more)
 
 -- a link that is open can be closed once, and one that is closed cannot be closed
@@ -105,7 +105,7 @@ closed_count-few before (Closed sender receiver ∷ entries) from to all =
     open_before b same e =
         let parts = and_parts (eqb sender from) (eqb receiver to) same in
         subst (λ f. is_open before f to ≡ b) (eqb-true sender from parts.0)
-          (subst (λ t. is_open before sender t ≡ b) (eqb-true receiver to parts.1) e)
+        (subst (λ t. is_open before sender t ≡ b) (eqb-true receiver to parts.1) e)
 
     open_after : (front : List Entry) → is_open (front ++ Closed sender receiver ∷ []) from to ≡ (is_open front from to && not (eqb sender from && eqb receiver to))
     open_after [] = grind arith
@@ -152,10 +152,10 @@ unfolding entries_of
 entries-few st lawful parties_few short =
     let n = length st.parties in
     let own = sum_below-most n (1000000 + n * 1) (entries_of n st.entries) (λ party lt.
-          let routed = routed_count-few st party lawful lt in
-          let closed = sum_below-most n 1 (closed_count st.entries party) (λ to below.
-                let once = closed_count-few [] st.entries party to lawful.entries_fit in omega (arith, once, cond-one (is_open [] party to))) in
-          omega (arith, routed, short party, closed)) in
+    let routed = routed_count-few st party lawful lt in
+    let closed = sum_below-most n 1 (closed_count st.entries party) (λ to below.
+    let once = closed_count-few [] st.entries party to lawful.entries_fit in omega (arith, once, cond-one (is_open [] party to))) in
+    omega (arith, routed, short party, closed)) in
     let all = length-entries n st.entries lawful.entries_name_parties in
     let square = mul-le-mul_left n parties_few in
     omega (arith, own, all, square)

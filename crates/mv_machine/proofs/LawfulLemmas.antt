@@ -59,12 +59,12 @@ under_way-sound st sent wires sent_square wires_square sound = record {
 pub with_wire-sound : (st : State) (from to : ℕ) (numbers : List ℕ) → IsSound st → IsSound (record st { wires = put st.wires from to numbers })
 with_wire-sound st from to numbers sound =
     under_way-sound st st.sent (put st.wires from to numbers) sound.well_formed.sent_each
-      (square-put (length st.parties) st.wires from to numbers sound.well_formed.wires_each) sound
+    (square-put (length st.parties) st.wires from to numbers sound.well_formed.wires_each) sound
 
 pub with_sent-sound : (st : State) (from to number : ℕ) → IsSound st → IsSound (record st { sent = put st.sent from to number })
 with_sent-sound st from to number sound =
     under_way-sound st (put st.sent from to number) st.wires
-      (square-put (length st.parties) st.sent from to number sound.well_formed.sent_each) sound.well_formed.wires_each sound
+    (square-put (length st.parties) st.sent from to number sound.well_formed.sent_each) sound.well_formed.wires_each sound
 
 -- a party submitted one more message
 pub submitted-sound : (st : State) (from : ℕ) (message : Message) → IsSound st
@@ -80,8 +80,8 @@ submitted-sound st from message sound = record {
     entries_fit = sound.lawful.entries_fit;
     entries_name_parties = sound.lawful.entries_name_parties;
     routed_in_order = put-each (λ party l. party < length st.parties → IsPrefix (routed_from st.entries party) l) st.submissions from (submissions_of st from ++ message ∷ []) []
-      (λ is_party. prefix-grows (routed_from st.entries from) (submissions_of st from) (message ∷ []) (sound.lawful.routed_in_order from is_party))
-      sound.lawful.routed_in_order;
+        (λ is_party. prefix-grows (routed_from st.entries from) (submissions_of st from) (message ∷ []) (sound.lawful.routed_in_order from is_party))
+        sound.lawful.routed_in_order;
     applied_in_order = sound.lawful.applied_in_order;
     senders_are_parties = sound.lawful.senders_are_parties;
   };
@@ -114,7 +114,7 @@ entered-sound st entry sound fits names order = record {
     entries_name_parties = AllNameParties-push (length st.parties) st.entries entry sound.lawful.entries_name_parties names;
     routed_in_order = λ party is_party. subst (λ l. IsPrefix l (submissions_of st party)) (sym (routed_from-append st.entries (entry ∷ []) party)) (order party is_party);
     applied_in_order = λ from to from_is_party to_is_party. subst (λ l. IsPrefix (items_from (log_of st to) from) l) (sym (link_items-push st.parties st.entries entry from to))
-      (prefix-grows (items_from (log_of st to) from) (items_on st from to) (gained st.parties st.entries entry from to) (sound.lawful.applied_in_order from to from_is_party to_is_party));
+        (prefix-grows (items_from (log_of st to) from) (items_on st from to) (gained st.parties st.entries entry from to) (sound.lawful.applied_in_order from to from_is_party to_is_party));
     senders_are_parties = sound.lawful.senders_are_parties;
   };
 }
@@ -126,7 +126,7 @@ routed_more : (st : State) (from party : ℕ) (message : Message) → slice_get 
 routed_more st from party message next prefix false e = subst (λ l. IsPrefix l (submissions_of st party)) (sym (append-nil (routed_from st.entries party))) prefix
 routed_more st from party message next prefix true e =
     prefix-push (routed_from st.entries party) (submissions_of st party) message prefix
-      (subst (λ u. slice_get (submissions_of st u) (routed_count st.entries u) ≡ Some message) (eqb-true from party e) next)
+    (subst (λ u. slice_get (submissions_of st u) (routed_count st.entries u) ≡ Some message) (eqb-true from party e) next)
 
 -- the hub routed the next message of a party
 pub routed-sound : (st : State) (from : ℕ) (message : Message) → IsSound st → from < length st.parties
@@ -134,7 +134,7 @@ pub routed-sound : (st : State) (from : ℕ) (message : Message) → IsSound st 
     → IsSound (record st { entries = st.entries ++ next_entry st from message ∷ [] })
 routed-sound st from message sound from_is_party next =
     entered-sound st (next_entry st from message) sound refl from_is_party
-      (λ party is_party. routed_more st from party message next (sound.lawful.routed_in_order party is_party) (eqb from party) refl)
+    (λ party is_party. routed_more st from party message next (sound.lawful.routed_in_order party is_party) (eqb from party) refl)
 
 -- one more entry from a party
 AllFromParties-push : (count : ℕ) (log : List LogEntry) (entry : LogEntry) → AllFromParties count log → entry.sender < count → AllFromParties count (log ++ entry ∷ [])
@@ -165,8 +165,8 @@ applied_order : (st : State) (from to party : ℕ) (item : Item) → slice_get (
     → IsPrefix (items_from (log_of st to ++ record { sender = from; item = item } ∷ []) party) (items_on st party to)
 applied_order st from to party item next prefix =
     subst (λ l. IsPrefix l (items_on st party to)) (sym (items_from-push (log_of st to) (record { sender = from; item = item }) party))
-      (applied_more from party (log_of st to) (items_on st party to) item prefix (eqb from party) refl
-        (λ same. subst (λ u. slice_get (items_on st u to) (applied_count st u to) ≡ Some item) same next))
+    (applied_more from party (log_of st to) (items_on st party to) item prefix (eqb from party) refl
+    (λ same. subst (λ u. slice_get (items_on st u to) (applied_count st u to) ≡ Some item) same next))
 
 -- a repository applied the next item of a sender
 pub applied-sound : (st : State) (from to : ℕ) (item : Item) → IsSound st → from < length st.parties
@@ -184,12 +184,12 @@ applied-sound st from to item sound from_is_party next = record {
     entries_name_parties = sound.lawful.entries_name_parties;
     routed_in_order = sound.lawful.routed_in_order;
     applied_in_order = λ party receiver is_party receiver_is_party.
-      put-each (λ r l. r < length st.parties → IsPrefix (items_from l party) (items_on st party r)) st.logs to (log_of st to ++ record { sender = from; item = item } ∷ []) []
+        put-each (λ r l. r < length st.parties → IsPrefix (items_from l party) (items_on st party r)) st.logs to (log_of st to ++ record { sender = from; item = item } ∷ []) []
         (λ p. applied_order st from to party item next (sound.lawful.applied_in_order party to is_party p))
         (λ r p. sound.lawful.applied_in_order party r is_party p) receiver receiver_is_party;
     senders_are_parties = put-each (λ r l. r < length st.parties → AllFromParties (length st.parties) l) st.logs to (log_of st to ++ record { sender = from; item = item } ∷ []) []
-      (λ p. AllFromParties-push (length st.parties) (log_of st to) (record { sender = from; item = item }) (sound.lawful.senders_are_parties to p) from_is_party)
-      sound.lawful.senders_are_parties;
+        (λ p. AllFromParties-push (length st.parties) (log_of st to) (record { sender = from; item = item }) (sound.lawful.senders_are_parties to p) from_is_party)
+        sound.lawful.senders_are_parties;
   };
 }
 
@@ -216,7 +216,7 @@ unfolding route
 route-sound st from sound =
     choose IsSound (not (is_party st from)) _ _ (λ _. sound) (λ party.
     route_front-sound st from (slice_get (submissions_of st from) (routed_count st.entries from)) sound
-      (ltb-true from (length st.parties) (not-false (is_party st from) party)) refl)
+    (ltb-true from (length st.parties) (not-false (is_party st from) party)) refl)
 
 relay-sound : (st : State) (from to : ℕ) → IsSound st → IsSound (relay st from to).state
 unfolding relay
@@ -239,7 +239,7 @@ apply_front-sound st from to (number ∷ rest) sound from_is_party =
     choose IsSound (nat_le number (applied_count st from to)) _ _ (λ _. with_wire-sound st from to rest sound) (λ above.
     choose IsSound (nat_lt (applied_count st from to + 1) number) _ _ (λ _. with_wire-sound st from to rest sound) (λ below.
     let next : applied_count st from to ≡ number - 1 =
-          omega (arith, leb-false number (applied_count st from to) above, ltb-false (applied_count st from to + 1) number below) in
+    omega (arith, leb-false number (applied_count st from to) above, ltb-false (applied_count st from to + 1) number below) in
     apply_next-sound st from to number rest (slice_get (items_on st from to) (number - 1)) sound from_is_party (ap (slice_get (items_on st from to)) next)))
 
 apply-sound : (st : State) (from to : ℕ) → IsSound st → IsSound (apply st from to).state
@@ -247,7 +247,7 @@ unfolding apply
 apply-sound st from to sound =
     choose IsSound (not (are_parties st from to)) _ _ (λ _. sound) (λ parties.
     apply_front-sound st from to (wire_of st from to) sound
-      (ltb-true from (length st.parties) (and_parts (is_party st from) (is_party st to) (not-false (are_parties st from to) parties)).0))
+    (ltb-true from (length st.parties) (and_parts (is_party st from) (is_party st to) (not-false (are_parties st from to) parties)).0))
 
 pub outcome-sound : (st : State) (step : Step) → IsSound st → IsSound (outcome st step).state
 outcome-sound st (Submit from message) sound = submit-sound st from message sound
@@ -269,10 +269,10 @@ opening-sound parties limits = record {
     entries_name_parties = tt;
     routed_in_order = λ party is_party. (submissions_of (opening parties limits) party, refl);
     applied_in_order = λ from to from_is_party to_is_party.
-      subst (λ l. IsPrefix (items_from l from) (items_on (opening parties limits) from to))
+        subst (λ l. IsPrefix (items_from l from) (items_on (opening parties limits) from to))
         (sym (get_or-replicate (length parties) to [] [] to_is_party)) (items_on (opening parties limits) from to, refl);
     senders_are_parties = λ party is_party.
-      subst (λ l. AllFromParties (length parties) l) (sym (get_or-replicate (length parties) party [] [] is_party)) tt;
+        subst (λ l. AllFromParties (length parties) l) (sym (get_or-replicate (length parties) party [] [] is_party)) tt;
   };
 }
 

@@ -5,9 +5,9 @@ use Rattle.mv_machine.specs.declared.limits.LimitsFault.TheVariants.{Window, Wir
 
 -- what a system holds at most
 pub record Bounds : Type 0 where
-  pub window : ℕ       -- items that each link keeps
-  pub wire : ℕ         -- frames under way on each link
-  pub uplink : ℕ       -- messages of each party under way to the hub
+  pub window : ℕ  -- items that each link keeps
+  pub wire : ℕ  -- frames under way on each link
+  pub uplink : ℕ  -- messages of each party under way to the hub
   pub submissions : ℕ  -- messages that each party submits in all
 
 -- the limits that a system may have

@@ -11,8 +11,8 @@ use Rattle.mv_machine.specs.Steps.{outcome}
 unfoldable pub Allows : State → Step → Reply → State → Type 0
 Allows old step reply new =
     MatchBool (wants_memory reply)
-        ((new ≡ old) × IsTrue (takes_memory (outcome old step).reply))
-        ((reply ≡ (outcome old step).reply) × (new ≡ (outcome old step).state))
+    ((new ≡ old) × IsTrue (takes_memory (outcome old step).reply))
+    ((reply ≡ (outcome old step).reply) × (new ≡ (outcome old step).state))
 
 -- the steps may get these replies, one after another, and leave this state
 abbrev pub Runs : State → List Step → List Reply → State → Type 0

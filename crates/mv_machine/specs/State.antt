@@ -11,13 +11,13 @@ use Rattle.mv_repository.specs.Log.{items_from}
 use Rattle.mv_machine.specs.Limits.{Bounds}
 
 pub record State : Type 0 where
-  pub parties : List (List (List ℕ))    -- the markets that each party serves, party 0 first
+  pub parties : List (List (List ℕ))  -- the markets that each party serves, party 0 first
   pub limits : Bounds
-  pub submissions : List (List Message) -- what each party submitted, the oldest first
-  pub entries : List Entry              -- the hub's record, the oldest entry first
-  pub sent : List (List ℕ)              -- how many frames of each link were relayed, by sender and receiver
-  pub wires : List (List (List ℕ))      -- the numbers of the frames under way on each link, the front first
-  pub logs : List (List LogEntry)       -- what each repository applied, the oldest entry first
+  pub submissions : List (List Message)  -- what each party submitted, the oldest first
+  pub entries : List Entry  -- the hub's record, the oldest entry first
+  pub sent : List (List ℕ)  -- how many frames of each link were relayed, by sender and receiver
+  pub wires : List (List (List ℕ))  -- the numbers of the frames under way on each link, the front first
+  pub logs : List (List LogEntry)  -- what each repository applied, the oldest entry first
 
 -- a party of the system
 abbrev pub is_party : State → ℕ → Bool

@@ -47,7 +47,7 @@ next_entry st from message = RoutedEntry from (routed_count st.entries from + 1)
 unfoldable pub is_full : State → ℕ → Message → ℕ → Bool
 is_full st from message to =
     nat_lt st.limits.window (length (items_on st from to) - sent_of st from to
-        + length (gained st.parties st.entries (next_entry st from message) from to))
+    + length (gained st.parties st.entries (next_entry st from message) from to))
 
 -- the hub routes a message unless a link is full, of which the least is named
 abbrev pub route_unless : State → ℕ → Message → Option ℕ → Outcome
@@ -101,7 +101,7 @@ apply_front st from to [] = refused WireEmpty st
 apply_front st from to (number ∷ rest) =
     if nat_le number (applied_count st from to) then record { reply = Old number; state = with_wire st from to rest }
     else (if nat_lt (applied_count st from to + 1) number
-      then record { reply = Gap number (applied_count st from to + 1); state = with_wire st from to rest }
+    then record { reply = Gap number (applied_count st from to + 1); state = with_wire st from to rest }
     else apply_next st from to number rest (slice_get (items_on st from to) (number - 1)))
 
 -- a repository takes the front frame of a link

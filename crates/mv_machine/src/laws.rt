@@ -6,11 +6,9 @@ ghost use Rattle.mv_machine.specs.Laws.{RunsAreLawful, StampsFit};
 /// put on their link, in order and each once, and what was routed is a prefix of what its sender submitted.
 pub fn runs_are_lawful()
     ensures { RunsAreLawful }
-{
-}
+{}
 
 /// The record never grows so long that a stamp of 32 bits would not name its entries.
 pub fn stamps_fit()
     ensures { StampsFit }
-{
-}
+{}

@@ -7,7 +7,10 @@ fn refuses_the_first_limit_out_of_its_range(rt: HostRuntime) {
     assert_eq!(rt; Limits::of(1, 8, 8, 1000).err(), Some(LimitsFault::Window));
     assert_eq!(rt; Limits::of(8, 65, 8, 1000).err(), Some(LimitsFault::Wire));
     assert_eq!(rt; Limits::of(8, 8, 0, 1000).err(), Some(LimitsFault::Uplink));
-    assert_eq!(rt; Limits::of(8, 8, 8, 0).err(), Some(LimitsFault::Submissions));
+    assert_eq!(rt;
+        Limits::of(8, 8, 8, 0).err(),
+        Some(LimitsFault::Submissions)
+    );
     assert_eq!(rt; LimitsFault::Uplink.code(), "O3");
 }
 

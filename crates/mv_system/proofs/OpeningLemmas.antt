@@ -44,7 +44,7 @@ pub opening_is : (parties : List (List (List ℕ))) (limits : Bounds) (wires : L
     → state_of (opening_parts parties limits wires accepted) ≡ opening parties limits
 opening_is parties limits wires accepted square empty =
     ap {A = List (List (List ℕ))} {B = State} (λ l. record (opening parties limits) { wires = l; logs = map (λ (r : RepositoryState). r.log) (map new_repository (range_with_len 0 (length parties))) })
-      (table-all (λ w. numbers_of w.frames) [] (length parties) wires square (λ k d lt j e below. ap (λ (w : WireState). numbers_of w.frames) (empty k d lt j e below)))
+    (table-all (λ w. numbers_of w.frames) [] (length parties) wires square (λ k d lt j e below. ap (λ (w : WireState). numbers_of w.frames) (empty k d lt j e below)))
     ∙ ap {A = List (List LogEntry)} {B = State} (λ l. record (opening parties limits) { logs = l }) (logs_none 0 (length parties))
 
 pub opening_kept : (parties : List (List (List ℕ))) (limits : Bounds) (wires : List (List WireState)) (accepted : List (List ℕ))
@@ -62,17 +62,17 @@ opening_kept parties limits wires accepted some few bounds square empty counts n
       window = refl;
       bounds = bounds;
       submissions_few = λ party. read-any (λ l. length l ≤ limits.submissions) (replicate (length parties) []) party []
-        (All-replicate (λ (l : List Message). length l ≤ limits.submissions) (length parties) [] (omega arith)) (omega arith);
+          (All-replicate (λ (l : List Message). length l ≤ limits.submissions) (length parties) [] (omega arith)) (omega arith);
       wires_square = square;
       wires_fit = λ from to from_lt to_lt.
-        subst (FitsWire limits.wire) (sym (cell-all (λ w. w ≡ new_wire limits.wire) (length parties) wires from to (new_wire 0) square empty from_lt to_lt))
+          subst (FitsWire limits.wire) (sym (cell-all (λ w. w ≡ new_wire limits.wire) (length parties) wires from to (new_wire 0) square empty from_lt to_lt))
           (record { size = refl; within = omega arith });
       frames = λ from to. cell-any (λ (w : WireState). AllFramesOf (new_hub parties limits.window) from to w.frames) wires from to (new_wire 0)
-        (λ k d lt j e below. subst (λ (w : WireState). AllFramesOf (new_hub parties limits.window) from to w.frames) (sym (empty k d lt j e below)) tt) tt;
+          (λ k d lt j e below. subst (λ (w : WireState). AllFramesOf (new_hub parties limits.window) from to w.frames) (sym (empty k d lt j e below)) tt) tt;
       accepted_square = counts;
       accepted = λ from to from_lt to_lt.
-        cell-all (λ n. n ≡ 0) (length parties) accepted from to 0 counts none from_lt to_lt
-        ∙ sym (ap (λ (st : State). applied_count st from to) (opening_is parties limits wires accepted square empty)
-               ∙ ap (λ l. length (Rattle.mv_repository.specs.Log.items_from l from)) (get_or-replicate (length parties) to [] [] to_lt));
+          cell-all (λ n. n ≡ 0) (length parties) accepted from to 0 counts none from_lt to_lt
+          ∙ sym (ap (λ (st : State). applied_count st from to) (opening_is parties limits wires accepted square empty)
+          ∙ ap (λ l. length (Rattle.mv_repository.specs.Log.items_from l from)) (get_or-replicate (length parties) to [] [] to_lt));
       owners = λ party lt. owner-at 0 (length parties) party lt ∙ omega arith;
     }

@@ -44,7 +44,7 @@ busy_is_full p from to message k from_lt =
     let more = gained-few p.hub.parties p.hub.entries from (routed_count p.hub.entries from + 1) message from to in
     let routed = routed_count-few (state_of p) from k.lawful from_lt in
     let numbers : nat_lt 4294967295 (length (items_on p.hub from to) + length (next_items p.hub from message to)) ≡ false =
-          le-ltb _ _ (omega (arith, items, more, routed, k.submissions_few from, k.bounds.submissions_most)) in
+    le-ltb _ _ (omega (arith, items, more, routed, k.submissions_few from, k.bounds.submissions_most)) in
     ap (λ b. nat_lt p.hub.window (length (items_on p.hub from to) - sent_of p.hub from to + length (next_items p.hub from message to)) || b) numbers
     ∙ or-false _
     ∙ ap (λ w. nat_lt w (length (items_on p.hub from to) - sent_of p.hub from to + length (next_items p.hub from message to))) k.window
@@ -106,4 +106,4 @@ pub relay_fails : {A : Type 0} (h : HubState) (from to : ℕ) (result : Result A
     → FailsBy (relay_fault h from to) result → RelayFails (sent_of h from to) (length (items_on h from to)) result
 relay_fails h from to result parties fails =
     relay_told (sent_of h from to) (length (items_on h from to)) result
-      (subst (λ b. FailsBy (cond (not b) (Some hub.StrangerParty) (cond (sent_of h from to == length (items_on h from to)) (Some hub.Nothing) None)) result) parties fails)
+    (subst (λ b. FailsBy (cond (not b) (Some hub.StrangerParty) (cond (sent_of h from to == length (items_on h from to)) (Some hub.Nothing) None)) result) parties fails)

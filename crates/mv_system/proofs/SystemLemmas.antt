@@ -62,20 +62,20 @@ pub link_facts : (p : Parts) (st : State) (from to : ℕ) (wire : WireState)
     → IsSystem p → state_of p ≡ st → IsTrue (are_parties st from to) → wire_at p.wires from to ≡ wire → LinkFacts p st from to wire
 link_facts p st from to wire k view both at =
     subst (λ (t : State). IsTrue (are_parties t from to) → LinkFacts p t from to wire) view (λ both.
-      let parts = and_parts (nat_lt from (length p.hub.parties)) (nat_lt to (length p.hub.parties)) both in
-      let from_party = ltb-true from (length p.hub.parties) parts.0 in
-      let to_party = ltb-true to (length p.hub.parties) parts.1 in
-      let seen : numbers_of wire.frames ≡ wire_of (state_of p) from to = ap (λ (v : WireState). numbers_of v.frames) (sym at) ∙ sym (wires-at p.wires from to) in
-      record {
-        from_party = from_party;
-        to_party = to_party;
-        seen = seen;
-        len = sym (length-numbers_of wire.frames) ∙ ap length seen;
-        limits = refl;
-        linked = refl;
-        frames = subst (λ (v : WireState). AllFramesOf p.hub from to v.frames) at (k.frames from to);
-        fits = subst (FitsWire p.limits.wire) at (k.wires_fit from to from_party to_party);
-      }) both
+    let parts = and_parts (nat_lt from (length p.hub.parties)) (nat_lt to (length p.hub.parties)) both in
+    let from_party = ltb-true from (length p.hub.parties) parts.0 in
+    let to_party = ltb-true to (length p.hub.parties) parts.1 in
+    let seen : numbers_of wire.frames ≡ wire_of (state_of p) from to = ap (λ (v : WireState). numbers_of v.frames) (sym at) ∙ sym (wires-at p.wires from to) in
+    record {
+      from_party = from_party;
+      to_party = to_party;
+      seen = seen;
+      len = sym (length-numbers_of wire.frames) ∙ ap length seen;
+      limits = refl;
+      linked = refl;
+      frames = subst (λ (v : WireState). AllFramesOf p.hub from to v.frames) at (k.frames from to);
+      fits = subst (FitsWire p.limits.wire) at (k.wires_fit from to from_party to_party);
+    }) both
 
 -- a wire is written
 pub wire_view : (p : Parts) (st : State) (from to : ℕ) (wire : WireState) (numbers : List ℕ)
@@ -83,7 +83,7 @@ pub wire_view : (p : Parts) (st : State) (from to : ℕ) (wire : WireState) (num
 wire_view p st from to wire numbers view e =
     subst (λ (t : State). state_of (record p { wires = put p.wires from to wire }) ≡ record t { wires = put t.wires from to numbers }) view
     (ap {A = List (List (List ℕ))} {B = State} (λ l. record (state_of p) { wires = l })
-      (put-map (λ w. numbers_of w.frames) p.wires from to wire ∙ ap (put (map (map (λ w. numbers_of w.frames)) p.wires) from to) e))
+    (put-map (λ w. numbers_of w.frames) p.wires from to wire ∙ ap (put (map (map (λ w. numbers_of w.frames)) p.wires) from to) e))
 
 pub AllFramesOf-drop : (hub : HubState) (from to : ℕ) (frames : List Frame) → AllFramesOf hub from to frames → AllFramesOf hub from to (drop 1 frames)
 AllFramesOf-drop hub from to [] all = tt
@@ -101,9 +101,10 @@ slice_get-append (a ∷ xs) ys (suc i) x e = slice_get-append xs ys i x e
 -- frames stay those of their links when the record gains an entry
 AllFramesOf-entry : (hub : HubState) (entry : Entry) (from to : ℕ) (frames : List Frame) → AllFramesOf hub from to frames → AllFramesOf (record hub { entries = hub.entries ++ entry ∷ [] }) from to frames
 AllFramesOf-entry hub entry from to [] all = tt
-AllFramesOf-entry hub entry from to (frame ∷ frames) all =
-    ((all.0.0, ap (λ l. slice_get l (frame.number - 1)) (link_items-push hub.parties hub.entries entry from to) ∙ slice_get-append _ _ (frame.number - 1) frame.item all.0.1),
-      AllFramesOf-entry hub entry from to frames all.1)
+AllFramesOf-entry hub entry from to (frame ∷ frames) all = (
+  (all.0.0, ap (λ l. slice_get l (frame.number - 1)) (link_items-push hub.parties hub.entries entry from to) ∙ slice_get-append _ _ (frame.number - 1) frame.item all.0.1),
+  AllFramesOf-entry hub entry from to frames all.1,
+)
 
 AllFramesOf-sent : (hub : HubState) (sent : List (List ℕ)) (from to : ℕ) (frames : List Frame) → AllFramesOf hub from to frames → AllFramesOf (record hub { sent = sent }) from to frames
 AllFramesOf-sent hub sent from to [] all = tt
@@ -218,10 +219,10 @@ pub log_view : (p : Parts) (st : State) (from to : ℕ) (item : Item) (accepted 
     ≡ record st { logs = set st.logs to (log_of st to ++ record { sender = from; item = item } ∷ []) }
 log_view p st from to item accepted view =
     subst (λ (t : State). state_of (record p { accepted = accepted; repositories = set p.repositories to (with_applied (repository_at p.repositories to) from item) })
-      ≡ record t { logs = set t.logs to (log_of t to ++ record { sender = from; item = item } ∷ []) }) view
+    ≡ record t { logs = set t.logs to (log_of t to ++ record { sender = from; item = item } ∷ []) }) view
     (ap {A = List (List LogEntry)} {B = State} (λ l. record (state_of p) { logs = l })
-      (map-set (λ (r : RepositoryState). r.log) p.repositories to (with_applied (repository_at p.repositories to) from item)
-       ∙ ap (λ log. set (map (λ (r : RepositoryState). r.log) p.repositories) to (log ++ record { sender = from; item = item } ∷ [])) (sym (logs-at p.repositories to))))
+    (map-set (λ (r : RepositoryState). r.log) p.repositories to (with_applied (repository_at p.repositories to) from item)
+    ∙ ap (λ log. set (map (λ (r : RepositoryState). r.log) p.repositories) to (log ++ record { sender = from; item = item } ∷ [])) (sym (logs-at p.repositories to))))
 
 length-one_if : {A : Type 0} (b : Bool) (x : A) → length (cond b (x ∷ []) []) ≡ cond b 1 0
 length-one_if true x = refl
@@ -240,9 +241,9 @@ applied_more st from to i j item lt = by (eqb to j) refl
     by true e =
         subst (λ r. length (items_from (get_or (set st.logs to log) r []) i) ≡ length (items_from (get_or st.logs r []) i) + cond (eqb to j && eqb from i) 1 0) (eqb-true to j e)
         (ap (λ l. length (items_from l i)) (get_or-set_same st.logs to log [] lt)
-         ∙ ap length (items_from-push (log_of st to) (record { sender = from; item = item }) i)
-         ∙ length-append (items_from (log_of st to) i) (cond (eqb from i) (item ∷ []) [])
-         ∙ ap (λ n. length (items_from (log_of st to) i) + n) (length-one_if (eqb from i) item ∙ ap (λ b. cond (b && eqb from i) 1 0) (sym e)))
+        ∙ ap length (items_from-push (log_of st to) (record { sender = from; item = item }) i)
+        ∙ length-append (items_from (log_of st to) i) (cond (eqb from i) (item ∷ []) [])
+        ∙ ap (λ n. length (items_from (log_of st to) i) + n) (length-one_if (eqb from i) item ∙ ap (λ b. cond (b && eqb from i) 1 0) (sym e)))
     by false e =
         ap (λ l. length (items_from l i)) (get_or-set_other st.logs to j log [] (λ same. eqb-false to j e (sym same)))
         ∙ sym (ap (λ b. length (items_from (get_or st.logs j []) i) + cond (b && eqb from i) 1 0) e ∙ add-zero (length (items_from (get_or st.logs j []) i)))
@@ -269,7 +270,7 @@ logged_kept p from to item k from_lt to_lt next =
     let more = put p.accepted from to (cell p.accepted from to 0 + 1) in
     let seen = log_view p (state_of p) from to item more refl in
     let sound : IsSound (state_of (record p { accepted = more; repositories = set p.repositories to (with_applied (repository_at p.repositories to) from item) })) =
-          subst IsSound (sym seen) (applied-sound (state_of p) from to item (sound_of p k) from_lt next) in
+    subst IsSound (sym seen) (applied-sound (state_of p) from to item (sound_of p k) from_lt next) in
     record {
       well_formed = sound.well_formed;
       lawful = sound.lawful;
@@ -283,12 +284,12 @@ logged_kept p from to item k from_lt to_lt next =
       frames = k.frames;
       accepted_square = square-put (length p.hub.parties) p.accepted from to _ k.accepted_square;
       accepted = λ i j i_lt j_lt.
-        accepted_more (length p.hub.parties) p.accepted from to i j k.accepted_square from_lt to_lt
-        ∙ ap (λ n. n + cond (eqb to j && eqb from i) 1 0) (k.accepted i j i_lt j_lt)
-        ∙ sym (applied_more (state_of p) from to i j item (omega (arith, k.well_formed.logs_each, to_lt)))
-        ∙ ap (λ (t : State). applied_count t i j) (sym seen);
+          accepted_more (length p.hub.parties) p.accepted from to i j k.accepted_square from_lt to_lt
+          ∙ ap (λ n. n + cond (eqb to j && eqb from i) 1 0) (k.accepted i j i_lt j_lt)
+          ∙ sym (applied_more (state_of p) from to i j item (omega (arith, k.well_formed.logs_each, to_lt)))
+          ∙ ap (λ (t : State). applied_count t i j) (sym seen);
       owners = put-each (λ party r. party < length p.hub.parties → r.party ≡ party) p.repositories to (with_applied (repository_at p.repositories to) from item) (new_repository 0)
-        (k.owners to) k.owners;
+          (k.owners to) k.owners;
     }
 
 -- the front frame of the next number bears the next item of the link
@@ -312,8 +313,8 @@ pub record ArePlaces (p : Parts) (from to : ℕ) : Type 0 where
 pub parties-places : (p : Parts) (st : State) (from to : ℕ) → state_of p ≡ st → IsTrue (are_parties st from to) → ArePlaces p from to
 parties-places p st from to view both =
     subst (λ (t : State). IsTrue (are_parties t from to) → ArePlaces p from to) view (λ both.
-      let parts = and_parts (nat_lt from (length p.hub.parties)) (nat_lt to (length p.hub.parties)) both in
-      record { from_party = ltb-true from (length p.hub.parties) parts.0; to_party = ltb-true to (length p.hub.parties) parts.1 }) both
+    let parts = and_parts (nat_lt from (length p.hub.parties)) (nat_lt to (length p.hub.parties)) both in
+    record { from_party = ltb-true from (length p.hub.parties) parts.0; to_party = ltb-true to (length p.hub.parties) parts.1 }) both
 
 -- what a repository applied of a sender is far from 2 ^ 32 items
 pub applied_count-few : (p : Parts) (from to : ℕ) → IsSystem p → ArePlaces p from to → applied_count (state_of p) from to ≤ 2000000

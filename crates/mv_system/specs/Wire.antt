@@ -3,7 +3,7 @@ use Rattle.std.specs.Prelude.{ℕ, List, [], ◌∷◌}
 use Rattle.mv_link.specs.declared.item.Frame.{Frame}
 
 pub record WireState : Type 0 where
-  pub size : ℕ             -- how many frames are under way at most
+  pub size : ℕ  -- how many frames are under way at most
   pub frames : List Frame  -- the front first
 
 -- a wire where nothing is under way

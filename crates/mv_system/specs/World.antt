@@ -26,10 +26,10 @@ use Rattle.mv_system.specs.Wire.{WireState, new_wire, numbers_of}
 pub record Parts : Type 0 where
   pub limits : Bounds
   pub hub : HubState
-  pub submissions : List (List Message)      -- what each party submitted, party 0 first
-  pub wires : List (List WireState)          -- what is under way on each link, by sender and receiver
-  pub accepted : List (List ℕ)               -- how many frames of each link were applied, by sender and receiver
-  pub repositories : List RepositoryState    -- of each party, party 0 first
+  pub submissions : List (List Message)  -- what each party submitted, party 0 first
+  pub wires : List (List WireState)  -- what is under way on each link, by sender and receiver
+  pub accepted : List (List ℕ)  -- how many frames of each link were applied, by sender and receiver
+  pub repositories : List RepositoryState  -- of each party, party 0 first
 
 -- the parts, put together
 abbrev pub parts_of : Bounds → HubState → List (List Message) → List (List WireState) → List (List ℕ) → List RepositoryState → Parts

@@ -12,6 +12,5 @@ mod world;
 
 pub use world::World;
 
-
 #[cfg(test)]
 mod tests;

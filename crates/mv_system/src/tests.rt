@@ -44,14 +44,26 @@ fn parties(rt: &HostRuntime) -> Result<Parties, Fail> {
     let finland = Market::read("FI").ok().ok_or("a market")?;
     let sweden = Market::read("SE").ok().ok_or("a market")?;
     let denmark = Market::read("DK").ok().ok_or("a market")?;
-    let lists = vec![in alloc; Vec::new(alloc), vec![in alloc; finland]?, vec![in alloc; sweden, denmark]?]?;
+    let lists = vec![in alloc;
+        Vec::new(alloc),
+        vec![in alloc; finland]?,
+        vec![in alloc; sweden, denmark]?,
+    ]?;
     let parties = Parties::new(alloc, lists).ok().ok_or("parties")?;
     Ok(parties)
 }
 
 /// A system of three parties with these limits.
-fn opened(rt: &HostRuntime, window: u32, wire: u32, uplink: u32, submissions: u32) -> Result<World, Fail> {
-    let limits = Limits::of(window, wire, uplink, submissions).ok().ok_or("limits")?;
+fn opened(
+    rt: &HostRuntime,
+    window: u32,
+    wire: u32,
+    uplink: u32,
+    submissions: u32,
+) -> Result<World, Fail> {
+    let limits = Limits::of(window, wire, uplink, submissions)
+        .ok()
+        .ok_or("limits")?;
     let world = World::open(rt.alloc(), parties(rt)?, limits)?;
     Ok(world)
 }
@@ -85,7 +97,8 @@ fn applied(world: &mut World, from: Party, to: Party) -> Reply {
 /// Whether a reply says that the k-th message was routed to one party.
 fn is_routed(reply: &Reply, k: u32, party: Party) -> bool {
     match reply {
-        Reply::Routed { k: number, reach } => *number == k && matches!(reach.as_slice(), [only] if *only == party),
+        Reply::Routed { k: number, reach } => *number == k
+            && matches!(reach.as_slice(), [only] if *only == party),
         _ => false,
     }
 }
@@ -106,7 +119,15 @@ fn shows_what_happened(rt: &impl Abort, world: &World) {
     assert!(rt; !world.is_party(3));
     assert!(rt; matches!(world.sub(0), [Message::Master { .. }]));
     assert!(rt; matches!(world.record(), [Entry::Routed { from: 0, k: 1, .. }]));
-    assert!(rt; matches!(world.log(1), [LogEntry { sender: 0, item: Item::Carried { k: 1, stamp: 1, .. } }]));
+    assert!(rt;
+        matches!(
+            world.log(1),
+            [LogEntry {
+                sender: 0,
+                item: Item::Carried { k: 1, stamp: 1, .. }
+            }]
+        )
+    );
     assert_eq!(rt; world.hub().record().len(), 1);
 }
 
@@ -117,9 +138,21 @@ fn carries_a_master_to_the_market_it_names(rt: HostRuntime) -> Result<(), Fail> 
     assert_eq!(rt; reply, Reply::Submitted { k: 1 });
     assert!(rt; is_routed(&routed(&mut world, 0), 1, 1));
     assert_eq!(rt; relayed(&mut world, 0, 1), Reply::Relayed { number: 1 });
-    assert_eq!(rt; applied(&mut world, 0, 1), Reply::Applied { number: 1, effect: Effect::Done });
+    assert_eq!(rt;
+        applied(&mut world, 0, 1),
+        Reply::Applied {
+            number: 1,
+            effect: Effect::Done
+        }
+    );
     assert_eq!(rt; relayed(&mut world, 0, 0), Reply::Relayed { number: 1 });
-    assert_eq!(rt; applied(&mut world, 0, 0), Reply::Applied { number: 1, effect: Effect::Noted });
+    assert_eq!(rt;
+        applied(&mut world, 0, 0),
+        Reply::Applied {
+            number: 1,
+            effect: Effect::Noted
+        }
+    );
     assert_eq!(rt; relayed(&mut world, 0, 2), Reply::Refused(Refusal::Nothing));
     shows_what_happened(&rt, &world);
     let gtin = gtin()?;
@@ -132,7 +165,10 @@ fn carries_a_master_to_the_market_it_names(rt: HostRuntime) -> Result<(), Fail> 
 fn refuses_each_step_by_its_number(rt: HostRuntime) -> Result<(), Fail> {
     let mut world = opened(&rt, 8, 1, 8, 1)?;
     assert_eq!(rt; routed(&mut world, 0), Reply::Refused(Refusal::UplinkEmpty));
-    assert_eq!(rt; applied(&mut world, 0, 1), Reply::Refused(Refusal::WireEmpty));
+    assert_eq!(rt;
+        applied(&mut world, 0, 1),
+        Reply::Refused(Refusal::WireEmpty)
+    );
     let reply = reply_to(&mut world, &submit(&rt, 0, "FI")?);
     assert_eq!(rt; reply, Reply::Submitted { k: 1 });
     let reply = reply_to(&mut world, &submit(&rt, 0, "FI")?);
@@ -141,7 +177,10 @@ fn refuses_each_step_by_its_number(rt: HostRuntime) -> Result<(), Fail> {
     assert!(rt; is_routed(&routed(&mut world, 0), 1, 1));
     assert_eq!(rt; routed(&mut world, 0), Reply::Refused(Refusal::UplinkEmpty));
     assert_eq!(rt; relayed(&mut world, 0, 1), Reply::Relayed { number: 1 });
-    assert_eq!(rt; relayed(&mut world, 0, 1), Reply::Refused(Refusal::WireFull));
+    assert_eq!(rt;
+        relayed(&mut world, 0, 1),
+        Reply::Refused(Refusal::WireFull)
+    );
     Ok(())
 }
 
@@ -178,14 +217,20 @@ fn takes_a_whole_run(rt: HostRuntime) -> Result<(), Fail> {
         Step::Route { from: 0 },
         Step::Relay { from: 0, to: 1 },
         Step::Apply { from: 0, to: 1 },
-        Step::Relay { from: 0, to: 2 }
+        Step::Relay { from: 0, to: 2 },
     ]?;
     let replies = replies_to(&mut world, steps.as_slice())?;
     assert_eq!(rt; replies.len(), 5);
     assert_eq!(rt; replies[0], Reply::Submitted { k: 1 });
     assert!(rt; is_routed(&replies[1], 1, 1));
     assert_eq!(rt; replies[2], Reply::Relayed { number: 1 });
-    assert_eq!(rt; replies[3], Reply::Applied { number: 1, effect: Effect::Done });
+    assert_eq!(rt;
+        replies[3],
+        Reply::Applied {
+            number: 1,
+            effect: Effect::Done
+        }
+    );
     assert_eq!(rt; replies[4], Reply::Refused(Refusal::Nothing));
     Ok(())
 }

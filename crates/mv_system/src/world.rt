@@ -55,17 +55,23 @@ impl World {
     {
         let count = parties.len();
         let size = limits.wire();
-        let wires = PairTable::from_fn(alloc, count, || -> Result<Wire, AllocError>
-            ensures { IfOk result (λ wire. wire ≡ new_wire size) }
-        {
-            let wire = Wire::new(alloc, size)?;
-            Ok(wire)
-        })?;
-        let accepted = PairTable::from_fn(alloc, count, || -> Result<Incoming, AllocError>
-            ensures { IfOk result (λ incoming. incoming ≡ 0) }
-        {
-            Ok(Incoming::new())
-        })?;
+        let wires = PairTable::from_fn(
+            alloc,
+            count,
+            || -> Result<Wire, AllocError>
+                ensures { IfOk result (λ wire. wire ≡ new_wire size) }
+            {
+                let wire = Wire::new(alloc, size)?;
+                Ok(wire)
+            },
+        )?;
+        let accepted = PairTable::from_fn(
+            alloc,
+            count,
+            || -> Result<Incoming, AllocError>
+                ensures { IfOk result (λ incoming. incoming ≡ 0) }
+            { Ok(Incoming::new()) },
+        )?;
         let submissions = no_submissions(alloc, count)?;
         let repositories = new_repositories(alloc, count)?;
         let hub = Hub::new(alloc, parties, limits.window())?;

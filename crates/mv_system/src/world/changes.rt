@@ -18,11 +18,16 @@ use std::alloc::AllocError;
 
 impl World {
     /// A party submits a copy of a message. Refused for want of memory.
-    pub(super) fn put_submission(&mut self, from: Party, message: &Message) -> Result<(), AllocError>
+    pub(super) fn put_submission(
+        &mut self,
+        from: Party,
+        message: &Message,
+    ) -> Result<(), AllocError>
         requires party { IsTrue (is_party self.old from) }
         requires room { length (submissions_of self.old from) < self.old.limits.submissions }
         ensures ok { OnOk result (self.new ≡ record self.old {
-            submissions = slice_set self.old.submissions from (submissions_of self.old from ++ message.now ∷ []) }) }
+          submissions = slice_set self.old.submissions from (submissions_of self.old from ++ message.now ∷ []);
+        }) }
         ensures err { OnErr result (self.new ≡ self.old) }
     {
         let of_sender = &mut self.submissions[from as usize];
@@ -55,7 +60,8 @@ impl World {
         ensures number { IfOk result (λ frame. frame.number ≡ sent_of self.old from to + 1) }
         ensures frame { IfOk result (λ frame. IsFrameOf (items_on self.old from to) frame) }
         ensures ok { OnOk result (self.new ≡ record self.old {
-            sent = put self.old.sent from to (sent_of self.old from to + 1) }) }
+          sent = put self.old.sent from to (sent_of self.old from to + 1);
+        }) }
         ensures err { OnErr result (self.new ≡ self.old) }
         ensures fault { RelayFails (sent_of self.old from to) (length (items_on self.old from to)) result }
     {
@@ -82,8 +88,9 @@ impl World {
         requires room { length (wire_of self.old from to) < self.old.limits.wire }
         ensures number { IfOk result (λ number. number ≡ sent_of self.old from to + 1) }
         ensures ok { OnOk result (self.new ≡ record self.old {
-            sent = put self.old.sent from to (sent_of self.old from to + 1);
-            wires = put self.old.wires from to (wire_of self.old from to ++ (sent_of self.old from to + 1) ∷ []) }) }
+          sent = put self.old.sent from to (sent_of self.old from to + 1);
+          wires = put self.old.wires from to (wire_of self.old from to ++ (sent_of self.old from to + 1) ∷ []);
+        }) }
         ensures err { OnErr result (self.new ≡ self.old) }
         ensures fault { RelayFails (sent_of self.old from to) (length (items_on self.old from to)) result }
     {

@@ -12,8 +12,8 @@ invariant_of-self c =
     let wire = c.at_mut-wire.result.now in
     let facts = link_facts p c.args.self.now c.args.from c.args.to wire c.self.invariant c.self.view_is c.requires (c.at_mut-wire.ensures.value (new_wire 0)) in
     wire_kept p c.args.from c.args.to c.drop_front.new.self c.self.invariant
-      (subst (λ (w : WireState). AllFramesOf a.hub c.args.from c.args.to w.frames) (sym c.drop_front.ensures) (AllFramesOf-drop a.hub c.args.from c.args.to wire.frames facts.frames))
-      (subst (FitsWire a.limits.wire) (sym c.drop_front.ensures) (record { size = facts.fits.size; within = omega (arith, facts.fits.within, length-drop 1 wire.frames) }))
+    (subst (λ (w : WireState). AllFramesOf a.hub c.args.from c.args.to w.frames) (sym c.drop_front.ensures) (AllFramesOf-drop a.hub c.args.from c.args.to wire.frames facts.frames))
+    (subst (FitsWire a.limits.wire) (sym c.drop_front.ensures) (record { size = facts.fits.size; within = omega (arith, facts.fits.within, length-drop 1 wire.frames) }))
 
 pub returns : goal.returns
 returns c =
@@ -22,4 +22,4 @@ returns c =
     let wire = c.at_mut-wire.result.now in
     let facts = link_facts p c.args.self.now c.args.from c.args.to wire c.self.invariant c.self.view_is c.requires (c.at_mut-wire.ensures.value (new_wire 0)) in
     wire_view p c.args.self.now c.args.from c.args.to c.drop_front.new.self _ c.self.view_is
-      (ap (λ (w : WireState). numbers_of w.frames) c.drop_front.ensures ∙ numbers_of-drop wire.frames ∙ ap (drop 1) facts.seen)
+    (ap (λ (w : WireState). numbers_of w.frames) c.drop_front.ensures ∙ numbers_of-drop wire.frames ∙ ap (drop 1) facts.seen)

@@ -40,14 +40,14 @@ invariant_of-self-2 c =
     let frame = c.in-Some.frame.now in
     let next = front_item p c.args.self.now from to c.at.result.now frame facts (sym c.front.ensures ∙ ap option_copied c.in-Some.is) c.requires.next in
     let whole : slice_get (items_on (state_of p) from to) (applied_count (state_of p) from to) ≡ Some frame.item =
-          subst (λ (t : State). slice_get (items_on t from to) (applied_count t from to) ≡ Some frame.item) (sym c.self.view_is) next in
+    subst (λ (t : State). slice_get (items_on t from to) (applied_count t from to) ≡ Some frame.item) (sym c.self.view_is) next in
     let count : c.advance.new.self ≡ cell a.accepted from to 0 + 1 = c.advance.ensures ∙ ap (λ n. n + 1) (sym (c.at_mut-incoming.ensures.value 0)) in
     let old : c.index_mut-repository.result.now ≡ repository_at a.repositories.items to =
-          get_or_read a.repositories.items to c.index_mut-repository.result.now
-            (omega (arith, places.to_party, c.self.invariant.well_formed.logs_each, length-map a.repositories.items (λ (r : RepositoryState). r.log)))
-            c.index_mut-repository.ensures.value (new_repository 0) in
+    get_or_read a.repositories.items to c.index_mut-repository.result.now
+    (omega (arith, places.to_party, c.self.invariant.well_formed.logs_each, length-map a.repositories.items (λ (r : RepositoryState). r.log)))
+    c.index_mut-repository.ensures.value (new_repository 0) in
     let new : c.apply.new.self ≡ with_applied (repository_at a.repositories.items to) from frame.item =
-          c.in_ok-effect.ensures.ok ∙ ap (λ r. with_applied r from frame.item) old in
+    c.in_ok-effect.ensures.ok ∙ ap (λ r. with_applied r from frame.item) old in
     subst (λ n. IsSystem (parts_of a.limits a.hub a.submissions.items a.wires (put a.accepted from to n) (set a.repositories.items to c.apply.new.self))) (sym count)
     (subst (λ r. IsSystem (parts_of a.limits a.hub a.submissions.items a.wires (put a.accepted from to (cell a.accepted from to 0 + 1)) (set a.repositories.items to r))) (sym new)
     (logged_kept p from to frame.item c.self.invariant places.from_party places.to_party whole))
@@ -63,14 +63,17 @@ returns-clause-ok c =
     let frame = c.in-Some.frame.now in
     let next = front_item p c.args.self.now from to c.at.result.now frame facts (sym c.front.ensures ∙ ap option_copied c.in-Some.is) c.requires.next in
     let old : c.index_mut-repository.result.now ≡ repository_at a.repositories.items to =
-          get_or_read a.repositories.items to c.index_mut-repository.result.now
-            (omega (arith, places.to_party, c.self.invariant.well_formed.logs_each, length-map a.repositories.items (λ (r : RepositoryState). r.log)))
-            c.index_mut-repository.ensures.value (new_repository 0) in
+    get_or_read a.repositories.items to c.index_mut-repository.result.now
+    (omega (arith, places.to_party, c.self.invariant.well_formed.logs_each, length-map a.repositories.items (λ (r : RepositoryState). r.log)))
+    c.index_mut-repository.ensures.value (new_repository 0) in
     let new : c.apply.new.self ≡ with_applied (repository_at a.repositories.items to) from frame.item =
-          c.in_ok-effect.ensures.ok ∙ ap (λ r. with_applied r from frame.item) old in
-    (frame.item, next, c.in_ok-effect.ensures.effect,
+    c.in_ok-effect.ensures.ok ∙ ap (λ r. with_applied r from frame.item) old in (
+      frame.item,
+      next,
+      c.in_ok-effect.ensures.effect,
       ap (λ (r : RepositoryState). state_of (parts_of a.limits a.hub a.submissions.items a.wires a.accepted (set a.repositories.items to r))) new
-      ∙ log_view p c.args.self.now from to frame.item a.accepted c.self.view_is)
+          ∙ log_view p c.args.self.now from to frame.item a.accepted c.self.view_is,
+    )
 
 pub returns-clause-member : goal.returns-clause-member
 returns-clause-member c =

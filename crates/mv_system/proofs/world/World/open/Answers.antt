@@ -19,7 +19,7 @@ invariant_of-result c =
     let size = c.len-count.ensures.value in
     let square : IsSquare n c.in_ok-wires.wires = subst (λ k. IsSquare k c.in_ok-wires.wires) size c.in_ok-wires.ensures.square in
     let empty : All (All (λ w. w ≡ new_wire limits.wire)) c.in_ok-wires.wires =
-          subst (λ k. All (All (λ w. w ≡ new_wire k)) c.in_ok-wires.wires) c.wire-size.ensures.value c.in_ok-wires.ensures.each in
+    subst (λ k. All (All (λ w. w ≡ new_wire k)) c.in_ok-wires.wires) c.wire-size.ensures.value c.in_ok-wires.ensures.each in
     let counts : IsSquare n c.in_ok-accepted.accepted = subst (λ k. IsSquare k c.in_ok-accepted.accepted) size c.in_ok-accepted.ensures.square in
     let submissions : c.in_ok-submissions.submissions.items ≡ replicate n [] = c.in_ok-submissions.ensures ∙ ap {A = ℕ} {B = List (List Message)} (λ k. replicate k []) size in
     let repositories : c.in_ok-repositories.repositories.items ≡ map new_repository (range_with_len 0 n) = c.in_ok-repositories.ensures ∙ ap {A = ℕ} {B = List RepositoryState} (λ k. map new_repository (range_with_len 0 k)) size in
@@ -37,7 +37,7 @@ returns c =
     let size = c.len-count.ensures.value in
     let square : IsSquare n c.in_ok-wires.wires = subst (λ k. IsSquare k c.in_ok-wires.wires) size c.in_ok-wires.ensures.square in
     let empty : All (All (λ w. w ≡ new_wire limits.wire)) c.in_ok-wires.wires =
-          subst (λ k. All (All (λ w. w ≡ new_wire k)) c.in_ok-wires.wires) c.wire-size.ensures.value c.in_ok-wires.ensures.each in
+    subst (λ k. All (All (λ w. w ≡ new_wire k)) c.in_ok-wires.wires) c.wire-size.ensures.value c.in_ok-wires.ensures.each in
     let submissions : c.in_ok-submissions.submissions.items ≡ replicate n [] = c.in_ok-submissions.ensures ∙ ap {A = ℕ} {B = List (List Message)} (λ k. replicate k []) size in
     let repositories : c.in_ok-repositories.repositories.items ≡ map new_repository (range_with_len 0 n) = c.in_ok-repositories.ensures ∙ ap {A = ℕ} {B = List RepositoryState} (λ k. map new_repository (range_with_len 0 k)) size in
     let hub = c.in_ok-hub.ensures ∙ ap (new_hub parties) c.window.ensures.value in

@@ -23,9 +23,9 @@ invariant_of-self c =
     let facts = link_facts p c.args.self.now c.args.from c.args.to wire c.self.invariant c.self.view_is c.requires.parties (c.at_mut-wire.ensures.value (new_wire 0)) in
     let of_link = subst (λ (t : State). IsFrameOf (items_on t c.args.from c.args.to) frame) (sym c.self.view_is) c.requires.frame in
     wire_kept p c.args.from c.args.to c.push.new.self c.self.invariant
-      (subst (λ (w : WireState). AllFramesOf a.hub c.args.from c.args.to w.frames) (sym c.push.ensures) (AllFramesOf-push a.hub c.args.from c.args.to wire.frames frame facts.frames of_link))
-      (subst (FitsWire a.limits.wire) (sym c.push.ensures)
-        (record { size = facts.fits.size; within = omega (arith, facts.len, c.requires.room, ap (λ l. l.wire) facts.limits, length-append wire.frames (frame ∷ [])) }))
+    (subst (λ (w : WireState). AllFramesOf a.hub c.args.from c.args.to w.frames) (sym c.push.ensures) (AllFramesOf-push a.hub c.args.from c.args.to wire.frames frame facts.frames of_link))
+    (subst (FitsWire a.limits.wire) (sym c.push.ensures)
+    (record { size = facts.fits.size; within = omega (arith, facts.len, c.requires.room, ap (λ l. l.wire) facts.limits, length-append wire.frames (frame ∷ [])) }))
 
 pub returns : goal.returns
 returns c =
@@ -34,4 +34,4 @@ returns c =
     let wire = c.at_mut-wire.result.now in
     let facts = link_facts p c.args.self.now c.args.from c.args.to wire c.self.invariant c.self.view_is c.requires.parties (c.at_mut-wire.ensures.value (new_wire 0)) in
     wire_view p c.args.self.now c.args.from c.args.to c.push.new.self _ c.self.view_is
-      (ap (λ (w : WireState). numbers_of w.frames) c.push.ensures ∙ numbers_of-push wire.frames c.args.frame ∙ ap (λ l. l ++ c.args.frame.number ∷ []) facts.seen)
+    (ap (λ (w : WireState). numbers_of w.frames) c.push.ensures ∙ numbers_of-push wire.frames c.args.frame ∙ ap (λ l. l ++ c.args.frame.number ∷ []) facts.seen)

@@ -15,7 +15,7 @@ invariant_of-self-2 c =
     let place = party-place p c.args.self.now from c.self.view_is c.requires.party in
     let old = submissions_of (state_of p) from in
     let at : c.index_mut-of_sender.result.now ≡ old =
-          get_or_read a.submissions.items from c.index_mut-of_sender.result.now (omega (arith, place, c.self.invariant.well_formed.submissions_each)) c.index_mut-of_sender.ensures.value [] in
+    get_or_read a.submissions.items from c.index_mut-of_sender.result.now (omega (arith, place, c.self.invariant.well_formed.submissions_each)) c.index_mut-of_sender.ensures.value [] in
     let new : c.push.new.self ≡ old ++ message ∷ [] = c.in_ok-push.ensures.ok ∙ ap (λ l. l ++ message ∷ []) at in
     let room : length old < a.limits.submissions = subst (λ (t : State). length (submissions_of t from) < t.limits.submissions) (sym c.self.view_is) c.requires.room in
     subst (λ l. IsSystem (parts_of a.limits a.hub (set a.submissions.items from l) a.wires a.accepted a.repositories.items)) (sym new)

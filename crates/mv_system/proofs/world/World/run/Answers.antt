@@ -10,11 +10,11 @@ loop-step-preserved c =
     let i = c.loop-step.step-index in
     let steps = c.args.steps.now in
     let more : take (i + 1) steps ≡ take i steps ++ c.step-item.result ∷ [] =
-        take_more steps i c.step-item.result (omega arith) ∙ ap (λ x. take i steps ++ x ∷ []) (sym c.step-item.is) in
+    take_more steps i c.step-item.result (omega arith) ∙ ap (λ x. take i steps ++ x ∷ []) (sym c.step-item.is) in
     record {
       ran = subst (λ l. Runs c.args.self.now l c.push_reserved.new.self.items c.step-reply.new.self) (sym more)
-        (subst (λ l. Runs c.args.self.now (take i steps ++ c.step-item.result ∷ []) l c.step-reply.new.self) (sym c.push_reserved.ensures.items)
-        (runs-push c.args.self.now (take i steps) c.loop-step.replies.items c.loop-step.self c.step-item.result c.step-reply.result c.step-reply.new.self c.loop-step.invariant.ran c.step-reply.ensures.allowed));
+          (subst (λ l. Runs c.args.self.now (take i steps ++ c.step-item.result ∷ []) l c.step-reply.new.self) (sym c.push_reserved.ensures.items)
+          (runs-push c.args.self.now (take i steps) c.loop-step.replies.items c.loop-step.self c.step-item.result c.step-reply.result c.step-reply.new.self c.loop-step.invariant.ran c.step-reply.ensures.allowed));
       well_formed = c.step-reply.ensures.well_formed;
       lawful = c.step-reply.ensures.lawful;
       room = omega (arith, c.push_reserved.ensures.capacity, c.loop-step.invariant.room);

@@ -12,5 +12,5 @@ overflow_sub-result c =
     let from = c.args.from in
     let place = party-place p c.args.self.now from c.self.view_is c.requires in
     let at : c.index.result.now ≡ submissions_of (state_of p) from =
-          get_or_read a.submissions.items from c.index.result.now (omega (arith, place, c.self.invariant.well_formed.submissions_each)) c.index.ensures [] in
+    get_or_read a.submissions.items from c.index.result.now (omega (arith, place, c.self.invariant.well_formed.submissions_each)) c.index.ensures [] in
     omega (arith, waiting-count p from c.self.invariant place, ap length at, c.len.ensures, c.routed_count.ensures.value)

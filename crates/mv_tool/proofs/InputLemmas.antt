@@ -1,5 +1,5 @@
 -- Lemmas on an input that comes in parts.
-use Rattle.std.proofs.Common.{◌≡◌, ℕ, ◌+◌, ◌<◌, List, [], ◌∷◌, ◌++◌, length, refl, sym, ◌∙◌, ap, arith, append_assoc, length-append, true, false, All}
+use Rattle.std.proofs.Common.{◌≡◌, ℕ, ◌+◌, ◌<◌, List, [], ◌∷◌, ◌++◌, length, refl, sym, ◌∙◌, ap, arith, append_assoc, length-append, true, false}
 use Rattle.std.proofs.Common.{take, drop, get_or, drop-cons, add-one, append-nil}
 use Rattle.std.proofs.lemmas.List.{take-append-drop, map-append}
 use Rattle.std.proofs.lemmas.List.Elements.{All-append, filter-append}
@@ -7,8 +7,7 @@ use Rattle.std.specs.Prelude.{cond, ◌==◌, map, filter}
 use Rattle.std.specs.Io.BufRead.{strip_last}
 use Rattle.mv_tool.specs.declared.fault.ServeFault.{ServeFault}
 use Rattle.mv_tool.specs.declared.fault.ServeFault.TheVariants.{Read, Write, Memory, TooManyLines, LineTooLong}
-use Rattle.mv_tool.specs.Lines.{whole_from, rest_from, pieces, last_piece, lines_of, has_byte}
-use Rattle.mv_tool.specs.Replies.{IsReplies}
+use Rattle.mv_tool.specs.Lines.{whole_from, rest_from, lines_of, has_byte}
 use Rattle.mv_tool.specs.Served.{Taken, Stopped, StopsAt, IsShort}
 use Rattle.mv_tool.proofs.RepliesLemmas.{IsReplies-append, IsReplies-nil}
 

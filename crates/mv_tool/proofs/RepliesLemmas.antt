@@ -1,10 +1,10 @@
 -- Lemmas on replies to lines that come in parts.
-use Rattle.std.proofs.Common.{◌≡◌, ℕ, List, [], ◌∷◌, ◌++◌, ◌≢◌, refl, length, arith, sym, ap, subst, ◌∙◌, append-nil}
+use Rattle.std.proofs.Common.{◌≡◌, ℕ, List, [], ◌∷◌, ◌++◌, ◌≢◌, refl, length, arith, sym, ap, subst, append-nil}
 use Rattle.std.specs.Prelude.{cond}
 use Rattle.std.proofs.lemmas.Grind.{flat_map-append}
 use Rattle.std.specs.Io.BufRead.{strip_last}
 use Rattle.mv_tool.specs.Lines.{lines_of, has_byte}
-use Rattle.mv_tool.specs.Replies.{AreReplies, IsReplies, text_lines}
+use Rattle.mv_tool.specs.Replies.{AreReplies, IsReplies}
 
 -- a list of no length is empty
 pub length_zero : (xs : List ℕ) → length xs ≡ 0 → xs ≡ []

@@ -1,8 +1,8 @@
 -- Lemmas on what a run over lines has written.
 use Rattle.std.proofs.Common.{◌≡◌, ℕ, ◌+◌, ◌<◌, ◌≤◌, List, [], ◌∷◌, ◌++◌, length, refl, sym, ◌∙◌, ap, arith, append_assoc, length-append, append-nil, take, subst, All, rules}
-use Rattle.std.specs.Prelude.{Option, Result, Ok, Err, OnOk, IfErr, IfSome}
-use Rattle.std.specs.Io.KnownBytes.{Appends, Consumes, IsAtEnd}
-use Rattle.std.proofs.KnownBytes.{Appends-trans, Appends-nil, Consumes-trans, Consumes-whole}
+use Rattle.std.specs.Prelude.{Option, Result, Ok, Err, OnOk, IfErr}
+use Rattle.std.specs.Io.KnownBytes.{Appends, Consumes}
+use Rattle.std.proofs.KnownBytes.{Appends-trans, Consumes-trans}
 use Rattle.std.proofs.lemmas.List.Elements.{All-append}
 use Rattle.mv_tool.specs.declared.fault.ServeFault.{ServeFault}
 use Rattle.mv_tool.specs.declared.fault.ServeFault.TheVariants.{Read, Write, Memory, TooManyLines, LineTooLong}
@@ -12,7 +12,7 @@ use Rattle.mv_tool.specs.Output.{WrotePart}
 use Rattle.mv_tool.specs.Replies.{IsReplies}
 use Rattle.mv_tool.specs.Served.{Taken, Stopped, WroteReplies, Halted, HaltedLast, Served, Ended, IsShort}
 use Rattle.mv_tool.proofs.RepliesLemmas.{IsReplies-append, IsReplies-nil}
-use Rattle.mv_tool.proofs.InputLemmas.{whole_from-append, rest_from-append, lines_of-append, whole_lines-append, taken_more, stopped_later}
+use Rattle.mv_tool.proofs.InputLemmas.{lines_of-append, whole_lines-append, stopped_later}
 
 -- a last piece is short, and is the last that a run may have
 last_short : (begun : List ℕ) → length begun ≤ LINE_LIMIT → All IsShort (last_piece begun)

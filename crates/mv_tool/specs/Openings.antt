@@ -1,9 +1,8 @@
 -- What an opening gives.
 use Rattle.std.specs.Prelude.{◌≡◌, ◌≢◌, ℕ, List, codes, Result, Ok, Err}
 use Rattle.mv_hub.specs.Fault.{code_of as hub_code}
-use Rattle.mv_hub.specs.Parties.{parties_of}
 use Rattle.mv_hub.specs.declared.fault.HubFault.{HubFault}
-use Rattle.mv_machine.specs.Limits.{Bounds, limits_of, code_of as limits_code}
+use Rattle.mv_machine.specs.Limits.{Bounds, code_of as limits_code}
 use Rattle.mv_machine.specs.declared.limits.LimitsFault.{LimitsFault}
 use Rattle.mv_tool.specs.declared.open_fault.OpenFault.{OpenFault}
 use Rattle.mv_tool.specs.declared.open_fault.OpenFault.TheVariants.{NotOpen, AlreadyOpen, Parties, Limits, Memory}

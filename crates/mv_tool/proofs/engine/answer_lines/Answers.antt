@@ -1,4 +1,3 @@
-use Rattle.std.proofs.Common.{[]}
 use Rattle.std.proofs.KnownBytes.{Consumes-kept, Consumes-whole, Consumes-trans, Appends-trans}
 use Rattle.std.proofs.lemmas.Result.{err_from_is_err_and, MatchResult-weaker}
 use Rattle.mv_tool.proofs.InputLemmas.{taken_more}

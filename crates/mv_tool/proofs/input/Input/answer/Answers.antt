@@ -1,4 +1,4 @@
-use Rattle.std.proofs.Common.{rules, ◌≡◌, ◌≢◌, List, ◌∷◌, [], ◌++◌, length, sym, ◌∙◌}
+use Rattle.std.proofs.Common.{rules, ◌≡◌, ◌≢◌, ◌∷◌, [], ◌++◌, length, sym, ◌∙◌}
 use Rattle.std.specs.Prelude.{string_bytes}
 use Rattle.std.specs.Io.BufRead.{strip_last}
 use Rattle.mv_tool.proofs.RepliesLemmas.{nothing_added, reply_added, length_zero, length_none}

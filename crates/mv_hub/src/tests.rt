@@ -1,22 +1,21 @@
+//! Worked examples of the hub, with the answers of a person who knew them. A full window runs on the built program, as a file of
+//! `examples/`.
+
 use crate::{Hub, HubFault, Parties, RouteFault};
 use mv_link::Item;
 use mv_message::{Markets, Message, Product, Text};
 use mv_pack::{Gtin, Market};
-use std::alloc::Global;
+use std::alloc::{AllocError, Global};
 use std::test::Fail;
 
-const A: &str = "9506000134352";
-
-const B: &str = "12345670";
-
-fn text(alloc: Global, text: &str) -> Result<Text, Fail> {
-    Ok(Text::new(String::from_str(alloc, text)?))
+/// A free text.
+fn text(alloc: Global, bytes: &str) -> Result<Text, AllocError> {
+    Ok(Text::new(String::from_str(alloc, bytes)?))
 }
 
-// A master of product A for these markets.
-fn master(alloc: Global, markets: Vec<Market>) -> Result<Message, Fail> {
-    let gtin = Gtin::read(A)?;
-    let product = Product {
+/// A product for one market.
+fn product(alloc: Global, market: Market) -> Result<Product, AllocError> {
+    Ok(Product {
         scheme: text(alloc, "GTIN")?,
         name: text(alloc, "Examplin")?,
         common: text(alloc, "paracetamol")?,
@@ -24,109 +23,122 @@ fn master(alloc: Global, markets: Vec<Market>) -> Result<Message, Fail> {
         strength: text(alloc, "500 mg")?,
         pack_type: text(alloc, "blister")?,
         pack_size: text(alloc, "30")?,
-        markets: Markets::new(markets),
-    };
-    Ok(Message::Master { gtin, product })
+        markets: Markets::new(vec![in alloc; market]?),
+    })
 }
 
-// Parties 0 (no market), 1 (FI) and 2 (SE, DK).
-fn three_parties(alloc: Global) -> Result<Parties, Fail> {
-    let fi = vec![in alloc; Market::read("FI")?; 1]?;
-    let north = Vec::from_array(alloc, [Market::read("SE")?, Market::read("DK")?])?;
-    let lists = Vec::from_array(alloc, [Vec::new(alloc), fi, north])?;
-    Parties::new(alloc, lists).map_err(|fault| Fail::from(fault.code()))
+/// The master of a product for one market.
+fn master(alloc: Global, gtin: Gtin, market: Market) -> Option<Message> {
+    let product = product(alloc, market).ok()?;
+    Some(Message::Master { gtin, product })
 }
 
-// The number of the fault of these parties, or `ok`.
-fn code_of_parties(answer: Result<Parties, HubFault>) -> &'static str {
-    match answer {
-        Ok(_) => "ok",
-        Err(fault) => fault.code(),
+/// So many lists, each with the market so many times.
+fn lists_of(
+    alloc: Global,
+    count: u32,
+    market: Market,
+    times: u32,
+) -> Result<Vec<Vec<Market>>, AllocError> {
+    let mut lists = Vec::new(alloc);
+    for _ in 0..count {
+        let mut list = Vec::new(alloc);
+        for _ in 0..times {
+            list.push(market)?;
+        }
+        lists.push(list)?;
     }
+    Ok(lists)
 }
 
-// What a routing answers: `ok` and the number, or the number of the fault and the busy party. A refusal leaves the record.
-fn routed(hub: &mut Hub, from: u32, message: &Message) -> (&'static str, u32) {
-    let before = hub.record().len();
-    if before >= 1_000_000 {
-        return ("too many entries", 0);
+/// Why there are no parties of so many lists, each with the market so many times.
+fn fault_of(alloc: Global, count: u32, market: Market, times: u32) -> Option<HubFault> {
+    let lists = lists_of(alloc, count, market, times).ok()?;
+    Parties::new(alloc, lists).err()
+}
+
+/// A hub of two parties: 0 serves no market, 1 the market.
+fn hub_of(alloc: Global, market: Market) -> Option<Hub> {
+    let served = vec![in alloc; market].ok()?;
+    let lists = vec![in alloc; Vec::new(alloc), served].ok()?;
+    let parties = Parties::new(alloc, lists).ok()?;
+    Hub::new(alloc, parties, 8).ok()
+}
+
+/// Whether a message from a party is its k-th, and reaches party 1 alone.
+fn is_routed(hub: &mut Hub, from: u32, message: &Message, number: u32) -> bool {
+    if hub.record().len() > 1_000_000 {
+        return false;
     }
     match hub.route(from, message) {
-        Ok((k, _)) => ("ok", k),
-        Err(_) if hub.record().len() != before => ("changed", 0),
-        Err(RouteFault::Busy(to)) => ("H5", to),
-        Err(fault) => (fault.code(), 0),
+        Ok((k, reach)) => k == number && reach.as_slice() == [1].as_slice(),
+        Err(_) => false,
     }
 }
 
-// What a relay answers: what the item is and its number on the link, or the number of the fault.
-fn relayed(hub: &mut Hub, from: u32, to: u32) -> (&'static str, u32) {
-    match hub.relay(from, to) {
-        Ok(frame) => match frame.item {
-            Item::Receipt { .. } => ("receipt", frame.number),
-            Item::Carried { .. } => ("carried", frame.number),
-        },
-        Err(fault) => (fault.code(), 0),
+/// Whether a party that does not exist cannot send.
+fn is_stranger(hub: &mut Hub, from: u32, message: &Message) -> bool {
+    if hub.record().len() > 1_000_000 {
+        return false;
     }
+    match hub.route(from, message) {
+        Ok(_) => false,
+        Err(fault) => fault == RouteFault::StrangerParty,
+    }
+}
+
+/// Whether the next frame of a link from party 0 has this number, and carries the message.
+fn is_carried(hub: &mut Hub, to: u32, number: u32) -> bool {
+    match hub.relay(0, to) {
+        Ok(frame) => frame.number == number && matches!(frame.item, Item::Carried { .. }),
+        Err(_) => false,
+    }
+}
+
+/// Why a link from party 0 gives no frame.
+fn relay_fault(hub: &mut Hub, to: u32) -> Option<HubFault> {
+    hub.relay(0, to).err()
+}
+
+/// Whether the readers show two routed masters.
+fn shows_two(hub: &Hub, gtin: &Gtin, market: Market) -> bool {
+    if hub.parties().len() != 2 {
+        return false;
+    }
+    let served = [market];
+    hub.parties().serving(&served).as_slice() == [1].as_slice()
+        && hub.record().len() == 2
+        && hub.routed_count(0) == 2
+        && hub.total(0, 1) == 2
+        && hub.markets(gtin) == Some(served.as_slice())
 }
 
 #[test]
-fn parties_are_refused_by_the_first_fault(rt: HostRuntime) -> Result<(), Fail> {
-    let alloc = rt.alloc();
-    let fi = Market::read("FI")?;
-    for (count, each, want) in [
-        (0, 0, "H1"),
-        (64, 0, "ok"),
-        (65, 1, "H2"),
-        (2, 1, "H3"),
-        (1, 2, "H3"),
-        (1, 1, "ok"),
-    ] {
-        let mut lists = Vec::new(alloc);
-        for _ in 0..count {
-            lists.push(vec![in alloc; fi; each]?)?;
-        }
-        assert_eq!(rt; code_of_parties(Parties::new(alloc, lists)), want);
-    }
+fn makes_parties_or_says_why_not(rt: HostRuntime) -> Result<(), Fail> {
+    let market = Market::read("FI").ok().ok_or("a market")?;
+    assert!(rt; fault_of(rt.alloc(), 0, market, 0) == Some(HubFault::NoParty));
+    assert!(rt; fault_of(rt.alloc(), 64, market, 0) == None);
+    assert!(rt; fault_of(rt.alloc(), 65, market, 0) == Some(HubFault::TooMany));
+    assert!(rt; fault_of(rt.alloc(), 2, market, 1) == Some(HubFault::ServedTwice));
+    assert!(rt; fault_of(rt.alloc(), 1, market, 2) == Some(HubFault::ServedTwice));
+    assert!(rt; HubFault::ServedTwice.code() == "H3");
+    assert!(rt; RouteFault::Busy(1).code() == "H5");
     Ok(())
 }
 
 #[test]
-fn master_reaches_the_markets_that_the_product_had_and_has(rt: HostRuntime) -> Result<(), Fail> {
-    let alloc = rt.alloc();
-    let mut hub = Hub::new(alloc, three_parties(alloc)?, 8)?;
-    let se = vec![in alloc; Market::read("SE")?; 1]?;
-    let first = master(alloc, vec![in alloc; Market::read("FI")?; 1]?)?;
-    let second = master(alloc, vec![in alloc; Market::read("SE")?; 1]?)?;
-    assert!(rt; hub.parties().len() == 3);
-    assert!(rt; hub.parties().serving(se.as_slice()).as_slice() == [2].as_slice());
-    assert_eq!(rt; routed(&mut hub, 0, &first), ("ok", 1));
-    assert_eq!(rt; routed(&mut hub, 0, &second), ("ok", 2));
-    assert_eq!(rt; routed(&mut hub, 3, &first), ("H4", 0));
-    assert!(rt; hub.parties().len() == 3);
-    assert_eq!(rt;
-        (hub.total(0, 0), hub.total(0, 1), hub.total(0, 2)),
-        (2, 2, 1)
-    );
-    assert_eq!(rt; (hub.routed_count(0), hub.routed_count(1)), (2, 0));
-    assert!(rt; hub.markets(&Gtin::read(A)?) == Some(se.as_slice()));
-    assert!(rt; hub.markets(&Gtin::read(B)?).is_none());
-    Ok(())
-}
-
-#[test]
-fn full_window_refuses_its_sender_until_it_is_relayed(rt: HostRuntime) -> Result<(), Fail> {
-    let alloc = rt.alloc();
-    let mut hub = Hub::new(alloc, three_parties(alloc)?, 2)?;
-    let message = master(alloc, vec![in alloc; Market::read("FI")?; 1]?)?;
-    assert_eq!(rt; routed(&mut hub, 0, &message), ("ok", 1));
-    assert_eq!(rt; routed(&mut hub, 0, &message), ("ok", 2));
-    assert_eq!(rt; routed(&mut hub, 0, &message), ("H5", 0));
-    assert_eq!(rt; relayed(&mut hub, 0, 0), ("receipt", 1));
-    assert_eq!(rt; routed(&mut hub, 0, &message), ("H5", 1));
-    assert_eq!(rt; relayed(&mut hub, 0, 1), ("carried", 1));
-    assert_eq!(rt; routed(&mut hub, 0, &message), ("ok", 3));
-    assert_eq!(rt; relayed(&mut hub, 0, 2), ("H8", 0));
-    assert_eq!(rt; relayed(&mut hub, 0, 3), ("H4", 0));
+fn routes_and_relays_two_masters(rt: HostRuntime) -> Result<(), Fail> {
+    let market = Market::read("FI").ok().ok_or("a market")?;
+    let gtin = Gtin::read("09506000134352").ok().ok_or("a GTIN")?;
+    let message = master(rt.alloc(), gtin, market).ok_or("a master")?;
+    let mut hub = hub_of(rt.alloc(), market).ok_or("a hub")?;
+    assert!(rt; is_routed(&mut hub, 0, &message, 1));
+    assert!(rt; is_routed(&mut hub, 0, &message, 2));
+    assert!(rt; is_stranger(&mut hub, 2, &message));
+    assert!(rt; shows_two(&hub, &gtin, market));
+    assert!(rt; is_carried(&mut hub, 1, 1));
+    assert!(rt; is_carried(&mut hub, 1, 2));
+    assert!(rt; relay_fault(&mut hub, 1) == Some(HubFault::Nothing));
+    assert!(rt; relay_fault(&mut hub, 2) == Some(HubFault::StrangerParty));
     Ok(())
 }

@@ -1,27 +1,27 @@
 -- What the hub keeps, through a routing and a relay.
-use Rattle.std.proofs.Common.{◌≡◌, ◌≢◌, ℕ, ◌+◌, ◌-◌, ◌<◌, ◌≤◌, Bool, true, false, ◌&&◌, ◌||◌, not, List, [], ◌∷◌, ◌++◌, length, map, get_or, set, cond, Option, Some, None, sym, refl, ap, ◌∙◌, subst, arith, inl, inr, append-nil, eqb, zero-add, length-append, length-set, get_or-set_same, get_or-set_other}
+use Rattle.std.proofs.Common.{◌≡◌, ℕ, ◌+◌, ◌-◌, ◌<◌, ◌≤◌, Bool, true, false, ◌&&◌, ◌||◌, not, List, [], ◌∷◌, ◌++◌, length, get_or, set, cond, Option, Some, None, sym, refl, ap, ◌∙◌, subst, arith, inl, inr, append-nil, eqb, zero-add, length-append, length-set, get_or-set_same, get_or-set_other}
 use mir.Val.{bool_byte}
-use Rattle.std.specs.Prelude.{nat_lt, ◌==◌, replicate, find}
-use Rattle.std.specs.List.{All, list_any, range_with_len}
+use Rattle.std.specs.Prelude.{nat_lt, ◌==◌, replicate}
+use Rattle.std.specs.List.{All, list_any}
 use Rattle.std.specs.Map.{lookup}
-use Rattle.std.proofs.lemmas.Bool.{cases_eq, cases_lt, eq-eqb, ne_eqb, lt-ltb, le-ltb, ltb-false}
+use Rattle.std.proofs.lemmas.Bool.{cases_eq, eq-eqb, ne_eqb, lt-ltb, le-ltb, ltb-false}
 use Rattle.std.proofs.lemmas.List.{get_or-replicate, length-replicate}
 use Rattle.std.proofs.lemmas.List.FromFn.{get_or-map-range_with_len, length-map-range_with_len}
 use Rattle.mv_message.specs.declared.message.Message.{Message}
 use Rattle.mv_message.specs.declared.message.Message.TheVariants.{Master}
 use Rattle.mv_link.specs.declared.item.Item.{Item}
 use Rattle.mv_link.specs.declared.item.Item.TheVariants.{Receipt, Carried}
-use Rattle.mv_link.specs.Sending.{Sending, EndsWithHeld, HasRoom, new_sending, with_relayed as link_relayed}
+use Rattle.mv_link.specs.Sending.{Sending, HasRoom, new_sending}
 use Rattle.mv_pairs.specs.Pairs.{cell, put, IsSquare}
-use Rattle.mv_pairs.proofs.PairsLemmas.{put-each_pair, square-put, cell-map, put-map, cell-all, table-all}
+use Rattle.mv_pairs.proofs.PairsLemmas.{cell-map, put-map, cell-all, table-all}
 use Rattle.mv_hub.specs.declared.entry.Entry.{Entry}
 use Rattle.mv_hub.specs.declared.entry.Entry.TheVariants.{Routed, Closed}
-use Rattle.mv_hub.specs.Record.{routed_from, routed_count, last_markets, last_markets_after, is_same_gtin, is_open}
+use Rattle.mv_hub.specs.Record.{routed_from, routed_count, last_markets_after, is_same_gtin, is_open}
 use Rattle.mv_hub.specs.Targets.{reach, is_reached, is_query}
 use Rattle.mv_hub.specs.Links.{gained, link_items}
 use Rattle.mv_hub.specs.Hub.{HubState, new_hub, sent_of, items_on, next_items, gains_of, is_busy, busy_party, busy_fault, route_fault, with_relayed}
 use Rattle.mv_hub.specs.declared.fault.RouteFault.TheVariants.{StrangerParty}
-use Rattle.mv_hub.specs.Kept.{link_at, sent_table, AreCounts, AreMarkets, AreOpen, Carries, AreLinks, IsKept, Gains, GainsRow}
+use Rattle.mv_hub.specs.Kept.{link_at, sent_table, AreCounts, AreMarkets, Carries, AreLinks, IsKept, Gains, GainsRow}
 use Rattle.mv_hub.proofs.RecordLemmas.{routed_from-append, link_items-push, gained_other}
 use Rattle.mv_hub.proofs.NumberLemmas.{any-filter_range, find-none_at}
 

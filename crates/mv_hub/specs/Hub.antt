@@ -1,5 +1,5 @@
 -- What the hub is seen as. Neither links nor tables are part of it: they follow from the record.
-use Rattle.std.specs.Prelude.{ℕ, List, [], ◌∷◌, ◌++◌, ◌+◌, ◌-◌, length, map, Bool, ◌||◌, ◌&&◌, ◌==◌, not, nat_lt, replicate, find, Option, Some, None, Result, Ok, Err, if◌then◌else◌}
+use Rattle.std.specs.Prelude.{ℕ, List, [], ◌∷◌, ◌++◌, ◌+◌, ◌-◌, length, map, Bool, ◌||◌, ◌&&◌, ◌==◌, not, nat_lt, replicate, find, Option, Some, None, if◌then◌else◌}
 use Rattle.std.specs.List.{range_with_len}
 use Rattle.mv_message.specs.declared.message.Message.{Message}
 use Rattle.mv_link.specs.declared.item.Item.{Item}
@@ -11,7 +11,6 @@ use Rattle.mv_hub.specs.declared.fault.RouteFault.TheVariants.{StrangerParty, Bu
 use Rattle.mv_hub.specs.declared.fault.HubFault.{HubFault}
 use Rattle.mv_hub.specs.declared.fault.HubFault.TheVariants.{StrangerParty as Stranger, Nothing}
 use Rattle.mv_hub.specs.Record.{routed_count}
-use Rattle.mv_hub.specs.Targets.{reach}
 use Rattle.mv_hub.specs.Links.{gained, link_items}
 
 pub record HubState : Type 0 where

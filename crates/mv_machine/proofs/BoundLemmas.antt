@@ -1,15 +1,14 @@
 -- How long the record can grow: each sender routes what it submitted, and each link is closed at most once.
-use Rattle.std.proofs.Common.{◌≡◌, ℕ, zero, suc, ◌+◌, ◌*◌, ◌<◌, ◌≤◌, Bool, true, false, List, [], ◌∷◌, ◌++◌, length, cond, eqb, sym, refl, ap, ◌∙◌, subst, arith, length-append, append_assoc}
+use Rattle.std.proofs.Common.{◌≡◌, ℕ, zero, suc, ◌+◌, ◌*◌, ◌<◌, ◌≤◌, Bool, true, false, List, [], ◌∷◌, ◌++◌, length, cond, eqb, refl, ap, ◌∙◌, subst, arith, length-append}
 use Rattle.std.specs.Prelude.{◌&&◌, not}
 use Rattle.std.proofs.Math.Nat.{mul-le-mul_left}
 use Rattle.std.proofs.Common.{eqb-true}
 use Rattle.std.proofs.lemmas.Bool.{eqb-false, eq-eqb, and_parts}
-use Rattle.mv_message.specs.declared.message.Message.{Message}
 use Rattle.mv_hub.specs.declared.entry.Entry.{Entry}
 use Rattle.mv_hub.specs.declared.entry.Entry.TheVariants.{Routed, Closed}
 use Rattle.mv_hub.specs.Record.{routed_from, routed_count, is_open}
 use Rattle.mv_machine.specs.State.{State, submissions_of}
-use Rattle.mv_machine.specs.Lawful.{Fits, AllFit, AllNameParties, IsLawful}
+use Rattle.mv_machine.specs.Lawful.{AllFit, AllNameParties, IsLawful}
 
 -- the sum of what a function gives for the numbers below another
 sum_below : ℕ → (ℕ → ℕ) → ℕ

@@ -1,6 +1,6 @@
 -- Each step keeps a state well formed and lawful, and so does each run.
-use Rattle.std.proofs.Common.{◌≡◌, ℕ, ◌+◌, ◌-◌, ◌<◌, ◌≤◌, Bool, true, false, List, [], ◌∷◌, ◌++◌, length, get_or, set, cond, Some, None, Option, sym, refl, ap, ◌∙◌, subst, append_assoc, append-nil, arith, length-set, eqb, eqb-true, ltb-true}
-use Rattle.std.specs.Prelude.{slice_get, not, ◌==◌, ◌&&◌, nat_lt, nat_le, find, MatchBool, replicate}
+use Rattle.std.proofs.Common.{◌≡◌, ℕ, ◌+◌, ◌-◌, ◌<◌, Bool, true, false, List, [], ◌∷◌, ◌++◌, length, set, cond, Some, None, Option, sym, refl, ap, ◌∙◌, subst, append_assoc, append-nil, arith, length-set, eqb, eqb-true, ltb-true}
+use Rattle.std.specs.Prelude.{slice_get, not, ◌==◌, nat_lt, nat_le, find, MatchBool}
 use Rattle.std.specs.List.{range_with_len}
 use Rattle.std.proofs.lemmas.Bool.{not-false, and_parts, leb-false, ltb-false}
 use Rattle.std.proofs.lemmas.List.{get_or-replicate, length-replicate}
@@ -10,7 +10,6 @@ use Rattle.mv_link.specs.declared.item.Item.{Item}
 use Rattle.mv_pairs.specs.Pairs.{put, IsSquare}
 use Rattle.mv_pairs.proofs.PairsLemmas.{put-each, square-put, square-replicate}
 use Rattle.mv_hub.specs.declared.entry.Entry.{Entry}
-use Rattle.mv_hub.specs.declared.entry.Entry.TheVariants.{Routed, Closed}
 use Rattle.mv_hub.specs.Record.{routed_from, routed_count}
 use Rattle.mv_hub.specs.Links.{gained}
 use Rattle.mv_hub.proofs.RecordLemmas.{routed_from-append, link_items-push}
@@ -20,7 +19,7 @@ use Rattle.mv_machine.specs.declared.step.Step.{Step}
 use Rattle.mv_machine.specs.declared.step.Step.TheVariants.{Submit, Route, Relay, Apply}
 use Rattle.mv_machine.specs.declared.reply.Reply.{Reply}
 use Rattle.mv_machine.specs.Limits.{Bounds}
-use Rattle.mv_machine.specs.Replies.{takes_memory, wants_memory}
+use Rattle.mv_machine.specs.Replies.{wants_memory}
 use Rattle.mv_machine.specs.State.{State, is_party, are_parties, submissions_of, waiting_of, sent_of, wire_of, log_of, items_on, applied_count, opening}
 use Rattle.mv_machine.specs.Steps.{Outcome, submit, next_entry, is_full, route_unless, route_front, route, relay, apply_next, apply_front, apply, outcome}
 use Rattle.mv_machine.specs.Runs.{Allows, Runs}

@@ -1,5 +1,5 @@
 -- What holds of every state that a system comes to.
-use Rattle.std.specs.Prelude.{◌≡◌, ◌<◌, ◌≤◌, ◌+◌, ℕ, List, [], ◌∷◌, ◌++◌, length, true}
+use Rattle.std.specs.Prelude.{◌≡◌, ◌<◌, ◌+◌, ℕ, List, [], ◌∷◌, ◌++◌, length, true}
 use mathlib.Core.List.{IsPrefix}
 use Rattle.mv_pairs.specs.Pairs.{IsSquare}
 use Rattle.mv_hub.specs.declared.entry.Entry.{Entry}

@@ -1,8 +1,8 @@
 -- The state of the list machine: the whole system as plain lists.
-use Rattle.std.specs.Prelude.{◌≡◌, ◌<◌, ◌&&◌, ℕ, List, [], length, drop, Bool, slice_index_or, slice_set, nat_lt, replicate}
+use Rattle.std.specs.Prelude.{◌&&◌, ℕ, List, [], length, drop, Bool, slice_index_or, nat_lt, replicate}
 use Rattle.mv_message.specs.declared.message.Message.{Message}
 use Rattle.mv_link.specs.declared.item.Item.{Item}
-use Rattle.mv_pairs.specs.Pairs.{cell, put, IsSquare}
+use Rattle.mv_pairs.specs.Pairs.{cell, put}
 use Rattle.mv_hub.specs.declared.entry.Entry.{Entry}
 use Rattle.mv_hub.specs.Record.{routed_count}
 use Rattle.mv_hub.specs.Links.{link_items}

@@ -1,4 +1,4 @@
-use Rattle.std.proofs.Common.{◌≡◌, ◌<◌, arith, sym, ap, ◌∙◌, subst, length, [], refl, take_all, inr, get_or}
+use Rattle.std.proofs.Common.{◌≡◌, arith, sym, ap, ◌∙◌, subst, length, [], take_all, inr}
 use Rattle.mv_link.specs.Sending.{HasRoom, new_sending}
 use Rattle.mv_hub.specs.Kept.{Gains, link_at}
 use Rattle.mv_hub.proofs.LinksLemmas.{RowFrom, last-of_front, row-none, row-more, row-all}

@@ -1,4 +1,4 @@
-use Rattle.std.proofs.Common.{◌≡◌, ◌∙◌, ◌++◌, ◌+◌, Bool, List, ℕ, false, true, map, take, get_or, sym, ap}
+use Rattle.std.proofs.Common.{◌∙◌, ◌++◌, ◌+◌, map, take, sym, ap}
 use Rattle.mv_hub.specs.Parties.{has_twice, all_markets}
 use Rattle.mv_hub.proofs.PartiesLemmas.{lists-more, lists-found}
 use Rattle.mv_hub.proofs.parties.has_market_twice.Goals as goal

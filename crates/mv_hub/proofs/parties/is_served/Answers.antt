@@ -1,4 +1,4 @@
-use Rattle.std.proofs.Common.{◌≡◌, ◌∙◌, ◌+◌, sym, ap}
+use Rattle.std.proofs.Common.{◌∙◌, ◌+◌, sym, ap}
 use Rattle.mv_hub.specs.Parties.{has_market}
 use Rattle.mv_hub.proofs.PartiesLemmas.{has_market-lists_more, has_market-lists_found}
 use Rattle.mv_hub.proofs.parties.is_served.Goals as goal

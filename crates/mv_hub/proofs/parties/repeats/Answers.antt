@@ -1,5 +1,5 @@
-use Rattle.std.proofs.Common.{◌≡◌, ◌∙◌, ◌++◌, ◌+◌, false, map, take, get_or, sym, ap}
-use Rattle.mv_hub.specs.Parties.{has_market, has_twice, all_markets}
+use Rattle.std.proofs.Common.{◌∙◌, ◌++◌, ◌+◌, map, take, sym, ap}
+use Rattle.mv_hub.specs.Parties.{has_market, all_markets}
 use Rattle.mv_hub.proofs.PartiesLemmas.{repeats-more, repeats-found}
 use Rattle.mv_hub.proofs.parties.repeats.Goals as goal
 

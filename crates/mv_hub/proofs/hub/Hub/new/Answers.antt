@@ -1,7 +1,5 @@
-use Rattle.std.proofs.Common.{arith, ◌≡◌, ℕ, [], length, sym, ap, subst, ◌∙◌, true}
+use Rattle.std.proofs.Common.{◌≡◌, [], length, sym, ap, subst, ◌∙◌}
 use Rattle.std.specs.Prelude.{replicate}
-use Rattle.std.specs.List.{All}
-use Rattle.mv_link.specs.Sending.{new_sending}
 use Rattle.mv_pairs.specs.Pairs.{IsSquare}
 use Rattle.mv_hub.specs.Kept.{IsKept}
 use Rattle.mv_hub.proofs.HubLemmas.{view, kept-new, view-new}

@@ -5,7 +5,7 @@ use Rattle.mv_hub.specs.declared.entry.Entry.TheVariants.{Routed}
 use Rattle.mv_hub.specs.Record.{routed_count}
 use Rattle.mv_hub.specs.Hub.{HubState, gains_of, next_items, busy_party}
 use Rattle.mv_hub.specs.Kept.{IsKept, AreMarkets}
-use Rattle.mv_hub.proofs.HubLemmas.{rooms, kept-routed, view}
+use Rattle.mv_hub.proofs.HubLemmas.{rooms, kept-routed}
 use Rattle.mv_hub.proofs.hub.Hub.put_routed.Goals as goal
 
 -- there is a gain for each party

@@ -1,7 +1,6 @@
-use Rattle.std.proofs.Common.{◌≡◌, ◌<◌, length, arith, ◌+◌, sym, ◌∙◌, ap}
+use Rattle.std.proofs.Common.{length, arith, ◌+◌, sym, ◌∙◌, ap}
 use Rattle.mv_link.specs.Sending.{new_sending}
 use Rattle.mv_pairs.proofs.PairsLemmas.{put-read}
-use Rattle.mv_hub.specs.Hub.{HubState}
 use Rattle.mv_hub.proofs.HubLemmas.{LinkFacts, view, link-facts, view-relayed}
 use Rattle.mv_hub.proofs.hub.Hub.relay.Goals as goal
 

@@ -1,5 +1,5 @@
-use Rattle.std.proofs.Common.{◌≡◌, ◌≤◌, ◌<◌, None, Some, length, arith, ap, ◌∙◌, sym}
-use Rattle.mv_hub.specs.Hub.{busy_party, busy_fault, route_fault}
+use Rattle.std.proofs.Common.{length, arith, ap, ◌∙◌, sym}
+use Rattle.mv_hub.specs.Hub.{busy_fault}
 use Rattle.mv_hub.proofs.HubLemmas.{route_fault-stranger, route_fault-party}
 use Rattle.mv_hub.proofs.hub.Hub.route.Goals as goal
 

@@ -2,20 +2,19 @@
 use Rattle.std.proofs.Common.{◌≡◌, ℕ, zero, suc, ◌+◌, ◌<◌, ◌≤◌, List, [], ◌∷◌, ◌++◌, length, get_or, map, add-zero, add-one, zero-add, sym, refl, ap, ◌∙◌, subst, arith}
 use Rattle.std.specs.Prelude.{replicate}
 use Rattle.std.specs.List.{range_with_len, All}
-use Rattle.std.proofs.lemmas.List.{get_or-replicate, length-replicate, length-map}
+use Rattle.std.proofs.lemmas.List.{get_or-replicate}
 use Rattle.std.proofs.lemmas.List.Elements.{All-replicate}
 use Rattle.mv_message.specs.declared.message.Message.{Message}
-use Rattle.mv_link.specs.declared.item.Item.{Item}
-use Rattle.mv_pairs.specs.Pairs.{cell, IsSquare}
+use Rattle.mv_pairs.specs.Pairs.{IsSquare}
 use Rattle.mv_pairs.proofs.PairsLemmas.{table-all, cell-all, cell-any, read-any}
-use Rattle.mv_hub.specs.Hub.{HubState, new_hub}
+use Rattle.mv_hub.specs.Hub.{new_hub}
 use Rattle.mv_repository.specs.declared.entry.LogEntry.{LogEntry}
 use Rattle.mv_repository.specs.Repository.{RepositoryState, new_repository}
 use Rattle.mv_machine.specs.Limits.{Bounds, AreBounds}
 use Rattle.mv_machine.specs.State.{State, opening, applied_count}
 use Rattle.mv_machine.proofs.LawfulLemmas.{IsSound, opening-sound}
 use Rattle.mv_system.specs.Wire.{WireState, new_wire, numbers_of}
-use Rattle.mv_system.specs.World.{Parts, parts_of, state_of, repository_at, wire_at, AllFramesOf, FitsWire, IsSystem}
+use Rattle.mv_system.specs.World.{Parts, parts_of, state_of, AllFramesOf, FitsWire, IsSystem}
 
 -- the parts that a system opens with
 abbrev opening_parts : List (List (List ℕ)) → Bounds → List (List WireState) → List (List ℕ) → Parts

@@ -1,8 +1,8 @@
 -- The hub's routing against the row of the list machine.
-use Rattle.std.proofs.Common.{◌≡◌, ℕ, zero, suc, ◌+◌, ◌-◌, ◌*◌, ◌<◌, ◌≤◌, Bool, true, false, List, [], ◌∷◌, ◌++◌, length, get_or, cond, Some, None, Option, Ok, Err, sym, refl, ap, ◌∙◌, subst, arith}
+use Rattle.std.proofs.Common.{◌≡◌, ℕ, ◌+◌, ◌-◌, ◌<◌, Bool, true, false, List, [], ◌∷◌, length, cond, Some, None, Option, Ok, Err, sym, refl, ap, ◌∙◌, subst, arith}
 use Rattle.std.specs.Prelude.{slice_get, IsTrue, find, nat_lt, not, ◌==◌, ◌||◌, ◌&&◌, Result}
 use Rattle.std.specs.List.{range_with_len}
-use Rattle.std.proofs.lemmas.Bool.{lt-ltb, le-ltb}
+use Rattle.std.proofs.lemmas.Bool.{le-ltb}
 use Rattle.mv_message.specs.declared.message.Message.{Message}
 use Rattle.mv_hub.specs.declared.fault.HubFault.{HubFault}
 use Rattle.mv_hub.specs.declared.fault.HubFault.TheVariants as hub
@@ -12,7 +12,6 @@ use Rattle.mv_hub.specs.Record.{routed_count}
 use Rattle.mv_hub.specs.Fault.{FailsBy, RouteFailsBy}
 use Rattle.mv_hub.specs.Hub.{HubState, sent_of, items_on, next_items, is_busy, busy_party, busy_fault, route_fault, relay_fault}
 use Rattle.mv_hub.proofs.RecordLemmas.{link_items-few, gained-few}
-use Rattle.mv_machine.specs.declared.reply.Reply.{Reply}
 use Rattle.mv_machine.specs.declared.reply.Refusal.TheVariants.{Party}
 use Rattle.mv_machine.specs.Replies.{takes_memory}
 use Rattle.mv_machine.specs.State.{State, is_party, submissions_of}

@@ -1,9 +1,7 @@
 -- What the parts of the system say of the list machine's lists, and what each change of a part keeps.
-use Rattle.std.proofs.Common.{◌≡◌, ℕ, zero, suc, ◌+◌, ◌-◌, ◌*◌, ◌<◌, ◌≤◌, Bool, true, false, List, [], ◌∷◌, ◌++◌, length, get_or, set, cond, map, drop, Some, None, Option, Ok, Err, sym, refl, ap, ◌∙◌, subst, arith, length-append, length-set, eqb, eqb-true, ltb-true, add-zero, ◌⊎◌, inl, inr, get_or-set_same, get_or-set_other}
-use Rattle.std.specs.Prelude.{slice_get, option_map, IsTrue, find, nat_lt, nat_le, not, ◌==◌, ◌&&◌, ◌||◌, replicate, Result}
-use Rattle.std.specs.List.{range_with_len, All}
-use Rattle.std.proofs.lemmas.Bool.{and_parts, not-false, eqb-false}
-use Rattle.std.proofs.lemmas.List.{length-map, length-replicate}
+use Rattle.std.proofs.Common.{◌≡◌, ℕ, zero, suc, ◌+◌, ◌-◌, ◌<◌, ◌≤◌, Bool, true, false, List, [], ◌∷◌, ◌++◌, length, get_or, set, cond, map, drop, Some, sym, refl, ap, ◌∙◌, subst, arith, length-append, eqb, eqb-true, ltb-true, add-zero, inl, inr, get_or-set_same, get_or-set_other}
+use Rattle.std.specs.Prelude.{slice_get, option_map, IsTrue, nat_lt, ◌&&◌}
+use Rattle.std.proofs.lemmas.Bool.{and_parts, eqb-false}
 use Rattle.mv_message.specs.declared.message.Message.{Message}
 use Rattle.mv_link.specs.declared.item.Item.{Item}
 use Rattle.mv_link.specs.declared.item.Frame.{Frame}
@@ -12,16 +10,13 @@ use Rattle.mv_pairs.specs.Pairs.{cell, put, IsSquare}
 use Rattle.mv_pairs.proofs.PairsLemmas.{put-each, put-each_pair, square-put, square-map, cell-map, put-map, cell-put_same, cell-put_other}
 use Rattle.mv_hub.specs.declared.entry.Entry.{Entry}
 use Rattle.mv_hub.specs.Record.{routed_count}
-use Rattle.mv_hub.specs.Links.{gained}
 use Rattle.mv_hub.specs.Hub.{HubState, items_on}
 use Rattle.mv_hub.proofs.RecordLemmas.{link_items-push, link_items-few}
 use Rattle.mv_repository.specs.declared.entry.LogEntry.{LogEntry}
 use Rattle.mv_repository.specs.Log.{items_from}
 use Rattle.mv_repository.specs.Repository.{RepositoryState, new_repository, with_applied}
-use Rattle.mv_machine.specs.Limits.{Bounds, AreBounds}
-use Rattle.mv_machine.specs.State.{State, is_party, are_parties, submissions_of, waiting_of, sent_of, wire_of, log_of, applied_count, items_on as link_of}
-use Rattle.mv_machine.specs.Lawful.{IsLawful, IsWellFormed}
-use Rattle.mv_machine.proofs.LawfulLemmas.{IsSound, applied-sound, submitted-sound, items_from-push}
+use Rattle.mv_machine.specs.State.{State, is_party, are_parties, submissions_of, wire_of, log_of, applied_count, items_on as link_of}
+use Rattle.mv_machine.proofs.LawfulLemmas.{IsSound, applied-sound, items_from-push}
 use Rattle.mv_machine.proofs.BoundLemmas.{routed_count-few, entries-few}
 use Rattle.mv_system.specs.Wire.{WireState, new_wire, numbers_of}
 use Rattle.mv_system.specs.World.{Parts, wire_at, repository_at, state_of, AllFramesOf, FitsWire, IsSystem}

@@ -13,12 +13,11 @@ use Rattle.mv_link.specs.declared.item.Item.{Item}
 use Rattle.mv_repository.specs.declared.effect.Effect.{Effect}
 use Rattle.mv_repository.specs.Effect.{effect_of}
 use Rattle.mv_repository.specs.Repository.{RepositoryState, new_repository}
-use Rattle.mv_machine.specs.declared.reply.Reply.TheVariants.{Refused}
 use Rattle.mv_machine.specs.declared.reply.Refusal.TheVariants.{Busy as BusyLink}
 use Rattle.mv_machine.specs.Limits.{Bounds, AreBounds}
 use Rattle.mv_machine.specs.Replies.{takes_memory}
 use Rattle.mv_machine.specs.State.{State, applied_count, log_of, wire_of, with_wire, items_on as items_on_link}
-use Rattle.mv_machine.specs.Steps.{Outcome, refused, route}
+use Rattle.mv_machine.specs.Steps.{refused, route}
 use Rattle.mv_machine.specs.Lawful.{IsLawful, IsWellFormed}
 use Rattle.mv_system.specs.Wire.{WireState, new_wire, numbers_of}
 

@@ -1,4 +1,4 @@
-use Rattle.std.proofs.Common.{drop, length, arith, sym, ap, subst, ◌∙◌, length-drop}
+use Rattle.std.proofs.Common.{drop, arith, sym, ap, subst, ◌∙◌, length-drop}
 use Rattle.mv_system.specs.Wire.{WireState, new_wire, numbers_of}
 use Rattle.mv_system.specs.World.{parts_of, AllFramesOf, FitsWire}
 use Rattle.mv_system.proofs.WireLemmas.{numbers_of-drop}

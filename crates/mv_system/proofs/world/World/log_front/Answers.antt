@@ -1,4 +1,4 @@
-use Rattle.std.proofs.Common.{◌≡◌, ◌+◌, ◌∷◌, [], ◌++◌, length, set, Some, None, arith, refl, sym, ap, subst, ◌∙◌}
+use Rattle.std.proofs.Common.{◌≡◌, ◌+◌, set, Some, arith, refl, sym, ap, subst, ◌∙◌}
 use Rattle.std.specs.Prelude.{slice_get, option_map, IsSome}
 use Rattle.std.specs.Option.{option_copied}
 use Rattle.std.proofs.lemmas.List.{get_or_read, length-map}

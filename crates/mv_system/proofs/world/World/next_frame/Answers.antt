@@ -1,7 +1,7 @@
 use Rattle.std.proofs.Common.{◌≡◌, ℕ, true, length, sym, subst, Err}
 use Rattle.mv_pairs.proofs.PairsLemmas.{square-put}
 use Rattle.mv_machine.specs.State.{State, are_parties, sent_of, items_on}
-use Rattle.mv_system.specs.World.{parts_of, state_of, IsSystem, RelayFails}
+use Rattle.mv_system.specs.World.{parts_of, IsSystem, RelayFails}
 use Rattle.mv_system.proofs.SystemLemmas.{sent_kept}
 use Rattle.mv_system.proofs.RouteLemmas.{relay_fails}
 use Rattle.mv_system.proofs.world.World.next_frame.Goals as goal

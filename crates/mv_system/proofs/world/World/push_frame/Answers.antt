@@ -1,4 +1,4 @@
-use Rattle.std.proofs.Common.{[], ◌∷◌, ◌++◌, length, arith, sym, ap, subst, ◌∙◌, length-append}
+use Rattle.std.proofs.Common.{[], ◌∷◌, ◌++◌, arith, sym, ap, subst, ◌∙◌, length-append}
 use Rattle.mv_link.specs.Frames.{IsFrameOf}
 use Rattle.mv_machine.specs.State.{State, items_on}
 use Rattle.mv_system.specs.Wire.{WireState, new_wire, numbers_of}

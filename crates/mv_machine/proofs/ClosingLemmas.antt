@@ -1,6 +1,6 @@
 -- Nothing that is routed after the closing of a link goes over it, and the record only grows.
 use Rattle.std.proofs.Common.{◌≡◌, ℕ, ◌+◌, ◌-◌, ◌<◌, ◌≤◌, Bool, true, false, List, [], ◌∷◌, ◌++◌, length, cond, Some, None, Option, sym, refl, ap, ◌∙◌, subst, append_assoc, append-nil, arith, eqb, eqb-true, length-append}
-use Rattle.std.specs.Prelude.{All, not, ◌&&◌, ◌||◌, ◌==◌, slice_get, nat_lt, nat_le, find}
+use Rattle.std.specs.Prelude.{All, not, ◌&&◌, ◌==◌, slice_get, nat_lt, nat_le, find}
 use Rattle.std.specs.List.{range_with_len}
 use Rattle.std.proofs.lemmas.List.Elements.{All-nil, All-cons, All-append, All-weaker, All-head, All-tail}
 use mathlib.Core.List.{IsPrefix}
@@ -19,7 +19,7 @@ use Rattle.mv_machine.specs.declared.step.Step.{Step}
 use Rattle.mv_machine.specs.declared.step.Step.TheVariants.{Submit, Route, Relay, Apply, Repeat, Close, Lose}
 use Rattle.mv_machine.specs.declared.reply.Reply.{Reply}
 use Rattle.mv_machine.specs.State.{State, is_party, are_parties, submissions_of, waiting_of, sent_of, wire_of, log_of, items_on, applied_count}
-use Rattle.mv_machine.specs.Steps.{is_taken_message, submit, next_entry, is_full, route_unless, route_front, route, relay, apply_next, apply_front, apply, repeat, close, lose_front, lose, outcome}
+use Rattle.mv_machine.specs.Steps.{is_taken_message, submit, next_entry, is_full, route_unless, route_front, route, relay, apply_next, apply_front, apply, is_unsent, is_gone, repeat, close, lose_front, lose, outcome}
 use Rattle.mv_machine.specs.Runs.{Runs}
 use Rattle.mv_machine.specs.Lawful.{AllFit, IsLawful}
 use Rattle.mv_machine.specs.Closing.{before_closing, AreAboutFirst, NothingRoutedLater, NothingSubmittedLater}
@@ -178,7 +178,7 @@ pub record Continues (old new : State) : Type 0 where
 goes_on : (old new : State) → new.parties ≡ old.parties → old.entries ≡ new.entries → Continues old new
 goes_on old new parties entries = record { parties = parties; entries = ([], append-nil old.entries ∙ entries) }
 
-goes_on-same : (st : State) → Continues st st
+pub goes_on-same : (st : State) → Continues st st
 goes_on-same st = goes_on st st refl refl
 
 goes_on-entry : (st : State) (entry : Entry) → Continues st (record st { entries = st.entries ++ entry ∷ [] })
@@ -233,8 +233,8 @@ unfolding repeat
 repeat-goes_on st from to number =
     choose (Continues st) (not (are_parties st from to)) _ _ (λ _. goes_on-same st) (λ _.
     choose (Continues st) (nat_le st.limits.wire (length (wire_of st from to))) _ _ (λ _. goes_on-same st) (λ _.
-    choose (Continues st) (number == 0 || nat_lt (sent_of st from to) number) _ _ (λ _. goes_on-same st) (λ _.
-    choose (Continues st) (nat_le number (length (items_on st from to) - st.limits.window)) _ _ (λ _. goes_on-same st) (λ _. goes_on st _ refl refl))))
+    choose (Continues st) (is_unsent st from to number) _ _ (λ _. goes_on-same st) (λ _.
+    choose (Continues st) (is_gone st from to number) _ _ (λ _. goes_on-same st) (λ _. goes_on st _ refl refl))))
 
 close-goes_on : (st : State) (from to : ℕ) → Continues st (close st from to).state
 unfolding close

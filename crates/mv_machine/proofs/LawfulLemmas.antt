@@ -1,6 +1,6 @@
 -- Each step keeps a state well formed and lawful, and so does each run.
 use Rattle.std.proofs.Common.{◌≡◌, ℕ, ◌+◌, ◌-◌, ◌<◌, Bool, true, false, List, [], ◌∷◌, ◌++◌, length, set, cond, Some, None, Option, sym, refl, ap, ◌∙◌, subst, append_assoc, append-nil, arith, length-set, eqb, eqb-true, ltb-true}
-use Rattle.std.specs.Prelude.{slice_get, not, ◌==◌, ◌||◌, nat_lt, nat_le, find, MatchBool}
+use Rattle.std.specs.Prelude.{slice_get, not, ◌==◌, nat_lt, nat_le, find, MatchBool}
 use Rattle.std.specs.List.{range_with_len}
 use Rattle.std.proofs.lemmas.Bool.{not-false, and_parts, leb-false, ltb-false}
 use Rattle.std.proofs.lemmas.List.{get_or-replicate, length-replicate}
@@ -22,7 +22,7 @@ use Rattle.mv_machine.specs.declared.reply.Reply.{Reply}
 use Rattle.mv_machine.specs.Limits.{Bounds}
 use Rattle.mv_machine.specs.Replies.{wants_memory}
 use Rattle.mv_machine.specs.State.{State, is_party, are_parties, submissions_of, waiting_of, sent_of, wire_of, log_of, items_on, applied_count, opening}
-use Rattle.mv_machine.specs.Steps.{Outcome, is_taken_message, submit, next_entry, is_full, route_unless, route_front, route, relay, apply_next, apply_front, apply, repeat, close, lose_front, lose, outcome}
+use Rattle.mv_machine.specs.Steps.{Outcome, is_taken_message, submit, next_entry, is_full, route_unless, route_front, route, relay, apply_next, apply_front, apply, is_unsent, is_gone, repeat, close, lose_front, lose, outcome}
 use Rattle.mv_machine.specs.Runs.{Allows, Runs}
 use Rattle.mv_machine.specs.Lawful.{Fits, AllFit, NamesParties, AllNameParties, AllFromParties, IsLawful, IsWellFormed}
 use Rattle.mv_machine.proofs.PrefixLemmas.{prefix-grows, prefix-push}
@@ -262,8 +262,8 @@ unfolding repeat
 repeat-sound st from to number sound =
     choose IsSound (not (are_parties st from to)) _ _ (λ _. sound) (λ _.
     choose IsSound (nat_le st.limits.wire (length (wire_of st from to))) _ _ (λ _. sound) (λ _.
-    choose IsSound (number == 0 || nat_lt (sent_of st from to) number) _ _ (λ _. sound) (λ _.
-    choose IsSound (nat_le number (length (items_on st from to) - st.limits.window)) _ _ (λ _. sound) (λ _. with_wire-sound st from to _ sound))))
+    choose IsSound (is_unsent st from to number) _ _ (λ _. sound) (λ _.
+    choose IsSound (is_gone st from to number) _ _ (λ _. sound) (λ _. with_wire-sound st from to _ sound))))
 
 close-sound : (st : State) (from to : ℕ) → IsSound st → IsSound (close st from to).state
 unfolding close

@@ -116,13 +116,21 @@ apply st from to =
     if not (are_parties st from to) then refused Party st
     else apply_front st from to (wire_of st from to)
 
+-- no frame of this number was relayed on a link
+abbrev pub is_unsent : State → ℕ → ℕ → ℕ → Bool
+is_unsent st from to number = number == 0 || nat_lt (sent_of st from to) number
+
+-- the item of this number was pushed out of the window of its link
+abbrev pub is_gone : State → ℕ → ℕ → ℕ → Bool
+is_gone st from to number = nat_le number (length (items_on st from to) - st.limits.window)
+
 -- a frame that was relayed, and whose item its link still keeps, goes on the wire again
 unfoldable pub repeat : State → ℕ → ℕ → ℕ → Outcome
 repeat st from to number =
     if not (are_parties st from to) then refused Party st
     else (if nat_le st.limits.wire (length (wire_of st from to)) then refused WireFull st
-    else (if number == 0 || nat_lt (sent_of st from to) number then refused NotSent st
-    else (if nat_le number (length (items_on st from to) - st.limits.window) then refused Gone st
+    else (if is_unsent st from to number then refused NotSent st
+    else (if is_gone st from to number then refused Gone st
     else record { reply = Repeated number; state = with_wire st from to (wire_of st from to ++ number ∷ []) })))
 
 -- a link is closed: that goes into the record

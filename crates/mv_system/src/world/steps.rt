@@ -151,11 +151,13 @@ impl World {
         if !self.are_parties(from, to) {
             return Reply::Refused(Refusal::Party);
         }
-        let Some(number) = self.front_number(from, to) else {
-            return Reply::Refused(Refusal::WireEmpty);
-        };
-        self.drop_front(from, to);
-        Reply::Lost { number }
+        match self.front_number(from, to) {
+            None => Reply::Refused(Refusal::WireEmpty),
+            Some(number) => {
+                self.drop_front(from, to);
+                Reply::Lost { number }
+            }
+        }
     }
 }
 

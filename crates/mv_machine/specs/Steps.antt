@@ -113,10 +113,10 @@ abbrev pub with_answer : State → ℕ → Option Message → State
 with_answer st party None = st
 with_answer st party (Some answer) = with_submission st party answer
 
--- the number of that answer among the submissions
-abbrev pub answer_number : State → ℕ → Option Message → Option ℕ
-answer_number st party None = None
-answer_number st party (Some answer) = Some (length (submissions_of st party) + 1)
+-- the number of that answer behind these submissions
+abbrev pub answer_number : List Message → Option Message → Option ℕ
+answer_number submissions None = None
+answer_number submissions (Some answer) = Some (length submissions + 1)
 
 -- an answer is called for, and the party can submit nothing now
 abbrev pub is_answer_busy : State → ℕ → Option Message → Bool
@@ -133,13 +133,21 @@ abbrev pub apply_entry : State → ℕ → ℕ → ℕ → List ℕ → LogEntry
 apply_entry st from to number rest entry answer =
     if is_answer_busy st to answer then refused AnswerBusy st
     else record {
-      reply = Applied number (effect_of (log_of st to) entry) (answer_number st to answer);
+      reply = Applied number (effect_of (log_of st to) entry) (answer_number (submissions_of st to) answer);
       state = with_wire (with_applied st to entry answer) from to rest;
     }
 
 -- an item as it stands in the log of who applies it
 abbrev pub entry_from : ℕ → Item → LogEntry
 entry_from sender item = record { sender = sender; item = item }
+
+-- the item that a repository is to apply next from a sender, and the answer that this calls for
+abbrev pub next_item : State → ℕ → ℕ → Option Item
+next_item st from to = slice_get (items_on st from to) (applied_count st from to)
+
+abbrev pub next_answer : State → ℕ → ℕ → Option Item → Option Message
+next_answer st from to (Some item) = answer_to (log_of st to) (entry_from from item)
+next_answer st from to None = None
 
 -- a repository applies the member of the link that the next frame bears. A link always has it; a frame of no member would
 -- be dropped, as one behind a gap is

@@ -200,7 +200,7 @@ submit-goes_on st from message =
     choose (Continues st) (is_uplink_full st from) _ _ (λ _. goes_on-same st) (λ _.
     choose (Continues st) (is_sender_full st from) _ _ (λ _. goes_on-same st) (λ _. goes_on st _ refl refl))))
 
-ask-goes_on : (st : State) (party : ℕ) (key : PackKey) → Continues st (ask st party key).state
+pub ask-goes_on : (st : State) (party : ℕ) (key : PackKey) → Continues st (ask st party key).state
 unfolding ask
 ask-goes_on st party key =
     choose (Continues st) (not (is_party st party)) _ _ (λ _. goes_on-same st) (λ _.

@@ -401,10 +401,15 @@ either_way : (P : State → Type 0) (b : Bool) (old new next : State) (X Y : Typ
 either_way P true old new next X Y here there a = subst P (sym a.0) here
 either_way P false old new next X Y here there a = subst P (sym a.1) there
 
+-- what holds before, and of what an outcome leaves, holds where the outcome is met
+pub meets-case : (P : State → Type 0) (old : State) (expected : Outcome) (reply : Reply) (new : State) → Meets old expected reply new → P old → P expected.state → P new
+unfolding Meets
+meets-case P old expected reply new met here there = either_way P (wants_memory reply) old new expected.state _ _ here there met
+
 -- what holds before a step, and of what the step leaves where there is memory, holds after the step
 pub allowed-case : (P : State → Type 0) (old : State) (step : Step) (reply : Reply) (new : State) → Allows old step reply new → P old → P (outcome old step).state → P new
-unfolding Allows Meets
-allowed-case P old step reply new allowed here there = either_way P (wants_memory reply) old new (outcome old step).state _ _ here there allowed
+unfolding Allows
+allowed-case P old step reply new allowed here there = meets-case P old (outcome old step) reply new allowed here there
 
 pub step-sound : (old : State) (step : Step) (reply : Reply) (new : State) → Allows old step reply new → IsSound old → IsSound new
 step-sound old step reply new allowed sound = allowed-case IsSound old step reply new allowed sound (outcome-sound old step sound)

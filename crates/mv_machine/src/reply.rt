@@ -10,15 +10,24 @@ use mv_repository::{Effect, Joint, Verdict};
 #[derive(Debug, PartialEq, Eq, Drop)]
 pub enum Reply {
     /// The message is the `k`-th that the party submitted, counted from one.
-    Submitted { k: u32 },
+    Submitted {
+        k: u32,
+    },
     /// The repository of the party holds the pack, and this is its verdict.
     Known(Verdict),
     /// The other repositories are asked, by the `q`-th message of the party.
-    Asked { q: u32 },
+    Asked {
+        q: u32,
+    },
     /// The `k`-th message of the party was routed to these parties.
-    Routed { k: u32, reach: Reach },
+    Routed {
+        k: u32,
+        reach: Reach,
+    },
     /// The frame of this number went on the wire.
-    Relayed { number: u32 },
+    Relayed {
+        number: u32,
+    },
     /// The frame of this number was applied, with this effect; the answer that it called for is the message of this number
     /// that the party of the repository submitted.
     Applied {
@@ -27,15 +36,24 @@ pub enum Reply {
         answer: Option<u32>,
     },
     /// The frame of this number was applied before, and was dropped.
-    Old { number: u32 },
+    Old {
+        number: u32,
+    },
     /// The frame of this number was dropped, since the frame `expected` has not been applied.
-    Gap { number: u32, expected: u32 },
+    Gap {
+        number: u32,
+        expected: u32,
+    },
     /// The frame of this number went on the wire again.
-    Repeated { number: u32 },
+    Repeated {
+        number: u32,
+    },
     /// The link is closed from now on.
     Closed,
     /// The frame of this number, the front one of its wire, is lost.
-    Lost { number: u32 },
+    Lost {
+        number: u32,
+    },
     /// The verdict of all that were asked.
     Joint(Joint),
     /// The step was refused, and nothing changed.

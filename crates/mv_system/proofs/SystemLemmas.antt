@@ -379,15 +379,15 @@ entries-short p k =
 -- what a repository applied, and what its party submitted then, as the parts keep them
 pub record IsLogged (p : Parts) (st : State) (from to : ℕ) (item : Item) (repository : RepositoryState) (messages new_messages : List Message) (new_repository : RepositoryState) (count : ℕ) : Type 0 where
   pub kept : IsSystem (record p {
-        submissions = set p.submissions to new_messages;
-        accepted = put p.accepted from to count;
-        repositories = set p.repositories to new_repository;
-      })
+    submissions = set p.submissions to new_messages;
+    accepted = put p.accepted from to count;
+    repositories = set p.repositories to new_repository;
+  })
   pub seen : (accepted : List (List ℕ)) → state_of (record p {
-        submissions = set p.submissions to new_messages;
-        accepted = accepted;
-        repositories = set p.repositories to new_repository;
-      }) ≡ with_applied st to (entry_from from item) (answer_to (log_of st to) (entry_from from item))
+    submissions = set p.submissions to new_messages;
+    accepted = accepted;
+    repositories = set p.repositories to new_repository;
+  }) ≡ with_applied st to (entry_from from item) (answer_to (log_of st to) (entry_from from item))
   pub log_is : repository.log ≡ log_of st to
   pub messages_are : messages ≡ submissions_of st to
 

@@ -71,8 +71,7 @@ returns-clause-ok c =
     let messages : c.index_mut-submissions.result.now ≡ get_or a.submissions.items to [] =
     get_or_read a.submissions.items to c.index_mut-submissions.result.now (omega (arith, places.to_party, c.self.invariant.well_formed.submissions_each)) c.index_mut-submissions.ensures.value [] in
     let logged = is_logged p c.args.self.now from to item c.index_mut-repository.result.now c.index_mut-submissions.result.now c.apply.new.self c.apply.new.repository (cell a.accepted from to 0 + 1)
-    c.self.invariant c.self.view_is places next c.requires.answerable repository messages c.in_ok-applied.ensures.submitted c.in_ok-applied.ensures.applied refl in
-    (
+    c.self.invariant c.self.view_is places next c.requires.answerable repository messages c.in_ok-applied.ensures.submitted c.in_ok-applied.ensures.applied refl in (
       item,
       next,
       c.in_ok-applied.ensures.effect ∙ ap (λ l. effect_of l (entry_from from item)) logged.log_is,

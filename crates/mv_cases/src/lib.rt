@@ -10,3 +10,5 @@ mod first_path;
 mod links;
 #[cfg(test)]
 mod system;
+#[cfg(test)]
+mod verification;

@@ -1,9 +1,7 @@
 //! Frames that are lost, repeated and held back on their links, and a link that is closed.
 
-use crate::system::{has_replies, is_routed, is_sent, is_submitted, opened_at_last};
+use crate::system::{MASTER, has_replies, is_routed, is_sent, is_submitted, opened_at_last};
 use mv_machine::{Refusal, Reply, Step};
-use mv_message::Message;
-use mv_pack::{Gtin, PackKey, Serial};
 use mv_repository::Effect;
 use mv_system::World;
 use std::test::Fail;
@@ -34,6 +32,7 @@ fn applied(number: u32) -> Reply {
     Reply::Applied {
         number,
         effect: Effect::Done,
+        answer: None,
     }
 }
 
@@ -65,9 +64,9 @@ fn is_lost_and_repeated(world: &mut World) -> bool {
 
 #[test]
 fn applies_a_frame_once_though_it_was_lost_and_repeated(rt: HostRuntime) -> Result<(), Fail> {
-    let mut world = opened_at_last(rt.alloc(), 8, 8).ok_or("a system")?;
-    assert!(rt; is_sent(&mut world, rt.alloc(), 1));
-    assert!(rt; is_sent(&mut world, rt.alloc(), 2));
+    let mut world = opened_at_last(rt.alloc(), [8, 8, 8, 1000]).ok_or("a system")?;
+    assert!(rt; is_sent(&mut world, rt.alloc(), MASTER, 1));
+    assert!(rt; is_sent(&mut world, rt.alloc(), MASTER, 2));
     assert!(rt; is_lost_and_repeated(&mut world));
     Ok(())
 }
@@ -91,12 +90,12 @@ fn stays_closed(world: &mut World) -> bool {
 
 #[test]
 fn sends_nothing_new_over_a_closed_link(rt: HostRuntime) -> Result<(), Fail> {
-    let mut world = opened_at_last(rt.alloc(), 8, 8).ok_or("a system")?;
-    assert!(rt; is_sent(&mut world, rt.alloc(), 1));
+    let mut world = opened_at_last(rt.alloc(), [8, 8, 8, 1000]).ok_or("a system")?;
+    assert!(rt; is_sent(&mut world, rt.alloc(), MASTER, 1));
     assert!(rt; has_replies(&mut world, &[(RELAY, Reply::Relayed { number: 1 })]));
-    assert!(rt; is_submitted(&mut world, rt.alloc(), 2));
+    assert!(rt; is_submitted(&mut world, rt.alloc(), 0, MASTER, 2));
     assert!(rt; is_closed(&mut world));
-    assert!(rt; is_routed(&mut world, 2, &[]));
+    assert!(rt; is_routed(&mut world, 0, 2, &[]));
     assert!(rt; stays_closed(&mut world));
     Ok(())
 }
@@ -127,12 +126,12 @@ fn keeps_its_window(world: &mut World) -> bool {
 
 #[test]
 fn keeps_what_was_not_relayed_in_a_full_window(rt: HostRuntime) -> Result<(), Fail> {
-    let mut world = opened_at_last(rt.alloc(), 2, 8).ok_or("a system")?;
-    assert!(rt; is_sent(&mut world, rt.alloc(), 1));
-    assert!(rt; is_sent(&mut world, rt.alloc(), 2));
-    assert!(rt; is_submitted(&mut world, rt.alloc(), 3));
+    let mut world = opened_at_last(rt.alloc(), [2, 8, 8, 1000]).ok_or("a system")?;
+    assert!(rt; is_sent(&mut world, rt.alloc(), MASTER, 1));
+    assert!(rt; is_sent(&mut world, rt.alloc(), MASTER, 2));
+    assert!(rt; is_submitted(&mut world, rt.alloc(), 0, MASTER, 3));
     assert!(rt; waits_for_room(&mut world));
-    assert!(rt; is_routed(&mut world, 3, &[1]));
+    assert!(rt; is_routed(&mut world, 0, 3, &[1]));
     assert!(rt; keeps_its_window(&mut world));
     Ok(())
 }
@@ -152,38 +151,9 @@ fn takes_one_frame(world: &mut World) -> bool {
 
 #[test]
 fn takes_no_frame_on_a_full_wire(rt: HostRuntime) -> Result<(), Fail> {
-    let mut world = opened_at_last(rt.alloc(), 8, 1).ok_or("a system")?;
-    assert!(rt; is_sent(&mut world, rt.alloc(), 1));
-    assert!(rt; is_sent(&mut world, rt.alloc(), 2));
+    let mut world = opened_at_last(rt.alloc(), [8, 1, 8, 1000]).ok_or("a system")?;
+    assert!(rt; is_sent(&mut world, rt.alloc(), MASTER, 1));
+    assert!(rt; is_sent(&mut world, rt.alloc(), MASTER, 2));
     assert!(rt; takes_one_frame(&mut world));
-    Ok(())
-}
-
-/// The question about a pack.
-fn query() -> Option<Message> {
-    let gtin = Gtin::read("09506000134352").ok()?;
-    let serial = Serial::read("S1").ok()?;
-    let key = PackKey { gtin, serial };
-    Some(Message::Query { key })
-}
-
-/// Whether a query that a party submits is refused.
-fn is_refused(world: &mut World) -> bool {
-    let Some(message) = query() else {
-        return false;
-    };
-    has_replies(
-        world,
-        &[(
-            Step::Submit { from: 1, message },
-            Reply::Refused(Refusal::NotYours),
-        )],
-    )
-}
-
-#[test]
-fn takes_no_query_from_a_party(rt: HostRuntime) -> Result<(), Fail> {
-    let mut world = opened_at_last(rt.alloc(), 8, 8).ok_or("a system")?;
-    assert!(rt; is_refused(&mut world));
     Ok(())
 }

@@ -71,7 +71,14 @@ fn is_relayed(reply: &Reply) -> bool {
 }
 
 fn is_applied(reply: &Reply) -> bool {
-    matches!(reply, Reply::Applied { number, effect } if *number == 1 && *effect == Effect::Done)
+    match reply {
+        Reply::Applied {
+            number,
+            effect,
+            answer,
+        } => *number == 1 && *effect == Effect::Done && answer.is_none(),
+        _ => false,
+    }
 }
 
 /// Whether a run of the steps is answered as it should be.

@@ -4,3 +4,4 @@ pub mod RepliesLemmas
 pub mod ListLemmas
 pub mod ReplyLineLemmas
 pub mod ServedLemmas
+pub mod CanonLemmas

@@ -36,7 +36,8 @@ reply_no_float (Old n) = refl
 reply_no_float (Gap n expected) = refl
 reply_no_float (Refused refusal) = refusal_no_float refusal
 
-message_fault_no_float : (fault : MessageFault) → has_float (message_fault_value fault) ≡ false
+-- the value of the refusal of a message
+pub message_fault_no_float : (fault : MessageFault) → has_float (message_fault_value fault) ≡ false
 message_fault_no_float (message.Missing field) = refl
 message_fault_no_float (message.Unknown key) = refl
 message_fault_no_float (message.Kind field) = refl

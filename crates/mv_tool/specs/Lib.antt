@@ -9,4 +9,5 @@ pub mod Requests
 pub mod ReplyLines
 pub mod Openings
 pub mod Sessions
+pub mod Canon
 pub mod Statuses

@@ -3,7 +3,7 @@
 ghost use Rattle.std.specs.Prelude.{◌≤◌};
 
 use crate::output::put_out;
-use crate::{ServeFault, Status, serve};
+use crate::{ServeFault, Status, canon, serve};
 use clap::{ArgMatches, Command, Error};
 use std::alloc::{AllocError, Global};
 use std::io::{Read, Write};
@@ -12,6 +12,8 @@ use std::io::{Read, Write};
 enum Task {
     /// `steps`: to answer steps, a line each.
     Steps,
+    /// `canon`: to write messages as their canonical texts, a line each.
+    Canon,
 }
 
 /// Reads the words, the program's name first, runs what they ask for, and answers the exit status, that of a `Status`.
@@ -51,6 +53,10 @@ fn run<R: Read, W: Write, F: Write>(
             let ended = serve(alloc, reader, writer);
             status_of(ended, faults)
         }
+        Some(Task::Canon) => {
+            let ended = canon(alloc, reader, writer);
+            status_of(ended, faults)
+        }
         None => Status::Refused,
     }
 }
@@ -60,16 +66,21 @@ fn command_line<'a>(alloc: Global) -> Result<Command<'a>, AllocError> {
     let steps = Command::new(alloc, "steps").about(
         "Answers steps: a JSON object a line, from standard input to standard output",
     );
+    let canon = Command::new(alloc, "canon").about(
+        "Writes messages as their canonical texts: a JSON object a line, from standard input to standard output",
+    );
     Command::new(alloc, "mvhub")
         .about("The hub of the medicines verification system, and the national repositories")
         .subcommand_required(true)
-        .subcommand(steps)
+        .subcommand(steps)?
+        .subcommand(canon)
 }
 
 /// What was asked for.
 fn task_of(matches: &ArgMatches<'_>) -> Option<Task> {
     match matches.subcommand() {
         Some(("steps", _)) => Some(Task::Steps),
+        Some(("canon", _)) => Some(Task::Canon),
         _ => None,
     }
 }

@@ -27,6 +27,14 @@ pub(crate) fn line_fault_text(alloc: Global, fault: &LineFault) -> Result<String
     line_fault_to_value(alloc, fault)?.to_string(alloc)
 }
 
+/// The text of the refusal of a message.
+#[tactic(auto, using(crate::proofs::ReplyLineLemmas::message_fault_no_float))]
+pub(crate) fn message_fault_text(alloc: Global, fault: &MessageFault) -> Result<String, AllocError>
+    ensures { IfOk result (λ text. string_bytes text ≡ compact_text (message_fault_value fault.now)) }
+{
+    message_fault_to_value(alloc, fault)?.to_string(alloc)
+}
+
 /// The text of the reply to an opening with so many parties.
 pub(crate) fn opened_text(alloc: Global, count: u32) -> Result<String, AllocError>
     ensures { IfOk result (λ text. string_bytes text ≡ compact_text (opened_value count)) }

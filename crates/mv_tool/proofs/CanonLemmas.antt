@@ -5,7 +5,7 @@ use Rattle.std.specs.Prelude.{⊤}
 use Rattle.std.specs.Io.KnownBytes.{Appends}
 use Rattle.mv_tool.specs.Canon.{IsCanon, canon_text, canon_of}
 use Rattle.mv_tool.specs.Lines.{lines_of, pieces}
-use Rattle.mv_tool.specs.Replies.{AreReplies, IsReplies, text_lines}
+use Rattle.mv_tool.specs.Replies.{AreReplies}
 use Rattle.mv_tool.specs.Served.{Served}
 
 -- each text is that to the line at its place

@@ -5,3 +5,4 @@ pub mod ListLemmas
 pub mod ReplyLineLemmas
 pub mod ServedLemmas
 pub mod CanonLemmas
+pub mod CommandLemmas

@@ -11,3 +11,4 @@ pub mod Openings
 pub mod Sessions
 pub mod Canon
 pub mod Statuses
+pub mod Commands

@@ -1,2 +1,4 @@
 pub mod GtinLemmas
 pub mod MarketLemmas
+pub mod CodeLemmas
+pub mod ExpiryLemmas

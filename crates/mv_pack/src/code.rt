@@ -1,0 +1,186 @@
+//! Serial, batch and national numbers: texts of one form, which must not be taken for one another.
+//!
+//! The three are one type with a marker, so that reading, equality, order and hash are written once.
+
+ghost use Rattle.std.specs.Prelude.{◌≡◌, ◌<◌, ◌↔◌, length, nat_eq, refl, IsOk, IfSome, MatchResult, Ok, Err, Some};
+ghost use Rattle.std.specs.Ordering.{nat_cmp};
+ghost use Rattle.std.specs.Cmp.{partial_equiv_from_equiv};
+ghost use Rattle.std.specs.Cmp.Lexicographic.{pointwise, slice_cmp, nat_list_eq_equiv, nat_list_cmp_total, texts_po, texts_ties};
+ghost use Rattle.std.specs.Cmp.Rules.{hashing};
+ghost use Rattle.std.specs.Hash as fed;
+ghost use Rattle.std.proofs.Common.{rules};
+ghost use Rattle.mv_pack.specs.Code.{is_code_character, first_wrong, read_code, IsCode};
+
+use crate::PackFault;
+use arrayvec::ArrayString;
+use std::cmp::Ordering;
+use std::fmt;
+use std::hash::{Hash, Hasher};
+use std::marker::{Model, PhantomData};
+
+/// The most bytes of a serial, batch or national number.
+pub const MOST_CODE_BYTES: usize = 20;
+
+/// The serial number of a pack (Delegated Regulation (EU) 2016/161, Article 4(b)(ii)).
+pub type Serial = Code<SerialKind>;
+
+/// The number of a batch (Delegated Regulation (EU) 2016/161, Article 4(b)(iv)).
+pub type Batch = Code<BatchKind>;
+
+/// A national reimbursement number, or another national number of a product (Delegated Regulation (EU) 2016/161,
+/// Article 4(b)(iii)).
+pub type National = Code<NationalKind>;
+
+/// Marks serial numbers.
+#[derive(Clone, Copy, Debug)]
+pub struct SerialKind;
+
+/// Marks batch numbers.
+#[derive(Clone, Copy, Debug)]
+pub struct BatchKind;
+
+/// Marks national numbers.
+#[derive(Clone, Copy, Debug)]
+pub struct NationalKind;
+
+/// A text of 1 to 20 characters of codes, of the kind `K`.
+#[derive(Drop)]
+pub struct Code<K> {
+    text: ArrayString<MOST_CODE_BYTES>,
+    kind: PhantomData<K>,
+}
+
+impl<K> Model for Code<K> {
+    ghost use Rattle.std.specs.Prelude.{List, ℕ};
+    ghost use Rattle.mv_pack.specs.Code.{IsCode};
+
+    ghost Value = { List ℕ };
+
+    ghost view = { λ c. c.text.bytes };
+
+    ghost invariant = { λ c. IsCode c.text.bytes };
+}
+
+impl<K> Code<K> {
+    /// Reads a text of 1 to 20 characters.
+    ///
+    /// The first of these that holds is the fault: P4, no byte; P5, more than 20 bytes; P6, a byte that is no character
+    /// of codes (GS1 General Specifications, section 7.11).
+    #[tactic(auto, using(crate::proofs::CodeLemmas::read_code_of, crate::proofs::CodeLemmas::no_fault))]
+    pub fn read(text: &str) -> Result<Code<K>, PackFault>
+        ensures exact { result ≡ read_code text.now }
+        ensures accepted { IsOk result ↔ IsCode text.now }
+    {
+        check_code(text)?;
+        let mut held = ArrayString::new();
+        held.push_str(text);
+        Ok(Code {
+            text: held,
+            kind: PhantomData,
+        })
+    }
+
+    /// The text that was read.
+    pub fn as_str(&self) -> &str
+        ensures { result.now ≡ self.now }
+    {
+        self.text.as_str()
+    }
+
+    /// The same once more; it takes no memory.
+    pub fn copy(&self) -> Code<K>
+        ensures { result ≡ self.now }
+    {
+        Code {
+            text: self.text,
+            kind: PhantomData,
+        }
+    }
+}
+
+/// Whether the text is a code, or its first fault.
+fn check_code(text: &str) -> Result<(), PackFault>
+    ensures { MatchResult result (λ _. IsCode text.now) (λ e. read_code text.now ≡ Err e) }
+{
+    if text.is_empty() {
+        return Err(PackFault::Empty);
+    }
+    if text.len() > MOST_CODE_BYTES {
+        return Err(PackFault::TooLong);
+    }
+    match first_wrong(text.as_bytes()) {
+        Some(place) => Err(PackFault::Character(place as u32 + 1)),
+        None => Ok(()),
+    }
+}
+
+/// The place of the first byte that is no character of codes, counted from zero.
+fn first_wrong(text: &[u8]) -> Option<usize>
+    ensures place { result ≡ first_wrong text.now }
+    ensures bound { IfSome result (λ i. i < length text.now) }
+{
+    text.iter().position(|byte| !is_code_character(*byte))
+}
+
+/// Whether a byte is one of the 82 characters of codes.
+fn is_code_character(byte: u8) -> bool
+    ensures { result ≡ is_code_character byte }
+{
+    byte.is_ascii_alphanumeric() || matches!(byte, b'!' | b'"' | b'%'..=b'/' | b':'..=b'?' | b'_')
+}
+
+impl<K> PartialEq for Code<K> {
+    ghost eq = { pointwise nat_eq };
+
+    ghost laws = { partial_equiv_from_equiv nat_list_eq_equiv };
+
+    fn eq(&self, other: &Self) -> bool {
+        self.as_str() == other.as_str()
+    }
+}
+
+impl<K> Eq for Code<K> {
+    ghost laws = { nat_list_eq_equiv };
+}
+
+impl<K> PartialOrd for Code<K> {
+    ghost partial_cmp = { λ s t. Some (slice_cmp nat_cmp s t) };
+
+    ghost laws = { texts_po };
+
+    fn partial_cmp(&self, other: &Self) -> Option<Ordering> {
+        Some(self.cmp(other))
+    }
+}
+
+/// By their bytes.
+impl<K> Ord for Code<K> {
+    ghost cmp = { slice_cmp nat_cmp };
+
+    ghost total = { nat_list_cmp_total };
+
+    ghost matches_partial_cmp = { λ s t. refl };
+
+    ghost matches_eq = { texts_ties };
+
+    fn cmp(&self, other: &Self) -> Ordering {
+        self.as_str().cmp(other.as_str())
+    }
+}
+
+impl<K> Hash for Code<K> {
+    ghost hash_input = { fed.str };
+
+    ghost respects_eq = { Prim.search (hashing, rules) };
+
+    fn hash<H: Hasher>(&self, state: &mut H) {
+        self.as_str().hash(state);
+    }
+}
+
+/// As its text.
+impl<K> fmt::Debug for Code<K> {
+    fn fmt<W: fmt::Write>(&self, f: &mut fmt::Formatter<W>) -> fmt::Result {
+        fmt::Debug::fmt(self.as_str(), f)
+    }
+}

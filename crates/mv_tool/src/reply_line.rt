@@ -8,6 +8,7 @@ ghost use Rattle.mv_tool.specs.ReplyLines.{whole, refused, refused_field, refuse
 use crate::LineFault;
 use mv_machine::{Refusal, Reply};
 use mv_message::{MessageFault, Party};
+use mv_pack::PackFault;
 use serde_json::{Value, json};
 use std::alloc::{AllocError, Global};
 
@@ -102,7 +103,7 @@ fn line_fault_to_value(alloc: Global, fault: &LineFault) -> Result<Value, AllocE
         LineFault::Missing(field) => refused_field(alloc, field.as_str(), "M3"),
         LineFault::Unknown(key) => refused_field(alloc, key.as_str(), "M4"),
         LineFault::Kind(field) => refused_field(alloc, field.as_str(), "M5"),
-        LineFault::Pack(field, fault) => refused_pack(alloc, fault.code(), field.as_str()),
+        LineFault::Pack(field, fault) => refused_pack(alloc, *fault, field.as_str()),
         LineFault::Message(fault) => message_fault_to_value(alloc, fault),
         LineFault::Memory => refused(alloc, "M9"),
     }
@@ -117,7 +118,7 @@ fn message_fault_to_value(alloc: Global, fault: &MessageFault) -> Result<Value, 
         MessageFault::Missing(field) => refused_field(alloc, field.as_str(), code),
         MessageFault::Unknown(key) => refused_field(alloc, key.as_str(), code),
         MessageFault::Kind(field) => refused_field(alloc, field.as_str(), code),
-        MessageFault::Pack(field, fault) => refused_pack(alloc, fault.code(), field.as_str()),
+        MessageFault::Pack(field, fault) => refused_pack(alloc, *fault, field.as_str()),
         MessageFault::Count(field) => refused_field(alloc, field.as_str(), code),
         MessageFault::TextLength(field) => refused_field(alloc, field.as_str(), code),
         MessageFault::NotJson => refused(alloc, code),
@@ -147,9 +148,15 @@ fn refused_field(alloc: Global, field: &str, code: &str) -> Result<Value, AllocE
     json!(in alloc; { "field": field, "refused": code })
 }
 
-/// The value of the refusal of a text that is no value (M6).
-fn refused_pack(alloc: Global, fault: &str, field: &str) -> Result<Value, AllocError>
-    ensures { IfOk result (λ value. view value ≡ refused_pack fault.now field.now) }
+/// The value of the refusal of a text that is no value (M6). That of P6 has the place of the character.
+fn refused_pack(alloc: Global, fault: PackFault, field: &str) -> Result<Value, AllocError>
+    ensures { IfOk result (λ value. view value ≡ refused_pack fault field.now) }
 {
-    json!(in alloc; { "fault": fault, "field": field, "refused": "M6" })
+    let code = fault.code();
+    match fault {
+        PackFault::Character(place) => {
+            json!(in alloc; { "fault": code, "field": field, "place": place, "refused": "M6" })
+        }
+        _ => json!(in alloc; { "fault": code, "field": field, "refused": "M6" }),
+    }
 }

@@ -1,5 +1,5 @@
 -- What the hub keeps, through a routing and a relay.
-use Rattle.std.proofs.Common.{◌≡◌, ℕ, ◌+◌, ◌-◌, ◌<◌, ◌≤◌, Bool, true, false, ◌&&◌, ◌||◌, not, List, [], ◌∷◌, ◌++◌, length, get_or, set, cond, Option, Some, None, sym, refl, ap, ◌∙◌, subst, arith, inl, inr, append-nil, eqb, zero-add, length-append, length-set, get_or-set_same, get_or-set_other}
+use Rattle.std.proofs.Common.{◌≡◌, ℕ, ◌+◌, ◌-◌, ◌<◌, ◌≤◌, Bool, true, false, ◌&&◌, ◌||◌, not, List, [], ◌∷◌, ◌++◌, length, get_or, set, cond, Option, Some, None, sym, refl, ap, ◌∙◌, subst, arith, ◌⊎◌, ◌≢◌, inl, inr, append-nil, eqb, zero-add, length-append, length-set, get_or-set_same, get_or-set_other}
 use mir.Val.{bool_byte}
 use Rattle.std.specs.Prelude.{nat_lt, ◌==◌, replicate}
 use Rattle.std.specs.List.{All, list_any}
@@ -13,7 +13,7 @@ use Rattle.mv_link.specs.declared.item.Item.{Item}
 use Rattle.mv_link.specs.declared.item.Item.TheVariants.{Receipt, Carried}
 use Rattle.mv_link.specs.Sending.{Sending, HasRoom, new_sending}
 use Rattle.mv_pairs.specs.Pairs.{cell, put, IsSquare}
-use Rattle.mv_pairs.proofs.PairsLemmas.{cell-map, put-map, cell-all, table-all}
+use Rattle.mv_pairs.proofs.PairsLemmas.{cell-map, put-map, cell-all, table-all, cell-put_same, cell-put_other, square-put}
 use Rattle.mv_hub.specs.declared.entry.Entry.{Entry}
 use Rattle.mv_hub.specs.declared.entry.Entry.TheVariants.{Routed, Closed}
 use Rattle.mv_hub.specs.Record.{routed_from, routed_count, last_markets_after, is_same_gtin, is_open}
@@ -21,8 +21,8 @@ use Rattle.mv_hub.specs.Targets.{reach, is_reached, is_query}
 use Rattle.mv_hub.specs.Links.{gained, link_items}
 use Rattle.mv_hub.specs.Hub.{HubState, new_hub, sent_of, items_on, next_items, gains_of, is_busy, busy_party, busy_fault, route_fault, with_relayed}
 use Rattle.mv_hub.specs.declared.fault.RouteFault.TheVariants.{StrangerParty}
-use Rattle.mv_hub.specs.Kept.{link_at, sent_table, AreCounts, AreMarkets, Carries, AreLinks, IsKept, Gains, GainsRow}
-use Rattle.mv_hub.proofs.RecordLemmas.{routed_from-append, link_items-push, gained_other}
+use Rattle.mv_hub.specs.Kept.{link_at, sent_table, AreCounts, AreMarkets, AreOpen, Carries, AreLinks, IsKept, Gains, GainsRow}
+use Rattle.mv_hub.proofs.RecordLemmas.{routed_from-append, link_items-push, gained_other, gained-closed}
 use Rattle.mv_hub.proofs.NumberLemmas.{any-filter_range, find-none_at}
 
 -- what the hub is seen as
@@ -53,6 +53,20 @@ is_open-routed [] sender k message from to = refl
 is_open-routed (Routed a j m ∷ entries) sender k message from to = is_open-routed entries sender k message from to
 is_open-routed (Closed a b ∷ entries) sender k message from to =
     ap (λ o. not ((a == from) && (b == to)) && o) (is_open-routed entries sender k message from to)
+
+-- a closing closes its own link alone
+is_open-closed : (entries : List Entry) (sender receiver from to : ℕ)
+    → is_open (entries ++ Closed sender receiver ∷ []) from to ≡ (not ((sender == from) && (receiver == to)) && is_open entries from to)
+is_open-closed [] sender receiver from to = refl
+is_open-closed (Routed a k m ∷ entries) sender receiver from to = is_open-closed entries sender receiver from to
+is_open-closed (Closed a b ∷ entries) sender receiver from to =
+    ap (λ o. not ((a == from) && (b == to)) && o) (is_open-closed entries sender receiver from to)
+    ∙ swap (not ((a == from) && (b == to))) (not ((sender == from) && (receiver == to))) (is_open entries from to)
+  where
+    swap : (x y z : Bool) → (x && (y && z)) ≡ (y && (x && z))
+    swap true y z = refl
+    swap false true z = refl
+    swap false false z = refl
 
 -- a party stands among those that a message reaches if the message reaches it
 pub has_party-reach : (parties : List (List (List ℕ))) (entries : List Entry) (from : ℕ) (message : Message) (reached : List ℕ) (to : ℕ)
@@ -232,6 +246,70 @@ kept-routed parties window entries counts table new_table open_links old new gai
     values = λ a b is_a is_b. kept.are_open.values a b is_a is_b ∙ sym (is_open-routed entries from (routed_count entries from + 1) message a b);
   };
   are_links = links-routed parties window entries old new gains from message kept.are_links e row;
+}
+
+-- the counts, the closed link and the links, once a link was closed
+counts-closed : (n : ℕ) (entries : List Entry) (counts : List ℕ) (from to : ℕ) → AreCounts n entries counts → AreCounts n (entries ++ Closed from to ∷ []) counts
+counts-closed n entries counts from to are = record {
+  each = are.each;
+  values = λ party below. are.values party below
+      ∙ sym (ap length (routed_from-append entries (Closed from to ∷ []) party ∙ append-nil (routed_from entries party)));
+}
+
+open-closed : (n : ℕ) (entries : List Entry) (open_links : List (List Bool)) (from to : ℕ) → AreOpen n entries open_links → from < n → to < n
+    → AreOpen n (entries ++ Closed from to ∷ []) (put open_links from to false)
+open-closed n entries open_links from to are is_from is_to = record {
+  square = square-put n open_links from to false are.square;
+  values = λ a b is_a is_b. at a b is_a is_b (cases_eq a from) (cases_eq b to);
+}
+  where
+    elsewhere : (a b : ℕ) → a < n → b < n → (a ≢ from) ⊎ (b ≢ to) → ((from == a) && (to == b)) ≡ false
+        → cell (put open_links from to false) a b true ≡ is_open (entries ++ Closed from to ∷ []) a b
+    elsewhere a b is_a is_b other e =
+        cell-put_other open_links from to a b false true other ∙ are.values a b is_a is_b
+        ∙ sym (is_open-closed entries from to a b ∙ ap (λ t. not t && is_open entries a b) e)
+
+    and-false : (x : Bool) → (x && false) ≡ false
+    and-false true = refl
+    and-false false = refl
+
+    at : (a b : ℕ) → a < n → b < n → (a ≡ from) ⊎ (a ≢ from) → (b ≡ to) ⊎ (b ≢ to)
+        → cell (put open_links from to false) a b true ≡ is_open (entries ++ Closed from to ∷ []) a b
+    at a b is_a is_b (inl p) (inl q) =
+        ap (λ x. cell (put open_links from to false) x b true) p ∙ ap (λ y. cell (put open_links from to false) from y true) q
+        ∙ cell-put_same n open_links from to false true are.square is_from is_to
+        ∙ sym (is_open-closed entries from to a b ∙ ap (λ t. not (t && (to == b)) && is_open entries a b) (eq-eqb from a (sym p))
+        ∙ ap (λ t. not t && is_open entries a b) (eq-eqb to b (sym q)))
+    at a b is_a is_b (inl p) (inr q) =
+        elsewhere a b is_a is_b (inr q) (ap (λ t. (from == a) && t) (ne_eqb to b (λ e. q (sym e))) ∙ and-false (from == a))
+    at a b is_a is_b (inr p) q =
+        elsewhere a b is_a is_b (inl p) (ap (λ t. t && (to == b)) (ne_eqb from a (λ e. p (sym e))))
+
+links-closed : (parties : List (List (List ℕ))) (window : ℕ) (entries : List Entry) (links : List (List Sending)) (from to : ℕ)
+    → AreLinks parties window entries links → AreLinks parties window (entries ++ Closed from to ∷ []) links
+links-closed parties window entries links from to are = record {
+  square = are.square;
+  values = λ a b is_a is_b. subst (λ l. Carries window l (link_at links a b))
+      (sym (link_items-push parties entries (Closed from to) a b
+      ∙ ap (λ l. link_items parties entries a b ++ l) (gained-closed parties entries from to a b)
+      ∙ append-nil (link_items parties entries a b)))
+      (are.values a b is_a is_b);
+}
+
+-- all that the hub keeps, once a link was closed
+pub kept-closed : (parties : List (List (List ℕ))) (window : ℕ) (entries : List Entry) (counts : List ℕ) (table : List (List ℕ × List (List ℕ)))
+    (open_links : List (List Bool)) (links : List (List Sending)) (from to : ℕ)
+    → IsKept parties window entries counts table open_links links → from < length parties → to < length parties
+    → IsKept parties window (entries ++ Closed from to ∷ []) counts table (put open_links from to false) links
+kept-closed parties window entries counts table open_links links from to kept is_from is_to = record {
+  some = kept.some;
+  few = kept.few;
+  wide = kept.wide;
+  narrow = kept.narrow;
+  are_counts = counts-closed (length parties) entries counts from to kept.are_counts;
+  are_markets = λ gtin. kept.are_markets gtin ∙ sym (last_markets_after-append None entries (Closed from to ∷ []) gtin);
+  are_open = open-closed (length parties) entries open_links from to kept.are_open is_from is_to;
+  are_links = links-closed parties window entries links from to kept.are_links;
 }
 
 -- the table once a master was routed

@@ -57,7 +57,7 @@ impl Model for Hub {
 impl Hub {
     ghost use Rattle.mv_link.specs.declared.item.Item.TheVariants.{Receipt, Carried};
     ghost use Rattle.mv_link.specs.Sending.{new_sending};
-    ghost use Rattle.mv_hub.specs.Hub.{new_hub, sent_of, items_on, next_items, gains_of, busy_party, route_fault, relay_fault, with_routed, with_relayed};
+    ghost use Rattle.mv_hub.specs.Hub.{new_hub, sent_of, items_on, next_items, gains_of, busy_party, route_fault, relay_fault, repeat_fault, close_fault, with_routed, with_relayed, with_closed};
 
     /// A hub where nothing has happened, whose links keep their last `window` items. Refused for want of memory.
     pub fn new(alloc: Global, parties: Parties, window: u32) -> Result<Hub, AllocError>
@@ -411,9 +411,56 @@ impl Hub {
         let frame = match link.relay() {
             Ok(frame) => frame,
             Err(LinkFault::Nothing) => return Err(HubFault::Nothing),
-            Err(LinkFault::Memory) => return Err(HubFault::Memory),
+            Err(_) => return Err(HubFault::Memory),
         };
         Ok(frame)
+    }
+
+    /// The frame of this number of the link from one party to another once more, one that was relayed before. Nothing
+    /// changes.
+    ///
+    /// The first of these that holds is the fault: H4, one of the parties is none; H9, no frame of this number was relayed;
+    /// H10, it is kept no longer, since as many items as the window holds were put on the link behind it; H7, memory was
+    /// refused.
+    pub fn repeat(&self, from: Party, to: Party, number: u32) -> Result<Frame, HubFault>
+        ensures number { IfOk result (λ frame. frame.number ≡ number) }
+        ensures frame { IfOk result (λ frame. IsFrameOf (items_on self.now from to) frame) }
+        ensures fault { FailsBy (repeat_fault self.now from to number) result }
+    {
+        let count = self.parties().len();
+        if from >= count || to >= count {
+            return Err(HubFault::StrangerParty);
+        }
+        match self.link(from, to).again(number) {
+            Ok(frame) => Ok(frame),
+            Err(LinkFault::NotSent) => Err(HubFault::NotSent),
+            Err(LinkFault::Gone) => Err(HubFault::Gone),
+            Err(_) => Err(HubFault::Memory),
+        }
+    }
+
+    /// Closes the link from one party to another, for ever: no message that is routed later is put on it. What was put on
+    /// it before is still relayed and repeated.
+    ///
+    /// The first of these that holds is the fault: H4, one of the parties is none; H6, the link was closed before; H7,
+    /// memory was refused.
+    pub fn close(&mut self, from: Party, to: Party) -> Result<(), HubFault>
+        ensures ok { OnOk result (self.new ≡ with_closed self.old from to) }
+        ensures err { OnErr result (self.new ≡ self.old) }
+        ensures fault { FailsBy (close_fault self.old from to) result }
+    {
+        let count = self.parties().len();
+        if from >= count || to >= count {
+            return Err(HubFault::StrangerParty);
+        }
+        if !self.is_open(from, to) {
+            return Err(HubFault::AlreadyClosed);
+        }
+        let Ok(()) = self.entries.push(Entry::Closed { from, to }) else {
+            return Err(HubFault::Memory);
+        };
+        *self.open_links.at_mut(from, to) = false;
+        Ok(())
     }
 }
 

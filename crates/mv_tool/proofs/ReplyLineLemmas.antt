@@ -7,7 +7,7 @@ use Rattle.mv_message.specs.Fields.{field_name as message_field_name}
 use Rattle.mv_message.specs.declared.fault.MessageFault.{MessageFault}
 use Rattle.mv_message.specs.declared.fault.MessageFault.TheVariants as message
 use Rattle.mv_machine.specs.declared.reply.Reply.{Reply}
-use Rattle.mv_machine.specs.declared.reply.Reply.TheVariants.{Submitted, Routed, Relayed, Applied, Old, Gap, Refused}
+use Rattle.mv_machine.specs.declared.reply.Reply.TheVariants.{Submitted, Routed, Relayed, Applied, Old, Gap, Repeated, Closed, Lost, Refused}
 use Rattle.mv_machine.specs.declared.reply.Refusal.{Refusal}
 use Rattle.mv_machine.specs.declared.reply.Refusal.TheVariants as refusals
 use Rattle.mv_tool.specs.declared.line_fault.LineFault.{LineFault}
@@ -21,13 +21,17 @@ wholes_no_float (n ∷ ns) = wholes_no_float ns
 
 refusal_no_float : (refusal : Refusal) → has_float (refusal_value refusal) ≡ false
 refusal_no_float refusals.Party = refl
+refusal_no_float refusals.NotYours = refl
 refusal_no_float refusals.UplinkFull = refl
 refusal_no_float refusals.SenderFull = refl
 refusal_no_float refusals.UplinkEmpty = refl
 refusal_no_float (refusals.Busy party) = refl
 refusal_no_float refusals.WireFull = refl
 refusal_no_float refusals.WireEmpty = refl
+refusal_no_float refusals.NotSent = refl
+refusal_no_float refusals.Gone = refl
 refusal_no_float refusals.Nothing = refl
+refusal_no_float refusals.AlreadyClosed = refl
 refusal_no_float refusals.Memory = refl
 
 -- the value of a reply to a step
@@ -38,6 +42,9 @@ reply_no_float (Relayed n) = refl
 reply_no_float (Applied n effect) = refl
 reply_no_float (Old n) = refl
 reply_no_float (Gap n expected) = refl
+reply_no_float (Repeated n) = refl
+reply_no_float Closed = refl
+reply_no_float (Lost n) = refl
 reply_no_float (Refused refusal) = refusal_no_float refusal
 
 pack_no_float : (fault : PackFault) (field : List ℕ) → has_float (refused_pack fault field) ≡ false

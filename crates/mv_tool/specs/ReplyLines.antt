@@ -1,6 +1,6 @@
 -- The JSON value of each reply. Its text is the value's compact text: no blanks, the keys in byte order.
-use Rattle.std.specs.Prelude.{ℕ, List, map, codes}
-use Rattle.serde_json.specs.Data.{Data, number, unsigned, string, array, object, Items, no_members, member}
+use Rattle.std.specs.Prelude.{ℕ, List, map, codes, true}
+use Rattle.serde_json.specs.Data.{Data, boolean, number, unsigned, string, array, object, Items, no_members, member}
 use Rattle.serde_json.specs.View.{items_of}
 use Rattle.mv_pack.specs.Fault.{code_of as pack_code}
 use Rattle.mv_pack.specs.declared.fault.PackFault.{PackFault}
@@ -10,7 +10,7 @@ use Rattle.mv_message.specs.declared.fault.MessageFault.{MessageFault}
 use Rattle.mv_message.specs.declared.fault.MessageFault.TheVariants as message
 use Rattle.mv_repository.specs.Effect.{code_of as effect_code}
 use Rattle.mv_machine.specs.declared.reply.Reply.{Reply}
-use Rattle.mv_machine.specs.declared.reply.Reply.TheVariants.{Submitted, Routed, Relayed, Applied, Old, Gap, Refused}
+use Rattle.mv_machine.specs.declared.reply.Reply.TheVariants.{Submitted, Routed, Relayed, Applied, Old, Gap, Repeated, Closed, Lost, Refused}
 use Rattle.mv_machine.specs.declared.reply.Refusal.{Refusal}
 use Rattle.mv_machine.specs.declared.reply.Refusal.TheVariants.{Busy}
 use Rattle.mv_machine.specs.Replies.{code_of as refusal_code}
@@ -95,4 +95,7 @@ reply_value (Applied n effect) =
 reply_value (Old n) = numbered (codes "old") n
 reply_value (Gap n expected) =
     object (member (codes "expected") (whole expected) (member (codes "gap") (whole n) no_members))
+reply_value (Repeated n) = numbered (codes "repeated") n
+reply_value Closed = object (member (codes "closed") (boolean true) no_members)
+reply_value (Lost n) = numbered (codes "lost") n
 reply_value (Refused refusal) = refusal_value refusal

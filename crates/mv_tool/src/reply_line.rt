@@ -68,6 +68,9 @@ fn reply_to_value(alloc: Global, reply: &Reply) -> Result<Value, AllocError>
         Reply::Gap { number, expected } => {
             json!(in alloc; { "expected": *expected, "gap": *number })
         }
+        Reply::Repeated { number } => json!(in alloc; { "repeated": *number }),
+        Reply::Closed => json!(in alloc; { "closed": true }),
+        Reply::Lost { number } => json!(in alloc; { "lost": *number }),
         Reply::Refused(refusal) => refusal_to_value(alloc, *refusal),
     }
 }

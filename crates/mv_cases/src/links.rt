@@ -2,6 +2,8 @@
 
 use crate::system::{has_replies, is_routed, is_sent, is_submitted, opened_at_last};
 use mv_machine::{Refusal, Reply, Step};
+use mv_message::Message;
+use mv_pack::{Gtin, PackKey, Serial};
 use mv_repository::Effect;
 use mv_system::World;
 use std::test::Fail;
@@ -154,5 +156,34 @@ fn takes_no_frame_on_a_full_wire(rt: HostRuntime) -> Result<(), Fail> {
     assert!(rt; is_sent(&mut world, rt.alloc(), 1));
     assert!(rt; is_sent(&mut world, rt.alloc(), 2));
     assert!(rt; takes_one_frame(&mut world));
+    Ok(())
+}
+
+/// The question about a pack.
+fn query() -> Option<Message> {
+    let gtin = Gtin::read("09506000134352").ok()?;
+    let serial = Serial::read("S1").ok()?;
+    let key = PackKey { gtin, serial };
+    Some(Message::Query { key })
+}
+
+/// Whether a query that a party submits is refused.
+fn is_refused(world: &mut World) -> bool {
+    let Some(message) = query() else {
+        return false;
+    };
+    has_replies(
+        world,
+        &[(
+            Step::Submit { from: 1, message },
+            Reply::Refused(Refusal::NotYours),
+        )],
+    )
+}
+
+#[test]
+fn takes_no_query_from_a_party(rt: HostRuntime) -> Result<(), Fail> {
+    let mut world = opened_at_last(rt.alloc(), 8, 8).ok_or("a system")?;
+    assert!(rt; is_refused(&mut world));
     Ok(())
 }

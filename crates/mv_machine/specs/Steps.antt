@@ -1,5 +1,5 @@
 -- What each step answers and leaves where there is memory: a row for each kind of step, its refusals in their order.
-use Rattle.std.specs.Prelude.{◌==◌, ◌||◌, ◌+◌, ◌-◌, ℕ, List, [], ◌∷◌, ◌++◌, length, not, Bool, true, if◌then◌else◌, slice_set, slice_get, Option, Some, None, nat_lt, nat_le, find}
+use Rattle.std.specs.Prelude.{◌==◌, ◌||◌, ◌+◌, ◌-◌, ℕ, List, [], ◌∷◌, ◌++◌, length, not, Bool, true, false, if◌then◌else◌, slice_set, slice_get, Option, Some, None, nat_lt, nat_le, find}
 use Rattle.std.specs.List.{range_with_len}
 use Rattle.mv_message.specs.declared.message.Message.{Message}
 use Rattle.mv_message.specs.declared.message.Message.TheVariants.{Master}
@@ -31,6 +31,7 @@ refused refusal st = record { reply = Refused refusal; state = st }
 -- a message that a party may submit: a master alone so far
 abbrev pub is_taken_message : Message → Bool
 is_taken_message (Master gtin product) = true
+is_taken_message message = false
 
 -- a party submits a message: it is the last of the party's submissions
 unfoldable pub submit : State → ℕ → Message → Outcome

@@ -1,12 +1,13 @@
--- What is read as a code.
-use Rattle.std.proofs.Common.{◌≡◌, ℕ, zero, suc, ◌+◌, ◌<◌, List, [], ◌∷◌, Bool, true, false, cond, not, ◌&&◌, get_or, refl, arith}
-use Rattle.std.specs.Prelude.{IsUtf8, None, Some, Ok, Err}
+-- What is read as a serial, batch or national number.
+use Rattle.std.proofs.Common.{◌≡◌, ℕ, ◌+◌, ◌<◌, List, [], ◌∷◌, Bool, true, false, cond, not, ◌&&◌, length, refl, subst, arith}
+use Rattle.std.specs.Prelude.{IsUtf8, ◌==◌, nat_lt, Option, None, Some, Result, Ok, Err}
 use Rattle.std.specs.List.{list_all, position_from}
 use Rattle.std.proofs.lemmas.Bool.Decides.{nat_tests}
-use Rattle.std.proofs.lemmas.Str.{IsUtf8-from_ascii}
-use Rattle.mv_pack.proofs.GtinLemmas.{and_left, and_right}
+use Rattle.mv_pack.specs.Code.{is_code_character, first_wrong, read_characters, read_code, IsCode}
+use Rattle.mv_pack.specs.declared.code.TheConstants.{MOST_CODE_BYTES}
 use Rattle.mv_pack.specs.declared.fault.PackFault.{PackFault}
-use Rattle.mv_pack.specs.Code.{is_code_character, read_code, IsCode}
+use Rattle.mv_pack.specs.declared.fault.PackFault.TheVariants.{Empty, TooLong}
+use Rattle.mv_pack.proofs.TextLemmas.{text_of_ascii}
 
 -- where no wrong element is found all are right
 pub none_wrong : {X : Type 0} (p : X → Bool) (xs : List X) (i : ℕ) → position_from (λ x. not (p x)) i xs ≡ None → list_all p xs ≡ true
@@ -14,7 +15,7 @@ none_wrong p [] i h = refl
 none_wrong p (x ∷ xs) i h = elim (p x) as (λ b. cond (not b) (Some i) (position_from (λ x. not (p x)) (i + 1) xs) ≡ None → (b && list_all p xs) ≡ true) [ true ↦ λ e. none_wrong p xs (i + 1) e | false ↦ λ e. cc ] h
 
 -- where all are right no wrong element is found
-pub all_right : {X : Type 0} (p : X → Bool) (xs : List X) (i : ℕ) → list_all p xs ≡ true → position_from (λ x. not (p x)) i xs ≡ None
+all_right : {X : Type 0} (p : X → Bool) (xs : List X) (i : ℕ) → list_all p xs ≡ true → position_from (λ x. not (p x)) i xs ≡ None
 all_right p [] i h = refl
 all_right p (x ∷ xs) i h = elim (p x) as (λ b. (b && list_all p xs) ≡ true → cond (not b) (Some i) (position_from (λ x. not (p x)) (i + 1) xs) ≡ None) [ true ↦ λ e. all_right p xs (i + 1) e | false ↦ λ e. cc ] h
 
@@ -28,14 +29,28 @@ read_code_of t h =
 pub no_fault : (t : List ℕ) (e : PackFault) → read_code t ≡ Err e → IsCode t → ⊥
 no_fault t e h code = let ok = read_code_of t code in cc
 
+-- reading as a choice by its three tests
+chosen : Bool → Bool → Option ℕ → List ℕ → Result (List ℕ) PackFault
+chosen empty long place t = cond empty (Err Empty) (cond long (Err TooLong) (read_characters t place))
+
+read_chosen : (empty long : Bool) (place : Option ℕ) (t c : List ℕ) → chosen empty long place t ≡ Ok c → (empty ≡ false) × (long ≡ false) × (place ≡ None) × (t ≡ c)
+unfolding chosen
+read_chosen true long place t c h = cc
+read_chosen false true place t c h = cc
+read_chosen false false (Some i) t c h = cc
+read_chosen false false None t c h = (refl, refl, refl, cc)
+
+-- what is read is a code
+pub read_code_is_code : (t c : List ℕ) → read_code t ≡ Ok c → IsCode c
+unfolding chosen
+read_code_is_code t c h =
+    let tests = read_chosen (length t == 0) (nat_lt MOST_CODE_BYTES (length t)) (first_wrong t) t c h in
+    subst IsCode tests.3
+    (grind (arith, nat_tests, tests.0), grind (arith, nat_tests, tests.1), none_wrong is_code_character t 0 tests.2)
+
 code_character_below : (c : ℕ) → is_code_character c ≡ true → c < 128
 code_character_below c h = grind (arith, nat_tests)
 
-characters_below : (t : List ℕ) → list_all is_code_character t ≡ true → (i : ℕ) → get_or t i 0 < 128
-characters_below [] all i = omega arith
-characters_below (x ∷ xs) all zero = code_character_below x (and_left (is_code_character x) (list_all is_code_character xs) all)
-characters_below (x ∷ xs) all (suc i) = characters_below xs (and_right (is_code_character x) (list_all is_code_character xs) all) i
-
 -- a code is text
 pub utf8_of_code : (t : List ℕ) → IsCode t → IsUtf8 t
-utf8_of_code t h = IsUtf8-from_ascii t (characters_below t h.2)
+utf8_of_code t h = text_of_ascii is_code_character code_character_below t h.2

@@ -1,38 +1,26 @@
 -- Day numbers of the century 20, and dates as six digits.
-use Rattle.std.proofs.Common.{◌≡◌, ℕ, ◌+◌, ◌-◌, ◌*◌, ◌<◌, ◌≤◌, ◌/◌, ◌%◌, true, cond, arith, ℤ, pos, ◌≤ℤ◌}
+use Rattle.std.proofs.Common.{◌≡◌, ℕ, ◌+◌, ◌-◌, ◌*◌, ◌<◌, ◌≤◌, ◌/◌, ◌%◌, ◌&&◌, ◌==◌, nat_le, List, length, get_or, subst, true, cond, arith, pos, ◌≤ℤ◌}
 use Rattle.std.specs.Prelude.{Ok}
+use Rattle.std.proofs.lemmas.Bool.{and_parts}
+use Rattle.mv_pack.proofs.TextLemmas.{passes_at, chosen_ok, given_ok}
+use Rattle.mv_pack.proofs.GtinLemmas.{digit_bounds}
 use Rattle.std.specs.List.{list_all}
 use Rattle.std.proofs.lemmas.Bool.Decides.{nat_tests}
-use Rattle.std.proofs.Common.{FitsSigned, Fits, w32, T, ap, ◌∙◌}
+use Rattle.std.proofs.Common.{ap, ◌∙◌}
 use Rattle.std.specs.Prelude.{Err}
-use Rattle.std.proofs.lemmas.Int.{ints}
 use Rattle.mv_pack.specs.declared.fault.PackFault.TheVariants.{Date}
-use lib.IntN.{nat_abs}
-use lib.Signed.{non_neg}
-use mir.Val.{to_z, of_z}
 use Rattle.jiff_core.specs.Calendar.{days_from_civil, days_in_month}
 use Rattle.jiff_core.proofs.SignedLemmas.{signed_arith}
 use Rattle.jiff_core.proofs.CalendarLemmas.{day_count-lt_year, days_in_month_bounds}
-use Rattle.mv_pack.specs.Expiry.{CivilDate, IsExpiry, dated, number_at, expiry_text, read_expiry}
+use Rattle.mv_pack.specs.Expiry.{CivilDate, IsExpiry, day_of, dated, number_at, expiry_text, read_expiry}
 use Rattle.mv_pack.specs.Gtin.{is_digit}
 
--- a day of the century 20 has no negative number
-pub day_of_not_negative : (y m d : ℕ) → 2000 ≤ y → 1 ≤ d → pos 0 ≤ℤ days_from_civil (pos y) m d
+-- no day of the range has a negative number
+pub day_from_1970 : (date : CivilDate) → IsExpiry date → pos 0 ≤ℤ day_of date
 unfolding days_from_civil
-day_of_not_negative y m d h hd =
-    let later = day_count-lt_year (pos 1970) 1 1 (pos y) m d (omega (arith, signed_arith), (omega arith, omega arith), (omega arith, omega arith)) hd (omega (arith, signed_arith)) in
+day_from_1970 date h =
+    let later = day_count-lt_year (pos 1970) 1 1 (pos date.year) date.month date.day (omega (arith, signed_arith), (omega arith, omega arith), (omega arith, omega arith)) h.4 (omega (arith, signed_arith)) in
     omega (arith, signed_arith)
-
--- equal parts have one day number
-pub same_day : (y z : ℤ) (m d n e : ℕ) → y ≡ z → pos m ≡ pos n → pos d ≡ pos e → days_from_civil y m d ≡ days_from_civil z n e
-same_day y z m d n e hy hm hd = let em : m ≡ n = cc in let ed : d ≡ e = cc in cc
-
--- a number that is not negative, as an unsigned one
-pub as_unsigned : (r z : ℤ) → r ≡ z → FitsSigned w32 r → pos 0 ≤ℤ z → pos (nat_abs (to_z w32 (of_z w32 r))) ≡ z
-as_unsigned r z e fits low = omega (arith, ints)
-
-pub cast_fits : (r z : ℤ) → r ≡ z → FitsSigned w32 r → pos 0 ≤ℤ z → T (non_neg (to_z w32 (of_z w32 r))) × Fits w32 (nat_abs (to_z w32 (of_z w32 r)))
-cast_fits r z e fits low = omega (arith, ints)
 
 -- the two digits of a number stand for it
 pub two_digits_value : (n : ℕ) → n < 100 → 10 * (n / 10 + 48 - 48) + (n % 10 + 48 - 48) ≡ n
@@ -44,6 +32,38 @@ digit_is c low high = grind (arith, nat_tests)
 pub two_are_digits : (n : ℕ) → n < 100 → (is_digit (n / 10 + 48) ≡ true) × (is_digit (n % 10 + 48) ≡ true)
 two_are_digits n h = (digit_is (n / 10 + 48) (omega arith) (omega arith), digit_is (n % 10 + 48) (omega arith) (omega arith))
 
+-- the two digits from a place on stand for a number below 100
+number_below : (t : List ℕ) (i : ℕ) → list_all is_digit t ≡ true → i + 1 < length t → number_at i t < 100
+number_below t i all within =
+    let tens = digit_bounds (get_or t i 0) (passes_at is_digit t i 0 all (omega arith)) in
+    let units = digit_bounds (get_or t (i + 1) 0) (passes_at is_digit t (i + 1) 0 all within) in
+    omega arith
+
+-- the day that is kept is one of the month
+kept_day : (day last : ℕ) → 1 ≤ last → day ≤ last → (1 ≤ cond (day == 0) last day) × (cond (day == 0) last day ≤ last)
+kept_day day last some within = grind (arith, nat_tests)
+
+-- a date of a year from 2000 to 2099 is one of the range
+dated_is_expiry : (year month day : ℕ) (date : CivilDate) → 2000 ≤ year → year ≤ 2099 → dated year month day ≡ Ok date → IsExpiry date
+dated_is_expiry year month day date from until h =
+    let last = days_in_month (pos year) month in
+    let there = nat_le 1 month && nat_le month 12 && nat_le day last in
+    let kept : CivilDate = record { year = year; month = month; day = cond (day == 0) last day } in
+    let given = given_ok there kept Date date h in
+    let bounds : (1 ≤ month) × (month ≤ 12) × (day ≤ last) = grind (arith, nat_tests, given.0) in
+    let days = kept_day day last (omega (arith, days_in_month_bounds (pos year) month)) bounds.2 in
+    subst IsExpiry given.1 (from, until, bounds.0, bounds.1, days.0, days.1)
+
+-- what is read is a date of the range
+pub read_expiry_is_expiry : (t : List ℕ) (date : CivilDate) → read_expiry t ≡ Ok date → IsExpiry date
+read_expiry_is_expiry t date h =
+    let reading = dated (2000 + number_at 0 t) (number_at 2 t) (number_at 4 t) in
+    let chosen = chosen_ok ((length t == 6) && list_all is_digit t) reading Date date h in
+    let tests = and_parts (length t == 6) (list_all is_digit t) chosen.0 in
+    let six : length t ≡ 6 = grind (arith, nat_tests, tests.0) in
+    let year = number_below t 0 tests.1 (omega arith) in
+    dated_is_expiry (2000 + number_at 0 t) (number_at 2 t) (number_at 4 t) date (omega arith) (omega arith) chosen.1
+
 -- a date that there is
 dated_is : (y m d : ℕ) → 1 ≤ m → m ≤ 12 → 1 ≤ d → d ≤ days_in_month (pos y) m → dated y m d ≡ Ok (record { year = y; month = m; day = d })
 dated_is y m d m1 m12 d1 dm = grind (arith, nat_tests)
@@ -52,8 +72,8 @@ same_dated : (y m d z n e : ℕ) → y ≡ z → m ≡ n → d ≡ e → dated y
 same_dated y m d z n e hy hm hd = cc
 
 -- a date's text is read as the date
-pub read_expiry-text : (d : CivilDate) → IsExpiry d → read_expiry (expiry_text d) ≡ Ok d
-read_expiry-text d h =
+pub read_expiry_text : (d : CivilDate) → IsExpiry d → read_expiry (expiry_text d) ≡ Ok d
+read_expiry_text d h =
     let yy = two_are_digits (d.year - 2000) (omega arith) in
     let mm = two_are_digits d.month (omega arith) in
     let dd = two_are_digits d.day (omega (arith, days_in_month_bounds (pos d.year) d.month)) in

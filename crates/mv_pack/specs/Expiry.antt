@@ -1,8 +1,9 @@
 -- Expiry dates, as texts of six digits, by the GS1 General Specifications, and as days.
-use Rattle.std.specs.Prelude.{ℕ, ◌+◌, ◌-◌, ◌*◌, ◌≤◌, ◌==◌, ◌&&◌, List, [], ◌∷◌, ◌++◌, ◌/◌, ◌%◌, length, nat_le, if◌then◌else◌, Result, Ok, Err, ℤ, pos, slice_index}
+use Rattle.std.specs.Prelude.{◌≡◌, ℕ, ◌+◌, ◌-◌, ◌*◌, ◌≤◌, ◌==◌, ◌&&◌, Bool, IsTrue, List, [], ◌∷◌, ◌++◌, ◌/◌, ◌%◌, length, nat_le, if◌then◌else◌, Result, Ok, Err, ℤ, pos, int_lt, slice_index}
 use Rattle.std.specs.List.{list_all}
 use Rattle.jiff_core.specs.Calendar.{days_in_month, days_from_civil}
 use Rattle.mv_pack.specs.Gtin.{is_digit}
+use Rattle.mv_pack.specs.declared.expiry.TheConstants.{SECONDS_OF_DAY}
 use Rattle.mv_pack.specs.declared.fault.PackFault.{PackFault}
 use Rattle.mv_pack.specs.declared.fault.PackFault.TheVariants.{Date}
 
@@ -22,9 +23,24 @@ IsExpiry date =
 abbrev pub day_of : CivilDate → ℤ
 day_of date = days_from_civil (pos date.year) date.month date.day
 
+-- the date lies before the day of a moment, in seconds since 1970-01-01T00:00:00Z
+abbrev pub is_expired_at : CivilDate → ℕ → Bool
+is_expired_at date seconds = int_lt (day_of date) (pos (seconds / SECONDS_OF_DAY))
+
 -- the number that the two digits from a place on stand for
 abbrev pub number_at : ℕ → List ℕ → ℕ
 number_at place text = 10 * (slice_index text place - 48) + (slice_index text (place + 1) - 48)
+
+-- a month of a year has this day, or the day is 0
+abbrev pub IsDayOrZero : ℕ → ℕ → ℕ → Type 0
+IsDayOrZero year month day =
+    (1 ≤ month) × (month ≤ 12) × (day ≤ days_in_month (pos year) month)
+
+-- the text is six digits YYMMDD, the year being 20YY, of a real date or of a month and the day 00
+abbrev pub IsExpiryText : List ℕ → Type 0
+IsExpiryText text =
+    (length text ≡ 6) × IsTrue (list_all is_digit text)
+    × IsDayOrZero (2000 + number_at 0 text) (number_at 2 text) (number_at 4 text)
 
 -- The date of a year, a month and a day, where there is one; the day 0 is the last of the month.
 abbrev pub dated : ℕ → ℕ → ℕ → Result CivilDate PackFault

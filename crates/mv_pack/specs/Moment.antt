@@ -1,9 +1,13 @@
 -- Moments, in whole seconds since 1970-01-01T00:00:00Z.
-use Rattle.std.specs.Prelude.{ℕ, nat_lt, if◌then◌else◌, Result, Ok, Err}
-use Rattle.mv_pack.specs.declared.moment.TheConstants.{YEAR_2100}
+use Rattle.std.specs.Prelude.{ℕ, ◌<◌, nat_lt, if◌then◌else◌, Result, Ok, Err}
 use Rattle.mv_pack.specs.declared.fault.PackFault.{PackFault}
 use Rattle.mv_pack.specs.declared.fault.PackFault.TheVariants.{Moment}
+use Rattle.mv_pack.specs.declared.moment.TheConstants.{YEAR_2100}
 
--- what reading a number of seconds gives: it must lie before the year 2100
+-- a moment before the year 2100
+abbrev pub IsMoment : ℕ → Type 0
+IsMoment seconds = seconds < YEAR_2100
+
+-- what reading a number of seconds gives: the moment, or the fault
 abbrev pub read_moment : ℕ → Result ℕ PackFault
 read_moment seconds = if nat_lt seconds YEAR_2100 then Ok seconds else Err Moment

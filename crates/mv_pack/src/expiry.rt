@@ -1,8 +1,8 @@
 //! Expiry dates.
 
-ghost use Rattle.std.specs.Prelude.{◌≡◌, ◌+◌, ◌*◌, ◌-◌, ◌++◌, ◌<◌, ◌≤◌, ◌/◌, ◌↔◌, length, IsOk, IsTrue, pos, ◌<ℤ◌};
+ghost use Rattle.std.specs.Prelude.{◌≡◌, ◌+◌, ◌*◌, ◌-◌, ◌++◌, ◌<◌, ◌≤◌, ◌/◌, ◌↔◌, length, IsOk, IsTrue, pos, ◌≤ℤ◌};
 ghost use Rattle.mv_pack.specs.Gtin.{is_digit};
-ghost use Rattle.mv_pack.specs.Expiry.{read_expiry, day_of, two_digits, expiry_text};
+ghost use Rattle.mv_pack.specs.Expiry.{read_expiry, dated, day_of, is_expired_at, two_digits, expiry_text, IsDayOrZero, IsExpiryText};
 
 use crate::gtin::are_digits;
 use crate::{Moment, PackFault};
@@ -11,7 +11,7 @@ use jiff::civil::{Date, date};
 use std::marker::Model;
 
 /// The seconds of a day.
-const DAY: u64 = 86_400;
+pub const SECONDS_OF_DAY: u64 = 86_400;
 
 /// The last day on which a pack may be supplied (Delegated Regulation (EU) 2016/161, Article 4(b)(v)).
 #[derive(Clone, Copy, Debug, PartialEq, Eq, PartialOrd, Ord, Hash)]
@@ -36,9 +36,10 @@ impl Model for Expiry {
 impl Expiry {
     /// Reads a date of six digits YYMMDD, the year being 20YY; the day 00 is the last of the month. Anything else is
     /// P7 (GS1 General Specifications, section 3.4.7).
-    #[tactic(auto, using(crate::proofs::GtinLemmas::passes_at, jiff_core::proofs::CalendarLemmas::days_in_month_bounds))]
+    #[tactic(auto, using(crate::proofs::TextLemmas::passes_at))]
     pub fn read(text: &str) -> Result<Expiry, PackFault>
         ensures exact { result ≡ read_expiry text.now }
+        ensures accepted { IsOk result ↔ IsExpiryText text.now }
     {
         let digits = text.as_bytes();
         if digits.len() != 6 || !are_digits(digits) {
@@ -47,6 +48,18 @@ impl Expiry {
         let year = 2000 + number_of(digits[0], digits[1]) as u16;
         let month = number_of(digits[2], digits[3]);
         let day = number_of(digits[4], digits[5]);
+        Expiry::dated(year, month, day)
+    }
+
+    /// The date of a year, a month and a day, the day 0 being the last of the month.
+    #[tactic(auto, using(jiff_core::proofs::CalendarLemmas::days_in_month_bounds))]
+    fn dated(year: u16, month: u8, day: u8) -> Result<Expiry, PackFault>
+        requires from_2000 { 2000 ≤ year }
+        requires until_2099 { year ≤ 2099 }
+        requires month_bound { month < 100 }
+        ensures exact { result ≡ dated year month day }
+        ensures accepted { IsOk result ↔ IsDayOrZero year month day }
+    {
         let Ok(first) = Date::new(year as i16, month as i8, 1) else {
             return Err(PackFault::Date);
         };
@@ -65,8 +78,17 @@ impl Expiry {
     pub fn day(self) -> u32
         ensures { pos result ≡ day_of self }
     {
+        self.day_number() as u32
+    }
+
+    /// The number of the day, as the calendar gives it.
+    #[tactic(auto, using(crate::proofs::ExpiryLemmas::day_from_1970))]
+    fn day_number(self) -> i32
+        ensures value { result ≡ day_of self }
+        ensures from_1970 { pos 0 ≤ℤ day_of self }
+    {
         let day = date(self.year as i16, self.month as i8, self.day as i8);
-        day.to_plain().to_unix_epoch_day() as u32
+        day.to_plain().to_unix_epoch_day()
     }
 
     /// Six digits YYMMDD with the real day, also where 00 was read.
@@ -82,9 +104,9 @@ impl Expiry {
 
     /// Whether the date lies before the day of that moment.
     pub fn expired_at(self, moment: Moment) -> bool
-        ensures { IsTrue result ↔ (day_of self <ℤ pos (moment / 86_400)) }
+        ensures { result ≡ is_expired_at self moment }
     {
-        (self.day() as u64) < moment.seconds() / DAY
+        (self.day() as u64) < moment.seconds() / SECONDS_OF_DAY
     }
 }
 

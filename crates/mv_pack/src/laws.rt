@@ -1,11 +1,12 @@
-//! Laws of product codes and markets, a sentence each; what they say holds of every text.
+//! Laws of the values, a sentence each; what they say holds of every text and of every value.
 
 ghost use Rattle.std.specs.Prelude.{◌≡◌, ◌↔◌, IsTrue};
-ghost use Rattle.std.specs.Ordering.{nat_cmp};
+ghost use Rattle.std.specs.Ordering.{nat_cmp, ordering_then};
 ghost use Rattle.std.specs.Cmp.Lexicographic.{slice_cmp};
-ghost use Rattle.mv_pack.specs.Laws.{ReadGtinIsGtin, GtinReadsAsItself, ReadMarketIsMarket, MarketReadsAsItself};
+ghost use Rattle.mv_pack.specs.Laws.{ReadGtinIsGtin, GtinReadsAsItself, ReadMarketIsMarket, MarketReadsAsItself, ReadCodeIsCode, CodeReadsAsItself, ReadExpiryIsExpiry, ExpiryReadsAsItself, ReadMomentIsMoment, MomentReadsAsItself};
 
-use crate::{Gtin, Market};
+use crate::code::Code;
+use crate::{BatchKey, Expiry, Gtin, Market, Moment, PackKey};
 use std::cmp::Ordering;
 
 /// What is read from a text is a product code of 14 digits.
@@ -30,6 +31,41 @@ pub fn read_market_is_market()
 #[tactic(auto, using(crate::proofs::MarketLemmas::read_market_of))]
 pub fn market_reads_as_itself()
     ensures { MarketReadsAsItself }
+{}
+
+/// What is read from a text is a serial, batch or national number.
+#[tactic(auto, using(crate::proofs::CodeLemmas::read_code_is_code))]
+pub fn read_code_is_code()
+    ensures { ReadCodeIsCode }
+{}
+
+/// A serial, batch or national number is read as it stands.
+#[tactic(auto, using(crate::proofs::CodeLemmas::read_code_of))]
+pub fn code_reads_as_itself()
+    ensures { CodeReadsAsItself }
+{}
+
+/// What is read from a text is a real date of the years 2000 to 2099.
+pub fn read_expiry_is_expiry()
+    ensures { ReadExpiryIsExpiry }
+{}
+
+/// The six digits of a date are read as that date.
+#[tactic(auto, using(crate::proofs::ExpiryLemmas::read_expiry_text))]
+pub fn expiry_reads_as_itself()
+    ensures { ExpiryReadsAsItself }
+{}
+
+/// What is read from a number of seconds is a moment.
+#[tactic(auto, using(crate::proofs::MomentLemmas::read_moment_is_moment))]
+pub fn read_moment_is_moment()
+    ensures { ReadMomentIsMoment }
+{}
+
+/// The seconds of a moment are read as that moment.
+#[tactic(auto, using(crate::proofs::MomentLemmas::read_moment_of))]
+pub fn moment_reads_as_itself()
+    ensures { MomentReadsAsItself }
 {}
 
 /// Product codes are equal exactly where their 14 digits are.
@@ -58,4 +94,69 @@ pub fn order_of_markets(first: &Market, second: &Market) -> Ordering
     ensures { result ≡ slice_cmp nat_cmp first.now second.now }
 {
     first.cmp(second)
+}
+
+/// Serial, batch and national numbers are equal exactly where their texts are.
+pub fn codes_are_equal<K>(one: &Code<K>, another: &Code<K>) -> bool
+    ensures { IsTrue result ↔ (one.now ≡ another.now) }
+{
+    one == another
+}
+
+/// Serial, batch and national numbers are in the order of their bytes.
+pub fn order_of_codes<K>(one: &Code<K>, another: &Code<K>) -> Ordering
+    ensures { result ≡ slice_cmp nat_cmp one.now another.now }
+{
+    one.cmp(another)
+}
+
+/// Expiry dates are equal exactly where their year, month and day are.
+pub fn expiries_are_equal(earlier: Expiry, later: Expiry) -> bool
+    ensures { IsTrue result ↔ (earlier ≡ later) }
+{
+    earlier == later
+}
+
+/// Moments are equal exactly where their seconds are.
+pub fn moments_are_equal(before: Moment, after: Moment) -> bool
+    ensures { IsTrue result ↔ (before ≡ after) }
+{
+    before == after
+}
+
+/// Moments are in the order of their seconds.
+pub fn order_of_moments(before: Moment, after: Moment) -> Ordering
+    ensures { result ≡ nat_cmp before after }
+{
+    before.cmp(&after)
+}
+
+/// Packs are equal exactly where their product code and serial number are.
+pub fn pack_keys_are_equal(pack: &PackKey, other: &PackKey) -> bool
+    ensures { IsTrue result ↔ (pack.now ≡ other.now) }
+{
+    pack == other
+}
+
+/// Packs are in the order of the bytes of their product code, then of their serial number.
+pub fn order_of_pack_keys(pack: &PackKey, other: &PackKey) -> Ordering
+    ensures { result ≡ ordering_then (slice_cmp nat_cmp pack.now.gtin other.now.gtin)
+        (slice_cmp nat_cmp pack.now.serial other.now.serial) }
+{
+    pack.cmp(other)
+}
+
+/// Batches are equal exactly where their product code and batch number are.
+pub fn batch_keys_are_equal(batch: &BatchKey, other: &BatchKey) -> bool
+    ensures { IsTrue result ↔ (batch.now ≡ other.now) }
+{
+    batch == other
+}
+
+/// Batches are in the order of the bytes of their product code, then of their batch number.
+pub fn order_of_batch_keys(batch: &BatchKey, other: &BatchKey) -> Ordering
+    ensures { result ≡ ordering_then (slice_cmp nat_cmp batch.now.gtin other.now.gtin)
+        (slice_cmp nat_cmp batch.now.batch other.now.batch) }
+{
+    batch.cmp(other)
 }

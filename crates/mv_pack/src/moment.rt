@@ -16,14 +16,14 @@ pub struct Moment {
 }
 
 impl Model for Moment {
-    ghost use Rattle.std.specs.Prelude.{ℕ, ◌<◌};
-    ghost use Rattle.mv_pack.specs.declared.moment.TheConstants.{YEAR_2100};
+    ghost use Rattle.std.specs.Prelude.{ℕ};
+    ghost use Rattle.mv_pack.specs.Moment.{IsMoment};
 
     ghost Value = { ℕ };
 
     ghost view = { λ m. m.seconds };
 
-    ghost invariant = { λ m. m.seconds < YEAR_2100 };
+    ghost invariant = { λ m. IsMoment m.seconds };
 
     ghost inverse = { λ n. record { seconds = n } };
 }

@@ -165,7 +165,5 @@ impl World {
 fn is_taken_message(message: &Message) -> bool
     ensures { result ≡ is_taken_message message.now }
 {
-    match message {
-        Message::Master { .. } => true,
-    }
+    matches!(message, Message::Master { .. })
 }

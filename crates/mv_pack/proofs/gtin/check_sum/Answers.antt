@@ -1,6 +1,7 @@
 use Rattle.std.proofs.Common.{get_or, arith}
 use Rattle.mv_pack.specs.Gtin.{is_digit}
-use Rattle.mv_pack.proofs.GtinLemmas.{weighted_sum_is_check_sum, digit_bounds, passes_at, weight_times_digit, weighted_sum-drop}
+use Rattle.mv_pack.proofs.GtinLemmas.{weighted_sum_is_check_sum, digit_bounds, weight_times_digit, weighted_sum-drop}
+use Rattle.mv_pack.proofs.TextLemmas.{passes_at}
 use Rattle.mv_pack.proofs.gtin.check_sum.Goals as goal
 
 -- the weights from the first digit on give the whole sum

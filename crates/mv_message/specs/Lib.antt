@@ -5,6 +5,8 @@ pub mod Members
 pub mod Kinds
 pub mod Reading
 pub mod Forms
+pub mod Found
+pub mod Readers
 pub mod Values
 pub mod Messages
 pub mod Reads

@@ -6,3 +6,7 @@
 
 #[cfg(test)]
 mod first_path;
+#[cfg(test)]
+mod links;
+#[cfg(test)]
+mod system;

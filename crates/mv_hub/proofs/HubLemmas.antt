@@ -1,28 +1,30 @@
 -- What the hub keeps, through a routing and a relay.
-use Rattle.std.proofs.Common.{◌≡◌, ℕ, ◌+◌, ◌-◌, ◌<◌, ◌≤◌, Bool, true, false, ◌&&◌, ◌||◌, not, List, [], ◌∷◌, ◌++◌, length, get_or, set, cond, Option, Some, None, sym, refl, ap, ◌∙◌, subst, arith, inl, inr, append-nil, eqb, zero-add, length-append, length-set, get_or-set_same, get_or-set_other}
+use Rattle.std.proofs.Common.{◌≡◌, ℕ, ◌+◌, ◌-◌, ◌<◌, ◌≤◌, Bool, true, false, ◌&&◌, ◌||◌, not, List, [], ◌∷◌, ◌++◌, length, get_or, set, cond, Option, Some, None, sym, refl, ap, ◌∙◌, subst, arith, ◌⊎◌, ◌≢◌, inl, inr, append-nil, eqb, zero-add, length-append, length-set, get_or-set_same, get_or-set_other}
 use mir.Val.{bool_byte}
-use Rattle.std.specs.Prelude.{nat_lt, ◌==◌, replicate}
-use Rattle.std.specs.List.{All, list_any}
+use Rattle.std.specs.Prelude.{nat_lt, ◌==◌, replicate, option_map}
+use Rattle.std.specs.Option.{option_or}
+use Rattle.std.specs.List.{All, list_any, filter_map, last_or}
 use Rattle.std.specs.Map.{lookup}
 use Rattle.std.proofs.lemmas.Bool.{cases_eq, eq-eqb, ne_eqb, lt-ltb, le-ltb, ltb-false}
 use Rattle.std.proofs.lemmas.List.{get_or-replicate, length-replicate}
+use Rattle.std.proofs.lemmas.List.Elements.{filter_map-append}
 use Rattle.std.proofs.lemmas.List.FromFn.{get_or-map-range_with_len, length-map-range_with_len}
 use Rattle.mv_message.specs.declared.message.Message.{Message}
-use Rattle.mv_message.specs.declared.message.Message.TheVariants.{Master}
+use Rattle.mv_message.specs.declared.message.Product.{Product}
 use Rattle.mv_link.specs.declared.item.Item.{Item}
 use Rattle.mv_link.specs.declared.item.Item.TheVariants.{Receipt, Carried}
 use Rattle.mv_link.specs.Sending.{Sending, HasRoom, new_sending}
 use Rattle.mv_pairs.specs.Pairs.{cell, put, IsSquare}
-use Rattle.mv_pairs.proofs.PairsLemmas.{cell-map, put-map, cell-all, table-all}
+use Rattle.mv_pairs.proofs.PairsLemmas.{cell-map, put-map, cell-all, table-all, cell-put_same, cell-put_other, square-put}
 use Rattle.mv_hub.specs.declared.entry.Entry.{Entry}
 use Rattle.mv_hub.specs.declared.entry.Entry.TheVariants.{Routed, Closed}
-use Rattle.mv_hub.specs.Record.{routed_from, routed_count, last_markets_after, is_same_gtin, is_open}
+use Rattle.mv_hub.specs.Record.{routed_from, routed_count, last_product, product_in, is_same_gtin, is_open}
 use Rattle.mv_hub.specs.Targets.{reach, is_reached, is_query}
 use Rattle.mv_hub.specs.Links.{gained, link_items}
 use Rattle.mv_hub.specs.Hub.{HubState, new_hub, sent_of, items_on, next_items, gains_of, is_busy, busy_party, busy_fault, route_fault, with_relayed}
 use Rattle.mv_hub.specs.declared.fault.RouteFault.TheVariants.{StrangerParty}
-use Rattle.mv_hub.specs.Kept.{link_at, sent_table, AreCounts, AreMarkets, Carries, AreLinks, IsKept, Gains, GainsRow}
-use Rattle.mv_hub.proofs.RecordLemmas.{routed_from-append, link_items-push, gained_other}
+use Rattle.mv_hub.specs.Kept.{link_at, sent_table, AreCounts, AreMarkets, AreOpen, Carries, AreLinks, IsKept, Gains, GainsRow}
+use Rattle.mv_hub.proofs.RecordLemmas.{routed_from-append, link_items-push, gained_other, gained-closed}
 use Rattle.mv_hub.proofs.NumberLemmas.{any-filter_range, find-none_at}
 
 -- what the hub is seen as
@@ -40,12 +42,27 @@ routed_count_most (Routed from k message ∷ entries) party = one (eqb from part
     one false most = omega arith
 routed_count_most (Closed from to ∷ entries) party = let most = routed_count_most entries party in omega arith
 
-last_markets_after-append : (markets : Option (List (List ℕ))) (before after : List Entry) (gtin : List ℕ)
-    → last_markets_after markets (before ++ after) gtin ≡ last_markets_after (last_markets_after markets before gtin) after gtin
-last_markets_after-append markets [] after gtin = refl
-last_markets_after-append markets (Routed from k (Master named product) ∷ before) after gtin =
-    last_markets_after-append (cond (is_same_gtin named gtin) (Some product.markets) markets) before after gtin
-last_markets_after-append markets (Closed from to ∷ before) after gtin = last_markets_after-append markets before after gtin
+last_or-append : {A : Type 0} (o : Option A) (xs ys : List A) → last_or o (xs ++ ys) ≡ last_or (last_or o xs) ys
+last_or-append o [] ys = refl
+last_or-append o (x ∷ xs) ys = last_or-append (Some x) xs ys
+
+-- an empty record has no product
+last_product-none : (gtin : List ℕ) → last_product [] gtin ≡ None
+unfolding last_product
+last_product-none gtin = refl
+
+-- the last product once one more entry stands at the end
+last_product-push : (entries : List Entry) (entry : Entry) (gtin : List ℕ)
+    → last_product (entries ++ entry ∷ []) gtin ≡ option_or (product_in gtin entry) (last_product entries gtin)
+unfolding last_product
+last_product-push entries entry gtin =
+    ap (last_or None) (filter_map-append (product_in gtin) entries (entry ∷ []))
+    ∙ last_or-append None (filter_map (product_in gtin) entries) (filter_map (product_in gtin) (entry ∷ []))
+    ∙ one (product_in gtin entry) (last_product entries gtin)
+  where
+    one : (new old : Option Product) → last_or old (filter_map (λ (o : Option Product). o) (new ∷ [])) ≡ option_or new old
+    one None old = refl
+    one (Some product) old = refl
 
 is_open-routed : (entries : List Entry) (sender k : ℕ) (message : Message) (from to : ℕ)
     → is_open (entries ++ Routed sender k message ∷ []) from to ≡ is_open entries from to
@@ -53,6 +70,20 @@ is_open-routed [] sender k message from to = refl
 is_open-routed (Routed a j m ∷ entries) sender k message from to = is_open-routed entries sender k message from to
 is_open-routed (Closed a b ∷ entries) sender k message from to =
     ap (λ o. not ((a == from) && (b == to)) && o) (is_open-routed entries sender k message from to)
+
+-- a closing closes its own link alone
+is_open-closed : (entries : List Entry) (sender receiver from to : ℕ)
+    → is_open (entries ++ Closed sender receiver ∷ []) from to ≡ (not ((sender == from) && (receiver == to)) && is_open entries from to)
+is_open-closed [] sender receiver from to = refl
+is_open-closed (Routed a k m ∷ entries) sender receiver from to = is_open-closed entries sender receiver from to
+is_open-closed (Closed a b ∷ entries) sender receiver from to =
+    ap (λ o. not ((a == from) && (b == to)) && o) (is_open-closed entries sender receiver from to)
+    ∙ swap (not ((a == from) && (b == to))) (not ((sender == from) && (receiver == to))) (is_open entries from to)
+  where
+    swap : (x y z : Bool) → (x && (y && z)) ≡ (y && (x && z))
+    swap true y z = refl
+    swap false true z = refl
+    swap false false z = refl
 
 -- a party stands among those that a message reaches if the message reaches it
 pub has_party-reach : (parties : List (List (List ℕ))) (entries : List Entry) (from : ℕ) (message : Message) (reached : List ℕ) (to : ℕ)
@@ -234,13 +265,85 @@ kept-routed parties window entries counts table new_table open_links old new gai
   are_links = links-routed parties window entries old new gains from message kept.are_links e row;
 }
 
--- the table once a master was routed
+-- the counts, the closed link and the links, once a link was closed
+counts-closed : (n : ℕ) (entries : List Entry) (counts : List ℕ) (from to : ℕ) → AreCounts n entries counts → AreCounts n (entries ++ Closed from to ∷ []) counts
+counts-closed n entries counts from to are = record {
+  each = are.each;
+  values = λ party below. are.values party below
+      ∙ sym (ap length (routed_from-append entries (Closed from to ∷ []) party ∙ append-nil (routed_from entries party)));
+}
+
+open-closed : (n : ℕ) (entries : List Entry) (open_links : List (List Bool)) (from to : ℕ) → AreOpen n entries open_links → from < n → to < n
+    → AreOpen n (entries ++ Closed from to ∷ []) (put open_links from to false)
+open-closed n entries open_links from to are is_from is_to = record {
+  square = square-put n open_links from to false are.square;
+  values = λ a b is_a is_b. at a b is_a is_b (cases_eq a from) (cases_eq b to);
+}
+  where
+    elsewhere : (a b : ℕ) → a < n → b < n → (a ≢ from) ⊎ (b ≢ to) → ((from == a) && (to == b)) ≡ false
+        → cell (put open_links from to false) a b true ≡ is_open (entries ++ Closed from to ∷ []) a b
+    elsewhere a b is_a is_b other e =
+        cell-put_other open_links from to a b false true other ∙ are.values a b is_a is_b
+        ∙ sym (is_open-closed entries from to a b ∙ ap (λ t. not t && is_open entries a b) e)
+
+    and-false : (x : Bool) → (x && false) ≡ false
+    and-false true = refl
+    and-false false = refl
+
+    at : (a b : ℕ) → a < n → b < n → (a ≡ from) ⊎ (a ≢ from) → (b ≡ to) ⊎ (b ≢ to)
+        → cell (put open_links from to false) a b true ≡ is_open (entries ++ Closed from to ∷ []) a b
+    at a b is_a is_b (inl p) (inl q) =
+        ap (λ x. cell (put open_links from to false) x b true) p ∙ ap (λ y. cell (put open_links from to false) from y true) q
+        ∙ cell-put_same n open_links from to false true are.square is_from is_to
+        ∙ sym (is_open-closed entries from to a b ∙ ap (λ t. not (t && (to == b)) && is_open entries a b) (eq-eqb from a (sym p))
+        ∙ ap (λ t. not t && is_open entries a b) (eq-eqb to b (sym q)))
+    at a b is_a is_b (inl p) (inr q) =
+        elsewhere a b is_a is_b (inr q) (ap (λ t. (from == a) && t) (ne_eqb to b (λ e. q (sym e))) ∙ and-false (from == a))
+    at a b is_a is_b (inr p) q =
+        elsewhere a b is_a is_b (inl p) (ap (λ t. t && (to == b)) (ne_eqb from a (λ e. p (sym e))))
+
+links-closed : (parties : List (List (List ℕ))) (window : ℕ) (entries : List Entry) (links : List (List Sending)) (from to : ℕ)
+    → AreLinks parties window entries links → AreLinks parties window (entries ++ Closed from to ∷ []) links
+links-closed parties window entries links from to are = record {
+  square = are.square;
+  values = λ a b is_a is_b. subst (λ l. Carries window l (link_at links a b))
+      (sym (link_items-push parties entries (Closed from to) a b
+      ∙ ap (λ l. link_items parties entries a b ++ l) (gained-closed parties entries from to a b)
+      ∙ append-nil (link_items parties entries a b)))
+      (are.values a b is_a is_b);
+}
+
+-- all that the hub keeps, once a link was closed
+pub kept-closed : (parties : List (List (List ℕ))) (window : ℕ) (entries : List Entry) (counts : List ℕ) (table : List (List ℕ × List (List ℕ)))
+    (open_links : List (List Bool)) (links : List (List Sending)) (from to : ℕ)
+    → IsKept parties window entries counts table open_links links → from < length parties → to < length parties
+    → IsKept parties window (entries ++ Closed from to ∷ []) counts table (put open_links from to false) links
+kept-closed parties window entries counts table open_links links from to kept is_from is_to = record {
+  some = kept.some;
+  few = kept.few;
+  wide = kept.wide;
+  narrow = kept.narrow;
+  are_counts = counts-closed (length parties) entries counts from to kept.are_counts;
+  are_markets = λ gtin. kept.are_markets gtin ∙ ap (option_map (λ product. product.markets)) (sym (last_product-push entries (Closed from to) gtin));
+  are_open = open-closed (length parties) entries open_links from to kept.are_open is_from is_to;
+  are_links = links-closed parties window entries links from to kept.are_links;
+}
+
+-- the table once a message was routed
 pub markets-routed : (entries : List Entry) (old new : List (List ℕ × List (List ℕ))) (from k : ℕ) (message : Message) → AreMarkets entries old
-    → ((gtin : List ℕ) → lookup (is_same_gtin gtin) new ≡ last_markets_after (lookup (is_same_gtin gtin) old) (Routed from k message ∷ []) gtin)
+    → ((gtin : List ℕ) → lookup (is_same_gtin gtin) new
+    ≡ option_or (option_map (λ product. product.markets) (product_in gtin (Routed from k message))) (lookup (is_same_gtin gtin) old))
     → AreMarkets (entries ++ Routed from k message ∷ []) new
 markets-routed entries old new from k message are updates gtin =
-    updates gtin ∙ ap (λ m. last_markets_after m (Routed from k message ∷ []) gtin) (are gtin)
-    ∙ sym (last_markets_after-append None entries (Routed from k message ∷ []) gtin)
+    updates gtin ∙ ap (option_or (option_map (λ product. product.markets) (product_in gtin (Routed from k message)))) (are gtin)
+    ∙ one (product_in gtin (Routed from k message)) (last_product entries gtin)
+    ∙ ap (option_map (λ product. product.markets)) (sym (last_product-push entries (Routed from k message) gtin))
+  where
+    one : (new old : Option Product)
+        → option_or (option_map (λ product. product.markets) new) (option_map (λ product. product.markets) old)
+        ≡ option_map (λ product. product.markets) (option_or new old)
+    one None old = refl
+    one (Some product) old = refl
 
 -- what is known of a link, by what the hub is seen as
 pub record LinkFacts (hub : HubState) (from to : ℕ) (link : Sending) : Type 0 where
@@ -279,7 +382,7 @@ kept-new parties window open_links links some few wide narrow open_square all_op
   wide = wide;
   narrow = narrow;
   are_counts = record { each = length-replicate (length parties) 0; values = λ party lt. get_or-replicate (length parties) party 0 0 lt };
-  are_markets = λ gtin. refl;
+  are_markets = λ gtin. ap (option_map (λ (p : Product). p.markets)) (sym (last_product-none gtin));
   are_open = record { square = open_square; values = λ from to p q. cell-all (λ b. b ≡ true) (length parties) open_links from to true open_square all_open p q };
   are_links = record {
     square = square;

@@ -11,8 +11,11 @@ code_of hub.NoParty = codes "H1"
 code_of hub.TooMany = codes "H2"
 code_of hub.ServedTwice = codes "H3"
 code_of hub.StrangerParty = codes "H4"
-code_of hub.Nothing = codes "H8"
+code_of hub.AlreadyClosed = codes "H6"
 code_of hub.Memory = codes "H7"
+code_of hub.Nothing = codes "H8"
+code_of hub.NotSent = codes "H9"
+code_of hub.Gone = codes "H10"
 
 -- the number of a fault of routing
 abbrev pub route_code_of : RouteFault → List ℕ

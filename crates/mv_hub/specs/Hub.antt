@@ -1,16 +1,16 @@
 -- What the hub is seen as. Neither links nor tables are part of it: they follow from the record.
-use Rattle.std.specs.Prelude.{ℕ, List, [], ◌∷◌, ◌++◌, ◌+◌, ◌-◌, length, map, Bool, ◌||◌, ◌&&◌, ◌==◌, not, nat_lt, replicate, find, Option, Some, None, if◌then◌else◌}
+use Rattle.std.specs.Prelude.{ℕ, List, [], ◌∷◌, ◌++◌, ◌+◌, ◌-◌, length, map, Bool, ◌||◌, ◌&&◌, ◌==◌, not, nat_lt, nat_le, replicate, find, Option, Some, None, if◌then◌else◌}
 use Rattle.std.specs.List.{range_with_len}
 use Rattle.mv_message.specs.declared.message.Message.{Message}
 use Rattle.mv_link.specs.declared.item.Item.{Item}
 use Rattle.mv_pairs.specs.Pairs.{cell, put}
 use Rattle.mv_hub.specs.declared.entry.Entry.{Entry}
-use Rattle.mv_hub.specs.declared.entry.Entry.TheVariants.{Routed}
+use Rattle.mv_hub.specs.declared.entry.Entry.TheVariants.{Routed, Closed}
 use Rattle.mv_hub.specs.declared.fault.RouteFault.{RouteFault}
 use Rattle.mv_hub.specs.declared.fault.RouteFault.TheVariants.{StrangerParty, Busy}
 use Rattle.mv_hub.specs.declared.fault.HubFault.{HubFault}
-use Rattle.mv_hub.specs.declared.fault.HubFault.TheVariants.{StrangerParty as Stranger, Nothing}
-use Rattle.mv_hub.specs.Record.{routed_count}
+use Rattle.mv_hub.specs.declared.fault.HubFault.TheVariants.{StrangerParty as Stranger, AlreadyClosed, Nothing, NotSent, Gone}
+use Rattle.mv_hub.specs.Record.{routed_count, is_open}
 use Rattle.mv_hub.specs.Links.{gained, link_items}
 
 pub record HubState : Type 0 where
@@ -76,6 +76,22 @@ relay_fault hub from to =
     else (if sent_of hub from to == length (items_on hub from to) then Some Nothing
     else None)
 
+-- why the frame of a number is not given again, memory aside, the first reason that holds: it was not relayed, or as many
+-- items as the window holds were put on the link behind it
+abbrev pub repeat_fault : HubState → ℕ → ℕ → ℕ → Option HubFault
+repeat_fault hub from to number =
+    if not (nat_lt from (length hub.parties) && nat_lt to (length hub.parties)) then Some Stranger
+    else (if (number == 0) || nat_lt (sent_of hub from to) number then Some NotSent
+    else (if nat_le number (length (items_on hub from to) - hub.window) then Some Gone
+    else None))
+
+-- why a link cannot be closed, memory aside, the first reason that holds
+abbrev pub close_fault : HubState → ℕ → ℕ → Option HubFault
+close_fault hub from to =
+    if not (nat_lt from (length hub.parties) && nat_lt to (length hub.parties)) then Some Stranger
+    else (if not (is_open hub.entries from to) then Some AlreadyClosed
+    else None)
+
 -- the hub once the next message of a party is routed
 abbrev pub with_routed : HubState → ℕ → Message → HubState
 with_routed hub from message = record hub { entries = hub.entries ++ next_entry hub from message ∷ [] }
@@ -83,3 +99,7 @@ with_routed hub from message = record hub { entries = hub.entries ++ next_entry 
 -- the hub once the next item of a link is relayed
 abbrev pub with_relayed : HubState → ℕ → ℕ → HubState
 with_relayed hub from to = record hub { sent = put hub.sent from to (sent_of hub from to + 1) }
+
+-- the hub once a link is closed
+abbrev pub with_closed : HubState → ℕ → ℕ → HubState
+with_closed hub from to = record hub { entries = hub.entries ++ Closed from to ∷ [] }

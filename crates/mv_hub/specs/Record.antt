@@ -1,8 +1,10 @@
 -- The hub's record, its audit trail (Regulation (EU) 2016/161, Article 35(1)): the oldest entry stands first.
-use Rattle.std.specs.Prelude.{ℕ, List, [], ◌∷◌, length, nat_eq, Bool, true, ◌==◌, ◌&&◌, not, Option, Some, None, unwrap_or, if◌then◌else◌}
+use Rattle.std.specs.Prelude.{ℕ, List, [], ◌∷◌, length, nat_eq, Bool, true, ◌==◌, ◌&&◌, not, Option, Some, None, option_map, unwrap_or, if◌then◌else◌}
 use Rattle.std.specs.Cmp.Lexicographic.{pointwise}
+use Rattle.std.specs.List.{filter_map, last_or}
 use Rattle.mv_message.specs.declared.message.Message.{Message}
 use Rattle.mv_message.specs.declared.message.Message.TheVariants.{Master}
+use Rattle.mv_message.specs.declared.message.Product.{Product}
 use Rattle.mv_hub.specs.declared.entry.Entry.{Entry}
 use Rattle.mv_hub.specs.declared.entry.Entry.TheVariants.{Routed, Closed}
 
@@ -21,16 +23,18 @@ routed_count entries party = length (routed_from entries party)
 abbrev pub is_same_gtin : List ℕ → List ℕ → Bool
 is_same_gtin = pointwise nat_eq
 
--- the markets that the last master of a product names once these entries follow, where those were named before
-abbrev pub last_markets_after : Option (List (List ℕ)) → List Entry → List ℕ → Option (List (List ℕ))
-last_markets_after markets [] gtin = markets
-last_markets_after markets (Routed from k (Master named product) ∷ entries) gtin =
-    last_markets_after (if is_same_gtin named gtin then Some product.markets else markets) entries gtin
-last_markets_after markets (Closed from to ∷ entries) gtin = last_markets_after markets entries gtin
+-- the product that an entry gives under a code: that of a routed master of the code
+abbrev pub product_in : List ℕ → Entry → Option Product
+product_in gtin (Routed from k (Master named product)) = if is_same_gtin named gtin then Some product else None
+product_in gtin entry = None
+
+-- the product of the last routed master of a code, none where there is no master
+unfoldable pub last_product : List Entry → List ℕ → Option Product
+last_product entries gtin = last_or None (filter_map (product_in gtin) entries)
 
 -- the markets that the last routed master of a product names, none where there is no master
 abbrev pub last_markets : List Entry → List ℕ → Option (List (List ℕ))
-last_markets entries gtin = last_markets_after None entries gtin
+last_markets entries gtin = option_map (λ product. product.markets) (last_product entries gtin)
 
 -- the markets of a product: those of its last routed master, the empty list where there is no master
 abbrev pub market_table : List Entry → List ℕ → List (List ℕ)

@@ -1,21 +1,34 @@
 -- Whom a message is for, by the record that stands before it (Articles 33 to 35).
-use Rattle.std.specs.Prelude.{ℕ, List, length, Bool, false, ◌&&◌, ◌||◌, filter}
+use Rattle.std.specs.Prelude.{ℕ, List, [], length, Bool, true, false, ◌==◌, ◌&&◌, ◌||◌, not, filter}
 use Rattle.std.specs.List.{range_with_len}
 use Rattle.mv_message.specs.declared.message.Message.{Message}
-use Rattle.mv_message.specs.declared.message.Message.TheVariants.{Master}
+use Rattle.mv_message.specs.declared.message.Message.TheVariants.{Master, Upload, Status, Recall, Repack, Withdraw, Query, Answer}
 use Rattle.mv_hub.specs.declared.entry.Entry.{Entry}
 use Rattle.mv_hub.specs.Record.{market_table, is_open}
 use Rattle.mv_hub.specs.Parties.{serves_one, served_by}
 
--- a party is a target of a message: of a master, who serves a market that the product had or now has
-unfoldable pub is_target : List (List (List ℕ)) → List Entry → Message → ℕ → Bool
-is_target parties entries (Master gtin product) party =
-    serves_one (served_by parties party) (market_table entries gtin)
-    || serves_one (served_by parties party) product.markets
+-- a party serves a market that a product has
+abbrev pub serves_product : List (List (List ℕ)) → List Entry → List ℕ → ℕ → Bool
+serves_product parties entries gtin party = serves_one (served_by parties party) (market_table entries gtin)
+
+-- A party is a target of a message that another sends: of a master, who serves a market that the product had or now has; of a
+-- repack, who serves a market of one of its products; of a query, who serves a market of its product and did not send it; of an
+-- answer, who asked; of any other message, who serves a market of its product.
+unfoldable pub is_target : List (List (List ℕ)) → List Entry → ℕ → Message → ℕ → Bool
+is_target parties entries from (Master gtin product) party =
+    serves_product parties entries gtin party || serves_one (served_by parties party) product.markets
+is_target parties entries from (Upload gtin batch expiry national serials) party = serves_product parties entries gtin party
+is_target parties entries from (Status key to user at) party = serves_product parties entries key.gtin party
+is_target parties entries from (Recall key at) party = serves_product parties entries key.gtin party
+is_target parties entries from (Repack before before_serials after after_serials at) party =
+    serves_product parties entries before.gtin party || serves_product parties entries after.gtin party
+is_target parties entries from (Withdraw gtin at) party = serves_product parties entries gtin party
+is_target parties entries from (Query key) party = serves_product parties entries key.gtin party && not (party == from)
+is_target parties entries from (Answer asker q key found) party = party == asker
 
 -- a message from a party reaches another: it is a target, and the link between them is open
 unfoldable pub is_reached : List (List (List ℕ)) → List Entry → ℕ → Message → ℕ → Bool
-is_reached parties entries from message to = is_target parties entries message to && is_open entries from to
+is_reached parties entries from message to = is_target parties entries from message to && is_open entries from to
 
 -- the parties that a message from a party reaches, ascending
 unfoldable pub reach : List (List (List ℕ)) → List Entry → ℕ → Message → List ℕ
@@ -23,4 +36,17 @@ reach parties entries from message = filter (is_reached parties entries from mes
 
 -- the message asks about a pack
 abbrev pub is_query : Message → Bool
-is_query (Master gtin product) = false
+is_query (Query key) = true
+is_query message = false
+
+-- the markets of the product of a message, and with them those that a master names, or those of the second product of a repack
+abbrev pub wanted_markets : List Entry → Message → List (List ℕ) × List (List ℕ)
+wanted_markets entries (Master gtin product) = (market_table entries gtin, product.markets)
+wanted_markets entries (Upload gtin batch expiry national serials) = (market_table entries gtin, [])
+wanted_markets entries (Status key to user at) = (market_table entries key.gtin, [])
+wanted_markets entries (Recall key at) = (market_table entries key.gtin, [])
+wanted_markets entries (Repack before before_serials after after_serials at) =
+    (market_table entries before.gtin, market_table entries after.gtin)
+wanted_markets entries (Withdraw gtin at) = (market_table entries gtin, [])
+wanted_markets entries (Query key) = (market_table entries key.gtin, [])
+wanted_markets entries (Answer asker q key found) = ([], [])

@@ -4,7 +4,7 @@ ghost use Rattle.std.specs.Prelude.{◌≡◌};
 
 use mv_message::Party;
 
-/// Why parties cannot be made, or why the hub gives no frame.
+/// Why parties cannot be made, why the hub gives no frame, or why it closes no link.
 #[derive(Clone, Copy, Debug, PartialEq, Eq)]
 pub enum HubFault {
     /// H1: there is no party.
@@ -15,10 +15,16 @@ pub enum HubFault {
     ServedTwice,
     /// H4: there is no such party.
     StrangerParty,
-    /// H8: every item of the link has been relayed.
-    Nothing,
+    /// H6: the link was closed before.
+    AlreadyClosed,
     /// H7: memory was refused.
     Memory,
+    /// H8: every item of the link has been relayed.
+    Nothing,
+    /// H9: no frame of this number was relayed.
+    NotSent,
+    /// H10: the frame of this number is kept no longer.
+    Gone,
 }
 
 impl HubFault {
@@ -33,8 +39,11 @@ impl HubFault {
             HubFault::TooMany => "H2",
             HubFault::ServedTwice => "H3",
             HubFault::StrangerParty => "H4",
-            HubFault::Nothing => "H8",
+            HubFault::AlreadyClosed => "H6",
             HubFault::Memory => "H7",
+            HubFault::Nothing => "H8",
+            HubFault::NotSent => "H9",
+            HubFault::Gone => "H10",
         }
     }
 }

@@ -1,14 +1,13 @@
 //! The hub: its record, a link for each ordered pair of parties, and tables by which no call walks the record.
 
 ghost use Rattle.std.specs.Prelude.{◌≡◌, ◌+◌, ◌<◌, ◌≤◌, [], ◌∷◌, ◌++◌, ◌==◌, ◌&&◌, ◌||◌, ℕ, List, length, IfOk, OnOk, OnErr, Option, Some, None, true, option_map, if◌then◌else◌};
-ghost use Rattle.std.specs.Option.{option_to_list};
+ghost use Rattle.std.specs.Option.{option_to_list, option_or};
+ghost use Rattle.std.specs.Map.{lookup};
 ghost use Rattle.std.specs.List.{list_any};
 ghost use Rattle.mv_message.specs.declared.message.Message.{Message as AMessage};
-ghost use Rattle.mv_message.specs.declared.message.Message.TheVariants.{Master};
 ghost use Rattle.mv_link.specs.Frames.{IsFrameOf};
-ghost use Rattle.mv_hub.specs.Record.{routed_count, last_markets, last_markets_after, market_table, is_open, is_same_gtin};
-ghost use Rattle.mv_hub.specs.Targets.{reach, is_query};
-ghost use Rattle.mv_hub.specs.Parties.{serves_one, served_by};
+ghost use Rattle.mv_hub.specs.Record.{routed_count, last_markets, product_in, is_open, is_same_gtin, market_table};
+ghost use Rattle.mv_hub.specs.Targets.{reach, is_reached, is_target, is_query, wanted_markets};
 ghost use Rattle.mv_hub.specs.declared.entry.Entry.TheVariants.{Routed};
 ghost use Rattle.mv_hub.specs.Kept.{Carries, AreMarkets};
 ghost use Rattle.mv_hub.specs.Fault.{FailsBy, RouteFailsBy};
@@ -18,7 +17,7 @@ use crate::{Entry, HubFault, Parties, RouteFault};
 use arrayvec::ArrayVec;
 use indexmap::IndexMap;
 use mv_link::{Frame, Item, LinkFault, Outgoing, PARTIES_LIMIT, Reach};
-use mv_message::{Markets, Message, Party, Product};
+use mv_message::{Markets, Message, Party};
 use mv_pack::{Gtin, Market};
 use mv_pairs::PairTable;
 use std::alloc::{AllocError, Global};
@@ -57,7 +56,7 @@ impl Model for Hub {
 impl Hub {
     ghost use Rattle.mv_link.specs.declared.item.Item.TheVariants.{Receipt, Carried};
     ghost use Rattle.mv_link.specs.Sending.{new_sending};
-    ghost use Rattle.mv_hub.specs.Hub.{new_hub, sent_of, items_on, next_items, gains_of, busy_party, route_fault, relay_fault, with_routed, with_relayed};
+    ghost use Rattle.mv_hub.specs.Hub.{new_hub, sent_of, items_on, next_items, gains_of, busy_party, route_fault, relay_fault, repeat_fault, close_fault, with_routed, with_relayed, with_closed};
 
     /// A hub where nothing has happened, whose links keep their last `window` items. Refused for want of memory.
     pub fn new(alloc: Global, parties: Parties, window: u32) -> Result<Hub, AllocError>
@@ -148,16 +147,76 @@ impl Hub {
         }
     }
 
-    /// Whether a party serves one of the markets, and the link to it is open.
-    fn is_reached(&self, from: Party, to: Party, before: &[Market], after: &[Market]) -> bool
-        requires from { from < length self.now.parties }
+    /// The markets whose parties a message may be for: those of its product, and those that a master names or those of the
+    /// second product of a repack.
+    fn wanted<'a>(&'a self, message: &'a Message) -> (&'a [Market], &'a [Market])
+        ensures first { result.0.now ≡ (wanted_markets self.now.entries message.now).0 }
+        ensures second { result.1.now ≡ (wanted_markets self.now.entries message.now).1 }
+    {
+        match message {
+            Message::Master { gtin, product } => (
+                self.market_table(gtin),
+                product.markets.as_slice(),
+            ),
+            Message::Upload { gtin, .. } => (self.market_table(gtin), &[]),
+            Message::Status { key, .. } => (self.market_table(&key.gtin), &[]),
+            Message::Recall { key, .. } => (self.market_table(&key.gtin), &[]),
+            Message::Repack { before, after, .. } => (
+                self.market_table(&before.gtin),
+                self.market_table(&after.gtin),
+            ),
+            Message::Withdraw { gtin, .. } => (self.market_table(gtin), &[]),
+            Message::Query { key } => (self.market_table(&key.gtin), &[]),
+            Message::Answer { .. } => (&[], &[]),
+        }
+    }
+
+    /// Whether a party is a target of a message, whose markets are these.
+    #[tactic(auto, unfolding(crate::specs::Targets::is_target))]
+    fn is_target(
+        &self,
+        from: Party,
+        to: Party,
+        message: &Message,
+        first: &[Market],
+        second: &[Market],
+    ) -> bool
         requires to { to < length self.now.parties }
-        ensures { result ≡ ((serves_one (served_by self.now.parties to) before.now
-            || serves_one (served_by self.now.parties to) after.now)
-            && is_open self.now.entries from to) }
+        requires first { first.now ≡ (wanted_markets self.now.entries message.now).0 }
+        requires second { second.now ≡ (wanted_markets self.now.entries message.now).1 }
+        ensures { result ≡ is_target self.now.parties self.now.entries from message.now to }
     {
         let parties = self.parties();
-        (parties.serves(to, before) || parties.serves(to, after)) && self.is_open(from, to)
+        match message {
+            Message::Master { .. } | Message::Repack { .. } => {
+                parties.serves(to, first) || parties.serves(to, second)
+            }
+            Message::Upload { .. }
+            | Message::Status { .. }
+            | Message::Recall { .. }
+            | Message::Withdraw { .. } => parties.serves(to, first),
+            Message::Query { .. } => parties.serves(to, first) && to != from,
+            Message::Answer { asker, .. } => to == *asker,
+        }
+    }
+
+    /// Whether a message, whose markets are these, reaches a party.
+    #[tactic(auto, unfolding(crate::specs::Targets::is_reached))]
+    fn is_reached(
+        &self,
+        from: Party,
+        to: Party,
+        message: &Message,
+        first: &[Market],
+        second: &[Market],
+    ) -> bool
+        requires from { from < length self.now.parties }
+        requires to { to < length self.now.parties }
+        requires first { first.now ≡ (wanted_markets self.now.entries message.now).0 }
+        requires second { second.now ≡ (wanted_markets self.now.entries message.now).1 }
+        ensures { result ≡ is_reached self.now.parties self.now.entries from message.now to }
+    {
+        self.is_target(from, to, message, first, second) && self.is_open(from, to)
     }
 
     /// The parties that a message from a party reaches.
@@ -165,21 +224,10 @@ impl Hub {
         requires { from < length self.now.parties }
         ensures { result ≡ reach self.now.parties self.now.entries from message.now }
     {
-        match message {
-            Message::Master { gtin, product } => self.master_reach(from, gtin, product),
-        }
-    }
-
-    /// The parties that a master from a party reaches.
-    fn master_reach(&self, from: Party, gtin: &Gtin, product: &Product) -> Reach
-        requires { from < length self.now.parties }
-        ensures { result ≡ reach self.now.parties self.now.entries from (Master gtin.now product.now) }
-    {
-        let before = self.market_table(gtin);
-        let after = product.markets.as_slice();
+        let (first, second) = self.wanted(message);
         let mut found: ArrayVec<Party, PARTIES_LIMIT> = ArrayVec::new();
         for to in 0..self.parties().len() {
-            if self.is_reached(from, to, before, after) {
+            if self.is_reached(from, to, message, first, second) {
                 found.push(to);
             }
         }
@@ -411,9 +459,56 @@ impl Hub {
         let frame = match link.relay() {
             Ok(frame) => frame,
             Err(LinkFault::Nothing) => return Err(HubFault::Nothing),
-            Err(LinkFault::Memory) => return Err(HubFault::Memory),
+            Err(_) => return Err(HubFault::Memory),
         };
         Ok(frame)
+    }
+
+    /// The frame of this number of the link from one party to another once more, one that was relayed before. Nothing
+    /// changes.
+    ///
+    /// The first of these that holds is the fault: H4, one of the parties is none; H9, no frame of this number was relayed;
+    /// H10, it is kept no longer, since as many items as the window holds were put on the link behind it; H7, memory was
+    /// refused.
+    pub fn repeat(&self, from: Party, to: Party, number: u32) -> Result<Frame, HubFault>
+        ensures number { IfOk result (λ frame. frame.number ≡ number) }
+        ensures frame { IfOk result (λ frame. IsFrameOf (items_on self.now from to) frame) }
+        ensures fault { FailsBy (repeat_fault self.now from to number) result }
+    {
+        let count = self.parties().len();
+        if from >= count || to >= count {
+            return Err(HubFault::StrangerParty);
+        }
+        match self.link(from, to).again(number) {
+            Ok(frame) => Ok(frame),
+            Err(LinkFault::NotSent) => Err(HubFault::NotSent),
+            Err(LinkFault::Gone) => Err(HubFault::Gone),
+            Err(_) => Err(HubFault::Memory),
+        }
+    }
+
+    /// Closes the link from one party to another, for ever: no message that is routed later is put on it. What was put on
+    /// it before is still relayed and repeated.
+    ///
+    /// The first of these that holds is the fault: H4, one of the parties is none; H6, the link was closed before; H7,
+    /// memory was refused.
+    pub fn close(&mut self, from: Party, to: Party) -> Result<(), HubFault>
+        ensures ok { OnOk result (self.new ≡ with_closed self.old from to) }
+        ensures err { OnErr result (self.new ≡ self.old) }
+        ensures fault { FailsBy (close_fault self.old from to) result }
+    {
+        let count = self.parties().len();
+        if from >= count || to >= count {
+            return Err(HubFault::StrangerParty);
+        }
+        if !self.is_open(from, to) {
+            return Err(HubFault::AlreadyClosed);
+        }
+        let Ok(()) = self.entries.push(Entry::Closed { from, to }) else {
+            return Err(HubFault::Memory);
+        };
+        *self.open_links.at_mut(from, to) = false;
+        Ok(())
     }
 }
 
@@ -428,24 +523,11 @@ fn has_party(reached: &Reach, party: Party) -> bool
 fn is_query(message: &Message) -> bool
     ensures { result ≡ is_query message.now }
 {
-    match message {
-        Message::Master { .. } => false,
-    }
+    matches!(message, Message::Query { .. })
 }
 
-/// The markets that a message names for a product.
-fn named_markets(alloc: Global, message: &Message) -> Result<(Gtin, Markets), AllocError>
-    ensures { IfOk result (λ named. (from k : ℕ) (before : Option (List (List ℕ))) (gtin : List ℕ)
-        → last_markets_after before (Routed from k message.now ∷ []) gtin
-        ≡ (if is_same_gtin named.0 gtin then Some named.1 else before)) }
-{
-    match message {
-        Message::Master { gtin, product } => Ok((*gtin, product.markets.copy(alloc)?)),
-    }
-}
-
-/// Puts a routed message at the end of the record, and into the table the markets that it names. Where memory is refused
-/// neither has changed.
+/// Puts a routed message at the end of the record, and into the table the markets that a master names. Where memory is
+/// refused neither has changed.
 fn record(
     alloc: Global,
     entries: &mut Vec<Entry>,
@@ -460,15 +542,28 @@ fn record(
     ensures err { OnErr result ((entries.new.items ≡ entries.old.items)
         × (markets.new.entries ≡ markets.old.entries)) }
 {
-    let (gtin, named) = named_markets(alloc, &message)?;
     entries.reserve(1)?;
-    markets.reserve(1)?;
+    note_markets(alloc, markets, &message)?;
     // Nothing fails from here on.
     let Ok(()) = entries.push(Entry::Routed { from, k, message }) else {
         unreachable!()
     };
-    let Ok(_) = markets.insert(gtin, named) else {
-        unreachable!()
-    };
+    Ok(())
+}
+
+/// Puts into the table the markets that a master names.
+fn note_markets(
+    alloc: Global,
+    markets: &mut IndexMap<Gtin, Markets>,
+    message: &Message,
+) -> Result<(), AllocError>
+    ensures ok { OnOk result ((from k : ℕ) (gtin : List ℕ) → lookup (is_same_gtin gtin) markets.new.entries
+        ≡ option_or (option_map (λ product. product.markets) (product_in gtin (Routed from k message.now)))
+        (lookup (is_same_gtin gtin) markets.old.entries)) }
+    ensures err { OnErr result (markets.new.entries ≡ markets.old.entries) }
+{
+    if let Message::Master { gtin, product } = message {
+        markets.insert(*gtin, product.markets.copy(alloc)?)?;
+    }
     Ok(())
 }

@@ -1,8 +1,10 @@
 -- What the sending end of a link is seen as.
-use Rattle.std.specs.Prelude.{◌≡◌, ℕ, ◌+◌, ◌-◌, ◌≤◌, min, List, [], ◌∷◌, ◌++◌, length}
+use Rattle.std.specs.Prelude.{◌≡◌, ◌==◌, ◌||◌, ℕ, ◌+◌, ◌-◌, ◌≤◌, nat_lt, nat_le, min, List, [], ◌∷◌, ◌++◌, length, Option, Some, None, if◌then◌else◌}
 use Rattle.circular_buffer.specs.Buffer.{keep_last}
 use Rattle.mv_link.specs.declared.item.Item.{Item}
 use Rattle.mv_link.specs.declared.item.Frame.{Frame}
+use Rattle.mv_link.specs.declared.fault.LinkFault.{LinkFault}
+use Rattle.mv_link.specs.declared.fault.LinkFault.TheVariants.{NotSent, Gone}
 use Rattle.mv_link.specs.Frames.{IsFrameOf}
 
 -- the sending end of a link
@@ -23,6 +25,14 @@ with_item sending item = record sending { total = sending.total + 1; held = keep
 -- one more item was relayed
 abbrev pub with_relayed : Sending → Sending
 with_relayed sending = record sending { sent = sending.sent + 1 }
+
+-- why the frame of a number is not given again, memory aside, the first reason that holds: it was not relayed, or its item
+-- was pushed out of the window
+abbrev pub again_fault : Sending → ℕ → Option LinkFault
+again_fault sending number =
+    if (number == 0) || nat_lt sending.sent number then Some NotSent
+    else (if nat_le number (sending.total - sending.window) then Some Gone
+    else None)
 
 -- so many more items fit: what is not yet relayed is never pushed out, and numbers have 32 bits
 abbrev pub HasRoom : Sending → ℕ → Type 0

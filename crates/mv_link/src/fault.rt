@@ -7,6 +7,10 @@ ghost use Rattle.std.specs.Prelude.{◌≡◌};
 pub enum LinkFault {
     /// L1: every item that was pushed has been relayed.
     Nothing,
+    /// L2: no frame of this number was relayed.
+    NotSent,
+    /// L3: the frame of this number is kept no longer.
+    Gone,
     /// L4: memory was refused.
     Memory,
 }
@@ -20,6 +24,8 @@ impl LinkFault {
     {
         match self {
             LinkFault::Nothing => "L1",
+            LinkFault::NotSent => "L2",
+            LinkFault::Gone => "L3",
             LinkFault::Memory => "L4",
         }
     }

@@ -37,6 +37,38 @@ fn relays_many_more_items_than_the_window_holds(rt: HostRuntime) -> Result<(), F
     Ok(())
 }
 
+/// Pushes so many items on a link and relays each at once.
+fn push_and_relay(link: &mut Outgoing, count: u32) -> bool {
+    for k in 1..=count {
+        if !link.room(1) {
+            return false;
+        }
+        let _ = link.push(receipt(k));
+        let _ = link.relay();
+    }
+    true
+}
+
+/// Whether the frame of a number is refused for this reason.
+fn is_refused(link: &Outgoing, number: u32, why: LinkFault) -> bool {
+    match link.again(number) {
+        Ok(_) => false,
+        Err(fault) => fault == why,
+    }
+}
+
+#[test]
+fn gives_again_the_frames_of_its_window_alone(rt: HostRuntime) -> Result<(), Fail> {
+    let mut link = Outgoing::new(rt.alloc(), 256)?;
+    assert!(rt; push_and_relay(&mut link, 300));
+    assert!(rt; is_refused(&link, 0, LinkFault::NotSent));
+    assert!(rt; is_refused(&link, 44, LinkFault::Gone));
+    assert_eq!(rt; number_of(link.again(45)), 45);
+    assert_eq!(rt; number_of(link.again(300)), 300);
+    assert!(rt; is_refused(&link, 301, LinkFault::NotSent));
+    Ok(())
+}
+
 #[test]
 fn takes_no_item_into_a_full_window(rt: HostRuntime) -> Result<(), Fail> {
     let mut link = Outgoing::new(rt.alloc(), 2)?;
@@ -92,5 +124,7 @@ fn copies_a_frame(rt: HostRuntime) {
 #[test]
 fn numbers_its_faults(rt: HostRuntime) {
     assert_eq!(rt; LinkFault::Nothing.code(), "L1");
+    assert_eq!(rt; LinkFault::NotSent.code(), "L2");
+    assert_eq!(rt; LinkFault::Gone.code(), "L3");
     assert_eq!(rt; LinkFault::Memory.code(), "L4");
 }

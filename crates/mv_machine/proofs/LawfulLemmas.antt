@@ -10,18 +10,19 @@ use Rattle.mv_link.specs.declared.item.Item.{Item}
 use Rattle.mv_pairs.specs.Pairs.{put, IsSquare}
 use Rattle.mv_pairs.proofs.PairsLemmas.{put-each, square-put, square-replicate}
 use Rattle.mv_hub.specs.declared.entry.Entry.{Entry}
-use Rattle.mv_hub.specs.Record.{routed_from, routed_count}
+use Rattle.mv_hub.specs.declared.entry.Entry.TheVariants.{Closed}
+use Rattle.mv_hub.specs.Record.{routed_from, routed_count, is_open}
 use Rattle.mv_hub.specs.Links.{gained}
 use Rattle.mv_hub.proofs.RecordLemmas.{routed_from-append, link_items-push}
 use Rattle.mv_repository.specs.declared.entry.LogEntry.{LogEntry}
 use Rattle.mv_repository.specs.Log.{items_from}
 use Rattle.mv_machine.specs.declared.step.Step.{Step}
-use Rattle.mv_machine.specs.declared.step.Step.TheVariants.{Submit, Route, Relay, Apply}
+use Rattle.mv_machine.specs.declared.step.Step.TheVariants.{Submit, Route, Relay, Apply, Repeat, Close, Lose}
 use Rattle.mv_machine.specs.declared.reply.Reply.{Reply}
 use Rattle.mv_machine.specs.Limits.{Bounds}
 use Rattle.mv_machine.specs.Replies.{wants_memory}
 use Rattle.mv_machine.specs.State.{State, is_party, are_parties, submissions_of, waiting_of, sent_of, wire_of, log_of, items_on, applied_count, opening}
-use Rattle.mv_machine.specs.Steps.{Outcome, submit, next_entry, is_full, route_unless, route_front, route, relay, apply_next, apply_front, apply, outcome}
+use Rattle.mv_machine.specs.Steps.{Outcome, is_taken_message, submit, next_entry, is_full, route_unless, route_front, route, relay, apply_next, apply_front, apply, is_unsent, is_gone, repeat, close, lose_front, lose, outcome}
 use Rattle.mv_machine.specs.Runs.{Allows, Runs}
 use Rattle.mv_machine.specs.Lawful.{Fits, AllFit, NamesParties, AllNameParties, AllFromParties, IsLawful, IsWellFormed}
 use Rattle.mv_machine.proofs.PrefixLemmas.{prefix-grows, prefix-push}
@@ -32,7 +33,7 @@ pub record IsSound (st : State) : Type 0 where
   pub lawful : IsLawful st
 
 -- what holds of what both sides of a choice leave holds of what the choice leaves
-choose : (P : State → Type 0) (b : Bool) (x y : Outcome) → (b ≡ true → P x.state) → (b ≡ false → P y.state) → P (cond b x y).state
+pub choose : (P : State → Type 0) (b : Bool) (x y : Outcome) → (b ≡ true → P x.state) → (b ≡ false → P y.state) → P (cond b x y).state
 choose P true x y f g = f refl
 choose P false x y f g = g refl
 
@@ -135,6 +136,13 @@ routed-sound st from message sound from_is_party next =
     entered-sound st (next_entry st from message) sound refl from_is_party
     (λ party is_party. routed_more st from party message next (sound.lawful.routed_in_order party is_party) (eqb from party) refl)
 
+-- the hub closed a link
+pub closed-sound : (st : State) (from to : ℕ) → IsSound st → from < length st.parties → to < length st.parties → is_open st.entries from to ≡ true
+    → IsSound (record st { entries = st.entries ++ Closed from to ∷ [] })
+closed-sound st from to sound from_is_party to_is_party still_open =
+    entered-sound st (Closed from to) sound still_open (from_is_party, to_is_party)
+    (λ party is_party. subst (λ l. IsPrefix l (submissions_of st party)) (sym (append-nil (routed_from st.entries party))) (sound.lawful.routed_in_order party is_party))
+
 -- one more entry from a party
 AllFromParties-push : (count : ℕ) (log : List LogEntry) (entry : LogEntry) → AllFromParties count log → entry.sender < count → AllFromParties count (log ++ entry ∷ [])
 AllFromParties-push count [] entry all from_party = (from_party, tt)
@@ -196,8 +204,9 @@ submit-sound : (st : State) (from : ℕ) (message : Message) → IsSound st → 
 unfolding submit
 submit-sound st from message sound =
     choose IsSound (not (is_party st from)) _ _ (λ _. sound) (λ _.
+    choose IsSound (not (is_taken_message message)) _ _ (λ _. sound) (λ _.
     choose IsSound (length (waiting_of st from) == st.limits.uplink) _ _ (λ _. sound) (λ _.
-    choose IsSound (length (submissions_of st from) == st.limits.submissions) _ _ (λ _. sound) (λ _. submitted-sound st from message sound)))
+    choose IsSound (length (submissions_of st from) == st.limits.submissions) _ _ (λ _. sound) (λ _. submitted-sound st from message sound))))
 
 route_unless-sound : (st : State) (from : ℕ) (message : Message) (full : Option ℕ) → IsSound st → from < length st.parties
     → slice_get (submissions_of st from) (routed_count st.entries from) ≡ Some message → IsSound (route_unless st from message full).state
@@ -248,11 +257,40 @@ apply-sound st from to sound =
     apply_front-sound st from to (wire_of st from to) sound
     (ltb-true from (length st.parties) (and_parts (is_party st from) (is_party st to) (not-false (are_parties st from to) parties)).0))
 
+repeat-sound : (st : State) (from to number : ℕ) → IsSound st → IsSound (repeat st from to number).state
+unfolding repeat
+repeat-sound st from to number sound =
+    choose IsSound (not (are_parties st from to)) _ _ (λ _. sound) (λ _.
+    choose IsSound (nat_le st.limits.wire (length (wire_of st from to))) _ _ (λ _. sound) (λ _.
+    choose IsSound (is_unsent st from to number) _ _ (λ _. sound) (λ _.
+    choose IsSound (is_gone st from to number) _ _ (λ _. sound) (λ _. with_wire-sound st from to _ sound))))
+
+close-sound : (st : State) (from to : ℕ) → IsSound st → IsSound (close st from to).state
+unfolding close
+close-sound st from to sound =
+    choose IsSound (not (are_parties st from to)) _ _ (λ _. sound) (λ parties.
+    choose IsSound (not (is_open st.entries from to)) _ _ (λ _. sound) (λ still_open.
+    let both = and_parts (is_party st from) (is_party st to) (not-false (are_parties st from to) parties) in
+    closed-sound st from to sound (ltb-true from (length st.parties) both.0) (ltb-true to (length st.parties) both.1)
+    (not-false (is_open st.entries from to) still_open)))
+
+lose_front-sound : (st : State) (from to : ℕ) (wire : List ℕ) → IsSound st → IsSound (lose_front st from to wire).state
+lose_front-sound st from to [] sound = sound
+lose_front-sound st from to (number ∷ rest) sound = with_wire-sound st from to rest sound
+
+lose-sound : (st : State) (from to : ℕ) → IsSound st → IsSound (lose st from to).state
+unfolding lose
+lose-sound st from to sound =
+    choose IsSound (not (are_parties st from to)) _ _ (λ _. sound) (λ _. lose_front-sound st from to (wire_of st from to) sound)
+
 pub outcome-sound : (st : State) (step : Step) → IsSound st → IsSound (outcome st step).state
 outcome-sound st (Submit from message) sound = submit-sound st from message sound
 outcome-sound st (Route from) sound = route-sound st from sound
 outcome-sound st (Relay from to) sound = relay-sound st from to sound
 outcome-sound st (Apply from to) sound = apply-sound st from to sound
+outcome-sound st (Repeat from to number) sound = repeat-sound st from to number sound
+outcome-sound st (Close from to) sound = close-sound st from to sound
+outcome-sound st (Lose from to) sound = lose-sound st from to sound
 
 -- where a system opens, it is sound
 pub opening-sound : (parties : List (List (List ℕ))) (limits : Bounds) → IsSound (opening parties limits)

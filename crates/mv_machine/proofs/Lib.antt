@@ -1,3 +1,4 @@
 pub mod PrefixLemmas
 pub mod LawfulLemmas
 pub mod BoundLemmas
+pub mod ClosingLemmas

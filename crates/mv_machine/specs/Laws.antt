@@ -6,11 +6,19 @@ use Rattle.mv_machine.specs.Limits.{Bounds}
 use Rattle.mv_machine.specs.State.{State, submissions_of, opening}
 use Rattle.mv_machine.specs.Runs.{Runs}
 use Rattle.mv_machine.specs.Lawful.{IsLawful, IsWellFormed}
+use Rattle.mv_machine.specs.Closing.{NothingRoutedLater, NothingSubmittedLater}
 
 -- whatever the steps and whatever their order, a system that opened comes to lawful states alone
 abbrev pub RunsAreLawful : Type 0
 RunsAreLawful = (parties : List (List (List ℕ))) (limits : Bounds) (steps : List Step) (replies : List Reply) (new : State)
     → Runs (opening parties limits) steps replies new → IsWellFormed new × IsLawful new
+
+-- Steps are run, and then others: over a link that stood closed in between, nothing that was submitted after that was applied;
+-- and nothing that was routed after the closing of a link was ever applied over it.
+abbrev pub ClosedLinksStayClosed : Type 0
+ClosedLinksStayClosed = (parties : List (List (List ℕ))) (limits : Bounds) (first second : List Step) (first_replies second_replies : List Reply)
+    (between new : State) → Runs (opening parties limits) first first_replies between → Runs between second second_replies new
+    → NothingSubmittedLater between new × NothingRoutedLater new
 
 -- In a lawful state of 64 parties that submitted a million messages each, at most, the record has far fewer than 2 ^ 32 entries:
 -- every stamp has 32 bits. A party is routed a million times at most, and each of its links is closed once at most.

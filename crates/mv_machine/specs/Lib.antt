@@ -4,4 +4,5 @@ pub mod State
 pub mod Steps
 pub mod Runs
 pub mod Lawful
+pub mod Closing
 pub mod Laws

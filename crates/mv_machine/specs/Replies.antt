@@ -1,20 +1,24 @@
 -- The numbers by which replies name refusals, and where want of memory may stand in place of a reply.
 use Rattle.std.specs.Prelude.{ℕ, List, codes, Bool, true, false}
 use Rattle.mv_machine.specs.declared.reply.Reply.{Reply}
-use Rattle.mv_machine.specs.declared.reply.Reply.TheVariants.{Submitted, Routed, Relayed, Applied, Old, Gap, Refused}
+use Rattle.mv_machine.specs.declared.reply.Reply.TheVariants.{Submitted, Routed, Relayed, Applied, Old, Gap, Repeated, Closed, Lost, Refused}
 use Rattle.mv_machine.specs.declared.reply.Refusal.{Refusal}
-use Rattle.mv_machine.specs.declared.reply.Refusal.TheVariants.{Party, UplinkFull, SenderFull, UplinkEmpty, Busy, WireFull, WireEmpty, Nothing, Memory}
+use Rattle.mv_machine.specs.declared.reply.Refusal.TheVariants.{Party, NotYours, UplinkFull, SenderFull, UplinkEmpty, Busy, WireFull, WireEmpty, NotSent, Gone, Nothing, AlreadyClosed, Memory}
 
 -- the number of a refusal
 abbrev pub code_of : Refusal → List ℕ
 code_of Party = codes "S1"
+code_of NotYours = codes "S2"
 code_of UplinkFull = codes "S3"
 code_of SenderFull = codes "S4"
 code_of UplinkEmpty = codes "S5"
 code_of (Busy to) = codes "S6"
 code_of WireFull = codes "S7"
 code_of WireEmpty = codes "S8"
+code_of NotSent = codes "S9"
+code_of Gone = codes "S10"
 code_of Nothing = codes "S11"
+code_of AlreadyClosed = codes "S12"
 code_of Memory = codes "S14"
 
 -- a reply that want of memory may stand in place of: the step takes memory
@@ -25,6 +29,9 @@ takes_memory (Relayed number) = true
 takes_memory (Applied number effect) = true
 takes_memory (Old number) = false
 takes_memory (Gap number expected) = false
+takes_memory (Repeated number) = true
+takes_memory Closed = true
+takes_memory (Lost number) = false
 takes_memory (Refused refusal) = false
 
 -- a refusal for want of memory

@@ -1,21 +1,22 @@
 -- What each step answers and leaves where there is memory: a row for each kind of step, its refusals in their order.
-use Rattle.std.specs.Prelude.{◌==◌, ◌+◌, ◌-◌, ℕ, List, [], ◌∷◌, ◌++◌, length, not, Bool, if◌then◌else◌, slice_set, slice_get, Option, Some, None, nat_lt, nat_le, find}
+use Rattle.std.specs.Prelude.{◌==◌, ◌||◌, ◌+◌, ◌-◌, ℕ, List, [], ◌∷◌, ◌++◌, length, not, Bool, true, false, if◌then◌else◌, slice_set, slice_get, Option, Some, None, nat_lt, nat_le, find}
 use Rattle.std.specs.List.{range_with_len}
 use Rattle.mv_message.specs.declared.message.Message.{Message}
+use Rattle.mv_message.specs.declared.message.Message.TheVariants.{Master}
 use Rattle.mv_link.specs.declared.item.Item.{Item}
 use Rattle.mv_pairs.specs.Pairs.{put}
 use Rattle.mv_hub.specs.declared.entry.Entry.{Entry}
-use Rattle.mv_hub.specs.declared.entry.Entry.TheVariants.{Routed as RoutedEntry}
-use Rattle.mv_hub.specs.Record.{routed_count}
+use Rattle.mv_hub.specs.declared.entry.Entry.TheVariants.{Routed as RoutedEntry, Closed as ClosedEntry}
+use Rattle.mv_hub.specs.Record.{routed_count, is_open}
 use Rattle.mv_hub.specs.Targets.{reach}
 use Rattle.mv_hub.specs.Links.{gained}
 use Rattle.mv_repository.specs.Effect.{effect_of}
 use Rattle.mv_machine.specs.declared.step.Step.{Step}
-use Rattle.mv_machine.specs.declared.step.Step.TheVariants.{Submit, Route, Relay, Apply}
+use Rattle.mv_machine.specs.declared.step.Step.TheVariants.{Submit, Route, Relay, Apply, Repeat, Close, Lose}
 use Rattle.mv_machine.specs.declared.reply.Reply.{Reply}
-use Rattle.mv_machine.specs.declared.reply.Reply.TheVariants.{Submitted, Routed, Relayed, Applied, Old, Gap, Refused}
+use Rattle.mv_machine.specs.declared.reply.Reply.TheVariants.{Submitted, Routed, Relayed, Applied, Old, Gap, Repeated, Closed, Lost, Refused}
 use Rattle.mv_machine.specs.declared.reply.Refusal.{Refusal}
-use Rattle.mv_machine.specs.declared.reply.Refusal.TheVariants.{Party, UplinkFull, SenderFull, UplinkEmpty, Busy, WireFull, WireEmpty, Nothing}
+use Rattle.mv_machine.specs.declared.reply.Refusal.TheVariants.{Party, NotYours, UplinkFull, SenderFull, UplinkEmpty, Busy, WireFull, WireEmpty, NotSent, Gone, Nothing, AlreadyClosed}
 use Rattle.mv_machine.specs.State.{State, is_party, are_parties, submissions_of, waiting_of, sent_of, wire_of, log_of, items_on, applied_count, with_wire}
 
 -- a reply and the state that the step leaves
@@ -27,16 +28,22 @@ pub record Outcome : Type 0 where
 abbrev pub refused : Refusal → State → Outcome
 refused refusal st = record { reply = Refused refusal; state = st }
 
+-- a message that a party may submit: a master alone so far
+abbrev pub is_taken_message : Message → Bool
+is_taken_message (Master gtin product) = true
+is_taken_message message = false
+
 -- a party submits a message: it is the last of the party's submissions
 unfoldable pub submit : State → ℕ → Message → Outcome
 submit st from message =
     if not (is_party st from) then refused Party st
+    else (if not (is_taken_message message) then refused NotYours st
     else (if length (waiting_of st from) == st.limits.uplink then refused UplinkFull st
     else (if length (submissions_of st from) == st.limits.submissions then refused SenderFull st
     else record {
       reply = Submitted (length (submissions_of st from) + 1);
       state = record st { submissions = slice_set st.submissions from (submissions_of st from ++ message ∷ []) };
-    }))
+    })))
 
 -- the entry by which the next message of a party is routed
 abbrev pub next_entry : State → ℕ → Message → Entry
@@ -110,9 +117,47 @@ apply st from to =
     if not (are_parties st from to) then refused Party st
     else apply_front st from to (wire_of st from to)
 
+-- no frame of this number was relayed on a link
+abbrev pub is_unsent : State → ℕ → ℕ → ℕ → Bool
+is_unsent st from to number = number == 0 || nat_lt (sent_of st from to) number
+
+-- the item of this number was pushed out of the window of its link
+abbrev pub is_gone : State → ℕ → ℕ → ℕ → Bool
+is_gone st from to number = nat_le number (length (items_on st from to) - st.limits.window)
+
+-- a frame that was relayed, and whose item its link still keeps, goes on the wire again
+unfoldable pub repeat : State → ℕ → ℕ → ℕ → Outcome
+repeat st from to number =
+    if not (are_parties st from to) then refused Party st
+    else (if nat_le st.limits.wire (length (wire_of st from to)) then refused WireFull st
+    else (if is_unsent st from to number then refused NotSent st
+    else (if is_gone st from to number then refused Gone st
+    else record { reply = Repeated number; state = with_wire st from to (wire_of st from to ++ number ∷ []) })))
+
+-- a link is closed: that goes into the record
+unfoldable pub close : State → ℕ → ℕ → Outcome
+close st from to =
+    if not (are_parties st from to) then refused Party st
+    else (if not (is_open st.entries from to) then refused AlreadyClosed st
+    else record { reply = Closed; state = record st { entries = st.entries ++ ClosedEntry from to ∷ [] } })
+
+-- the frame in front of a wire is lost
+abbrev pub lose_front : State → ℕ → ℕ → List ℕ → Outcome
+lose_front st from to [] = refused WireEmpty st
+lose_front st from to (number ∷ rest) = record { reply = Lost number; state = with_wire st from to rest }
+
+-- the front frame of a link is lost
+unfoldable pub lose : State → ℕ → ℕ → Outcome
+lose st from to =
+    if not (are_parties st from to) then refused Party st
+    else lose_front st from to (wire_of st from to)
+
 -- what a step answers and leaves where there is memory
 abbrev pub outcome : State → Step → Outcome
 outcome st (Submit from message) = submit st from message
 outcome st (Route from) = route st from
 outcome st (Relay from to) = relay st from to
 outcome st (Apply from to) = apply st from to
+outcome st (Repeat from to number) = repeat st from to number
+outcome st (Close from to) = close st from to
+outcome st (Lose from to) = lose st from to

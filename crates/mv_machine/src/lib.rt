@@ -9,7 +9,7 @@ mod limits;
 mod reply;
 mod step;
 
-pub use laws::{runs_are_lawful, stamps_fit};
+pub use laws::{closed_links_stay_closed, runs_are_lawful, stamps_fit};
 pub use limits::{Limits, LimitsFault};
 pub use reply::{Refusal, Reply};
 pub use step::Step;

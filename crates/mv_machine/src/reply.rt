@@ -21,6 +21,12 @@ pub enum Reply {
     Old { number: u32 },
     /// The frame of this number was dropped, since the frame `expected` has not been applied.
     Gap { number: u32, expected: u32 },
+    /// The frame of this number went on the wire again.
+    Repeated { number: u32 },
+    /// The link is closed from now on.
+    Closed,
+    /// The frame of this number, the front one of its wire, is lost.
+    Lost { number: u32 },
     /// The step was refused, and nothing changed.
     Refused(Refusal),
 }
@@ -30,6 +36,8 @@ pub enum Reply {
 pub enum Refusal {
     /// S1: a party that the step names does not exist.
     Party,
+    /// S2: the message is none that a party submits.
+    NotYours,
     /// S3: as many messages of the party are under way to the hub as the uplink takes.
     UplinkFull,
     /// S4: the party has submitted as many messages as it may.
@@ -42,8 +50,14 @@ pub enum Refusal {
     WireFull,
     /// S8: no frame is under way on the link.
     WireEmpty,
+    /// S9: no frame of this number was relayed on the link.
+    NotSent,
+    /// S10: the frame of this number is kept no longer.
+    Gone,
     /// S11: every item of the link has been relayed.
     Nothing,
+    /// S12: the link is closed already.
+    AlreadyClosed,
     /// S14: memory was refused.
     Memory,
 }
@@ -57,13 +71,17 @@ impl Refusal {
     {
         match self {
             Refusal::Party => "S1",
+            Refusal::NotYours => "S2",
             Refusal::UplinkFull => "S3",
             Refusal::SenderFull => "S4",
             Refusal::UplinkEmpty => "S5",
             Refusal::Busy(_) => "S6",
             Refusal::WireFull => "S7",
             Refusal::WireEmpty => "S8",
+            Refusal::NotSent => "S9",
+            Refusal::Gone => "S10",
             Refusal::Nothing => "S11",
+            Refusal::AlreadyClosed => "S12",
             Refusal::Memory => "S14",
         }
     }

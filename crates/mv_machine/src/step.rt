@@ -13,4 +13,10 @@ pub enum Step {
     Relay { from: Party, to: Party },
     /// A repository takes the front frame of the wire from a party.
     Apply { from: Party, to: Party },
+    /// The frame of this number, which was relayed, goes on the wire of its link again.
+    Repeat { from: Party, to: Party, number: u32 },
+    /// A link is closed: no message that the hub routes from then on goes over it.
+    Close { from: Party, to: Party },
+    /// The front frame of a wire is lost.
+    Lose { from: Party, to: Party },
 }

@@ -29,6 +29,10 @@ fn accepts_the_greatest_limits(rt: HostRuntime) {
 #[test]
 fn numbers_refusals(rt: HostRuntime) {
     assert_eq!(rt; Refusal::Party.code(), "S1");
+    assert_eq!(rt; Refusal::NotYours.code(), "S2");
     assert_eq!(rt; Refusal::Busy(3).code(), "S6");
+    assert_eq!(rt; Refusal::NotSent.code(), "S9");
+    assert_eq!(rt; Refusal::Gone.code(), "S10");
+    assert_eq!(rt; Refusal::AlreadyClosed.code(), "S12");
     assert_eq!(rt; Refusal::Memory.code(), "S14");
 }

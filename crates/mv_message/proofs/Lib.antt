@@ -2,4 +2,9 @@ pub mod MembersLemmas
 pub mod ListLemmas
 pub mod ValueLemmas
 pub mod ReadingLemmas
+pub mod ChainLemmas
+pub mod FormLemmas
+pub mod FoundLemmas
+pub mod SpelledLemmas
 pub mod ReadsLemmas
+pub mod LegalLemmas

@@ -1,16 +1,21 @@
 -- What reading a part of a JSON value gives: its meaning, or the first fault.
-use Rattle.std.specs.Prelude.{◌≡◌, ◌≢◌, ℕ, suc, ◌==◌, ◌&&◌, ◌||◌, not, Bool, true, nat_lt, if◌then◌else◌, List, [], ◌∷◌, length, is_some, Option, Some, None, Result, Ok, Err}
+use Rattle.std.specs.Prelude.{◌≡◌, ◌≢◌, ℕ, suc, ◌^◌, ◌==◌, ◌&&◌, ◌||◌, not, Bool, true, nat_lt, if◌then◌else◌, List, [], ◌∷◌, length, is_some, option_and_then, Option, Some, None, Result, Ok, Err}
 use Rattle.serde_json.specs.Data.{Data, Items, no_items, item}
-use Rattle.serde_json.specs.Find.{get, as_str, as_array}
+use Rattle.serde_json.specs.Find.{get, as_null, as_bool, as_number, as_str, as_array, as_u64}
+use Rattle.mv_pack.specs.Code.{read_code}
+use Rattle.mv_pack.specs.Expiry.{CivilDate, read_expiry}
 use Rattle.mv_pack.specs.Gtin.{read_gtin}
 use Rattle.mv_pack.specs.Market.{read_market}
+use Rattle.mv_pack.specs.Moment.{read_moment}
 use Rattle.mv_pack.specs.declared.fault.PackFault.{PackFault}
 use Rattle.mv_message.specs.declared.field.Field.{Field}
 use Rattle.mv_message.specs.declared.fault.MessageFault.{MessageFault}
 use Rattle.mv_message.specs.declared.fault.MessageFault.TheVariants.{Missing, Kind, Pack, Count, TextLength, Memory}
 use Rattle.mv_message.specs.declared.reading.TheConstants.{MOST_TEXT_BYTES}
-use Rattle.mv_message.specs.declared.lists.TheConstants.{MOST_MARKETS}
+use Rattle.mv_message.specs.declared.lists.TheConstants.{MOST_MARKETS, MOST_SERIALS}
+use Rattle.mv_message.specs.declared.standing.Standing.{Standing}
 use Rattle.mv_message.specs.Fields.{field_name}
+use Rattle.mv_message.specs.Standings.{standing_named}
 
 -- the next step on what was read, or the fault that there was
 infixl 10 ◌and_then◌
@@ -40,6 +45,18 @@ text_at field value = member_at field value and_then λ found. some_or (Kind fie
 unfoldable pub gtin_at : Field → Data → Result (List ℕ) MessageFault
 gtin_at field value = text_at field value and_then λ text. of_field field (read_gtin text)
 
+-- the serial number, batch number or national number of a field: M3, M5, M6
+unfoldable pub code_at : Field → Data → Result (List ℕ) MessageFault
+code_at field value = text_at field value and_then λ text. of_field field (read_code text)
+
+-- the expiry date of a field: M3, M5, M6
+unfoldable pub expiry_at : Field → Data → Result CivilDate MessageFault
+expiry_at field value = text_at field value and_then λ text. of_field field (read_expiry text)
+
+-- the standing of a field: M3, M5
+unfoldable pub standing_at : Field → Data → Result Standing MessageFault
+standing_at field value = text_at field value and_then λ text. some_or (Kind field) (standing_named text)
+
 -- a text of 1 to 200 bytes, else M8
 abbrev pub limited : Field → List ℕ → Result (List ℕ) MessageFault
 limited field text =
@@ -48,6 +65,55 @@ limited field text =
 -- the free text of a field: M3, M5, M8
 unfoldable pub free_text_at : Field → Data → Result (List ℕ) MessageFault
 free_text_at field value = text_at field value and_then limited field
+
+-- whether a value is `null`
+abbrev pub is_null : Data → Bool
+is_null value = is_some (as_null value)
+
+-- a national number, or none where there is `null`: M5, M6
+abbrev pub national_of : Field → Data → Result (Option (List ℕ)) MessageFault
+national_of field found =
+    if is_null found then Ok None
+    else (some_or (Kind field) (as_str found) and_then λ text.
+    of_field field (read_code text) and_then λ number. Ok (Some number))
+
+-- the national number of a field, or none: M3, M5, M6
+unfoldable pub national_at : Field → Data → Result (Option (List ℕ)) MessageFault
+national_at field value = member_at field value and_then national_of field
+
+-- ---- true or false, and numbers
+
+-- whether a field says `true`: M3, M5
+unfoldable pub truth_at : Field → Data → Result Bool MessageFault
+truth_at field value = member_at field value and_then λ found. some_or (Kind field) (as_bool found)
+
+-- the whole number that a value is; one with a fraction or an exponent is none
+abbrev pub whole_number : Data → Option ℕ
+whole_number value = option_and_then as_u64 (as_number value)
+
+-- the whole number of a field: M3, M5
+unfoldable pub whole_at : Field → Data → Result ℕ MessageFault
+whole_at field value = member_at field value and_then λ found. some_or (Kind field) (whole_number found)
+
+-- the moment of a field: M3, M5, M6
+unfoldable pub moment_at : Field → Data → Result ℕ MessageFault
+moment_at field value = whole_at field value and_then λ seconds. of_field field (read_moment seconds)
+
+-- a number of at most 32 bits, else M5
+abbrev pub of_32_bits : Field → ℕ → Result ℕ MessageFault
+of_32_bits field number = if nat_lt number (2 ^ 32) then Ok number else Err (Kind field)
+
+-- the whole number of a field, up to 4,294,967,295: M3, M5
+unfoldable pub number_at : Field → Data → Result ℕ MessageFault
+number_at field value = whole_at field value and_then of_32_bits field
+
+-- a number that is not 0, else M5
+abbrev pub not_zero : Field → ℕ → Result ℕ MessageFault
+not_zero field number = if number == 0 then Err (Kind field) else Ok number
+
+-- the whole number of a field, from 1 to 4,294,967,295: M3, M5
+unfoldable pub count_at : Field → Data → Result ℕ MessageFault
+count_at field value = number_at field value and_then not_zero field
 
 -- ---- lists of texts
 
@@ -83,6 +149,10 @@ read_each reader field (item value items) =
 -- the markets of a field, 1 to 32: M3, M5, M7, M6
 unfoldable pub markets_at : Field → Data → Result (List (List ℕ)) MessageFault
 markets_at field value = texts_at MOST_MARKETS field value and_then read_each read_market field
+
+-- the serial numbers of a field, 1 to 100: M3, M5, M7, M6
+unfoldable pub serials_at : Field → Data → Result (List (List ℕ)) MessageFault
+serials_at field value = texts_at MOST_SERIALS field value and_then read_each read_code field
 
 -- A function returned what reading gives, or memory was refused.
 abbrev pub Gives : {A : Type 0} → Result A MessageFault → Result A MessageFault → Type 0

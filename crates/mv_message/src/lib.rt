@@ -8,21 +8,32 @@
 mod fault;
 mod field;
 mod form;
+mod found;
+mod found_reading;
 pub mod laws;
 mod lists;
 mod markets;
 pub mod members;
 mod message;
+mod numbers;
+mod readers;
 mod reading;
+mod serials;
+mod standing;
 mod text;
+mod values;
+mod version;
 mod writing;
 
 pub use fault::MessageFault;
 pub use field::Field;
-pub use lists::MOST_MARKETS;
+pub use found::Found;
+pub use lists::{MOST_MARKETS, MOST_SERIALS};
 pub use markets::Markets;
 pub use message::{Message, Party, Product};
 pub use reading::MOST_TEXT_BYTES;
+pub use serials::Serials;
+pub use standing::Standing;
 pub use text::Text;
 
 #[cfg(test)]

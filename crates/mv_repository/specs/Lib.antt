@@ -1,5 +1,6 @@
 pub mod Log
 pub mod Order
+pub mod Keys
 pub mod Product
 pub mod Copy
 pub mod Effect

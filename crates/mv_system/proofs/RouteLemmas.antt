@@ -8,9 +8,9 @@ use Rattle.mv_hub.specs.declared.fault.HubFault.{HubFault}
 use Rattle.mv_hub.specs.declared.fault.HubFault.TheVariants as hub
 use Rattle.mv_hub.specs.declared.fault.RouteFault.{RouteFault}
 use Rattle.mv_hub.specs.declared.fault.RouteFault.TheVariants.{StrangerParty, Busy, Memory}
-use Rattle.mv_hub.specs.Record.{routed_count}
+use Rattle.mv_hub.specs.Record.{routed_count, is_open}
 use Rattle.mv_hub.specs.Fault.{FailsBy, RouteFailsBy}
-use Rattle.mv_hub.specs.Hub.{HubState, sent_of, items_on, next_items, is_busy, busy_party, busy_fault, route_fault, relay_fault}
+use Rattle.mv_hub.specs.Hub.{HubState, sent_of, items_on, next_items, is_busy, busy_party, busy_fault, route_fault, relay_fault, close_fault}
 use Rattle.mv_hub.proofs.RecordLemmas.{link_items-few, gained-few}
 use Rattle.mv_machine.specs.declared.reply.Refusal.TheVariants.{Party}
 use Rattle.mv_machine.specs.Replies.{takes_memory}
@@ -98,6 +98,9 @@ relay_told sent total (Err hub.Nothing) fails = (nothing_where (sent == total) h
 relay_told sent total (Err hub.NoParty) fails = let no = (nothing_where (sent == total) hub.NoParty fails).1 in cc
 relay_told sent total (Err hub.TooMany) fails = let no = (nothing_where (sent == total) hub.TooMany fails).1 in cc
 relay_told sent total (Err hub.ServedTwice) fails = let no = (nothing_where (sent == total) hub.ServedTwice fails).1 in cc
+relay_told sent total (Err hub.AlreadyClosed) fails = let no = (nothing_where (sent == total) hub.AlreadyClosed fails).1 in cc
+relay_told sent total (Err hub.NotSent) fails = let no = (nothing_where (sent == total) hub.NotSent fails).1 in cc
+relay_told sent total (Err hub.Gone) fails = let no = (nothing_where (sent == total) hub.Gone fails).1 in cc
 relay_told sent total (Err hub.StrangerParty) fails = let no = (nothing_where (sent == total) hub.StrangerParty fails).1 in cc
 
 -- the hub's refusal of a frame, between parties
@@ -106,3 +109,12 @@ pub relay_fails : {A : Type 0} (h : HubState) (from to : ℕ) (result : Result A
 relay_fails h from to result parties fails =
     relay_told (sent_of h from to) (length (items_on h from to)) result
     (subst (λ b. FailsBy (cond (not b) (Some hub.StrangerParty) (cond (sent_of h from to == length (items_on h from to)) (Some hub.Nothing) None)) result) parties fails)
+
+-- where the hub closed a link, it was open
+pub close_told : (h : HubState) (from to : ℕ) → close_fault h from to ≡ None → is_open h.entries from to ≡ true
+close_told h from to fails = by (nat_lt from (length h.parties) && nat_lt to (length h.parties)) (is_open h.entries from to) fails
+  where
+    by : (parties still_open : Bool) → cond (not parties) (Some hub.StrangerParty) (cond (not still_open) (Some hub.AlreadyClosed) None) ≡ None → still_open ≡ true
+    by true true e = refl
+    by true false e = absurd (cc)
+    by false still_open e = absurd (cc)

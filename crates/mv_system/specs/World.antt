@@ -1,5 +1,5 @@
 -- What the system is seen as, the state of the list machine, and what it keeps beside that.
-use Rattle.std.specs.Prelude.{◌≡◌, ◌<◌, ◌≤◌, ◌==◌, ℕ, List, [], ◌∷◌, ◌++◌, length, map, drop, slice_index_or, slice_get, slice_set, IsTrue, true, false, Some, Result, Ok, Err}
+use Rattle.std.specs.Prelude.{◌≡◌, ◌<◌, ◌≤◌, ◌==◌, ℕ, List, [], ◌∷◌, ◌++◌, length, map, drop, slice_index_or, slice_get, slice_set, IsTrue, Bool, true, false, Some, Result, Ok, Err}
 use Rattle.mv_message.specs.declared.message.Message.{Message}
 use Rattle.mv_link.specs.declared.item.Frame.{Frame}
 use Rattle.mv_link.specs.Frames.{IsFrameOf}
@@ -95,6 +95,21 @@ RelayFails sent total (Ok value) = (sent == total) ≡ false
 RelayFails sent total (Err hub.Nothing) = (sent == total) ≡ true
 RelayFails sent total (Err hub.Memory) = (sent == total) ≡ false
 RelayFails sent total (Err _) = ⊥
+
+-- why the hub does not give a frame again, where it is told whether no such frame was relayed, and whether it is gone
+abbrev pub RepeatFails : {A : Type 0} → Bool → Bool → Result A HubFault → Type 0
+RepeatFails unsent gone (Ok value) = (unsent ≡ false) × (gone ≡ false)
+RepeatFails unsent gone (Err hub.NotSent) = unsent ≡ true
+RepeatFails unsent gone (Err hub.Gone) = (unsent ≡ false) × (gone ≡ true)
+RepeatFails unsent gone (Err hub.Memory) = (unsent ≡ false) × (gone ≡ false)
+RepeatFails unsent gone (Err _) = ⊥
+
+-- why the hub does not close a link, which is open or not
+abbrev pub CloseFails : {A : Type 0} → Bool → Result A HubFault → Type 0
+CloseFails still_open (Ok value) = still_open ≡ true
+CloseFails still_open (Err hub.AlreadyClosed) = still_open ≡ false
+CloseFails still_open (Err hub.Memory) = still_open ≡ true
+CloseFails still_open (Err _) = ⊥
 
 -- a repository applied the next item of a link, whose frame stays on the wire
 abbrev pub Logs : State → ℕ → ℕ → Effect → State → Type 0

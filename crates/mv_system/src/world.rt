@@ -7,6 +7,7 @@ ghost use Rattle.mv_repository.specs.Log.{items_from};
 ghost use Rattle.mv_machine.specs.State.{opening, is_party, submissions_of, log_of, items_on};
 ghost use Rattle.mv_machine.specs.Runs.{Allows, Runs};
 ghost use Rattle.mv_machine.specs.Lawful.{IsLawful, IsWellFormed};
+ghost use Rattle.mv_machine.specs.Closing.{NothingRoutedLater, NothingSubmittedLater};
 ghost use Rattle.mv_system.specs.Wire.{new_wire};
 
 use crate::opening::{new_repositories, no_submissions};
@@ -150,13 +151,16 @@ impl World {
     ///
     /// Whatever the steps and whatever their order: what each repository applied from each sender is a prefix of what the
     /// record put on their link for the markets that it serves, in order and each once, and what was routed from a sender is
-    /// a prefix of what it submitted.
+    /// a prefix of what it submitted. Where a link was closed before these steps, nothing is applied over it that was submitted
+    /// during them; and over no link is anything applied that was routed after its closing.
     pub fn run(&mut self, steps: &[Step]) -> Result<Vec<Reply>, AllocError>
         ensures run { IfOk result (λ replies. Runs self.old steps.now replies.items self.new) }
         ensures applied { (from to : ℕ) → from < length self.new.parties → to < length self.new.parties
             → IsPrefix (items_from (log_of self.new to) from) (items_on self.new from to) }
         ensures routed { (party : ℕ) → party < length self.new.parties
             → IsPrefix (routed_from self.new.entries party) (submissions_of self.new party) }
+        ensures closed { NothingSubmittedLater self.old self.new }
+        ensures closing { NothingRoutedLater self.new }
         ensures well_formed { IsWellFormed self.new }
         ensures lawful { IsLawful self.new }
         ensures err { OnErr result (self.new ≡ self.old) }

@@ -40,13 +40,14 @@ impl Read for Script<'_> {
     }
 }
 
-/// Takes at most `size` bytes a write. The write number `fails_at` fails.
+/// Takes at most `size` bytes a write. The write number `fails_at` fails, that number `full_at` takes nothing.
 #[derive(Drop)]
 struct Sink {
     bytes: Vec<u8>,
     size: usize,
     writes: u32,
     fails_at: u32,
+    full_at: u32,
 }
 
 impl Write for Sink {
@@ -54,6 +55,9 @@ impl Write for Sink {
         self.writes = self.writes.saturating_add(1);
         if self.writes == self.fails_at {
             return Err(io::Error::other("the write fails"));
+        }
+        if self.writes == self.full_at {
+            return Ok(0);
         }
         let count = self.size.min(buf.len());
         self.bytes.extend_from_slice(&buf[..count])?;
@@ -81,6 +85,7 @@ fn sink_of(alloc: Global, size: usize, fails_at: u32) -> Sink {
         size,
         writes: 0,
         fails_at,
+        full_at: 0,
     }
 }
 
@@ -178,6 +183,85 @@ fn takes_no_longer_line_and_no_more_lines(rt: HostRuntime) -> Result<(), Fail> {
         Err(ServeFault::TooManyLines)
     );
     Ok(())
+}
+
+/// Lines of messages that end by CR and LF, by LF and by the end; an empty one, one of a CR alone and one of blanks.
+const MESSAGES: &[u8] = b"[]\r\n\nx\n\r\n  \n{\"msg\":\"fly\"}";
+
+const CANON: &[u8] = b"{\"refused\":\"M2\"}
+{\"refused\":\"M1\"}
+{\"refused\":\"M1\"}
+{\"field\":\"msg\",\"refused\":\"M5\"}
+";
+
+/// Whether `canon` ends so, with the first bytes, so many, of these in the writer.
+fn is_canon(
+    alloc: Global,
+    mut reader: Script<'_>,
+    mut writer: Sink,
+    ended: Result<(), ServeFault>,
+    count: usize,
+) -> bool {
+    let answered = canon(alloc, &mut reader, &mut writer);
+    let written = writer.bytes.as_slice();
+    answered == ended && written.len() == count && CANON.starts_with(written)
+}
+
+#[test]
+fn canon_answers_lines_that_come_in_reads_of_any_size(rt: HostRuntime) {
+    for size in 1..9usize {
+        let reader = script_of(MESSAGES, size, 0, 999);
+        let writer = sink_of(rt.alloc(), 7, 0);
+        assert!(rt; is_canon(rt.alloc(), reader, writer, Ok(()), 82));
+    }
+}
+
+#[test]
+fn canon_answers_the_whole_lines_before_a_read_that_fails(rt: HostRuntime) {
+    for (fails_at, count) in [(1u32, 0usize), (4, 0), (5, 17), (6, 17), (8, 34), (13, 51)] {
+        let reader = script_of(MESSAGES, 1, fails_at, 0);
+        let writer = sink_of(rt.alloc(), 7, 0);
+        assert!(rt; is_canon(rt.alloc(), reader, writer, Err(ServeFault::Read), count));
+    }
+    let often = script_of(MESSAGES, 100, 0, 1_000);
+    let writer = sink_of(rt.alloc(), 7, 0);
+    assert!(rt; is_canon(rt.alloc(), often, writer, Err(ServeFault::Read), 0));
+}
+
+#[test]
+fn canon_stops_at_a_write_that_fails_or_takes_nothing(rt: HostRuntime) {
+    for (place, count) in [(1u32, 0usize), (2, 7), (5, 28), (13, 79)] {
+        let reader = script_of(MESSAGES, 100, 0, 0);
+        let failing = sink_of(rt.alloc(), 7, place);
+        assert!(rt; is_canon(rt.alloc(), reader, failing, Err(ServeFault::Write), count));
+        let again = script_of(MESSAGES, 100, 0, 0);
+        let mut full = sink_of(rt.alloc(), 7, 0);
+        full.full_at = place;
+        assert!(rt; is_canon(rt.alloc(), again, full, Err(ServeFault::Write), count));
+    }
+}
+
+/// How `canon` ends on so many bytes of one kind and one line feed.
+fn canon_of_one_line(alloc: Global, byte: u8, count: usize) -> Result<(), ServeFault> {
+    let mut line = vec![in alloc; byte; count]?;
+    line.push(b'\n')?;
+    let mut reader = script_of(line.as_slice(), 10_000, 0, 0);
+    let mut writer = sink_of(alloc, 100, 0);
+    canon(alloc, &mut reader, &mut writer)
+}
+
+#[test]
+fn canon_takes_no_longer_line_and_no_more_lines(rt: HostRuntime) {
+    assert_eq!(rt; canon_of_one_line(rt.alloc(), b'x', 65_536), Ok(()));
+    assert_eq!(rt;
+        canon_of_one_line(rt.alloc(), b'x', 65_537),
+        Err(ServeFault::LineTooLong)
+    );
+    assert_eq!(rt; canon_of_one_line(rt.alloc(), b'\n', 999_999), Ok(()));
+    assert_eq!(rt;
+        canon_of_one_line(rt.alloc(), b'\n', 1_000_000),
+        Err(ServeFault::TooManyLines)
+    );
 }
 
 #[test]

@@ -3,11 +3,12 @@
 ghost use Rattle.std.specs.Prelude.{◌≡◌, ◌<◌, ◌+◌, ◌∷◌, [], ◌++◌, ℕ, length, IfOk, IfErr, IsSome, Some, None, OnOk, OnErr, IsTrue, slice_get, slice_set, drop};
 ghost use Rattle.mv_pairs.specs.Pairs.{put};
 ghost use Rattle.mv_link.specs.Frames.{IsFrameOf};
-ghost use Rattle.mv_hub.specs.Record.{routed_count};
+ghost use Rattle.mv_hub.specs.declared.entry.Entry.TheVariants.{Closed};
+ghost use Rattle.mv_hub.specs.Record.{routed_count, is_open};
 ghost use Rattle.mv_machine.specs.State.{is_party, are_parties, submissions_of, waiting_of, sent_of, wire_of, log_of, items_on, applied_count, with_wire};
-ghost use Rattle.mv_machine.specs.Steps.{route};
+ghost use Rattle.mv_machine.specs.Steps.{route, is_unsent, is_gone};
 ghost use Rattle.mv_machine.specs.declared.reply.Reply.TheVariants.{Routed};
-ghost use Rattle.mv_system.specs.World.{RouteRefuses, RelayFails, Logs, Applies};
+ghost use Rattle.mv_system.specs.World.{RouteRefuses, RelayFails, RepeatFails, CloseFails, Logs, Applies};
 
 use crate::world::World;
 use mv_hub::{HubFault, RouteFault};
@@ -101,6 +102,58 @@ impl World {
         let number = frame.number;
         self.push_frame(from, to, frame);
         Ok(number)
+    }
+
+    /// The frame of this number of a link, which was relayed before. Nothing changes.
+    fn frame_again(&self, from: Party, to: Party, number: u32) -> Result<Frame, HubFault>
+        requires { IsTrue (are_parties self.now from to) }
+        ensures number { IfOk result (λ frame. frame.number ≡ number) }
+        ensures frame { IfOk result (λ frame. IsFrameOf (items_on self.now from to) frame) }
+        ensures fault { RepeatFails (is_unsent self.now from to number)
+            (is_gone self.now from to number) result }
+    {
+        match self.hub.repeat(from, to, number) {
+            Ok(frame) => Ok(frame),
+            Err(fault) => return Err(fault),
+        }
+    }
+
+    /// Puts a frame of a link on its wire again.
+    pub(super) fn put_repeated(
+        &mut self,
+        from: Party,
+        to: Party,
+        number: u32,
+    ) -> Result<(), HubFault>
+        requires parties { IsTrue (are_parties self.old from to) }
+        requires room { length (wire_of self.old from to) < self.old.limits.wire }
+        ensures ok { OnOk result
+            (self.new ≡ with_wire self.old from to (wire_of self.old from to ++ number ∷ [])) }
+        ensures err { OnErr result (self.new ≡ self.old) }
+        ensures fault { RepeatFails (is_unsent self.old from to number)
+            (is_gone self.old from to number) result }
+    {
+        let frame = match self.frame_again(from, to, number) {
+            Ok(frame) => frame,
+            Err(fault) => return Err(fault),
+        };
+        self.push_frame(from, to, frame);
+        Ok(())
+    }
+
+    /// Closes a link.
+    pub(super) fn put_closed(&mut self, from: Party, to: Party) -> Result<(), HubFault>
+        requires { IsTrue (are_parties self.old from to) }
+        ensures ok { OnOk result (self.new ≡ record self.old {
+          entries = self.old.entries ++ Closed from to ∷ [];
+        }) }
+        ensures err { OnErr result (self.new ≡ self.old) }
+        ensures fault { CloseFails (is_open self.old.entries from to) result }
+    {
+        match self.hub.close(from, to) {
+            Ok(()) => Ok(()),
+            Err(fault) => return Err(fault),
+        }
     }
 
     /// Takes the frame in front of a wire away.

@@ -1,6 +1,6 @@
 //! What the steps ask of the system, in the words of the list machine.
 
-ghost use Rattle.std.specs.Prelude.{◌≡◌, ◌<◌, ◌≤◌, length, IsTrue, slice_get};
+ghost use Rattle.std.specs.Prelude.{◌≡◌, ◌<◌, ◌≤◌, length, nat_le, IsTrue, slice_get};
 ghost use Rattle.mv_machine.specs.Limits.{AreBounds};
 ghost use Rattle.mv_machine.specs.State.{is_party, are_parties, submissions_of, waiting_of, wire_of, applied_count};
 ghost use Rattle.mv_machine.specs.Lawful.{IsLawful, IsWellFormed};
@@ -59,6 +59,15 @@ impl World {
         ensures { result ≡ length (wire_of self.now from to) }
     {
         self.wire(from, to).len()
+    }
+
+    /// Whether as many frames of a link are under way as its wire takes.
+    pub(super) fn is_wire_full(&self, from: Party, to: Party) -> bool
+        requires { IsTrue (are_parties self.now from to) }
+        ensures { result ≡ nat_le self.now.limits.wire (length (wire_of self.now from to)) }
+    {
+        let limits = self.limits();
+        self.wire_len(from, to) >= limits.wire() as usize
     }
 
     /// The number of the frame in front of a wire.

@@ -2,6 +2,7 @@
 
 ghost use Rattle.std.specs.Prelude.{◌≡◌};
 ghost use Rattle.mv_machine.specs.Runs.{Allows};
+ghost use Rattle.mv_machine.specs.Steps.{is_taken_message};
 ghost use Rattle.mv_machine.specs.declared.step.Step.{Step as AStep};
 
 use crate::world::World;
@@ -19,6 +20,9 @@ impl World {
             Step::Route { from } => self.route(*from),
             Step::Relay { from, to } => self.relay(*from, *to),
             Step::Apply { from, to } => self.apply(*from, *to),
+            Step::Repeat { from, to, number } => self.repeat(*from, *to, *number),
+            Step::Close { from, to } => self.close(*from, *to),
+            Step::Lose { from, to } => self.lose(*from, *to),
         }
     }
 
@@ -28,6 +32,9 @@ impl World {
     {
         if !self.is_party(from) {
             return Reply::Refused(Refusal::Party);
+        }
+        if !is_taken_message(message) {
+            return Reply::Refused(Refusal::NotYours);
         }
         let limits = self.limits();
         if self.waiting_count(from) == limits.uplink() as usize {
@@ -69,8 +76,7 @@ impl World {
         if !self.are_parties(from, to) {
             return Reply::Refused(Refusal::Party);
         }
-        let limits = self.limits();
-        if self.wire_len(from, to) >= limits.wire() as usize {
+        if self.is_wire_full(from, to) {
             return Reply::Refused(Refusal::WireFull);
         }
         match self.put_relayed(from, to) {
@@ -105,4 +111,59 @@ impl World {
         };
         Reply::Applied { number, effect }
     }
+
+    #[tactic(auto, unfolding(mv_machine::specs::Runs::Allows, mv_machine::specs::Steps::repeat))]
+    fn repeat(&mut self, from: Party, to: Party, number: u32) -> Reply
+        ensures { Allows self.old (Step.Repeat from to number) result self.new }
+    {
+        if !self.are_parties(from, to) {
+            return Reply::Refused(Refusal::Party);
+        }
+        if self.is_wire_full(from, to) {
+            return Reply::Refused(Refusal::WireFull);
+        }
+        match self.put_repeated(from, to, number) {
+            Ok(()) => Reply::Repeated { number },
+            Err(HubFault::NotSent) => Reply::Refused(Refusal::NotSent),
+            Err(HubFault::Gone) => Reply::Refused(Refusal::Gone),
+            Err(_) => Reply::Refused(Refusal::Memory),
+        }
+    }
+
+    #[tactic(auto, unfolding(mv_machine::specs::Runs::Allows, mv_machine::specs::Steps::close))]
+    fn close(&mut self, from: Party, to: Party) -> Reply
+        ensures { Allows self.old (Step.Close from to) result self.new }
+    {
+        if !self.are_parties(from, to) {
+            return Reply::Refused(Refusal::Party);
+        }
+        match self.put_closed(from, to) {
+            Ok(()) => Reply::Closed,
+            Err(HubFault::AlreadyClosed) => Reply::Refused(Refusal::AlreadyClosed),
+            Err(_) => Reply::Refused(Refusal::Memory),
+        }
+    }
+
+    #[tactic(auto, unfolding(mv_machine::specs::Runs::Allows, mv_machine::specs::Steps::lose))]
+    fn lose(&mut self, from: Party, to: Party) -> Reply
+        ensures { Allows self.old (Step.Lose from to) result self.new }
+    {
+        if !self.are_parties(from, to) {
+            return Reply::Refused(Refusal::Party);
+        }
+        match self.front_number(from, to) {
+            None => Reply::Refused(Refusal::WireEmpty),
+            Some(number) => {
+                self.drop_front(from, to);
+                Reply::Lost { number }
+            }
+        }
+    }
+}
+
+/// Whether a message is one that a party submits.
+fn is_taken_message(message: &Message) -> bool
+    ensures { result ≡ is_taken_message message.now }
+{
+    matches!(message, Message::Master { .. })
 }

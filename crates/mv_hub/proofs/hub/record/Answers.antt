@@ -1,7 +1,5 @@
-use Rattle.std.proofs.Common.{ap, ◌∙◌, subst, sym, ◌≡◌, ◌++◌, ◌∷◌, [], cond, Some}
-use Rattle.std.specs.Map.{lookup}
+use Rattle.std.proofs.Common.{ap, ◌∙◌, subst, sym, ◌≡◌, ◌++◌, ◌∷◌, []}
 use Rattle.mv_hub.specs.declared.entry.Entry.TheVariants.{Routed}
-use Rattle.mv_hub.specs.Record.{is_same_gtin}
 use Rattle.mv_hub.specs.Kept.{AreMarkets}
 use Rattle.mv_hub.proofs.HubLemmas.{markets-routed}
 use Rattle.mv_hub.proofs.hub.record.Goals as goal
@@ -12,9 +10,6 @@ returns-clause-markets c =
     let entry = Routed c.args.from c.args.k c.args.message in
     let entries : c.push.new.self.items ≡ c.args.entries.now.items ++ entry ∷ [] =
     c.in-Ok.ensures.items ∙ ap (λ l. l ++ entry ∷ []) c.in_ok-reserve.ensures.items in
-    subst (λ l. AreMarkets l c.insert.new.self.entries) (sym entries)
-    (markets-routed c.args.entries.now.items c.args.markets.now.entries c.insert.new.self.entries c.args.from c.args.k c.args.message c.requires
-    (λ gtin. c.in-Ok-insert.ensures.updates.0 gtin
-    ∙ ap (λ before. cond (is_same_gtin c.in_ok-gtin.gtin gtin) (Some c.in_ok-gtin.named) before)
-    (ap (lookup (is_same_gtin gtin)) c.reserve-2.ensures.entries)
-    ∙ sym (c.in_ok-gtin.ensures c.args.from c.args.k _ gtin)))
+    subst (λ l. AreMarkets l c.note_markets.new.markets.entries) (sym entries)
+    (markets-routed c.args.entries.now.items c.args.markets.now.entries c.note_markets.new.markets.entries c.args.from c.args.k c.args.message c.requires
+    (λ gtin. c.in_ok-note_markets.ensures.ok c.args.from c.args.k gtin))

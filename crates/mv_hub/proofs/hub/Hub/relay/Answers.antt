@@ -12,11 +12,11 @@ returns-in-Err-Nothing-clause-err c =
     (put-read a.links c.args.from c.args.to c.relay.new.self (new_sending 0) (c.in-Err-Nothing.ensures.err ∙ sym (c.at_mut-link.ensures.value (new_sending 0))))
     ∙ c.self.view_is
 
-pub returns-in-Err-Memory-clause-err : goal.returns-in-Err-Memory-clause-err
-returns-in-Err-Memory-clause-err c =
+pub returns-in-Err-clause-err : goal.returns-in-Err-clause-err
+returns-in-Err-clause-err c =
     let a = c.self.inside in
     ap (view a.parties a.window a.entries.items)
-    (put-read a.links c.args.from c.args.to c.relay.new.self (new_sending 0) (c.in-Err-Memory.ensures.err ∙ sym (c.at_mut-link.ensures.value (new_sending 0))))
+    (put-read a.links c.args.from c.args.to c.relay.new.self (new_sending 0) (c.in-Err.ensures.err ∙ sym (c.at_mut-link.ensures.value (new_sending 0))))
     ∙ c.self.view_is
 
 pub returns-clause-number : goal.returns-clause-number

@@ -2,6 +2,7 @@ use Rattle.std.proofs.Common.{◌≡◌, ◌+◌, [], ◌∷◌, ◌++◌, take,
 use Rattle.std.proofs.lemmas.List.{take_more}
 use Rattle.mv_machine.specs.Runs.{Runs}
 use Rattle.mv_machine.proofs.LawfulLemmas.{runs-push}
+use Rattle.mv_machine.proofs.ClosingLemmas.{nothing_routed_later, nothing_submitted_later, goes_on-same, run-goes_on}
 use Rattle.mv_system.proofs.world.World.run.Goals as goal
 
 -- One more step was taken, and one more reply noted.
@@ -20,3 +21,21 @@ loop-step-preserved c =
       room = omega (arith, c.push_reserved.ensures.capacity, c.loop-step.invariant.room);
       count = omega (arith, c.push_reserved.ensures.len, c.loop-step.invariant.count);
     }
+
+-- No step was taken.
+pub returns-in_err-reserve-clause-closed : goal.returns-in_err-reserve-clause-closed
+returns-in_err-reserve-clause-closed c =
+    let lawful = c.check_lawful.ensures.lawful in nothing_submitted_later c.args.self.now c.args.self.now lawful lawful (goes_on-same c.args.self.now)
+
+pub returns-in_err-reserve-clause-closing : goal.returns-in_err-reserve-clause-closing
+returns-in_err-reserve-clause-closing c = nothing_routed_later c.args.self.now c.check_lawful.ensures.lawful
+
+-- The steps went on with the record.
+pub returns-clause-closed : goal.returns-clause-closed
+returns-clause-closed c =
+    let ran = c.loop-step.invariant.ran in
+    nothing_submitted_later c.args.self.now c.loop-step.self c.check_lawful.ensures.lawful c.loop-step.invariant.lawful
+    (run-goes_on c.args.self.now (take c.loop-step.step-index c.args.steps.now) c.loop-step.replies.items c.loop-step.self ran)
+
+pub returns-clause-closing : goal.returns-clause-closing
+returns-clause-closing c = nothing_routed_later c.loop-step.self c.loop-step.invariant.lawful

@@ -1,0 +1,289 @@
+-- Nothing that is routed after the closing of a link goes over it, and the record only grows.
+use Rattle.std.proofs.Common.{◌≡◌, ℕ, ◌+◌, ◌-◌, ◌<◌, ◌≤◌, Bool, true, false, List, [], ◌∷◌, ◌++◌, length, cond, Some, None, Option, sym, refl, ap, ◌∙◌, subst, append_assoc, append-nil, arith, eqb, eqb-true, length-append}
+use Rattle.std.specs.Prelude.{All, not, ◌&&◌, ◌==◌, slice_get, nat_lt, nat_le, find}
+use Rattle.std.specs.List.{range_with_len}
+use Rattle.std.proofs.lemmas.List.Elements.{All-nil, All-cons, All-append, All-weaker, All-head, All-tail}
+use mathlib.Core.List.{IsPrefix}
+use Rattle.mv_message.specs.declared.message.Message.{Message}
+use Rattle.mv_link.specs.declared.item.Item.{Item}
+use Rattle.mv_link.specs.declared.item.Item.TheVariants.{Receipt, Carried}
+use Rattle.mv_link.specs.Frames.{number_of}
+use Rattle.mv_hub.specs.declared.entry.Entry.{Entry}
+use Rattle.mv_hub.specs.declared.entry.Entry.TheVariants.{Routed, Closed}
+use Rattle.mv_hub.specs.Record.{routed_from, routed_count, is_open}
+use Rattle.mv_hub.specs.Targets.{is_reached, is_target, reach, is_query}
+use Rattle.mv_hub.specs.Links.{gained, link_items_after, link_items}
+use Rattle.mv_hub.proofs.RecordLemmas.{routed_from-append}
+use Rattle.mv_repository.specs.Log.{items_from}
+use Rattle.mv_machine.specs.declared.step.Step.{Step}
+use Rattle.mv_machine.specs.declared.step.Step.TheVariants.{Submit, Route, Relay, Apply, Repeat, Close, Lose}
+use Rattle.mv_machine.specs.declared.reply.Reply.{Reply}
+use Rattle.mv_machine.specs.State.{State, is_party, are_parties, submissions_of, waiting_of, sent_of, wire_of, log_of, items_on, applied_count}
+use Rattle.mv_machine.specs.Steps.{is_taken_message, submit, next_entry, is_full, route_unless, route_front, route, relay, apply_next, apply_front, apply, is_unsent, is_gone, repeat, close, lose_front, lose, outcome}
+use Rattle.mv_machine.specs.Runs.{Runs}
+use Rattle.mv_machine.specs.Lawful.{AllFit, IsLawful}
+use Rattle.mv_machine.specs.Closing.{before_closing, AreAboutFirst, NothingRoutedLater, NothingSubmittedLater}
+use Rattle.mv_machine.proofs.BoundLemmas.{routed_count-few}
+use Rattle.mv_machine.proofs.LawfulLemmas.{choose, allowed-case}
+
+-- a link that is closed in a record is closed in what the record grows to
+pub is_open-append : (before after : List Entry) (from to : ℕ) → is_open (before ++ after) from to ≡ (is_open before from to && is_open after from to)
+is_open-append [] after from to = refl
+is_open-append (Routed sender k message ∷ before) after from to = is_open-append before after from to
+is_open-append (Closed sender receiver ∷ before) after from to =
+    ap (λ b. not (eqb sender from && eqb receiver to) && b) (is_open-append before after from to)
+    ∙ regroup (not (eqb sender from && eqb receiver to)) (is_open before from to) (is_open after from to)
+  where
+    regroup : (x y z : Bool) → (x && (y && z)) ≡ ((x && y) && z)
+    regroup true y z = refl
+    regroup false y z = refl
+
+shut-append : (before after : List Entry) (from to : ℕ) → is_open before from to ≡ false → is_open (before ++ after) from to ≡ false
+shut-append before after from to shut = is_open-append before after from to ∙ ap (λ b. b && is_open after from to) shut
+
+never : (b : Bool) → (b && false) ≡ false
+never true = refl
+never false = refl
+
+-- an entry puts nothing on a link that is closed before it
+gained-shut : (parties : List (List (List ℕ))) (before : List Entry) (entry : Entry) (from to : ℕ) → is_open before from to ≡ false → gained parties before entry from to ≡ []
+unfolding gained is_reached
+gained-shut parties before (Closed sender receiver) from to shut = refl
+gained-shut parties before (Routed sender k message) from to shut =
+    none (eqb sender from) (eqb to from && is_open before from from) (is_target parties before from message to && is_open before from to) _ _
+    (no_receipt (eqb to from) refl) (ap (λ b. is_target parties before from message to && b) shut ∙ never (is_target parties before from message to))
+  where
+    no_receipt : (b : Bool) → eqb to from ≡ b → (b && is_open before from from) ≡ false
+    no_receipt false e = refl
+    no_receipt true e = subst (λ r. is_open before from r ≡ false) (eqb-true to from e) shut
+
+    none : (a b c : Bool) (x y : Item) → b ≡ false → c ≡ false → cond a (cond b (x ∷ []) [] ++ cond c (y ∷ []) []) [] ≡ []
+    none true b c x y e f = rw (e, f) refl
+    none false b c x y e f = refl
+
+items-shut : (parties : List (List (List ℕ))) (before entries : List Entry) (from to : ℕ) → is_open before from to ≡ false → link_items_after parties before entries from to ≡ []
+items-shut parties before [] from to shut = refl
+items-shut parties before (entry ∷ entries) from to shut =
+    ap (λ l. l ++ link_items_after parties (before ++ entry ∷ []) entries from to) (gained-shut parties before entry from to shut)
+    ∙ items-shut parties (before ++ entry ∷ []) entries from to (shut-append before (entry ∷ []) from to shut)
+
+-- the items that the routing of a message puts on a link are about that message
+gained-about : (parties : List (List (List ℕ))) (before : List Entry) (sender k : ℕ) (message : Message) (from to count : ℕ)
+    → (eqb sender from ≡ true → k ≤ count) → AreAboutFirst count (gained parties before (Routed sender k message) from to)
+unfolding gained
+gained-about parties before sender k message from to count within =
+    about (eqb sender from) (eqb to from && is_open before from from) (is_reached parties before from message to) within
+  where
+    one : (b : Bool) (item : Item) → number_of item ≤ count → AreAboutFirst count (cond b (item ∷ []) [])
+    one true item few = All-cons (λ i. number_of i ≤ count) item [] few (All-nil (λ i. number_of i ≤ count))
+    one false item few = All-nil (λ i. number_of i ≤ count)
+
+    about : (a b c : Bool) → (a ≡ true → k ≤ count)
+        → AreAboutFirst count (cond a (cond b (Receipt k (reach parties before from message) (is_query message) ∷ []) [] ++ cond c (Carried k (length before + 1) message ∷ []) []) [])
+    about false b c few = All-nil (λ i. number_of i ≤ count)
+    about true b c few = All-append (λ i. number_of i ≤ count) _ _ (one b (Receipt k (reach parties before from message) (is_query message)) (few refl)) (one c (Carried k (length before + 1) message) (few refl))
+
+routed_count-push : (before after : List Entry) (party : ℕ) → routed_count (before ++ after) party ≡ routed_count before party + routed_count after party
+routed_count-push before after party = ap length (routed_from-append before after party) ∙ length-append (routed_from before party) (routed_from after party)
+
+-- a front of a list
+All-front : {X : Type 0} (P : X → Type 0) (xs ys : List X) → All P (xs ++ ys) → All P xs
+All-front P [] ys all = All-nil P
+All-front P (x ∷ xs) ys all = All-cons P x xs (All-head P x (xs ++ ys) all) (All-front P xs ys (All-tail P x (xs ++ ys) all))
+
+-- what entries put on a link is about messages that were routed before its closing
+items-about : (parties : List (List (List ℕ))) (before entries : List Entry) (from to : ℕ) → AllFit before entries
+    → AreAboutFirst (routed_count before from + routed_count (before_closing entries from to) from) (link_items_after parties before entries from to)
+unfolding gained
+items-about parties before [] from to fit = All-nil (λ i. number_of i ≤ routed_count before from + 0)
+items-about parties before (Routed sender k message ∷ entries) from to fit =
+    All-append (λ i. number_of i ≤ routed_count before from + routed_count (Routed sender k message ∷ rest) from) _ _
+    (gained-about parties before sender k message from to (routed_count before from + routed_count (Routed sender k message ∷ rest) from) number)
+    (subst (λ n. AreAboutFirst n (link_items_after parties (before ++ Routed sender k message ∷ []) entries from to)) same_count
+    (items-about parties (before ++ Routed sender k message ∷ []) entries from to fit.1))
+  where
+    rest : List Entry
+    rest = before_closing entries from to
+
+    same_count : routed_count (before ++ Routed sender k message ∷ []) from + routed_count (before_closing entries from to) from
+        ≡ routed_count before from + routed_count (Routed sender k message ∷ before_closing entries from to) from
+    same_count =
+        omega (arith, routed_count-push before (Routed sender k message ∷ []) from, routed_count-push (Routed sender k message ∷ []) (before_closing entries from to) from)
+
+    number : eqb sender from ≡ true → k ≤ routed_count before from + routed_count (Routed sender k message ∷ before_closing entries from to) from
+    number same =
+        let party = eqb-true sender from same in
+        let own : k ≡ routed_count before from + 1 = subst (λ p. k ≡ routed_count before p + 1) party fit.0 in
+        let one_more : routed_count (Routed sender k message ∷ before_closing entries from to) from ≡ 1 + routed_count (before_closing entries from to) from =
+        ap (λ b. length (cond b (message ∷ routed_from (before_closing entries from to) from) (routed_from (before_closing entries from to) from))) same ∙ omega arith in
+        omega (arith, own, one_more)
+items-about parties before (Closed sender receiver ∷ entries) from to fit = by (eqb sender from && eqb receiver to) refl (items-about parties (before ++ Closed sender receiver ∷ []) entries from to fit.1)
+  where
+    same_count : routed_count (before ++ Closed sender receiver ∷ []) from ≡ routed_count before from
+    same_count = omega (arith, routed_count-push before (Closed sender receiver ∷ []) from)
+
+    by : (same : Bool) → (eqb sender from && eqb receiver to) ≡ same
+        → AreAboutFirst (routed_count (before ++ Closed sender receiver ∷ []) from + routed_count (before_closing entries from to) from) (link_items_after parties (before ++ Closed sender receiver ∷ []) entries from to)
+        → AreAboutFirst (routed_count before from + routed_count (cond (eqb sender from && eqb receiver to) [] (Closed sender receiver ∷ before_closing entries from to)) from)
+        (link_items_after parties (before ++ Closed sender receiver ∷ []) entries from to)
+    by false e later = rw e (subst (λ n. AreAboutFirst (n + routed_count (before_closing entries from to) from) (link_items_after parties (before ++ Closed sender receiver ∷ []) entries from to)) same_count later)
+    by true e later =
+        let shut : is_open (before ++ Closed sender receiver ∷ []) from to ≡ false =
+        is_open-append before (Closed sender receiver ∷ []) from to ∙ ap (λ b. is_open before from to && (not b && true)) e ∙ never (is_open before from to) in
+        rw (items-shut parties (before ++ Closed sender receiver ∷ []) entries from to shut) (All-nil (λ i. number_of i ≤ routed_count before from + routed_count (cond (eqb sender from && eqb receiver to) [] (Closed sender receiver ∷ before_closing entries from to)) from))
+
+-- what was applied over a link is about messages that were routed before its closing
+pub nothing_routed_later : (st : State) → IsLawful st → NothingRoutedLater st
+unfolding link_items
+nothing_routed_later st lawful from to from_is_party to_is_party =
+    let applied = lawful.applied_in_order from to from_is_party to_is_party in
+    let count = routed_count (before_closing st.entries from to) from in
+    All-front (λ item. number_of item ≤ count) (items_from (log_of st to) from) applied.0
+    (subst (AreAboutFirst count) (sym applied.1)
+    (subst (λ n. AreAboutFirst n (items_on st from to)) none_before (items-about st.parties [] st.entries from to lawful.entries_fit)))
+  where
+    none_before : routed_count [] from + routed_count (before_closing st.entries from to) from ≡ routed_count (before_closing st.entries from to) from
+    none_before = omega arith
+
+-- once a link is closed, what stands before its closing stays
+before_closing-append : (entries more : List Entry) (from to : ℕ) → is_open entries from to ≡ false → before_closing (entries ++ more) from to ≡ before_closing entries from to
+before_closing-append [] more from to shut = absurd (cc)
+before_closing-append (Routed sender k message ∷ entries) more from to shut = ap (λ l. Routed sender k message ∷ l) (before_closing-append entries more from to shut)
+before_closing-append (Closed sender receiver ∷ entries) more from to shut = by (eqb sender from && eqb receiver to) (before_closing-append entries more from to) shut
+  where
+    by : (same : Bool) → (is_open entries from to ≡ false → before_closing (entries ++ more) from to ≡ before_closing entries from to) → (not same && is_open entries from to) ≡ false
+        → cond same [] (Closed sender receiver ∷ before_closing (entries ++ more) from to) ≡ cond same [] (Closed sender receiver ∷ before_closing entries from to)
+    by true later shut = refl
+    by false later shut = ap (λ l. Closed sender receiver ∷ l) (later shut)
+
+-- it is no more than was routed at all
+before_closing-few : (entries : List Entry) (from to party : ℕ) → routed_count (before_closing entries from to) party ≤ routed_count entries party
+before_closing-few [] from to party = omega arith
+before_closing-few (Routed sender k message ∷ entries) from to party =
+    let rest = before_closing-few entries from to party in
+    omega (arith, rest, routed_count-push (Routed sender k message ∷ []) (before_closing entries from to) party, routed_count-push (Routed sender k message ∷ []) entries party)
+before_closing-few (Closed sender receiver ∷ entries) from to party = by (eqb sender from && eqb receiver to) (before_closing-few entries from to party)
+  where
+    by : (same : Bool) → routed_count (before_closing entries from to) party ≤ routed_count entries party
+        → routed_count (cond same [] (Closed sender receiver ∷ before_closing entries from to)) party ≤ routed_count entries party
+    by true rest = omega arith
+    by false rest = rest
+
+-- the record of one state goes on in another
+pub record Continues (old new : State) : Type 0 where
+  pub parties : new.parties ≡ old.parties
+  pub entries : IsPrefix old.entries new.entries
+
+-- where the record stays as it is
+goes_on : (old new : State) → new.parties ≡ old.parties → old.entries ≡ new.entries → Continues old new
+goes_on old new parties entries = record { parties = parties; entries = ([], append-nil old.entries ∙ entries) }
+
+pub goes_on-same : (st : State) → Continues st st
+goes_on-same st = goes_on st st refl refl
+
+goes_on-entry : (st : State) (entry : Entry) → Continues st (record st { entries = st.entries ++ entry ∷ [] })
+goes_on-entry st entry = record { parties = refl; entries = (entry ∷ [], refl) }
+
+-- each step goes on with the record
+submit-goes_on : (st : State) (from : ℕ) (message : Message) → Continues st (submit st from message).state
+unfolding submit
+submit-goes_on st from message =
+    choose (Continues st) (not (is_party st from)) _ _ (λ _. goes_on-same st) (λ _.
+    choose (Continues st) (not (is_taken_message message)) _ _ (λ _. goes_on-same st) (λ _.
+    choose (Continues st) (length (waiting_of st from) == st.limits.uplink) _ _ (λ _. goes_on-same st) (λ _.
+    choose (Continues st) (length (submissions_of st from) == st.limits.submissions) _ _ (λ _. goes_on-same st) (λ _. goes_on st _ refl refl))))
+
+route-goes_on : (st : State) (from : ℕ) → Continues st (route st from).state
+unfolding route
+route-goes_on st from =
+    choose (Continues st) (not (is_party st from)) _ _ (λ _. goes_on-same st) (λ _. front (slice_get (submissions_of st from) (routed_count st.entries from)))
+  where
+    unless : (message : Message) (full : Option ℕ) → Continues st (route_unless st from message full).state
+    unless message (Some to) = goes_on-same st
+    unless message None = goes_on-entry st (next_entry st from message)
+
+    front : (message : Option Message) → Continues st (route_front st from message).state
+    front None = goes_on-same st
+    front (Some message) = unless message (find (is_full st from message) (range_with_len 0 (length st.parties)))
+
+relay-goes_on : (st : State) (from to : ℕ) → Continues st (relay st from to).state
+unfolding relay
+relay-goes_on st from to =
+    choose (Continues st) (not (are_parties st from to)) _ _ (λ _. goes_on-same st) (λ _.
+    choose (Continues st) (nat_le st.limits.wire (length (wire_of st from to))) _ _ (λ _. goes_on-same st) (λ _.
+    choose (Continues st) (sent_of st from to == length (items_on st from to)) _ _ (λ _. goes_on-same st) (λ _. goes_on st _ refl refl)))
+
+apply-goes_on : (st : State) (from to : ℕ) → Continues st (apply st from to).state
+unfolding apply apply_front
+apply-goes_on st from to = choose (Continues st) (not (are_parties st from to)) _ _ (λ _. goes_on-same st) (λ _. front (wire_of st from to))
+  where
+    next : (number : ℕ) (rest : List ℕ) (item : Option Item) → Continues st (apply_next st from to number rest item).state
+    next number rest None = goes_on st _ refl refl
+    next number rest (Some item) = goes_on st _ refl refl
+
+    front : (wire : List ℕ) → Continues st (apply_front st from to wire).state
+    front [] = goes_on-same st
+    front (number ∷ rest) =
+        choose (Continues st) (nat_le number (applied_count st from to)) _ _ (λ _. goes_on st _ refl refl) (λ _.
+        choose (Continues st) (nat_lt (applied_count st from to + 1) number) _ _ (λ _. goes_on st _ refl refl) (λ _.
+        next number rest (slice_get (items_on st from to) (number - 1))))
+
+repeat-goes_on : (st : State) (from to number : ℕ) → Continues st (repeat st from to number).state
+unfolding repeat
+repeat-goes_on st from to number =
+    choose (Continues st) (not (are_parties st from to)) _ _ (λ _. goes_on-same st) (λ _.
+    choose (Continues st) (nat_le st.limits.wire (length (wire_of st from to))) _ _ (λ _. goes_on-same st) (λ _.
+    choose (Continues st) (is_unsent st from to number) _ _ (λ _. goes_on-same st) (λ _.
+    choose (Continues st) (is_gone st from to number) _ _ (λ _. goes_on-same st) (λ _. goes_on st _ refl refl))))
+
+close-goes_on : (st : State) (from to : ℕ) → Continues st (close st from to).state
+unfolding close
+close-goes_on st from to =
+    choose (Continues st) (not (are_parties st from to)) _ _ (λ _. goes_on-same st) (λ _.
+    choose (Continues st) (not (is_open st.entries from to)) _ _ (λ _. goes_on-same st) (λ _. goes_on-entry st (Closed from to)))
+
+lose-goes_on : (st : State) (from to : ℕ) → Continues st (lose st from to).state
+unfolding lose
+lose-goes_on st from to = choose (Continues st) (not (are_parties st from to)) _ _ (λ _. goes_on-same st) (λ _. front (wire_of st from to))
+  where
+    front : (wire : List ℕ) → Continues st (lose_front st from to wire).state
+    front [] = goes_on-same st
+    front (number ∷ rest) = goes_on st _ refl refl
+
+outcome-goes_on : (st : State) (step : Step) → Continues st (outcome st step).state
+outcome-goes_on st (Submit from message) = submit-goes_on st from message
+outcome-goes_on st (Route from) = route-goes_on st from
+outcome-goes_on st (Relay from to) = relay-goes_on st from to
+outcome-goes_on st (Apply from to) = apply-goes_on st from to
+outcome-goes_on st (Repeat from to number) = repeat-goes_on st from to number
+outcome-goes_on st (Close from to) = close-goes_on st from to
+outcome-goes_on st (Lose from to) = lose-goes_on st from to
+
+goes_on-further : (first second third : State) → Continues first second → Continues second third → Continues first third
+goes_on-further first second third a b = record {
+  parties = b.parties ∙ a.parties;
+  entries = (a.entries.0 ++ b.entries.0, sym (append_assoc first.entries a.entries.0 b.entries.0) ∙ ap (λ l. l ++ b.entries.0) a.entries.1 ∙ b.entries.1);
+}
+
+-- and so does each run
+pub run-goes_on : (old : State) (steps : List Step) (replies : List Reply) (new : State) → Runs old steps replies new → Continues old new
+run-goes_on old [] [] new run = subst (Continues old) (sym run) (goes_on-same old)
+run-goes_on old [] (reply ∷ replies) new run = absurd run
+run-goes_on old (step ∷ steps) [] new run = absurd run
+run-goes_on old (step ∷ steps) (reply ∷ replies) new run =
+    goes_on-further old run.0 new
+    (allowed-case (Continues old) old step reply run.0 run.1 (goes_on-same old) (outcome-goes_on old step))
+    (run-goes_on run.0 steps replies new run.2)
+
+-- where a link is closed in one state, nothing that was submitted since is applied over it in a later one
+pub nothing_submitted_later : (old new : State) → IsLawful old → IsLawful new → Continues old new → NothingSubmittedLater old new
+nothing_submitted_later old new old_lawful new_lawful goes_on from to from_is_party to_is_party shut =
+    let count = routed_count (before_closing old.entries from to) from in
+    let same : before_closing new.entries from to ≡ before_closing old.entries from to =
+    ap (λ l. before_closing l from to) (sym goes_on.entries.1) ∙ before_closing-append old.entries goes_on.entries.0 from to shut in
+    let routed : AreAboutFirst count (items_from (log_of new to) from) =
+    subst (λ l. AreAboutFirst (routed_count l from) (items_from (log_of new to) from)) same
+    (nothing_routed_later new new_lawful from to (subst (λ p. from < length p) (sym goes_on.parties) from_is_party) (subst (λ p. to < length p) (sym goes_on.parties) to_is_party)) in
+    let few = before_closing-few old.entries from to from in
+    let submitted = routed_count-few old from old_lawful from_is_party in
+    All-weaker (λ item. number_of item ≤ count) (λ item. number_of item ≤ length (submissions_of old from)) (λ item about. omega (arith, about, few, submitted)) (items_from (log_of new to) from) routed

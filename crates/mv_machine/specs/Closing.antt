@@ -1,0 +1,31 @@
+-- What is applied over a link that is closed.
+use Rattle.std.specs.Prelude.{◌≡◌, ◌<◌, ◌≤◌, ◌==◌, ◌&&◌, ℕ, List, [], ◌∷◌, length, All, false, if◌then◌else◌}
+use Rattle.mv_link.specs.declared.item.Item.{Item}
+use Rattle.mv_link.specs.Frames.{number_of}
+use Rattle.mv_hub.specs.declared.entry.Entry.{Entry}
+use Rattle.mv_hub.specs.declared.entry.Entry.TheVariants.{Routed, Closed}
+use Rattle.mv_hub.specs.Record.{routed_count, is_open}
+use Rattle.mv_repository.specs.Log.{items_from}
+use Rattle.mv_machine.specs.State.{State, submissions_of, log_of}
+
+-- the entries of a record that stand before the closing of a link: all of them where it is open
+abbrev pub before_closing : List Entry → ℕ → ℕ → List Entry
+before_closing [] from to = []
+before_closing (Routed sender k message ∷ entries) from to = Routed sender k message ∷ before_closing entries from to
+before_closing (Closed sender receiver ∷ entries) from to =
+    if sender == from && receiver == to then [] else Closed sender receiver ∷ before_closing entries from to
+
+-- each item is about one of the first messages of its sender, so many
+abbrev pub AreAboutFirst : ℕ → List Item → Type 0
+AreAboutFirst count items = All (λ item. number_of item ≤ count) items
+
+-- over no link was applied what was routed after its closing
+abbrev pub NothingRoutedLater : State → Type 0
+NothingRoutedLater st = (from to : ℕ) → from < length st.parties → to < length st.parties
+    → AreAboutFirst (routed_count (before_closing st.entries from to) from) (items_from (log_of st to) from)
+
+-- over the links that are closed in one state there is applied, in a later one, nothing that was submitted since
+abbrev pub NothingSubmittedLater : State → State → Type 0
+NothingSubmittedLater old new = (from to : ℕ) → from < length old.parties → to < length old.parties
+    → is_open old.entries from to ≡ false
+    → AreAboutFirst (length (submissions_of old from)) (items_from (log_of new to) from)

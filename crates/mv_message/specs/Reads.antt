@@ -110,7 +110,7 @@ abbrev pub HasNational : Version → Data → Option (List ℕ) → Type 0
 HasNational One value national = national ≡ None
 HasNational Two value national = SpellsNational value fields.National national
 
--- what version 1 says of a pack that was found: it has no national number, and its product is not withdrawn
+-- what only version 2 says of a pack that was found: its national number, and whether its product is withdrawn
 abbrev pub HasRest : Version → Data → Option (List ℕ) → Bool → Type 0
 HasRest One value national withdrawn = (national ≡ None) × (withdrawn ≡ false)
 HasRest Two value national withdrawn =

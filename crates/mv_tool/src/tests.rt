@@ -5,6 +5,7 @@ use crate::reply_line::{line_fault_text, opened_text, refused_text, reply_text};
 use arrayvec::ArrayVec;
 use mv_link::Reach;
 use mv_machine::{Refusal, Reply, Step};
+use mv_pack::PackFault;
 use std::alloc::Global;
 use std::io;
 use std::io::{ErrorKind, Read, Write};
@@ -345,6 +346,56 @@ fn reads_a_line_as_what_it_asks(rt: HostRuntime) {
     }
 }
 
+/// Whether the line is read as the repetition of frame 7 from party 2 to party 0.
+fn is_repeat(alloc: Global, line: &[u8]) -> bool {
+    match Request::read(alloc, line) {
+        Ok(Request::Step(Step::Repeat { from, to, number })) => {
+            from == 2 && to == 0 && number == 7
+        }
+        _ => false,
+    }
+}
+
+#[test]
+fn reads_the_parties_and_the_number_of_a_repetition(rt: HostRuntime) {
+    let line = br#"{"to":0,"number":7,"from":2,"do":"repeat"}"#;
+    assert!(rt; is_repeat(rt.alloc(), line));
+}
+
+/// Whether the reply is written so.
+fn is_written(alloc: Global, reply: &Reply, expected: &str) -> bool {
+    match reply_text(alloc, reply) {
+        Ok(text) => text.as_str() == expected,
+        Err(_) => false,
+    }
+}
+
+#[test]
+fn writes_what_came_of_frames_and_links(rt: HostRuntime) {
+    let repeated = Reply::Repeated { number: 2 };
+    assert!(rt; is_written(rt.alloc(), &repeated, r#"{"repeated":2}"#));
+    let lost = Reply::Lost { number: 2 };
+    assert!(rt; is_written(rt.alloc(), &lost, r#"{"lost":2}"#));
+    assert!(rt; is_written(rt.alloc(), &Reply::Closed, r#"{"closed":true}"#));
+    let gone = Reply::Refused(Refusal::Gone);
+    assert!(rt; is_written(rt.alloc(), &gone, r#"{"refused":"S10"}"#));
+}
+
+/// Whether the refusal of a line is written so.
+fn is_refusal(alloc: Global, fault: &LineFault, expected: &str) -> bool {
+    match line_fault_text(alloc, fault) {
+        Ok(text) => text.as_str() == expected,
+        Err(_) => false,
+    }
+}
+
+#[test]
+fn says_which_character_no_code_has(rt: HostRuntime) {
+    let fault = LineFault::Pack(LineField::Parties, PackFault::Character(3));
+    let text = r#"{"fault":"P6","field":"parties","place":3,"refused":"M6"}"#;
+    assert!(rt; is_refusal(rt.alloc(), &fault, text));
+}
+
 #[test]
 fn writes_replies_as_canonical_texts(rt: HostRuntime) -> Result<(), Fail> {
     let mut parties = ArrayVec::new();
@@ -410,6 +461,15 @@ fn runs_what_the_words_ask_for(rt: HostRuntime) -> Result<(), Fail> {
     assert_eq!(rt; done, Status::Done.code());
     assert_eq!(rt; writer.bytes.as_slice(), REPLIES);
     assert_eq!(rt; faults.bytes.is_empty(), true);
+    let mut messages = sink_of(rt.alloc(), 100, 0);
+    let written = run_command(rt.alloc(), &["canon"], &mut messages, &mut faults)?;
+    assert_eq!(rt; written, Status::Done.code());
+    assert_eq!(rt;
+        messages
+            .bytes
+            .starts_with(b"{\"field\":\"msg\",\"refused\":\"M3\"}\n"),
+        true
+    );
     let mut failing = sink_of(rt.alloc(), 100, 1);
     let failed = run_command(rt.alloc(), &["steps"], &mut failing, &mut faults)?;
     assert_eq!(rt; failed, Status::Failed.code());

@@ -2,4 +2,10 @@ pub mod MembersLemmas
 pub mod ListLemmas
 pub mod ValueLemmas
 pub mod ReadingLemmas
+pub mod NumberLemmas
+pub mod ChainLemmas
+pub mod FormLemmas
+pub mod FoundLemmas
+pub mod SpelledLemmas
 pub mod ReadsLemmas
+pub mod LegalLemmas

@@ -1,290 +1,112 @@
--- Reading a value gives a message exactly where the value is one of its spellings.
-use Rattle.std.proofs.Common.{◌≡◌, ◌∙◌, ◌↔◌, ℕ, true, false, not, cond, List, [], ◌∷◌, ap, subst, refl, arith}
-use Rattle.std.specs.Prelude.{codes, Option, Some, None, Result, Ok, Err, find, bytes_eq, Contains, IsUtf8}
-use Rattle.std.specs.List.{AllByRecursion}
-use Rattle.std.specs.Cmp.Lexicographic.{nat_list_eq_equiv}
-use Rattle.std.proofs.lemmas.Map.Views.{Contains-from_any, list_any-from_Contains}
-use Rattle.std.proofs.lemmas.Slice.Eq.{bytes_eq-Decides}
-use Rattle.serde_json.specs.Data.{Data, string, object, Items, no_items, item}
-use Rattle.serde_json.specs.Find.{as_object}
-use Rattle.serde_json.specs.Read.{read}
-use Rattle.mv_pack.specs.Gtin.{read_gtin}
-use Rattle.mv_pack.specs.Market.{read_market, IsMarket}
-use Rattle.mv_pack.proofs.GtinLemmas.{read_gtin_of, read_gtin_is_gtin}
-use Rattle.mv_pack.proofs.MarketLemmas.{read_market_of, read_market_is_market}
+-- A value is read as a message exactly where it is a spelling of it.
+use Rattle.std.proofs.Common.{◌≡◌, ◌↔◌, ℕ, List, ap, sym, subst}
+use Rattle.std.specs.Prelude.{Option, Result, Ok}
+use Rattle.serde_json.specs.Data.{Data}
+use Rattle.mv_pack.specs.Expiry.{CivilDate}
 use Rattle.mv_message.specs.declared.field.Field.TheVariants as fields
 use Rattle.mv_message.specs.declared.fault.MessageFault.{MessageFault}
-use Rattle.mv_message.specs.declared.fault.MessageFault.TheVariants.{Kind, NotJson, NotObject}
-use Rattle.mv_message.specs.declared.form.Form.{Form}
 use Rattle.mv_message.specs.declared.form.Form.TheVariants as forms
-use Rattle.mv_message.specs.declared.lists.TheConstants.{MOST_MARKETS}
+use Rattle.mv_message.specs.declared.found.Found.{Found}
 use Rattle.mv_message.specs.declared.message.Message.{Message}
 use Rattle.mv_message.specs.declared.message.Message.TheVariants as messages
 use Rattle.mv_message.specs.declared.message.Product.{Product}
-use Rattle.mv_message.specs.Members.{keys_of, is_among, first_unknown}
-use Rattle.mv_message.specs.Reading.{◌and_then◌, some_or, text_at, gtin_at, free_text_at, markets_at}
-use Rattle.mv_message.specs.Forms.{form_named, form_at, names_of, unless_unknown, known_form_at}
-use Rattle.mv_message.specs.Messages.{read_message, read_bytes, master_at, message_at, value_of}
-use Rattle.mv_message.specs.Values.{strings}
-use Rattle.mv_message.specs.Reads.{HasOnly, HasText, SpellEach, HasProduct, Reads, IsLegal}
-use Rattle.mv_message.proofs.ValueLemmas.{utf8_test}
-use Rattle.mv_message.proofs.ReadingLemmas.{both_ok, some_or_ok, as_object_ok, text_ok, text_is_read, spelled, spelling_is_read, free_text_ok, free_text_is_read, spelled_list, spelling_list_is_read}
+use Rattle.mv_message.specs.declared.standing.Standing.{Standing}
+use Rattle.mv_message.specs.declared.version.Version.{Version}
+use Rattle.mv_message.specs.declared.version.Version.TheVariants.{One, Two}
+use Rattle.mv_pack.specs.declared.key.BatchKey.{BatchKey}
+use Rattle.mv_pack.specs.declared.key.PackKey.{PackKey}
+use Rattle.mv_message.specs.Messages.{read_message}
+use Rattle.mv_message.specs.Readers.{master_at, upload_national_at, upload_at, status_at, recall_at, repack_at, withdraw_at, query_at, answer_at}
+use Rattle.mv_message.specs.Found.{found_at}
+use Rattle.mv_message.specs.Reading.{gtin_at, code_at, expiry_at, free_text_at, markets_at, serials_at, standing_at}
+use Rattle.mv_message.specs.Numbers.{moment_at, number_at, count_at}
+use Rattle.mv_message.specs.Reads.{HasNational, ReadsIn, Reads}
+use Rattle.mv_message.proofs.NumberLemmas.{moment_read, number_read, count_read}
+use Rattle.mv_message.proofs.ReadingLemmas.{gtin_read, code_read, expiry_read, free_text_is_read, markets_read, national_read, serials_read, standing_read}
+use Rattle.mv_message.proofs.ChainLemmas.{two_read, three_read, five_read, seven_read, nine_read}
+use Rattle.mv_message.proofs.FormLemmas.{IsIn, reopened}
+use Rattle.mv_message.proofs.FoundLemmas.{found_read}
+use Rattle.mv_message.proofs.SpelledLemmas.{master_made, upload_made, status_made, recall_made, repack_made, withdraw_made, query_made, answer_made, read_is_spelled}
 
-same_bytes : (s t : List ℕ) → bytes_eq s t ≡ true → s ≡ t
-same_bytes s t e = (bytes_eq-Decides s t).0 e
+upload_national_read : (version : Version) (d : Data) (o : Option (List ℕ)) → HasNational version d o → upload_national_at version d ≡ Ok o
+upload_national_read One d o h = ap (λ n. Ok n) (sym h)
+upload_national_read Two d o h = national_read fields.National d o h
 
--- no key is unknown, so each is one of the names
-all_known : (names keys : List (List ℕ)) → find (λ key. not (is_among names key)) keys ≡ None → AllByRecursion (Contains names) keys
-all_known names [] h = tt
-all_known names (k ∷ ks) h = elim (is_among names k) as (λ b. is_among names k ≡ b → cond (not b) (Some k) (find (λ key. not (is_among names key)) ks) ≡ None → Contains names k × AllByRecursion (Contains names) ks) [
-  | true ↦ λ known e. (Contains-from_any same_bytes k names known, all_known names ks e)
-  | false ↦ λ known e. cc
-] refl h
+master_read : (version : Version) (d : Data) (gtin : List ℕ) (product : Product) → ReadsIn version d (messages.Master gtin product) → master_at d ≡ Ok (messages.Master gtin product)
+unfolding master_at
+master_read version d gtin product h =
+    nine_read (free_text_at fields.Common d) (free_text_at fields.Form d) (gtin_at fields.Gtin d) (markets_at fields.Markets d) (free_text_at fields.Name d) (free_text_at fields.PackSize d) (free_text_at fields.PackType d) (free_text_at fields.Scheme d) (free_text_at fields.Strength d) master_made product.common product.form gtin product.markets product.name product.pack_size product.pack_type product.scheme product.strength
+    (free_text_is_read fields.Common d product.common h.2.0) (free_text_is_read fields.Form d product.form h.2.1) (gtin_read fields.Gtin d gtin h.1) (markets_read fields.Markets d product.markets h.2.2) (free_text_is_read fields.Name d product.name h.2.3) (free_text_is_read fields.PackSize d product.pack_size h.2.4) (free_text_is_read fields.PackType d product.pack_type h.2.5) (free_text_is_read fields.Scheme d product.scheme h.2.6) (free_text_is_read fields.Strength d product.strength h.2.7)
 
-none_unknown : (names keys : List (List ℕ)) → AllByRecursion (Contains names) keys → find (λ key. not (is_among names key)) keys ≡ None
-none_unknown names [] h = refl
-none_unknown names (k ∷ ks) h =
-    ap (λ b. cond (not b) (Some k) (find (λ key. not (is_among names key)) ks)) (list_any-from_Contains nat_list_eq_equiv k names h.0)
-    ∙ none_unknown names ks h.1
+upload_read : (version : Version) (d : Data) (gtin : List ℕ) (batch : List ℕ) (expiry : CivilDate) (national : Option (List ℕ)) (serials : List (List ℕ)) → ReadsIn version d (messages.Upload gtin batch expiry national serials) → upload_at version d ≡ Ok (messages.Upload gtin batch expiry national serials)
+unfolding upload_at
+upload_read version d gtin batch expiry national serials h =
+    five_read (code_at fields.Batch d) (expiry_at fields.Expiry d) (gtin_at fields.Gtin d) (upload_national_at version d) (serials_at fields.Serials d) upload_made batch expiry gtin national serials
+    (code_read fields.Batch d batch h.2) (expiry_read fields.Expiry d expiry h.3) (gtin_read fields.Gtin d gtin h.1) (upload_national_read version d national h.4) (serials_read fields.Serials d serials h.5)
 
-unless_ok : (form : Form) (o : Option (List ℕ)) (known : Form) → unless_unknown form o ≡ Ok known → (o ≡ None) × (form ≡ known)
-unless_ok form None known h = (refl, cc)
-unless_ok form (Some key) known h = cc
+status_read : (version : Version) (d : Data) (key : PackKey) (to : Standing) (user : List ℕ) (at : ℕ) → ReadsIn version d (messages.Status key to user at) → status_at d ≡ Ok (messages.Status key to user at)
+unfolding status_at
+status_read version d key to user at h =
+    five_read (moment_at fields.At d) (gtin_at fields.Gtin d) (code_at fields.Serial d) (standing_at fields.To d) (free_text_at fields.User d) status_made at key.gtin key.serial to user
+    (moment_read fields.At d at h.4) (gtin_read fields.Gtin d key.gtin h.1.0) (code_read fields.Serial d key.serial h.1.1) (standing_read fields.To d to h.2) (free_text_is_read fields.User d user h.3)
 
-master_named : (t : List ℕ) → form_named t ≡ Some forms.Master → t ≡ codes "master"
-master_named t h = elim (bytes_eq t (codes "master")) as (λ b. bytes_eq t (codes "master") ≡ b → cond b (Some forms.Master) None ≡ Some forms.Master → t ≡ codes "master")
-    [ true ↦ λ e _. same_bytes t (codes "master") e | false ↦ λ _ e. cc ] refl h
+recall_read : (version : Version) (d : Data) (key : BatchKey) (at : ℕ) → ReadsIn version d (messages.Recall key at) → recall_at d ≡ Ok (messages.Recall key at)
+unfolding recall_at
+recall_read version d key at h =
+    three_read (moment_at fields.At d) (code_at fields.Batch d) (gtin_at fields.Gtin d) recall_made at key.batch key.gtin
+    (moment_read fields.At d at h.2) (code_read fields.Batch d key.batch h.1.1) (gtin_read fields.Gtin d key.gtin h.1.0)
 
--- an object whose form and keys are known
-opened : (d : Data) (m : Message) → read_message d ≡ Ok m → (form : Form) × (form_at d ≡ Ok form) × HasOnly form d × (message_at form d ≡ Ok m)
-unfolding read_message
-opened d m h =
-    let a = both_ok (some_or NotObject (as_object d)) (λ ms. form_at d and_then λ form. known_form_at form ms and_then λ known. message_at known d) m h in
-    let b = both_ok (form_at d) (λ form. known_form_at form a.0 and_then λ known. message_at known d) m a.2 in
-    let k = both_ok (known_form_at b.0 a.0) (λ known. message_at known d) m b.2 in
-    let u = unless_ok b.0 (first_unknown (names_of b.0) a.0) k.0 k.1 in
-    let is_object : d ≡ object a.0 = as_object_ok d a.0 (some_or_ok NotObject (as_object d) a.0 a.1) in
-    (b.0, b.1, (a.0, is_object, all_known (names_of b.0) (keys_of a.0) u.0), ap (λ form. message_at form d) u.1 ∙ k.2)
+repack_read : (version : Version) (d : Data) (before : BatchKey) (before_serials : List (List ℕ)) (after : BatchKey) (after_serials : List (List ℕ)) (at : ℕ) → ReadsIn version d (messages.Repack before before_serials after after_serials at) → repack_at d ≡ Ok (messages.Repack before before_serials after after_serials at)
+unfolding repack_at
+repack_read version d before before_serials after after_serials at h =
+    seven_read (code_at fields.AfterBatch d) (gtin_at fields.AfterGtin d) (serials_at fields.AfterSerials d) (moment_at fields.At d) (code_at fields.BeforeBatch d) (gtin_at fields.BeforeGtin d) (serials_at fields.BeforeSerials d) repack_made after.batch after.gtin after_serials at before.batch before.gtin before_serials
+    (code_read fields.AfterBatch d after.batch h.3.1) (gtin_read fields.AfterGtin d after.gtin h.3.0) (serials_read fields.AfterSerials d after_serials h.4) (moment_read fields.At d at h.5) (code_read fields.BeforeBatch d before.batch h.1.1) (gtin_read fields.BeforeGtin d before.gtin h.1.0) (serials_read fields.BeforeSerials d before_serials h.2)
 
-reopened : (d : Data) (m : Message) (form : Form) → HasOnly form d → form_at d ≡ Ok form → message_at form d ≡ Ok m → read_message d ≡ Ok m
-unfolding read_message
-reopened d m form (ms, is_object, known) named read =
-    ap (λ o. some_or NotObject o and_then λ ms. form_at d and_then λ form. known_form_at form ms and_then λ known. message_at known d) (ap as_object is_object)
-    ∙ ap (λ r. r and_then λ form. known_form_at form ms and_then λ known. message_at known d) named
-    ∙ ap (λ o. unless_unknown form o and_then λ known. message_at known d) (none_unknown (names_of form) (keys_of ms) known)
-    ∙ read
+withdraw_read : (version : Version) (d : Data) (gtin : List ℕ) (at : ℕ) → ReadsIn version d (messages.Withdraw gtin at) → withdraw_at d ≡ Ok (messages.Withdraw gtin at)
+unfolding withdraw_at
+withdraw_read version d gtin at h =
+    two_read (moment_at fields.At d) (gtin_at fields.Gtin d) withdraw_made at gtin
+    (moment_read fields.At d at h.3) (gtin_read fields.Gtin d gtin h.2)
 
--- the steps of reading a product master, by what each field gave
-master_of : (common form gtin : Result (List ℕ) MessageFault) (markets : Result (List (List ℕ)) MessageFault) (name pack_size pack_type scheme strength : Result (List ℕ) MessageFault) → Result Message MessageFault
-master_of common form gtin markets name pack_size pack_type scheme strength =
-    common and_then λ common. form and_then λ form. gtin and_then λ gtin. markets and_then λ markets. name and_then λ name.
-    pack_size and_then λ pack_size. pack_type and_then λ pack_type. scheme and_then λ scheme. strength and_then λ strength.
-    Ok (messages.Master gtin (record {
-      scheme = scheme;
-      name = name;
-      common = common;
-      form = form;
-      strength = strength;
-      pack_type = pack_type;
-      pack_size = pack_size;
-      markets = markets;
-    }))
+query_read : (version : Version) (d : Data) (key : PackKey) → ReadsIn version d (messages.Query key) → query_at d ≡ Ok (messages.Query key)
+unfolding query_at
+query_read version d key h =
+    two_read (gtin_at fields.Gtin d) (code_at fields.Serial d) query_made key.gtin key.serial
+    (gtin_read fields.Gtin d key.gtin h.1.0) (code_read fields.Serial d key.serial h.1.1)
 
--- each field of a master that was read gave its part
-record Parts (c f g : Result (List ℕ) MessageFault) (ms : Result (List (List ℕ)) MessageFault) (n ps pt sc st : Result (List ℕ) MessageFault) (m : Message) : Type 0 where
-  gtin : List ℕ
-  product : Product
-  whole : messages.Master gtin product ≡ m
-  common : c ≡ Ok product.common
-  form : f ≡ Ok product.form
-  code : g ≡ Ok gtin
-  markets : ms ≡ Ok product.markets
-  name : n ≡ Ok product.name
-  pack_size : ps ≡ Ok product.pack_size
-  pack_type : pt ≡ Ok product.pack_type
-  scheme : sc ≡ Ok product.scheme
-  strength : st ≡ Ok product.strength
+answer_read : (version : Version) (d : Data) (asker : ℕ) (q : ℕ) (key : PackKey) (found : Found) → ReadsIn version d (messages.Answer asker q key found) → answer_at version d ≡ Ok (messages.Answer asker q key found)
+unfolding answer_at
+answer_read version d asker q key found h =
+    five_read (number_at fields.Asker d) (found_at version d) (gtin_at fields.Gtin d) (count_at fields.Q d) (code_at fields.Serial d) answer_made asker found key.gtin q key.serial
+    (number_read fields.Asker d asker h.2.0 h.2.1) (found_read version d found h.4) (gtin_read fields.Gtin d key.gtin h.1.0) (count_read fields.Q d q h.3) (code_read fields.Serial d key.serial h.1.1)
 
-parts : (c f g : Result (List ℕ) MessageFault) (ms : Result (List (List ℕ)) MessageFault) (n ps pt sc st : Result (List ℕ) MessageFault) (m : Message) → master_of c f g ms n ps pt sc st ≡ Ok m → Parts c f g ms n ps pt sc st m
-unfolding master_of
-parts (Ok c) (Ok f) (Ok g) (Ok ms) (Ok n) (Ok ps) (Ok pt) (Ok sc) (Ok st) m h =
-    record {
-      gtin = g;
-      product = record { scheme = sc; name = n; common = c; form = f; strength = st; pack_type = pt; pack_size = ps; markets = ms };
-      whole = cc;
-      common = refl;
-      form = refl;
-      code = refl;
-      markets = refl;
-      name = refl;
-      pack_size = refl;
-      pack_type = refl;
-      scheme = refl;
-      strength = refl;
-    }
-parts (Ok c) (Ok f) (Ok g) (Ok ms) (Ok n) (Ok ps) (Ok pt) (Ok sc) (Err e) m h = cc
-parts (Ok c) (Ok f) (Ok g) (Ok ms) (Ok n) (Ok ps) (Ok pt) (Err e) st m h = cc
-parts (Ok c) (Ok f) (Ok g) (Ok ms) (Ok n) (Ok ps) (Err e) sc st m h = cc
-parts (Ok c) (Ok f) (Ok g) (Ok ms) (Ok n) (Err e) pt sc st m h = cc
-parts (Ok c) (Ok f) (Ok g) (Ok ms) (Err e) ps pt sc st m h = cc
-parts (Ok c) (Ok f) (Ok g) (Err e) n ps pt sc st m h = cc
-parts (Ok c) (Ok f) (Err e) ms n ps pt sc st m h = cc
-parts (Ok c) (Err e) g ms n ps pt sc st m h = cc
-parts (Err e) f g ms n ps pt sc st m h = cc
-
-master_spelled : (d : Data) (m : Message) → form_at d ≡ Ok forms.Master → HasOnly forms.Master d → master_at d ≡ Ok m → Reads d m
-unfolding form_at master_at gtin_at markets_at master_of
-master_spelled d m named only h =
-    let t = both_ok (text_at fields.Msg d) (λ t. some_or (Kind fields.Msg) (form_named t)) forms.Master named in
-    let msg : HasText d fields.Msg (codes "master") = text_ok fields.Msg d t.0 t.1 ∙ ap (λ x. Some (string x)) (master_named t.0 (some_or_ok (Kind fields.Msg) (form_named t.0) forms.Master t.2)) in
-    let p = parts (free_text_at fields.Common d) (free_text_at fields.Form d) (gtin_at fields.Gtin d) (markets_at fields.Markets d) (free_text_at fields.Name d)
-    (free_text_at fields.PackSize d) (free_text_at fields.PackType d) (free_text_at fields.Scheme d) (free_text_at fields.Strength d) m h in
-    subst (Reads d) p.whole (
-      only,
-      msg,
-      spelled read_gtin fields.Gtin d p.gtin p.code,
-      (
-        free_text_ok fields.Common d p.product.common p.common,
-        free_text_ok fields.Form d p.product.form p.form,
-        spelled_list read_market MOST_MARKETS fields.Markets d p.product.markets p.markets,
-        free_text_ok fields.Name d p.product.name p.name,
-        free_text_ok fields.PackSize d p.product.pack_size p.pack_size,
-        free_text_ok fields.PackType d p.product.pack_type p.pack_type,
-        free_text_ok fields.Scheme d p.product.scheme p.scheme,
-        free_text_ok fields.Strength d p.product.strength p.strength,
-      ),
-    )
-
-message_spelled : (d : Data) (m : Message) (form : Form) → form_at d ≡ Ok form → HasOnly form d → message_at form d ≡ Ok m → Reads d m
-message_spelled d m forms.Master named only h = master_spelled d m named only h
-
-read_is_spelled : (d : Data) (m : Message) → read_message d ≡ Ok m → Reads d m
-read_is_spelled d m h = let o = opened d m h in message_spelled d m o.0 o.1 o.2 o.3
-
--- a master whose fields gave its parts is read
-master_whole : (c f g : Result (List ℕ) MessageFault) (ms : Result (List (List ℕ)) MessageFault) (n ps pt sc st : Result (List ℕ) MessageFault) (gtin : List ℕ) (p : Product) → c ≡ Ok p.common → f ≡ Ok p.form → g ≡ Ok gtin → ms ≡ Ok p.markets → n ≡ Ok p.name → ps ≡ Ok p.pack_size → pt ≡ Ok p.pack_type → sc ≡ Ok p.scheme → st ≡ Ok p.strength → master_of c f g ms n ps pt sc st ≡ Ok (messages.Master gtin p)
-unfolding master_of
-master_whole c f g ms n ps pt sc st gtin p hc hf hg hms hn hps hpt hsc hst =
-    ap (λ r. master_of r f g ms n ps pt sc st) hc
-    ∙ ap (λ r. master_of (Ok p.common) r g ms n ps pt sc st) hf
-    ∙ ap (λ r. master_of (Ok p.common) (Ok p.form) r ms n ps pt sc st) hg
-    ∙ ap (λ r. master_of (Ok p.common) (Ok p.form) (Ok gtin) r n ps pt sc st) hms
-    ∙ ap (λ r. master_of (Ok p.common) (Ok p.form) (Ok gtin) (Ok p.markets) r ps pt sc st) hn
-    ∙ ap (λ r. master_of (Ok p.common) (Ok p.form) (Ok gtin) (Ok p.markets) (Ok p.name) r pt sc st) hps
-    ∙ ap (λ r. master_of (Ok p.common) (Ok p.form) (Ok gtin) (Ok p.markets) (Ok p.name) (Ok p.pack_size) r sc st) hpt
-    ∙ ap (λ r. master_of (Ok p.common) (Ok p.form) (Ok gtin) (Ok p.markets) (Ok p.name) (Ok p.pack_size) (Ok p.pack_type) r st) hsc
-    ∙ ap (λ r. master_of (Ok p.common) (Ok p.form) (Ok gtin) (Ok p.markets) (Ok p.name) (Ok p.pack_size) (Ok p.pack_type) (Ok p.scheme) r) hst
-
-master_is_read : (d : Data) (product : Product) (gtin : List ℕ) → gtin_at fields.Gtin d ≡ Ok gtin → markets_at fields.Markets d ≡ Ok product.markets → HasProduct d product → master_at d ≡ Ok (messages.Master gtin product)
-unfolding master_at master_of
-master_is_read d p gtin code markets h =
-    let c = free_text_is_read fields.Common d p.common h.0 in
-    let f = free_text_is_read fields.Form d p.form h.1 in
-    let n = free_text_is_read fields.Name d p.name h.3 in
-    let ps = free_text_is_read fields.PackSize d p.pack_size h.4 in
-    let pt = free_text_is_read fields.PackType d p.pack_type h.5 in
-    let sc = free_text_is_read fields.Scheme d p.scheme h.6 in
-    let st = free_text_is_read fields.Strength d p.strength h.7 in
-    master_whole (free_text_at fields.Common d) (free_text_at fields.Form d) (gtin_at fields.Gtin d) (markets_at fields.Markets d) (free_text_at fields.Name d)
-    (free_text_at fields.PackSize d) (free_text_at fields.PackType d) (free_text_at fields.Scheme d) (free_text_at fields.Strength d) gtin p c f code markets n ps pt sc st
-
-spelled_is_read : (d : Data) (m : Message) → Reads d m → read_message d ≡ Ok m
-unfolding form_at gtin_at markets_at
+-- what spells a message is read as it
+pub spelled_is_read : (d : Data) (m : Message) → Reads d m → read_message d ≡ Ok m
 spelled_is_read d (messages.Master gtin product) h =
-    let named : form_at d ≡ Ok forms.Master = ap (λ r. r and_then λ t. some_or (Kind fields.Msg) (form_named t)) (text_is_read fields.Msg d (codes "master") h.1) in
-    reopened d (messages.Master gtin product) forms.Master h.0 named
-    (master_is_read d product gtin (spelling_is_read read_gtin fields.Gtin d gtin h.2) (spelling_list_is_read read_market MOST_MARKETS fields.Markets d product.markets h.3.2) h.3)
-spelled_is_read d (messages.Upload gtin batch expiry national serials) h = absurd h
-spelled_is_read d (messages.Status key to user at) h = absurd h
-spelled_is_read d (messages.Recall key at) h = absurd h
-spelled_is_read d (messages.Repack before before_serials after after_serials at) h = absurd h
-spelled_is_read d (messages.Withdraw gtin at) h = absurd h
-spelled_is_read d (messages.Query key) h = absurd h
-spelled_is_read d (messages.Answer asker q key found) h = absurd h
+    reopened d (messages.Master gtin product) h.0 forms.Master h.1 h.2.0 tt (master_read h.0 d gtin product h.2)
+spelled_is_read d (messages.Upload gtin batch expiry national serials) h =
+    reopened d (messages.Upload gtin batch expiry national serials) h.0 forms.Upload h.1 h.2.0 tt (upload_read h.0 d gtin batch expiry national serials h.2)
+spelled_is_read d (messages.Status key to user at) h =
+    reopened d (messages.Status key to user at) h.0 forms.Status h.1 h.2.0 tt (status_read h.0 d key to user at h.2)
+spelled_is_read d (messages.Recall key at) h =
+    reopened d (messages.Recall key at) h.0 forms.Recall h.1 h.2.0 tt (recall_read h.0 d key at h.2)
+spelled_is_read d (messages.Repack before before_serials after after_serials at) h =
+    reopened d (messages.Repack before before_serials after after_serials at) h.0 forms.Repack h.1 h.2.0 tt (repack_read h.0 d before before_serials after after_serials at h.2)
+spelled_is_read d (messages.Withdraw gtin at) h =
+    let is_in = subst (IsIn forms.Withdraw) (sym h.2.1) tt in
+    reopened d (messages.Withdraw gtin at) h.0 forms.Withdraw h.1 h.2.0 is_in (withdraw_read h.0 d gtin at h.2)
+spelled_is_read d (messages.Query key) h =
+    reopened d (messages.Query key) h.0 forms.Query h.1 h.2.0 tt (query_read h.0 d key h.2)
+spelled_is_read d (messages.Answer asker q key found) h =
+    reopened d (messages.Answer asker q key found) h.0 forms.Answer h.1 h.2.0 tt (answer_read h.0 d asker q key found h.2)
 
 -- a value is read as a message exactly where it is a spelling of it
 pub reads_exactly : (d : Data) (m : Message) → (read_message d ≡ Ok m) ↔ Reads d m
 reads_exactly d m = (read_is_spelled d m, spelled_is_read d m)
 
-markets_legal : (ds : Items) (ms : List (List ℕ)) → SpellEach read_market ds ms → AllByRecursion IsMarket ms
-markets_legal no_items [] h = tt
-markets_legal no_items (m ∷ ms) h = absurd h
-markets_legal (item d ds) [] h = absurd h
-markets_legal (item d ds) (m ∷ ms) h = (read_market_is_market h.0 m h.2, markets_legal ds ms h.3)
+one_meaning : (r : Result Message MessageFault) (m n : Message) → r ≡ Ok m → r ≡ Ok n → m ≡ n
+one_meaning r m n h k = cc
 
-spelled_is_legal : (d : Data) (m : Message) → Reads d m → IsLegal m
-spelled_is_legal d (messages.Master gtin product) h =
-    let p = h.3 in (
-      read_gtin_is_gtin h.2.0 gtin h.2.2,
-      (p.0.1, p.1.1, (p.2.2, p.2.3, markets_legal p.2.0 product.markets p.2.4), p.3.1, p.4.1, p.5.1, p.6.1, p.7.1),
-    )
-spelled_is_legal d (messages.Upload gtin batch expiry national serials) h = absurd h
-spelled_is_legal d (messages.Status key to user at) h = absurd h
-spelled_is_legal d (messages.Recall key at) h = absurd h
-spelled_is_legal d (messages.Repack before before_serials after after_serials at) h = absurd h
-spelled_is_legal d (messages.Withdraw gtin at) h = absurd h
-spelled_is_legal d (messages.Query key) h = absurd h
-spelled_is_legal d (messages.Answer asker q key found) h = absurd h
-
--- what is read is legal
-pub read_is_legal : (d : Data) (m : Message) → read_message d ≡ Ok m → IsLegal m
-read_is_legal d m h = spelled_is_legal d m (read_is_spelled d m h)
-
-markets_spelled : (ms : List (List ℕ)) → AllByRecursion IsMarket ms → SpellEach read_market (strings ms) ms
-markets_spelled [] h = tt
-markets_spelled (m ∷ ms) h = (m, refl, read_market_of m h.0, markets_spelled ms h.1)
-
--- the names of a master's fields, each at its place
-master_names : AllByRecursion (Contains (names_of forms.Master)) (names_of forms.Master)
-master_names = (
-  (0, omega arith, refl),
-  (
-    (1, omega arith, refl),
-    (
-      (2, omega arith, refl),
-      (
-        (3, omega arith, refl),
-        (
-          (4, omega arith, refl),
-          ((5, omega arith, refl), ((6, omega arith, refl), ((7, omega arith, refl), ((8, omega arith, refl), ((9, omega arith, refl), tt))))),
-        ),
-      ),
-    ),
-  ),
-)
-
-value_spells : (m : Message) → IsLegal m → Reads (value_of m) m
-value_spells (messages.Master gtin product) h =
-    let p = h.1 in (
-      (_, refl, master_names),
-      refl,
-      (gtin, refl, read_gtin_of gtin h.0),
-      (
-        (refl, p.0),
-        (refl, p.1),
-        (strings product.markets, refl, p.2.0, p.2.1, markets_spelled product.markets p.2.2),
-        (refl, p.3),
-        (refl, p.4),
-        (refl, p.5),
-        (refl, p.6),
-        (refl, p.7),
-      ),
-    )
-value_spells (messages.Upload gtin batch expiry national serials) h = absurd h
-value_spells (messages.Status key to user at) h = absurd h
-value_spells (messages.Recall key at) h = absurd h
-value_spells (messages.Repack before before_serials after after_serials at) h = absurd h
-value_spells (messages.Withdraw gtin at) h = absurd h
-value_spells (messages.Query key) h = absurd h
-value_spells (messages.Answer asker q key found) h = absurd h
-
--- each legal message is read back from its value
-pub reads_back : (m : Message) → IsLegal m → read_message (value_of m) ≡ Ok m
-reads_back m h = spelled_is_read (value_of m) m (value_spells m h)
-
--- a legal message is read back from text that is JSON of its value
-pub text_reads_back : (m : Message) (t : List ℕ) → IsUtf8 t → read t ≡ Some (value_of m) → IsLegal m → read_bytes t ≡ Ok m
-text_reads_back m t utf8 json h =
-    ap (λ b. cond b (some_or NotJson (read t)) (Err NotJson) and_then read_message) (utf8_test t utf8)
-    ∙ ap (λ o. some_or NotJson o and_then read_message) json
-    ∙ reads_back m h
+-- no value is a spelling of two messages
+pub reads_one : (d : Data) (m n : Message) → Reads d m → Reads d n → m ≡ n
+reads_one d m n h k = one_meaning (read_message d) m n (spelled_is_read d m h) (spelled_is_read d n k)

@@ -1,55 +1,27 @@
--- Messages: the JSON value of each, and what reading a value or bytes gives.
-use Rattle.std.specs.Prelude.{ℕ, List, if◌then◌else◌, Result, Ok, Err}
+-- Messages: what reading a value or bytes gives, and the JSON value of each.
+use Rattle.std.specs.Prelude.{ℕ, List, if◌then◌else◌, Result, Err}
 use Rattle.std.specs.Str.{is_utf8}
 use Rattle.serde_json.specs.Data.{Data}
 use Rattle.serde_json.specs.Find.{as_object}
 use Rattle.serde_json.specs.Read.{read}
-use Rattle.mv_message.specs.declared.field.Field.TheVariants as fields
 use Rattle.mv_message.specs.declared.fault.MessageFault.{MessageFault}
 use Rattle.mv_message.specs.declared.fault.MessageFault.TheVariants.{NotJson, NotObject}
-use Rattle.mv_message.specs.declared.form.Form.{Form}
-use Rattle.mv_message.specs.declared.form.Form.TheVariants as forms
 use Rattle.mv_message.specs.declared.message.Message.{Message}
 use Rattle.mv_message.specs.declared.message.Message.TheVariants as messages
-use Rattle.mv_message.specs.declared.message.Product.{Product}
-use Rattle.mv_message.specs.Reading.{◌and_then◌, some_or, gtin_at, free_text_at, markets_at}
+use Rattle.mv_message.specs.Reading.{◌and_then◌, some_or}
 use Rattle.mv_message.specs.Forms.{form_at, known_form_at}
+use Rattle.mv_message.specs.Readers.{message_at}
+use Rattle.mv_message.specs.Versions.{version_at}
 use Rattle.mv_message.specs.Values.{master_value, upload_value, status_value, recall_value, repack_value, withdraw_value, query_value, answer_value}
 
--- the product master that the fields of an object give, each read in byte order of its name
-unfoldable pub master_at : Data → Result Message MessageFault
-master_at value =
-    free_text_at fields.Common value and_then λ common.
-    free_text_at fields.Form value and_then λ form.
-    gtin_at fields.Gtin value and_then λ gtin.
-    markets_at fields.Markets value and_then λ markets.
-    free_text_at fields.Name value and_then λ name.
-    free_text_at fields.PackSize value and_then λ pack_size.
-    free_text_at fields.PackType value and_then λ pack_type.
-    free_text_at fields.Scheme value and_then λ scheme.
-    free_text_at fields.Strength value and_then λ strength.
-    Ok (messages.Master gtin (record {
-      scheme = scheme;
-      name = name;
-      common = common;
-      form = form;
-      strength = strength;
-      pack_type = pack_type;
-      pack_size = pack_size;
-      markets = markets;
-    }))
-
--- the message of a form that the fields of an object give
-abbrev pub message_at : Form → Data → Result Message MessageFault
-message_at forms.Master value = master_at value
-
--- The message that a value is, or the first fault: M2, those of `msg`, M4, then those of each field.
+-- The message that a value is, or the first fault: M2, M5 of `v`, those of `msg`, M4, then those of each field.
 unfoldable pub read_message : Data → Result Message MessageFault
 read_message value =
     some_or NotObject (as_object value) and_then λ members.
-    form_at value and_then λ form.
-    known_form_at form members and_then λ known.
-    message_at known value
+    version_at value and_then λ version.
+    form_at version value and_then λ form.
+    known_form_at version form members and_then λ known.
+    message_at version known value
 
 -- the value of bytes, else M1
 abbrev pub read_value : List ℕ → Result Data MessageFault

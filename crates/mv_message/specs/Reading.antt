@@ -1,7 +1,9 @@
 -- What reading a part of a JSON value gives: its meaning, or the first fault.
 use Rattle.std.specs.Prelude.{◌≡◌, ◌≢◌, ℕ, suc, ◌==◌, ◌&&◌, ◌||◌, not, Bool, true, nat_lt, if◌then◌else◌, List, [], ◌∷◌, length, is_some, Option, Some, None, Result, Ok, Err}
 use Rattle.serde_json.specs.Data.{Data, Items, no_items, item}
-use Rattle.serde_json.specs.Find.{get, as_str, as_array}
+use Rattle.serde_json.specs.Find.{get, as_null, as_str, as_array}
+use Rattle.mv_pack.specs.Code.{read_code}
+use Rattle.mv_pack.specs.Expiry.{CivilDate, read_expiry}
 use Rattle.mv_pack.specs.Gtin.{read_gtin}
 use Rattle.mv_pack.specs.Market.{read_market}
 use Rattle.mv_pack.specs.declared.fault.PackFault.{PackFault}
@@ -9,8 +11,10 @@ use Rattle.mv_message.specs.declared.field.Field.{Field}
 use Rattle.mv_message.specs.declared.fault.MessageFault.{MessageFault}
 use Rattle.mv_message.specs.declared.fault.MessageFault.TheVariants.{Missing, Kind, Pack, Count, TextLength, Memory}
 use Rattle.mv_message.specs.declared.reading.TheConstants.{MOST_TEXT_BYTES}
-use Rattle.mv_message.specs.declared.lists.TheConstants.{MOST_MARKETS}
+use Rattle.mv_message.specs.declared.lists.TheConstants.{MOST_MARKETS, MOST_SERIALS}
+use Rattle.mv_message.specs.declared.standing.Standing.{Standing}
 use Rattle.mv_message.specs.Fields.{field_name}
+use Rattle.mv_message.specs.Standings.{standing_named}
 
 -- the next step on what was read, or the fault that there was
 infixl 10 ◌and_then◌
@@ -40,6 +44,18 @@ text_at field value = member_at field value and_then λ found. some_or (Kind fie
 unfoldable pub gtin_at : Field → Data → Result (List ℕ) MessageFault
 gtin_at field value = text_at field value and_then λ text. of_field field (read_gtin text)
 
+-- the serial number, batch number or national number of a field: M3, M5, M6
+unfoldable pub code_at : Field → Data → Result (List ℕ) MessageFault
+code_at field value = text_at field value and_then λ text. of_field field (read_code text)
+
+-- the expiry date of a field: M3, M5, M6
+unfoldable pub expiry_at : Field → Data → Result CivilDate MessageFault
+expiry_at field value = text_at field value and_then λ text. of_field field (read_expiry text)
+
+-- the standing of a field: M3, M5
+unfoldable pub standing_at : Field → Data → Result Standing MessageFault
+standing_at field value = text_at field value and_then λ text. some_or (Kind field) (standing_named text)
+
 -- a text of 1 to 200 bytes, else M8
 abbrev pub limited : Field → List ℕ → Result (List ℕ) MessageFault
 limited field text =
@@ -49,7 +65,20 @@ limited field text =
 unfoldable pub free_text_at : Field → Data → Result (List ℕ) MessageFault
 free_text_at field value = text_at field value and_then limited field
 
--- ---- lists of texts
+-- whether a value is `null`
+abbrev pub is_null : Data → Bool
+is_null value = is_some (as_null value)
+
+-- a national number, or none where there is `null`: M5, M6
+abbrev pub national_of : Field → Data → Result (Option (List ℕ)) MessageFault
+national_of field found =
+    if is_null found then Ok None
+    else (some_or (Kind field) (as_str found) and_then λ text.
+    of_field field (read_code text) and_then λ number. Ok (Some number))
+
+-- the national number of a field, or none: M3, M5, M6
+unfoldable pub national_at : Field → Data → Result (Option (List ℕ)) MessageFault
+national_at field value = member_at field value and_then national_of field
 
 -- whether all members of a list are texts
 abbrev pub are_texts : Items → Bool
@@ -83,6 +112,10 @@ read_each reader field (item value items) =
 -- the markets of a field, 1 to 32: M3, M5, M7, M6
 unfoldable pub markets_at : Field → Data → Result (List (List ℕ)) MessageFault
 markets_at field value = texts_at MOST_MARKETS field value and_then read_each read_market field
+
+-- the serial numbers of a field, 1 to 100: M3, M5, M7, M6
+unfoldable pub serials_at : Field → Data → Result (List (List ℕ)) MessageFault
+serials_at field value = texts_at MOST_SERIALS field value and_then read_each read_code field
 
 -- A function returned what reading gives, or memory was refused.
 abbrev pub Gives : {A : Type 0} → Result A MessageFault → Result A MessageFault → Type 0

@@ -1,37 +1,48 @@
--- Which JSON values are which messages, as a relation, and the laws of reading.
-use Rattle.std.specs.Prelude.{◌≡◌, ◌≤◌, ◌↔◌, ℕ, List, [], ◌∷◌, length, codes, Contains, Some, Result, Ok}
+-- Which JSON values are which messages, as a relation.
+use Rattle.std.specs.Prelude.{◌≡◌, ◌≤◌, ◌<◌, ◌^◌, ℕ, false, Bool, List, [], ◌∷◌, length, Contains, Option, Some, None, Result, Ok}
 use Rattle.std.specs.List.{AllByRecursion}
-use Rattle.serde_json.specs.Data.{Data, string, array, object, Items, no_items, item, Members}
+use Rattle.serde_json.specs.Data.{Data, null, boolean, string, array, object, Items, no_items, item, Members}
 use Rattle.serde_json.specs.Find.{get}
-use Rattle.mv_pack.specs.Gtin.{IsGtin, read_gtin}
-use Rattle.mv_pack.specs.Market.{IsMarket, read_market}
+use Rattle.mv_pack.specs.Code.{read_code}
+use Rattle.mv_pack.specs.Expiry.{read_expiry}
+use Rattle.mv_pack.specs.Gtin.{read_gtin}
+use Rattle.mv_pack.specs.Market.{read_market}
+use Rattle.mv_pack.specs.Moment.{IsMoment}
 use Rattle.mv_pack.specs.declared.fault.PackFault.{PackFault}
+use Rattle.mv_pack.specs.declared.key.BatchKey.{BatchKey}
+use Rattle.mv_pack.specs.declared.key.PackKey.{PackKey}
 use Rattle.mv_message.specs.declared.field.Field.{Field}
 use Rattle.mv_message.specs.declared.field.Field.TheVariants as fields
 use Rattle.mv_message.specs.declared.form.Form.{Form}
 use Rattle.mv_message.specs.declared.form.Form.TheVariants as forms
-use Rattle.mv_message.specs.declared.lists.TheConstants.{MOST_MARKETS}
+use Rattle.mv_message.specs.declared.found.Found.{Found}
+use Rattle.mv_message.specs.declared.found.Found.TheVariants.{Absent, Present}
+use Rattle.mv_message.specs.declared.lists.TheConstants.{MOST_MARKETS, MOST_SERIALS}
 use Rattle.mv_message.specs.declared.message.Message.{Message}
 use Rattle.mv_message.specs.declared.message.Message.TheVariants as messages
 use Rattle.mv_message.specs.declared.message.Product.{Product}
-use Rattle.mv_message.specs.declared.reading.TheConstants.{MOST_TEXT_BYTES}
+use Rattle.mv_message.specs.declared.version.Version.{Version}
+use Rattle.mv_message.specs.declared.version.Version.TheVariants.{One, Two}
 use Rattle.mv_message.specs.Fields.{field_name}
-use Rattle.mv_message.specs.Forms.{names_of}
+use Rattle.mv_message.specs.Forms.{form_name, names_of}
+use Rattle.mv_message.specs.Found.{present_names}
+use Rattle.mv_message.specs.Legal.{IsFreeText}
 use Rattle.mv_message.specs.Members.{keys_of}
-use Rattle.mv_message.specs.Messages.{read_message, value_of}
+use Rattle.mv_message.specs.Standings.{standing_name}
+use Rattle.mv_message.specs.Values.{whole}
 
--- the value is an object that has no key but those of the form
-abbrev pub HasOnly : Form → Data → Type 0
-HasOnly form value =
-    (members : Members) × (value ≡ object members) × AllByRecursion (Contains (names_of form)) (keys_of members)
+-- the value is an object that has no key but these
+abbrev pub HasOnly : List (List ℕ) → Data → Type 0
+HasOnly names value =
+    (members : Members) × (value ≡ object members) × AllByRecursion (Contains names) (keys_of members)
+
+-- the field is this value
+abbrev pub Has : Data → Field → Data → Type 0
+Has value field part = get (field_name field) value ≡ Some part
 
 -- the field is this text
 abbrev pub HasText : Data → Field → List ℕ → Type 0
-HasText value field text = get (field_name field) value ≡ Some (string text)
-
--- a text of 1 to 200 bytes
-abbrev pub IsFreeText : List ℕ → Type 0
-IsFreeText text = (1 ≤ length text) × (length text ≤ MOST_TEXT_BYTES)
+HasText value field text = Has value field (string text)
 
 -- the field is this text, of 1 to 200 bytes
 abbrev pub HasFreeText : Data → Field → List ℕ → Type 0
@@ -40,6 +51,11 @@ HasFreeText value field text = HasText value field text × IsFreeText text
 -- the field is a text that the reader takes for x
 abbrev pub Spells : {A : Type 0} → (List ℕ → Result A PackFault) → Data → Field → A → Type 0
 Spells reader value field x = (text : List ℕ) × HasText value field text × (reader text ≡ Ok x)
+
+-- the field is a text of this national number, or `null` where there is none
+abbrev pub SpellsNational : Data → Field → Option (List ℕ) → Type 0
+SpellsNational value field None = Has value field null
+SpellsNational value field (Some number) = Spells read_code value field number
 
 -- the members are texts that the reader takes for these, one for each
 abbrev pub SpellEach : {A : Type 0} → (List ℕ → Result A PackFault) → Items → List A → Type 0
@@ -52,8 +68,25 @@ SpellEach reader (item value items) (x ∷ xs) =
 -- the field is a list of 1 to most texts that the reader takes for these
 abbrev pub SpellsList : {A : Type 0} → (List ℕ → Result A PackFault) → ℕ → Data → Field → List A → Type 0
 SpellsList reader most value field xs =
-    (items : Items) × (get (field_name field) value ≡ Some (array items))
+    (items : Items) × Has value field (array items)
     × (1 ≤ length xs) × (length xs ≤ most) × SpellEach reader items xs
+
+-- the field is a list of 1 to 100 texts of these serial numbers
+abbrev pub SpellsSerials : Data → Field → List (List ℕ) → Type 0
+SpellsSerials value field serials = SpellsList read_code MOST_SERIALS value field serials
+
+-- the field is the number of seconds of this moment
+abbrev pub HasMoment : Data → Field → ℕ → Type 0
+HasMoment value field seconds = Has value field (whole seconds) × IsMoment seconds
+
+-- the object is of that version: the first has no `v`, the second has 2
+abbrev pub IsOfVersion : Version → Data → Type 0
+IsOfVersion One value = get (field_name fields.V) value ≡ None
+IsOfVersion Two value = Has value fields.V (whole 2)
+
+-- the object has the name of the form, and no other key than its fields
+abbrev pub IsOfForm : Version → Form → Data → Type 0
+IsOfForm version form value = HasOnly (names_of version form) value × HasText value fields.Msg (form_name form)
 
 -- the fields are those of the product
 abbrev pub HasProduct : Data → Product → Type 0
@@ -64,37 +97,66 @@ HasProduct value product =
     × HasFreeText value fields.PackType product.pack_type × HasFreeText value fields.Scheme product.scheme
     × HasFreeText value fields.Strength product.strength
 
--- the value is an object with exactly the message's fields, each a spelling of the message's
+-- the fields `gtin` and `serial` are those of the pack
+abbrev pub HasPack : Data → PackKey → Type 0
+HasPack value key = Spells read_gtin value fields.Gtin key.gtin × Spells read_code value fields.Serial key.serial
+
+-- these fields are the product code and the batch number of the batch
+abbrev pub HasBatch : Data → Field → Field → BatchKey → Type 0
+HasBatch value gtin batch key = Spells read_gtin value gtin key.gtin × Spells read_code value batch key.batch
+
+-- the national number of an upload, which version 1 does not have
+abbrev pub HasNational : Version → Data → Option (List ℕ) → Type 0
+HasNational One value national = national ≡ None
+HasNational Two value national = SpellsNational value fields.National national
+
+-- what only version 2 says of a pack that was found: its national number, and whether its product is withdrawn
+abbrev pub HasRest : Version → Data → Option (List ℕ) → Bool → Type 0
+HasRest One value national withdrawn = (national ≡ None) × (withdrawn ≡ false)
+HasRest Two value national withdrawn =
+    SpellsNational value fields.National national × Has value fields.Withdrawn (boolean withdrawn)
+
+-- a part is `null` where nothing was found, else an object with exactly the fields of the pack
+abbrev pub SpellsFound : Version → Data → Found → Type 0
+SpellsFound version part Absent = part ≡ null
+SpellsFound version part (Present batch expiry national standing recalled withdrawn) =
+    HasOnly (present_names version) part
+    × Spells read_code part fields.Batch batch × Spells read_expiry part fields.Expiry expiry
+    × HasText part fields.Standing (standing_name standing) × Has part fields.Recalled (boolean recalled)
+    × HasRest version part national withdrawn
+
+-- the field `found` says what was found
+abbrev pub HasFound : Version → Data → Found → Type 0
+HasFound version value found = (part : Data) × Has value fields.Found part × SpellsFound version part found
+
+-- the value is an object of that version with exactly the message's fields, each a spelling of the message's
+abbrev pub ReadsIn : Version → Data → Message → Type 0
+ReadsIn version value (messages.Master gtin product) =
+    IsOfForm version forms.Master value × Spells read_gtin value fields.Gtin gtin × HasProduct value product
+ReadsIn version value (messages.Upload gtin batch expiry national serials) =
+    IsOfForm version forms.Upload value × Spells read_gtin value fields.Gtin gtin
+    × Spells read_code value fields.Batch batch × Spells read_expiry value fields.Expiry expiry
+    × HasNational version value national × SpellsSerials value fields.Serials serials
+ReadsIn version value (messages.Status key to user at) =
+    IsOfForm version forms.Status value × HasPack value key
+    × HasText value fields.To (standing_name to) × HasFreeText value fields.User user × HasMoment value fields.At at
+ReadsIn version value (messages.Recall key at) =
+    IsOfForm version forms.Recall value × HasBatch value fields.Gtin fields.Batch key × HasMoment value fields.At at
+ReadsIn version value (messages.Repack before before_serials after after_serials at) =
+    IsOfForm version forms.Repack value
+    × HasBatch value fields.BeforeGtin fields.BeforeBatch before
+    × SpellsSerials value fields.BeforeSerials before_serials
+    × HasBatch value fields.AfterGtin fields.AfterBatch after
+    × SpellsSerials value fields.AfterSerials after_serials × HasMoment value fields.At at
+ReadsIn version value (messages.Withdraw gtin at) =
+    IsOfForm version forms.Withdraw value × (version ≡ Two)
+    × Spells read_gtin value fields.Gtin gtin × HasMoment value fields.At at
+ReadsIn version value (messages.Query key) = IsOfForm version forms.Query value × HasPack value key
+ReadsIn version value (messages.Answer asker q key found) =
+    IsOfForm version forms.Answer value × HasPack value key
+    × (Has value fields.Asker (whole asker) × (asker < 2 ^ 32))
+    × (Has value fields.Q (whole q) × (1 ≤ q) × (q < 2 ^ 32)) × HasFound version value found
+
+-- the value is an object with exactly the fields of the message in one of the versions, each a spelling of the message's
 abbrev pub Reads : Data → Message → Type 0
-Reads value (messages.Master gtin product) =
-    HasOnly forms.Master value × HasText value fields.Msg (codes "master")
-    × Spells read_gtin value fields.Gtin gtin × HasProduct value product
-Reads value message = ⊥
-
--- 1 to 32 markets
-abbrev pub AreMarkets : List (List ℕ) → Type 0
-AreMarkets markets = (1 ≤ length markets) × (length markets ≤ MOST_MARKETS) × AllByRecursion IsMarket markets
-
--- the texts and the list keep their limits
-abbrev pub IsLegalProduct : Product → Type 0
-IsLegalProduct product =
-    IsFreeText product.common × IsFreeText product.form × AreMarkets product.markets
-    × IsFreeText product.name × IsFreeText product.pack_size × IsFreeText product.pack_type
-    × IsFreeText product.scheme × IsFreeText product.strength
-
--- the values are those of readers, and texts and lists keep their limits
-abbrev pub IsLegal : Message → Type 0
-IsLegal (messages.Master gtin product) = IsGtin gtin × IsLegalProduct product
-IsLegal message = ⊥
-
--- each legal message is read back from its value
-abbrev pub ReadsBack : Type 0
-ReadsBack = (message : Message) → IsLegal message → read_message (value_of message) ≡ Ok message
-
--- a value is read as a message exactly where it is a spelling of it
-abbrev pub ReadsExactly : Type 0
-ReadsExactly = (value : Data) (message : Message) → (read_message value ≡ Ok message) ↔ Reads value message
-
--- what is read is legal
-abbrev pub ReadIsLegal : Type 0
-ReadIsLegal = (value : Data) (message : Message) → read_message value ≡ Ok message → IsLegal message
+Reads value message = (version : Version) × IsOfVersion version value × ReadsIn version value message

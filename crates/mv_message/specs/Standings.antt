@@ -1,5 +1,5 @@
 -- The standings of packs, by the names that they bear in messages.
-use Rattle.std.specs.Prelude.{ℕ, if◌then◌else◌, List, codes, bytes_eq, Option, Some, None}
+use Rattle.std.specs.Prelude.{ℕ, List, [], ◌∷◌, codes, bytes_eq, find, Option}
 use Rattle.mv_message.specs.declared.standing.Standing.{Standing}
 use Rattle.mv_message.specs.declared.standing.Standing.TheVariants.{Active, Supplied, Exported, Destruction, Sample, FreeSample, Stolen, Repackaged}
 
@@ -14,15 +14,10 @@ standing_name FreeSample = codes "free_sample"
 standing_name Stolen = codes "stolen"
 standing_name Repackaged = codes "repackaged"
 
+-- all standings
+abbrev pub standings : List Standing
+standings = Active ∷ Supplied ∷ Exported ∷ Destruction ∷ Sample ∷ FreeSample ∷ Stolen ∷ Repackaged ∷ []
+
 -- the standing of that name
 abbrev pub standing_named : List ℕ → Option Standing
-standing_named text =
-    if bytes_eq text (codes "active") then Some Active
-    else (if bytes_eq text (codes "supplied") then Some Supplied
-    else (if bytes_eq text (codes "exported") then Some Exported
-    else (if bytes_eq text (codes "destruction") then Some Destruction
-    else (if bytes_eq text (codes "sample") then Some Sample
-    else (if bytes_eq text (codes "free_sample") then Some FreeSample
-    else (if bytes_eq text (codes "stolen") then Some Stolen
-    else (if bytes_eq text (codes "repackaged") then Some Repackaged
-    else None)))))))
+standing_named text = find (λ standing. bytes_eq text (standing_name standing)) standings

@@ -5,17 +5,21 @@ ghost use Rattle.std.specs.List.{list_all};
 ghost use Rattle.serde_json.specs.Data.{string};
 ghost use Rattle.serde_json.specs.Find.{as_str};
 ghost use Rattle.serde_json.specs.View.{view, items_view};
+ghost use Rattle.mv_pack.specs.Code.{read_code};
 ghost use Rattle.mv_pack.specs.Market.{read_market};
-ghost use Rattle.mv_message.specs.Reading.{Gives, texts_at, markets_at, read_item, read_each};
+ghost use Rattle.mv_message.specs.Reading.{Gives, texts_at, markets_at, serials_at, read_item, read_each};
 
 use crate::reading::member_of;
-use crate::{Field, Markets, MessageFault};
+use crate::{Field, Markets, MessageFault, Serials};
 use mv_pack::{Market, Serial};
 use serde_json::Value;
 use std::alloc::{AllocError, Global};
 
 /// How many markets a product has at most.
 pub const MOST_MARKETS: usize = 32;
+
+/// How many serial numbers a list of a message has at most.
+pub const MOST_SERIALS: usize = 100;
 
 /// The members of a field that is a list of 1 to `most` texts: M3, M5, M7.
 #[tactic(auto, using(crate::proofs::ListLemmas::all_are_texts, crate::proofs::ListLemmas::count_is_length), unfolding(crate::specs::Reading::texts_at))]
@@ -64,7 +68,7 @@ fn markets_in(alloc: Global, list: &[Value], field: Field) -> Result<Vec<Market>
     ensures err { IfErr result (λ fault. fault ≢ MessageFault.Memory
         → read_each read_market field (items_view list.now) ≡ Err fault) }
 {
-    let mut markets = Vec::new(alloc);
+    let mut markets = Vec::with_capacity(alloc, list.len())?;
     for value in list {
         markets.push(market_in(value, field)?)?;
     }
@@ -84,11 +88,51 @@ fn market_in(value: &Value, field: Field) -> Result<Market, MessageFault>
     }
 }
 
+/// The serial numbers of a field, 1 to 100: M3, M5, M7, M6.
+#[tactic(auto, unfolding(crate::specs::Reading::serials_at))]
+pub(crate) fn serials_of(
+    alloc: Global,
+    value: &Value,
+    field: Field,
+) -> Result<Serials, MessageFault>
+    ensures { Gives result (serials_at field (view value.now)) }
+{
+    let list = texts_of(value, field, MOST_SERIALS)?;
+    Ok(Serials::new(serials_in(alloc, list, field)?))
+}
+
+/// The serial numbers of a list, or the fault of the first bad member.
+fn serials_in(alloc: Global, list: &[Value], field: Field) -> Result<Vec<Serial>, MessageFault>
+    ensures ok { IfOk result
+        (λ serials. read_each read_code field (items_view list.now) ≡ Ok serials.items) }
+    ensures err { IfErr result (λ fault. fault ≢ MessageFault.Memory
+        → read_each read_code field (items_view list.now) ≡ Err fault) }
+{
+    let mut serials = Vec::with_capacity(alloc, list.len())?;
+    for value in list {
+        serials.push(serial_in(value, field)?)?;
+    }
+    Ok(serials)
+}
+
+/// The serial number of a member.
+fn serial_in(value: &Value, field: Field) -> Result<Serial, MessageFault>
+    ensures { result ≡ read_item read_code field (view value.now) }
+{
+    let Some(text) = value.as_str() else {
+        return Err(MessageFault::Kind(field));
+    };
+    match Serial::read(text) {
+        Ok(serial) => Ok(serial),
+        Err(fault) => Err(MessageFault::Pack(field, fault)),
+    }
+}
+
 /// The texts of markets, as values.
 pub(crate) fn market_values(alloc: Global, markets: &[Market]) -> Result<Vec<Value>, AllocError>
     ensures { IfOk result (λ values. map view values.items ≡ map string markets.now) }
 {
-    let mut values = Vec::new(alloc);
+    let mut values = Vec::with_capacity(alloc, markets.len())?;
     for market in markets {
         values.push(Value::try_from_str(alloc, market.as_str())?)?;
     }
@@ -99,7 +143,7 @@ pub(crate) fn market_values(alloc: Global, markets: &[Market]) -> Result<Vec<Val
 pub(crate) fn serial_values(alloc: Global, serials: &[Serial]) -> Result<Vec<Value>, AllocError>
     ensures { IfOk result (λ values. map view values.items ≡ map string serials.now) }
 {
-    let mut values = Vec::new(alloc);
+    let mut values = Vec::with_capacity(alloc, serials.len())?;
     for serial in serials {
         values.push(Value::try_from_str(alloc, serial.as_str())?)?;
     }

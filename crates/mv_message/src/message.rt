@@ -4,11 +4,11 @@ ghost use Rattle.std.specs.Prelude.{◌≡◌, IfOk, IfErr, IsOk, IsTrue};
 ghost use Rattle.serde_json.specs.View.{view};
 ghost use Rattle.mv_message.specs.Reading.{Gives};
 
-use crate::form::{Form, form_of, known_form};
+use crate::form::{form_of, known_form};
 use crate::found::national_copy;
-use crate::lists::markets_of;
-use crate::reading::{free_text_of, gtin_of};
-use crate::{Field, Found, Markets, MessageFault, Serials, Standing, Text};
+use crate::readers::message_of;
+use crate::version::version_of;
+use crate::{Found, Markets, MessageFault, Serials, Standing, Text};
 use mv_pack::{Batch, BatchKey, Expiry, Gtin, Moment, National, PackKey};
 use serde_json::Value;
 use std::alloc::{AllocError, Global};
@@ -110,7 +110,7 @@ pub enum Message {
 }
 
 impl Message {
-    ghost use Rattle.mv_message.specs.Messages.{read_bytes, read_message, master_at};
+    ghost use Rattle.mv_message.specs.Messages.{read_bytes, read_message};
     ghost use Rattle.mv_message.specs.Kinds.{is_query_or_answer};
 
     /// Reads a message from the bytes of a JSON text.
@@ -145,39 +145,9 @@ impl Message {
         let Some(members) = value.as_object() else {
             return Err(MessageFault::NotObject);
         };
-        let form = known_form(alloc, members, form_of(value)?)?;
-        match form {
-            Form::Master => Message::master_of(alloc, value),
-        }
-    }
-
-    /// The product master that the fields of an object give.
-    #[tactic(auto, unfolding(crate::specs::Messages::master_at))]
-    fn master_of(alloc: Global, value: &Value) -> Result<Message, MessageFault>
-        ensures { Gives result (master_at (view value.now)) }
-    {
-        let common = free_text_of(alloc, value, Field::Common)?;
-        let form = free_text_of(alloc, value, Field::Form)?;
-        let gtin = gtin_of(value, Field::Gtin)?;
-        let markets = markets_of(alloc, value, Field::Markets)?;
-        let name = free_text_of(alloc, value, Field::Name)?;
-        let pack_size = free_text_of(alloc, value, Field::PackSize)?;
-        let pack_type = free_text_of(alloc, value, Field::PackType)?;
-        let scheme = free_text_of(alloc, value, Field::Scheme)?;
-        let strength = free_text_of(alloc, value, Field::Strength)?;
-        Ok(Message::Master {
-            gtin,
-            product: Product {
-                scheme,
-                name,
-                common,
-                form,
-                strength,
-                pack_type,
-                pack_size,
-                markets,
-            },
-        })
+        let version = version_of(value)?;
+        let form = known_form(alloc, members, version, form_of(value, version)?)?;
+        message_of(alloc, value, version, form)
     }
 
     /// A message of its own that equals this one. The only refusal is M9, for want of memory.

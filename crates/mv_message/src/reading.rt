@@ -2,10 +2,11 @@
 
 ghost use Rattle.std.specs.Prelude.{◌≡◌, MatchResult, Ok, Err};
 ghost use Rattle.serde_json.specs.View.{view};
-ghost use Rattle.mv_message.specs.Reading.{member_at, text_at, gtin_at, free_text_at, Gives};
+ghost use Rattle.mv_message.specs.Reading.{member_at, text_at, gtin_at, code_at, expiry_at, standing_at, free_text_at, national_of, national_at, is_null, Gives};
+ghost use Rattle.mv_message.specs.Standings.{standing_named};
 
-use crate::{Field, MessageFault, Text};
-use mv_pack::Gtin;
+use crate::{Field, MessageFault, Standing, Text};
+use mv_pack::{Batch, Expiry, Gtin, National, Serial};
 use serde_json::Value;
 use std::alloc::Global;
 
@@ -44,6 +45,91 @@ pub(crate) fn gtin_of(value: &Value, field: Field) -> Result<Gtin, MessageFault>
     match Gtin::read(text_of(value, field)?) {
         Ok(gtin) => Ok(gtin),
         Err(fault) => Err(MessageFault::Pack(field, fault)),
+    }
+}
+
+/// The serial number of a field: M3, M5, M6.
+#[tactic(auto, unfolding(crate::specs::Reading::code_at))]
+pub(crate) fn serial_of(value: &Value, field: Field) -> Result<Serial, MessageFault>
+    ensures { result ≡ code_at field (view value.now) }
+{
+    match Serial::read(text_of(value, field)?) {
+        Ok(serial) => Ok(serial),
+        Err(fault) => Err(MessageFault::Pack(field, fault)),
+    }
+}
+
+/// The batch number of a field: M3, M5, M6.
+#[tactic(auto, unfolding(crate::specs::Reading::code_at))]
+pub(crate) fn batch_of(value: &Value, field: Field) -> Result<Batch, MessageFault>
+    ensures { result ≡ code_at field (view value.now) }
+{
+    match Batch::read(text_of(value, field)?) {
+        Ok(batch) => Ok(batch),
+        Err(fault) => Err(MessageFault::Pack(field, fault)),
+    }
+}
+
+/// The expiry date of a field: M3, M5, M6.
+#[tactic(auto, unfolding(crate::specs::Reading::expiry_at))]
+pub(crate) fn expiry_of(value: &Value, field: Field) -> Result<Expiry, MessageFault>
+    ensures { result ≡ expiry_at field (view value.now) }
+{
+    match Expiry::read(text_of(value, field)?) {
+        Ok(expiry) => Ok(expiry),
+        Err(fault) => Err(MessageFault::Pack(field, fault)),
+    }
+}
+
+/// The national number of a field, or none where there is `null`: M3, M5, M6.
+#[tactic(auto, unfolding(crate::specs::Reading::national_at))]
+pub(crate) fn national_of(value: &Value, field: Field) -> Result<Option<National>, MessageFault>
+    ensures { result ≡ national_at field (view value.now) }
+{
+    national_in(member_of(value, field)?, field)
+}
+
+/// The national number that a value is, or none where it is `null`: M5, M6.
+fn national_in(found: &Value, field: Field) -> Result<Option<National>, MessageFault>
+    ensures { result ≡ national_of field (view found.now) }
+{
+    if found.is_null() {
+        return Ok(None);
+    }
+    let Some(text) = found.as_str() else {
+        return Err(MessageFault::Kind(field));
+    };
+    match National::read(text) {
+        Ok(number) => Ok(Some(number)),
+        Err(fault) => Err(MessageFault::Pack(field, fault)),
+    }
+}
+
+/// The standing of a field: M3, M5.
+#[tactic(auto, unfolding(crate::specs::Reading::standing_at))]
+pub(crate) fn standing_of(value: &Value, field: Field) -> Result<Standing, MessageFault>
+    ensures { result ≡ standing_at field (view value.now) }
+{
+    match standing_called(text_of(value, field)?) {
+        Some(standing) => Ok(standing),
+        None => Err(MessageFault::Kind(field)),
+    }
+}
+
+/// The standing of that name.
+fn standing_called(name: &str) -> Option<Standing>
+    ensures { result ≡ standing_named name.now }
+{
+    match name {
+        "active" => Some(Standing::Active),
+        "supplied" => Some(Standing::Supplied),
+        "exported" => Some(Standing::Exported),
+        "destruction" => Some(Standing::Destruction),
+        "sample" => Some(Standing::Sample),
+        "free_sample" => Some(Standing::FreeSample),
+        "stolen" => Some(Standing::Stolen),
+        "repackaged" => Some(Standing::Repackaged),
+        _ => None,
     }
 }
 

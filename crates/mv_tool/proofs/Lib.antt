@@ -4,3 +4,5 @@ pub mod RepliesLemmas
 pub mod ListLemmas
 pub mod ReplyLineLemmas
 pub mod ServedLemmas
+pub mod CanonLemmas
+pub mod CommandLemmas

@@ -1,15 +1,19 @@
 -- The values of replies have no fraction, so that their texts are exact.
 use Rattle.std.proofs.Common.{◌≡◌, ◌||◌, ℕ, List, [], ◌∷◌, ap, refl, false}
 use Rattle.serde_json.specs.Written.{has_float, items_have_float}
+use Rattle.mv_pack.specs.declared.fault.PackFault.{PackFault}
+use Rattle.mv_pack.specs.declared.fault.PackFault.TheVariants as pack
+use Rattle.mv_message.specs.Fields.{field_name as message_field_name}
 use Rattle.mv_message.specs.declared.fault.MessageFault.{MessageFault}
 use Rattle.mv_message.specs.declared.fault.MessageFault.TheVariants as message
 use Rattle.mv_machine.specs.declared.reply.Reply.{Reply}
-use Rattle.mv_machine.specs.declared.reply.Reply.TheVariants.{Submitted, Routed, Relayed, Applied, Old, Gap, Refused}
+use Rattle.mv_machine.specs.declared.reply.Reply.TheVariants.{Submitted, Routed, Relayed, Applied, Old, Gap, Repeated, Closed, Lost, Refused}
 use Rattle.mv_machine.specs.declared.reply.Refusal.{Refusal}
 use Rattle.mv_machine.specs.declared.reply.Refusal.TheVariants as refusals
 use Rattle.mv_tool.specs.declared.line_fault.LineFault.{LineFault}
 use Rattle.mv_tool.specs.declared.line_fault.LineFault.TheVariants as line
-use Rattle.mv_tool.specs.ReplyLines.{wholes, reply_value, refusal_value, message_fault_value, line_fault_value}
+use Rattle.mv_tool.specs.Fields.{field_name}
+use Rattle.mv_tool.specs.ReplyLines.{wholes, refused_pack, reply_value, refusal_value, message_fault_value, line_fault_value}
 
 wholes_no_float : (ns : List ℕ) → items_have_float (wholes ns) ≡ false
 wholes_no_float [] = refl
@@ -17,13 +21,17 @@ wholes_no_float (n ∷ ns) = wholes_no_float ns
 
 refusal_no_float : (refusal : Refusal) → has_float (refusal_value refusal) ≡ false
 refusal_no_float refusals.Party = refl
+refusal_no_float refusals.NotYours = refl
 refusal_no_float refusals.UplinkFull = refl
 refusal_no_float refusals.SenderFull = refl
 refusal_no_float refusals.UplinkEmpty = refl
 refusal_no_float (refusals.Busy party) = refl
 refusal_no_float refusals.WireFull = refl
 refusal_no_float refusals.WireEmpty = refl
+refusal_no_float refusals.NotSent = refl
+refusal_no_float refusals.Gone = refl
 refusal_no_float refusals.Nothing = refl
+refusal_no_float refusals.AlreadyClosed = refl
 refusal_no_float refusals.Memory = refl
 
 -- the value of a reply to a step
@@ -34,13 +42,28 @@ reply_no_float (Relayed n) = refl
 reply_no_float (Applied n effect) = refl
 reply_no_float (Old n) = refl
 reply_no_float (Gap n expected) = refl
+reply_no_float (Repeated n) = refl
+reply_no_float Closed = refl
+reply_no_float (Lost n) = refl
 reply_no_float (Refused refusal) = refusal_no_float refusal
 
-message_fault_no_float : (fault : MessageFault) → has_float (message_fault_value fault) ≡ false
+pack_no_float : (fault : PackFault) (field : List ℕ) → has_float (refused_pack fault field) ≡ false
+pack_no_float pack.Length field = refl
+pack_no_float pack.Digit field = refl
+pack_no_float pack.CheckDigit field = refl
+pack_no_float pack.Empty field = refl
+pack_no_float pack.TooLong field = refl
+pack_no_float (pack.Character place) field = refl
+pack_no_float pack.Date field = refl
+pack_no_float pack.Market field = refl
+pack_no_float pack.Moment field = refl
+
+-- the value of the refusal of a message
+pub message_fault_no_float : (fault : MessageFault) → has_float (message_fault_value fault) ≡ false
 message_fault_no_float (message.Missing field) = refl
 message_fault_no_float (message.Unknown key) = refl
 message_fault_no_float (message.Kind field) = refl
-message_fault_no_float (message.Pack field fault) = refl
+message_fault_no_float (message.Pack field fault) = pack_no_float fault (message_field_name field)
 message_fault_no_float (message.Count field) = refl
 message_fault_no_float (message.TextLength field) = refl
 message_fault_no_float message.NotJson = refl
@@ -54,6 +77,6 @@ line_fault_no_float line.NotObject = refl
 line_fault_no_float (line.Missing field) = refl
 line_fault_no_float (line.Unknown key) = refl
 line_fault_no_float (line.Kind field) = refl
-line_fault_no_float (line.Pack field fault) = refl
+line_fault_no_float (line.Pack field fault) = pack_no_float fault (field_name field)
 line_fault_no_float (line.Message fault) = message_fault_no_float fault
 line_fault_no_float line.Memory = refl

@@ -8,6 +8,7 @@ abbrev pub field_name : LineField → List ℕ
 field_name fields.Do = codes "do"
 field_name fields.From = codes "from"
 field_name fields.Message = codes "message"
+field_name fields.Number = codes "number"
 field_name fields.Parties = codes "parties"
 field_name fields.Submissions = codes "submissions"
 field_name fields.To = codes "to"

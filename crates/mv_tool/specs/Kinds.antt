@@ -19,7 +19,10 @@ kind_named text =
     else (if bytes_eq text (codes "route") then Some kinds.Route
     else (if bytes_eq text (codes "relay") then Some kinds.Relay
     else (if bytes_eq text (codes "apply") then Some kinds.Apply
-    else None))))
+    else (if bytes_eq text (codes "repeat") then Some kinds.Repeat
+    else (if bytes_eq text (codes "close") then Some kinds.Close
+    else (if bytes_eq text (codes "lose") then Some kinds.Lose
+    else None)))))))
 
 -- the fields of a line, in byte order of their names
 abbrev pub fields_of : LineKind → List LineField
@@ -29,6 +32,9 @@ fields_of kinds.Submit = fields.Do ∷ fields.From ∷ fields.Message ∷ []
 fields_of kinds.Route = fields.Do ∷ fields.From ∷ []
 fields_of kinds.Relay = fields.Do ∷ fields.From ∷ fields.To ∷ []
 fields_of kinds.Apply = fields.Do ∷ fields.From ∷ fields.To ∷ []
+fields_of kinds.Repeat = fields.Do ∷ fields.From ∷ fields.Number ∷ fields.To ∷ []
+fields_of kinds.Close = fields.Do ∷ fields.From ∷ fields.To ∷ []
+fields_of kinds.Lose = fields.Do ∷ fields.From ∷ fields.To ∷ []
 
 -- the names of these fields
 abbrev pub names_of : LineKind → List (List ℕ)

@@ -9,4 +9,6 @@ pub mod Requests
 pub mod ReplyLines
 pub mod Openings
 pub mod Sessions
+pub mod Canon
 pub mod Statuses
+pub mod Commands

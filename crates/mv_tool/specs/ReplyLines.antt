@@ -1,14 +1,16 @@
 -- The JSON value of each reply. Its text is the value's compact text: no blanks, the keys in byte order.
-use Rattle.std.specs.Prelude.{ℕ, List, map, codes}
-use Rattle.serde_json.specs.Data.{Data, number, unsigned, string, array, object, Items, no_members, member}
+use Rattle.std.specs.Prelude.{ℕ, List, map, codes, true}
+use Rattle.serde_json.specs.Data.{Data, boolean, number, unsigned, string, array, object, Items, no_members, member}
 use Rattle.serde_json.specs.View.{items_of}
 use Rattle.mv_pack.specs.Fault.{code_of as pack_code}
+use Rattle.mv_pack.specs.declared.fault.PackFault.{PackFault}
+use Rattle.mv_pack.specs.declared.fault.PackFault.TheVariants.{Character}
 use Rattle.mv_message.specs.Fields.{field_name as message_field_name}
 use Rattle.mv_message.specs.declared.fault.MessageFault.{MessageFault}
 use Rattle.mv_message.specs.declared.fault.MessageFault.TheVariants as message
 use Rattle.mv_repository.specs.Effect.{code_of as effect_code}
 use Rattle.mv_machine.specs.declared.reply.Reply.{Reply}
-use Rattle.mv_machine.specs.declared.reply.Reply.TheVariants.{Submitted, Routed, Relayed, Applied, Old, Gap, Refused}
+use Rattle.mv_machine.specs.declared.reply.Reply.TheVariants.{Submitted, Routed, Relayed, Applied, Old, Gap, Repeated, Closed, Lost, Refused}
 use Rattle.mv_machine.specs.declared.reply.Refusal.{Refusal}
 use Rattle.mv_machine.specs.declared.reply.Refusal.TheVariants.{Busy}
 use Rattle.mv_machine.specs.Replies.{code_of as refusal_code}
@@ -37,10 +39,15 @@ abbrev pub refused_field : List ℕ → List ℕ → Data
 refused_field field code =
     object (member (codes "field") (string field) (member (codes "refused") (string code) no_members))
 
--- the refusal of a text that is no value (M6): why it is none, and its field
-abbrev pub refused_pack : List ℕ → List ℕ → Data
+-- the refusal of a text that is no value (M6): why it is none, its field, and for P6 the place of the character
+abbrev pub refused_pack : PackFault → List ℕ → Data
+refused_pack (Character place) field =
+    object (member (codes "fault") (string (codes "P6"))
+    (member (codes "field") (string field)
+    (member (codes "place") (whole place)
+    (member (codes "refused") (string (codes "M6")) no_members))))
 refused_pack fault field =
-    object (member (codes "fault") (string fault)
+    object (member (codes "fault") (string (pack_code fault))
     (member (codes "field") (string field)
     (member (codes "refused") (string (codes "M6")) no_members)))
 
@@ -49,7 +56,7 @@ abbrev pub message_fault_value : MessageFault → Data
 message_fault_value (message.Missing field) = refused_field (message_field_name field) (codes "M3")
 message_fault_value (message.Unknown key) = refused_field key (codes "M4")
 message_fault_value (message.Kind field) = refused_field (message_field_name field) (codes "M5")
-message_fault_value (message.Pack field fault) = refused_pack (pack_code fault) (message_field_name field)
+message_fault_value (message.Pack field fault) = refused_pack fault (message_field_name field)
 message_fault_value (message.Count field) = refused_field (message_field_name field) (codes "M7")
 message_fault_value (message.TextLength field) = refused_field (message_field_name field) (codes "M8")
 message_fault_value message.NotJson = refused (codes "M1")
@@ -63,7 +70,7 @@ line_fault_value line.NotObject = refused (codes "M2")
 line_fault_value (line.Missing field) = refused_field (field_name field) (codes "M3")
 line_fault_value (line.Unknown key) = refused_field key (codes "M4")
 line_fault_value (line.Kind field) = refused_field (field_name field) (codes "M5")
-line_fault_value (line.Pack field fault) = refused_pack (pack_code fault) (field_name field)
+line_fault_value (line.Pack field fault) = refused_pack fault (field_name field)
 line_fault_value (line.Message fault) = message_fault_value fault
 line_fault_value line.Memory = refused (codes "M9")
 
@@ -88,4 +95,7 @@ reply_value (Applied n effect) =
 reply_value (Old n) = numbered (codes "old") n
 reply_value (Gap n expected) =
     object (member (codes "expected") (whole expected) (member (codes "gap") (whole n) no_members))
+reply_value (Repeated n) = numbered (codes "repeated") n
+reply_value Closed = object (member (codes "closed") (boolean true) no_members)
+reply_value (Lost n) = numbered (codes "lost") n
 reply_value (Refused refusal) = refusal_value refusal

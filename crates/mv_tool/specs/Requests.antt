@@ -50,6 +50,28 @@ apply_at value =
     number_at fields.To value and_then λ to.
     Ok (Step (steps.Apply from to))
 
+-- the repetition of a frame that the fields of a line ask
+unfoldable pub repeat_at : Data → Result Request LineFault
+repeat_at value =
+    number_at fields.From value and_then λ from.
+    number_at fields.Number value and_then λ number.
+    number_at fields.To value and_then λ to.
+    Ok (Step (steps.Repeat from to number))
+
+-- the closing of a link that the fields of a line ask
+unfoldable pub close_at : Data → Result Request LineFault
+close_at value =
+    number_at fields.From value and_then λ from.
+    number_at fields.To value and_then λ to.
+    Ok (Step (steps.Close from to))
+
+-- the loss of a frame that the fields of a line ask
+unfoldable pub lose_at : Data → Result Request LineFault
+lose_at value =
+    number_at fields.From value and_then λ from.
+    number_at fields.To value and_then λ to.
+    Ok (Step (steps.Lose from to))
+
 -- what the fields of a line of a kind ask
 abbrev pub request_at : LineKind → Data → Result Request LineFault
 request_at kinds.Open value = open_at value
@@ -57,6 +79,9 @@ request_at kinds.Submit value = submit_at value
 request_at kinds.Route value = route_at value
 request_at kinds.Relay value = relay_at value
 request_at kinds.Apply value = apply_at value
+request_at kinds.Repeat value = repeat_at value
+request_at kinds.Close value = close_at value
+request_at kinds.Lose value = lose_at value
 
 -- What the value of a line asks, or the first fault: M2, those of `do`, M4, then those of each field.
 unfoldable pub read_request : Data → Result Request LineFault

@@ -1,23 +1,35 @@
 //! The command line: which words run what, and the exit status.
 
-ghost use Rattle.std.specs.Prelude.{◌≤◌};
+ghost use Rattle.std.specs.Prelude.{◌≡◌, ◌≤◌, None, IfOk, MatchResult, Some, map, codes, string_bytes, option_and_then};
+ghost use Rattle.std.specs.Io.KnownBytes.{Keeps};
+ghost use Rattle.clap.specs.Words.{app_of, fault_of, FailsBy, subcommand_name_of};
+ghost use Rattle.clap.specs.Values.{kind_of};
+ghost use Rattle.clap.specs.declared.error.kind.ErrorKind.TheVariants.{OutOfMemory};
+ghost use Rattle.mv_tool.specs.Canon.{IsCanon};
+ghost use Rattle.mv_tool.specs.Commands.{command_line, task_called, AsksFor, AreNotTaken, AreMistaken, IsMistake, RanLines};
+ghost use Rattle.mv_tool.specs.Sessions.{IsReply};
+ghost use Rattle.mv_tool.specs.Statuses.{status_code};
+ghost use Rattle.mv_tool.specs.declared.status.Status.{Status as AStatus};
 
 use crate::output::put_out;
-use crate::{ServeFault, Status, serve};
+use crate::{ServeFault, Status, canon, serve};
 use clap::{ArgMatches, Command, Error};
 use std::alloc::{AllocError, Global};
 use std::io::{Read, Write};
 
 /// What the words ask for.
+#[derive(Clone, Copy)]
 enum Task {
     /// `steps`: to answer steps, a line each.
     Steps,
+    /// `canon`: to write messages as their canonical texts, a line each.
+    Canon,
 }
 
 /// Reads the words, the program's name first, runs what they ask for, and answers the exit status, that of a `Status`.
 ///
 /// What is read comes from `reader`, what is asked for goes to `writer`, help too, and what went wrong to `faults`. A
-/// write to `faults` that fails is passed over. No clause says more: the text of a parse is its library's.
+/// write to `faults` that fails is passed over. The texts of help and of mistakes are their library's.
 pub fn command<R: Read, W: Write, F: Write>(
     alloc: Global,
     words: Vec<String>,
@@ -25,51 +37,88 @@ pub fn command<R: Read, W: Write, F: Write>(
     writer: &mut W,
     faults: &mut F,
 ) -> u8
-    ensures { result ≤ 2 }
+    ensures few { result ≤ 2 }
+    ensures steps { AsksFor (codes "steps") (map string_bytes words.items) → (status : AStatus)
+        × (result ≡ status_code status)
+        × RanLines IsReply None status (R.remaining reader.old) (R.remaining reader.new)
+        (W.contents writer.old) (W.contents writer.new) }
+    ensures canon { AsksFor (codes "canon") (map string_bytes words.items) → (status : AStatus)
+        × (result ≡ status_code status)
+        × RanLines IsCanon tt status (R.remaining reader.old) (R.remaining reader.new)
+        (W.contents writer.old) (W.contents writer.new) }
+    ensures mistaken { AreMistaken (map string_bytes words.items) → result ≡ 2 }
+    // Such words are mistaken, or a call for help.
+    ensures unread { AreNotTaken (map string_bytes words.items)
+        → Keeps (R.remaining reader.old) (R.remaining reader.new) }
+    ensures unwritten { result ≡ 2 → Keeps (W.contents writer.old) (W.contents writer.new) }
 {
-    run(alloc, words, reader, writer, faults).code()
+    run(alloc, words.as_slice(), reader, writer, faults).code()
 }
 
 /// Reads the words and runs what they ask for.
 fn run<R: Read, W: Write, F: Write>(
     alloc: Global,
-    words: Vec<String>,
+    words: &[String],
     reader: &mut R,
     writer: &mut W,
     faults: &mut F,
-) -> Status {
-    let line = match command_line(alloc) {
-        Ok(line) => line,
-        Err(error) => return explain(alloc, &Error::from(error), writer, faults),
-    };
-    let matches = match line.try_get_matches_from(words.as_slice()) {
-        Ok(matches) => matches,
-        Err(error) => return explain(alloc, &error, writer, faults),
-    };
-    match task_of(&matches) {
-        Some(Task::Steps) => {
-            let ended = serve(alloc, reader, writer);
-            status_of(ended, faults)
-        }
-        None => Status::Refused,
+) -> Status
+    ensures steps { AsksFor (codes "steps") (map string_bytes words.now)
+        → RanLines IsReply None result (R.remaining reader.old) (R.remaining reader.new)
+        (W.contents writer.old) (W.contents writer.new) }
+    ensures canon { AsksFor (codes "canon") (map string_bytes words.now)
+        → RanLines IsCanon tt result (R.remaining reader.old) (R.remaining reader.new)
+        (W.contents writer.old) (W.contents writer.new) }
+    ensures mistaken { AreMistaken (map string_bytes words.now) → result ≡ Status.Refused }
+    ensures unread { AreNotTaken (map string_bytes words.now)
+        → Keeps (R.remaining reader.old) (R.remaining reader.new) }
+    ensures unwritten { result ≡ Status.Refused
+        → Keeps (W.contents writer.old) (W.contents writer.new) }
+{
+    match task_of(alloc, words) {
+        Ok(Some(Task::Steps)) => status_of(serve(alloc, reader, writer), faults),
+        Ok(Some(Task::Canon)) => status_of(canon(alloc, reader, writer), faults),
+        Ok(None) => Status::Refused,
+        Err(error) => explain(alloc, &error, writer, faults),
     }
 }
 
+/// What the words ask for, or why they ask for nothing.
+fn task_of(alloc: Global, words: &[String]) -> Result<Option<Task>, Error>
+    ensures steps { AsksFor (codes "steps") (map string_bytes words.now) → MatchResult result
+        (λ task. task ≡ Some Task.Steps) (λ error. kind_of error ≡ OutOfMemory) }
+    ensures canon { AsksFor (codes "canon") (map string_bytes words.now) → MatchResult result
+        (λ task. task ≡ Some Task.Canon) (λ error. kind_of error ≡ OutOfMemory) }
+    ensures taken { FailsBy (fault_of command_line (map string_bytes words.now)) result }
+{
+    let line = command_line(alloc)?;
+    let matches = line.try_get_matches_from(words)?;
+    Ok(task_named(&matches))
+}
+
 /// The command line that the program takes.
-fn command_line<'a>(alloc: Global) -> Result<Command<'a>, AllocError> {
+fn command_line<'a>(alloc: Global) -> Result<Command<'a>, AllocError>
+    ensures { IfOk result (λ line. app_of line ≡ command_line) }
+{
     let steps = Command::new(alloc, "steps").about(
         "Answers steps: a JSON object a line, from standard input to standard output",
+    );
+    let canon = Command::new(alloc, "canon").about(
+        "Writes messages as their canonical texts: a JSON object a line, from standard input to standard output",
     );
     Command::new(alloc, "mvhub")
         .about("The hub of the medicines verification system, and the national repositories")
         .subcommand_required(true)
-        .subcommand(steps)
+        .subcommand(steps)?
+        .subcommand(canon)
 }
-
-/// What was asked for.
-fn task_of(matches: &ArgMatches<'_>) -> Option<Task> {
+/// The task that the subcommand names.
+fn task_named(matches: &ArgMatches<'_>) -> Option<Task>
+    ensures { result ≡ option_and_then task_called (subcommand_name_of matches.now) }
+{
     match matches.subcommand() {
         Some(("steps", _)) => Some(Task::Steps),
+        Some(("canon", _)) => Some(Task::Canon),
         _ => None,
     }
 }
@@ -80,7 +129,11 @@ fn explain<W: Write, F: Write>(
     error: &Error,
     writer: &mut W,
     faults: &mut F,
-) -> Status {
+) -> Status
+    ensures mistaken { IsMistake (kind_of error.now) → result ≡ Status.Refused }
+    ensures unwritten { result ≡ Status.Refused
+        → Keeps (W.contents writer.old) (W.contents writer.new) }
+{
     if error.use_stderr() {
         let _ = write!(faults, "{error}");
         return Status::Refused;
@@ -98,7 +151,9 @@ fn explain<W: Write, F: Write>(
 }
 
 /// The status of a run that has ended. A fault is told by its number.
-fn status_of<F: Write>(ended: Result<(), ServeFault>, faults: &mut F) -> Status {
+fn status_of<F: Write>(ended: Result<(), ServeFault>, faults: &mut F) -> Status
+    ensures { MatchResult ended (λ _. result ≡ Status.Done) (λ _. result ≡ Status.Failed) }
+{
     match ended {
         Ok(()) => Status::Done,
         Err(fault) => {

@@ -11,6 +11,8 @@ pub(crate) enum LineField {
     From,
     /// `message`: the message to submit.
     Message,
+    /// `number`: the number of a frame.
+    Number,
     /// `parties`: the markets that each party serves.
     Parties,
     /// `submissions`: how many messages each party submits at most.
@@ -36,6 +38,7 @@ impl LineField {
             LineField::Do => "do",
             LineField::From => "from",
             LineField::Message => "message",
+            LineField::Number => "number",
             LineField::Parties => "parties",
             LineField::Submissions => "submissions",
             LineField::To => "to",

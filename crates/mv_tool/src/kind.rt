@@ -25,6 +25,12 @@ pub(crate) enum LineKind {
     Relay,
     /// `apply`: a repository takes the front frame of a wire.
     Apply,
+    /// `repeat`: a frame of a link goes on its wire again.
+    Repeat,
+    /// `close`: a link is closed.
+    Close,
+    /// `lose`: the front frame of a wire is lost.
+    Lose,
 }
 
 impl LineKind {
@@ -38,6 +44,9 @@ impl LineKind {
             LineKind::Route => &["do", "from"],
             LineKind::Relay => &["do", "from", "to"],
             LineKind::Apply => &["do", "from", "to"],
+            LineKind::Repeat => &["do", "from", "number", "to"],
+            LineKind::Close => &["do", "from", "to"],
+            LineKind::Lose => &["do", "from", "to"],
         }
     }
 }
@@ -52,6 +61,9 @@ fn kind_called(name: &str) -> Option<LineKind>
         "route" => Some(LineKind::Route),
         "relay" => Some(LineKind::Relay),
         "apply" => Some(LineKind::Apply),
+        "repeat" => Some(LineKind::Repeat),
+        "close" => Some(LineKind::Close),
+        "lose" => Some(LineKind::Lose),
         _ => None,
     }
 }

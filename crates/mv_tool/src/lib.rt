@@ -5,6 +5,7 @@
 #![tactic(auto)]
 
 mod answering;
+mod canonical;
 mod command_line;
 mod engine;
 mod fault;
@@ -23,6 +24,7 @@ mod session;
 mod status;
 mod steps;
 
+pub use canonical::canon;
 pub use command_line::command;
 pub use fault::ServeFault;
 use field::LineField;

@@ -8,6 +8,7 @@ ghost use Rattle.mv_tool.specs.ReplyLines.{whole, refused, refused_field, refuse
 use crate::LineFault;
 use mv_machine::{Refusal, Reply};
 use mv_message::{MessageFault, Party};
+use mv_pack::PackFault;
 use serde_json::{Value, json};
 use std::alloc::{AllocError, Global};
 
@@ -25,6 +26,14 @@ pub(crate) fn line_fault_text(alloc: Global, fault: &LineFault) -> Result<String
     ensures { IfOk result (λ text. string_bytes text ≡ compact_text (line_fault_value fault.now)) }
 {
     line_fault_to_value(alloc, fault)?.to_string(alloc)
+}
+
+/// The text of the refusal of a message.
+#[tactic(auto, using(crate::proofs::ReplyLineLemmas::message_fault_no_float))]
+pub(crate) fn message_fault_text(alloc: Global, fault: &MessageFault) -> Result<String, AllocError>
+    ensures { IfOk result (λ text. string_bytes text ≡ compact_text (message_fault_value fault.now)) }
+{
+    message_fault_to_value(alloc, fault)?.to_string(alloc)
 }
 
 /// The text of the reply to an opening with so many parties.
@@ -59,6 +68,9 @@ fn reply_to_value(alloc: Global, reply: &Reply) -> Result<Value, AllocError>
         Reply::Gap { number, expected } => {
             json!(in alloc; { "expected": *expected, "gap": *number })
         }
+        Reply::Repeated { number } => json!(in alloc; { "repeated": *number }),
+        Reply::Closed => json!(in alloc; { "closed": true }),
+        Reply::Lost { number } => json!(in alloc; { "lost": *number }),
         Reply::Refused(refusal) => refusal_to_value(alloc, *refusal),
     }
 }
@@ -94,7 +106,7 @@ fn line_fault_to_value(alloc: Global, fault: &LineFault) -> Result<Value, AllocE
         LineFault::Missing(field) => refused_field(alloc, field.as_str(), "M3"),
         LineFault::Unknown(key) => refused_field(alloc, key.as_str(), "M4"),
         LineFault::Kind(field) => refused_field(alloc, field.as_str(), "M5"),
-        LineFault::Pack(field, fault) => refused_pack(alloc, fault.code(), field.as_str()),
+        LineFault::Pack(field, fault) => refused_pack(alloc, *fault, field.as_str()),
         LineFault::Message(fault) => message_fault_to_value(alloc, fault),
         LineFault::Memory => refused(alloc, "M9"),
     }
@@ -109,7 +121,7 @@ fn message_fault_to_value(alloc: Global, fault: &MessageFault) -> Result<Value, 
         MessageFault::Missing(field) => refused_field(alloc, field.as_str(), code),
         MessageFault::Unknown(key) => refused_field(alloc, key.as_str(), code),
         MessageFault::Kind(field) => refused_field(alloc, field.as_str(), code),
-        MessageFault::Pack(field, fault) => refused_pack(alloc, fault.code(), field.as_str()),
+        MessageFault::Pack(field, fault) => refused_pack(alloc, *fault, field.as_str()),
         MessageFault::Count(field) => refused_field(alloc, field.as_str(), code),
         MessageFault::TextLength(field) => refused_field(alloc, field.as_str(), code),
         MessageFault::NotJson => refused(alloc, code),
@@ -139,9 +151,15 @@ fn refused_field(alloc: Global, field: &str, code: &str) -> Result<Value, AllocE
     json!(in alloc; { "field": field, "refused": code })
 }
 
-/// The value of the refusal of a text that is no value (M6).
-fn refused_pack(alloc: Global, fault: &str, field: &str) -> Result<Value, AllocError>
-    ensures { IfOk result (λ value. view value ≡ refused_pack fault.now field.now) }
+/// The value of the refusal of a text that is no value (M6). That of P6 has the place of the character.
+fn refused_pack(alloc: Global, fault: PackFault, field: &str) -> Result<Value, AllocError>
+    ensures { IfOk result (λ value. view value ≡ refused_pack fault field.now) }
 {
-    json!(in alloc; { "fault": fault, "field": field, "refused": "M6" })
+    let code = fault.code();
+    match fault {
+        PackFault::Character(place) => {
+            json!(in alloc; { "fault": code, "field": field, "place": place, "refused": "M6" })
+        }
+        _ => json!(in alloc; { "fault": code, "field": field, "refused": "M6" }),
+    }
 }

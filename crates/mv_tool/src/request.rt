@@ -3,7 +3,7 @@
 ghost use Rattle.std.specs.Prelude.{◌≡◌};
 ghost use Rattle.serde_json.specs.View.{view};
 ghost use Rattle.mv_tool.specs.Reading.{Gives};
-ghost use Rattle.mv_tool.specs.Requests.{open_at, submit_at, route_at, relay_at, apply_at, request_at, read_request, read_line};
+ghost use Rattle.mv_tool.specs.Requests.{open_at, submit_at, route_at, relay_at, apply_at, repeat_at, close_at, lose_at, request_at, read_request, read_line};
 
 use crate::kind::{LineKind, kind_of, known_kind};
 use crate::market_lists::market_lists_of;
@@ -72,6 +72,9 @@ impl Request {
             LineKind::Route => Request::route_of(value),
             LineKind::Relay => Request::relay_of(value),
             LineKind::Apply => Request::apply_of(value),
+            LineKind::Repeat => Request::repeat_of(value),
+            LineKind::Close => Request::close_of(value),
+            LineKind::Lose => Request::lose_of(value),
         }
     }
 
@@ -131,5 +134,36 @@ impl Request {
         let from = number_of(value, LineField::From)?;
         let to = number_of(value, LineField::To)?;
         Ok(Request::Step(Step::Apply { from, to }))
+    }
+
+    /// The repetition of a frame that the fields of a line ask.
+    #[tactic(auto, unfolding(crate::specs::Requests::repeat_at))]
+    fn repeat_of(value: &Value) -> Result<Request, LineFault>
+        ensures { Gives result (repeat_at (view value.now)) }
+    {
+        let from = number_of(value, LineField::From)?;
+        let number = number_of(value, LineField::Number)?;
+        let to = number_of(value, LineField::To)?;
+        Ok(Request::Step(Step::Repeat { from, to, number }))
+    }
+
+    /// The closing of a link that the fields of a line ask.
+    #[tactic(auto, unfolding(crate::specs::Requests::close_at))]
+    fn close_of(value: &Value) -> Result<Request, LineFault>
+        ensures { Gives result (close_at (view value.now)) }
+    {
+        let from = number_of(value, LineField::From)?;
+        let to = number_of(value, LineField::To)?;
+        Ok(Request::Step(Step::Close { from, to }))
+    }
+
+    /// The loss of a frame that the fields of a line ask.
+    #[tactic(auto, unfolding(crate::specs::Requests::lose_at))]
+    fn lose_of(value: &Value) -> Result<Request, LineFault>
+        ensures { Gives result (lose_at (view value.now)) }
+    {
+        let from = number_of(value, LineField::From)?;
+        let to = number_of(value, LineField::To)?;
+        Ok(Request::Step(Step::Lose { from, to }))
     }
 }

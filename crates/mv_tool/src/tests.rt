@@ -5,6 +5,7 @@ use crate::reply_line::{line_fault_text, opened_text, refused_text, reply_text};
 use arrayvec::ArrayVec;
 use mv_link::Reach;
 use mv_machine::{Refusal, Reply, Step};
+use mv_pack::PackFault;
 use std::alloc::Global;
 use std::io;
 use std::io::{ErrorKind, Read, Write};
@@ -40,13 +41,14 @@ impl Read for Script<'_> {
     }
 }
 
-/// Takes at most `size` bytes a write. The write number `fails_at` fails.
+/// Takes at most `size` bytes a write. The write number `fails_at` fails, that number `full_at` takes nothing.
 #[derive(Drop)]
 struct Sink {
     bytes: Vec<u8>,
     size: usize,
     writes: u32,
     fails_at: u32,
+    full_at: u32,
 }
 
 impl Write for Sink {
@@ -54,6 +56,9 @@ impl Write for Sink {
         self.writes = self.writes.saturating_add(1);
         if self.writes == self.fails_at {
             return Err(io::Error::other("the write fails"));
+        }
+        if self.writes == self.full_at {
+            return Ok(0);
         }
         let count = self.size.min(buf.len());
         self.bytes.extend_from_slice(&buf[..count])?;
@@ -81,6 +86,7 @@ fn sink_of(alloc: Global, size: usize, fails_at: u32) -> Sink {
         size,
         writes: 0,
         fails_at,
+        full_at: 0,
     }
 }
 
@@ -180,6 +186,85 @@ fn takes_no_longer_line_and_no_more_lines(rt: HostRuntime) -> Result<(), Fail> {
     Ok(())
 }
 
+/// Lines of messages that end by CR and LF, by LF and by the end; an empty one, one of a CR alone and one of blanks.
+const MESSAGES: &[u8] = b"[]\r\n\nx\n\r\n  \n{\"msg\":\"fly\"}";
+
+const CANON: &[u8] = b"{\"refused\":\"M2\"}
+{\"refused\":\"M1\"}
+{\"refused\":\"M1\"}
+{\"field\":\"msg\",\"refused\":\"M5\"}
+";
+
+/// Whether `canon` ends so, with the first bytes, so many, of these in the writer.
+fn is_canon(
+    alloc: Global,
+    mut reader: Script<'_>,
+    mut writer: Sink,
+    ended: Result<(), ServeFault>,
+    count: usize,
+) -> bool {
+    let answered = canon(alloc, &mut reader, &mut writer);
+    let written = writer.bytes.as_slice();
+    answered == ended && written.len() == count && CANON.starts_with(written)
+}
+
+#[test]
+fn canon_answers_lines_that_come_in_reads_of_any_size(rt: HostRuntime) {
+    for size in 1..9usize {
+        let reader = script_of(MESSAGES, size, 0, 999);
+        let writer = sink_of(rt.alloc(), 7, 0);
+        assert!(rt; is_canon(rt.alloc(), reader, writer, Ok(()), 82));
+    }
+}
+
+#[test]
+fn canon_answers_the_whole_lines_before_a_read_that_fails(rt: HostRuntime) {
+    for (fails_at, count) in [(1u32, 0usize), (4, 0), (5, 17), (6, 17), (8, 34), (13, 51)] {
+        let reader = script_of(MESSAGES, 1, fails_at, 0);
+        let writer = sink_of(rt.alloc(), 7, 0);
+        assert!(rt; is_canon(rt.alloc(), reader, writer, Err(ServeFault::Read), count));
+    }
+    let often = script_of(MESSAGES, 100, 0, 1_000);
+    let writer = sink_of(rt.alloc(), 7, 0);
+    assert!(rt; is_canon(rt.alloc(), often, writer, Err(ServeFault::Read), 0));
+}
+
+#[test]
+fn canon_stops_at_a_write_that_fails_or_takes_nothing(rt: HostRuntime) {
+    for (place, count) in [(1u32, 0usize), (2, 7), (5, 28), (13, 79)] {
+        let reader = script_of(MESSAGES, 100, 0, 0);
+        let failing = sink_of(rt.alloc(), 7, place);
+        assert!(rt; is_canon(rt.alloc(), reader, failing, Err(ServeFault::Write), count));
+        let again = script_of(MESSAGES, 100, 0, 0);
+        let mut full = sink_of(rt.alloc(), 7, 0);
+        full.full_at = place;
+        assert!(rt; is_canon(rt.alloc(), again, full, Err(ServeFault::Write), count));
+    }
+}
+
+/// How `canon` ends on so many bytes of one kind and one line feed.
+fn canon_of_one_line(alloc: Global, byte: u8, count: usize) -> Result<(), ServeFault> {
+    let mut line = vec![in alloc; byte; count]?;
+    line.push(b'\n')?;
+    let mut reader = script_of(line.as_slice(), 10_000, 0, 0);
+    let mut writer = sink_of(alloc, 100, 0);
+    canon(alloc, &mut reader, &mut writer)
+}
+
+#[test]
+fn canon_takes_no_longer_line_and_no_more_lines(rt: HostRuntime) {
+    assert_eq!(rt; canon_of_one_line(rt.alloc(), b'x', 65_536), Ok(()));
+    assert_eq!(rt;
+        canon_of_one_line(rt.alloc(), b'x', 65_537),
+        Err(ServeFault::LineTooLong)
+    );
+    assert_eq!(rt; canon_of_one_line(rt.alloc(), b'\n', 999_999), Ok(()));
+    assert_eq!(rt;
+        canon_of_one_line(rt.alloc(), b'\n', 1_000_000),
+        Err(ServeFault::TooManyLines)
+    );
+}
+
 #[test]
 fn shows_faults_by_their_numbers(rt: HostRuntime) -> Result<(), Fail> {
     let text = format!(in rt.alloc();
@@ -261,6 +346,56 @@ fn reads_a_line_as_what_it_asks(rt: HostRuntime) {
     }
 }
 
+/// Whether the line is read as the repetition of frame 7 from party 2 to party 0.
+fn is_repeat(alloc: Global, line: &[u8]) -> bool {
+    match Request::read(alloc, line) {
+        Ok(Request::Step(Step::Repeat { from, to, number })) => {
+            from == 2 && to == 0 && number == 7
+        }
+        _ => false,
+    }
+}
+
+#[test]
+fn reads_the_parties_and_the_number_of_a_repetition(rt: HostRuntime) {
+    let line = br#"{"to":0,"number":7,"from":2,"do":"repeat"}"#;
+    assert!(rt; is_repeat(rt.alloc(), line));
+}
+
+/// Whether the reply is written so.
+fn is_written(alloc: Global, reply: &Reply, expected: &str) -> bool {
+    match reply_text(alloc, reply) {
+        Ok(text) => text.as_str() == expected,
+        Err(_) => false,
+    }
+}
+
+#[test]
+fn writes_what_came_of_frames_and_links(rt: HostRuntime) {
+    let repeated = Reply::Repeated { number: 2 };
+    assert!(rt; is_written(rt.alloc(), &repeated, r#"{"repeated":2}"#));
+    let lost = Reply::Lost { number: 2 };
+    assert!(rt; is_written(rt.alloc(), &lost, r#"{"lost":2}"#));
+    assert!(rt; is_written(rt.alloc(), &Reply::Closed, r#"{"closed":true}"#));
+    let gone = Reply::Refused(Refusal::Gone);
+    assert!(rt; is_written(rt.alloc(), &gone, r#"{"refused":"S10"}"#));
+}
+
+/// Whether the refusal of a line is written so.
+fn is_refusal(alloc: Global, fault: &LineFault, expected: &str) -> bool {
+    match line_fault_text(alloc, fault) {
+        Ok(text) => text.as_str() == expected,
+        Err(_) => false,
+    }
+}
+
+#[test]
+fn says_which_character_no_code_has(rt: HostRuntime) {
+    let fault = LineFault::Pack(LineField::Parties, PackFault::Character(3));
+    let text = r#"{"fault":"P6","field":"parties","place":3,"refused":"M6"}"#;
+    assert!(rt; is_refusal(rt.alloc(), &fault, text));
+}
+
 #[test]
 fn writes_replies_as_canonical_texts(rt: HostRuntime) -> Result<(), Fail> {
     let mut parties = ArrayVec::new();
@@ -326,6 +461,15 @@ fn runs_what_the_words_ask_for(rt: HostRuntime) -> Result<(), Fail> {
     assert_eq!(rt; done, Status::Done.code());
     assert_eq!(rt; writer.bytes.as_slice(), REPLIES);
     assert_eq!(rt; faults.bytes.is_empty(), true);
+    let mut messages = sink_of(rt.alloc(), 100, 0);
+    let written = run_command(rt.alloc(), &["canon"], &mut messages, &mut faults)?;
+    assert_eq!(rt; written, Status::Done.code());
+    assert_eq!(rt;
+        messages
+            .bytes
+            .starts_with(b"{\"field\":\"msg\",\"refused\":\"M3\"}\n"),
+        true
+    );
     let mut failing = sink_of(rt.alloc(), 100, 1);
     let failed = run_command(rt.alloc(), &["steps"], &mut failing, &mut faults)?;
     assert_eq!(rt; failed, Status::Failed.code());

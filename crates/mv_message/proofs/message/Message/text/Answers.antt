@@ -4,7 +4,7 @@ use Rattle.std.proofs.lemmas.Str.{IsUtf8-string_bytes}
 use Rattle.serde_json.specs.Data.{Data, depth}
 use Rattle.serde_json.specs.Read.{max_depth}
 use Rattle.mv_message.proofs.ValueLemmas.{value_depth}
-use Rattle.mv_message.proofs.ReadsLemmas.{text_reads_back}
+use Rattle.mv_message.proofs.LegalLemmas.{text_reads_back}
 use Rattle.mv_message.proofs.message.Message.text.Goals as goal
 
 -- the text is that of the message's value, which is not too deep to be read

@@ -1,0 +1,31 @@
+use Rattle.std.proofs.Common.{ap, ◌∙◌, option_and_then}
+use Rattle.std.proofs.lemmas.Result.{err_from_is_err_and}
+use Rattle.mv_tool.specs.Commands.{task_called}
+use Rattle.mv_tool.proofs.CommandLemmas.{faultless, named, steps_passes, steps_named, canon_passes, canon_named}
+use Rattle.mv_tool.proofs.command_line.task_of.Goals as goal
+
+-- the words are taken, so only memory can have been wanting
+pub returns-in_err-matches-clause-steps : goal.returns-in_err-matches-clause-steps
+returns-in_err-matches-clause-steps c asks =
+    let p = err_from_is_err_and c.from_residual-in_err-matches.result c.from_residual-in_err-matches.ensures.1 in
+    rw (p.1, p.2) (c.in_err-matches.ensures.passes (steps_passes _ _ c.in_ok-line.ensures asks))
+
+-- the words name it
+pub returns-clause-steps : goal.returns-clause-steps
+returns-clause-steps c asks =
+    c.task_named.ensures ∙ ap (option_and_then task_called) (named _ _ c.in_ok-matches.matches c.in_ok-line.ensures c.in_ok-matches.ensures.matches ∙ steps_named _ asks)
+
+-- the words are taken, so only memory can have been wanting
+pub returns-in_err-matches-clause-canon : goal.returns-in_err-matches-clause-canon
+returns-in_err-matches-clause-canon c asks =
+    let p = err_from_is_err_and c.from_residual-in_err-matches.result c.from_residual-in_err-matches.ensures.1 in
+    rw (p.1, p.2) (c.in_err-matches.ensures.passes (canon_passes _ _ c.in_ok-line.ensures asks))
+
+-- the words name it
+pub returns-clause-canon : goal.returns-clause-canon
+returns-clause-canon c asks =
+    c.task_named.ensures ∙ ap (option_and_then task_called) (named _ _ c.in_ok-matches.matches c.in_ok-line.ensures c.in_ok-matches.ensures.matches ∙ canon_named _ asks)
+
+-- a parse that succeeds has no fault
+pub returns-clause-taken : goal.returns-clause-taken
+returns-clause-taken c = faultless _ _ c.in_ok-line.ensures c.in_ok-matches.ensures.kinds

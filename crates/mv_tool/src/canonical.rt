@@ -1,0 +1,67 @@
+//! Runs messages, a line each.
+
+ghost use Rattle.std.specs.Prelude.{◌≡◌, ℕ, List, OnOk, IfErr, IfSome};
+ghost use Rattle.std.specs.Io.KnownBytes.{Consumes, Appends};
+ghost use Rattle.mv_tool.specs.Canon.{IsCanon, canon_of};
+ghost use Rattle.mv_tool.specs.Served.{Served, Ended};
+
+use crate::ServeFault;
+use crate::answering::Answering;
+use crate::engine::answer_lines;
+use crate::reply_line::message_fault_text;
+use mv_message::{Message, MessageFault};
+use std::alloc::{AllocError, Global};
+use std::io::{Read, Write};
+use std::marker::Model;
+
+/// What answers messages. It keeps nothing from line to line.
+#[derive(Drop)]
+struct Canonizer {
+    alloc: Global,
+}
+
+impl Model for Canonizer {
+    ghost use Rattle.std.specs.Prelude.{⊤};
+
+    ghost Value = { ⊤ };
+
+    ghost view = { λ _. tt };
+}
+
+impl Answering for Canonizer {
+    ghost replies = { IsCanon };
+
+    fn answer(&mut self, line: &[u8]) -> Result<String, AllocError> {
+        match Message::read(self.alloc, line) {
+            Ok(message) => match message.text(self.alloc) {
+                Ok(text) => Ok(text),
+                Err(_) => Err(AllocError),
+            },
+            Err(MessageFault::Memory) => Err(AllocError),
+            Err(fault) => message_fault_text(self.alloc, &fault),
+        }
+    }
+}
+
+/// Writes the canonical text of the message that each line is, or its refusal, in order, each ended by a line feed, and
+/// nothing else. An empty line gets none.
+///
+/// The lines, their limits, and what a fault leaves are as for `serve`. Want of memory is V3, also within a message.
+pub fn canon<R: Read, W: Write>(
+    alloc: Global,
+    reader: &mut R,
+    writer: &mut W,
+) -> Result<(), ServeFault>
+    ensures texts { OnOk result (IfSome (R.remaining reader.old) (λ bytes.
+        Appends (W.contents writer.old) (W.contents writer.new) (canon_of bytes))) }
+    // The input had no line over the limits.
+    ensures ok { OnOk result (IfSome (R.remaining reader.old) (λ bytes.
+        Served IsCanon tt bytes tt (W.contents writer.old) (W.contents writer.new))) }
+    // The bytes are those that were read. The texts to which of their lines went out, the fault says.
+    ensures err { IfErr result (λ fault. (bytes : List ℕ)
+        × Consumes (R.remaining reader.old) (R.remaining reader.new) bytes
+        × Ended IsCanon fault tt bytes (W.contents writer.old) (W.contents writer.new)) }
+{
+    let mut canonizer = Canonizer { alloc };
+    answer_lines(alloc, &mut canonizer, reader, writer)
+}

@@ -1,6 +1,9 @@
 //! What the hub shows of a product.
 
 ghost use Rattle.std.specs.Prelude.{◌≡◌, ◌∷◌, ◌++◌, [], OnOk, OnErr};
+ghost use Rattle.std.specs.Cmp.{partial_equiv_from_equiv};
+ghost use Rattle.std.specs.Cmp.Lexicographic.{pointwise, lists_equiv};
+ghost use Rattle.mv_hub.specs.Listing.{is_same_listing, listing_equiv};
 
 use mv_message::Product;
 use mv_pack::{Batch, Expiry};
@@ -47,8 +50,22 @@ impl Pairs {
     }
 }
 
+impl PartialEq for Pairs {
+    ghost eq = { pointwise is_same_listing };
+
+    ghost laws = { partial_equiv_from_equiv (lists_equiv listing_equiv) };
+
+    fn eq(&self, other: &Self) -> bool {
+        self.as_slice() == other.as_slice()
+    }
+}
+
+impl Eq for Pairs {
+    ghost laws = { lists_equiv listing_equiv };
+}
+
 /// What the hub knows of a product.
-#[derive(Debug, Drop)]
+#[derive(Debug, PartialEq, Eq, Drop)]
 pub struct Catalogue {
     /// The product of its last routed master, if there is one.
     pub product: Option<Product>,

@@ -7,8 +7,30 @@ ghost use Rattle.std.specs.Prelude.{◌≡◌};
 pub enum Effect {
     /// E1: what the message asked was done.
     Done,
+    /// E2: no upload names the pack.
+    Unknown,
+    /// E3: the pack was changed from active before.
+    NotActive,
+    /// E4: the pack to be reverted is active.
+    AlreadyActive,
+    /// E5: the pack has a standing that is never reverted.
+    Fixed,
+    /// E6: the revert comes from another party or another user than the change.
+    OtherUser,
+    /// E7: the revert has a moment before that of the change.
+    TooEarly,
+    /// E8: the revert comes more than ten days after the change.
+    TooLate,
+    /// E9: the pack to be reverted has expired.
+    Expired,
+    /// E10: the batch of the pack to be reverted is recalled.
+    Recalled,
     /// E11: the item was noted in the log, and changed nothing else.
     Noted,
+    /// E12: so many packs of the upload were new, and so many were there.
+    Uploaded { new: u32, old: u32 },
+    /// E13: the product of the pack to be reverted is withdrawn.
+    Withdrawn,
 }
 
 impl Effect {
@@ -20,7 +42,18 @@ impl Effect {
     {
         match self {
             Effect::Done => "E1",
+            Effect::Unknown => "E2",
+            Effect::NotActive => "E3",
+            Effect::AlreadyActive => "E4",
+            Effect::Fixed => "E5",
+            Effect::OtherUser => "E6",
+            Effect::TooEarly => "E7",
+            Effect::TooLate => "E8",
+            Effect::Expired => "E9",
+            Effect::Recalled => "E10",
             Effect::Noted => "E11",
+            Effect::Uploaded { .. } => "E12",
+            Effect::Withdrawn => "E13",
         }
     }
 }

@@ -1,2 +1,5 @@
 pub mod GtinLemmas
 pub mod MarketLemmas
+pub mod PaddingLemmas
+pub mod CodeLemmas
+pub mod ExpiryLemmas

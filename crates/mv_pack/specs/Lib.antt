@@ -1,4 +1,8 @@
 pub mod Gtin
 pub mod Market
+pub mod Code
+pub mod Padding
+pub mod Expiry
+pub mod Moment
 pub mod Fault
 pub mod Laws

@@ -11,8 +11,18 @@ pub enum PackFault {
     Digit,
     /// P3: the last digit of a GTIN does not fit the others.
     CheckDigit,
+    /// P4: a code has at least one byte.
+    Empty,
+    /// P5: a code has at most 20 bytes.
+    TooLong,
+    /// P6: the byte at this place, counted from one, is none of the 82 characters of codes.
+    Character(u32),
+    /// P7: there is no such date.
+    Date,
     /// P8: a market has two capital letters.
     Market,
+    /// P9: the moment is not before the year 2100.
+    Moment,
 }
 
 impl PackFault {
@@ -26,7 +36,12 @@ impl PackFault {
             PackFault::Length => "P1",
             PackFault::Digit => "P2",
             PackFault::CheckDigit => "P3",
+            PackFault::Empty => "P4",
+            PackFault::TooLong => "P5",
+            PackFault::Character(_) => "P6",
+            PackFault::Date => "P7",
             PackFault::Market => "P8",
+            PackFault::Moment => "P9",
         }
     }
 }

@@ -1,18 +1,32 @@
-//! The values by which medicine packs are named: product codes and markets.
+//! The values by which medicine packs are named: product codes, serial, batch and national numbers, dates and markets.
 //!
 //! Used by every crate above. Its contract: a reader accepts exactly the texts of the definitions in `specs/`
-//! (GS1 General Specifications for the GTIN and its check digit), and else answers the first fault in the order of
+//! (GS1 General Specifications, for the GTIN, its check digit, codes and dates), and else answers the first fault in the order of
 //! their numbers. No call takes memory. This crate knows no message and no JSON.
 #![tactic(auto)]
 
+mod batch;
+mod code;
+mod expiry;
 mod fault;
 mod gtin;
+mod key;
 pub mod laws;
 mod market;
+mod moment;
+mod national;
+mod serial;
 
+pub use batch::Batch;
+pub use code::MOST_BYTES;
+pub use expiry::Expiry;
 pub use fault::PackFault;
 pub use gtin::Gtin;
+pub use key::{BatchKey, PackKey};
 pub use market::Market;
+pub use moment::{Moment, YEAR_2100};
+pub use national::National;
+pub use serial::Serial;
 
 #[cfg(test)]
 mod tests;

@@ -1,0 +1,53 @@
+-- Expiry dates, as texts of six digits, by the GS1 General Specifications, and as days.
+use Rattle.std.specs.Prelude.{ℕ, ◌+◌, ◌-◌, ◌*◌, ◌≤◌, ◌==◌, ◌&&◌, List, [], ◌∷◌, ◌++◌, ◌/◌, ◌%◌, length, nat_le, if◌then◌else◌, Result, Ok, Err, ℤ, pos, slice_index}
+use Rattle.std.specs.List.{list_all}
+use Rattle.jiff_core.specs.Calendar.{days_in_month, days_from_civil}
+use Rattle.mv_pack.specs.Gtin.{is_digit}
+use Rattle.mv_pack.specs.declared.fault.PackFault.{PackFault}
+use Rattle.mv_pack.specs.declared.fault.PackFault.TheVariants.{Date}
+
+-- a day of the Gregorian calendar
+pub record CivilDate : Type 0 where
+  pub year : ℕ
+  pub month : ℕ
+  pub day : ℕ
+
+-- a real date of the years 2000 to 2099
+abbrev pub IsExpiry : CivilDate → Type 0
+IsExpiry date =
+    (2000 ≤ date.year) × (date.year ≤ 2099) × (1 ≤ date.month) × (date.month ≤ 12)
+    × (1 ≤ date.day) × (date.day ≤ days_in_month (pos date.year) date.month)
+
+-- the number of the day, 1970-01-01 being 0
+abbrev pub day_of : CivilDate → ℤ
+day_of date = days_from_civil (pos date.year) date.month date.day
+
+-- the number that the two digits from a place on stand for
+abbrev pub number_at : ℕ → List ℕ → ℕ
+number_at place text = 10 * (slice_index text place - 48) + (slice_index text (place + 1) - 48)
+
+-- The date of a year, a month and a day, where there is one; the day 0 is the last of the month.
+abbrev pub dated : ℕ → ℕ → ℕ → Result CivilDate PackFault
+dated year month day =
+    if nat_le 1 month && nat_le month 12 && nat_le day (days_in_month (pos year) month)
+    then Ok (record {
+      year = year;
+      month = month;
+      day = if day == 0 then days_in_month (pos year) month else day;
+    })
+    else Err Date
+
+-- What reading a text gives: the date of six digits YYMMDD, the year being 20YY, or the fault.
+abbrev pub read_expiry : List ℕ → Result CivilDate PackFault
+read_expiry text =
+    if (length text == 6) && list_all is_digit text
+    then dated (2000 + number_at 0 text) (number_at 2 text) (number_at 4 text)
+    else Err Date
+
+-- a number below 100 as two digits
+abbrev pub two_digits : ℕ → List ℕ
+two_digits number = (number / 10 + 48) ∷ (number % 10 + 48) ∷ []
+
+-- the date as six digits YYMMDD
+abbrev pub expiry_text : CivilDate → List ℕ
+expiry_text date = two_digits (date.year - 2000) ++ two_digits date.month ++ two_digits date.day

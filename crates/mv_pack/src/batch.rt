@@ -1,0 +1,53 @@
+//! Batch numbers.
+
+ghost use Rattle.std.specs.Prelude.{◌≡◌, ◌↔◌, IsOk};
+ghost use Rattle.mv_pack.specs.Code.{read_code, IsCode};
+
+use crate::PackFault;
+use crate::code::Code;
+use std::marker::Model;
+
+/// The number of a batch (Delegated Regulation (EU) 2016/161, Article 4(b)(iv)).
+#[derive(Debug, PartialEq, Eq, PartialOrd, Ord, Hash, Drop)]
+pub struct Batch {
+    code: Code,
+}
+
+impl Model for Batch {
+    ghost use Rattle.std.specs.Prelude.{List, ℕ};
+
+    ghost Value = { List ℕ };
+
+    ghost view = { λ b. b.code };
+
+    ghost inverse = { λ t. record { code = t } };
+}
+
+impl Batch {
+    /// Reads a batch number of 1 to 20 characters.
+    ///
+    /// The first of these that holds is the fault: P4, no byte; P5, more than 20 bytes; P6, a byte that is no character
+    /// of codes (GS1 General Specifications, section 7.11).
+    pub fn read(text: &str) -> Result<Batch, PackFault>
+        ensures exact { result ≡ read_code text.now }
+        ensures accepted { IsOk result ↔ IsCode text.now }
+    {
+        Ok(Batch {
+            code: Code::read(text)?,
+        })
+    }
+
+    /// The text that was read.
+    pub fn as_str(&self) -> &str
+        ensures { result.now ≡ self.now }
+    {
+        self.code.as_str()
+    }
+
+    /// The same batch number; it takes no memory.
+    pub fn copy(&self) -> Batch
+        ensures { result ≡ self.now }
+    {
+        Batch { code: self.code }
+    }
+}

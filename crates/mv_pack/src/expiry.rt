@@ -1,0 +1,110 @@
+//! Expiry dates.
+
+ghost use Rattle.std.specs.Prelude.{◌≡◌, ◌+◌, ◌*◌, ◌-◌, ◌++◌, ◌<◌, ◌≤◌, ◌/◌, ◌↔◌, length, IsOk, IsTrue, pos, ◌<ℤ◌};
+ghost use Rattle.mv_pack.specs.Gtin.{is_digit};
+ghost use Rattle.mv_pack.specs.Expiry.{read_expiry, day_of, two_digits, expiry_text};
+
+use crate::gtin::are_digits;
+use crate::{Moment, PackFault};
+use arrayvec::ArrayString;
+use jiff::civil::{Date, date};
+use std::marker::Model;
+
+/// The seconds of a day.
+const DAY: u64 = 86_400;
+
+/// The last day on which a pack may be supplied (Delegated Regulation (EU) 2016/161, Article 4(b)(v)).
+#[derive(Clone, Copy, Debug, PartialEq, Eq, PartialOrd, Ord, Hash)]
+pub struct Expiry {
+    year: u16,
+    month: u8,
+    day: u8,
+}
+
+impl Model for Expiry {
+    ghost use Rattle.mv_pack.specs.Expiry.{CivilDate, IsExpiry};
+
+    ghost Value = { CivilDate };
+
+    ghost view = { λ e. record { year = e.year; month = e.month; day = e.day } };
+
+    ghost invariant = { λ e. IsExpiry (record { year = e.year; month = e.month; day = e.day }) };
+
+    ghost inverse = { λ d. record { year = d.year; month = d.month; day = d.day } };
+}
+
+impl Expiry {
+    /// Reads a date of six digits YYMMDD, the year being 20YY; the day 00 is the last of the month. Anything else is
+    /// P7 (GS1 General Specifications, section 3.4.7).
+    #[tactic(auto, using(crate::proofs::GtinLemmas::passes_at, jiff_core::proofs::CalendarLemmas::days_in_month_bounds))]
+    pub fn read(text: &str) -> Result<Expiry, PackFault>
+        ensures exact { result ≡ read_expiry text.now }
+    {
+        let digits = text.as_bytes();
+        if digits.len() != 6 || !are_digits(digits) {
+            return Err(PackFault::Date);
+        }
+        let year = 2000 + number_of(digits[0], digits[1]) as u16;
+        let month = number_of(digits[2], digits[3]);
+        let day = number_of(digits[4], digits[5]);
+        let Ok(first) = Date::new(year as i16, month as i8, 1) else {
+            return Err(PackFault::Date);
+        };
+        let last = first.days_in_month() as u8;
+        if last < day {
+            return Err(PackFault::Date);
+        }
+        Ok(Expiry {
+            year,
+            month,
+            day: if day == 0 { last } else { day },
+        })
+    }
+
+    /// The number of the day, 1970-01-01 being 0.
+    pub fn day(self) -> u32
+        ensures { pos result ≡ day_of self }
+    {
+        let day = date(self.year as i16, self.month as i8, self.day as i8);
+        day.to_plain().to_unix_epoch_day() as u32
+    }
+
+    /// Six digits YYMMDD with the real day, also where 00 was read.
+    pub fn text(self) -> ArrayString<6>
+        ensures { result.bytes ≡ expiry_text self }
+    {
+        let mut text = ArrayString::new();
+        push_two(&mut text, (self.year - 2000) as u8);
+        push_two(&mut text, self.month);
+        push_two(&mut text, self.day);
+        text
+    }
+
+    /// Whether the date lies before the day of that moment.
+    pub fn expired_at(self, moment: Moment) -> bool
+        ensures { IsTrue result ↔ (day_of self <ℤ pos (moment / 86_400)) }
+    {
+        (self.day() as u64) < moment.seconds() / DAY
+    }
+}
+
+/// The number that two digits stand for.
+#[tactic(auto, using(crate::proofs::GtinLemmas::digit_bounds))]
+fn number_of(tens: u8, units: u8) -> u8
+    requires tens_digit { IsTrue (is_digit tens) }
+    requires units_digit { IsTrue (is_digit units) }
+    ensures value { result ≡ 10 * (tens - 48) + (units - 48) }
+    ensures bound { result < 100 }
+{
+    10 * (tens - b'0') + (units - b'0')
+}
+
+/// Appends a number below 100, as two digits.
+fn push_two(text: &mut ArrayString<6>, number: u8)
+    requires small { number < 100 }
+    requires room { length text.old.bytes ≤ 4 }
+    ensures { text.new.bytes ≡ text.old.bytes ++ two_digits number }
+{
+    text.push((b'0' + number / 10) as char);
+    text.push((b'0' + number % 10) as char);
+}

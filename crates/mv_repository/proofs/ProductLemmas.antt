@@ -11,7 +11,8 @@ use Rattle.mv_link.specs.declared.item.Item.{Item}
 use Rattle.mv_link.specs.declared.item.Item.TheVariants.{Receipt, Carried}
 use Rattle.mv_repository.specs.declared.entry.LogEntry.{LogEntry}
 use Rattle.mv_repository.specs.Order.{Placed, passes, put_in, ordered, StandsBeforeAll, Ascends, AreOf}
-use Rattle.mv_repository.specs.Product.{is_same_gtin, product_after, last_product_after, last_product}
+use Rattle.mv_repository.specs.Keys.{is_same_text}
+use Rattle.mv_repository.specs.Product.{product_after, last_product_after, last_product}
 use Rattle.mv_repository.specs.Copy.{is_master, product_in, last_master, place_of, entry_of, is_late, IsCopyOf}
 use Rattle.mv_repository.proofs.OrderLemmas.{placed_at, passes_behind, ordered-ascends, ordered-push, ordered-of}
 
@@ -70,7 +71,7 @@ last-put_in gtin x (y ∷ ys) a = by (passes x y) refl (last-put_in gtin x ys a.
 -- the last master describes a product
 product_of_master : (gtin : List ℕ) (item : Item) → is_master gtin item ≡ true → IsSome (product_in item)
 product_of_master gtin (Carried k stamp (Master named product)) e = refl
-product_of_master gtin (Receipt k reach query) e = absurd (true≢false (sym e))
+product_of_master gtin _ e = absurd (true≢false (sym e))
 
 last_describes : (gtin : List ℕ) (xs : List Placed) → IfSome (last_master gtin xs) (λ z. IsSome (product_in z.entry.item))
 last_describes gtin [] = tt
@@ -83,7 +84,7 @@ last_describes gtin (y ∷ ys) = by (last_master gtin ys) (last_describes gtin y
 
 product_step : (gtin : List ℕ) (item : Item) (known : Option Product) → product_after item gtin known ≡ cond (is_master gtin item) (option_or (product_in item) known) known
 product_step gtin (Carried k stamp (Master named product)) known = refl
-product_step gtin (Receipt k reach query) known = refl
+product_step gtin _ known = refl
 
 product_after_last : (gtin : List ℕ) (known : Option Product) (xs : List Placed)
     → last_product_after known xs gtin ≡ option_or (option_and_then (λ z. product_in z.entry.item) (last_master gtin xs)) known
@@ -131,7 +132,7 @@ last_at log gtin (y ∷ ys) s = by (last_master gtin ys) (last_at log gtin ys s.
 
 -- what the table finds is the last master
 pub found_at : (log : List LogEntry) (masters : List (List ℕ × ℕ)) (gtin : List ℕ) (place : ℕ) → IsCopyOf log masters
-    → lookup (is_same_gtin gtin) masters ≡ Some place → (option_map entry_of (last_master gtin (ordered log)) ≡ slice_get log place) × (place < length log)
+    → lookup (is_same_text gtin) masters ≡ Some place → (option_map entry_of (last_master gtin (ordered log)) ≡ slice_get log place) × (place < length log)
 found_at log masters gtin place copy e =
     by (last_master gtin (ordered log)) (last_at log gtin (ordered log) (ordered-of log)) (sym (copy gtin) ∙ e)
   where
@@ -159,12 +160,12 @@ copy-noted log masters entry copy none gtin =
 
 -- so does a master that comes late
 pub copy-late : (log : List LogEntry) (masters : List (List ℕ × ℕ)) (entry : LogEntry) (named : List ℕ) → IsCopyOf log masters
-    → ((gtin : List ℕ) → is_master gtin entry.item ≡ is_same_gtin named gtin)
+    → ((gtin : List ℕ) → is_master gtin entry.item ≡ is_same_text named gtin)
     → is_late entry.item (last_master named (ordered log)) ≡ true → IsCopyOf (log ++ entry ∷ []) masters
 copy-late log masters entry named copy names late gtin =
     copy gtin
     ∙ ap (option_map place_of) (sym (last-push log entry gtin ∙ ap (λ b. cond b (later x (last_master gtin (ordered log))) (last_master gtin (ordered log))) (names gtin)
-    ∙ by (is_same_gtin named gtin) refl))
+    ∙ by (is_same_text named gtin) refl))
   where
     x : Placed
     x = placed_at (length log) entry
@@ -173,20 +174,20 @@ copy-late log masters entry named copy names late gtin =
     stays None e = absurd (true≢false (sym e))
     stays (Some z) e = ap (λ b. cond b (Some z) (Some x)) e
 
-    by : (b : Bool) → is_same_gtin named gtin ≡ b → cond b (later x (last_master gtin (ordered log))) (last_master gtin (ordered log)) ≡ last_master gtin (ordered log)
+    by : (b : Bool) → is_same_text named gtin ≡ b → cond b (later x (last_master gtin (ordered log))) (last_master gtin (ordered log)) ≡ last_master gtin (ordered log)
     by true e = stays (last_master gtin (ordered log)) (subst (λ g. is_late entry.item (last_master g (ordered log)) ≡ true) (same_text named gtin (sym e)) late)
     by false e = refl
 
 -- any other master takes the place of its code
 pub copy-latest : (log : List LogEntry) (masters masters' : List (List ℕ × ℕ)) (entry : LogEntry) (named : List ℕ) (place : ℕ) → IsCopyOf log masters
-    → ((gtin : List ℕ) → is_master gtin entry.item ≡ is_same_gtin named gtin)
+    → ((gtin : List ℕ) → is_master gtin entry.item ≡ is_same_text named gtin)
     → is_late entry.item (last_master named (ordered log)) ≡ false
-    → ((gtin : List ℕ) → lookup (is_same_gtin gtin) masters' ≡ cond (is_same_gtin named gtin) (Some place) (lookup (is_same_gtin gtin) masters))
+    → ((gtin : List ℕ) → lookup (is_same_text gtin) masters' ≡ cond (is_same_text named gtin) (Some place) (lookup (is_same_text gtin) masters))
     → place ≡ length log → IsCopyOf (log ++ entry ∷ []) masters'
 copy-latest log masters masters' entry named place copy names late updates at gtin =
     updates gtin
-    ∙ ap (λ n. cond (is_same_gtin named gtin) (Some n) (lookup (is_same_gtin gtin) masters)) at
-    ∙ by (is_same_gtin named gtin) refl
+    ∙ ap (λ n. cond (is_same_text named gtin) (Some n) (lookup (is_same_text gtin) masters)) at
+    ∙ by (is_same_text named gtin) refl
     ∙ ap (option_map place_of) (sym (last-push log entry gtin ∙ ap (λ b. cond b (later x (last_master gtin (ordered log))) (last_master gtin (ordered log))) (names gtin)))
   where
     x : Placed
@@ -196,7 +197,7 @@ copy-latest log masters masters' entry named place copy names late updates at gt
     goes None e = refl
     goes (Some z) e = ap (λ b. cond b (Some z) (Some x)) e
 
-    by : (b : Bool) → is_same_gtin named gtin ≡ b
-        → cond b (Some (length log)) (lookup (is_same_gtin gtin) masters) ≡ option_map place_of (cond b (later x (last_master gtin (ordered log))) (last_master gtin (ordered log)))
+    by : (b : Bool) → is_same_text named gtin ≡ b
+        → cond b (Some (length log)) (lookup (is_same_text gtin) masters) ≡ option_map place_of (cond b (later x (last_master gtin (ordered log))) (last_master gtin (ordered log)))
     by true e = ap (option_map place_of) (sym (goes (last_master gtin (ordered log)) (subst (λ g. is_late entry.item (last_master g (ordered log)) ≡ false) (same_text named gtin (sym e)) late)))
     by false e = copy gtin

@@ -8,17 +8,17 @@ use Rattle.mv_link.specs.declared.item.Item.{Item}
 use Rattle.mv_link.specs.declared.item.Item.TheVariants.{Receipt, Carried}
 use Rattle.mv_repository.specs.declared.entry.LogEntry.{LogEntry}
 use Rattle.mv_repository.specs.Order.{Placed, rank, ordered}
-use Rattle.mv_repository.specs.Product.{is_same_gtin}
+use Rattle.mv_repository.specs.Keys.{is_same_text}
 
 -- an item is a master of a code
 abbrev pub is_master : List ℕ → Item → Bool
-is_master gtin (Carried k stamp (Master named product)) = is_same_gtin named gtin
-is_master gtin (Receipt k reach query) = false
+is_master gtin (Carried k stamp (Master named product)) = is_same_text named gtin
+is_master gtin _ = false
 
 -- the product that an item describes
 abbrev pub product_in : Item → Option Product
 product_in (Carried k stamp (Master named product)) = Some product
-product_in (Receipt k reach query) = None
+product_in _ = None
 
 -- the last master of a code, of entries in this order
 abbrev pub last_master : List ℕ → List Placed → Option Placed
@@ -40,4 +40,4 @@ entry_of placed = placed.entry
 
 -- the table has, for each code, the place of its last master by stamp order, and nothing where there is none
 abbrev pub IsCopyOf : List LogEntry → List (List ℕ × ℕ) → Type 0
-IsCopyOf log masters = (gtin : List ℕ) → lookup (is_same_gtin gtin) masters ≡ option_map place_of (last_master gtin (ordered log))
+IsCopyOf log masters = (gtin : List ℕ) → lookup (is_same_text gtin) masters ≡ option_map place_of (last_master gtin (ordered log))

@@ -1,25 +1,17 @@
 -- What a repository knows of a product.
-use Rattle.std.specs.Prelude.{ℕ, List, [], ◌∷◌, nat_eq, Bool, Option, Some, None, if◌then◌else◌}
-use Rattle.std.specs.Cmp.Lexicographic.{pointwise}
-use Rattle.mv_message.specs.declared.message.Message.{Message}
+use Rattle.std.specs.Prelude.{ℕ, List, [], ◌∷◌, Option, Some, None, if◌then◌else◌}
 use Rattle.mv_message.specs.declared.message.Message.TheVariants.{Master}
 use Rattle.mv_message.specs.declared.message.Product.{Product}
 use Rattle.mv_link.specs.declared.item.Item.{Item}
 use Rattle.mv_link.specs.declared.item.Item.TheVariants.{Receipt, Carried}
 use Rattle.mv_repository.specs.Order.{Placed}
+use Rattle.mv_repository.specs.Keys.{is_same_text}
 
--- two product codes are the same
-abbrev pub is_same_gtin : List ℕ → List ℕ → Bool
-is_same_gtin = pointwise nat_eq
-
--- the product that a message describes under a code, or the one known before
-abbrev pub product_after_message : Message → List ℕ → Option Product → Option Product
-product_after_message (Master named product) gtin known = if is_same_gtin named gtin then Some product else known
-
--- the product known under a code once an item is applied
+-- the product known under a code once an item is applied: that of a master of the code
 abbrev pub product_after : Item → List ℕ → Option Product → Option Product
-product_after (Carried k stamp message) gtin known = product_after_message message gtin known
-product_after (Receipt k reach query) gtin known = known
+product_after (Carried k stamp (Master named product)) gtin known =
+    if is_same_text named gtin then Some product else known
+product_after _ gtin known = known
 
 -- the product known under a code once these entries follow
 abbrev pub last_product_after : Option Product → List Placed → List ℕ → Option Product

@@ -1,4 +1,5 @@
--- Whether a pack is authentic: by one repository, and by the answers of all that were asked (Articles 36 and 37).
+-- Whether a pack is authentic: by one repository, and by the answers of all that were asked (Delegated Regulation (EU)
+-- 2016/161, Articles 11 and 36).
 use Rattle.std.specs.Prelude.{ℕ, ◌==◌, ◌&&◌, ◌||◌, not, Bool, true, false, List, [], ◌∷◌, length, filter, Option, Some, None, is_some, if◌then◌else◌}
 use Rattle.std.specs.List.{list_any}
 use Rattle.std.specs.Option.{option_or}

@@ -28,7 +28,7 @@ pub enum Effect {
     /// E11: the item was noted in the log, and changed nothing else.
     Noted,
     /// E12: so many packs of the upload were new, and so many were there.
-    Uploaded { new: u32, old: u32 },
+    Uploaded { new: u64, old: u64 },
     /// E13: the product of the pack to be reverted is withdrawn.
     Withdrawn,
 }

@@ -5,16 +5,22 @@
 //! nothing. This crate knows no hub, no JSON and no thread.
 #![tactic(auto)]
 
+mod counts;
 mod effect;
 mod entry;
+mod held;
 mod laws;
 mod repository;
 mod sender;
 #[cfg(test)]
 mod tests;
+mod verdict;
 
+pub use counts::Counts;
 pub use effect::Effect;
 pub use entry::LogEntry;
+pub use held::{Change, Held, REVERT_SECONDS};
 pub use laws::{one_more_is_put_in, ordered_is_the_order};
 pub use repository::Repository;
 pub use sender::FromSender;
+pub use verdict::{Joint, Local, Verdict};

@@ -3,7 +3,7 @@
 ghost use Rattle.std.specs.Prelude.{◌≡◌, ◌<◌, ℕ, List, Bool, false, OnOk, OnErr, IfOk, vec_len, vec_capacity};
 ghost use Rattle.std.specs.Option.{option_copied, option_map};
 ghost use Rattle.mv_repository.specs.Order.{rank, ordered};
-ghost use Rattle.mv_repository.specs.Product.{is_same_gtin};
+ghost use Rattle.mv_repository.specs.Keys.{is_same_text};
 ghost use Rattle.mv_repository.specs.Copy.{is_master, product_in, last_master, entry_of, is_late};
 
 use crate::{Effect, FromSender, LogEntry};
@@ -38,7 +38,6 @@ impl Model for Repository {
 
 impl Repository {
     ghost use Rattle.mv_repository.specs.Repository.{new_repository, with_applied, product_of};
-    ghost use Rattle.mv_repository.specs.Effect.{effect_of};
     ghost use Rattle.mv_repository.specs.Log.{items_from};
 
     /// The repository of a party, which applied nothing. It takes no memory.
@@ -103,25 +102,25 @@ impl Repository {
     /// Applies an item that came from a party, and says what that did.
     pub fn apply(&mut self, sender: Party, item: &Item) -> Result<Effect, AllocError>
         ensures ok { OnOk result (self.new ≡ with_applied self.old sender item.now) }
-        ensures effect { IfOk result (λ effect. effect ≡ effect_of item.now) }
         ensures err { OnErr result (self.new ≡ self.old) }
     {
         match item {
-            Item::Receipt { .. } => {
-                self.apply_receipt(sender, item)?;
+            Item::Carried {
+                message: Message::Master { gtin, .. },
+                ..
+            } => {
+                self.apply_master(sender, item, *gtin)?;
+                Ok(Effect::Done)
+            }
+            _ => {
+                self.apply_noted(sender, item)?;
                 Ok(Effect::Noted)
             }
-            Item::Carried { message, .. } => match message {
-                Message::Master { gtin, .. } => {
-                    self.apply_master(sender, item, *gtin)?;
-                    Ok(Effect::Done)
-                }
-            },
         }
     }
 
-    /// Applies a receipt, which changes no table.
-    fn apply_receipt(&mut self, sender: Party, item: &Item) -> Result<(), AllocError>
+    /// Applies an item that changes no table.
+    fn apply_noted(&mut self, sender: Party, item: &Item) -> Result<(), AllocError>
         requires { (gtin : List ℕ) → is_master gtin item.now ≡ false }
         ensures ok { OnOk result (self.new ≡ with_applied self.old sender item.now) }
         ensures err { OnErr result (self.new ≡ self.old) }
@@ -133,7 +132,7 @@ impl Repository {
 
     /// Applies a master of a code. Where it is the last by stamp it is the one that the table finds.
     fn apply_master(&mut self, sender: Party, item: &Item, gtin: Gtin) -> Result<(), AllocError>
-        requires { (other : List ℕ) → is_master other item.now ≡ is_same_gtin gtin other }
+        requires { (other : List ℕ) → is_master other item.now ≡ is_same_text gtin other }
         ensures ok { OnOk result (self.new ≡ with_applied self.old sender item.now) }
         ensures err { OnErr result (self.new ≡ self.old) }
     {
@@ -184,6 +183,6 @@ fn product_in(item: &Item) -> Option<&Product>
             message: Message::Master { product, .. },
             ..
         } => Some(product),
-        Item::Receipt { .. } => None,
+        _ => None,
     }
 }

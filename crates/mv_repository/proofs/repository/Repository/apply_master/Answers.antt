@@ -3,7 +3,7 @@ use Rattle.std.proofs.Common.{◌≡◌, ◌∙◌, List, ℕ, sym, ap, rules, l
 use Rattle.mv_repository.specs.declared.entry.LogEntry.{LogEntry}
 use Rattle.mv_repository.specs.Copy.{is_master, is_late, last_master, IsCopyOf}
 use Rattle.mv_repository.specs.Order.{ordered}
-use Rattle.mv_repository.specs.Product.{is_same_gtin}
+use Rattle.mv_repository.specs.Keys.{is_same_text}
 use Rattle.mv_repository.proofs.ProductLemmas.{copy-late, copy-latest}
 use Rattle.mv_repository.proofs.repository.Repository.apply_master.Goals.{then-not-is_late+in_ok-insert, else-not-is_late}
 use Rattle.mv_repository.proofs.repository.Repository.apply_master.Goals as goal
@@ -12,7 +12,7 @@ pub invariant_of-self-3 : goal.invariant_of-self-3
 invariant_of-self-3 c =
     let log = c.ready_entry.new.log.items in
     let copy : IsCopyOf log c.self.inside.masters.entries = rw c.ready_entry.ensures.items c.self.invariant in
-    let names : (gtin : List ℕ) → is_master gtin c.in_ok-entry.entry.item ≡ is_same_gtin c.args.gtin gtin =
+    let names : (gtin : List ℕ) → is_master gtin c.in_ok-entry.entry.item ≡ is_same_text c.args.gtin gtin =
     λ gtin. ap (λ (e : LogEntry). is_master gtin e.item) c.in_ok-entry.ensures.entry ∙ c.requires gtin in
     let late : is_late c.in_ok-entry.entry.item (last_master c.args.gtin (ordered log)) ≡ c.is_late.result =
     ap (λ (e : LogEntry). is_late e.item (last_master c.args.gtin (ordered log))) c.in_ok-entry.ensures.entry ∙ sym c.is_late.ensures in

@@ -3,7 +3,7 @@ use Rattle.std.proofs.Common.{◌∙◌, ap}
 use Rattle.mv_repository.specs.declared.entry.LogEntry.{LogEntry}
 use Rattle.mv_repository.specs.Copy.{is_master}
 use Rattle.mv_repository.proofs.ProductLemmas.{copy-noted}
-use Rattle.mv_repository.proofs.repository.Repository.apply_receipt.Goals as goal
+use Rattle.mv_repository.proofs.repository.Repository.apply_noted.Goals as goal
 
 pub invariant_of-self-2 : goal.invariant_of-self-2
 invariant_of-self-2 c =

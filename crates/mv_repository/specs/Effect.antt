@@ -11,7 +11,7 @@ use Rattle.mv_repository.specs.declared.effect.Effect.TheVariants as effects
 use Rattle.mv_repository.specs.declared.entry.LogEntry.{LogEntry}
 use Rattle.mv_repository.specs.Order.{Placed, passes, ordered}
 use Rattle.mv_repository.specs.Keys.{is_same_text, pack_key, batch_key}
-use Rattle.mv_repository.specs.Pack.{KnownPack, BatchStanding, change_effect}
+use Rattle.mv_repository.specs.Pack.{KnownPack, change_effect}
 use Rattle.mv_repository.specs.PackState.{batch_standing, known_pack}
 
 -- an entry that comes last, with its place in the log

@@ -10,3 +10,5 @@ pub mod Verdict
 pub mod Counts
 pub mod Repository
 pub mod Copy
+pub mod Stops
+pub mod Track

@@ -6,6 +6,7 @@ use Rattle.mv_message.specs.declared.standing.Standing.{Standing}
 use Rattle.mv_message.specs.declared.standing.Standing.TheVariants as standings
 use Rattle.mv_repository.specs.declared.effect.Effect.{Effect}
 use Rattle.mv_repository.specs.declared.effect.Effect.TheVariants as effects
+use Rattle.mv_repository.specs.declared.stops.BatchStanding.{BatchStanding}
 use Rattle.mv_repository.specs.declared.held.TheConstants.{REVERT_SECONDS}
 use Rattle.mv_repository.specs.Keys.{is_same_text}
 
@@ -24,11 +25,6 @@ pub record KnownPack : Type 0 where
   pub national : Option (List ℕ)
   pub standing : Standing
   pub change : Option KnownChange
-
--- whether a batch is recalled, and whether its product is withdrawn
-pub record BatchStanding : Type 0 where
-  pub recalled : Bool
-  pub withdrawn : Bool
 
 -- a pack stands active: it may be supplied
 abbrev pub is_active : Standing → Bool

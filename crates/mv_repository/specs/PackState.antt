@@ -12,7 +12,8 @@ use Rattle.mv_repository.specs.declared.held.Held.{Held}
 use Rattle.mv_repository.specs.declared.held.Change.{Change}
 use Rattle.mv_repository.specs.Order.{Placed, ordered}
 use Rattle.mv_repository.specs.Keys.{is_same_text, is_same_pack, is_same_batch, batch_key}
-use Rattle.mv_repository.specs.Pack.{KnownPack, KnownChange, BatchStanding, new_pack, pack_after_status}
+use Rattle.mv_repository.specs.declared.stops.BatchStanding.{BatchStanding}
+use Rattle.mv_repository.specs.Pack.{KnownPack, KnownChange, new_pack, pack_after_status}
 
 -- an item is a recall of a batch
 abbrev pub is_recall_of : BatchKey → Item → Bool

@@ -24,7 +24,8 @@ use Rattle.mv_message.specs.declared.message.Product.{Product}
 use Rattle.mv_message.specs.Members.{keys_of, is_among, first_unknown}
 use Rattle.mv_message.specs.Reading.{◌and_then◌, some_or, text_at, gtin_at, free_text_at, markets_at}
 use Rattle.mv_message.specs.Forms.{form_named, form_at, names_of, unless_unknown, known_form_at}
-use Rattle.mv_message.specs.Messages.{read_message, read_bytes, master_at, message_at, value_of, strings}
+use Rattle.mv_message.specs.Messages.{read_message, read_bytes, master_at, message_at, value_of}
+use Rattle.mv_message.specs.Values.{strings}
 use Rattle.mv_message.specs.Reads.{HasOnly, HasText, SpellEach, HasProduct, Reads, IsLegal}
 use Rattle.mv_message.proofs.ValueLemmas.{utf8_test}
 use Rattle.mv_message.proofs.ReadingLemmas.{both_ok, some_or_ok, as_object_ok, text_ok, text_is_read, spelled, spelling_is_read, free_text_ok, free_text_is_read, spelled_list, spelling_list_is_read}
@@ -193,6 +194,13 @@ spelled_is_read d (messages.Master gtin product) h =
     let named : form_at d ≡ Ok forms.Master = ap (λ r. r and_then λ t. some_or (Kind fields.Msg) (form_named t)) (text_is_read fields.Msg d (codes "master") h.1) in
     reopened d (messages.Master gtin product) forms.Master h.0 named
     (master_is_read d product gtin (spelling_is_read read_gtin fields.Gtin d gtin h.2) (spelling_list_is_read read_market MOST_MARKETS fields.Markets d product.markets h.3.2) h.3)
+spelled_is_read d (messages.Upload gtin batch expiry national serials) h = absurd h
+spelled_is_read d (messages.Status key to user at) h = absurd h
+spelled_is_read d (messages.Recall key at) h = absurd h
+spelled_is_read d (messages.Repack before before_serials after after_serials at) h = absurd h
+spelled_is_read d (messages.Withdraw gtin at) h = absurd h
+spelled_is_read d (messages.Query key) h = absurd h
+spelled_is_read d (messages.Answer asker q key found) h = absurd h
 
 -- a value is read as a message exactly where it is a spelling of it
 pub reads_exactly : (d : Data) (m : Message) → (read_message d ≡ Ok m) ↔ Reads d m
@@ -210,6 +218,13 @@ spelled_is_legal d (messages.Master gtin product) h =
       read_gtin_is_gtin h.2.0 gtin h.2.2,
       (p.0.1, p.1.1, (p.2.2, p.2.3, markets_legal p.2.0 product.markets p.2.4), p.3.1, p.4.1, p.5.1, p.6.1, p.7.1),
     )
+spelled_is_legal d (messages.Upload gtin batch expiry national serials) h = absurd h
+spelled_is_legal d (messages.Status key to user at) h = absurd h
+spelled_is_legal d (messages.Recall key at) h = absurd h
+spelled_is_legal d (messages.Repack before before_serials after after_serials at) h = absurd h
+spelled_is_legal d (messages.Withdraw gtin at) h = absurd h
+spelled_is_legal d (messages.Query key) h = absurd h
+spelled_is_legal d (messages.Answer asker q key found) h = absurd h
 
 -- what is read is legal
 pub read_is_legal : (d : Data) (m : Message) → read_message d ≡ Ok m → IsLegal m
@@ -255,6 +270,13 @@ value_spells (messages.Master gtin product) h =
         (refl, p.7),
       ),
     )
+value_spells (messages.Upload gtin batch expiry national serials) h = absurd h
+value_spells (messages.Status key to user at) h = absurd h
+value_spells (messages.Recall key at) h = absurd h
+value_spells (messages.Repack before before_serials after after_serials at) h = absurd h
+value_spells (messages.Withdraw gtin at) h = absurd h
+value_spells (messages.Query key) h = absurd h
+value_spells (messages.Answer asker q key found) h = absurd h
 
 -- each legal message is read back from its value
 pub reads_back : (m : Message) → IsLegal m → read_message (value_of m) ≡ Ok m

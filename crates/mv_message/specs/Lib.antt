@@ -1,7 +1,10 @@
 pub mod Fields
+pub mod Standings
 pub mod Fault
 pub mod Members
+pub mod Kinds
 pub mod Reading
 pub mod Forms
+pub mod Values
 pub mod Messages
 pub mod Reads

@@ -1,8 +1,7 @@
 -- Messages: the JSON value of each, and what reading a value or bytes gives.
-use Rattle.std.specs.Prelude.{ℕ, List, map, codes, if◌then◌else◌, Result, Ok, Err}
+use Rattle.std.specs.Prelude.{ℕ, List, if◌then◌else◌, Result, Ok, Err}
 use Rattle.std.specs.Str.{is_utf8}
-use Rattle.serde_json.specs.Data.{Data, string, array, object, Items, no_members, member}
-use Rattle.serde_json.specs.View.{items_of}
+use Rattle.serde_json.specs.Data.{Data}
 use Rattle.serde_json.specs.Find.{as_object}
 use Rattle.serde_json.specs.Read.{read}
 use Rattle.mv_message.specs.declared.field.Field.TheVariants as fields
@@ -15,6 +14,7 @@ use Rattle.mv_message.specs.declared.message.Message.TheVariants as messages
 use Rattle.mv_message.specs.declared.message.Product.{Product}
 use Rattle.mv_message.specs.Reading.{◌and_then◌, some_or, gtin_at, free_text_at, markets_at}
 use Rattle.mv_message.specs.Forms.{form_at, known_form_at}
+use Rattle.mv_message.specs.Values.{master_value, upload_value, status_value, recall_value, repack_value, withdraw_value, query_value, answer_value}
 
 -- the product master that the fields of an object give, each read in byte order of its name
 unfoldable pub master_at : Data → Result Message MessageFault
@@ -59,24 +59,14 @@ read_value bytes = if is_utf8 bytes then some_or NotJson (read bytes) else Err N
 abbrev pub read_bytes : List ℕ → Result Message MessageFault
 read_bytes bytes = read_value bytes and_then read_message
 
--- a list of texts
-abbrev pub strings : List (List ℕ) → Items
-strings texts = items_of (map string texts)
-
--- the value of a product master
-abbrev pub master_value : List ℕ → Product → Data
-master_value gtin product =
-    object (member (codes "common") (string product.common)
-    (member (codes "form") (string product.form)
-    (member (codes "gtin") (string gtin)
-    (member (codes "markets") (array (strings product.markets))
-    (member (codes "msg") (string (codes "master"))
-    (member (codes "name") (string product.name)
-    (member (codes "pack_size") (string product.pack_size)
-    (member (codes "pack_type") (string product.pack_type)
-    (member (codes "scheme") (string product.scheme)
-    (member (codes "strength") (string product.strength) no_members))))))))))
-
--- the value of a message, its keys in byte order
+-- the value of a message
 abbrev pub value_of : Message → Data
 value_of (messages.Master gtin product) = master_value gtin product
+value_of (messages.Upload gtin batch expiry national serials) = upload_value gtin batch expiry national serials
+value_of (messages.Status key to user at) = status_value key to user at
+value_of (messages.Recall key at) = recall_value key at
+value_of (messages.Repack before before_serials after after_serials at) =
+    repack_value before before_serials after after_serials at
+value_of (messages.Withdraw gtin at) = withdraw_value gtin at
+value_of (messages.Query key) = query_value key
+value_of (messages.Answer asker q key found) = answer_value asker q key found

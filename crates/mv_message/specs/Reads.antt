@@ -69,6 +69,7 @@ abbrev pub Reads : Data → Message → Type 0
 Reads value (messages.Master gtin product) =
     HasOnly forms.Master value × HasText value fields.Msg (codes "master")
     × Spells read_gtin value fields.Gtin gtin × HasProduct value product
+Reads value message = ⊥
 
 -- 1 to 32 markets
 abbrev pub AreMarkets : List (List ℕ) → Type 0
@@ -84,6 +85,7 @@ IsLegalProduct product =
 -- the values are those of readers, and texts and lists keep their limits
 abbrev pub IsLegal : Message → Type 0
 IsLegal (messages.Master gtin product) = IsGtin gtin × IsLegalProduct product
+IsLegal message = ⊥
 
 -- each legal message is read back from its value
 abbrev pub ReadsBack : Type 0

@@ -8,21 +8,29 @@
 mod fault;
 mod field;
 mod form;
+mod found;
 pub mod laws;
 mod lists;
 mod markets;
 pub mod members;
 mod message;
 mod reading;
+mod serials;
+mod standing;
 mod text;
+mod values;
+mod version;
 mod writing;
 
 pub use fault::MessageFault;
 pub use field::Field;
+pub use found::Found;
 pub use lists::MOST_MARKETS;
 pub use markets::Markets;
 pub use message::{Message, Party, Product};
 pub use reading::MOST_TEXT_BYTES;
+pub use serials::Serials;
+pub use standing::Standing;
 pub use text::Text;
 
 #[cfg(test)]

@@ -10,7 +10,7 @@ ghost use Rattle.mv_message.specs.Reading.{Gives, texts_at, markets_at, read_ite
 
 use crate::reading::member_of;
 use crate::{Field, Markets, MessageFault};
-use mv_pack::Market;
+use mv_pack::{Market, Serial};
 use serde_json::Value;
 use std::alloc::{AllocError, Global};
 
@@ -91,6 +91,17 @@ pub(crate) fn market_values(alloc: Global, markets: &[Market]) -> Result<Vec<Val
     let mut values = Vec::new(alloc);
     for market in markets {
         values.push(Value::try_from_str(alloc, market.as_str())?)?;
+    }
+    Ok(values)
+}
+
+/// The texts of serial numbers, as values.
+pub(crate) fn serial_values(alloc: Global, serials: &[Serial]) -> Result<Vec<Value>, AllocError>
+    ensures { IfOk result (λ values. map view values.items ≡ map string serials.now) }
+{
+    let mut values = Vec::new(alloc);
+    for serial in serials {
+        values.push(Value::try_from_str(alloc, serial.as_str())?)?;
     }
     Ok(values)
 }

@@ -1,14 +1,15 @@
 //! What parties send each other.
 
-ghost use Rattle.std.specs.Prelude.{◌≡◌, IfOk, IfErr};
+ghost use Rattle.std.specs.Prelude.{◌≡◌, IfOk, IfErr, IsOk, IsTrue};
 ghost use Rattle.serde_json.specs.View.{view};
 ghost use Rattle.mv_message.specs.Reading.{Gives};
 
 use crate::form::{Form, form_of, known_form};
+use crate::found::national_copy;
 use crate::lists::markets_of;
 use crate::reading::{free_text_of, gtin_of};
-use crate::{Field, Markets, MessageFault, Text};
-use mv_pack::Gtin;
+use crate::{Field, Found, Markets, MessageFault, Serials, Standing, Text};
+use mv_pack::{Batch, BatchKey, Expiry, Gtin, Moment, National, PackKey};
 use serde_json::Value;
 use std::alloc::{AllocError, Global};
 
@@ -58,11 +59,59 @@ impl Product {
 #[derive(Debug, PartialEq, Eq, Drop)]
 pub enum Message {
     /// The product master: what is sold under a product code, and where.
-    Master { gtin: Gtin, product: Product },
+    Master {
+        gtin: Gtin,
+        product: Product,
+    },
+    /// Packs of a batch, each active from now on (Article 33 of Delegated Regulation (EU) 2016/161).
+    Upload {
+        gtin: Gtin,
+        batch: Batch,
+        expiry: Expiry,
+        national: Option<National>,
+        serials: Serials,
+    },
+    /// A change of a pack's standing: it is decommissioned, or made active again (Articles 13 and 16 to 25).
+    Status {
+        key: PackKey,
+        to: Standing,
+        user: Text,
+        at: Moment,
+    },
+    /// The recall of a batch.
+    Recall {
+        key: BatchKey,
+        at: Moment,
+    },
+    /// Packs of a batch were repackaged as packs of another (Article 16 and 35(4)).
+    Repack {
+        before: BatchKey,
+        before_serials: Serials,
+        after: BatchKey,
+        after_serials: Serials,
+        at: Moment,
+    },
+    /// The withdrawal of a product.
+    Withdraw {
+        gtin: Gtin,
+        at: Moment,
+    },
+    /// The question what a repository holds of a pack (Article 34).
+    Query {
+        key: PackKey,
+    },
+    /// The answer to the query that was the `q`-th message of the party that asked.
+    Answer {
+        asker: Party,
+        q: u32,
+        key: PackKey,
+        found: Found,
+    },
 }
 
 impl Message {
     ghost use Rattle.mv_message.specs.Messages.{read_bytes, read_message, master_at};
+    ghost use Rattle.mv_message.specs.Kinds.{is_query_or_answer};
 
     /// Reads a message from the bytes of a JSON text.
     ///
@@ -86,9 +135,9 @@ impl Message {
 
     /// Reads a message from a JSON value.
     ///
-    /// The first of these that holds is the fault: M2, the value is no object; M3 or M5 of `msg`; M4 with the first
-    /// key, in byte order, that the message does not have; then the faults of the fields, in byte order of their names.
-    /// M9 may stand in place of any answer where memory was refused.
+    /// The first of these that holds is the fault: M2, the value is no object; M5 of `v`, which is there and not 2; M3
+    /// or M5 of `msg`; M4 with the first key, in byte order, that the message does not have; then the faults of the
+    /// fields, in byte order of their names. M9 may stand in place of any answer where memory was refused.
     #[tactic(auto, unfolding(crate::specs::Messages::read_message))]
     pub fn from_value(alloc: Global, value: &Value) -> Result<Message, MessageFault>
         ensures { Gives result (read_message (view value.now)) }
@@ -135,11 +184,65 @@ impl Message {
     pub fn copy(&self, alloc: Global) -> Result<Message, MessageFault>
         ensures copy { IfOk result (λ message. message ≡ self.now) }
         ensures memory { IfErr result (λ fault. fault ≡ MessageFault.Memory) }
+        // A query or an answer takes no memory to copy.
+        ensures no_memory { IsTrue (is_query_or_answer self.now) → IsOk result }
     {
         match self {
             Message::Master { gtin, product } => Ok(Message::Master {
                 gtin: *gtin,
                 product: product.copy(alloc)?,
+            }),
+            Message::Upload {
+                gtin,
+                batch,
+                expiry,
+                national,
+                serials,
+            } => Ok(Message::Upload {
+                gtin: *gtin,
+                batch: batch.copy(),
+                expiry: *expiry,
+                national: national_copy(national),
+                serials: serials.copy(alloc)?,
+            }),
+            Message::Status { key, to, user, at } => Ok(Message::Status {
+                key: key.copy(),
+                to: *to,
+                user: user.copy(alloc)?,
+                at: *at,
+            }),
+            Message::Recall { key, at } => Ok(Message::Recall {
+                key: key.copy(),
+                at: *at,
+            }),
+            Message::Repack {
+                before,
+                before_serials,
+                after,
+                after_serials,
+                at,
+            } => Ok(Message::Repack {
+                before: before.copy(),
+                before_serials: before_serials.copy(alloc)?,
+                after: after.copy(),
+                after_serials: after_serials.copy(alloc)?,
+                at: *at,
+            }),
+            Message::Withdraw { gtin, at } => Ok(Message::Withdraw {
+                gtin: *gtin,
+                at: *at,
+            }),
+            Message::Query { key } => Ok(Message::Query { key: key.copy() }),
+            Message::Answer {
+                asker,
+                q,
+                key,
+                found,
+            } => Ok(Message::Answer {
+                asker: *asker,
+                q: *q,
+                key: key.copy(),
+                found: found.copy(),
             }),
         }
     }

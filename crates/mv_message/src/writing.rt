@@ -3,24 +3,22 @@
 ghost use Rattle.std.specs.Prelude.{◌≡◌, IfOk, IfErr, Ok, string_bytes};
 ghost use Rattle.serde_json.specs.View.{view};
 ghost use Rattle.serde_json.specs.Written.{compact_text};
-ghost use Rattle.mv_message.specs.Messages.{value_of, master_value, read_bytes};
+ghost use Rattle.mv_message.specs.Messages.{value_of, read_bytes};
 ghost use Rattle.mv_message.specs.Reads.{IsLegal};
 
-use crate::lists::market_values;
-use crate::{Message, MessageFault, Product};
-use mv_pack::Gtin;
-use serde_json::{Value, json};
-use std::alloc::{AllocError, Global};
+use crate::values::message_value;
+use crate::{Message, MessageFault};
+use serde_json::Value;
+use std::alloc::Global;
 
 impl Message {
-    /// The JSON value of the message. The only refusal is M9, for want of memory.
+    /// The JSON value of the message, of version 2 where it could not say all in version 1. The only refusal is M9, for
+    /// want of memory.
     pub fn to_value(&self, alloc: Global) -> Result<Value, MessageFault>
         ensures value { IfOk result (λ value. view value ≡ value_of self.now) }
         ensures memory { IfErr result (λ fault. fault ≡ MessageFault.Memory) }
     {
-        match self {
-            Message::Master { gtin, product } => Ok(master_value(alloc, gtin, product)?),
-        }
+        Ok(message_value(alloc, self)?)
     }
 
     /// The canonical text of the message: its value with no blanks, the keys in byte order. The only refusal is M9, for
@@ -35,22 +33,4 @@ impl Message {
     {
         Ok(self.to_value(alloc)?.to_string(alloc)?)
     }
-}
-
-/// The value of a product master.
-fn master_value(alloc: Global, gtin: &Gtin, product: &Product) -> Result<Value, AllocError>
-    ensures { IfOk result (λ value. view value ≡ master_value gtin.now product.now) }
-{
-    json!(in alloc; {
-        "common": product.common.as_str(),
-        "form": product.form.as_str(),
-        "gtin": gtin.as_str(),
-        "markets": market_values(alloc, product.markets.as_slice())?,
-        "msg": "master",
-        "name": product.name.as_str(),
-        "pack_size": product.pack_size.as_str(),
-        "pack_type": product.pack_type.as_str(),
-        "scheme": product.scheme.as_str(),
-        "strength": product.strength.as_str()
-    })
 }

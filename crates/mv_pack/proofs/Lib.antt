@@ -1,5 +1,4 @@
 pub mod GtinLemmas
 pub mod MarketLemmas
-pub mod PaddingLemmas
 pub mod CodeLemmas
 pub mod ExpiryLemmas

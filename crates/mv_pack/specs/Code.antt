@@ -3,7 +3,7 @@ use Rattle.std.specs.Prelude.{ℕ, ◌+◌, ◌≤◌, ◌==◌, ◌&&◌, ◌||
 use Rattle.std.specs.List.{list_all, position_from}
 use Rattle.mv_pack.specs.Gtin.{is_digit}
 use Rattle.mv_pack.specs.Market.{is_capital}
-use Rattle.mv_pack.specs.declared.code.TheConstants.{MOST_BYTES}
+use Rattle.mv_pack.specs.declared.code.TheConstants.{MOST_CODE_BYTES}
 use Rattle.mv_pack.specs.declared.fault.PackFault.{PackFault}
 use Rattle.mv_pack.specs.declared.fault.PackFault.TheVariants.{Empty, TooLong, Character}
 
@@ -23,7 +23,7 @@ is_code_character byte = is_digit byte || is_capital byte || is_small_letter byt
 
 -- 1 to 20 characters of codes
 abbrev pub IsCode : List ℕ → Type 0
-IsCode text = (1 ≤ length text) × (length text ≤ MOST_BYTES) × IsTrue (list_all is_code_character text)
+IsCode text = (1 ≤ length text) × (length text ≤ MOST_CODE_BYTES) × IsTrue (list_all is_code_character text)
 
 -- the place of the first byte that is no character of codes, counted from zero
 abbrev pub first_wrong : List ℕ → Option ℕ
@@ -38,5 +38,5 @@ read_characters text (Some place) = Err (Character (place + 1))
 abbrev pub read_code : List ℕ → Result (List ℕ) PackFault
 read_code text =
     if length text == 0 then Err Empty
-    else (if nat_lt MOST_BYTES (length text) then Err TooLong
+    else (if nat_lt MOST_CODE_BYTES (length text) then Err TooLong
     else read_characters text (first_wrong text))

@@ -1,7 +1,6 @@
 pub mod Gtin
 pub mod Market
 pub mod Code
-pub mod Padding
 pub mod Expiry
 pub mod Moment
 pub mod Fault

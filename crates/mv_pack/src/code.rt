@@ -1,93 +1,111 @@
-//! The texts that serial numbers, batch numbers and national numbers have in common. Only these three types use it.
+//! Serial, batch and national numbers: texts of one form, which must not be taken for one another.
+//!
+//! The three are one type with a marker, so that reading, equality, order and hash are written once.
 
-ghost use Rattle.std.specs.Prelude.{◌≡◌, ◌-◌, ◌<◌, ◌≤◌, ◌↔◌, ◌++◌, not, length, replicate, nat_eq, refl, IsOk, IfSome, MatchResult, Ok, Err, Some};
+ghost use Rattle.std.specs.Prelude.{◌≡◌, ◌<◌, ◌↔◌, length, nat_eq, refl, IsOk, IfSome, MatchResult, Ok, Err, Some};
 ghost use Rattle.std.specs.Ordering.{nat_cmp};
 ghost use Rattle.std.specs.Cmp.{partial_equiv_from_equiv};
 ghost use Rattle.std.specs.Cmp.Lexicographic.{pointwise, slice_cmp, nat_list_eq_equiv, nat_list_cmp_total, texts_po, texts_ties};
 ghost use Rattle.std.specs.Cmp.Rules.{hashing};
 ghost use Rattle.std.specs.Hash as fed;
 ghost use Rattle.std.proofs.Common.{rules};
-ghost use Rattle.mv_pack.specs.declared.code.TheConstants.{MOST_BYTES};
 ghost use Rattle.mv_pack.specs.Code.{is_code_character, first_wrong, read_code, IsCode};
 
 use crate::PackFault;
+use arrayvec::ArrayString;
 use std::cmp::Ordering;
+use std::fmt;
 use std::hash::{Hash, Hasher};
-use std::marker::Model;
-use std::str;
+use std::marker::{Model, PhantomData};
 
-/// The most bytes of a code.
-pub const MOST_BYTES: usize = 20;
+/// The most bytes of a serial, batch or national number.
+pub const MOST_CODE_BYTES: usize = 20;
 
-/// A text of 1 to 20 characters of codes.
+/// The serial number of a pack (Delegated Regulation (EU) 2016/161, Article 4(b)(ii)).
+pub type Serial = Code<SerialKind>;
+
+/// The number of a batch (Delegated Regulation (EU) 2016/161, Article 4(b)(iv)).
+pub type Batch = Code<BatchKind>;
+
+/// A national reimbursement number, or another national number of a product (Delegated Regulation (EU) 2016/161,
+/// Article 4(b)(iii)).
+pub type National = Code<NationalKind>;
+
+/// Marks serial numbers.
 #[derive(Clone, Copy, Debug)]
-pub(crate) struct Code {
-    bytes: [u8; MOST_BYTES],
-    len: usize,
+pub struct SerialKind;
+
+/// Marks batch numbers.
+#[derive(Clone, Copy, Debug)]
+pub struct BatchKind;
+
+/// Marks national numbers.
+#[derive(Clone, Copy, Debug)]
+pub struct NationalKind;
+
+/// A text of 1 to 20 characters of codes, of the kind `K`.
+#[derive(Drop)]
+pub struct Code<K> {
+    text: ArrayString<MOST_CODE_BYTES>,
+    kind: PhantomData<K>,
 }
 
-impl Model for Code {
-    ghost use Rattle.std.specs.Prelude.{◌≡◌, ◌-◌, ◌≤◌, ◌++◌, List, ℕ, length, take, drop, replicate};
-    ghost use Rattle.mv_pack.specs.declared.code.TheConstants.{MOST_BYTES};
+impl<K> Model for Code<K> {
+    ghost use Rattle.std.specs.Prelude.{List, ℕ};
     ghost use Rattle.mv_pack.specs.Code.{IsCode};
-    ghost use Rattle.mv_pack.specs.Padding.{length_of_taken, padded_is_buffer};
 
     ghost Value = { List ℕ };
 
-    ghost view = { λ c. take c.len c.bytes };
+    ghost view = { λ c. c.text.bytes };
 
-    // What lies behind the text is zeros, so that a text has one form.
-    ghost invariant = { λ c.
-        (length c.bytes ≡ MOST_BYTES) × (c.len ≤ MOST_BYTES)
-        × (drop c.len c.bytes ≡ replicate (MOST_BYTES - c.len) 0) × IsCode (take c.len c.bytes) };
-
-    ghost inverse = { λ t. record { bytes = t ++ replicate (MOST_BYTES - length t) 0; len = length t } };
-
-    ghost inverse_ok = { λ c h i. record {
-      bytes = padded_is_buffer c.len c.bytes h.0 h.1 h.2 i;
-      len = length_of_taken c.len c.bytes h.0 h.1 i;
-    } };
+    ghost invariant = { λ c. IsCode c.text.bytes };
 }
 
-impl Code {
-    /// Reads a code of 1 to 20 characters.
+impl<K> Code<K> {
+    /// Reads a text of 1 to 20 characters.
     ///
     /// The first of these that holds is the fault: P4, no byte; P5, more than 20 bytes; P6, a byte that is no character
-    /// of codes.
-    #[tactic(auto, using(crate::proofs::CodeLemmas::read_code_of, crate::proofs::CodeLemmas::no_fault, crate::proofs::PaddingLemmas::length_stored, crate::proofs::PaddingLemmas::stored_front, crate::proofs::PaddingLemmas::stored_rest))]
-    pub fn read(text: &str) -> Result<Code, PackFault>
+    /// of codes (GS1 General Specifications, section 7.11).
+    #[tactic(auto, using(crate::proofs::CodeLemmas::read_code_of, crate::proofs::CodeLemmas::no_fault))]
+    pub fn read(text: &str) -> Result<Code<K>, PackFault>
         ensures exact { result ≡ read_code text.now }
         ensures accepted { IsOk result ↔ IsCode text.now }
     {
         check_code(text)?;
-        let bytes = stored(text.as_bytes());
+        let mut held = ArrayString::new();
+        held.push_str(text);
         Ok(Code {
-            bytes,
-            len: text.len(),
+            text: held,
+            kind: PhantomData,
         })
     }
 
     /// The text that was read.
-    #[tactic(auto, using(crate::proofs::CodeLemmas::utf8_of_code))]
     pub fn as_str(&self) -> &str
         ensures { result.now ≡ self.now }
     {
-        let Ok(text) = str::from_utf8(&self.bytes[..self.len]) else {
-            unreachable!();
-        };
-        text
+        self.text.as_str()
+    }
+
+    /// The same once more; it takes no memory.
+    pub fn copy(&self) -> Code<K>
+        ensures { result ≡ self.now }
+    {
+        Code {
+            text: self.text,
+            kind: PhantomData,
+        }
     }
 }
 
 /// Whether the text is a code, or its first fault.
-#[tactic(auto, using(crate::proofs::CodeLemmas::none_wrong))]
 fn check_code(text: &str) -> Result<(), PackFault>
     ensures { MatchResult result (λ _. IsCode text.now) (λ e. read_code text.now ≡ Err e) }
 {
     if text.is_empty() {
         return Err(PackFault::Empty);
     }
-    if text.len() > MOST_BYTES {
+    if text.len() > MOST_CODE_BYTES {
         return Err(PackFault::TooLong);
     }
     match first_wrong(text.as_bytes()) {
@@ -111,17 +129,7 @@ fn is_code_character(byte: u8) -> bool
     byte.is_ascii_alphanumeric() || matches!(byte, b'!' | b'"' | b'%'..=b'/' | b':'..=b'?' | b'_')
 }
 
-/// The text, with zeros behind it.
-fn stored(text: &[u8]) -> [u8; MOST_BYTES]
-    requires { length text.now ≤ MOST_BYTES }
-    ensures { result ≡ text.now ++ replicate (MOST_BYTES - length text.now) 0 }
-{
-    let mut bytes = [0; MOST_BYTES];
-    bytes[..text.len()].copy_from_slice(text);
-    bytes
-}
-
-impl PartialEq for Code {
+impl<K> PartialEq for Code<K> {
     ghost eq = { pointwise nat_eq };
 
     ghost laws = { partial_equiv_from_equiv nat_list_eq_equiv };
@@ -131,11 +139,11 @@ impl PartialEq for Code {
     }
 }
 
-impl Eq for Code {
+impl<K> Eq for Code<K> {
     ghost laws = { nat_list_eq_equiv };
 }
 
-impl PartialOrd for Code {
+impl<K> PartialOrd for Code<K> {
     ghost partial_cmp = { λ s t. Some (slice_cmp nat_cmp s t) };
 
     ghost laws = { texts_po };
@@ -146,7 +154,7 @@ impl PartialOrd for Code {
 }
 
 /// By their bytes.
-impl Ord for Code {
+impl<K> Ord for Code<K> {
     ghost cmp = { slice_cmp nat_cmp };
 
     ghost total = { nat_list_cmp_total };
@@ -160,12 +168,19 @@ impl Ord for Code {
     }
 }
 
-impl Hash for Code {
+impl<K> Hash for Code<K> {
     ghost hash_input = { fed.str };
 
     ghost respects_eq = { Prim.search (hashing, rules) };
 
     fn hash<H: Hasher>(&self, state: &mut H) {
         self.as_str().hash(state);
+    }
+}
+
+/// As its text.
+impl<K> fmt::Debug for Code<K> {
+    fn fmt<W: fmt::Write>(&self, f: &mut fmt::Formatter<W>) -> fmt::Result {
+        fmt::Debug::fmt(self.as_str(), f)
     }
 }

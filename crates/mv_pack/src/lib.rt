@@ -5,7 +5,6 @@
 //! their numbers. No call takes memory. This crate knows no message and no JSON.
 #![tactic(auto)]
 
-mod batch;
 mod code;
 mod expiry;
 mod fault;
@@ -14,19 +13,14 @@ mod key;
 pub mod laws;
 mod market;
 mod moment;
-mod national;
-mod serial;
 
-pub use batch::Batch;
-pub use code::MOST_BYTES;
+pub use code::{Batch, MOST_CODE_BYTES, National, Serial};
 pub use expiry::Expiry;
 pub use fault::PackFault;
 pub use gtin::Gtin;
 pub use key::{BatchKey, PackKey};
 pub use market::Market;
 pub use moment::{Moment, YEAR_2100};
-pub use national::National;
-pub use serial::Serial;
 
 #[cfg(test)]
 mod tests;

@@ -1,3 +1,7 @@
+pub mod KeptLemmas
+pub mod LatestLemmas
 pub mod OrderLemmas
 pub mod PlaceLemmas
+pub mod StateLemmas
+pub mod TableLemmas
 pub mod ProductLemmas

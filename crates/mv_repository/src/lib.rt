@@ -11,6 +11,7 @@ mod entry;
 mod held;
 mod laws;
 mod order;
+mod packs;
 mod repository;
 mod sender;
 mod status;

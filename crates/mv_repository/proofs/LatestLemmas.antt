@@ -23,6 +23,10 @@ upto-more : (n m : ℕ) (item : Item) → n ≤ m → IsUpTo n item → IsUpTo m
 upto-more n m (Carried k stamp message) l h = omega arith
 upto-more n m (Receipt k reach query) l h = tt
 
+pub upto_rank : (n : ℕ) (item : Item) → rank item ≤ n → IsUpTo n item
+upto_rank n (Carried k stamp message) h = h
+upto_rank n (Receipt k reach query) h = tt
+
 all_upto-more : (n m : ℕ) (xs : List Placed) → n ≤ m → AllUpTo n xs → AllUpTo m xs
 all_upto-more n m [] l u = tt
 all_upto-more n m (x ∷ xs) l u = (upto-more n m x.entry.item l u.0, all_upto-more n m xs l u.1)

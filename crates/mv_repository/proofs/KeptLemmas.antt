@@ -43,6 +43,15 @@ text-sym a b = nat_list_eq_equiv.symm a b
 pub pack-sym : (a b : PackKey) → is_same_pack a b ≡ is_same_pack b a
 pack-sym a b = λ i. text-sym a.gtin b.gtin i && text-sym a.serial b.serial i
 
+pub text-self : (a : List ℕ) → is_same_text a a ≡ true
+text-self a = nat_list_eq_equiv.refl a
+
+pub pack-self : (a : PackKey) → is_same_pack a a ≡ true
+pack-self a = λ i. text-self a.gtin i && text-self a.serial i
+
+pub batch-self : (a : BatchKey) → is_same_batch a a ≡ true
+batch-self a = λ i. text-self a.gtin i && text-self a.batch i
+
 none_from : (o : Option Kept) → is_some o ≡ false → o ≡ None
 none_from None e = refl
 none_from (Some x) e = absurd (true≢false e)
@@ -80,6 +89,14 @@ not_itself_n a = grind (arith, nat_tests)
 
 new_first : (log : List LogEntry) (new : ℕ) → earlier_place log new (Some new) ≡ Some new
 new_first log new = ap (λ b. cond b (Some new) (Some new)) (not_itself_n (rank (entry_at log new).entry.item))
+
+-- once the newest is counted it does not come first again
+pub earlier_first : (log : List LogEntry) (new : ℕ) (o : Option ℕ) → comes_first log new (earlier_place log new o) ≡ false
+earlier_first log new o = by (comes_first log new o) refl
+  where
+    by : (b : Bool) → comes_first log new o ≡ b → comes_first log new (cond b (Some new) o) ≡ false
+    by true e = not_itself_n (rank (entry_at log new).entry.item)
+    by false e = e
 
 -- the same entry twice is that entry once
 earlier_twice : (log : List LogEntry) (new : ℕ) (o : Option ℕ) → earlier_place log new (earlier_place log new o) ≡ earlier_place log new o

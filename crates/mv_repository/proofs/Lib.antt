@@ -1,3 +1,5 @@
+pub mod BeforeLemmas
+pub mod EffectLemmas
 pub mod KeptLemmas
 pub mod LatestLemmas
 pub mod OrderLemmas

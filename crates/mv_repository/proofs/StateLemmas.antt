@@ -150,10 +150,10 @@ pub known-grown : (pack : PackKey) (xs : List Placed) → Ascends xs
 known-grown pack xs a = state-fold xs [] xs pack None refl a ∙ fold-grown (first_stops xs) pack xs a
 
 -- a pack is seen whole by the place of its change, whose user the log has
-abbrev IsSeen : List LogEntry → KnownPack → Type 0
+abbrev pub IsSeen : List LogEntry → KnownPack → Type 0
 IsSeen log pack = known_of log (held_of pack) ≡ pack
 
-made-seen : (log : List LogEntry) (item : Item) → IfSome (pack_made_by item) (IsSeen log)
+pub made-seen : (log : List LogEntry) (item : Item) → IfSome (pack_made_by item) (IsSeen log)
 made-seen log (Carried k stamp (Upload gtin batch expiry national serials)) = refl
 made-seen log _ = tt
 
@@ -174,7 +174,7 @@ changed-seen log standing place sender (Carried k stamp (Status key to user at))
     by false = h
 changed-seen log standing place sender _ pack held e h = h
 
-step-seen : (log : List LogEntry) (stops : FirstStops) (pack : PackKey) (birth : Placed) (held : KnownPack) (x : Placed)
+pub step-seen : (log : List LogEntry) (stops : FirstStops) (pack : PackKey) (birth : Placed) (held : KnownPack) (x : Placed)
     → get_or log x.place no_entry ≡ x.entry → IsSeen log held → IsSeen log (pack_step stops pack birth held x)
 step-seen log stops pack birth held x e h =
     elim (stands_before birth x) as (λ b. IsSeen log (cond b (turn stops pack held x) held)) [

@@ -51,5 +51,5 @@ counts_of log = record {
   products = distinct_count is_same_text (mastered_products log);
   packs = distinct_count is_same_pack (uploaded_packs log);
   active = distinct_count is_same_pack (filter (λ pack. is_held_active (pack_state pack log)) (uploaded_packs log));
-  recalled = distinct_count is_same_batch (recalled_batches log)
+  recalled = distinct_count is_same_batch (recalled_batches log);
 }

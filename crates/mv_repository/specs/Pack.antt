@@ -70,8 +70,8 @@ abbrev pub change_effect : KnownPack → BatchStanding → Standing → ℕ → 
 change_effect pack batch to sender user at =
     if is_active to
     then (if is_active pack.standing then effects.AlreadyActive
-        else (if is_final pack.standing then effects.Fixed
-        else revert_effect pack.expiry batch pack.change sender user at))
+    else (if is_final pack.standing then effects.Fixed
+    else revert_effect pack.expiry batch pack.change sender user at))
     else (if is_active pack.standing then effects.Done else effects.NotActive)
 
 -- what was asked for was done
@@ -88,6 +88,7 @@ abbrev pub pack_after_status : KnownPack → BatchStanding → Standing → ℕ 
 pack_after_status pack batch to sender user at entry =
     if is_done (change_effect pack batch to sender user at)
     then record pack {
-        standing = to;
-        change = change_to to (record { by = sender; user = user; at = at; entry = entry }) }
+      standing = to;
+      change = change_to to (record { by = sender; user = user; at = at; entry = entry });
+    }
     else pack

@@ -33,7 +33,7 @@ has_pack gtin serials pack = is_same_text gtin pack.gtin && list_any (λ serial.
 abbrev pub batch_standing : List Placed → BatchKey → BatchStanding
 batch_standing entries batch = record {
   recalled = list_any (λ placed. is_recall_of batch placed.entry.item) entries;
-  withdrawn = list_any (λ placed. is_withdrawal_of batch.gtin placed.entry.item) entries
+  withdrawn = list_any (λ placed. is_withdrawal_of batch.gtin placed.entry.item) entries;
 }
 
 -- A pack once an item from a sender comes that stands at a place of the log, batches standing so before it. The first
@@ -73,7 +73,7 @@ held_of pack = record {
   expiry = pack.expiry;
   national = pack.national;
   standing = pack.standing;
-  change = option_map change_of pack.change
+  change = option_map change_of pack.change;
 }
 
 -- a pack by a log

@@ -36,7 +36,7 @@ first_withdrawal gtin entries = find (λ placed. is_withdrawal_of gtin placed.en
 abbrev pub first_stops : List Placed → FirstStops
 first_stops entries = record {
   recall = λ batch. first_recall batch entries;
-  withdrawal = λ gtin. first_withdrawal gtin entries
+  withdrawal = λ gtin. first_withdrawal gtin entries;
 }
 
 -- an entry, if there is one, stands before another
@@ -48,7 +48,7 @@ is_before (Some first) placed = stands_before first placed
 abbrev pub standing_at : FirstStops → Placed → BatchKey → BatchStanding
 standing_at stops placed batch = record {
   recalled = is_before (stops.recall batch) placed;
-  withdrawn = is_before (stops.withdrawal batch.gtin) placed
+  withdrawn = is_before (stops.withdrawal batch.gtin) placed;
 }
 
 -- the tables of recalls and of withdrawals: for each batch, and for each product, the place of the first in the log
@@ -60,7 +60,7 @@ pub record StopTables : Type 0 where
 abbrev pub stops_in : List LogEntry → StopTables → FirstStops
 stops_in log tables = record {
   recall = λ batch. option_map (entry_at log) (lookup (is_same_batch batch) tables.recalls);
-  withdrawal = λ gtin. option_map (entry_at log) (lookup (is_same_text gtin) tables.withdrawals)
+  withdrawal = λ gtin. option_map (entry_at log) (lookup (is_same_text gtin) tables.withdrawals);
 }
 
 -- the tables are those of a log

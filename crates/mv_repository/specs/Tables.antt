@@ -3,6 +3,7 @@ use Rattle.std.specs.Bool.{⊤}
 use Rattle.std.specs.Prelude.{◌≡◌, ◌≤◌, ℕ, List, [], ◌∷◌, Bool}
 use Rattle.mv_pack.specs.declared.key.PackKey.{PackKey}
 use Rattle.mv_pack.specs.declared.key.BatchKey.{BatchKey}
+use Rattle.mv_message.specs.declared.message.Message.TheVariants.{Upload}
 use Rattle.mv_link.specs.declared.item.Item.{Item}
 use Rattle.mv_link.specs.declared.item.Item.TheVariants.{Receipt, Carried}
 use Rattle.mv_repository.specs.declared.entry.LogEntry.{LogEntry}
@@ -20,6 +21,11 @@ pub record Bears (item : Item) (masters : List ℕ → Bool) (uploads statuses :
   pub status : (pack : PackKey) → is_status_of pack item ≡ statuses pack
   pub recall : (batch : BatchKey) → is_recall_of batch item ≡ recalls batch
   pub withdrawal : (gtin : List ℕ) → is_withdrawal_of gtin item ≡ withdrawals gtin
+
+-- an item is an upload of these packs of a product
+abbrev pub IsUploadOf : Item → List ℕ → List (List ℕ) → Type 0
+IsUploadOf (Carried k stamp (Upload named batch expiry national packs)) gtin serials = (gtin ≡ named) × (serials ≡ packs)
+IsUploadOf _ gtin serials = ⊥
 
 -- no stamp is greater
 abbrev pub IsUpTo : ℕ → Item → Type 0

@@ -1,5 +1,5 @@
 -- What is kept of one pack, and that this gives what the pack is.
-use Rattle.std.specs.Prelude.{◌≡◌, ℕ, List, [], ◌∷◌, map, fold, filter, find, get_or, slice_get, Bool, true, false, Option, Some, None, if◌then◌else◌}
+use Rattle.std.specs.Prelude.{◌≡◌, ℕ, List, [], ◌∷◌, map, fold, filter, find, get_or, slice_get, not, Bool, true, false, Option, Some, None, if◌then◌else◌}
 use Rattle.std.specs.Map.{lookup}
 use Rattle.std.specs.Option.{option_map, unwrap_or}
 use Rattle.mv_pack.specs.declared.key.PackKey.{PackKey}
@@ -13,11 +13,12 @@ use Rattle.mv_repository.specs.declared.held.Change.{Change}
 use Rattle.mv_repository.specs.declared.effect.Effect.{Effect}
 use Rattle.mv_repository.specs.declared.effect.Effect.TheVariants as effects
 use Rattle.mv_repository.specs.declared.stops.BatchStanding.{BatchStanding}
-use Rattle.mv_repository.specs.Keys.{is_same_pack, batch_key}
+use Rattle.std.specs.Set.{distinct_count}
+use Rattle.mv_repository.specs.Keys.{is_same_text, is_same_pack, pack_key, batch_key}
 use Rattle.mv_repository.specs.Order.{Placed, passes, stands_before, ordered, Ascends}
 use Rattle.mv_repository.specs.Pack.{KnownPack, KnownChange, new_pack, pack_after_status, change_effect}
 use Rattle.mv_repository.specs.PackState.{has_pack, held_of, pack_state}
-use Rattle.mv_repository.specs.Stops.{FirstStops, StopTables, no_entry, entry_at, place_of, standing_at, stops_in, earlier_place}
+use Rattle.mv_repository.specs.Stops.{FirstStops, StopTables, no_entry, entry_at, place_of, standing_at, stops_in, comes_first, earlier_place}
 
 -- an item is an upload that names a pack
 abbrev pub is_upload_of : PackKey → Item → Bool
@@ -85,7 +86,7 @@ known_of log held = record {
   expiry = held.expiry;
   national = held.national;
   standing = held.standing;
-  change = option_map (known_change log) held.change
+  change = option_map (known_change log) held.change;
 }
 
 -- a pack that is held, after one more entry of the log
@@ -101,8 +102,8 @@ abbrev pub grown_at : List LogEntry → StopTables → PackKey → Option ℕ �
 grown_at log tables pack None places = None
 grown_at log tables pack (Some birth) places =
     option_map
-        (λ held. fold (held_step log (stops_in log tables) pack (entry_at log birth)) held (map (entry_at log) places))
-        (held_made_at log birth)
+    (λ held. fold (held_step log (stops_in log tables) pack (entry_at log birth)) held (map (entry_at log) places))
+    (held_made_at log birth)
 
 -- what is kept of a pack: the place of its first upload, the places of its statuses in the order of stamps, and what it is
 pub record Kept : Type 0 where
@@ -135,6 +136,29 @@ with_upload log tables pack new kept = worked_out log tables pack (earlier_place
 abbrev pub refreshed : List LogEntry → StopTables → PackKey → Kept → Kept
 refreshed log tables pack kept = worked_out log tables pack kept.birth kept.places
 
+-- the first upload, where the newest entry does not come before it
+abbrev pub counted_place : List LogEntry → ℕ → Option ℕ → Option ℕ
+counted_place log new birth = if comes_first log new birth then None else birth
+
+-- those places whose entries the newest does not pass
+abbrev pub places_before : List LogEntry → ℕ → List ℕ → List ℕ
+places_before log new places = filter (λ place. not (passes (entry_at log new) (entry_at log place))) places
+
+-- a pack as it was before the newest entry
+abbrev pub held_before : List LogEntry → StopTables → PackKey → ℕ → Option ℕ → List ℕ → Option Held
+held_before log tables pack new birth places =
+    grown_at log tables pack (counted_place log new birth) (places_before log new places)
+
+-- the effect of a status on a pack that may be held
+abbrev pub effect_when : List LogEntry → FirstStops → PackKey → Option Held → Placed → Effect
+effect_when log stops pack None placed = effects.Unknown
+effect_when log stops pack (Some held) placed = effect_at log stops pack held placed
+
+-- the effect of the newest entry, a status, where it stands
+abbrev pub newest_effect : List LogEntry → StopTables → PackKey → ℕ → Kept → Effect
+newest_effect log tables pack new kept =
+    effect_when log (stops_in log tables) pack (held_before log tables pack new kept.birth kept.places) (entry_at log new)
+
 -- what is kept stands in order, and the pack is worked out
 pub record IsTrack (log : List LogEntry) (tables : StopTables) (pack : PackKey) (kept : Kept) : Type 0 where
   pub places_ascend : Ascends (map (entry_at log) kept.places)
@@ -153,7 +177,7 @@ abbrev pub track_of : PackKey → List LogEntry → Kept
 track_of pack log = record {
   birth = option_map place_of (first_upload pack (ordered log));
   places = map place_of (statuses_of pack (ordered log));
-  held = pack_state pack log
+  held = pack_state pack log;
 }
 
 -- each pack is kept as it is worked out
@@ -171,3 +195,7 @@ is_at pack (Some entry) = is_same_pack entry.0 pack
 
 abbrev pub is_key_at : List (PackKey × Kept) → ℕ → PackKey → Bool
 is_key_at table place pack = is_at pack (slice_get table place)
+
+-- how many packs of an upload the newest entry makes, as far as the table says
+abbrev pub made_count : List LogEntry → ℕ → List (PackKey × Kept) → List ℕ → List (List ℕ) → ℕ
+made_count log new table gtin serials = distinct_count is_same_text (filter (λ serial. comes_first log new (kept_in (pack_key gtin serial) table).birth) serials)

@@ -1,21 +1,23 @@
 //! The repository: one party's log, and the tables that say what it means.
 
-ghost use Rattle.std.specs.Prelude.{◌≡◌, ◌<◌, ◌≤◌, ℕ, List, Bool, false, OnOk, OnErr, IfOk, vec_len, vec_capacity};
+ghost use Rattle.std.specs.Prelude.{◌≡◌, ◌<◌, ◌≤◌, ℕ, List, Bool, false, OnOk, OnErr, IfOk, vec_len, vec_capacity, if◌then◌else◌};
 ghost use Rattle.std.specs.Option.{option_copied, option_map};
 ghost use Rattle.mv_repository.specs.Order.{rank, ordered};
 ghost use Rattle.mv_repository.specs.Keys.{is_same_text, is_same_pack, is_same_batch};
 ghost use Rattle.mv_repository.specs.Copy.{is_master, product_in, last_master, entry_of, is_late};
 ghost use Rattle.mv_repository.specs.PackState.{has_pack};
-ghost use Rattle.mv_repository.specs.Tables.{Bears, IsUpTo};
+ghost use Rattle.mv_repository.specs.Tables.{Bears, IsUploadOf, IsUpTo};
 
 use crate::order::rank;
 use crate::packs::{add_status, add_uploads, ensure, ensure_all, pack, refresh_all};
+use crate::status::is_active;
 use crate::stops::Stops;
-use crate::track::Track;
-use crate::{Effect, FromSender, Held, LogEntry};
+use crate::track::{Track, copy_of};
+use crate::verdict::{is_for_destruction, verdict_when};
+use crate::{Effect, FromSender, Held, Local, LogEntry};
 use indexmap::IndexMap;
 use mv_link::Item;
-use mv_message::{Message, Party, Product, Serials};
+use mv_message::{Found, Message, Party, Product, Serials};
 use mv_pack::{BatchKey, Gtin, PackKey};
 use std::alloc::{AllocError, Global};
 use std::marker::Model;
@@ -52,6 +54,9 @@ impl Model for Repository {
 impl Repository {
     ghost use Rattle.mv_repository.specs.Repository.{new_repository, with_applied, product_of};
     ghost use Rattle.mv_repository.specs.PackState.{pack_state, is_recalled, is_withdrawn};
+    ghost use Rattle.mv_repository.specs.Effect.{effect_of};
+    ghost use Rattle.mv_repository.specs.Query.{found_of, answer_after, answer_to};
+    ghost use Rattle.mv_repository.specs.Verdict.{local_verdict};
     ghost use Rattle.mv_repository.specs.Log.{items_from};
 
     /// The repository of a party, which applied nothing. It takes no memory.
@@ -137,9 +142,88 @@ impl Repository {
         self.stops.has_withdrawal(gtin)
     }
 
-    /// Applies an item that came from a party, and says what that did.
-    pub fn apply(&mut self, sender: Party, item: &Item) -> Result<Effect, AllocError>
+    /// What is found of a pack.
+    fn found(&self, key: &PackKey) -> Found
+        ensures { result ≡ found_of key.now self.now.log }
+    {
+        let Some(held) = self.pack(key) else {
+            return Found::Absent;
+        };
+        let batch = BatchKey {
+            gtin: key.gtin,
+            batch: held.batch.copy(),
+        };
+        Found::Present {
+            batch: held.batch.copy(),
+            expiry: held.expiry,
+            national: copy_of(&held.national),
+            standing: held.standing,
+            recalled: self.recalled(&batch),
+            withdrawn: self.withdrawn(&key.gtin),
+        }
+    }
+
+    /// The verdict on a pack, where it is held. The log isn't searched.
+    pub fn verify(&self, key: &PackKey) -> Local
+        ensures { result ≡ local_verdict key.now self.now.log }
+    {
+        match self.found(key) {
+            Found::Absent => Local::Absent,
+            Found::Present {
+                standing,
+                recalled,
+                withdrawn,
+                ..
+            } => Local::Known(verdict_when(
+                is_active(standing),
+                recalled || withdrawn || is_for_destruction(standing),
+            )),
+        }
+    }
+
+    /// The answer that an item from a party calls for, before it is applied.
+    fn answer(&self, sender: Party, item: &Item) -> Option<Message>
+        ensures { result ≡ answer_after self.now.log sender item.now }
+    {
+        match item {
+            Item::Carried {
+                k,
+                message: Message::Query { key },
+                ..
+            } => Some(Message::Answer {
+                asker: sender,
+                q: *k,
+                key: key.copy(),
+                found: self.found(key),
+            }),
+            _ => None,
+        }
+    }
+
+    /// Applies an item that came from a party: says what that did, at the item's own place in the order of stamps, and
+    /// gives the answer that it calls for, where it is a query. Want of memory leaves all as it was.
+    pub fn apply(
+        &mut self,
+        sender: Party,
+        item: &Item,
+    ) -> Result<(Effect, Option<Message>), AllocError>
         ensures ok { OnOk result (self.new ≡ with_applied self.old sender item.now) }
+        ensures effect { IfOk result (λ done. done.0
+            ≡ effect_of self.old.log (record { sender = sender; item = item.now })) }
+        ensures answer { IfOk result (λ done. done.1
+            ≡ answer_to self.old.log (record { sender = sender; item = item.now })) }
+        ensures err { OnErr result (self.new ≡ self.old) }
+    {
+        let answer = self.answer(sender, item);
+        let effect = self.apply_item(sender, item)?;
+        Ok((effect, answer))
+    }
+
+    /// Applies an item, and gives its effect.
+    fn apply_item(&mut self, sender: Party, item: &Item) -> Result<Effect, AllocError>
+        ensures ok { OnOk result (self.new ≡ with_applied self.old sender item.now) }
+        ensures effect { IfOk result (λ effect. effect
+            ≡ effect_of self.old.log (record { sender = sender; item = item.now })) }
         ensures err { OnErr result (self.new ≡ self.old) }
     {
         let Item::Carried { stamp, message, .. } = item else {
@@ -147,14 +231,21 @@ impl Repository {
             return Ok(Effect::Noted);
         };
         match message {
-            Message::Master { gtin, .. } => self.apply_master(sender, item, *gtin)?,
-            Message::Upload { gtin, serials, .. } => self.apply_upload(sender, item, *gtin, serials)?,
-            Message::Status { key, .. } => self.apply_status(sender, item, key)?,
-            Message::Recall { key, .. } => self.apply_recall(sender, item, *stamp, key)?,
-            Message::Withdraw { gtin, .. } => self.apply_withdrawal(sender, item, *stamp, *gtin)?,
-            _ => self.apply_noted(sender, item)?,
+            Message::Master { gtin, .. } => {
+                self.apply_master(sender, item, *gtin)?;
+                Ok(Effect::Done)
+            }
+            Message::Upload { gtin, serials, .. } => {
+                self.apply_upload(sender, item, *gtin, serials)
+            }
+            Message::Status { key, .. } => self.apply_status(sender, item, key),
+            Message::Recall { key, .. } => self.apply_recall(sender, item, *stamp, key),
+            Message::Withdraw { gtin, .. } => self.apply_withdrawal(sender, item, *stamp, *gtin),
+            _ => {
+                self.apply_noted(sender, item)?;
+                Ok(Effect::Noted)
+            }
         }
-        Ok(Effect::Done)
     }
 
     /// Applies an item that changes no table.
@@ -192,24 +283,45 @@ impl Repository {
         item: &Item,
         gtin: Gtin,
         serials: &Serials,
-    ) -> Result<(), AllocError>
-        requires { Bears item.now (λ gtin. false) (has_pack gtin serials.now) (λ pack. false) (λ batch. false) (λ gtin. false) }
+    ) -> Result<Effect, AllocError>
+        requires bears { Bears item.now (λ gtin. false) (has_pack gtin serials.now) (λ pack. false) (λ batch. false) (λ gtin. false) }
+        requires upload { IsUploadOf item.now gtin serials.now }
         ensures ok { OnOk result (self.new ≡ with_applied self.old sender item.now) }
+        ensures effect { IfOk result (λ effect. effect
+            ≡ effect_of self.old.log (record { sender = sender; item = item.now })) }
         ensures err { OnErr result (self.new ≡ self.old) }
     {
         let entry = ready_entry(self.alloc, &mut self.log, sender, item)?;
         ensure_all(&mut self.packs, self.alloc, gtin, serials.as_slice())?;
         let new = self.log.len();
         self.log.push_reserved(entry);
-        add_uploads(&mut self.packs, self.log.as_slice(), &self.stops, gtin, serials.as_slice(), new);
+        let serials = serials.as_slice();
+        let count = add_uploads(
+            &mut self.packs,
+            self.log.as_slice(),
+            &self.stops,
+            gtin,
+            serials,
+            new,
+        );
         self.latest = latest_with(self.latest, item);
-        Ok(())
+        Ok(Effect::Uploaded {
+            new: count as u64,
+            old: (serials.len() - count) as u64,
+        })
     }
 
     /// Applies a status of a pack.
-    fn apply_status(&mut self, sender: Party, item: &Item, key: &PackKey) -> Result<(), AllocError>
+    fn apply_status(
+        &mut self,
+        sender: Party,
+        item: &Item,
+        key: &PackKey,
+    ) -> Result<Effect, AllocError>
         requires { Bears item.now (λ gtin. false) (λ pack. false) (is_same_pack key.now) (λ batch. false) (λ gtin. false) }
         ensures ok { OnOk result (self.new ≡ with_applied self.old sender item.now) }
+        ensures effect { IfOk result (λ effect. effect
+            ≡ effect_of self.old.log (record { sender = sender; item = item.now })) }
         ensures err { OnErr result (self.new ≡ self.old) }
     {
         let entry = ready_entry(self.alloc, &mut self.log, sender, item)?;
@@ -217,9 +329,9 @@ impl Repository {
         let new = self.log.len();
         self.log.push_reserved(entry);
         match add_status(&mut self.packs, self.log.as_slice(), &self.stops, key, new) {
-            Ok(()) => {
+            Ok(effect) => {
                 self.latest = latest_with(self.latest, item);
-                Ok(())
+                Ok(effect)
             }
             Err(error) => {
                 self.log.pop();
@@ -235,28 +347,33 @@ impl Repository {
         item: &Item,
         stamp: u32,
         batch: &BatchKey,
-    ) -> Result<(), AllocError>
+    ) -> Result<Effect, AllocError>
         requires stamp { rank item.now ≡ stamp }
         requires bears { Bears item.now (λ gtin. false) (λ pack. false) (λ pack. false) (is_same_batch batch.now) (λ gtin. false) }
         ensures ok { OnOk result (self.new ≡ with_applied self.old sender item.now) }
+        ensures effect { IfOk result (λ effect. effect
+            ≡ effect_of self.old.log (record { sender = sender; item = item.now })) }
         ensures err { OnErr result (self.new ≡ self.old) }
     {
         let entry = ready_entry(self.alloc, &mut self.log, sender, item)?;
         let new = self.log.len();
         self.log.push_reserved(entry);
-        match self.stops.add_recall(self.log.as_slice(), batch.copy(), new) {
-            Ok(_) => {}
+        let effect = match self
+            .stops
+            .add_recall(self.log.as_slice(), batch.copy(), new)
+        {
+            Ok(first) => lasting_effect(first),
             Err(error) => {
                 self.log.pop();
                 return Err(error);
             }
-        }
+        };
         if self.latest <= stamp {
             self.latest = stamp;
-            return Ok(());
+            return Ok(effect);
         }
         refresh_all(&mut self.packs, self.log.as_slice(), &self.stops);
-        Ok(())
+        Ok(effect)
     }
 
     /// Applies a withdrawal of a product. One that comes late bears on packs that were worked out before.
@@ -266,28 +383,41 @@ impl Repository {
         item: &Item,
         stamp: u32,
         gtin: Gtin,
-    ) -> Result<(), AllocError>
+    ) -> Result<Effect, AllocError>
         requires stamp { rank item.now ≡ stamp }
         requires bears { Bears item.now (λ gtin. false) (λ pack. false) (λ pack. false) (λ batch. false) (is_same_text gtin) }
         ensures ok { OnOk result (self.new ≡ with_applied self.old sender item.now) }
+        ensures effect { IfOk result (λ effect. effect
+            ≡ effect_of self.old.log (record { sender = sender; item = item.now })) }
         ensures err { OnErr result (self.new ≡ self.old) }
     {
         let entry = ready_entry(self.alloc, &mut self.log, sender, item)?;
         let new = self.log.len();
         self.log.push_reserved(entry);
-        match self.stops.add_withdrawal(self.log.as_slice(), gtin, new) {
-            Ok(_) => {}
+        let effect = match self.stops.add_withdrawal(self.log.as_slice(), gtin, new) {
+            Ok(first) => lasting_effect(first),
             Err(error) => {
                 self.log.pop();
                 return Err(error);
             }
-        }
+        };
         if self.latest <= stamp {
             self.latest = stamp;
-            return Ok(());
+            return Ok(effect);
         }
         refresh_all(&mut self.packs, self.log.as_slice(), &self.stops);
-        Ok(())
+        Ok(effect)
+    }
+}
+
+/// The effect of a recall or a withdrawal, which is the first of its kind or not.
+fn lasting_effect(is_first: bool) -> Effect
+    ensures { result ≡ (if is_first then Effect.Done else Effect.Noted) }
+{
+    if is_first {
+        Effect::Done
+    } else {
+        Effect::Noted
     }
 }
 
@@ -297,13 +427,7 @@ fn latest_with(latest: u32, item: &Item) -> u32
     ensures item { IsUpTo result item.now }
 {
     match item {
-        Item::Carried { stamp, .. } => {
-            if latest < *stamp {
-                *stamp
-            } else {
-                latest
-            }
-        }
+        Item::Carried { stamp, .. } => { if latest < *stamp { *stamp } else { latest } }
         Item::Receipt { .. } => latest,
     }
 }

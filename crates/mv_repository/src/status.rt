@@ -75,7 +75,7 @@ fn revert_effect(
 ) -> Effect
     ensures { result
         ≡ revert_effect held.now.expiry batch (option_map (known_change log.now) held.now.change)
-            sender user.now at }
+        sender user.now at }
 {
     let Some(change) = held.change else {
         return Effect::OtherUser;

@@ -88,8 +88,8 @@ impl Stops {
         ensures recalls { OnOk result ((other : ABatchKey) →
             lookup (is_same_batch other) self.new.recalls
             ≡ (if is_same_batch batch other
-                then earlier_place log.now new (lookup (is_same_batch batch) self.old.recalls)
-                else lookup (is_same_batch other) self.old.recalls)) }
+            then earlier_place log.now new (lookup (is_same_batch batch) self.old.recalls)
+            else lookup (is_same_batch other) self.old.recalls)) }
         ensures withdrawals { self.new.withdrawals ≡ self.old.withdrawals }
         ensures err { OnErr result (self.new ≡ self.old) }
     {
@@ -113,8 +113,8 @@ impl Stops {
         ensures withdrawals { OnOk result ((other : List ℕ) →
             lookup (is_same_text other) self.new.withdrawals
             ≡ (if is_same_text gtin other
-                then earlier_place log.now new (lookup (is_same_text gtin) self.old.withdrawals)
-                else lookup (is_same_text other) self.old.withdrawals)) }
+            then earlier_place log.now new (lookup (is_same_text gtin) self.old.withdrawals)
+            else lookup (is_same_text other) self.old.withdrawals)) }
         ensures recalls { self.new.recalls ≡ self.old.recalls }
         ensures err { OnErr result (self.new ≡ self.old) }
     {

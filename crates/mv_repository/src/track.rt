@@ -6,8 +6,8 @@ ghost use Rattle.std.specs.Option.{option_copied};
 ghost use Rattle.mv_repository.specs.Order.{Ascends};
 ghost use Rattle.mv_repository.specs.Pack.{pack_after_status};
 ghost use Rattle.mv_repository.specs.PackState.{held_of};
-ghost use Rattle.mv_repository.specs.Stops.{entry_at, stops_in, earlier_place};
-ghost use Rattle.mv_repository.specs.Track.{known_of, held_made_at, held_step, grown_at, put_place, nothing_kept, IsTrack, with_status, with_upload, refreshed};
+ghost use Rattle.mv_repository.specs.Stops.{entry_at, stops_in, comes_first};
+ghost use Rattle.mv_repository.specs.Track.{known_of, held_made_at, held_step, grown_at, put_place, nothing_kept, IsTrack, with_status, with_upload, refreshed, places_before, held_before, effect_when, newest_effect};
 
 use crate::order::{comes_first, passes, stands_before};
 use crate::status::{change_effect, is_active};
@@ -20,7 +20,7 @@ use std::alloc::{AllocError, Global};
 use std::marker::Model;
 
 /// A national number once more, where there is one.
-fn copy_of(national: &Option<National>) -> Option<National>
+pub(crate) fn copy_of(national: &Option<National>) -> Option<National>
     ensures { result ≡ national.now }
 {
     match national {
@@ -34,13 +34,12 @@ fn made_at(log: &[LogEntry], place: usize) -> Option<Held>
     ensures { result ≡ held_made_at log.now place }
 {
     let Item::Carried {
-        message:
-            Message::Upload {
-                batch,
-                expiry,
-                national,
-                ..
-            },
+        message: Message::Upload {
+            batch,
+            expiry,
+            national,
+            ..
+        },
         ..
     } = &log.get(place)?.item
     else {
@@ -117,7 +116,16 @@ fn advance(
         batch: held.batch.copy(),
     };
     let standing = stops.standing_at(log, &batch, place);
-    changed(log, held, standing, *to, entry.sender, user.as_str(), *at, place)
+    changed(
+        log,
+        held,
+        standing,
+        *to,
+        entry.sender,
+        user.as_str(),
+        *at,
+        place,
+    )
 }
 
 /// A pack by its own entries.
@@ -143,6 +151,7 @@ fn place_for(log: &[LogEntry], places: &[usize], new: usize) -> usize
     requires ascend { Ascends (map (entry_at log.now) places.now) }
     ensures within { result ≤ length places.now }
     ensures put { insert places.now result new ≡ put_place log.now new places.now }
+    ensures before { take result places.now ≡ places_before log.now new places.now }
 {
     let mut at = places.len();
     while at > 0 && passes(log, new, places[at - 1]) {
@@ -166,6 +175,65 @@ fn one_more(
     let first = birth?;
     let held = held?;
     Some(advance(log, stops, pack, first, held, new))
+}
+
+/// The effect of the status at a place of the log, on a pack that may be held.
+fn effect_on(
+    log: &[LogEntry],
+    stops: &Stops,
+    pack: &PackKey,
+    held: &Option<Held>,
+    place: usize,
+) -> Effect
+    ensures { result ≡ effect_when log.now (stops_in log.now stops.now) pack.now
+        held.now (entry_at log.now place) }
+{
+    let Some(held) = held else {
+        return Effect::Unknown;
+    };
+    let Some(entry) = log.get(place) else {
+        return Effect::Noted;
+    };
+    let Item::Carried {
+        message: Message::Status { to, user, at, .. },
+        ..
+    } = &entry.item
+    else {
+        return Effect::Noted;
+    };
+    let batch = BatchKey {
+        gtin: pack.gtin,
+        batch: held.batch.copy(),
+    };
+    let standing = stops.standing_at(log, &batch, place);
+    change_effect(log, held, standing, *to, entry.sender, user.as_str(), *at)
+}
+
+/// The effect of the newest entry, a status that goes to a place among those of its pack.
+fn newest_effect(
+    log: &[LogEntry],
+    stops: &Stops,
+    pack: &PackKey,
+    birth: Option<usize>,
+    places: &[usize],
+    held: &Option<Held>,
+    new: usize,
+    at: usize,
+) -> Effect
+    requires worked { held.now ≡ grown_at log.now stops.now pack.now birth places.now }
+    requires within { at ≤ length places.now }
+    requires before { take at places.now ≡ places_before log.now new places.now }
+    ensures { result ≡ effect_when log.now (stops_in log.now stops.now) pack.now
+        (held_before log.now stops.now pack.now new birth places.now) (entry_at log.now new) }
+{
+    if comes_first(log, new, birth) {
+        return Effect::Unknown;
+    }
+    if at == places.len() {
+        return effect_on(log, stops, pack, held, new);
+    }
+    let before = work_out(log, stops, pack, birth, &places[..at]);
+    effect_on(log, stops, pack, &before, new)
 }
 
 /// What is kept of a pack.
@@ -206,39 +274,52 @@ impl Track {
         self.held.as_ref()
     }
 
-    /// Adds the newest entry, a status of the pack.
+    /// Adds the newest entry, a status of the pack, and gives its effect where it stands.
     pub fn add_status(
         &mut self,
         log: &[LogEntry],
         stops: &Stops,
         pack: &PackKey,
         new: usize,
-    ) -> Result<(), AllocError>
+    ) -> Result<Effect, AllocError>
         requires { IsTrack log.now stops.now pack.now self.old }
         ensures ok { OnOk result
             (self.new ≡ with_status log.now stops.now pack.now new self.old) }
+        ensures effect { IfOk result (λ effect. effect
+            ≡ newest_effect log.now stops.now pack.now new self.old) }
         ensures err { OnErr result (self.new ≡ self.old) }
     {
         let at = place_for(log, self.places.as_slice(), new);
         let is_last = at == self.places.len();
+        let places = self.places.as_slice();
+        let effect = newest_effect(log, stops, pack, self.birth, places, &self.held, new, at);
         self.places.insert(at, new)?;
         self.held = if is_last {
             one_more(log, stops, pack, self.birth, self.held.take(), new)
         } else {
             work_out(log, stops, pack, self.birth, self.places.as_slice())
         };
-        Ok(())
+        Ok(effect)
     }
 
-    /// Adds the newest entry, an upload that names the pack.
-    pub fn add_upload(&mut self, log: &[LogEntry], stops: &Stops, pack: &PackKey, new: usize)
+    /// Adds the newest entry, an upload that names the pack; whether it is the first such by stamp.
+    pub fn add_upload(
+        &mut self,
+        log: &[LogEntry],
+        stops: &Stops,
+        pack: &PackKey,
+        new: usize,
+    ) -> bool
         requires { IsTrack log.now stops.now pack.now self.old }
-        ensures { self.new ≡ with_upload log.now stops.now pack.now new self.old }
+        ensures kept { self.new ≡ with_upload log.now stops.now pack.now new self.old }
+        ensures first { result ≡ comes_first log.now new self.old.birth }
     {
-        if comes_first(log, new, self.birth) {
-            self.birth = Some(new);
-            self.held = work_out(log, stops, pack, self.birth, self.places.as_slice());
+        if !comes_first(log, new, self.birth) {
+            return false;
         }
+        self.birth = Some(new);
+        self.held = work_out(log, stops, pack, self.birth, self.places.as_slice());
+        true
     }
 
     /// Works the pack out again.

@@ -8,5 +8,5 @@ use Rattle.mv_repository.proofs.track.work_out.Given as goal
 abbrev pub invariant-loop-place : goal.invariant-loop-place
 invariant-loop-place l =
     Some l.held ≡ option_map
-        (λ held. fold (held_step l.log (stops_in l.log l.stops) l.pack (entry_at l.log l.first)) held (map (entry_at l.log) (take l.place-index l.places)))
-        (held_made_at l.log l.first)
+    (λ held. fold (held_step l.log (stops_in l.log l.stops) l.pack (entry_at l.log l.first)) held (map (entry_at l.log) (take l.place-index l.places)))
+    (held_made_at l.log l.first)

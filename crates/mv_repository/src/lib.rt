@@ -10,10 +10,14 @@ mod effect;
 mod entry;
 mod held;
 mod laws;
+mod order;
 mod repository;
 mod sender;
+mod status;
+mod stops;
 #[cfg(test)]
 mod tests;
+mod track;
 mod verdict;
 
 pub use counts::Counts;

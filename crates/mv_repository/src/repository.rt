@@ -38,7 +38,6 @@ impl Model for Repository {
 
 impl Repository {
     ghost use Rattle.mv_repository.specs.Repository.{new_repository, with_applied, product_of};
-    ghost use Rattle.mv_repository.specs.Effect.{effect_of};
     ghost use Rattle.mv_repository.specs.Log.{items_from};
 
     /// The repository of a party, which applied nothing. It takes no memory.
@@ -103,7 +102,6 @@ impl Repository {
     /// Applies an item that came from a party, and says what that did.
     pub fn apply(&mut self, sender: Party, item: &Item) -> Result<Effect, AllocError>
         ensures ok { OnOk result (self.new ≡ with_applied self.old sender item.now) }
-        ensures effect { IfOk result (λ effect. effect ≡ effect_of item.now) }
         ensures err { OnErr result (self.new ≡ self.old) }
     {
         match item {

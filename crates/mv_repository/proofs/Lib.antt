@@ -1,3 +1,4 @@
 pub mod OrderLemmas
 pub mod PlaceLemmas
 pub mod ProductLemmas
+pub mod InquiriesLemmas

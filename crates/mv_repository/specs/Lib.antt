@@ -12,3 +12,4 @@ pub mod Repository
 pub mod Copy
 pub mod Stops
 pub mod Track
+pub mod Inquiries

@@ -9,6 +9,9 @@ mod counts;
 mod effect;
 mod entry;
 mod held;
+mod inquiries;
+#[cfg(test)]
+mod inquiries_tests;
 mod laws;
 mod order;
 mod repository;

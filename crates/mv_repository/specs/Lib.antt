@@ -7,6 +7,8 @@ pub mod PackState
 pub mod Effect
 pub mod Query
 pub mod Verdict
+pub mod Changes
+pub mod Agreement
 pub mod Counts
 pub mod Repository
 pub mod Copy

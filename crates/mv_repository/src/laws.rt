@@ -1,7 +1,10 @@
-//! Laws of the order of stamps, over the definitions alone.
+//! Laws over the definitions alone.
 
-ghost use Rattle.std.specs.Prelude.{List};
+ghost use Rattle.std.specs.Prelude.{◌≡◌, List};
 ghost use Rattle.mv_repository.specs.declared.entry.LogEntry.{LogEntry as AnEntry};
+ghost use Rattle.mv_pack.specs.declared.key.PackKey.{PackKey as APackKey};
+ghost use Rattle.mv_repository.specs.Agreement.{about, AgreeOn};
+ghost use Rattle.mv_repository.specs.Changes.{ChangeNamesStatus};
 ghost use Rattle.mv_repository.specs.Order.{OneMoreIsPutIn, IsOrderOf, ordered};
 
 /// Whatever came before, one more entry is put in at the place that its stamp gives it.
@@ -12,4 +15,16 @@ pub fn one_more_is_put_in()
 /// The order has each entry of the log once, by stamp, and those of one stamp as they stand in the log.
 pub fn ordered_is_the_order()
     ensures { (log : List AnEntry) → IsOrderOf log (ordered log) }
+{}
+
+/// Two logs that have the same about a pack give it the same state, and its batch and product the same standing, whatever
+/// else they have and in whatever order it came.
+pub fn about_decides()
+    ensures { (pack : APackKey) (one other : List AnEntry) → about pack one ≡ about pack other
+        → AgreeOn pack one other }
+{}
+
+/// The change of a pack names, by its place in the log, the status that made it, so its user is the one of that status.
+pub fn change_names_its_status()
+    ensures { (pack : APackKey) (log : List AnEntry) → ChangeNamesStatus pack log }
 {}

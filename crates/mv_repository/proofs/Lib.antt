@@ -4,3 +4,4 @@ pub mod ProductLemmas
 pub mod InquiriesLemmas
 pub mod ChangesLemmas
 pub mod AgreementLemmas
+pub mod SameAboutLemmas

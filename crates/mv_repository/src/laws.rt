@@ -3,7 +3,7 @@
 ghost use Rattle.std.specs.Prelude.{◌≡◌, List};
 ghost use Rattle.mv_repository.specs.declared.entry.LogEntry.{LogEntry as AnEntry};
 ghost use Rattle.mv_pack.specs.declared.key.PackKey.{PackKey as APackKey};
-ghost use Rattle.mv_repository.specs.Agreement.{about, AgreeOn};
+ghost use Rattle.mv_repository.specs.Agreement.{about, AgreeOn, HasDistinctStamps, HaveSameAbout};
 ghost use Rattle.mv_repository.specs.Changes.{ChangeNamesStatus};
 ghost use Rattle.mv_repository.specs.Order.{OneMoreIsPutIn, IsOrderOf, ordered};
 
@@ -22,6 +22,13 @@ pub fn ordered_is_the_order()
 pub fn about_decides()
     ensures { (pack : APackKey) (one other : List AnEntry) → about pack one ≡ about pack other
         → AgreeOn pack one other }
+{}
+
+/// Two logs, in each of which no stamp stands twice, that have the same messages about a pack agree on it, in whatever
+/// order these came.
+pub fn same_messages_agree()
+    ensures { (pack : APackKey) (one other : List AnEntry) → HasDistinctStamps one
+        → HasDistinctStamps other → HaveSameAbout pack one other → AgreeOn pack one other }
 {}
 
 /// The change of a pack names, by its place in the log, the status that made it, so its user is the one of that status.

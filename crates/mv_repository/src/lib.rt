@@ -27,7 +27,10 @@ pub use counts::Counts;
 pub use effect::Effect;
 pub use entry::LogEntry;
 pub use held::{Change, Held, REVERT_SECONDS};
-pub use laws::{about_decides, change_names_its_status, one_more_is_put_in, ordered_is_the_order};
+pub use laws::{
+    about_decides, change_names_its_status, one_more_is_put_in, ordered_is_the_order,
+    same_messages_agree,
+};
 pub use repository::Repository;
 pub use sender::FromSender;
 pub use verdict::{Joint, Local, Verdict};

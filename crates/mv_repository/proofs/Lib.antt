@@ -1,5 +1,9 @@
+pub mod KeptLemmas
+pub mod LatestLemmas
 pub mod OrderLemmas
 pub mod PlaceLemmas
+pub mod StateLemmas
+pub mod TableLemmas
 pub mod ProductLemmas
 pub mod InquiriesLemmas
 pub mod ChangesLemmas

@@ -15,3 +15,4 @@ pub mod Copy
 pub mod Stops
 pub mod Track
 pub mod Inquiries
+pub mod Tables

@@ -1,5 +1,5 @@
 -- What is kept of one pack, and that this gives what the pack is.
-use Rattle.std.specs.Prelude.{◌≡◌, ℕ, List, [], ◌∷◌, map, fold, filter, find, get_or, Bool, true, false, Option, Some, None, if◌then◌else◌}
+use Rattle.std.specs.Prelude.{◌≡◌, ℕ, List, [], ◌∷◌, map, fold, filter, find, get_or, slice_get, Bool, true, false, Option, Some, None, if◌then◌else◌}
 use Rattle.std.specs.Map.{lookup}
 use Rattle.std.specs.Option.{option_map, unwrap_or}
 use Rattle.mv_pack.specs.declared.key.PackKey.{PackKey}
@@ -163,3 +163,11 @@ AreTracks log tables table = (pack : PackKey) → IsTrack log tables pack (kept_
 -- the table has what is to be kept of each pack
 abbrev pub AreTracksOf : List LogEntry → List (PackKey × Kept) → Type 0
 AreTracksOf log table = (pack : PackKey) → kept_in pack table ≡ track_of pack log
+
+-- a pack stands at a place of the table
+abbrev pub is_at : PackKey → Option (PackKey × Kept) → Bool
+is_at pack None = false
+is_at pack (Some entry) = is_same_pack entry.0 pack
+
+abbrev pub is_key_at : List (PackKey × Kept) → ℕ → PackKey → Bool
+is_key_at table place pack = is_at pack (slice_get table place)

@@ -14,6 +14,7 @@ mod inquiries;
 mod inquiries_tests;
 mod laws;
 mod order;
+mod packs;
 mod repository;
 mod sender;
 mod status;

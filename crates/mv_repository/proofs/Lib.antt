@@ -8,3 +8,7 @@ pub mod RepositoryLemmas
 pub mod StateLemmas
 pub mod TableLemmas
 pub mod ProductLemmas
+pub mod InquiriesLemmas
+pub mod ChangesLemmas
+pub mod AgreementLemmas
+pub mod SameAboutLemmas

@@ -13,6 +13,7 @@ mod inquiries;
 #[cfg(test)]
 mod inquiries_tests;
 mod laws;
+mod ledger;
 mod order;
 mod packs;
 mod repository;

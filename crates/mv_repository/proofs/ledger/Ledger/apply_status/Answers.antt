@@ -8,8 +8,8 @@ use Rattle.mv_repository.specs.Tables.{IsKept}
 use Rattle.mv_repository.proofs.KeptLemmas.{same_kept, pack-self}
 use Rattle.mv_repository.proofs.EffectLemmas.{status-effect}
 use Rattle.mv_repository.proofs.TableLemmas.{is_track}
-use Rattle.mv_repository.proofs.RepositoryLemmas.{kept-same, kept-status}
-use Rattle.mv_repository.proofs.repository.Repository.apply_status.Goals as goal
+use Rattle.mv_repository.proofs.LedgerLemmas.{kept-same, kept-status}
+use Rattle.mv_repository.proofs.ledger.Ledger.apply_status.Goals as goal
 
 pub add_status-requires-clause-track : goal.add_status-requires-clause-track
 add_status-requires-clause-track c =

@@ -6,8 +6,8 @@ use Rattle.mv_repository.specs.Effect.{effect_of}
 use Rattle.mv_repository.specs.Tables.{IsKept, IsUploadOf}
 use Rattle.mv_repository.proofs.TableLemmas.{are_tracks}
 use Rattle.mv_repository.proofs.EffectLemmas.{upload-effect-is}
-use Rattle.mv_repository.proofs.RepositoryLemmas.{kept-same, kept-upload}
-use Rattle.mv_repository.proofs.repository.Repository.apply_upload.Goals as goal
+use Rattle.mv_repository.proofs.LedgerLemmas.{kept-same, kept-upload}
+use Rattle.mv_repository.proofs.ledger.Ledger.apply_upload.Goals as goal
 
 pub add_uploads-count-requires-clause-tracks : goal.add_uploads-count-requires-clause-tracks
 add_uploads-count-requires-clause-tracks c =

@@ -1,17 +1,17 @@
--- Where the recall has the greatest stamp no pack changes; else all are worked out again.
+-- Where the withdrawal has the greatest stamp no pack changes; else all are worked out again.
 use Rattle.std.proofs.Common.{◌≡◌, ◌≤◌, arith, rules, length, false, true, ◌∙◌}
-use Rattle.mv_repository.specs.Keys.{is_same_batch}
+use Rattle.mv_repository.specs.Keys.{is_same_text}
 use Rattle.mv_repository.specs.Order.{rank}
 use Rattle.mv_repository.specs.Stops.{AreStopsOf}
-use Rattle.mv_repository.specs.PackState.{is_recall_of}
+use Rattle.mv_repository.specs.PackState.{is_withdrawal_of}
 use Rattle.mv_repository.specs.Effect.{effect_of}
 use Rattle.mv_repository.specs.Tables.{Bears, IsKept, IsUpTo}
-use Rattle.mv_repository.proofs.TableLemmas.{longer, stops-recall}
+use Rattle.mv_repository.proofs.TableLemmas.{longer, stops-withdrawal}
 use Rattle.mv_repository.proofs.LatestLemmas.{upto_rank}
-use Rattle.mv_repository.proofs.KeptLemmas.{batch-self}
-use Rattle.mv_repository.proofs.EffectLemmas.{recall-effect}
-use Rattle.mv_repository.proofs.RepositoryLemmas.{kept-refreshed, kept-latest}
-use Rattle.mv_repository.proofs.repository.Repository.apply_recall.Goals as goal
+use Rattle.mv_repository.proofs.KeptLemmas.{text-self}
+use Rattle.mv_repository.proofs.EffectLemmas.{withdrawal-effect}
+use Rattle.mv_repository.proofs.LedgerLemmas.{kept-refreshed, kept-latest}
+use Rattle.mv_repository.proofs.ledger.Ledger.apply_withdrawal.Goals as goal
 
 pub invariant_of-self-then-self-stamp : goal.invariant_of-self-then-self-stamp
 invariant_of-self-then-self-stamp c =
@@ -19,14 +19,14 @@ invariant_of-self-then-self-stamp c =
     let entry = c.in_ok-entry.entry in
     let kept : IsKept log c.self.inside.masters.entries c.self.inside.packs.entries c.self.inside.stops c.self.inside.latest = rw c.ready_entry.ensures.items c.self.invariant in
     let new : c.len-new.result ≡ length log = search rules in
-    let bears : Bears entry.item (λ gtin. false) (λ pack. false) (λ pack. false) (is_same_batch c.args.batch.now) (λ gtin. false) = rw c.in_ok-entry.ensures.entry c.requires.bears in
-    let stops : AreStopsOf (longer log entry) c.add_recall.new.self =
-    stops-recall log entry c.self.inside.stops c.add_recall.new.self c.args.batch.now kept.stops bears.recall bears.withdrawal
-    (rw (c.as_slice.ensures.value, c.push_reserved.ensures.items, new, c.copy.ensures) at c.in-Ok.ensures.recalls) c.in-Ok.ensures.withdrawals in
+    let bears : Bears entry.item (λ gtin. false) (λ pack. false) (λ pack. false) (λ batch. false) (is_same_text c.args.gtin) = rw c.in_ok-entry.ensures.entry c.requires.bears in
+    let stops : AreStopsOf (longer log entry) c.add_withdrawal.new.self =
+    stops-withdrawal log entry c.self.inside.stops c.add_withdrawal.new.self c.args.gtin kept.stops bears.withdrawal bears.recall
+    (rw (c.as_slice.ensures.value, c.push_reserved.ensures.items, new) at c.in-Ok.ensures.withdrawals) c.in-Ok.ensures.recalls in
     let least : c.self.inside.latest ≤ c.args.stamp = omega arith in
     let stamp : rank entry.item ≡ c.args.stamp = rw c.in_ok-entry.ensures.entry c.requires.stamp in
     rw c.push_reserved.ensures.items
-    (kept-latest log entry c.self.inside.masters.entries c.self.inside.packs.entries c.self.inside.stops c.add_recall.new.self c.self.inside.latest c.args.stamp (is_same_batch c.args.batch.now) (λ gtin. false) kept
+    (kept-latest log entry c.self.inside.masters.entries c.self.inside.packs.entries c.self.inside.stops c.add_withdrawal.new.self c.self.inside.latest c.args.stamp (λ batch. false) (is_same_text c.args.gtin) kept
     bears least (upto_rank c.args.stamp entry.item (omega (arith, stamp))) stops (omega (arith, stamp)))
 
 pub invariant_of-self-2 : goal.invariant_of-self-2
@@ -35,13 +35,13 @@ invariant_of-self-2 c =
     let entry = c.in_ok-entry.entry in
     let kept : IsKept log c.self.inside.masters.entries c.self.inside.packs.entries c.self.inside.stops c.self.inside.latest = rw c.ready_entry.ensures.items c.self.invariant in
     let new : c.len-new.result ≡ length log = search rules in
-    let bears : Bears entry.item (λ gtin. false) (λ pack. false) (λ pack. false) (is_same_batch c.args.batch.now) (λ gtin. false) = rw c.in_ok-entry.ensures.entry c.requires.bears in
-    let stops : AreStopsOf (longer log entry) c.add_recall.new.self =
-    stops-recall log entry c.self.inside.stops c.add_recall.new.self c.args.batch.now kept.stops bears.recall bears.withdrawal
-    (rw (c.as_slice.ensures.value, c.push_reserved.ensures.items, new, c.copy.ensures) at c.in-Ok.ensures.recalls) c.in-Ok.ensures.withdrawals in
+    let bears : Bears entry.item (λ gtin. false) (λ pack. false) (λ pack. false) (λ batch. false) (is_same_text c.args.gtin) = rw c.in_ok-entry.ensures.entry c.requires.bears in
+    let stops : AreStopsOf (longer log entry) c.add_withdrawal.new.self =
+    stops-withdrawal log entry c.self.inside.stops c.add_withdrawal.new.self c.args.gtin kept.stops bears.withdrawal bears.recall
+    (rw (c.as_slice.ensures.value, c.push_reserved.ensures.items, new) at c.in-Ok.ensures.withdrawals) c.in-Ok.ensures.recalls in
     let stamp : rank entry.item ≡ c.args.stamp = rw c.in_ok-entry.ensures.entry c.requires.stamp in
     rw c.push_reserved.ensures.items
-    (kept-refreshed log entry c.self.inside.masters.entries c.self.inside.packs.entries c.refresh_all.new.packs.entries c.self.inside.stops c.add_recall.new.self c.self.inside.latest c.self.inside.latest (is_same_batch c.args.batch.now) (λ gtin. false) kept
+    (kept-refreshed log entry c.self.inside.masters.entries c.self.inside.packs.entries c.refresh_all.new.packs.entries c.self.inside.stops c.add_withdrawal.new.self c.self.inside.latest c.self.inside.latest (λ batch. false) (is_same_text c.args.gtin) kept
     bears (omega arith) (upto_rank c.self.inside.latest entry.item (omega (arith, stamp))) stops
     (rw (c.as_slice-2.ensures.value, c.push_reserved.ensures.items) at c.refresh_all.ensures))
 
@@ -51,10 +51,10 @@ returns-then-self-stamp-clause-effect c =
     let entry = c.in_ok-entry.entry in
     let kept : IsKept log c.self.inside.masters.entries c.self.inside.packs.entries c.self.inside.stops c.self.inside.latest = rw c.ready_entry.ensures.items c.self.invariant in
     let new : c.len-new.result ≡ length log = search rules in
-    let is : is_recall_of c.args.batch.now entry.item ≡ true = rw c.in_ok-entry.ensures.entry (c.requires.bears.recall c.args.batch.now ∙ batch-self c.args.batch.now) in
+    let is : is_withdrawal_of c.args.gtin entry.item ≡ true = rw c.in_ok-entry.ensures.entry (c.requires.bears.withdrawal c.args.gtin ∙ text-self c.args.gtin) in
     rw (← c.self.view_is)
     (c.lasting_effect-effect.ensures
-    ∙ recall-effect log entry c.self.inside.stops c.args.batch.now c.in-Ok.first kept.stops is (rw (c.as_slice.ensures.value, c.push_reserved.ensures.items, new, c.copy.ensures) at c.in-Ok.ensures.first)
+    ∙ withdrawal-effect log entry c.self.inside.stops c.args.gtin c.in-Ok.first kept.stops is (rw (c.as_slice.ensures.value, c.push_reserved.ensures.items, new) at c.in-Ok.ensures.first)
     ∙ (λ i. effect_of (c.ready_entry.ensures.items i) (c.in_ok-entry.ensures.entry i)))
 
 pub returns-clause-effect : goal.returns-clause-effect
@@ -63,8 +63,8 @@ returns-clause-effect c =
     let entry = c.in_ok-entry.entry in
     let kept : IsKept log c.self.inside.masters.entries c.self.inside.packs.entries c.self.inside.stops c.self.inside.latest = rw c.ready_entry.ensures.items c.self.invariant in
     let new : c.len-new.result ≡ length log = search rules in
-    let is : is_recall_of c.args.batch.now entry.item ≡ true = rw c.in_ok-entry.ensures.entry (c.requires.bears.recall c.args.batch.now ∙ batch-self c.args.batch.now) in
+    let is : is_withdrawal_of c.args.gtin entry.item ≡ true = rw c.in_ok-entry.ensures.entry (c.requires.bears.withdrawal c.args.gtin ∙ text-self c.args.gtin) in
     rw (← c.self.view_is)
     (c.lasting_effect-effect.ensures
-    ∙ recall-effect log entry c.self.inside.stops c.args.batch.now c.in-Ok.first kept.stops is (rw (c.as_slice.ensures.value, c.push_reserved.ensures.items, new, c.copy.ensures) at c.in-Ok.ensures.first)
+    ∙ withdrawal-effect log entry c.self.inside.stops c.args.gtin c.in-Ok.first kept.stops is (rw (c.as_slice.ensures.value, c.push_reserved.ensures.items, new) at c.in-Ok.ensures.first)
     ∙ (λ i. effect_of (c.ready_entry.ensures.items i) (c.in_ok-entry.ensures.entry i)))

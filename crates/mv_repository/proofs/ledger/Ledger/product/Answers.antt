@@ -3,7 +3,7 @@ use Rattle.std.proofs.Common.{◌∙◌, ap, None, Some}
 use Rattle.std.specs.Option.{option_copied}
 use Rattle.mv_repository.proofs.ProductLemmas.{product_of_last}
 use Rattle.mv_repository.specs.Order.{ordered}
-use Rattle.mv_repository.proofs.repository.Repository.product.Goals as goal
+use Rattle.mv_repository.proofs.ledger.Ledger.product.Goals as goal
 
 pub returns-in_err-last_master : goal.returns-in_err-last_master
 returns-in_err-last_master c =

@@ -6,9 +6,9 @@ use Rattle.mv_repository.specs.Order.{ordered}
 use Rattle.mv_repository.specs.Tables.{Bears, IsKept, IsUpTo}
 use Rattle.mv_repository.specs.Keys.{is_same_text}
 use Rattle.mv_repository.proofs.ProductLemmas.{copy-late, copy-latest}
-use Rattle.mv_repository.proofs.RepositoryLemmas.{kept-master}
-use Rattle.mv_repository.proofs.repository.Repository.apply_master.Goals.{then-not-is_late+in_ok-insert, else-not-is_late}
-use Rattle.mv_repository.proofs.repository.Repository.apply_master.Goals as goal
+use Rattle.mv_repository.proofs.LedgerLemmas.{kept-master}
+use Rattle.mv_repository.proofs.ledger.Ledger.apply_master.Goals.{then-not-is_late+in_ok-insert, else-not-is_late}
+use Rattle.mv_repository.proofs.ledger.Ledger.apply_master.Goals as goal
 
 pub invariant_of-self-3 : goal.invariant_of-self-3
 invariant_of-self-3 c =

@@ -2,8 +2,8 @@
 use Rattle.std.proofs.Common.{◌∙◌, ap, is_some}
 use Rattle.mv_repository.specs.Order.{ordered}
 use Rattle.mv_repository.specs.PackState.{is_recall_of}
-use Rattle.mv_repository.proofs.RepositoryLemmas.{found-any}
-use Rattle.mv_repository.proofs.repository.Repository.recalled.Goals as goal
+use Rattle.mv_repository.proofs.LedgerLemmas.{found-any}
+use Rattle.mv_repository.proofs.ledger.Ledger.recalled.Goals as goal
 
 pub returns : goal.returns
 returns c =

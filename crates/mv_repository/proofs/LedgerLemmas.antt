@@ -1,4 +1,4 @@
--- What a repository keeps after one more entry of its log.
+-- What a ledger keeps after one more entry of its log.
 use Rattle.std.proofs.Common.{◌≡◌, ℕ, ◌≤◌, List, [], ◌∷◌, ◌++◌, length, ◌∙◌, ap, Bool, true, false, cond, ◌||◌, Option, Some, None, is_some, refl, find}
 use Rattle.std.specs.List.{list_any}
 use Rattle.std.specs.Map.{lookup}

@@ -1,6 +1,6 @@
 -- The entry leaves all tables as they should be.
-use Rattle.mv_repository.proofs.RepositoryLemmas.{kept-noted}
-use Rattle.mv_repository.proofs.repository.Repository.apply_noted.Goals as goal
+use Rattle.mv_repository.proofs.LedgerLemmas.{kept-noted}
+use Rattle.mv_repository.proofs.ledger.Ledger.apply_noted.Goals as goal
 
 pub invariant_of-self-2 : goal.invariant_of-self-2
 invariant_of-self-2 c =

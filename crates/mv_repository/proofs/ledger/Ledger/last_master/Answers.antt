@@ -2,7 +2,7 @@
 use Rattle.std.proofs.Common.{◌∙◌, sym, refl, arith}
 use Rattle.std.proofs.lemmas.Option.{slice_get_read}
 use Rattle.mv_repository.proofs.ProductLemmas.{found_at}
-use Rattle.mv_repository.proofs.repository.Repository.last_master.Goals as goal
+use Rattle.mv_repository.proofs.ledger.Ledger.last_master.Goals as goal
 
 pub index-requires : goal.index-requires
 index-requires c =

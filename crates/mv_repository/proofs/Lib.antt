@@ -1,4 +1,5 @@
 pub mod BeforeLemmas
+pub mod CountLemmas
 pub mod EffectLemmas
 pub mod KeptLemmas
 pub mod LatestLemmas

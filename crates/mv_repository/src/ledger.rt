@@ -10,12 +10,12 @@ ghost use Rattle.mv_repository.specs.PackState.{has_pack};
 ghost use Rattle.mv_repository.specs.Tables.{Bears, IsUploadOf, IsUpTo};
 
 use crate::order::rank;
-use crate::packs::{add_status, add_uploads, ensure, ensure_all, pack, refresh_all};
+use crate::packs::{add_status, add_uploads, ensure, ensure_all, pack, refresh_all, count_packs};
 use crate::status::is_active;
 use crate::stops::Stops;
 use crate::track::{Track, copy_of};
 use crate::verdict::{is_for_destruction, verdict_when};
-use crate::{Effect, Held, Local, LogEntry};
+use crate::{Counts, Effect, Held, Local, LogEntry};
 use indexmap::IndexMap;
 use mv_link::Item;
 use mv_message::{Found, Message, Party, Product, Serials};
@@ -58,6 +58,7 @@ impl Ledger {
     ghost use Rattle.mv_repository.specs.Effect.{effect_of};
     ghost use Rattle.mv_repository.specs.Query.{found_of, answer_after, answer_to};
     ghost use Rattle.mv_repository.specs.Verdict.{local_verdict};
+    ghost use Rattle.mv_repository.specs.Counts.{counts_of};
 
     /// The ledger of a party, in which nothing stands.
     pub fn new(alloc: Global, party: Party) -> Ledger
@@ -133,6 +134,20 @@ impl Ledger {
         ensures { result ≡ is_withdrawn gtin.now self.now.log }
     {
         self.stops.has_withdrawal(gtin)
+    }
+
+    /// How much the log has, each thing counted once.
+    pub fn counts(&self) -> Counts
+        ensures { result ≡ counts_of self.now.log }
+    {
+        let tally = count_packs(&self.packs);
+        Counts {
+            entries: self.log.len(),
+            products: self.masters.len(),
+            packs: tally.held,
+            active: tally.active,
+            recalled: self.stops.recalled_count(),
+        }
     }
 
     /// What is found of a pack.

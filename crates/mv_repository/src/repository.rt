@@ -5,7 +5,7 @@ ghost use Rattle.std.specs.Option.{option_copied};
 
 use crate::inquiries::Inquiries;
 use crate::ledger::Ledger;
-use crate::{Effect, FromSender, Held, Joint, Local, LogEntry};
+use crate::{Counts, Effect, FromSender, Held, Joint, Local, LogEntry};
 use mv_link::Item;
 use mv_message::{Message, Party, Product};
 use mv_pack::{BatchKey, Gtin, PackKey};
@@ -37,6 +37,7 @@ impl Repository {
     ghost use Rattle.mv_repository.specs.Effect.{effect_of};
     ghost use Rattle.mv_repository.specs.Query.{answer_to};
     ghost use Rattle.mv_repository.specs.Verdict.{local_verdict, joint_verdict};
+    ghost use Rattle.mv_repository.specs.Counts.{counts_of};
 
     /// The repository of a party, which applied nothing. It takes no memory.
     pub fn new(alloc: Global, party: Party) -> Repository
@@ -95,6 +96,13 @@ impl Repository {
         ensures { result ≡ is_withdrawn gtin.now self.now.log }
     {
         self.ledger.withdrawn(gtin)
+    }
+
+    /// How much the repository has, each thing counted once. The log isn't searched.
+    pub fn counts(&self) -> Counts
+        ensures { result ≡ counts_of self.now.log }
+    {
+        self.ledger.counts()
     }
 
     /// The verdict on a pack, where it is held. The log isn't searched.

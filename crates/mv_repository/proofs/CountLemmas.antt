@@ -187,7 +187,7 @@ filter-more test [] (suc i) = refl
 filter-more test (e ∷ es) zero = elim (test e.1) as (λ b. length (cond b (e ∷ []) []) ≡ cond b (0 + 1) 0) [ true ↦ refl | false ↦ refl ]
 filter-more test (e ∷ es) (suc i) =
     elim (test e.1) as (λ b. length (cond b (e ∷ filter (λ e. test e.1) (take (suc i) es)) (filter (λ e. test e.1) (take (suc i) es)))
-        ≡ cond (is_kept_so test (slice_get es i)) (length (cond b (e ∷ filter (λ e. test e.1) (take i es)) (filter (λ e. test e.1) (take i es))) + 1) (length (cond b (e ∷ filter (λ e. test e.1) (take i es)) (filter (λ e. test e.1) (take i es))))) [
+    ≡ cond (is_kept_so test (slice_get es i)) (length (cond b (e ∷ filter (λ e. test e.1) (take i es)) (filter (λ e. test e.1) (take i es))) + 1) (length (cond b (e ∷ filter (λ e. test e.1) (take i es)) (filter (λ e. test e.1) (take i es))))) [
       | true ↦ raised (is_kept_so test (slice_get es i)) (length (filter (λ e. test e.1) (take (suc i) es))) (length (filter (λ e. test e.1) (take i es))) (filter-more test es i)
       | false ↦ filter-more test es i
     ]

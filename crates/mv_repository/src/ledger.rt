@@ -10,7 +10,7 @@ ghost use Rattle.mv_repository.specs.PackState.{has_pack};
 ghost use Rattle.mv_repository.specs.Tables.{Bears, IsUploadOf, IsUpTo};
 
 use crate::order::rank;
-use crate::packs::{add_status, add_uploads, ensure, ensure_all, pack, refresh_all, count_packs};
+use crate::packs::{add_status, add_uploads, count_packs, ensure, ensure_all, pack, refresh_all};
 use crate::status::is_active;
 use crate::stops::Stops;
 use crate::track::{Track, copy_of};

@@ -17,6 +17,8 @@ mod ledger;
 mod order;
 mod packs;
 mod repository;
+#[cfg(test)]
+mod rules_tests;
 mod sender;
 mod status;
 mod stops;

@@ -1,55 +1,51 @@
-//! The repository: one party's log, and the table that finds a product in it.
+//! A national repository: its ledger, and what it knows of its own queries.
 
-ghost use Rattle.std.specs.Prelude.{◌≡◌, ◌<◌, ℕ, List, Bool, false, OnOk, OnErr, IfOk, vec_len, vec_capacity};
-ghost use Rattle.std.specs.Option.{option_copied, option_map};
-ghost use Rattle.mv_repository.specs.Order.{rank, ordered};
-ghost use Rattle.mv_repository.specs.Keys.{is_same_text};
-ghost use Rattle.mv_repository.specs.Copy.{is_master, product_in, last_master, entry_of, is_late};
+ghost use Rattle.std.specs.Prelude.{◌≡◌, OnOk, OnErr, IfOk};
+ghost use Rattle.std.specs.Option.{option_copied};
 
-use crate::{Effect, FromSender, LogEntry};
-use indexmap::IndexMap;
+use crate::inquiries::Inquiries;
+use crate::ledger::Ledger;
+use crate::{Counts, Effect, FromSender, Held, Joint, Local, LogEntry};
 use mv_link::Item;
 use mv_message::{Message, Party, Product};
-use mv_pack::Gtin;
+use mv_pack::{BatchKey, Gtin, PackKey};
 use std::alloc::{AllocError, Global};
 use std::marker::Model;
 
 /// A national repository, seen as its party and its log.
 #[derive(Drop)]
 pub struct Repository {
-    alloc: Global,
-    party: Party,
-    /// What was applied, the oldest entry first.
-    log: Vec<LogEntry>,
-    /// For each product code with a master, the place in the log of the last one by stamp.
-    masters: IndexMap<Gtin, usize>,
+    ledger: Ledger,
+    inquiries: Inquiries,
 }
 
 impl Model for Repository {
     ghost use Rattle.mv_repository.specs.Repository.{RepositoryState};
-    ghost use Rattle.mv_repository.specs.Copy.{IsCopyOf};
+    ghost use Rattle.mv_repository.specs.Inquiries.{IsInquiriesOf};
 
     ghost Value = { RepositoryState };
 
-    ghost view = { λ a. record { party = a.party; log = a.log.items } };
+    ghost view = { λ a. a.ledger };
 
-    ghost invariant = { λ a. IsCopyOf a.log.items a.masters.entries };
+    ghost invariant = { λ a. IsInquiriesOf a.ledger.party a.ledger.log a.inquiries };
 }
 
 impl Repository {
-    ghost use Rattle.mv_repository.specs.Repository.{new_repository, with_applied, product_of};
-    ghost use Rattle.mv_repository.specs.Effect.{effect_of};
     ghost use Rattle.mv_repository.specs.Log.{items_from};
+    ghost use Rattle.mv_repository.specs.Repository.{new_repository, with_applied, product_of};
+    ghost use Rattle.mv_repository.specs.PackState.{pack_state, is_recalled, is_withdrawn};
+    ghost use Rattle.mv_repository.specs.Effect.{effect_of};
+    ghost use Rattle.mv_repository.specs.Query.{answer_to};
+    ghost use Rattle.mv_repository.specs.Verdict.{local_verdict, joint_verdict};
+    ghost use Rattle.mv_repository.specs.Counts.{counts_of};
 
     /// The repository of a party, which applied nothing. It takes no memory.
     pub fn new(alloc: Global, party: Party) -> Repository
         ensures { result ≡ new_repository party }
     {
         Repository {
-            alloc,
-            party,
-            log: Vec::new(alloc),
-            masters: IndexMap::new(alloc),
+            ledger: Ledger::new(alloc, party),
+            inquiries: Inquiries::new(alloc),
         }
     }
 
@@ -57,14 +53,14 @@ impl Repository {
     pub fn party(&self) -> Party
         ensures { result ≡ self.now.party }
     {
-        self.party
+        self.ledger.party()
     }
 
     /// What was applied, the oldest entry first.
     pub fn log(&self) -> &[LogEntry]
         ensures { result.now ≡ self.now.log }
     {
-        self.log.as_slice()
+        self.ledger.log()
     }
 
     /// The items that came from a party, in order.
@@ -74,117 +70,74 @@ impl Repository {
         FromSender::new(self.log(), sender)
     }
 
-    /// The entry of the last master of a code by stamp.
-    fn last_master(&self, gtin: &Gtin) -> Option<&LogEntry>
-        ensures { option_copied result
-            ≡ option_map entry_of (last_master gtin.now (ordered self.now.log)) }
-    {
-        let place = *self.masters.get(gtin)?;
-        Some(&self.log[place])
-    }
-
-    /// Whether an item that comes last stands before the last master of a code by stamp.
-    fn is_late(&self, gtin: &Gtin, item: &Item) -> bool
-        ensures { result ≡ is_late item.now (last_master gtin.now (ordered self.now.log)) }
-    {
-        match self.last_master(gtin) {
-            Some(last) => rank(item) < rank(&last.item),
-            None => false,
-        }
-    }
-
-    /// The product that is known under a code. The log isn't searched.
+    /// The product that is known under a code: that of its master with the greatest stamp. The log isn't searched.
     pub fn product(&self, gtin: &Gtin) -> Option<&Product>
         ensures { option_copied result ≡ product_of self.now.log gtin.now }
     {
-        product_in(&self.last_master(gtin)?.item)
+        self.ledger.product(gtin)
     }
 
-    /// Applies an item that came from a party, and says what that did.
-    pub fn apply(&mut self, sender: Party, item: &Item) -> Result<Effect, AllocError>
+    /// What a pack is; none where no upload names it. The log isn't searched.
+    pub fn pack(&self, key: &PackKey) -> Option<&Held>
+        ensures { option_copied result ≡ pack_state key.now self.now.log }
+    {
+        self.ledger.pack(key)
+    }
+
+    /// Whether a batch is recalled. The log isn't searched.
+    pub fn recalled(&self, batch: &BatchKey) -> bool
+        ensures { result ≡ is_recalled batch.now self.now.log }
+    {
+        self.ledger.recalled(batch)
+    }
+
+    /// Whether a product is withdrawn. The log isn't searched.
+    pub fn withdrawn(&self, gtin: &Gtin) -> bool
+        ensures { result ≡ is_withdrawn gtin.now self.now.log }
+    {
+        self.ledger.withdrawn(gtin)
+    }
+
+    /// How much the repository has, each thing counted once. The log isn't searched.
+    pub fn counts(&self) -> Counts
+        ensures { result ≡ counts_of self.now.log }
+    {
+        self.ledger.counts()
+    }
+
+    /// The verdict on a pack, where it is held. The log isn't searched.
+    pub fn verify(&self, key: &PackKey) -> Local
+        ensures { result ≡ local_verdict key.now self.now.log }
+    {
+        self.ledger.verify(key)
+    }
+
+    /// The verdict of all that were asked, on the query that was the `q`-th message of the repository's own party. The
+    /// log isn't searched.
+    pub fn verdict(&self, q: u32) -> Joint
+        ensures { result ≡ joint_verdict self.now.party self.now.log q }
+    {
+        self.inquiries.verdict(q)
+    }
+
+    /// Applies an item that came from a party: says what that did, at the item's own place in the order of stamps, and
+    /// gives the answer that it calls for, where it is a query. Want of memory leaves all as it was.
+    pub fn apply(
+        &mut self,
+        sender: Party,
+        item: &Item,
+    ) -> Result<(Effect, Option<Message>), AllocError>
         ensures ok { OnOk result (self.new ≡ with_applied self.old sender item.now) }
-        ensures effect { IfOk result (λ effect. effect ≡ effect_of item.now) }
+        ensures effect { IfOk result (λ done. done.0
+            ≡ effect_of self.old.log (record { sender = sender; item = item.now })) }
+        ensures answer { IfOk result (λ done. done.1
+            ≡ answer_to self.old.log (record { sender = sender; item = item.now })) }
         ensures err { OnErr result (self.new ≡ self.old) }
     {
-        match item {
-            Item::Carried {
-                message: Message::Master { gtin, .. },
-                ..
-            } => {
-                self.apply_master(sender, item, *gtin)?;
-                Ok(Effect::Done)
-            }
-            _ => {
-                self.apply_noted(sender, item)?;
-                Ok(Effect::Noted)
-            }
-        }
-    }
-
-    /// Applies an item that changes no table.
-    fn apply_noted(&mut self, sender: Party, item: &Item) -> Result<(), AllocError>
-        requires { (gtin : List ℕ) → is_master gtin item.now ≡ false }
-        ensures ok { OnOk result (self.new ≡ with_applied self.old sender item.now) }
-        ensures err { OnErr result (self.new ≡ self.old) }
-    {
-        let entry = ready_entry(self.alloc, &mut self.log, sender, item)?;
-        self.log.push_reserved(entry);
-        Ok(())
-    }
-
-    /// Applies a master of a code. Where it is the last by stamp it is the one that the table finds.
-    fn apply_master(&mut self, sender: Party, item: &Item, gtin: Gtin) -> Result<(), AllocError>
-        requires { (other : List ℕ) → is_master other item.now ≡ is_same_text gtin other }
-        ensures ok { OnOk result (self.new ≡ with_applied self.old sender item.now) }
-        ensures err { OnErr result (self.new ≡ self.old) }
-    {
-        let entry = ready_entry(self.alloc, &mut self.log, sender, item)?;
-        let place = self.log.len();
-        if !self.is_late(&gtin, item) {
-            self.masters.insert(gtin, place)?;
-        }
-        self.log.push_reserved(entry);
-        Ok(())
-    }
-}
-
-/// An entry of its own for an item, and room for it in the log.
-fn ready_entry(
-    alloc: Global,
-    log: &mut Vec<LogEntry>,
-    sender: Party,
-    item: &Item,
-) -> Result<LogEntry, AllocError>
-    ensures entry { IfOk result (λ entry. entry ≡ record { sender = sender; item = item.now }) }
-    ensures room { OnOk result (vec_len log.new < vec_capacity log.new) }
-    ensures items { log.new.items ≡ log.old.items }
-{
-    let Ok(item) = item.copy(alloc) else {
-        return Err(AllocError);
-    };
-    log.reserve(1)?;
-    Ok(LogEntry { sender, item })
-}
-
-/// Where an item stands: by its stamp, and receipts behind every stamp.
-fn rank(item: &Item) -> u64
-    ensures { result ≡ rank item.now }
-{
-    match item {
-        Item::Carried { stamp, .. } => u64::from(*stamp),
-        Item::Receipt { .. } => 1 << 32,
-    }
-}
-
-/// The product that an item describes.
-fn product_in(item: &Item) -> Option<&Product>
-    ensures { option_copied result ≡ product_in item.now }
-{
-    match item {
-        Item::Carried {
-            message: Message::Master { product, .. },
-            ..
-        } => Some(product),
-        _ => None,
+        let party = self.ledger.party();
+        self.inquiries.reserve(party, sender, item)?;
+        let done = self.ledger.apply(sender, item)?;
+        self.inquiries.note(party, sender, item);
+        Ok(done)
     }
 }

@@ -1,16 +1,12 @@
 -- What the hub keeps, through a routing and a relay.
 use Rattle.std.proofs.Common.{◌≡◌, ℕ, ◌+◌, ◌-◌, ◌<◌, ◌≤◌, Bool, true, false, ◌&&◌, ◌||◌, not, List, [], ◌∷◌, ◌++◌, length, get_or, set, cond, Option, Some, None, sym, refl, ap, ◌∙◌, subst, arith, ◌⊎◌, ◌≢◌, inl, inr, append-nil, eqb, zero-add, length-append, length-set, get_or-set_same, get_or-set_other}
 use mir.Val.{bool_byte}
-use Rattle.std.specs.Prelude.{nat_lt, ◌==◌, replicate, option_map}
-use Rattle.std.specs.Option.{option_or}
-use Rattle.std.specs.List.{All, list_any, filter_map, last_or}
-use Rattle.std.specs.Map.{lookup}
+use Rattle.std.specs.Prelude.{nat_lt, ◌==◌, replicate}
+use Rattle.std.specs.List.{All, list_any}
 use Rattle.std.proofs.lemmas.Bool.{cases_eq, eq-eqb, ne_eqb, lt-ltb, le-ltb, ltb-false}
 use Rattle.std.proofs.lemmas.List.{get_or-replicate, length-replicate}
-use Rattle.std.proofs.lemmas.List.Elements.{filter_map-append}
 use Rattle.std.proofs.lemmas.List.FromFn.{get_or-map-range_with_len, length-map-range_with_len}
 use Rattle.mv_message.specs.declared.message.Message.{Message}
-use Rattle.mv_message.specs.declared.message.Product.{Product}
 use Rattle.mv_link.specs.declared.item.Item.{Item}
 use Rattle.mv_link.specs.declared.item.Item.TheVariants.{Receipt, Carried}
 use Rattle.mv_link.specs.Sending.{Sending, HasRoom, new_sending}
@@ -18,12 +14,12 @@ use Rattle.mv_pairs.specs.Pairs.{cell, put, IsSquare}
 use Rattle.mv_pairs.proofs.PairsLemmas.{cell-map, put-map, cell-all, table-all, cell-put_same, cell-put_other, square-put}
 use Rattle.mv_hub.specs.declared.entry.Entry.{Entry}
 use Rattle.mv_hub.specs.declared.entry.Entry.TheVariants.{Routed, Closed}
-use Rattle.mv_hub.specs.Record.{routed_from, routed_count, last_product, product_in, is_same_gtin, is_open}
+use Rattle.mv_hub.specs.Record.{routed_from, routed_count, is_open}
 use Rattle.mv_hub.specs.Targets.{reach, is_reached, is_query}
 use Rattle.mv_hub.specs.Links.{gained, link_items}
 use Rattle.mv_hub.specs.Hub.{HubState, new_hub, sent_of, items_on, next_items, gains_of, is_busy, busy_party, busy_fault, route_fault, with_relayed}
 use Rattle.mv_hub.specs.declared.fault.RouteFault.TheVariants.{StrangerParty}
-use Rattle.mv_hub.specs.Kept.{link_at, sent_table, AreCounts, AreMarkets, AreOpen, Carries, AreLinks, IsKept, Gains, GainsRow}
+use Rattle.mv_hub.specs.Kept.{link_at, sent_table, AreCounts, AreOpen, Carries, AreLinks, IsKept, Gains, GainsRow}
 use Rattle.mv_hub.proofs.RecordLemmas.{routed_from-append, link_items-push, gained_other, gained-closed}
 use Rattle.mv_hub.proofs.NumberLemmas.{any-filter_range, find-none_at}
 
@@ -41,28 +37,6 @@ routed_count_most (Routed from k message ∷ entries) party = one (eqb from part
     one true most = omega arith
     one false most = omega arith
 routed_count_most (Closed from to ∷ entries) party = let most = routed_count_most entries party in omega arith
-
-last_or-append : {A : Type 0} (o : Option A) (xs ys : List A) → last_or o (xs ++ ys) ≡ last_or (last_or o xs) ys
-last_or-append o [] ys = refl
-last_or-append o (x ∷ xs) ys = last_or-append (Some x) xs ys
-
--- an empty record has no product
-last_product-none : (gtin : List ℕ) → last_product [] gtin ≡ None
-unfolding last_product
-last_product-none gtin = refl
-
--- the last product once one more entry stands at the end
-last_product-push : (entries : List Entry) (entry : Entry) (gtin : List ℕ)
-    → last_product (entries ++ entry ∷ []) gtin ≡ option_or (product_in gtin entry) (last_product entries gtin)
-unfolding last_product
-last_product-push entries entry gtin =
-    ap (last_or None) (filter_map-append (product_in gtin) entries (entry ∷ []))
-    ∙ last_or-append None (filter_map (product_in gtin) entries) (filter_map (product_in gtin) (entry ∷ []))
-    ∙ one (product_in gtin entry) (last_product entries gtin)
-  where
-    one : (new old : Option Product) → last_or old (filter_map (λ (o : Option Product). o) (new ∷ [])) ≡ option_or new old
-    one None old = refl
-    one (Some product) old = refl
 
 is_open-routed : (entries : List Entry) (sender k : ℕ) (message : Message) (from to : ℕ)
     → is_open (entries ++ Routed sender k message ∷ []) from to ≡ is_open entries from to
@@ -245,19 +219,17 @@ links-routed parties window entries old new gains from message are e row =
     }
 
 -- all that the hub keeps, once a message was routed
-pub kept-routed : (parties : List (List (List ℕ))) (window : ℕ) (entries : List Entry) (counts : List ℕ) (table new_table : List (List ℕ × List (List ℕ)))
+pub kept-routed : (parties : List (List (List ℕ))) (window : ℕ) (entries : List Entry) (counts : List ℕ)
     (open_links : List (List Bool)) (old new : List (List Sending)) (gains : List (List Item)) (from : ℕ) (message : Message)
-    → IsKept parties window entries counts table open_links old → from < length parties
+    → IsKept parties window entries counts open_links old → from < length parties
     → gains ≡ gains_of (view parties window entries old) from message → GainsRow from gains old new
-    → AreMarkets (entries ++ Routed from (routed_count entries from + 1) message ∷ []) new_table
-    → IsKept parties window (entries ++ Routed from (routed_count entries from + 1) message ∷ []) (set counts from (routed_count entries from + 1)) new_table open_links new
-kept-routed parties window entries counts table new_table open_links old new gains from message kept lt e row markets = record {
+    → IsKept parties window (entries ++ Routed from (routed_count entries from + 1) message ∷ []) (set counts from (routed_count entries from + 1)) open_links new
+kept-routed parties window entries counts open_links old new gains from message kept lt e row = record {
   some = kept.some;
   few = kept.few;
   wide = kept.wide;
   narrow = kept.narrow;
   are_counts = counts-routed (length parties) entries counts from message kept.are_counts lt;
-  are_markets = markets;
   are_open = record {
     square = kept.are_open.square;
     values = λ a b is_a is_b. kept.are_open.values a b is_a is_b ∙ sym (is_open-routed entries from (routed_count entries from + 1) message a b);
@@ -314,36 +286,19 @@ links-closed parties window entries links from to are = record {
 }
 
 -- all that the hub keeps, once a link was closed
-pub kept-closed : (parties : List (List (List ℕ))) (window : ℕ) (entries : List Entry) (counts : List ℕ) (table : List (List ℕ × List (List ℕ)))
+pub kept-closed : (parties : List (List (List ℕ))) (window : ℕ) (entries : List Entry) (counts : List ℕ)
     (open_links : List (List Bool)) (links : List (List Sending)) (from to : ℕ)
-    → IsKept parties window entries counts table open_links links → from < length parties → to < length parties
-    → IsKept parties window (entries ++ Closed from to ∷ []) counts table (put open_links from to false) links
-kept-closed parties window entries counts table open_links links from to kept is_from is_to = record {
+    → IsKept parties window entries counts open_links links → from < length parties → to < length parties
+    → IsKept parties window (entries ++ Closed from to ∷ []) counts (put open_links from to false) links
+kept-closed parties window entries counts open_links links from to kept is_from is_to = record {
   some = kept.some;
   few = kept.few;
   wide = kept.wide;
   narrow = kept.narrow;
   are_counts = counts-closed (length parties) entries counts from to kept.are_counts;
-  are_markets = λ gtin. kept.are_markets gtin ∙ ap (option_map (λ product. product.markets)) (sym (last_product-push entries (Closed from to) gtin));
   are_open = open-closed (length parties) entries open_links from to kept.are_open is_from is_to;
   are_links = links-closed parties window entries links from to kept.are_links;
 }
-
--- the table once a message was routed
-pub markets-routed : (entries : List Entry) (old new : List (List ℕ × List (List ℕ))) (from k : ℕ) (message : Message) → AreMarkets entries old
-    → ((gtin : List ℕ) → lookup (is_same_gtin gtin) new
-    ≡ option_or (option_map (λ product. product.markets) (product_in gtin (Routed from k message))) (lookup (is_same_gtin gtin) old))
-    → AreMarkets (entries ++ Routed from k message ∷ []) new
-markets-routed entries old new from k message are updates gtin =
-    updates gtin ∙ ap (option_or (option_map (λ product. product.markets) (product_in gtin (Routed from k message)))) (are gtin)
-    ∙ one (product_in gtin (Routed from k message)) (last_product entries gtin)
-    ∙ ap (option_map (λ product. product.markets)) (sym (last_product-push entries (Routed from k message) gtin))
-  where
-    one : (new old : Option Product)
-        → option_or (option_map (λ product. product.markets) new) (option_map (λ product. product.markets) old)
-        ≡ option_map (λ product. product.markets) (option_or new old)
-    one None old = refl
-    one (Some product) old = refl
 
 -- what is known of a link, by what the hub is seen as
 pub record LinkFacts (hub : HubState) (from to : ℕ) (link : Sending) : Type 0 where
@@ -374,7 +329,7 @@ pub kept-new : (parties : List (List (List ℕ))) (window : ℕ) (open_links : L
     → 1 ≤ length parties → length parties ≤ 64 → 2 ≤ window → window ≤ 256
     → IsSquare (length parties) open_links → All (All (λ b. b ≡ true)) open_links
     → IsSquare (length parties) links → All (All (λ v. v ≡ new_sending window)) links
-    → IsKept parties window [] (replicate (length parties) 0) [] open_links links
+    → IsKept parties window [] (replicate (length parties) 0) open_links links
 unfolding link_items
 kept-new parties window open_links links some few wide narrow open_square all_open square fresh = record {
   some = some;
@@ -382,7 +337,6 @@ kept-new parties window open_links links some few wide narrow open_square all_op
   wide = wide;
   narrow = narrow;
   are_counts = record { each = length-replicate (length parties) 0; values = λ party lt. get_or-replicate (length parties) party 0 0 lt };
-  are_markets = λ gtin. ap (option_map (λ (p : Product). p.markets)) (sym (last_product-none gtin));
   are_open = record { square = open_square; values = λ from to p q. cell-all (λ b. b ≡ true) (length parties) open_links from to true open_square all_open p q };
   are_links = record {
     square = square;

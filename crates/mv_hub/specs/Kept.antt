@@ -1,11 +1,15 @@
 -- What the hub keeps beside its record, and how that follows from the record.
 use Rattle.std.specs.Prelude.{◌≡◌, ◌≢◌, ◌<◌, ◌≤◌, ℕ, List, [], ◌++◌, length, map, Bool, true, slice_index_or}
-use Rattle.std.specs.Map.{lookup}
+use Rattle.mv_pack.specs.declared.key.BatchKey.{BatchKey}
 use Rattle.mv_link.specs.declared.item.Item.{Item}
 use Rattle.mv_link.specs.Sending.{Sending, EndsWithHeld, new_sending}
 use Rattle.mv_pairs.specs.Pairs.{cell, IsSquare}
 use Rattle.mv_hub.specs.declared.entry.Entry.{Entry}
-use Rattle.mv_hub.specs.Record.{routed_count, is_same_gtin, last_markets, is_open}
+use Rattle.mv_hub.specs.declared.catalogue.Catalogue.{Catalogue}
+use Rattle.mv_hub.specs.Record.{routed_count, is_open}
+use Rattle.mv_hub.specs.Listing.{distinct}
+use Rattle.mv_hub.specs.Catalogue.{catalogue_in, catalogue_of}
+use Rattle.mv_hub.specs.BatchLinks.{is_same_batch, linked_in, linked_to}
 use Rattle.mv_hub.specs.Links.{link_items}
 
 -- the sending end of a link, by sender and receiver
@@ -21,9 +25,10 @@ pub record AreCounts (parties : ℕ) (entries : List Entry) (counts : List ℕ) 
   pub each : length counts ≡ parties
   pub values : (party : ℕ) → party < parties → slice_index_or counts party 0 ≡ routed_count entries party
 
--- the markets that the last routed master of each product names
-abbrev pub AreMarkets : List Entry → List (List ℕ × List (List ℕ)) → Type 0
-AreMarkets entries table = (gtin : List ℕ) → lookup (is_same_gtin gtin) table ≡ last_markets entries gtin
+-- what the record says of each product and each batch
+pub record AreTables (entries : List Entry) (catalogues : List (List ℕ × Catalogue)) (batch_links : List (BatchKey × List BatchKey)) : Type 0 where
+  pub are_catalogues : (gtin : List ℕ) → catalogue_in catalogues gtin ≡ catalogue_of entries gtin
+  pub are_links : (batch : BatchKey) → linked_in batch_links batch ≡ distinct is_same_batch (linked_to entries batch)
 
 -- whether each link is open, by sender and receiver
 pub record AreOpen (parties : ℕ) (entries : List Entry) (open_links : List (List Bool)) : Type 0 where
@@ -43,13 +48,12 @@ pub record AreLinks (parties : List (List (List ℕ))) (window : ℕ) (entries :
 
 -- all that the hub keeps follows from the record
 pub record IsKept (parties : List (List (List ℕ))) (window : ℕ) (entries : List Entry) (counts : List ℕ)
-    (table : List (List ℕ × List (List ℕ))) (open_links : List (List Bool)) (links : List (List Sending)) : Type 0 where
+    (open_links : List (List Bool)) (links : List (List Sending)) : Type 0 where
   pub some : 1 ≤ length parties
   pub few : length parties ≤ 64
   pub wide : 2 ≤ window
   pub narrow : window ≤ 256
   pub are_counts : AreCounts (length parties) entries counts
-  pub are_markets : AreMarkets entries table
   pub are_open : AreOpen (length parties) entries open_links
   pub are_links : AreLinks parties window entries links
 

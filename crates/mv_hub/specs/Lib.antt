@@ -2,6 +2,9 @@ pub mod Record
 pub mod Parties
 pub mod Targets
 pub mod Links
+pub mod Listing
+pub mod Catalogue
+pub mod BatchLinks
 pub mod Fault
 pub mod Hub
 pub mod Kept

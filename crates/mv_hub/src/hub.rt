@@ -1,24 +1,27 @@
-//! The hub: its record, a link for each ordered pair of parties, and tables by which no call walks the record.
+//! The hub: its record, a link for each ordered pair of parties, and which links are open.
 
-ghost use Rattle.std.specs.Prelude.{◌≡◌, ◌+◌, ◌<◌, ◌≤◌, [], ◌∷◌, ◌++◌, ◌==◌, ◌&&◌, ◌||◌, ℕ, List, length, IfOk, OnOk, OnErr, Option, Some, None, true, option_map, if◌then◌else◌};
-ghost use Rattle.std.specs.Option.{option_to_list, option_or};
-ghost use Rattle.std.specs.Map.{lookup};
+ghost use Rattle.std.specs.Prelude.{◌≡◌, ◌+◌, ◌<◌, ◌≤◌, [], ◌∷◌, ◌++◌, ◌==◌, ◌&&◌, ◌||◌, ℕ, List, length, ◌↔◌, Contains, IfOk, OnOk, OnErr, Option, Some, None, true, option_map, if◌then◌else◌};
+ghost use Rattle.std.specs.Option.{option_to_list, option_copied};
+ghost use Rattle.std.specs.List.Sorted.{IsStrictlySortedBy};
+ghost use Rattle.mv_pack.specs.declared.key.BatchKey.{BatchKey as ABatch};
 ghost use Rattle.std.specs.List.{list_any};
 ghost use Rattle.mv_message.specs.declared.message.Message.{Message as AMessage};
 ghost use Rattle.mv_link.specs.Frames.{IsFrameOf};
-ghost use Rattle.mv_hub.specs.Record.{routed_count, last_markets, product_in, is_open, is_same_gtin, market_table};
+ghost use Rattle.mv_hub.specs.Record.{routed_count, last_markets, is_open, market_table};
+ghost use Rattle.mv_hub.specs.Catalogue.{catalogue_of};
+ghost use Rattle.mv_hub.specs.BatchLinks.{batch_cmp, linked_to, IsDescendant};
 ghost use Rattle.mv_hub.specs.Targets.{reach, is_reached, is_target, is_query, wanted_markets};
 ghost use Rattle.mv_hub.specs.declared.entry.Entry.TheVariants.{Routed};
-ghost use Rattle.mv_hub.specs.Kept.{Carries, AreMarkets};
+ghost use Rattle.mv_hub.specs.Kept.{Carries};
 ghost use Rattle.mv_hub.specs.Fault.{FailsBy, RouteFailsBy};
 
 use crate::gain::{Gain, put_row};
-use crate::{Entry, HubFault, Parties, RouteFault};
+use crate::trail::AuditTrail;
+use crate::{Catalogue, Entry, HubFault, Parties, RouteFault};
 use arrayvec::ArrayVec;
-use indexmap::IndexMap;
 use mv_link::{Frame, Item, LinkFault, Outgoing, PARTIES_LIMIT, Reach};
-use mv_message::{Markets, Message, Party};
-use mv_pack::{Gtin, Market};
+use mv_message::{Message, Party};
+use mv_pack::{BatchKey, Gtin, Market};
 use mv_pairs::PairTable;
 use std::alloc::{AllocError, Global};
 use std::marker::Model;
@@ -29,9 +32,8 @@ pub struct Hub {
     alloc: Global,
     parties: Parties,
     window: u32,
-    entries: Vec<Entry>,
+    trail: AuditTrail,
     counts: Vec<u32>,
-    markets: IndexMap<Gtin, Markets>,
     open_links: PairTable<bool>,
     links: PairTable<Outgoing>,
 }
@@ -45,12 +47,11 @@ impl Model for Hub {
     ghost view = { λ a. record {
       parties = a.parties;
       window = a.window;
-      entries = a.entries.items;
+      entries = a.trail;
       sent = sent_table a.links;
     } };
 
-    ghost invariant = { λ a. IsKept a.parties a.window a.entries.items a.counts.items a.markets.entries
-        a.open_links a.links };
+    ghost invariant = { λ a. IsKept a.parties a.window a.trail a.counts.items a.open_links a.links };
 }
 
 impl Hub {
@@ -85,9 +86,8 @@ impl Hub {
             alloc,
             parties,
             window,
-            entries: Vec::new(alloc),
+            trail: AuditTrail::new(alloc),
             counts,
-            markets: IndexMap::new(alloc),
             open_links,
             links,
         })
@@ -106,7 +106,7 @@ impl Hub {
     pub fn record(&self) -> &[Entry]
         ensures { result.now ≡ self.now.entries }
     {
-        self.entries.as_slice()
+        self.trail.entries()
     }
 
     /// How many messages of a party were routed.
@@ -141,8 +141,8 @@ impl Hub {
     fn market_table(&self, gtin: &Gtin) -> &[Market]
         ensures { result.now ≡ market_table self.now.entries gtin.now }
     {
-        match self.markets.get(gtin) {
-            Some(markets) => markets.as_slice(),
+        match self.trail.markets(gtin) {
+            Some(markets) => markets,
             None => &[],
         }
     }
@@ -374,14 +374,11 @@ impl Hub {
         let Ok(copy) = message.copy(self.alloc) else {
             return Err(AllocError);
         };
-        record(
-            self.alloc,
-            &mut self.entries,
-            &mut self.markets,
+        self.trail.push(Entry::Routed {
             from,
             k,
-            copy,
-        )?;
+            message: copy,
+        })?;
         // Nothing fails from here on.
         put_row(&mut self.links, from, gains);
         self.counts[from as usize] = k;
@@ -401,10 +398,37 @@ impl Hub {
     pub fn markets(&self, gtin: &Gtin) -> Option<&[Market]>
         ensures { option_map (λ markets. markets.now) result ≡ last_markets self.now.entries gtin.now }
     {
-        match self.markets.get(gtin) {
-            Some(markets) => Some(markets.as_slice()),
-            None => None,
-        }
+        self.trail.markets(gtin)
+    }
+
+    /// What the record says of a product: the product of its last routed master, and the distinct pairs of batch and expiry of
+    /// all its routed uploads, in the order of their first routing. `None` where it has neither.
+    pub fn catalogue(&self, gtin: &Gtin) -> Option<&Catalogue>
+        ensures { option_copied result ≡ catalogue_of self.now.entries gtin.now }
+    {
+        self.trail.catalogue(gtin)
+    }
+
+    /// The batches that are linked to a batch: the batches after, over all routed repacks whose batch before it is, ascending
+    /// and each once. Refused for want of memory.
+    pub fn linked(&self, batch: &BatchKey) -> Result<Vec<BatchKey>, AllocError>
+        ensures order { IfOk result (λ list. IsStrictlySortedBy batch_cmp list.items) }
+        ensures members { IfOk result (λ list. (other : ABatch)
+            → Contains list.items other ↔ Contains (linked_to self.now.entries batch.now) other) }
+    {
+        let list = self.trail.linked(batch)?;
+        Ok(list)
+    }
+
+    /// The batches that descend from a batch: those to which a chain of one or more links leads from it, ascending and each
+    /// once. The batch itself is among them only where a chain comes back to it. Refused for want of memory.
+    pub fn descendants(&self, batch: &BatchKey) -> Result<Vec<BatchKey>, AllocError>
+        ensures order { IfOk result (λ list. IsStrictlySortedBy batch_cmp list.items) }
+        ensures members { IfOk result (λ list. (other : ABatch)
+            → Contains list.items other ↔ IsDescendant self.now.entries batch.now other) }
+    {
+        let list = self.trail.descendants(batch)?;
+        Ok(list)
     }
 
     /// Routes the next message of a party: it goes into the record, a receipt of it onto the party's link to itself, and
@@ -504,7 +528,7 @@ impl Hub {
         if !self.is_open(from, to) {
             return Err(HubFault::AlreadyClosed);
         }
-        let Ok(()) = self.entries.push(Entry::Closed { from, to }) else {
+        let Ok(()) = self.trail.push(Entry::Closed { from, to }) else {
             return Err(HubFault::Memory);
         };
         *self.open_links.at_mut(from, to) = false;
@@ -524,46 +548,4 @@ fn is_query(message: &Message) -> bool
     ensures { result ≡ is_query message.now }
 {
     matches!(message, Message::Query { .. })
-}
-
-/// Puts a routed message at the end of the record, and into the table the markets that a master names. Where memory is
-/// refused neither has changed.
-fn record(
-    alloc: Global,
-    entries: &mut Vec<Entry>,
-    markets: &mut IndexMap<Gtin, Markets>,
-    from: Party,
-    k: u32,
-    message: Message,
-) -> Result<(), AllocError>
-    requires { AreMarkets entries.old.items markets.old.entries }
-    ensures ok { OnOk result (entries.new.items ≡ entries.old.items ++ Routed from k message ∷ []) }
-    ensures markets { OnOk result (AreMarkets entries.new.items markets.new.entries) }
-    ensures err { OnErr result ((entries.new.items ≡ entries.old.items)
-        × (markets.new.entries ≡ markets.old.entries)) }
-{
-    entries.reserve(1)?;
-    note_markets(alloc, markets, &message)?;
-    // Nothing fails from here on.
-    let Ok(()) = entries.push(Entry::Routed { from, k, message }) else {
-        unreachable!()
-    };
-    Ok(())
-}
-
-/// Puts into the table the markets that a master names.
-fn note_markets(
-    alloc: Global,
-    markets: &mut IndexMap<Gtin, Markets>,
-    message: &Message,
-) -> Result<(), AllocError>
-    ensures ok { OnOk result ((from k : ℕ) (gtin : List ℕ) → lookup (is_same_gtin gtin) markets.new.entries
-        ≡ option_or (option_map (λ product. product.markets) (product_in gtin (Routed from k message.now)))
-        (lookup (is_same_gtin gtin) markets.old.entries)) }
-    ensures err { OnErr result (markets.new.entries ≡ markets.old.entries) }
-{
-    if let Message::Master { gtin, product } = message {
-        markets.insert(*gtin, product.markets.copy(alloc)?)?;
-    }
-    Ok(())
 }

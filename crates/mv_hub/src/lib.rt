@@ -5,12 +5,17 @@
 //! `specs/`. A refused call has changed nothing. This crate knows no JSON, no repository and no thread.
 #![tactic(auto)]
 
+mod batch_links;
+mod catalogue;
+mod catalogues;
 mod entry;
 mod fault;
 mod gain;
 mod hub;
 mod parties;
+mod trail;
 
+pub use catalogue::{Catalogue, Pairs};
 pub use entry::Entry;
 pub use fault::{HubFault, RouteFault};
 pub use hub::Hub;

@@ -10,7 +10,7 @@ invariant_of-self-2 c =
     let a = c.self.inside in
     let count : c.len-count.result ≡ length a.parties =
     c.len-count.ensures.value ∙ ap length c.parties.ensures.value ∙ ap (λ (h : HubState). length h.parties) (sym c.self.view_is) in
-    subst (λ l. IsKept a.parties a.window l a.counts.items a.markets.entries (put a.open_links c.args.from c.args.to _) a.links)
-    (sym c.in-Ok.ensures.items)
-    (kept-closed a.parties a.window a.entries.items a.counts.items a.markets.entries a.open_links a.links c.args.from c.args.to c.self.invariant
+    subst (λ l. IsKept a.parties a.window l a.counts.items (put a.open_links c.args.from c.args.to _) a.links)
+    (sym c.in-Ok.ensures.ok)
+    (kept-closed a.parties a.window a.trail a.counts.items a.open_links a.links c.args.from c.args.to c.self.invariant
     (omega (arith, count, c.if-from-count.false)) (omega (arith, count, c.if-to-count.false)))

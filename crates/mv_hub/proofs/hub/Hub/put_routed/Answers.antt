@@ -4,7 +4,7 @@ use Rattle.mv_pairs.specs.Pairs.{IsSquare}
 use Rattle.mv_hub.specs.declared.entry.Entry.TheVariants.{Routed}
 use Rattle.mv_hub.specs.Record.{routed_count}
 use Rattle.mv_hub.specs.Hub.{HubState, gains_of, next_items, busy_party}
-use Rattle.mv_hub.specs.Kept.{IsKept, AreMarkets}
+use Rattle.mv_hub.specs.Kept.{IsKept}
 use Rattle.mv_hub.proofs.HubLemmas.{rooms, kept-routed}
 use Rattle.mv_hub.proofs.hub.Hub.put_routed.Goals as goal
 
@@ -34,7 +34,7 @@ pub put_row-requires-clause-room : goal.put_row-requires-clause-room
 put_row-requires-clause-room c =
     let a = c.self.inside in
     let back = sym c.self.view_is in
-    rooms a.parties a.window a.entries.items a.links c.args.gains.items c.args.from c.args.message.now c.self.invariant.are_links
+    rooms a.parties a.window a.trail a.links c.args.gains.items c.args.from c.args.message.now c.self.invariant.are_links
     (omega (arith, ap (λ (h : HubState). length h.parties) c.self.view_is, c.requires.from))
     (subst (λ (h : HubState). busy_party h c.args.from c.args.message.now ≡ _) back c.requires.room)
     (subst (λ (h : HubState). c.args.gains.items ≡ gains_of h c.args.from c.args.message.now) back c.requires.gains)
@@ -45,14 +45,13 @@ invariant_of-self-2 c =
     let from = c.args.from in
     let message = c.args.message.now in
     let back = sym c.self.view_is in
-    let count : c.routed_count-k.result + 1 ≡ routed_count a.entries.items from + 1 =
+    let count : c.routed_count-k.result + 1 ≡ routed_count a.trail from + 1 =
     ap (λ n. n + 1) (c.routed_count-k.ensures.value ∙ ap (λ (h : HubState). routed_count h.entries from) back) in
-    let entries : c.record.new.entries.items ≡ a.entries.items ++ Routed from (routed_count a.entries.items from + 1) message ∷ [] =
-    c.in_ok-record.ensures.ok ∙ ap (λ k. a.entries.items ++ Routed from k c.in-Ok.copy ∷ []) count
-    ∙ ap (λ m. a.entries.items ++ Routed from (routed_count a.entries.items from + 1) m ∷ []) c.in-Ok.ensures.copy in
-    subst (λ l. IsKept a.parties a.window l (set a.counts.items from (c.routed_count-k.result + 1)) c.record.new.markets.entries a.open_links c.put_row.new.links) (sym entries)
-    (subst (λ k. IsKept a.parties a.window (a.entries.items ++ Routed from (routed_count a.entries.items from + 1) message ∷ []) (set a.counts.items from k) c.record.new.markets.entries a.open_links c.put_row.new.links) (sym count)
-    (kept-routed a.parties a.window a.entries.items a.counts.items a.markets.entries c.record.new.markets.entries a.open_links a.links c.put_row.new.links c.args.gains.items from message
+    let entries : c.push.new.self ≡ a.trail ++ Routed from (routed_count a.trail from + 1) message ∷ [] =
+    c.in_ok-push.ensures.ok ∙ ap (λ k. a.trail ++ Routed from k c.in-Ok.copy ∷ []) count
+    ∙ ap (λ m. a.trail ++ Routed from (routed_count a.trail from + 1) m ∷ []) c.in-Ok.ensures.copy in
+    subst (λ l. IsKept a.parties a.window l (set a.counts.items from (c.routed_count-k.result + 1)) a.open_links c.put_row.new.links) (sym entries)
+    (subst (λ k. IsKept a.parties a.window (a.trail ++ Routed from (routed_count a.trail from + 1) message ∷ []) (set a.counts.items from k) a.open_links c.put_row.new.links) (sym count)
+    (kept-routed a.parties a.window a.trail a.counts.items a.open_links a.links c.put_row.new.links c.args.gains.items from message
     c.self.invariant (omega (arith, ap (λ (h : HubState). length h.parties) c.self.view_is, c.requires.from))
-    (subst (λ (h : HubState). c.args.gains.items ≡ gains_of h from message) back c.requires.gains) c.put_row.ensures
-    (subst (λ l. AreMarkets l c.record.new.markets.entries) entries c.in_ok-record.ensures.markets)))
+    (subst (λ (h : HubState). c.args.gains.items ≡ gains_of h from message) back c.requires.gains) c.put_row.ensures))

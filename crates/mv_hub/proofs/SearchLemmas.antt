@@ -1,0 +1,109 @@
+-- The search for the batches that chains of links lead to.
+use Rattle.std.proofs.Common.{◌≡◌, ◌<◌, ◌≤◌, ◌+◌, ℕ, Bool, true, false, cond, List, [], ◌∷◌, ◌++◌, length, get_or, take, take_all, Contains, ◌↔◌, ◌⊎◌, inl, inr, subst, sym, refl, ap, ◌∙◌, arith, append_assoc, append-nil, length-append}
+use Rattle.std.specs.List.{list_any}
+use Rattle.std.proofs.lemmas.List.{take_more, take-append-le}
+use Rattle.std.proofs.lemmas.List.Elements.{Contains-push, Contains-push_cases, Contains-append_left}
+use Rattle.indexmap.proofs.CallerLemmas.{Contains-list_any}
+use Rattle.mv_pack.specs.declared.key.BatchKey.{BatchKey}
+use Rattle.mv_hub.specs.BatchLinks.{is_same_batch, with_link, Gathers, IsChain, IsReachedFrom}
+use Rattle.mv_hub.proofs.BatchLemmas.{batch-same}
+
+none-in : (batch : BatchKey) → Contains [] batch → ⊥
+none-in batch (k, below, at) = omega (arith, below)
+
+-- no batch was put behind the others yet
+pub gathers-none : (old : List BatchKey) → Gathers old [] old
+gathers-none old = record {
+  behind = ([], sym (append-nil old));
+  members = λ batch. (λ h. inl h, elim [ inl h ↦ h | inr h ↦ absurd (none-in batch h) ]);
+}
+
+-- one more batch was
+pub gathers-more : (old more now : List BatchKey) (x : BatchKey) → Gathers old more now → Gathers old (more ++ x ∷ []) (with_link now x)
+gathers-more old more now x gathers = by (list_any (is_same_batch x) now) refl
+  where
+    with_more : (new : List BatchKey) → ((batch : BatchKey) → Contains new batch → Contains now batch ⊎ (x ≡ batch))
+        → ((batch : BatchKey) → Contains now batch → Contains new batch) → Contains new x
+        → (batch : BatchKey) → Contains new batch ↔ (Contains old batch ⊎ Contains (more ++ x ∷ []) batch)
+    with_more new from into has batch = (
+      λ h. elim (from batch h) [
+        | inl h ↦ elim ((gathers.members batch).0 h) [ inl h ↦ inl h | inr h ↦ inr (Contains-append_left more (x ∷ []) batch h) ]
+        | inr e ↦ inr (subst (Contains (more ++ x ∷ [])) e (Contains-push more x))
+      ],
+      elim [
+        | inl h ↦ into batch ((gathers.members batch).1 (inl h))
+        | inr h ↦ elim (Contains-push_cases more x batch h) [
+          | inl h ↦ into batch ((gathers.members batch).1 (inr h))
+          | inr e ↦ subst (Contains new) e has
+        ]
+      ],
+    )
+
+    by : (b : Bool) → list_any (is_same_batch x) now ≡ b → Gathers old (more ++ x ∷ []) (cond b now (now ++ x ∷ []))
+    by true e = record {
+      behind = gathers.behind;
+      members = with_more now (λ batch h. inl h) (λ batch h. h) (Contains-list_any is_same_batch batch-same now x e);
+    }
+    by false e = record {
+      behind = (gathers.behind.0 ++ x ∷ [], ap (λ l. l ++ x ∷ []) gathers.behind.1 ∙ append_assoc old gathers.behind.0 (x ∷ []));
+      members = with_more (now ++ x ∷ []) (λ batch h. Contains-push_cases now x batch h) (λ batch h. Contains-append_left now (x ∷ []) batch h) (Contains-push now x);
+    }
+
+-- Some batches were reached, and the batches that are linked to the first of them too.
+pub record IsSearching (links : BatchKey → List BatchKey) (batch : BatchKey) (next : ℕ) (reached : List BatchKey) : Type 0 where
+  pub sound : (other : BatchKey) → Contains reached other → IsReachedFrom links batch other
+  pub begun : (other : BatchKey) → Contains (links batch) other → Contains reached other
+  pub closed : (from other : BatchKey) → Contains (take next reached) from → Contains (links from) other → Contains reached other
+  pub within : next ≤ length reached
+
+-- at first those that are linked to the batch were reached
+pub searching-start : (links : BatchKey → List BatchKey) (batch : BatchKey) (reached : List BatchKey) → Gathers [] (links batch) reached
+    → IsSearching links batch 0 reached
+searching-start links batch reached gathers = record {
+  sound = λ other h. elim ((gathers.members other).0 h) [ inl h ↦ absurd (none-in other h) | inr h ↦ ([], h) ];
+  begun = λ other h. (gathers.members other).1 (inr h);
+  closed = λ from other h. absurd (none-in from h);
+  within = omega arith;
+}
+
+-- a chain may go one link further
+chain-more : (links : BatchKey → List BatchKey) (batch : BatchKey) (between : List BatchKey) (last other : BatchKey)
+    → IsChain links batch between last → Contains (links last) other → IsChain links batch (between ++ last ∷ []) other
+chain-more links batch [] last other chain linked = (chain, linked)
+chain-more links batch (next ∷ between) last other chain linked = (chain.0, chain-more links next between last other chain.1 linked)
+
+-- the batches that are linked to one more were reached
+pub searching-more : (links : BatchKey → List BatchKey) (batch : BatchKey) (next : ℕ) (reached new : List BatchKey) (current : BatchKey)
+    → IsSearching links batch next reached → next < length reached → get_or reached next current ≡ current → Gathers reached (links current) new
+    → IsSearching links batch (next + 1) new
+searching-more links batch next reached new current search below at gathers = record {
+  sound = λ other h. elim ((gathers.members other).0 h) [
+    | inl h ↦ search.sound other h
+    | inr h ↦
+        let chain = search.sound current (next, below, at) in
+        (chain.0 ++ current ∷ [], chain-more links batch chain.0 current other chain.1 h)
+  ];
+  begun = λ other h. (gathers.members other).1 (inl (search.begun other h));
+  closed = λ from other h linked. elim (Contains-push_cases (take next reached) current from (subst (λ l. Contains l from) front h)) [
+    | inl h ↦ (gathers.members other).1 (inl (search.closed from other h linked))
+    | inr e ↦ (gathers.members other).1 (inr (subst (λ b. Contains (links b) other) (sym e) linked))
+  ];
+  within = omega (arith, ap length gathers.behind.1, length-append reached gathers.behind.0);
+}
+  where
+    front : take (next + 1) new ≡ take next reached ++ current ∷ []
+    front =
+        ap (take (next + 1)) gathers.behind.1 ∙ take-append-le (next + 1) reached gathers.behind.0 (omega arith)
+        ∙ take_more reached next current below ∙ ap (λ b. take next reached ++ b ∷ []) at
+
+-- where each batch that was reached was looked at, all were reached
+pub searching-end : (links : BatchKey → List BatchKey) (batch : BatchKey) (next : ℕ) (reached : List BatchKey)
+    → IsSearching links batch next reached → length reached ≤ next
+    → (other : BatchKey) → Contains reached other ↔ IsReachedFrom links batch other
+searching-end links batch next reached search all other = (search.sound other, λ chain. complete chain.0 batch search.begun chain.1)
+  where
+    complete : (between : List BatchKey) (from : BatchKey) → ((b : BatchKey) → Contains (links from) b → Contains reached b)
+        → IsChain links from between other → Contains reached other
+    complete [] from has chain = has other chain
+    complete (b ∷ between) from has chain =
+        complete between b (λ o linked. search.closed b o (subst (λ l. Contains l b) (sym (take_all next reached all)) (has b chain.0)) linked) chain.1

@@ -1,0 +1,11 @@
+use Rattle.std.proofs.Common.{◌-◌}
+use Rattle.mv_hub.specs.BatchLinks.{linked_in}
+use Rattle.mv_hub.proofs.SearchLemmas.{IsSearching}
+use Rattle.mv_hub.proofs.batch_links.BatchLinks.reached.Given as goal
+
+abbrev pub invariant-loop-next : goal.invariant-loop-next
+invariant-loop-next l = IsSearching (linked_in l.self) l.batch l.next l.reached.keys
+
+-- a set never has so many members
+abbrev pub decreases-loop-next : goal.decreases-loop-next
+decreases-loop-next l = 18446744073709551615 - l.next

@@ -1,0 +1,56 @@
+-- Links between batches: a routed repack makes packs of the batch before into packs of the batch after.
+use Rattle.std.specs.Prelude.{ℕ, List, [], ◌∷◌, ◌++◌, nat_eq, Bool, unwrap_or, ◌&&◌, ◌≡◌, ◌↔◌, ◌⊎◌, Contains, Option, Some, None, if◌then◌else◌}
+use Rattle.std.specs.Cmp.Lexicographic.{pointwise, slice_cmp}
+use Rattle.std.specs.Ordering.{nat_cmp, ordering_then}
+use Rattle.std.specs.declared.cmp.Ordering.{Ordering}
+use Rattle.std.specs.List.{filter_map, list_any}
+use Rattle.std.specs.Map.{lookup}
+use Rattle.mv_pack.specs.declared.key.BatchKey.{BatchKey}
+use Rattle.mv_message.specs.declared.message.Message.TheVariants.{Repack}
+use Rattle.mv_hub.specs.declared.entry.Entry.{Entry}
+use Rattle.mv_hub.specs.declared.entry.Entry.TheVariants.{Routed}
+use Rattle.mv_hub.specs.Record.{is_same_gtin}
+
+-- the same batch number of the same product
+abbrev pub is_same_batch : BatchKey → BatchKey → Bool
+is_same_batch a b = is_same_gtin a.gtin b.gtin && pointwise nat_eq a.batch b.batch
+
+-- batches in the order of the bytes of their product code, and of one product in that of the bytes of their number
+abbrev pub batch_cmp : BatchKey → BatchKey → Ordering
+batch_cmp a b = ordering_then (slice_cmp nat_cmp a.gtin b.gtin) (slice_cmp nat_cmp a.batch b.batch)
+
+-- the batch that an entry links to a batch: the batch after of a routed repack whose batch before it is
+abbrev pub link_in : BatchKey → Entry → Option BatchKey
+link_in batch (Routed from k (Repack before before_serials after after_serials at)) =
+    if is_same_batch before batch then Some after else None
+link_in batch entry = None
+
+-- the batches after, over all routed repacks whose batch before is this one, in the order of the record
+unfoldable pub linked_to : List Entry → BatchKey → List BatchKey
+linked_to entries batch = filter_map (link_in batch) entries
+
+-- where these batches are linked to each, a chain of links leads from a batch to another, over these batches between them
+abbrev pub IsChain : (BatchKey → List BatchKey) → BatchKey → List BatchKey → BatchKey → Type 0
+IsChain links batch [] other = Contains (links batch) other
+IsChain links batch (next ∷ between) other = Contains (links batch) next × IsChain links next between other
+
+-- a chain of one or more links leads from a batch to another
+abbrev pub IsReachedFrom : (BatchKey → List BatchKey) → BatchKey → BatchKey → Type 0
+IsReachedFrom links batch other = (between : List BatchKey) × IsChain links batch between other
+
+-- a batch was made of another by one or more routed repacks, each of packs that the one before had made
+abbrev pub IsDescendant : List Entry → BatchKey → BatchKey → Type 0
+IsDescendant entries batch other = IsReachedFrom (linked_to entries) batch other
+
+-- what a table of the batches after says of a batch
+abbrev pub linked_in : List (BatchKey × List BatchKey) → BatchKey → List BatchKey
+linked_in table batch = unwrap_or (lookup (is_same_batch batch) table) []
+
+-- one more batch after, unless it is there
+abbrev pub with_link : List BatchKey → BatchKey → List BatchKey
+with_link batches batch = if list_any (is_same_batch batch) batches then batches else batches ++ batch ∷ []
+
+-- more batches were put behind those of a list, each unless it was there
+pub record Gathers (old more new : List BatchKey) : Type 0 where
+  pub behind : (rest : List BatchKey) × (new ≡ old ++ rest)
+  pub members : (batch : BatchKey) → Contains new batch ↔ (Contains old batch ⊎ Contains more batch)

@@ -1,0 +1,181 @@
+//! The links between batches that routed repacks make.
+
+ghost use Rattle.std.specs.Prelude.{◌≡◌, ◌↔◌, ◌∷◌, [], ℕ, List, Contains, OnOk, OnErr, IfOk, if◌then◌else◌};
+ghost use Rattle.std.specs.List.Sorted.{IsStrictlySortedBy};
+ghost use Rattle.mv_pack.specs.declared.key.BatchKey.{BatchKey as ABatch};
+ghost use Rattle.mv_hub.specs.BatchLinks.{is_same_batch, batch_cmp, linked_in, with_link, Gathers, IsReachedFrom};
+
+use indexmap::{IndexMap, IndexSet};
+use mv_pack::BatchKey;
+use std::alloc::{AllocError, Global};
+use std::marker::Model;
+
+/// The batches after of one batch, each once, in the order of their first link.
+#[derive(Drop)]
+struct BatchesAfter {
+    set: IndexSet<BatchKey>,
+}
+
+impl Model for BatchesAfter {
+    ghost use Rattle.std.specs.Prelude.{List};
+    ghost use Rattle.mv_pack.specs.declared.key.BatchKey.{BatchKey as ABatch};
+
+    ghost Value = { List ABatch };
+
+    ghost view = { λ b. b.set.keys };
+}
+
+impl BatchesAfter {
+    /// One batch.
+    fn of(alloc: Global, batch: &BatchKey) -> Result<BatchesAfter, AllocError>
+        ensures { IfOk result (λ batches. batches ≡ batch.now ∷ []) }
+    {
+        let mut batches = BatchesAfter {
+            set: IndexSet::new(alloc),
+        };
+        batches.add(batch)?;
+        Ok(batches)
+    }
+
+    /// One more batch, unless it is there. Where memory is refused nothing has changed.
+    fn add(&mut self, batch: &BatchKey) -> Result<(), AllocError>
+        ensures ok { OnOk result (self.new ≡ with_link self.old batch.now) }
+        ensures err { OnErr result (self.new ≡ self.old) }
+    {
+        self.set.insert(batch.copy())?;
+        Ok(())
+    }
+
+    /// The batches.
+    fn as_slice(&self) -> &[BatchKey]
+        ensures { result.now ≡ self.now }
+    {
+        self.set.as_slice()
+    }
+}
+
+/// The batches after of each batch.
+#[derive(Drop)]
+pub(crate) struct BatchLinks {
+    alloc: Global,
+    table: IndexMap<BatchKey, BatchesAfter>,
+}
+
+impl Model for BatchLinks {
+    ghost use Rattle.std.specs.Prelude.{List};
+    ghost use Rattle.mv_pack.specs.declared.key.BatchKey.{BatchKey as ABatch};
+
+    ghost Value = { List (ABatch × List ABatch) };
+
+    ghost view = { λ b. b.table.entries };
+}
+
+impl BatchLinks {
+    /// No batch is linked to another.
+    pub(crate) fn new(alloc: Global) -> BatchLinks
+        ensures { result ≡ [] }
+    {
+        BatchLinks {
+            alloc,
+            table: IndexMap::new(alloc),
+        }
+    }
+
+    /// A batch is linked to another from now on. Where memory is refused nothing has changed.
+    pub(crate) fn add(&mut self, before: &BatchKey, after: &BatchKey) -> Result<(), AllocError>
+        ensures ok { OnOk result ((other : ABatch) → linked_in self.new other
+            ≡ (if is_same_batch before.now other then with_link (linked_in self.old before.now) after.now
+            else linked_in self.old other)) }
+        ensures err { OnErr result (self.new ≡ self.old) }
+    {
+        if let Some(batches) = self.table.get_mut(before) {
+            let Ok(()) = batches.add(after) else {
+                return Err(AllocError);
+            };
+            return Ok(());
+        }
+        let batches = BatchesAfter::of(self.alloc, after)?;
+        self.table.insert(before.copy(), batches)?;
+        Ok(())
+    }
+
+    /// The batches that are linked to a batch.
+    fn get(&self, batch: &BatchKey) -> &[BatchKey]
+        ensures { result.now ≡ linked_in self.now batch.now }
+    {
+        match self.table.get(batch) {
+            Some(batches) => batches.as_slice(),
+            None => &[],
+        }
+    }
+
+    /// The batches that are linked to a batch, ascending. Refused for want of memory.
+    pub(crate) fn linked(&self, batch: &BatchKey) -> Result<Vec<BatchKey>, AllocError>
+        ensures order { IfOk result (λ list. IsStrictlySortedBy batch_cmp list.items) }
+        ensures members { IfOk result (λ list. (other : ABatch)
+            → Contains list.items other ↔ Contains (linked_in self.now batch.now) other) }
+    {
+        let list = copies(self.alloc, self.get(batch))?;
+        Ok(ascending(list))
+    }
+
+    /// The batches to which a chain of one or more links leads from a batch, ascending. Refused for want of memory.
+    pub(crate) fn descendants(&self, batch: &BatchKey) -> Result<Vec<BatchKey>, AllocError>
+        ensures order { IfOk result (λ list. IsStrictlySortedBy batch_cmp list.items) }
+        ensures members { IfOk result (λ list. (other : ABatch)
+            → Contains list.items other ↔ IsReachedFrom (linked_in self.now) batch.now other) }
+    {
+        let reached = self.reached(batch)?;
+        let list = copies(self.alloc, reached.as_slice())?;
+        Ok(ascending(list))
+    }
+
+    /// The batches to which a chain of one or more links leads from a batch. Each is looked at once, in the order in which
+    /// it was reached.
+    fn reached(&self, batch: &BatchKey) -> Result<IndexSet<BatchKey>, AllocError>
+        ensures { IfOk result (λ reached. (other : ABatch)
+            → Contains reached.keys other ↔ IsReachedFrom (linked_in self.now) batch.now other) }
+    {
+        let mut reached = IndexSet::new(self.alloc);
+        add_all(&mut reached, self.get(batch))?;
+        let mut next = 0usize;
+        while next < reached.len() {
+            let current = reached.as_slice()[next].copy();
+            add_all(&mut reached, self.get(&current))?;
+            next += 1;
+        }
+        Ok(reached)
+    }
+}
+
+/// Puts batches into a set, behind those that are there.
+fn add_all(set: &mut IndexSet<BatchKey>, batches: &[BatchKey]) -> Result<(), AllocError>
+    ensures { OnOk result (Gathers set.old.keys batches.now set.new.keys) }
+{
+    for batch in batches {
+        set.insert(batch.copy())?;
+    }
+    Ok(())
+}
+
+/// The same batches, in a list of its own.
+fn copies(alloc: Global, batches: &[BatchKey]) -> Result<Vec<BatchKey>, AllocError>
+    ensures { IfOk result (λ list. list.items ≡ batches.now) }
+{
+    let mut list = Vec::with_capacity(alloc, batches.len())?;
+    for batch in batches {
+        list.push(batch.copy())?;
+    }
+    Ok(list)
+}
+
+/// The batches, ascending and each once.
+fn ascending(batches: Vec<BatchKey>) -> Vec<BatchKey>
+    ensures order { IsStrictlySortedBy batch_cmp result.items }
+    ensures members { (batch : ABatch) → Contains result.items batch ↔ Contains batches.items batch }
+{
+    let mut batches = batches;
+    batches.sort_unstable();
+    batches.dedup();
+    batches
+}

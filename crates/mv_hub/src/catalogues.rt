@@ -1,0 +1,159 @@
+//! What the hub knows of each product, by the masters and uploads that it routed.
+
+ghost use Rattle.std.specs.Prelude.{◌≡◌, ℕ, [], List, Option, Some, None, if◌then◌else◌, option_map, OnOk, OnErr, IfOk};
+ghost use Rattle.std.specs.Option.{option_copied};
+ghost use Rattle.mv_hub.specs.Record.{is_same_gtin};
+ghost use Rattle.mv_hub.specs.Catalogue.{with_product, with_listing};
+
+use crate::{Catalogue, Pairs};
+use indexmap::{IndexMap, IndexSet};
+use mv_message::{Markets, Product};
+use mv_pack::{Batch, Expiry, Gtin};
+use std::alloc::{AllocError, Global};
+use std::marker::Model;
+
+/// A catalogue, and its batches as a set.
+#[derive(Drop)]
+struct Listed {
+    catalogue: Catalogue,
+    known: IndexSet<(Batch, Expiry)>,
+}
+
+impl Model for Listed {
+    ghost use Rattle.std.specs.Prelude.{◌≡◌};
+    ghost use Rattle.mv_hub.specs.declared.catalogue.Catalogue.{Catalogue as ACatalogue};
+
+    ghost Value = { ACatalogue };
+
+    ghost view = { λ l. l.catalogue };
+
+    ghost invariant = { λ l. l.known.keys ≡ l.catalogue.batches };
+}
+
+impl Listed {
+    /// What is known of a product that has a master and no batch.
+    fn of_product(alloc: Global, product: Product) -> Listed
+        ensures { result ≡ with_product None product }
+    {
+        Listed {
+            catalogue: Catalogue {
+                product: Some(product),
+                batches: Pairs::new(Vec::new(alloc)),
+            },
+            known: IndexSet::new(alloc),
+        }
+    }
+
+    /// What is known of a product that has a batch and no master.
+    fn of_batch(alloc: Global, batch: &Batch, expiry: Expiry) -> Result<Listed, AllocError>
+        ensures { IfOk result (λ listed. listed ≡ with_listing None (batch.now, expiry)) }
+    {
+        let mut listed = Listed {
+            catalogue: Catalogue {
+                product: None,
+                batches: Pairs::new(Vec::new(alloc)),
+            },
+            known: IndexSet::new(alloc),
+        };
+        listed.add(batch, expiry)?;
+        Ok(listed)
+    }
+
+    /// Puts a batch and its expiry behind the others, unless they are there. Where memory is refused nothing has changed.
+    fn add(&mut self, batch: &Batch, expiry: Expiry) -> Result<(), AllocError>
+        ensures ok { OnOk result (self.new ≡ with_listing (Some self.old) (batch.now, expiry)) }
+        ensures err { OnErr result (self.new ≡ self.old) }
+    {
+        let listing = (batch.copy(), expiry);
+        if self.known.contains(&listing) {
+            return Ok(());
+        }
+        self.known.reserve(1)?;
+        self.catalogue.batches.push(batch.copy(), expiry)?;
+        // Nothing fails from here on.
+        let Ok(_) = self.known.insert(listing) else {
+            unreachable!()
+        };
+        Ok(())
+    }
+}
+
+/// What is known of each product.
+#[derive(Drop)]
+pub(crate) struct Catalogues {
+    alloc: Global,
+    table: IndexMap<Gtin, Listed>,
+}
+
+impl Model for Catalogues {
+    ghost use Rattle.std.specs.Prelude.{List, ℕ};
+    ghost use Rattle.mv_hub.specs.declared.catalogue.Catalogue.{Catalogue as ACatalogue};
+
+    ghost Value = { List (List ℕ × ACatalogue) };
+
+    ghost view = { λ c. c.table.entries };
+}
+
+impl Catalogues {
+    ghost use Rattle.mv_hub.specs.Catalogue.{catalogue_in};
+
+    /// Nothing is known of any product.
+    pub(crate) fn new(alloc: Global) -> Catalogues
+        ensures { result ≡ [] }
+    {
+        Catalogues {
+            alloc,
+            table: IndexMap::new(alloc),
+        }
+    }
+
+    /// What is known of a product.
+    pub(crate) fn get(&self, gtin: &Gtin) -> Option<&Catalogue>
+        ensures { option_copied result ≡ catalogue_in self.now gtin.now }
+    {
+        match self.table.get(gtin) {
+            Some(listed) => Some(&listed.catalogue),
+            None => None,
+        }
+    }
+
+    /// A product has this master from now on. Where memory is refused nothing has changed.
+    pub(crate) fn set_product(&mut self, gtin: Gtin, product: &Product) -> Result<(), AllocError>
+        ensures ok { OnOk result ((other : List ℕ) → catalogue_in self.new other
+            ≡ (if is_same_gtin gtin other then Some (with_product (catalogue_in self.old gtin) product.now)
+            else catalogue_in self.old other)) }
+        ensures err { OnErr result (self.new ≡ self.old) }
+    {
+        let product = product.copy(self.alloc)?;
+        if let Some(listed) = self.table.get_mut(&gtin) {
+            listed.catalogue.product = Some(product);
+            return Ok(());
+        }
+        self.table
+            .insert(gtin, Listed::of_product(self.alloc, product))?;
+        Ok(())
+    }
+
+    /// A product has this batch with this expiry from now on. Where memory is refused nothing has changed.
+    pub(crate) fn add_batch(
+        &mut self,
+        gtin: Gtin,
+        batch: &Batch,
+        expiry: Expiry,
+    ) -> Result<(), AllocError>
+        ensures ok { OnOk result ((other : List ℕ) → catalogue_in self.new other
+            ≡ (if is_same_gtin gtin other then Some (with_listing (catalogue_in self.old gtin) (batch.now, expiry))
+            else catalogue_in self.old other)) }
+        ensures err { OnErr result (self.new ≡ self.old) }
+    {
+        if let Some(listed) = self.table.get_mut(&gtin) {
+            let Ok(()) = listed.add(batch, expiry) else {
+                return Err(AllocError);
+            };
+            return Ok(());
+        }
+        let listed = Listed::of_batch(self.alloc, batch, expiry)?;
+        self.table.insert(gtin, listed)?;
+        Ok(())
+    }
+}

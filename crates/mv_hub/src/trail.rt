@@ -1,0 +1,145 @@
+//! The audit trail: the record of what the hub did, and tables of what it says of products and batches, so that no call
+//! walks the record.
+
+ghost use Rattle.std.specs.Prelude.{◌≡◌, ◌↔◌, ◌++◌, ◌∷◌, [], List, Contains, IfOk, OnOk, OnErr, option_map};
+ghost use Rattle.std.specs.Option.{option_copied};
+ghost use Rattle.std.specs.List.Sorted.{IsStrictlySortedBy};
+ghost use Rattle.mv_pack.specs.declared.key.BatchKey.{BatchKey as ABatch};
+ghost use Rattle.mv_hub.specs.declared.entry.Entry.{Entry as AnEntry};
+ghost use Rattle.mv_hub.specs.Record.{last_markets};
+ghost use Rattle.mv_hub.specs.Catalogue.{catalogue_of};
+ghost use Rattle.mv_hub.specs.BatchLinks.{batch_cmp, linked_to, IsDescendant};
+ghost use Rattle.mv_hub.specs.Kept.{AreTables};
+
+use crate::batch_links::BatchLinks;
+use crate::catalogues::Catalogues;
+use crate::{Catalogue, Entry};
+use mv_message::Message;
+use mv_pack::{BatchKey, Gtin, Market};
+use std::alloc::{AllocError, Global};
+use std::marker::Model;
+
+/// The record, the oldest entry first.
+#[derive(Drop)]
+pub(crate) struct AuditTrail {
+    entries: Vec<Entry>,
+    catalogues: Catalogues,
+    batch_links: BatchLinks,
+}
+
+impl Model for AuditTrail {
+    ghost use Rattle.std.specs.Prelude.{List};
+    ghost use Rattle.mv_hub.specs.declared.entry.Entry.{Entry as AnEntry};
+    ghost use Rattle.mv_hub.specs.Kept.{AreTables};
+
+    ghost Value = { List AnEntry };
+
+    ghost view = { λ a. a.entries.items };
+
+    ghost invariant = { λ a. AreTables a.entries.items a.catalogues a.batch_links };
+}
+
+impl AuditTrail {
+    /// An empty record.
+    pub(crate) fn new(alloc: Global) -> AuditTrail
+        ensures { result ≡ [] }
+    {
+        AuditTrail {
+            entries: Vec::new(alloc),
+            catalogues: Catalogues::new(alloc),
+            batch_links: BatchLinks::new(alloc),
+        }
+    }
+
+    /// The entries, the oldest first.
+    pub(crate) fn entries(&self) -> &[Entry]
+        ensures { result.now ≡ self.now }
+    {
+        self.entries.as_slice()
+    }
+
+    /// What the record says of a product.
+    pub(crate) fn catalogue(&self, gtin: &Gtin) -> Option<&Catalogue>
+        ensures { option_copied result ≡ catalogue_of self.now gtin.now }
+    {
+        self.catalogues.get(gtin)
+    }
+
+    /// The markets that the last routed master of a product names.
+    pub(crate) fn markets(&self, gtin: &Gtin) -> Option<&[Market]>
+        ensures { option_map (λ markets. markets.now) result ≡ last_markets self.now gtin.now }
+    {
+        match self.catalogue(gtin) {
+            Some(
+                Catalogue {
+                    product: Some(product),
+                    ..
+                },
+            ) => Some(product.markets.as_slice()),
+            _ => None,
+        }
+    }
+
+    /// The batches that are linked to a batch, ascending. Refused for want of memory.
+    pub(crate) fn linked(&self, batch: &BatchKey) -> Result<Vec<BatchKey>, AllocError>
+        ensures order { IfOk result (λ list. IsStrictlySortedBy batch_cmp list.items) }
+        ensures members { IfOk result (λ list. (other : ABatch)
+            → Contains list.items other ↔ Contains (linked_to self.now batch.now) other) }
+    {
+        let list = self.batch_links.linked(batch)?;
+        Ok(list)
+    }
+
+    /// The batches that descend from a batch, ascending. Refused for want of memory.
+    pub(crate) fn descendants(&self, batch: &BatchKey) -> Result<Vec<BatchKey>, AllocError>
+        ensures order { IfOk result (λ list. IsStrictlySortedBy batch_cmp list.items) }
+        ensures members { IfOk result (λ list. (other : ABatch)
+            → Contains list.items other ↔ IsDescendant self.now batch.now other) }
+    {
+        let list = self.batch_links.descendants(batch)?;
+        Ok(list)
+    }
+
+    /// Puts an entry at the end of the record. Where memory is refused nothing has changed.
+    pub(crate) fn push(&mut self, entry: Entry) -> Result<(), AllocError>
+        ensures ok { OnOk result (self.new ≡ self.old ++ entry ∷ []) }
+        ensures err { OnErr result (self.new ≡ self.old) }
+    {
+        self.entries.reserve(1)?;
+        note(&mut self.catalogues, &mut self.batch_links, &entry)?;
+        // Nothing fails from here on.
+        let Ok(()) = self.entries.push(entry) else {
+            unreachable!()
+        };
+        Ok(())
+    }
+}
+
+/// Puts into the tables what an entry says. Where memory is refused neither has changed.
+fn note(
+    catalogues: &mut Catalogues,
+    batch_links: &mut BatchLinks,
+    entry: &Entry,
+) -> Result<(), AllocError>
+    ensures ok { OnOk result ((entries : List AnEntry) → AreTables entries catalogues.old batch_links.old
+        → AreTables (entries ++ entry.now ∷ []) catalogues.new batch_links.new) }
+    ensures catalogues { OnErr result (catalogues.new ≡ catalogues.old) }
+    ensures links { OnErr result (batch_links.new ≡ batch_links.old) }
+{
+    let Entry::Routed { message, .. } = entry else {
+        return Ok(());
+    };
+    match message {
+        Message::Master { gtin, product } => catalogues.set_product(*gtin, product)?,
+        Message::Upload {
+            gtin,
+            batch,
+            expiry,
+            ..
+        } => catalogues.add_batch(*gtin, batch, *expiry)?,
+        Message::Repack { before, after, .. } => batch_links.add(before, after)?,
+        // No other message says anything of what a product is, of its batches or of links.
+        _ => {}
+    }
+    Ok(())
+}

@@ -42,6 +42,7 @@ impl Reach {
     pub fn as_slice(&self) -> &[Party]
         ensures value { result.now ≡ self.now }
         ensures ascending { IsStrictlyIncreasing result.now }
+        ensures few { length result.now ≤ 64 }
     {
         self.parties.as_slice()
     }

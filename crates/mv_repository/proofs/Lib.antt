@@ -1,10 +1,15 @@
 pub mod BeforeLemmas
+pub mod CountLemmas
 pub mod EffectLemmas
 pub mod KeptLemmas
 pub mod LatestLemmas
 pub mod OrderLemmas
 pub mod PlaceLemmas
-pub mod RepositoryLemmas
+pub mod LedgerLemmas
 pub mod StateLemmas
 pub mod TableLemmas
 pub mod ProductLemmas
+pub mod InquiriesLemmas
+pub mod ChangesLemmas
+pub mod AgreementLemmas
+pub mod SameAboutLemmas

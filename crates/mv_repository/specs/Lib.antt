@@ -7,9 +7,12 @@ pub mod PackState
 pub mod Effect
 pub mod Query
 pub mod Verdict
+pub mod Changes
+pub mod Agreement
 pub mod Counts
 pub mod Repository
 pub mod Copy
 pub mod Stops
 pub mod Track
+pub mod Inquiries
 pub mod Tables

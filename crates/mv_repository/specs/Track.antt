@@ -1,5 +1,5 @@
 -- What is kept of one pack, and that this gives what the pack is.
-use Rattle.std.specs.Prelude.{◌≡◌, ℕ, List, [], ◌∷◌, map, fold, filter, find, get_or, slice_get, not, Bool, true, false, Option, Some, None, if◌then◌else◌}
+use Rattle.std.specs.Prelude.{◌≡◌, ℕ, List, [], ◌∷◌, map, fold, filter, find, get_or, slice_get, not, is_some, Bool, true, false, Option, Some, None, if◌then◌else◌}
 use Rattle.std.specs.Map.{lookup}
 use Rattle.std.specs.Option.{option_map, unwrap_or}
 use Rattle.mv_pack.specs.declared.key.PackKey.{PackKey}
@@ -17,6 +17,7 @@ use Rattle.std.specs.Set.{distinct_count}
 use Rattle.mv_repository.specs.Keys.{is_same_text, is_same_pack, pack_key, batch_key}
 use Rattle.mv_repository.specs.Order.{Placed, passes, stands_before, ordered, Ascends}
 use Rattle.mv_repository.specs.Pack.{KnownPack, KnownChange, new_pack, pack_after_status, change_effect}
+use Rattle.mv_repository.specs.Counts.{is_held_active}
 use Rattle.mv_repository.specs.PackState.{has_pack, held_of, pack_state}
 use Rattle.mv_repository.specs.Stops.{FirstStops, StopTables, no_entry, entry_at, place_of, standing_at, stops_in, comes_first, earlier_place}
 
@@ -199,3 +200,16 @@ is_key_at table place pack = is_at pack (slice_get table place)
 -- how many packs of an upload the newest entry makes, as far as the table says
 abbrev pub made_count : List LogEntry → ℕ → List (PackKey × Kept) → List ℕ → List (List ℕ) → ℕ
 made_count log new table gtin serials = distinct_count is_same_text (filter (λ serial. comes_first log new (kept_in (pack_key gtin serial) table).birth) serials)
+
+-- an upload has made the pack
+abbrev pub is_made : Kept → Bool
+is_made kept = is_some kept.birth
+
+-- the pack is held, and active
+abbrev pub is_active_kept : Kept → Bool
+is_active_kept kept = is_held_active kept.held
+
+-- something is kept, and it is so
+abbrev pub is_kept_so : (Kept → Bool) → Option (PackKey × Kept) → Bool
+is_kept_so test None = false
+is_kept_so test (Some entry) = test entry.1

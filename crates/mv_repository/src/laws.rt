@@ -1,13 +1,14 @@
-//! Laws of the order of stamps and of what it makes of packs, over the definitions alone.
+//! Laws over the definitions alone.
 
-ghost use Rattle.std.specs.Prelude.{List};
+ghost use Rattle.std.specs.Prelude.{◌≡◌, List};
+ghost use Rattle.mv_pack.specs.declared.key.PackKey.{PackKey as APackKey};
 ghost use Rattle.mv_repository.specs.declared.entry.LogEntry.{LogEntry as AnEntry};
+ghost use Rattle.mv_repository.specs.Agreement.{about, AgreeOn, HasDistinctStamps, HaveSameAbout};
+ghost use Rattle.mv_repository.specs.Changes.{ChangeNamesStatus};
 ghost use Rattle.mv_repository.specs.Order.{OneMoreIsPutIn, IsOrderOf, ordered};
-ghost use Rattle.std.specs.Prelude.{◌≡◌};
-ghost use Rattle.mv_repository.specs.Track.{pack_grown, first_upload, statuses_of};
 ghost use Rattle.mv_repository.specs.PackState.{known_pack};
 ghost use Rattle.mv_repository.specs.Stops.{first_stops};
-ghost use Rattle.mv_pack.specs.declared.key.PackKey.{PackKey as APackKey};
+ghost use Rattle.mv_repository.specs.Track.{pack_grown, first_upload, statuses_of};
 
 /// Whatever came before, one more entry is put in at the place that its stamp gives it.
 pub fn one_more_is_put_in()
@@ -24,4 +25,23 @@ pub fn pack_is_of_its_own_entries()
     ensures { (log : List AnEntry) (pack : APackKey) → known_pack pack (ordered log)
         ≡ pack_grown (first_stops (ordered log)) pack (first_upload pack (ordered log))
         (statuses_of pack (ordered log)) }
+{}
+
+/// The change of a pack names, by its place in the log, the status that made it, so its user is the one of that status.
+pub fn change_names_its_status()
+    ensures { (pack : APackKey) (log : List AnEntry) → ChangeNamesStatus pack log }
+{}
+
+/// Two logs that have the same about a pack give it the same state, and its batch and product the same standing, whatever
+/// else they have and in whatever order it came.
+pub fn about_decides()
+    ensures { (pack : APackKey) (one other : List AnEntry) → about pack one ≡ about pack other
+        → AgreeOn pack one other }
+{}
+
+/// Two logs, in each of which no stamp stands twice, that have the same messages about a pack agree on it, in whatever
+/// order these came.
+pub fn same_messages_agree()
+    ensures { (pack : APackKey) (one other : List AnEntry) → HasDistinctStamps one
+        → HasDistinctStamps other → HaveSameAbout pack one other → AgreeOn pack one other }
 {}

@@ -9,10 +9,16 @@ mod counts;
 mod effect;
 mod entry;
 mod held;
+mod inquiries;
+#[cfg(test)]
+mod inquiries_tests;
 mod laws;
+mod ledger;
 mod order;
 mod packs;
 mod repository;
+#[cfg(test)]
+mod rules_tests;
 mod sender;
 mod status;
 mod stops;
@@ -25,7 +31,10 @@ pub use counts::Counts;
 pub use effect::Effect;
 pub use entry::LogEntry;
 pub use held::{Change, Held, REVERT_SECONDS};
-pub use laws::{one_more_is_put_in, ordered_is_the_order, pack_is_of_its_own_entries};
+pub use laws::{
+    about_decides, change_names_its_status, one_more_is_put_in, ordered_is_the_order,
+    pack_is_of_its_own_entries, same_messages_agree,
+};
 pub use repository::Repository;
 pub use sender::FromSender;
 pub use verdict::{Joint, Local, Verdict};

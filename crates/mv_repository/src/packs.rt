@@ -1,13 +1,14 @@
 //! The table of packs: for each pack that an entry names, what is kept of it.
 
-ghost use Rattle.std.specs.Prelude.{◌≡◌, ◌<◌, ◌≤◌, ◌+◌, ◌^◌, ℕ, [], length, get_or, OnOk, OnErr, IfOk, IsSome, All, if◌then◌else◌};
+ghost use Rattle.std.specs.Prelude.{◌≡◌, ◌<◌, ◌≤◌, ◌+◌, ◌^◌, ℕ, [], length, get_or, slice_get, OnOk, OnErr, IfOk, IsSome, All, if◌then◌else◌};
 ghost use Rattle.indexmap.specs.IndexMap.{get, keys};
+ghost use Rattle.std.specs.List.{count_by, IsDistinct};
 ghost use Rattle.std.specs.Option.{option_copied};
 ghost use Rattle.mv_pack.specs.declared.key.PackKey.{PackKey as APackKey};
 ghost use Rattle.mv_repository.specs.Keys.{is_same_pack, pack_key};
 ghost use Rattle.mv_repository.specs.PackState.{has_pack};
 ghost use Rattle.mv_repository.specs.Stops.{comes_first};
-ghost use Rattle.mv_repository.specs.Track.{kept_in, IsTrack, AreTracks, with_status, with_upload, refreshed, is_key_at, newest_effect, made_count};
+ghost use Rattle.mv_repository.specs.Track.{kept_in, IsTrack, AreTracks, with_status, with_upload, refreshed, is_key_at, newest_effect, made_count, is_made, is_active_kept, is_kept_so};
 
 use crate::stops::Stops;
 use crate::track::Track;
@@ -179,4 +180,48 @@ pub(crate) fn refresh_all(packs: &mut IndexMap<PackKey, Track>, log: &[LogEntry]
     for place in 0..packs.len() {
         refresh_at(packs, log, stops, place);
     }
+}
+
+/// How many packs are held, and how many of them are active.
+#[derive(Clone, Copy, Debug, PartialEq, Eq)]
+pub(crate) struct Tally {
+    /// The packs that are held.
+    pub held: usize,
+    /// Those of them that are active.
+    pub active: usize,
+}
+
+/// Whether the pack that stands at a place of the table is held.
+fn is_made_at(packs: &IndexMap<PackKey, Track>, place: usize) -> bool
+    ensures { result ≡ is_kept_so is_made (slice_get packs.now.entries place) }
+{
+    match packs.get_index(place) {
+        Some((_, track)) => track.is_made(),
+        None => false,
+    }
+}
+
+/// Whether the pack that stands at a place of the table is active.
+fn is_active_at(packs: &IndexMap<PackKey, Track>, place: usize) -> bool
+    ensures { result ≡ is_kept_so is_active_kept (slice_get packs.now.entries place) }
+{
+    match packs.get_index(place) {
+        Some((_, track)) => track.is_active(),
+        None => false,
+    }
+}
+
+/// Counts the packs of the table.
+pub(crate) fn count_packs(packs: &IndexMap<PackKey, Track>) -> Tally
+    ensures held { result.held ≡ count_by (λ entry. is_made entry.1) packs.now.entries }
+    ensures active { result.active ≡ count_by (λ entry. is_active_kept entry.1) packs.now.entries }
+    ensures distinct { IsDistinct is_same_pack (keys packs.now) }
+{
+    let mut held = 0;
+    let mut active = 0;
+    for place in 0..packs.len() {
+        held = one_more_if(held, is_made_at(packs, place));
+        active = one_more_if(active, is_active_at(packs, place));
+    }
+    Tally { held, active }
 }

@@ -1,8 +1,9 @@
 //! What stops a batch for ever: for each batch the place in the log of its first recall by stamp, and for each product
 //! that of its first withdrawal.
 
-ghost use Rattle.std.specs.Prelude.{◌≡◌, ℕ, List, [], is_some, OnOk, OnErr, IfOk, if◌then◌else◌};
-ghost use Rattle.std.specs.Map.{lookup};
+ghost use Rattle.std.specs.Prelude.{◌≡◌, ℕ, List, [], length, is_some, OnOk, OnErr, IfOk, if◌then◌else◌};
+ghost use Rattle.std.specs.List.{IsDistinct};
+ghost use Rattle.std.specs.Map.{lookup, keys_of};
 ghost use Rattle.mv_pack.specs.declared.key.BatchKey.{BatchKey as ABatchKey};
 ghost use Rattle.mv_repository.specs.Keys.{is_same_text, is_same_batch};
 ghost use Rattle.mv_repository.specs.Stops.{StopTables, stops_in, standing_at, entry_at, earlier_place, comes_first};
@@ -61,6 +62,14 @@ impl Stops {
         ensures { result ≡ is_some (lookup (is_same_text gtin.now) self.now.withdrawals) }
     {
         self.withdrawals.contains_key(gtin)
+    }
+
+    /// How many batches have a recall.
+    pub fn recalled_count(&self) -> usize
+        ensures count { result ≡ length self.now.recalls }
+        ensures distinct { IsDistinct is_same_batch (keys_of self.now.recalls) }
+    {
+        self.recalls.len()
     }
 
     /// How a batch stands where an entry stands.

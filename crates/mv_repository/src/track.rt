@@ -7,7 +7,7 @@ ghost use Rattle.mv_repository.specs.Order.{Ascends};
 ghost use Rattle.mv_repository.specs.Pack.{pack_after_status};
 ghost use Rattle.mv_repository.specs.PackState.{held_of};
 ghost use Rattle.mv_repository.specs.Stops.{entry_at, stops_in, comes_first};
-ghost use Rattle.mv_repository.specs.Track.{known_of, held_made_at, held_step, grown_at, put_place, nothing_kept, IsTrack, with_status, with_upload, refreshed, places_before, held_before, effect_when, newest_effect};
+ghost use Rattle.mv_repository.specs.Track.{known_of, held_made_at, held_step, grown_at, put_place, nothing_kept, IsTrack, with_status, with_upload, refreshed, places_before, held_before, effect_when, newest_effect, is_made, is_active_kept};
 
 use crate::order::{comes_first, passes, stands_before};
 use crate::status::{change_effect, is_active};
@@ -272,6 +272,23 @@ impl Track {
         ensures { option_copied result ≡ self.now.held }
     {
         self.held.as_ref()
+    }
+
+    /// Whether an upload has made the pack.
+    pub fn is_made(&self) -> bool
+        ensures { result ≡ is_made self.now }
+    {
+        self.birth.is_some()
+    }
+
+    /// Whether the pack is held, and active.
+    pub fn is_active(&self) -> bool
+        ensures { result ≡ is_active_kept self.now }
+    {
+        match &self.held {
+            Some(held) => is_active(held.standing),
+            None => false,
+        }
     }
 
     /// Adds the newest entry, a status of the pack, and gives its effect where it stands.

@@ -1,0 +1,7 @@
+use Rattle.std.proofs.Common.{◌∙◌}
+use Rattle.mv_repository.proofs.InquiriesLemmas.{verdict-known}
+use Rattle.mv_repository.proofs.inquiries.Inquiries.verdict.Goals as goal
+
+-- what is kept is what the log says
+pub returns : goal.returns
+returns c party log is = c.known_verdict.ensures ∙ verdict-known party log c.args.self.now c.args.q is

@@ -1,0 +1,113 @@
+-- What of a log bears on one pack, and what two logs agree on that have the same of it.
+use Rattle.std.specs.Prelude.{◌≡◌, ◌↔◌, slice_get, ℕ, List, Bool, false, filter, Option, Some, None}
+use Rattle.std.specs.List.{filter_map, Contains}
+use Rattle.std.specs.Option.{option_map, option_and_then}
+use Rattle.mv_pack.specs.Expiry.{CivilDate}
+use Rattle.mv_pack.specs.declared.key.PackKey.{PackKey}
+use Rattle.mv_pack.specs.declared.key.BatchKey.{BatchKey}
+use Rattle.mv_message.specs.declared.standing.Standing.{Standing}
+use Rattle.mv_message.specs.declared.message.Message.{Message}
+use Rattle.mv_message.specs.declared.message.Message.TheVariants.{Upload, Status, Recall, Withdraw}
+use Rattle.mv_link.specs.declared.item.Item.{Item}
+use Rattle.mv_link.specs.declared.item.Item.TheVariants.{Receipt, Carried}
+use Rattle.mv_repository.specs.declared.entry.LogEntry.{LogEntry}
+use Rattle.mv_repository.specs.Order.{Placed, ordered}
+use Rattle.mv_repository.specs.Keys.{is_same_text, is_same_pack, is_same_batch, batch_key}
+use Rattle.mv_repository.specs.Pack.{KnownChange, KnownPack}
+use Rattle.mv_repository.specs.PackState.{has_pack, known_pack, pack_state, is_recalled, is_withdrawn}
+use Rattle.mv_repository.specs.Verdict.{local_verdict}
+
+-- a message that was carried, with its sender and its stamp
+pub record Sent : Type 0 where
+  pub sender : ℕ
+  pub stamp : ℕ
+  pub message : Message
+
+-- the message that an item from a sender carries
+abbrev pub sent_in : ℕ → Item → Option Sent
+sent_in sender (Carried k stamp message) = Some (record { sender = sender; stamp = stamp; message = message })
+sent_in sender (Receipt k reach query) = None
+
+-- the messages that these entries carry, in the same order
+abbrev pub sent_by : List Placed → List Sent
+sent_by entries = filter_map (λ placed. sent_in placed.entry.sender placed.entry.item) entries
+
+-- a batch is the one of this number of a product; none is where no number is known
+abbrev pub is_batch : List ℕ → Option (List ℕ) → BatchKey → Bool
+is_batch gtin None key = false
+is_batch gtin (Some batch) key = is_same_batch key (batch_key gtin batch)
+
+-- a message bears on a pack whose batch has this number: it is an upload that names the pack, a status of the pack, a
+-- recall of its batch or a withdrawal of its product
+abbrev pub bears_on : PackKey → Option (List ℕ) → Message → Bool
+bears_on pack batch (Upload gtin named expiry national serials) = has_pack gtin serials pack
+bears_on pack batch (Status key to user at) = is_same_pack key pack
+bears_on pack batch (Recall key at) = is_batch pack.gtin batch key
+bears_on pack batch (Withdraw gtin at) = is_same_text gtin pack.gtin
+bears_on pack batch _ = false
+
+-- the number of the batch that a log gives a pack, where it holds the pack
+abbrev pub batch_in : PackKey → List LogEntry → Option (List ℕ)
+batch_in pack log = option_map (λ held. held.batch) (pack_state pack log)
+
+-- what a log has about a pack, in the order of stamps: of the messages that it carries, those that bear on the pack
+abbrev pub about : PackKey → List LogEntry → List Sent
+about pack log = filter (λ sent. bears_on pack (batch_in pack log) sent.message) (sent_by (ordered log))
+
+-- a change of a pack, with the user who asked for it in place of the place in the log
+pub record NamedChange : Type 0 where
+  pub by : ℕ
+  pub user : List ℕ
+  pub at : ℕ
+
+-- a pack, with its change so
+pub record NamedPack : Type 0 where
+  pub batch : List ℕ
+  pub expiry : CivilDate
+  pub national : Option (List ℕ)
+  pub standing : Standing
+  pub change : Option NamedChange
+
+abbrev pub named_change : KnownChange → NamedChange
+named_change change = record { by = change.by; user = change.user; at = change.at }
+
+abbrev pub named_pack : KnownPack → NamedPack
+named_pack pack = record {
+  batch = pack.batch;
+  expiry = pack.expiry;
+  national = pack.national;
+  standing = pack.standing;
+  change = option_map named_change pack.change;
+}
+
+-- a pack by a log, whatever the places in that log
+abbrev pub named_state : PackKey → List LogEntry → Option NamedPack
+named_state pack log = option_map named_pack (known_pack pack (ordered log))
+
+-- a log recalls this batch of a product, where there is one
+abbrev pub is_batch_recalled : List ℕ → Option (List ℕ) → List LogEntry → Bool
+is_batch_recalled gtin None log = false
+is_batch_recalled gtin (Some batch) log = is_recalled (batch_key gtin batch) log
+
+-- two logs agree on a pack: on its state, the recall of its batch, the withdrawal of its product, and the verdict
+pub record AgreeOn (pack : PackKey) (one other : List LogEntry) : Type 0 where
+  pub state : named_state pack one ≡ named_state pack other
+  pub recall : is_batch_recalled pack.gtin (batch_in pack one) one ≡ is_batch_recalled pack.gtin (batch_in pack other) other
+  pub withdrawal : is_withdrawn pack.gtin one ≡ is_withdrawn pack.gtin other
+  pub verdict : local_verdict pack one ≡ local_verdict pack other
+
+-- the stamp that the entry at a place of a log bears, where there is one that was carried
+abbrev pub stamp_in : Item → Option ℕ
+stamp_in (Carried k stamp message) = Some stamp
+stamp_in (Receipt k reach query) = None
+
+abbrev pub stamp_at : List LogEntry → ℕ → Option ℕ
+stamp_at log place = option_and_then (λ entry. stamp_in entry.item) (slice_get log place)
+
+-- no stamp stands at two places of a log
+abbrev pub HasDistinctStamps : List LogEntry → Type 0
+HasDistinctStamps log = (first second stamp : ℕ) → stamp_at log first ≡ Some stamp → stamp_at log second ≡ Some stamp → first ≡ second
+
+-- two logs have the same messages about a pack, in whatever order these came
+abbrev pub HaveSameAbout : PackKey → List LogEntry → List LogEntry → Type 0
+HaveSameAbout pack one other = (sent : Sent) → Contains (about pack one) sent ↔ Contains (about pack other) sent

@@ -1,0 +1,285 @@
+//! The table of a repository's own queries: for each the parties that it reached, and what was answered so far.
+//!
+//! It stands apart since no other table bears on it: it changes at receipts of queries and at answers alone.
+
+ghost use Rattle.std.specs.Prelude.{◌≡◌, ◌<◌, ◌≤◌, [], ◌∷◌, ◌++◌, ◌==◌, ◌&&◌, ◌||◌, if◌then◌else◌, ℕ, List, length, not, filter, OnOk};
+ghost use Rattle.indexmap.specs.IndexMap.{spare as map_spare};
+ghost use Rattle.indexmap.specs.IndexSet.{spare as set_spare};
+ghost use Rattle.mv_repository.specs.declared.entry.LogEntry.{LogEntry as AnEntry};
+ghost use Rattle.mv_repository.specs.Verdict.{joint_verdict, found_active, found_stopped, verdict_when};
+ghost use Rattle.mv_repository.specs.Inquiries.{IsInquiriesOf, HasRoomFor, has_reply, inquiry_in, tells_of_query, with_receipt, with_finding, known_verdict, verdict_once_asked};
+
+use crate::{Joint, Verdict};
+use indexmap::{IndexMap, IndexSet};
+use mv_link::{Item, Reach};
+use mv_message::{Found, Message, Party, Standing};
+use std::alloc::{AllocError, Global};
+
+/// What is known of a query.
+#[derive(Debug, Drop)]
+struct Inquiry {
+    /// The parties that it reached, once the first receipt of it has come.
+    asked: Option<Reach>,
+    /// Whether an answer found the pack active.
+    active: bool,
+    /// Whether an answer found the pack recalled, withdrawn, or to be destroyed.
+    stopped: bool,
+}
+
+/// A party has answered a query.
+#[derive(Clone, Copy, Debug, PartialEq, Eq, Hash)]
+struct Reply {
+    /// The number of the query among the messages of the party that asked.
+    q: u32,
+    /// Who answered.
+    from: Party,
+}
+
+/// What a repository knows of the queries of its own party.
+#[derive(Drop)]
+pub struct Inquiries {
+    inquiries: IndexMap<u32, Inquiry>,
+    replies: IndexSet<Reply>,
+}
+
+impl Inquiries {
+    /// What an empty log says. It takes no memory.
+    pub fn new(alloc: Global) -> Inquiries
+        ensures { (party : ℕ) → IsInquiriesOf party [] result }
+    {
+        Inquiries {
+            inquiries: IndexMap::new(alloc),
+            replies: IndexSet::new(alloc),
+        }
+    }
+
+    /// Gets room for what an item from a sender tells of a query of the party. Refused for want of memory; either way
+    /// it is known what was known.
+    pub fn reserve(&mut self, party: Party, sender: Party, item: &Item) -> Result<(), AllocError>
+        ensures room { OnOk result (HasRoomFor self.new party sender item.now) }
+        ensures same { (log : List AnEntry) → IsInquiriesOf party log self.old
+            → IsInquiriesOf party log self.new }
+    {
+        if tells_of_query(party, sender, item) {
+            self.inquiries.reserve(1)?;
+            self.replies.reserve(1)?;
+        }
+        Ok(())
+    }
+
+    /// Notes an item from a sender, which comes last in the log of the party.
+    pub fn note(&mut self, party: Party, sender: Party, item: &Item)
+        requires room { HasRoomFor self.old party sender item.now }
+        ensures { (log : List AnEntry) → IsInquiriesOf party log self.old
+            → IsInquiriesOf party (log ++ record { sender = sender; item = item.now } ∷ []) self.new }
+    {
+        if !tells_of_query(party, sender, item) {
+            return;
+        }
+        match item {
+            Item::Receipt { k, reach, .. } => self.note_receipt(*k, reach),
+            Item::Carried { message, .. } => match message {
+                Message::Answer { q, found, .. } => self.note_answer(sender, *q, found),
+                _ => (),
+            },
+        }
+    }
+
+    /// Notes the receipt of a query.
+    fn note_receipt(&mut self, query: u32, reach: &Reach)
+        requires { 0 < map_spare self.old.inquiries }
+        ensures inquiries { (q : ℕ) → inquiry_in self.new q ≡ (if query == q
+            then with_receipt reach.now (inquiry_in self.old q) else inquiry_in self.old q) }
+        ensures replies { (q other : ℕ) → has_reply self.new q other ≡ has_reply self.old q other }
+    {
+        let inquiry = self.inquiry(query).with_receipt(reach);
+        let Ok(_) = self.inquiries.insert(query, inquiry) else {
+            unreachable!();
+        };
+    }
+
+    /// Notes an answer to a query.
+    fn note_answer(&mut self, sender: Party, query: u32, found: &Found)
+        requires inquiries_room { 0 < map_spare self.old.inquiries }
+        requires replies_room { 0 < set_spare self.old.replies }
+        ensures inquiries { (q : ℕ) → inquiry_in self.new q ≡ (if query == q
+            then with_finding found.now (inquiry_in self.old q) else inquiry_in self.old q) }
+        ensures replies { (q other : ℕ) → has_reply self.new q other
+            ≡ (((query == q) && (sender == other)) || has_reply self.old q other) }
+    {
+        let inquiry = self.inquiry(query).with_finding(found);
+        let Ok(_) = self.inquiries.insert(query, inquiry) else {
+            unreachable!();
+        };
+        let Ok(_) = self.replies.insert(Reply {
+            q: query,
+            from: sender,
+        })
+        else {
+            unreachable!();
+        };
+    }
+
+    /// What is kept of a query, if only nothing.
+    fn inquiry(&self, q: u32) -> Inquiry
+        ensures { result ≡ inquiry_in self.now q }
+    {
+        match self.inquiries.get(&q) {
+            Some(inquiry) => inquiry.copy(),
+            None => Inquiry {
+                asked: None,
+                active: false,
+                stopped: false,
+            },
+        }
+    }
+
+    /// The verdict on the query that was the `q`-th message of the party. It takes no memory, and no log is read.
+    pub fn verdict(&self, q: u32) -> Joint
+        ensures { (party : ℕ) (log : List AnEntry) → IsInquiriesOf party log self.now
+            → result ≡ joint_verdict party log q }
+    {
+        self.known_verdict(q)
+    }
+
+    /// The verdict on a query, by what is kept.
+    fn known_verdict(&self, q: u32) -> Joint
+        ensures { result ≡ known_verdict self.now q }
+    {
+        match self.inquiries.get(&q) {
+            Some(inquiry) => self.verdict_on(q, inquiry),
+            None => Joint::NotAsked,
+        }
+    }
+
+    /// The verdict on a query of which this is known.
+    fn verdict_on(&self, q: u32, inquiry: &Inquiry) -> Joint
+        ensures { result ≡ verdict_once_asked self.now q inquiry.now inquiry.now.asked }
+    {
+        let Some(asked) = &inquiry.asked else {
+            return Joint::NotAsked;
+        };
+        let left = self.left_count(q, asked.as_slice());
+        if left == 0 {
+            Joint::Decided(inquiry.verdict())
+        } else {
+            Joint::Pending { left }
+        }
+    }
+
+    /// How many of these parties have not answered a query.
+    fn left_count(&self, q: u32, asked: &[Party]) -> u32
+        requires { length asked.now ≤ 64 }
+        ensures { result ≡ length (filter (λ other. not (has_reply self.now q other)) asked.now) }
+    {
+        let mut left = 0;
+        for other in asked {
+            if !self.has_answered(q, *other) {
+                left += 1;
+            }
+        }
+        left
+    }
+
+    /// Whether a party has answered a query.
+    fn has_answered(&self, q: u32, from: Party) -> bool
+        ensures { result ≡ has_reply self.now q from }
+    {
+        self.replies.contains(&Reply { q, from })
+    }
+}
+
+impl Inquiry {
+    /// The same once more. It takes no memory.
+    fn copy(&self) -> Inquiry
+        ensures { result ≡ self.now }
+    {
+        let asked = match &self.asked {
+            Some(reach) => Some(reach.copy()),
+            None => None,
+        };
+        Inquiry {
+            asked,
+            active: self.active,
+            stopped: self.stopped,
+        }
+    }
+
+    /// The query once a receipt of it has come: the first one counts.
+    fn with_receipt(self, reach: &Reach) -> Inquiry
+        ensures { result ≡ with_receipt reach.now self }
+    {
+        let asked = self.asked.or(Some(reach.copy()));
+        Inquiry {
+            asked,
+            active: self.active,
+            stopped: self.stopped,
+        }
+    }
+
+    /// The query once an answer to it has come.
+    fn with_finding(self, found: &Found) -> Inquiry
+        ensures { result ≡ with_finding found.now self }
+    {
+        Inquiry {
+            asked: self.asked,
+            active: self.active || found_active(found),
+            stopped: self.stopped || found_stopped(found),
+        }
+    }
+
+    /// What all answers to the query say.
+    fn verdict(&self) -> Verdict
+        ensures { result ≡ verdict_when self.now.active self.now.stopped }
+    {
+        if self.active {
+            Verdict::Authentic
+        } else {
+            Verdict::NotAuthentic {
+                falsification: !self.stopped,
+            }
+        }
+    }
+}
+
+/// Whether an item from a sender tells of a query of the party: it is the receipt of one, or an answer to one.
+fn tells_of_query(party: Party, sender: Party, item: &Item) -> bool
+    ensures { result ≡ tells_of_query party sender item.now }
+{
+    match item {
+        Item::Receipt { query, .. } => *query && sender == party,
+        Item::Carried {
+            message: Message::Answer { asker, .. },
+            ..
+        } => *asker == party,
+        Item::Carried { .. } => false,
+    }
+}
+
+/// Whether a pack was found active.
+fn found_active(found: &Found) -> bool
+    ensures { result ≡ found_active found.now }
+{
+    matches!(
+        found,
+        Found::Present {
+            standing: Standing::Active,
+            ..
+        }
+    )
+}
+
+/// Whether a pack was found recalled, withdrawn, or to be destroyed.
+fn found_stopped(found: &Found) -> bool
+    ensures { result ≡ found_stopped found.now }
+{
+    match found {
+        Found::Present {
+            standing,
+            recalled,
+            withdrawn,
+            ..
+        } => *recalled || *withdrawn || matches!(standing, Standing::Destruction),
+        Found::Absent => false,
+    }
+}

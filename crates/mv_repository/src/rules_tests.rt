@@ -1,0 +1,356 @@
+//! Worked examples of the rules on packs, with the answers of a person who knew them, through the repository's own calls.
+
+use crate::{Counts, Effect, Local, Repository, Verdict};
+use arrayvec::ArrayVec;
+use mv_link::{Item, Reach};
+use mv_message::{Found, Message, Serials, Standing, Text};
+use mv_pack::{Batch, BatchKey, Expiry, Gtin, Moment, PackKey, Serial};
+use std::alloc::Global;
+
+/// A moment in January 2027.
+const T: u64 = 1_800_000_000;
+
+/// A product code.
+fn gtin() -> Option<Gtin> {
+    Gtin::read("09506000134352").ok()
+}
+
+/// The pack of the product with a serial number.
+fn pack(serial: &str) -> Option<PackKey> {
+    Some(PackKey {
+        gtin: gtin()?,
+        serial: Serial::read(serial).ok()?,
+    })
+}
+
+/// A batch of the product.
+fn batch(number: &str) -> Option<BatchKey> {
+    Some(BatchKey {
+        gtin: gtin()?,
+        batch: Batch::read(number).ok()?,
+    })
+}
+
+/// A message under a stamp.
+fn carried(stamp: u32, message: Message) -> Item {
+    Item::Carried {
+        k: stamp,
+        stamp,
+        message,
+    }
+}
+
+/// The upload of the pack S1, or of S1 twice and S2, in a batch that expires in February 2028.
+fn upload(alloc: Global, stamp: u32, number: &str, more: bool) -> Option<Item> {
+    let mut serials = Vec::new(alloc);
+    serials.push(Serial::read("S1").ok()?).ok()?;
+    if more {
+        serials.push(Serial::read("S1").ok()?).ok()?;
+        serials.push(Serial::read("S2").ok()?).ok()?;
+    }
+    let message = Message::Upload {
+        gtin: gtin()?,
+        batch: Batch::read(number).ok()?,
+        expiry: Expiry::read("280200").ok()?,
+        national: None,
+        serials: Serials::new(serials),
+    };
+    Some(carried(stamp, message))
+}
+
+/// A status of a pack.
+fn status(
+    alloc: Global,
+    stamp: u32,
+    serial: &str,
+    to: Standing,
+    user: &str,
+    at: u64,
+) -> Option<Item> {
+    let message = Message::Status {
+        key: pack(serial)?,
+        to,
+        user: Text::new(String::from_str(alloc, user).ok()?),
+        at: Moment::of(at).ok()?,
+    };
+    Some(carried(stamp, message))
+}
+
+/// The recall of the batch B1.
+fn recall(stamp: u32) -> Option<Item> {
+    let message = Message::Recall {
+        key: batch("B1")?,
+        at: Moment::of(T).ok()?,
+    };
+    Some(carried(stamp, message))
+}
+
+/// The withdrawal of the product.
+fn withdrawal(stamp: u32) -> Option<Item> {
+    let message = Message::Withdraw {
+        gtin: gtin()?,
+        at: Moment::of(T).ok()?,
+    };
+    Some(carried(stamp, message))
+}
+
+/// The effect of one more item.
+fn effect(repository: &mut Repository, sender: u32, item: Option<Item>) -> Option<Effect> {
+    let (effect, _) = repository.apply(sender, &item?).ok()?;
+    Some(effect)
+}
+
+/// How the pack S1 stands.
+fn standing(repository: &Repository) -> Option<Standing> {
+    Some(repository.pack(&pack("S1")?)?.standing)
+}
+
+/// The verdict on the pack S1.
+fn verdict(repository: &Repository) -> Option<Local> {
+    Some(repository.verify(&pack("S1")?))
+}
+
+/// A repository that holds S1, changed by party 1 as user u1.
+fn changed(alloc: Global, to: Standing, at: u64) -> Option<Repository> {
+    let mut repository = Repository::new(alloc, 1);
+    effect(&mut repository, 0, upload(alloc, 2, "B1", false))?;
+    effect(&mut repository, 1, status(alloc, 3, "S1", to, "u1", at))?;
+    Some(repository)
+}
+
+/// The effect of a revert of S1 that was supplied at T.
+fn reverted(alloc: Global, sender: u32, user: &str, at: u64) -> Option<Effect> {
+    let mut repository = changed(alloc, Standing::Supplied, T)?;
+    effect(
+        &mut repository,
+        sender,
+        status(alloc, 5, "S1", Standing::Active, user, at),
+    )
+}
+
+/// The effect of a revert of S1 that was changed so at T.
+fn reverted_from(alloc: Global, to: Standing) -> Option<Effect> {
+    let mut repository = changed(alloc, to, T)?;
+    effect(
+        &mut repository,
+        1,
+        status(alloc, 5, "S1", Standing::Active, "u1", T),
+    )
+}
+
+#[test]
+fn reverts_within_ten_days_by_the_same_user(rt: HostRuntime) {
+    let alloc = rt.alloc();
+    assert!(rt; reverted(alloc, 1, "u1", T + 864_000) == Some(Effect::Done));
+    assert!(rt; reverted(alloc, 1, "u1", T + 864_001) == Some(Effect::TooLate));
+    assert!(rt; reverted(alloc, 1, "u1", T - 1) == Some(Effect::TooEarly));
+    assert!(rt; reverted(alloc, 1, "u2", T) == Some(Effect::OtherUser));
+    assert!(rt; reverted(alloc, 2, "u1", T) == Some(Effect::OtherUser));
+}
+
+#[test]
+fn never_reverts_what_is_final(rt: HostRuntime) {
+    let alloc = rt.alloc();
+    assert!(rt; reverted_from(alloc, Standing::Stolen) == Some(Effect::Fixed));
+    assert!(rt; reverted_from(alloc, Standing::Destruction) == Some(Effect::Fixed));
+    assert!(rt; reverted_from(alloc, Standing::Sample) == Some(Effect::Done));
+}
+
+/// The effect of a revert of S1 on the day after its last.
+fn reverted_after_expiry(alloc: Global) -> Option<Effect> {
+    let mut repository = changed(alloc, Standing::Supplied, 1_835_481_000)?;
+    let item = status(alloc, 5, "S1", Standing::Active, "u1", 1_835_481_600);
+    effect(&mut repository, 1, item)
+}
+
+/// The effects of a second change of S1, of a revert of a pack that no upload names, and of two reverts of S1.
+fn further_effects(alloc: Global) -> Option<(Effect, Effect, Effect, Effect)> {
+    let mut repository = changed(alloc, Standing::Supplied, T)?;
+    let again = effect(
+        &mut repository,
+        1,
+        status(alloc, 4, "S1", Standing::Supplied, "u1", T),
+    )?;
+    let unknown = effect(
+        &mut repository,
+        1,
+        status(alloc, 5, "S9", Standing::Active, "u1", T),
+    )?;
+    let first = effect(
+        &mut repository,
+        1,
+        status(alloc, 6, "S1", Standing::Active, "u1", T),
+    )?;
+    let second = effect(
+        &mut repository,
+        1,
+        status(alloc, 7, "S1", Standing::Active, "u1", T),
+    )?;
+    Some((again, unknown, first, second))
+}
+
+#[test]
+fn numbers_what_it_refuses(rt: HostRuntime) {
+    let alloc = rt.alloc();
+    assert!(rt; reverted_after_expiry(alloc) == Some(Effect::Expired));
+    let effects = further_effects(alloc);
+    assert!(rt;
+        effects
+            == Some((
+                Effect::NotActive,
+                Effect::Unknown,
+                Effect::Done,
+                Effect::AlreadyActive
+            ))
+    );
+}
+
+/// The effect of a revert of S1 once its batch was recalled or its product withdrawn, and the verdict then.
+fn reverted_when_stopped(alloc: Global, stop: Option<Item>) -> Option<(Effect, Local)> {
+    let mut repository = changed(alloc, Standing::Supplied, T)?;
+    effect(&mut repository, 0, stop)?;
+    let item = status(alloc, 5, "S1", Standing::Active, "u1", T + 20);
+    let effect = effect(&mut repository, 1, item)?;
+    Some((effect, verdict(&repository)?))
+}
+
+#[test]
+fn reverts_nothing_that_is_recalled_or_withdrawn(rt: HostRuntime) {
+    let alloc = rt.alloc();
+    let known = Local::Known(Verdict::NotAuthentic {
+        falsification: false,
+    });
+    assert!(rt; reverted_when_stopped(alloc, recall(4)) == Some((Effect::Recalled, known)));
+    assert!(rt; reverted_when_stopped(alloc, withdrawal(4)) == Some((Effect::Withdrawn, known)));
+}
+
+/// A recall before the upload, the upload, and a second recall.
+fn recalled_before(alloc: Global) -> Option<(Effect, Effect, Effect, Local)> {
+    let mut repository = Repository::new(alloc, 1);
+    let first = effect(&mut repository, 0, recall(2))?;
+    let uploaded = effect(&mut repository, 0, upload(alloc, 3, "B1", true))?;
+    let second = effect(&mut repository, 0, recall(4))?;
+    Some((first, uploaded, second, verdict(&repository)?))
+}
+
+#[test]
+fn a_pack_of_a_recalled_batch_is_authentic_while_active(rt: HostRuntime) {
+    let uploaded = Effect::Uploaded { new: 2, old: 1 };
+    let known = Local::Known(Verdict::Authentic);
+    assert!(rt;
+        recalled_before(rt.alloc()) == Some((Effect::Done, uploaded, Effect::Noted, known))
+    );
+}
+
+/// A status that comes before its upload, by arrival and not by stamp.
+fn status_first(alloc: Global) -> Option<(Effect, Effect, Standing)> {
+    let mut repository = Repository::new(alloc, 2);
+    let early = status(alloc, 3, "S1", Standing::Supplied, "u1", T);
+    let unknown = effect(&mut repository, 1, early)?;
+    let uploaded = effect(&mut repository, 0, upload(alloc, 2, "B1", false))?;
+    Some((unknown, uploaded, standing(&repository)?))
+}
+
+#[test]
+fn a_status_waits_for_its_upload(rt: HostRuntime) {
+    let uploaded = Effect::Uploaded { new: 1, old: 0 };
+    assert!(rt; status_first(rt.alloc()) == Some((Effect::Unknown, uploaded, Standing::Supplied)));
+}
+
+/// A repository in which a stop comes late, between a change of S1 and its revert.
+fn stopped_late(alloc: Global, stop: Option<Item>) -> Option<Repository> {
+    let mut repository = changed(alloc, Standing::Supplied, T)?;
+    let item = status(alloc, 5, "S1", Standing::Active, "u1", T + 20);
+    effect(&mut repository, 1, item)?;
+    effect(&mut repository, 0, stop)?;
+    Some(repository)
+}
+
+/// How S1 stands there.
+fn standing_when_stopped_late(alloc: Global, stop: Option<Item>) -> Option<Standing> {
+    standing(&stopped_late(alloc, stop)?)
+}
+
+/// What is counted there.
+fn counts_when_stopped_late(alloc: Global, stop: Option<Item>) -> Option<Counts> {
+    Some(stopped_late(alloc, stop)?.counts())
+}
+
+#[test]
+fn a_late_stop_undoes_a_revert(rt: HostRuntime) {
+    let alloc = rt.alloc();
+    assert!(rt; standing_when_stopped_late(alloc, recall(4)) == Some(Standing::Supplied));
+    assert!(rt; standing_when_stopped_late(alloc, withdrawal(4)) == Some(Standing::Supplied));
+    let counts = Counts {
+        entries: 4,
+        products: 0,
+        packs: 1,
+        active: 0,
+        recalled: 1,
+    };
+    assert!(rt; counts_when_stopped_late(alloc, recall(4)) == Some(counts));
+}
+
+/// Whether the pack S1 is of the batch B1 once the upload with the smaller stamp comes late.
+fn first_upload_wins(alloc: Global) -> Option<bool> {
+    let mut repository = Repository::new(alloc, 2);
+    effect(&mut repository, 1, upload(alloc, 3, "B2", false))?;
+    effect(&mut repository, 0, upload(alloc, 2, "B1", false))?;
+    let held = repository.pack(&pack("S1")?)?;
+    Some(held.batch == Batch::read("B1").ok()?)
+}
+
+/// Whether the batch B1 is recalled and the product withdrawn, once each came.
+fn stops_are_known(alloc: Global) -> Option<bool> {
+    let mut repository = Repository::new(alloc, 1);
+    let before = repository.recalled(&batch("B1")?) || repository.withdrawn(&gtin()?);
+    effect(&mut repository, 0, recall(2))?;
+    effect(&mut repository, 0, withdrawal(3))?;
+    Some(!before && repository.recalled(&batch("B1")?) && repository.withdrawn(&gtin()?))
+}
+
+/// Whether a query of S1 is answered with what is held of it.
+fn query_is_answered(alloc: Global) -> Option<bool> {
+    let mut repository = changed(alloc, Standing::Exported, T)?;
+    let query = carried(6, Message::Query { key: pack("S1")? });
+    let (_, answer) = repository.apply(2, &query).ok()?;
+    let Some(
+        Message::Answer {
+            asker,
+            q,
+            found,
+            ..
+        },
+    ) = answer
+    else {
+        return Some(false);
+    };
+    let Found::Present { standing, .. } = found else {
+        return Some(false);
+    };
+    Some(asker == 2 && q == 6 && standing == Standing::Exported)
+}
+
+/// Whether the verdict on an own query waits for the party that was asked.
+fn own_query_waits(alloc: Global) -> Option<bool> {
+    let mut repository = Repository::new(alloc, 1);
+    let before = repository.verdict(1) == crate::Joint::NotAsked;
+    let mut parties = ArrayVec::new();
+    parties.push(2);
+    let receipt = Item::Receipt {
+        k: 1,
+        reach: Reach::new(parties),
+        query: true,
+    };
+    effect(&mut repository, 1, Some(receipt))?;
+    Some(before && repository.verdict(1) == crate::Joint::Pending { left: 1 })
+}
+
+#[test]
+fn shows_what_it_knows(rt: HostRuntime) {
+    let alloc = rt.alloc();
+    assert!(rt; first_upload_wins(alloc) == Some(true));
+    assert!(rt; stops_are_known(alloc) == Some(true));
+    assert!(rt; query_is_answered(alloc) == Some(true));
+    assert!(rt; own_query_waits(alloc) == Some(true));
+}

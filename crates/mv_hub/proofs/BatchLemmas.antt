@@ -1,5 +1,5 @@
 -- Batches: when two are the same, and their order.
-use Rattle.std.proofs.Common.{◌≡◌, Bool, true, false, cond, Option, Some, List, [], ◌∷◌, ℕ, ◌&&◌, ap, refl, sym, ◌∙◌, eqb-true}
+use Rattle.std.proofs.Common.{◌≡◌, Bool, true, false, cond, Option, Some, List, [], ◌∷◌, ℕ, ◌&&◌, ap, refl, ◌∙◌, eqb-true}
 use Rattle.std.specs.Cmp.{IsEquivalence, IsTotalOrder}
 use Rattle.std.specs.Cmp.Lexicographic.{pointwise}
 use Rattle.std.specs.Ordering.{eq_by_cmp}

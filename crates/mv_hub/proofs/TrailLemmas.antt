@@ -1,6 +1,5 @@
 -- What one more entry changes in what the record says of products and batches.
 use Rattle.std.proofs.Common.{◌≡◌, ℕ, Bool, true, false, cond, List, [], ◌∷◌, ◌++◌, Option, Some, None, Contains, ◌↔◌, inl, inr, refl, sym, ap, ◌∙◌, subst, zero, suc, ◌≤◌, length, take, take_all, get_or, add-one, arith}
-use Rattle.std.specs.Prelude.{option_map}
 use Rattle.std.specs.Option.{option_or}
 use Rattle.std.specs.List.{list_any, filter_map, last_or}
 use Rattle.std.proofs.lemmas.List.{take_more}

@@ -1,5 +1,5 @@
 -- Links between batches: a routed repack makes packs of the batch before into packs of the batch after.
-use Rattle.std.specs.Prelude.{ℕ, List, [], ◌∷◌, ◌++◌, nat_eq, Bool, unwrap_or, ◌&&◌, ◌≡◌, ◌↔◌, ◌⊎◌, Contains, Option, Some, None, if◌then◌else◌}
+use Rattle.std.specs.Prelude.{List, [], ◌∷◌, ◌++◌, nat_eq, Bool, unwrap_or, ◌&&◌, ◌≡◌, ◌↔◌, ◌⊎◌, Contains, Option, Some, None, if◌then◌else◌}
 use Rattle.std.specs.Cmp.Lexicographic.{pointwise, slice_cmp}
 use Rattle.std.specs.Ordering.{nat_cmp, ordering_then}
 use Rattle.std.specs.declared.cmp.Ordering.{Ordering}

@@ -1,4 +1,4 @@
-use Rattle.std.proofs.Common.{◌≡◌, ◌∙◌, ◌∷◌, [], ap, subst, refl, sym, cond, Some}
+use Rattle.std.proofs.Common.{◌∙◌, ◌∷◌, [], ap, subst, refl, sym, cond, Some}
 use Rattle.std.specs.Prelude.{unwrap_or}
 use Rattle.std.specs.Option.{IsSome}
 use Rattle.std.specs.Map.{lookup}

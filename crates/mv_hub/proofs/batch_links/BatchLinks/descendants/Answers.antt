@@ -1,5 +1,4 @@
 use Rattle.std.proofs.Common.{◌∙◌, subst, ◌↔◌, Contains}
-use Rattle.mv_hub.specs.BatchLinks.{IsReachedFrom, linked_in}
 use Rattle.mv_hub.proofs.batch_links.BatchLinks.descendants.Goals as goal
 
 pub returns-clause-members : goal.returns-clause-members

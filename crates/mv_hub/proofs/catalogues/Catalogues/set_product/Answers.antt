@@ -1,4 +1,4 @@
-use Rattle.std.proofs.Common.{◌≡◌, ◌∙◌, ap, subst, refl, cond, Some, None}
+use Rattle.std.proofs.Common.{◌∙◌, ap, subst, refl, cond, Some, None}
 use Rattle.std.specs.Option.{IsSome}
 use Rattle.std.specs.Map.{lookup}
 use Rattle.mv_hub.specs.Record.{is_same_gtin}

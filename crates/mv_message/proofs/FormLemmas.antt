@@ -1,14 +1,13 @@
 -- The keys, the version and the form of an object.
-use Rattle.std.proofs.Common.{◌≡◌, ◌∙◌, ℕ, Bool, true, false, not, cond, List, [], ◌∷◌, ap, sym, subst, refl, arith}
-use Rattle.std.specs.Prelude.{◌==◌, bytes_eq, Option, Some, None, Result, Ok, Err, find, Contains}
+use Rattle.std.proofs.Common.{◌≡◌, ◌∙◌, ℕ, true, false, not, cond, List, [], ◌∷◌, ap, sym, subst, refl, arith}
+use Rattle.std.specs.Prelude.{◌==◌, Option, Some, None, Ok, Err, find, Contains}
 use Rattle.std.specs.List.{AllByRecursion}
 use Rattle.std.specs.Cmp.Lexicographic.{nat_list_eq_equiv}
 use Rattle.std.proofs.lemmas.Bool.Decides.{nat_tests}
 use Rattle.std.proofs.lemmas.Map.Views.{Contains-from_any, list_any-from_Contains}
-use Rattle.serde_json.specs.Data.{Data, object, Members}
+use Rattle.serde_json.specs.Data.{Data, object}
 use Rattle.serde_json.specs.Find.{get, as_object}
 use Rattle.mv_message.specs.declared.field.Field.TheVariants as fields
-use Rattle.mv_message.specs.declared.fault.MessageFault.{MessageFault}
 use Rattle.mv_message.specs.declared.fault.MessageFault.TheVariants.{Kind, NotObject}
 use Rattle.mv_message.specs.declared.form.Form.{Form}
 use Rattle.mv_message.specs.declared.form.Form.TheVariants as forms
@@ -16,16 +15,17 @@ use Rattle.mv_message.specs.declared.message.Message.{Message}
 use Rattle.mv_message.specs.declared.version.Version.{Version}
 use Rattle.mv_message.specs.declared.version.Version.TheVariants.{One, Two}
 use Rattle.mv_message.specs.Fields.{field_name}
-use Rattle.mv_message.specs.Forms.{version_numbered, version_of, version_at, form_name, forms_of, form_named, form_at, names_of, unless_unknown, known_form_at}
+use Rattle.mv_message.specs.Forms.{form_name, forms_of, form_named, form_at, names_of, unless_unknown, known_form_at}
 use Rattle.mv_message.specs.Members.{keys_of, is_among, first_unknown}
 use Rattle.mv_message.specs.Messages.{read_message}
 use Rattle.mv_message.specs.Readers.{message_at}
-use Rattle.mv_message.specs.Reading.{◌and_then◌, some_or, text_at, whole_number}
-use Rattle.mv_message.specs.Reads.{HasOnly, HasText, IsOfVersion, IsOfForm}
+use Rattle.mv_message.specs.Reading.{◌and_then◌, some_or, text_at}
+use Rattle.mv_message.specs.Numbers.{whole_number}
+use Rattle.mv_message.specs.Versions.{version_numbered, version_of, version_at}
+use Rattle.mv_message.specs.Reads.{HasText, IsOfVersion, IsOfForm}
 use Rattle.mv_message.specs.Values.{whole}
-use Rattle.mv_message.proofs.ReadingLemmas.{both_ok, some_or_ok, unrefused, as_object_ok, text_ok, text_is_read, whole_number_ok, same_bytes, found_by_name}
-
--- ---- keys
+use Rattle.mv_message.proofs.NumberLemmas.{whole_number_ok}
+use Rattle.mv_message.proofs.ReadingLemmas.{both_ok, some_or_ok, as_object_ok, text_ok, text_is_read, same_bytes, found_by_name}
 
 -- no key is unknown, so each is one of the names
 pub all_known : (names keys : List (List ℕ)) → find (λ key. not (is_among names key)) keys ≡ None → AllByRecursion (Contains names) keys
@@ -44,8 +44,6 @@ none_unknown names (k ∷ ks) h =
 unless_ok : (form : Form) (o : Option (List ℕ)) (known : Form) → unless_unknown form o ≡ Ok known → (o ≡ None) × (form ≡ known)
 unless_ok form None known h = (refl, cc)
 unless_ok form (Some key) known h = cc
-
--- ---- versions
 
 is_two : (n : ℕ) → (n == 2) ≡ true → n ≡ 2
 is_two n h = grind (arith, nat_tests)
@@ -78,8 +76,6 @@ pub version_read : (d : Data) (version : Version) → IsOfVersion version d → 
 unfolding version_at
 version_read d One h = ap version_of h
 version_read d Two h = ap version_of h
-
--- ---- forms
 
 -- the form came with that version, or before it
 abbrev pub IsIn : Form → Version → Type 0
@@ -121,7 +117,8 @@ form_read version d form h is_in =
     ap (λ r. r and_then λ t. some_or (Kind fields.Msg) (form_named version t)) (text_is_read fields.Msg d (form_name form) h)
     ∙ ap (some_or (Kind fields.Msg)) (form_is_named version form is_in)
 
--- ---- objects
+same_form : (version : Version) (d : Data) (m : Message) (form known : Form) → form ≡ known → message_at version known d ≡ Ok m → message_at version form d ≡ Ok m
+same_form version d m form known same h = ap (λ f. message_at version f d) same ∙ h
 
 -- a message was read, so the object has a version and a form, and its fields give the message
 pub opened : (d : Data) (m : Message) → read_message d ≡ Ok m → (version : Version) × (form : Form) × IsOfVersion version d × IsOfForm version form d × IsIn form version × (message_at version form d ≡ Ok m)
@@ -139,7 +136,7 @@ opened d m h =
       version_ok d v.0 v.1,
       ((a.0, is_object, all_known (names_of v.0 b.0) (keys_of a.0) u.0), named.0),
       named.1,
-      ap (λ form. message_at v.0 form d) u.1 ∙ k.2,
+      same_form v.0 d m b.0 k.0 u.1 k.2,
     )
 
 -- an object of that version and form is read as what its fields give

@@ -1,5 +1,5 @@
 -- What was found of a pack, backwards and forwards.
-use Rattle.std.proofs.Common.{◌≡◌, ◌∙◌, ℕ, Bool, true, false, cond, List, ap, sym, subst, refl}
+use Rattle.std.proofs.Common.{◌≡◌, ◌∙◌, ℕ, Bool, false, cond, List, ap, sym, subst, refl}
 use Rattle.std.specs.Prelude.{Option, Some, None, Result, Ok, Err, is_some}
 use Rattle.serde_json.specs.Data.{Data, null, boolean, number, string, array, object, Members}
 use Rattle.serde_json.specs.Find.{as_object}
@@ -14,9 +14,11 @@ use Rattle.mv_message.specs.declared.version.Version.{Version}
 use Rattle.mv_message.specs.declared.version.Version.TheVariants.{One, Two}
 use Rattle.mv_message.specs.Found.{present_names, first_present_at, second_present_at, present_at, present_of, illegal_found, found_of, found_at}
 use Rattle.mv_message.specs.Members.{keys_of, first_unknown}
-use Rattle.mv_message.specs.Reading.{◌and_then◌, some_or, member_at, code_at, expiry_at, national_at, standing_at, truth_at, is_null}
+use Rattle.mv_message.specs.Reading.{◌and_then◌, some_or, member_at, code_at, expiry_at, national_at, standing_at}
+use Rattle.mv_message.specs.Numbers.{truth_at}
 use Rattle.mv_message.specs.Reads.{HasOnly, SpellsFound, HasFound}
-use Rattle.mv_message.proofs.ReadingLemmas.{both_ok, some_or_ok, unrefused, as_object_ok, member_ok, member_read, code_ok, code_read, expiry_ok, expiry_read, national_ok, national_read, standing_ok, standing_read, truth_ok, truth_read}
+use Rattle.mv_message.proofs.ReadingLemmas.{both_ok, some_or_ok, unrefused, as_object_ok, member_ok, member_read, code_ok, code_read, expiry_ok, expiry_read, national_ok, national_read, standing_ok, standing_read}
+use Rattle.mv_message.proofs.NumberLemmas.{truth_ok, truth_read}
 use Rattle.mv_message.proofs.ChainLemmas.{four_ok, four_read, six_ok, six_read}
 use Rattle.mv_message.proofs.FormLemmas.{all_known, none_unknown}
 

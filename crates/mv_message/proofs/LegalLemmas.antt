@@ -5,8 +5,7 @@ use Rattle.std.specs.List.{AllByRecursion}
 use Rattle.serde_json.specs.Data.{Data, string, object, Items, no_items, item, Members, member}
 use Rattle.serde_json.specs.Read.{read}
 use Rattle.mv_pack.specs.Code.{IsCode, read_code}
-use Rattle.mv_pack.specs.Expiry.{CivilDate, expiry_text}
-use Rattle.mv_pack.specs.Gtin.{read_gtin}
+use Rattle.mv_pack.specs.Expiry.{expiry_text}
 use Rattle.mv_pack.specs.Market.{IsMarket, read_market}
 use Rattle.mv_pack.specs.declared.fault.PackFault.{PackFault}
 use Rattle.mv_pack.specs.declared.key.BatchKey.{BatchKey}
@@ -30,14 +29,13 @@ use Rattle.mv_message.specs.Found.{present_names}
 use Rattle.mv_message.specs.Members.{keys_of, first_unknown}
 use Rattle.mv_message.specs.Messages.{read_message, read_bytes, value_of}
 use Rattle.mv_message.specs.Reading.{◌and_then◌, some_or}
-use Rattle.mv_message.specs.Reads.{HasOnly, Spells, SpellEach, SpellsNational, HasPack, HasBatch, HasNational, HasRest, SpellsFound, Reads, IsPackKey, IsBatchKey, IsNational, IsLegalFound, IsLegal}
-use Rattle.mv_message.specs.Values.{strings, whole, found_version, found_value, version_members, text_or_null}
+use Rattle.mv_message.specs.Reads.{HasOnly, Spells, SpellEach, SpellsNational, HasPack, HasBatch, HasNational, HasRest, SpellsFound, Reads}
+use Rattle.mv_message.specs.Legal.{IsPackKey, IsBatchKey, IsNational, IsLegalFound, IsLegal}
+use Rattle.mv_message.specs.Values.{strings, whole, found_version, found_value, version_members}
 use Rattle.mv_message.proofs.FormLemmas.{all_known}
 use Rattle.mv_message.proofs.ReadsLemmas.{spelled_is_read}
 use Rattle.mv_message.proofs.SpelledLemmas.{read_is_spelled}
 use Rattle.mv_message.proofs.ValueLemmas.{utf8_test}
-
--- ---- what is spelled is legal
 
 each_legal : {A : Type 0} (reader : List ℕ → Result A PackFault) (P : A → Type 0) → ((t : List ℕ) (x : A) → reader t ≡ Ok x → P x) → (ds : Items) (xs : List A) → SpellEach reader ds xs → AllByRecursion P xs
 each_legal reader P legal no_items [] h = tt
@@ -113,8 +111,6 @@ spelled_is_legal d (messages.Answer asker q key found) (version, of_version, h) 
 -- what is read is legal
 pub read_is_legal : (d : Data) (m : Message) → read_message d ≡ Ok m → IsLegal m
 read_is_legal d m h = spelled_is_legal d m (read_is_spelled d m h)
-
--- ---- the value of what is legal spells it
 
 -- an object whose keys are all known
 only : (names : List (List ℕ)) (ms : Members) → first_unknown names ms ≡ None → HasOnly names (object ms)

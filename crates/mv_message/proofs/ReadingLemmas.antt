@@ -1,21 +1,16 @@
 -- What reading a part of a value gives, backwards and forwards.
-use Rattle.std.proofs.Common.{◌≡◌, ◌∙◌, ◌≤◌, ◌<◌, ◌||◌, ◌&&◌, ◌^◌, ℕ, suc, Bool, true, false, not, cond, List, [], ◌∷◌, length, ap, subst, refl, arith}
+use Rattle.std.proofs.Common.{◌≡◌, ◌∙◌, ◌≤◌, ◌||◌, ◌&&◌, ℕ, suc, Bool, true, false, not, cond, List, [], ◌∷◌, length, ap, subst, refl, arith}
 use Rattle.std.specs.Prelude.{bytes_eq, find, Option, Some, None, Result, Ok, Err, is_some, ◌==◌, nat_lt}
 use Rattle.std.proofs.lemmas.Bool.Decides.{nat_tests}
 use Rattle.std.proofs.lemmas.Slice.Eq.{bytes_eq-Decides}
 use Rattle.std.specs.List.{AllByRecursion}
-use Rattle.serde_json.specs.Data.{Data, null, boolean, number, unsigned, negative, float, string, array, object, Items, no_items, item, Members}
-use Rattle.serde_json.specs.Find.{get, as_bool, as_str, as_array, as_object}
+use Rattle.serde_json.specs.Data.{Data, null, boolean, number, string, array, object, Items, no_items, item, Members}
+use Rattle.serde_json.specs.Find.{get, as_str, as_array, as_object}
 use Rattle.mv_pack.specs.Code.{read_code}
 use Rattle.mv_pack.specs.Expiry.{CivilDate, read_expiry}
 use Rattle.mv_pack.specs.Gtin.{read_gtin}
 use Rattle.mv_pack.specs.Market.{read_market}
-use Rattle.mv_pack.specs.Moment.{IsMoment, read_moment}
 use Rattle.mv_pack.specs.declared.fault.PackFault.{PackFault}
-use Rattle.mv_pack.specs.declared.fault.PackFault.TheVariants.{Moment}
-use Rattle.mv_pack.specs.declared.moment.TheConstants.{YEAR_2100}
-use Rattle.mv_pack.proofs.MomentLemmas.{read_moment_is_moment, read_moment_of}
-use Rattle.mv_pack.proofs.TextLemmas.{given_ok}
 use Rattle.mv_message.specs.declared.field.Field.{Field}
 use Rattle.mv_message.specs.declared.fault.MessageFault.{MessageFault}
 use Rattle.mv_message.specs.declared.fault.MessageFault.TheVariants.{Missing, Kind, Count, TextLength}
@@ -25,9 +20,9 @@ use Rattle.mv_message.specs.Fields.{field_name}
 use Rattle.mv_message.specs.declared.standing.Standing.{Standing}
 use Rattle.mv_message.specs.declared.standing.Standing.TheVariants.{Active, Supplied, Exported, Destruction, Sample, FreeSample, Stolen, Repackaged}
 use Rattle.mv_message.specs.Standings.{standing_name, standings, standing_named}
-use Rattle.mv_message.specs.Values.{whole}
-use Rattle.mv_message.specs.Reading.{◌and_then◌, some_or, of_field, member_at, text_at, gtin_at, code_at, expiry_at, standing_at, national_of, national_at, truth_at, whole_number, whole_at, moment_at, of_32_bits, number_at, not_zero, count_at, limited, free_text_at, are_texts, count_of, texts_at, read_item, read_each, markets_at, serials_at}
-use Rattle.mv_message.specs.Reads.{Has, HasText, IsFreeText, HasFreeText, Spells, SpellsNational, HasMoment, SpellEach, SpellsList, SpellsSerials}
+use Rattle.mv_message.specs.Reading.{◌and_then◌, some_or, of_field, member_at, text_at, gtin_at, code_at, expiry_at, standing_at, national_of, national_at, limited, free_text_at, are_texts, count_of, texts_at, read_item, read_each, markets_at, serials_at}
+use Rattle.mv_message.specs.Legal.{IsFreeText}
+use Rattle.mv_message.specs.Reads.{Has, HasText, HasFreeText, Spells, SpellsNational, SpellEach, SpellsList, SpellsSerials}
 
 -- two steps gave a meaning, so each did
 pub both_ok : {A B : Type 0} (r : Result A MessageFault) (f : A → Result B MessageFault) (y : B) → (r and_then f) ≡ Ok y → (x : A) × (r ≡ Ok x) × (f x ≡ Ok y)
@@ -38,7 +33,7 @@ pub some_or_ok : {A : Type 0} (e : MessageFault) (o : Option A) (x : A) → some
 some_or_ok e None x h = cc
 some_or_ok e (Some y) x h = cc
 
-of_field_ok : {A : Type 0} (f : Field) (r : Result A PackFault) (x : A) → of_field f r ≡ Ok x → r ≡ Ok x
+pub of_field_ok : {A : Type 0} (f : Field) (r : Result A PackFault) (x : A) → of_field f r ≡ Ok x → r ≡ Ok x
 of_field_ok f (Ok y) x h = cc
 of_field_ok f (Err e) x h = cc
 
@@ -115,8 +110,6 @@ pub expiry_read : (f : Field) (d : Data) (x : CivilDate) → Spells read_expiry 
 unfolding expiry_at
 expiry_read f d x h = spelling_is_read read_expiry f d x h
 
--- ---- names
-
 pub same_bytes : (s t : List ℕ) → bytes_eq s t ≡ true → s ≡ t
 same_bytes s t e = (bytes_eq-Decides s t).0 e
 
@@ -155,114 +148,11 @@ standing_read f d x h =
     ap (λ r. r and_then λ t. some_or (Kind f) (standing_named t)) (text_is_read f d (standing_name x) h)
     ∙ ap (some_or (Kind f)) (standing_is_named x)
 
--- ---- parts
-
 pub member_ok : (f : Field) (d part : Data) → member_at f d ≡ Ok part → Has d f part
 member_ok f d part h = some_or_ok (Missing f) (get (field_name f) d) part h
 
 pub member_read : (f : Field) (d part : Data) → Has d f part → member_at f d ≡ Ok part
 member_read f d part h = ap (some_or (Missing f)) h
-
-as_bool_ok : (d : Data) (b : Bool) → as_bool d ≡ Some b → d ≡ boolean b
-as_bool_ok null b h = cc
-as_bool_ok (boolean c) b h = cc
-as_bool_ok (number n) b h = cc
-as_bool_ok (string s) b h = cc
-as_bool_ok (array ds) b h = cc
-as_bool_ok (object ms) b h = cc
-
--- a field that is read as true or false is it
-pub truth_ok : (f : Field) (d : Data) (b : Bool) → truth_at f d ≡ Ok b → Has d f (boolean b)
-unfolding truth_at
-truth_ok f d b h =
-    let p = both_ok (member_at f d) (λ x. some_or (Kind f) (as_bool x)) b h in
-    member_ok f d p.0 p.1 ∙ ap (λ x. Some x) (as_bool_ok p.0 b (some_or_ok (Kind f) (as_bool p.0) b p.2))
-
-pub truth_read : (f : Field) (d : Data) (b : Bool) → Has d f (boolean b) → truth_at f d ≡ Ok b
-unfolding truth_at
-truth_read f d b h = ap (λ r. r and_then λ x. some_or (Kind f) (as_bool x)) (member_read f d (boolean b) h)
-
--- ---- numbers
-
-pub whole_number_ok : (d : Data) (n : ℕ) → whole_number d ≡ Some n → d ≡ whole n
-whole_number_ok null n h = cc
-whole_number_ok (boolean b) n h = cc
-whole_number_ok (number (unsigned m)) n h = cc
-whole_number_ok (number (negative z)) n h = cc
-whole_number_ok (number (float x)) n h = cc
-whole_number_ok (string s) n h = cc
-whole_number_ok (array ds) n h = cc
-whole_number_ok (object ms) n h = cc
-
-whole_ok : (f : Field) (d : Data) (n : ℕ) → whole_at f d ≡ Ok n → Has d f (whole n)
-unfolding whole_at
-whole_ok f d n h =
-    let p = both_ok (member_at f d) (λ x. some_or (Kind f) (whole_number x)) n h in
-    member_ok f d p.0 p.1 ∙ ap (λ x. Some x) (whole_number_ok p.0 n (some_or_ok (Kind f) (whole_number p.0) n p.2))
-
-whole_read : (f : Field) (d : Data) (n : ℕ) → Has d f (whole n) → whole_at f d ≡ Ok n
-unfolding whole_at
-whole_read f d n h = ap (λ r. r and_then λ x. some_or (Kind f) (whole_number x)) (member_read f d (whole n) h)
-
-moment_is_itself : (n m : ℕ) → read_moment n ≡ Ok m → n ≡ m
-moment_is_itself n m h = (given_ok (nat_lt n YEAR_2100) n Moment m h).1
-
--- a field that is read as a moment is its number of seconds
-pub moment_ok : (f : Field) (d : Data) (m : ℕ) → moment_at f d ≡ Ok m → HasMoment d f m
-unfolding moment_at
-moment_ok f d m h =
-    let p = both_ok (whole_at f d) (λ n. of_field f (read_moment n)) m h in
-    let read = of_field_ok f (read_moment p.0) m p.2 in
-    (subst (λ n. Has d f (whole n)) (moment_is_itself p.0 m read) (whole_ok f d p.0 p.1), read_moment_is_moment p.0 m read)
-
-pub moment_read : (f : Field) (d : Data) (m : ℕ) → HasMoment d f m → moment_at f d ≡ Ok m
-unfolding moment_at
-moment_read f d m h =
-    ap (λ r. r and_then λ n. of_field f (read_moment n)) (whole_read f d m h.0) ∙ ap (of_field f) (read_moment_of m h.1)
-
-below : (n bound : ℕ) → nat_lt n bound ≡ true → n < bound
-below n bound h = grind (arith, nat_tests)
-
-is_below : (n bound : ℕ) → n < bound → nat_lt n bound ≡ true
-is_below n bound h = grind (arith, nat_tests)
-
--- a field that is read as a number of 32 bits is it
-pub number_ok : (f : Field) (d : Data) (n : ℕ) → number_at f d ≡ Ok n → Has d f (whole n) × (n < 2 ^ 32)
-unfolding number_at
-number_ok f d n h =
-    let p = both_ok (whole_at f d) (of_32_bits f) n h in
-    let kept = given_ok (nat_lt p.0 (2 ^ 32)) p.0 (Kind f) n p.2 in
-    subst (λ m. Has d f (whole m) × (m < 2 ^ 32)) kept.1 (whole_ok f d p.0 p.1, below p.0 (2 ^ 32) kept.0)
-
-pub number_read : (f : Field) (d : Data) (n : ℕ) → Has d f (whole n) → n < 2 ^ 32 → number_at f d ≡ Ok n
-unfolding number_at
-number_read f d n h small =
-    ap (λ r. r and_then of_32_bits f) (whole_read f d n h)
-    ∙ ap (λ b. cond b (Ok n) (Err (Kind f))) (is_below n (2 ^ 32) small)
-
-not_zero_ok : (n : ℕ) → (n == 0) ≡ false → 1 ≤ n
-not_zero_ok n h = grind (arith, nat_tests)
-
-is_not_zero : (n : ℕ) → 1 ≤ n → (n == 0) ≡ false
-is_not_zero n h = grind (arith, nat_tests)
-
--- a field that is read as a number from 1 on is it
-pub count_ok : (f : Field) (d : Data) (n : ℕ) → count_at f d ≡ Ok n → Has d f (whole n) × (1 ≤ n) × (n < 2 ^ 32)
-unfolding count_at
-count_ok f d n h =
-    let p = both_ok (number_at f d) (not_zero f) n h in
-    let kept = unrefused (p.0 == 0) (Kind f) (Ok p.0) n p.2 in
-    let same : p.0 ≡ n = cc in
-    let held = number_ok f d p.0 p.1 in
-    subst (λ m. Has d f (whole m) × (1 ≤ m) × (m < 2 ^ 32)) same (held.0, not_zero_ok p.0 kept.0, held.1)
-
-pub count_read : (f : Field) (d : Data) (n : ℕ) → Has d f (whole n) × (1 ≤ n) × (n < 2 ^ 32) → count_at f d ≡ Ok n
-unfolding count_at
-count_read f d n h =
-    ap (λ r. r and_then not_zero f) (number_read f d n h.0 h.2)
-    ∙ ap (λ b. cond b (Err (Kind f)) (Ok n)) (is_not_zero n h.1)
-
--- ---- national numbers
 
 some_number : (f : Field) (t : List ℕ) (o : Option (List ℕ)) → (of_field f (read_code t) and_then λ n. Ok (Some n)) ≡ Ok o → (n : List ℕ) × (read_code t ≡ Ok n) × (Some n ≡ o)
 some_number f t o h =

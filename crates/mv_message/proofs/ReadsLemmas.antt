@@ -1,11 +1,10 @@
 -- A value is read as a message exactly where it is a spelling of it.
-use Rattle.std.proofs.Common.{◌≡◌, ◌∙◌, ◌↔◌, ℕ, List, ap, sym, subst}
-use Rattle.std.specs.Prelude.{Option, None, Result, Ok}
+use Rattle.std.proofs.Common.{◌≡◌, ◌↔◌, ℕ, List, ap, sym, subst}
+use Rattle.std.specs.Prelude.{Option, Result, Ok}
 use Rattle.serde_json.specs.Data.{Data}
 use Rattle.mv_pack.specs.Expiry.{CivilDate}
 use Rattle.mv_message.specs.declared.field.Field.TheVariants as fields
 use Rattle.mv_message.specs.declared.fault.MessageFault.{MessageFault}
-use Rattle.mv_message.specs.declared.form.Form.{Form}
 use Rattle.mv_message.specs.declared.form.Form.TheVariants as forms
 use Rattle.mv_message.specs.declared.found.Found.{Found}
 use Rattle.mv_message.specs.declared.message.Message.{Message}
@@ -19,15 +18,15 @@ use Rattle.mv_pack.specs.declared.key.PackKey.{PackKey}
 use Rattle.mv_message.specs.Messages.{read_message}
 use Rattle.mv_message.specs.Readers.{master_at, upload_national_at, upload_at, status_at, recall_at, repack_at, withdraw_at, query_at, answer_at}
 use Rattle.mv_message.specs.Found.{found_at}
-use Rattle.mv_message.specs.Reading.{gtin_at, code_at, expiry_at, free_text_at, markets_at, moment_at, number_at, count_at, serials_at, standing_at}
+use Rattle.mv_message.specs.Reading.{gtin_at, code_at, expiry_at, free_text_at, markets_at, serials_at, standing_at}
+use Rattle.mv_message.specs.Numbers.{moment_at, number_at, count_at}
 use Rattle.mv_message.specs.Reads.{HasNational, ReadsIn, Reads}
-use Rattle.mv_message.proofs.ReadingLemmas.{gtin_read, code_read, expiry_read, free_text_is_read, markets_read, moment_read, national_read, number_read, count_read, serials_read, standing_read}
+use Rattle.mv_message.proofs.NumberLemmas.{moment_read, number_read, count_read}
+use Rattle.mv_message.proofs.ReadingLemmas.{gtin_read, code_read, expiry_read, free_text_is_read, markets_read, national_read, serials_read, standing_read}
 use Rattle.mv_message.proofs.ChainLemmas.{two_read, three_read, five_read, seven_read, nine_read}
 use Rattle.mv_message.proofs.FormLemmas.{IsIn, reopened}
 use Rattle.mv_message.proofs.FoundLemmas.{found_read}
 use Rattle.mv_message.proofs.SpelledLemmas.{master_made, upload_made, status_made, recall_made, repack_made, withdraw_made, query_made, answer_made, read_is_spelled}
-
--- ---- the fields spell a message, so they give it
 
 upload_national_read : (version : Version) (d : Data) (o : Option (List ℕ)) → HasNational version d o → upload_national_at version d ≡ Ok o
 upload_national_read One d o h = ap (λ n. Ok n) (sym h)

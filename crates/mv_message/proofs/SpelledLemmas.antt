@@ -1,6 +1,6 @@
 -- A value that is read as a message is a spelling of it.
 use Rattle.std.proofs.Common.{◌≡◌, ℕ, List, subst, refl}
-use Rattle.std.specs.Prelude.{Option, None, Result, Ok}
+use Rattle.std.specs.Prelude.{Option, Ok}
 use Rattle.serde_json.specs.Data.{Data}
 use Rattle.mv_pack.specs.Expiry.{CivilDate}
 use Rattle.mv_message.specs.declared.field.Field.TheVariants as fields
@@ -9,21 +9,20 @@ use Rattle.mv_message.specs.declared.form.Form.TheVariants as forms
 use Rattle.mv_message.specs.declared.found.Found.{Found}
 use Rattle.mv_message.specs.declared.message.Message.{Message}
 use Rattle.mv_message.specs.declared.message.Message.TheVariants as messages
-use Rattle.mv_message.specs.declared.message.Product.{Product}
 use Rattle.mv_message.specs.declared.standing.Standing.{Standing}
 use Rattle.mv_message.specs.declared.version.Version.{Version}
 use Rattle.mv_message.specs.declared.version.Version.TheVariants.{One, Two}
 use Rattle.mv_message.specs.Messages.{read_message}
 use Rattle.mv_message.specs.Readers.{master_at, upload_national_at, upload_at, status_at, recall_at, repack_at, withdraw_at, query_at, answer_at, message_at}
 use Rattle.mv_message.specs.Found.{found_at}
-use Rattle.mv_message.specs.Reading.{gtin_at, code_at, expiry_at, free_text_at, markets_at, moment_at, number_at, count_at, serials_at, standing_at}
+use Rattle.mv_message.specs.Reading.{gtin_at, code_at, expiry_at, free_text_at, markets_at, serials_at, standing_at}
+use Rattle.mv_message.specs.Numbers.{moment_at, number_at, count_at}
 use Rattle.mv_message.specs.Reads.{IsOfForm, HasNational, ReadsIn, Reads}
-use Rattle.mv_message.proofs.ReadingLemmas.{gtin_ok, code_ok, expiry_ok, free_text_ok, markets_ok, moment_ok, national_ok, number_ok, count_ok, serials_ok, standing_ok}
+use Rattle.mv_message.proofs.NumberLemmas.{moment_ok, number_ok, count_ok}
+use Rattle.mv_message.proofs.ReadingLemmas.{gtin_ok, code_ok, expiry_ok, free_text_ok, markets_ok, national_ok, serials_ok, standing_ok}
 use Rattle.mv_message.proofs.ChainLemmas.{two_ok, three_ok, five_ok, seven_ok, nine_ok}
 use Rattle.mv_message.proofs.FormLemmas.{IsIn, opened}
 use Rattle.mv_message.proofs.FoundLemmas.{found_ok}
-
--- ---- the message that the fields of each form make, in byte order of their names
 
 abbrev pub master_made : List ℕ → List ℕ → List ℕ → List (List ℕ) → List ℕ → List ℕ → List ℕ → List ℕ → List ℕ → Message
 master_made common form gtin markets name pack_size pack_type scheme strength = messages.Master gtin (record {
@@ -58,8 +57,6 @@ query_made gtin serial = messages.Query (record { gtin = gtin; serial = serial }
 
 abbrev pub answer_made : ℕ → Found → List ℕ → ℕ → List ℕ → Message
 answer_made asker found gtin q serial = messages.Answer asker q (record { gtin = gtin; serial = serial }) found
-
--- ---- the fields gave a message, so they spell it
 
 upload_national_ok : (version : Version) (d : Data) (o : Option (List ℕ)) → upload_national_at version d ≡ Ok o → HasNational version d o
 upload_national_ok One d o h = cc

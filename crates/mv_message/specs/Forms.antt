@@ -1,7 +1,6 @@
 -- The forms of messages, by the version and the text of their field `msg`, and the fields of each.
-use Rattle.std.specs.Prelude.{ℕ, ◌==◌, if◌then◌else◌, List, [], ◌∷◌, ◌++◌, map, codes, bytes_eq, find, Option, Some, None, Result, Ok, Err}
+use Rattle.std.specs.Prelude.{ℕ, List, [], ◌∷◌, ◌++◌, map, codes, bytes_eq, find, Option, Some, None, Result, Ok, Err}
 use Rattle.serde_json.specs.Data.{Data, Members}
-use Rattle.serde_json.specs.Find.{get}
 use Rattle.mv_message.specs.declared.field.Field.{Field}
 use Rattle.mv_message.specs.declared.field.Field.TheVariants as fields
 use Rattle.mv_message.specs.declared.fault.MessageFault.{MessageFault}
@@ -12,24 +11,7 @@ use Rattle.mv_message.specs.declared.version.Version.{Version}
 use Rattle.mv_message.specs.declared.version.Version.TheVariants.{One, Two}
 use Rattle.mv_message.specs.Fields.{field_name}
 use Rattle.mv_message.specs.Members.{first_unknown}
-use Rattle.mv_message.specs.Reading.{◌and_then◌, some_or, text_at, whole_number}
-
--- ---- versions
-
--- the version that the number of a field `v` names, else M5
-abbrev pub version_numbered : ℕ → Result Version MessageFault
-version_numbered number = if number == 2 then Ok Two else Err (Kind fields.V)
-
--- the version, by what stands in `v`: 1 where nothing does; 2 where the whole number 2 does; else M5
-abbrev pub version_of : Option Data → Result Version MessageFault
-version_of None = Ok One
-version_of (Some found) = some_or (Kind fields.V) (whole_number found) and_then version_numbered
-
--- the version of an object: M5 of `v`
-unfoldable pub version_at : Data → Result Version MessageFault
-version_at value = version_of (get (field_name fields.V) value)
-
--- ---- forms
+use Rattle.mv_message.specs.Reading.{◌and_then◌, some_or, text_at}
 
 -- the text of `msg` in a message of the form
 abbrev pub form_name : Form → List ℕ
@@ -60,8 +42,6 @@ form_named version text = find (λ form. bytes_eq text (form_name form)) (forms_
 unfoldable pub form_at : Version → Data → Result Form MessageFault
 form_at version value =
     text_at fields.Msg value and_then λ text. some_or (Kind fields.Msg) (form_named version text)
-
--- ---- fields
 
 -- the national number of an upload came with the second version
 abbrev pub upload_fields : Version → List Field

@@ -12,7 +12,8 @@ use Rattle.mv_message.specs.declared.version.Version.{Version}
 use Rattle.mv_message.specs.declared.version.Version.TheVariants.{One, Two}
 use Rattle.mv_message.specs.Fields.{field_name}
 use Rattle.mv_message.specs.Members.{first_unknown}
-use Rattle.mv_message.specs.Reading.{◌and_then◌, some_or, member_at, code_at, expiry_at, national_at, standing_at, truth_at, is_null}
+use Rattle.mv_message.specs.Numbers.{truth_at}
+use Rattle.mv_message.specs.Reading.{◌and_then◌, some_or, member_at, code_at, expiry_at, national_at, standing_at, is_null}
 
 -- the fields of a pack that was found, in byte order of their names
 abbrev pub present_fields : Version → List Field

@@ -4,9 +4,13 @@ pub mod Fault
 pub mod Members
 pub mod Kinds
 pub mod Reading
+pub mod Numbers
+pub mod Versions
 pub mod Forms
 pub mod Found
 pub mod Readers
 pub mod Values
 pub mod Messages
+pub mod Legal
 pub mod Reads
+pub mod Laws

@@ -1,5 +1,5 @@
 -- Messages: what reading a value or bytes gives, and the JSON value of each.
-use Rattle.std.specs.Prelude.{ℕ, List, if◌then◌else◌, Result, Ok, Err}
+use Rattle.std.specs.Prelude.{ℕ, List, if◌then◌else◌, Result, Err}
 use Rattle.std.specs.Str.{is_utf8}
 use Rattle.serde_json.specs.Data.{Data}
 use Rattle.serde_json.specs.Find.{as_object}
@@ -9,8 +9,9 @@ use Rattle.mv_message.specs.declared.fault.MessageFault.TheVariants.{NotJson, No
 use Rattle.mv_message.specs.declared.message.Message.{Message}
 use Rattle.mv_message.specs.declared.message.Message.TheVariants as messages
 use Rattle.mv_message.specs.Reading.{◌and_then◌, some_or}
-use Rattle.mv_message.specs.Forms.{version_at, form_at, known_form_at}
+use Rattle.mv_message.specs.Forms.{form_at, known_form_at}
 use Rattle.mv_message.specs.Readers.{message_at}
+use Rattle.mv_message.specs.Versions.{version_at}
 use Rattle.mv_message.specs.Values.{master_value, upload_value, status_value, recall_value, repack_value, withdraw_value, query_value, answer_value}
 
 -- The message that a value is, or the first fault: M2, M5 of `v`, those of `msg`, M4, then those of each field.

@@ -7,10 +7,10 @@ use Rattle.mv_message.specs.declared.form.Form.{Form}
 use Rattle.mv_message.specs.declared.form.Form.TheVariants as forms
 use Rattle.mv_message.specs.declared.message.Message.{Message}
 use Rattle.mv_message.specs.declared.message.Message.TheVariants as messages
-use Rattle.mv_message.specs.declared.message.Product.{Product}
 use Rattle.mv_message.specs.declared.version.Version.{Version}
 use Rattle.mv_message.specs.declared.version.Version.TheVariants.{One, Two}
-use Rattle.mv_message.specs.Reading.{◌and_then◌, gtin_at, code_at, expiry_at, free_text_at, markets_at, moment_at, national_at, number_at, count_at, serials_at, standing_at}
+use Rattle.mv_message.specs.Numbers.{moment_at, number_at, count_at}
+use Rattle.mv_message.specs.Reading.{◌and_then◌, gtin_at, code_at, expiry_at, free_text_at, markets_at, national_at, serials_at, standing_at}
 use Rattle.mv_message.specs.Found.{found_at}
 
 -- the product master that the fields give

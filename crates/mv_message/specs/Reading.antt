@@ -1,12 +1,11 @@
 -- What reading a part of a JSON value gives: its meaning, or the first fault.
-use Rattle.std.specs.Prelude.{◌≡◌, ◌≢◌, ℕ, suc, ◌^◌, ◌==◌, ◌&&◌, ◌||◌, not, Bool, true, nat_lt, if◌then◌else◌, List, [], ◌∷◌, length, is_some, option_and_then, Option, Some, None, Result, Ok, Err}
+use Rattle.std.specs.Prelude.{◌≡◌, ◌≢◌, ℕ, suc, ◌==◌, ◌&&◌, ◌||◌, not, Bool, true, nat_lt, if◌then◌else◌, List, [], ◌∷◌, length, is_some, Option, Some, None, Result, Ok, Err}
 use Rattle.serde_json.specs.Data.{Data, Items, no_items, item}
-use Rattle.serde_json.specs.Find.{get, as_null, as_bool, as_number, as_str, as_array, as_u64}
+use Rattle.serde_json.specs.Find.{get, as_null, as_str, as_array}
 use Rattle.mv_pack.specs.Code.{read_code}
 use Rattle.mv_pack.specs.Expiry.{CivilDate, read_expiry}
 use Rattle.mv_pack.specs.Gtin.{read_gtin}
 use Rattle.mv_pack.specs.Market.{read_market}
-use Rattle.mv_pack.specs.Moment.{read_moment}
 use Rattle.mv_pack.specs.declared.fault.PackFault.{PackFault}
 use Rattle.mv_message.specs.declared.field.Field.{Field}
 use Rattle.mv_message.specs.declared.fault.MessageFault.{MessageFault}
@@ -80,42 +79,6 @@ national_of field found =
 -- the national number of a field, or none: M3, M5, M6
 unfoldable pub national_at : Field → Data → Result (Option (List ℕ)) MessageFault
 national_at field value = member_at field value and_then national_of field
-
--- ---- true or false, and numbers
-
--- whether a field says `true`: M3, M5
-unfoldable pub truth_at : Field → Data → Result Bool MessageFault
-truth_at field value = member_at field value and_then λ found. some_or (Kind field) (as_bool found)
-
--- the whole number that a value is; one with a fraction or an exponent is none
-abbrev pub whole_number : Data → Option ℕ
-whole_number value = option_and_then as_u64 (as_number value)
-
--- the whole number of a field: M3, M5
-unfoldable pub whole_at : Field → Data → Result ℕ MessageFault
-whole_at field value = member_at field value and_then λ found. some_or (Kind field) (whole_number found)
-
--- the moment of a field: M3, M5, M6
-unfoldable pub moment_at : Field → Data → Result ℕ MessageFault
-moment_at field value = whole_at field value and_then λ seconds. of_field field (read_moment seconds)
-
--- a number of at most 32 bits, else M5
-abbrev pub of_32_bits : Field → ℕ → Result ℕ MessageFault
-of_32_bits field number = if nat_lt number (2 ^ 32) then Ok number else Err (Kind field)
-
--- the whole number of a field, up to 4,294,967,295: M3, M5
-unfoldable pub number_at : Field → Data → Result ℕ MessageFault
-number_at field value = whole_at field value and_then of_32_bits field
-
--- a number that is not 0, else M5
-abbrev pub not_zero : Field → ℕ → Result ℕ MessageFault
-not_zero field number = if number == 0 then Err (Kind field) else Ok number
-
--- the whole number of a field, from 1 to 4,294,967,295: M3, M5
-unfoldable pub count_at : Field → Data → Result ℕ MessageFault
-count_at field value = number_at field value and_then not_zero field
-
--- ---- lists of texts
 
 -- whether all members of a list are texts
 abbrev pub are_texts : Items → Bool

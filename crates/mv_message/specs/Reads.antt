@@ -1,12 +1,12 @@
--- Which JSON values are which messages, as a relation, and the laws of reading.
-use Rattle.std.specs.Prelude.{◌≡◌, ◌≤◌, ◌<◌, ◌^◌, ◌↔◌, ℕ, false, Bool, List, [], ◌∷◌, length, codes, Contains, Option, Some, None, Result, Ok}
+-- Which JSON values are which messages, as a relation.
+use Rattle.std.specs.Prelude.{◌≡◌, ◌≤◌, ◌<◌, ◌^◌, ℕ, false, Bool, List, [], ◌∷◌, length, Contains, Option, Some, None, Result, Ok}
 use Rattle.std.specs.List.{AllByRecursion}
 use Rattle.serde_json.specs.Data.{Data, null, boolean, string, array, object, Items, no_items, item, Members}
 use Rattle.serde_json.specs.Find.{get}
-use Rattle.mv_pack.specs.Code.{IsCode, read_code}
-use Rattle.mv_pack.specs.Expiry.{CivilDate, IsExpiry, read_expiry}
-use Rattle.mv_pack.specs.Gtin.{IsGtin, read_gtin}
-use Rattle.mv_pack.specs.Market.{IsMarket, read_market}
+use Rattle.mv_pack.specs.Code.{read_code}
+use Rattle.mv_pack.specs.Expiry.{read_expiry}
+use Rattle.mv_pack.specs.Gtin.{read_gtin}
+use Rattle.mv_pack.specs.Market.{read_market}
 use Rattle.mv_pack.specs.Moment.{IsMoment}
 use Rattle.mv_pack.specs.declared.fault.PackFault.{PackFault}
 use Rattle.mv_pack.specs.declared.key.BatchKey.{BatchKey}
@@ -21,14 +21,13 @@ use Rattle.mv_message.specs.declared.lists.TheConstants.{MOST_MARKETS, MOST_SERI
 use Rattle.mv_message.specs.declared.message.Message.{Message}
 use Rattle.mv_message.specs.declared.message.Message.TheVariants as messages
 use Rattle.mv_message.specs.declared.message.Product.{Product}
-use Rattle.mv_message.specs.declared.reading.TheConstants.{MOST_TEXT_BYTES}
 use Rattle.mv_message.specs.declared.version.Version.{Version}
 use Rattle.mv_message.specs.declared.version.Version.TheVariants.{One, Two}
 use Rattle.mv_message.specs.Fields.{field_name}
 use Rattle.mv_message.specs.Forms.{form_name, names_of}
 use Rattle.mv_message.specs.Found.{present_names}
+use Rattle.mv_message.specs.Legal.{IsFreeText}
 use Rattle.mv_message.specs.Members.{keys_of}
-use Rattle.mv_message.specs.Messages.{read_message, value_of}
 use Rattle.mv_message.specs.Standings.{standing_name}
 use Rattle.mv_message.specs.Values.{whole}
 
@@ -37,8 +36,6 @@ abbrev pub HasOnly : List (List ℕ) → Data → Type 0
 HasOnly names value =
     (members : Members) × (value ≡ object members) × AllByRecursion (Contains names) (keys_of members)
 
--- ---- fields
-
 -- the field is this value
 abbrev pub Has : Data → Field → Data → Type 0
 Has value field part = get (field_name field) value ≡ Some part
@@ -46,10 +43,6 @@ Has value field part = get (field_name field) value ≡ Some part
 -- the field is this text
 abbrev pub HasText : Data → Field → List ℕ → Type 0
 HasText value field text = Has value field (string text)
-
--- a text of 1 to 200 bytes
-abbrev pub IsFreeText : List ℕ → Type 0
-IsFreeText text = (1 ≤ length text) × (length text ≤ MOST_TEXT_BYTES)
 
 -- the field is this text, of 1 to 200 bytes
 abbrev pub HasFreeText : Data → Field → List ℕ → Type 0
@@ -86,8 +79,6 @@ SpellsSerials value field serials = SpellsList read_code MOST_SERIALS value fiel
 abbrev pub HasMoment : Data → Field → ℕ → Type 0
 HasMoment value field seconds = Has value field (whole seconds) × IsMoment seconds
 
--- ---- messages
-
 -- the object is of that version: the first has no `v`, the second has 2
 abbrev pub IsOfVersion : Version → Data → Type 0
 IsOfVersion One value = get (field_name fields.V) value ≡ None
@@ -119,7 +110,7 @@ abbrev pub HasNational : Version → Data → Option (List ℕ) → Type 0
 HasNational One value national = national ≡ None
 HasNational Two value national = SpellsNational value fields.National national
 
--- what version 1 says of a pack that was found: it has no national number, and its product is not withdrawn
+-- what only version 2 says of a pack that was found: its national number, and whether its product is withdrawn
 abbrev pub HasRest : Version → Data → Option (List ℕ) → Bool → Type 0
 HasRest One value national withdrawn = (national ≡ None) × (withdrawn ≡ false)
 HasRest Two value national withdrawn =
@@ -169,72 +160,3 @@ ReadsIn version value (messages.Answer asker q key found) =
 -- the value is an object with exactly the fields of the message in one of the versions, each a spelling of the message's
 abbrev pub Reads : Data → Message → Type 0
 Reads value message = (version : Version) × IsOfVersion version value × ReadsIn version value message
-
--- ---- legal messages
-
--- 1 to 32 markets
-abbrev pub AreMarkets : List (List ℕ) → Type 0
-AreMarkets markets = (1 ≤ length markets) × (length markets ≤ MOST_MARKETS) × AllByRecursion IsMarket markets
-
--- 1 to 100 serial numbers
-abbrev pub AreSerials : List (List ℕ) → Type 0
-AreSerials serials = (1 ≤ length serials) × (length serials ≤ MOST_SERIALS) × AllByRecursion IsCode serials
-
--- the texts and the list keep their limits
-abbrev pub IsLegalProduct : Product → Type 0
-IsLegalProduct product =
-    IsFreeText product.common × IsFreeText product.form × AreMarkets product.markets
-    × IsFreeText product.name × IsFreeText product.pack_size × IsFreeText product.pack_type
-    × IsFreeText product.scheme × IsFreeText product.strength
-
--- the name of a pack
-abbrev pub IsPackKey : PackKey → Type 0
-IsPackKey key = IsGtin key.gtin × IsCode key.serial
-
--- the name of a batch
-abbrev pub IsBatchKey : BatchKey → Type 0
-IsBatchKey key = IsGtin key.gtin × IsCode key.batch
-
--- a national number, or none
-abbrev pub IsNational : Option (List ℕ) → Type 0
-IsNational None = Unit {0}
-IsNational (Some number) = IsCode number
-
--- the values of a pack that was found are those of readers
-abbrev pub IsLegalFound : Found → Type 0
-IsLegalFound Absent = Unit {0}
-IsLegalFound (Present batch expiry national standing recalled withdrawn) =
-    IsCode batch × IsExpiry expiry × IsNational national
-
--- The values are those of readers, texts and lists keep their limits, a query's number is not 0, and the numbers of
--- parties and queries have 32 bits, as their types say.
-abbrev pub IsLegal : Message → Type 0
-IsLegal (messages.Master gtin product) = IsGtin gtin × IsLegalProduct product
-IsLegal (messages.Upload gtin batch expiry national serials) =
-    IsGtin gtin × IsCode batch × IsExpiry expiry × IsNational national × AreSerials serials
-IsLegal (messages.Status key to user at) = IsPackKey key × IsFreeText user × IsMoment at
-IsLegal (messages.Recall key at) = IsBatchKey key × IsMoment at
-IsLegal (messages.Repack before before_serials after after_serials at) =
-    IsBatchKey before × AreSerials before_serials × IsBatchKey after × AreSerials after_serials × IsMoment at
-IsLegal (messages.Withdraw gtin at) = IsGtin gtin × IsMoment at
-IsLegal (messages.Query key) = IsPackKey key
-IsLegal (messages.Answer asker q key found) =
-    IsPackKey key × (asker < 2 ^ 32) × ((1 ≤ q) × (q < 2 ^ 32)) × IsLegalFound found
-
--- ---- laws
-
--- each legal message is read back from its value
-abbrev pub ReadsBack : Type 0
-ReadsBack = (message : Message) → IsLegal message → read_message (value_of message) ≡ Ok message
-
--- a value is read as a message exactly where it is a spelling of it
-abbrev pub ReadsExactly : Type 0
-ReadsExactly = (value : Data) (message : Message) → (read_message value ≡ Ok message) ↔ Reads value message
-
--- what is read is legal
-abbrev pub ReadIsLegal : Type 0
-ReadIsLegal = (value : Data) (message : Message) → read_message value ≡ Ok message → IsLegal message
-
--- no value is a spelling of two messages
-abbrev pub ReadsOne : Type 0
-ReadsOne = (value : Data) (first second : Message) → Reads value first → Reads value second → first ≡ second

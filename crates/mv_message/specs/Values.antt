@@ -1,5 +1,5 @@
 -- The JSON value of each message, its keys in byte order.
-use Rattle.std.specs.Prelude.{ℕ, Bool, true, false, List, map, codes, Option, Some, None}
+use Rattle.std.specs.Prelude.{ℕ, true, false, List, map, codes, Option, Some, None}
 use Rattle.serde_json.specs.Data.{Data, null, boolean, number, unsigned, string, array, object, Items, Members, no_members, member}
 use Rattle.serde_json.specs.View.{items_of}
 use Rattle.mv_pack.specs.Expiry.{CivilDate, expiry_text}

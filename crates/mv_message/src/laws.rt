@@ -1,6 +1,6 @@
 //! Laws of the JSON form of messages, a sentence each; what they say holds of every value and message.
 
-ghost use Rattle.mv_message.specs.Reads.{ReadsBack, ReadsExactly, ReadIsLegal, ReadsOne};
+ghost use Rattle.mv_message.specs.Laws.{ReadsBack, ReadsExactly, ReadIsLegal, ReadsOne};
 
 /// Each legal message is read back from its value.
 #[tactic(auto, using(crate::proofs::LegalLemmas::reads_back))]

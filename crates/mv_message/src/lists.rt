@@ -68,7 +68,7 @@ fn markets_in(alloc: Global, list: &[Value], field: Field) -> Result<Vec<Market>
     ensures err { IfErr result (λ fault. fault ≢ MessageFault.Memory
         → read_each read_market field (items_view list.now) ≡ Err fault) }
 {
-    let mut markets = Vec::new(alloc);
+    let mut markets = Vec::with_capacity(alloc, list.len())?;
     for value in list {
         markets.push(market_in(value, field)?)?;
     }
@@ -108,7 +108,7 @@ fn serials_in(alloc: Global, list: &[Value], field: Field) -> Result<Vec<Serial>
     ensures err { IfErr result (λ fault. fault ≢ MessageFault.Memory
         → read_each read_code field (items_view list.now) ≡ Err fault) }
 {
-    let mut serials = Vec::new(alloc);
+    let mut serials = Vec::with_capacity(alloc, list.len())?;
     for value in list {
         serials.push(serial_in(value, field)?)?;
     }
@@ -132,7 +132,7 @@ fn serial_in(value: &Value, field: Field) -> Result<Serial, MessageFault>
 pub(crate) fn market_values(alloc: Global, markets: &[Market]) -> Result<Vec<Value>, AllocError>
     ensures { IfOk result (λ values. map view values.items ≡ map string markets.now) }
 {
-    let mut values = Vec::new(alloc);
+    let mut values = Vec::with_capacity(alloc, markets.len())?;
     for market in markets {
         values.push(Value::try_from_str(alloc, market.as_str())?)?;
     }
@@ -143,7 +143,7 @@ pub(crate) fn market_values(alloc: Global, markets: &[Market]) -> Result<Vec<Val
 pub(crate) fn serial_values(alloc: Global, serials: &[Serial]) -> Result<Vec<Value>, AllocError>
     ensures { IfOk result (λ values. map view values.items ≡ map string serials.now) }
 {
-    let mut values = Vec::new(alloc);
+    let mut values = Vec::with_capacity(alloc, serials.len())?;
     for serial in serials {
         values.push(Value::try_from_str(alloc, serial.as_str())?)?;
     }

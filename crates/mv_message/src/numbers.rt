@@ -2,7 +2,7 @@
 
 ghost use Rattle.std.specs.Prelude.{◌≡◌};
 ghost use Rattle.serde_json.specs.View.{view};
-ghost use Rattle.mv_message.specs.Reading.{truth_at, whole_at, moment_at, number_at, count_at};
+ghost use Rattle.mv_message.specs.Numbers.{truth_at, whole_at, moment_at, number_at, count_at};
 
 use crate::reading::member_of;
 use crate::{Field, MessageFault};
@@ -10,7 +10,7 @@ use mv_pack::Moment;
 use serde_json::Value;
 
 /// Whether a field says `true`: M3, M5.
-#[tactic(auto, unfolding(crate::specs::Reading::truth_at))]
+#[tactic(auto, unfolding(crate::specs::Numbers::truth_at))]
 pub(crate) fn truth_of(value: &Value, field: Field) -> Result<bool, MessageFault>
     ensures { result ≡ truth_at field (view value.now) }
 {
@@ -21,7 +21,7 @@ pub(crate) fn truth_of(value: &Value, field: Field) -> Result<bool, MessageFault
 }
 
 /// The whole number of a field: M3, M5.
-#[tactic(auto, unfolding(crate::specs::Reading::whole_at))]
+#[tactic(auto, unfolding(crate::specs::Numbers::whole_at))]
 fn whole_of(value: &Value, field: Field) -> Result<u64, MessageFault>
     ensures { result ≡ whole_at field (view value.now) }
 {
@@ -32,7 +32,7 @@ fn whole_of(value: &Value, field: Field) -> Result<u64, MessageFault>
 }
 
 /// The moment of a field: M3, M5, M6.
-#[tactic(auto, unfolding(crate::specs::Reading::moment_at))]
+#[tactic(auto, unfolding(crate::specs::Numbers::moment_at))]
 pub(crate) fn moment_of(value: &Value, field: Field) -> Result<Moment, MessageFault>
     ensures { result ≡ moment_at field (view value.now) }
 {
@@ -43,7 +43,7 @@ pub(crate) fn moment_of(value: &Value, field: Field) -> Result<Moment, MessageFa
 }
 
 /// The whole number of a field, up to 4,294,967,295: M3, M5.
-#[tactic(auto, unfolding(crate::specs::Reading::number_at))]
+#[tactic(auto, unfolding(crate::specs::Numbers::number_at))]
 pub(crate) fn number_of(value: &Value, field: Field) -> Result<u32, MessageFault>
     ensures { result ≡ number_at field (view value.now) }
 {
@@ -55,7 +55,7 @@ pub(crate) fn number_of(value: &Value, field: Field) -> Result<u32, MessageFault
 }
 
 /// The whole number of a field, from 1 to 4,294,967,295: M3, M5.
-#[tactic(auto, unfolding(crate::specs::Reading::count_at))]
+#[tactic(auto, unfolding(crate::specs::Numbers::count_at))]
 pub(crate) fn count_of(value: &Value, field: Field) -> Result<u32, MessageFault>
     ensures { result ≡ count_at field (view value.now) }
 {

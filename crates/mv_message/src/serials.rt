@@ -50,7 +50,7 @@ impl Serials {
 fn copies_of(alloc: Global, serials: &[Serial]) -> Result<Vec<Serial>, AllocError>
     ensures { IfOk result (λ copies. copies.items ≡ serials.now) }
 {
-    let mut copies = Vec::new(alloc);
+    let mut copies = Vec::with_capacity(alloc, serials.len())?;
     for serial in serials {
         copies.push(serial.copy())?;
     }

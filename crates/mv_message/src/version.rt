@@ -2,7 +2,7 @@
 
 ghost use Rattle.std.specs.Prelude.{◌≡◌};
 ghost use Rattle.serde_json.specs.View.{view};
-ghost use Rattle.mv_message.specs.Forms.{version_at};
+ghost use Rattle.mv_message.specs.Versions.{version_at};
 
 use crate::{Field, MessageFault};
 use serde_json::Value;
@@ -17,7 +17,7 @@ pub(crate) enum Version {
 }
 
 /// The version of an object: M5 of `v`.
-#[tactic(auto, unfolding(crate::specs::Forms::version_at))]
+#[tactic(auto, unfolding(crate::specs::Versions::version_at))]
 pub(crate) fn version_of(value: &Value) -> Result<Version, MessageFault>
     ensures { result ≡ version_at (view value.now) }
 {

@@ -4,7 +4,7 @@ ghost use Rattle.std.specs.Prelude.{◌≡◌, IfOk, IfErr, Ok, string_bytes};
 ghost use Rattle.serde_json.specs.View.{view};
 ghost use Rattle.serde_json.specs.Written.{compact_text};
 ghost use Rattle.mv_message.specs.Messages.{value_of, read_bytes};
-ghost use Rattle.mv_message.specs.Reads.{IsLegal};
+ghost use Rattle.mv_message.specs.Legal.{IsLegal};
 
 use crate::values::message_value;
 use crate::{Message, MessageFault};

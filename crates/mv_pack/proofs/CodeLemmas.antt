@@ -10,9 +10,13 @@ use Rattle.mv_pack.specs.declared.fault.PackFault.TheVariants.{Empty, TooLong}
 use Rattle.mv_pack.proofs.TextLemmas.{text_of_ascii}
 
 -- where no wrong element is found all are right
-pub none_wrong : {X : Type 0} (p : X → Bool) (xs : List X) (i : ℕ) → position_from (λ x. not (p x)) i xs ≡ None → list_all p xs ≡ true
+none_wrong : {X : Type 0} (p : X → Bool) (xs : List X) (i : ℕ) → position_from (λ x. not (p x)) i xs ≡ None → list_all p xs ≡ true
 none_wrong p [] i h = refl
 none_wrong p (x ∷ xs) i h = elim (p x) as (λ b. cond (not b) (Some i) (position_from (λ x. not (p x)) (i + 1) xs) ≡ None → (b && list_all p xs) ≡ true) [ true ↦ λ e. none_wrong p xs (i + 1) e | false ↦ λ e. cc ] h
+
+-- a text in which no wrong byte is found has characters of codes alone
+pub no_wrong_byte : (t : List ℕ) → first_wrong t ≡ None → list_all is_code_character t ≡ true
+no_wrong_byte t h = none_wrong is_code_character t 0 h
 
 -- where all are right no wrong element is found
 all_right : {X : Type 0} (p : X → Bool) (xs : List X) (i : ℕ) → list_all p xs ≡ true → position_from (λ x. not (p x)) i xs ≡ None
@@ -46,7 +50,7 @@ unfolding chosen
 read_code_is_code t c h =
     let tests = read_chosen (length t == 0) (nat_lt MOST_CODE_BYTES (length t)) (first_wrong t) t c h in
     subst IsCode tests.3
-    (grind (arith, nat_tests, tests.0), grind (arith, nat_tests, tests.1), none_wrong is_code_character t 0 tests.2)
+    (grind (arith, nat_tests, tests.0), grind (arith, nat_tests, tests.1), no_wrong_byte t tests.2)
 
 code_character_below : (c : ℕ) → is_code_character c ≡ true → c < 128
 code_character_below c h = grind (arith, nat_tests)

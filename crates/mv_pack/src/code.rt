@@ -99,6 +99,7 @@ impl<K> Code<K> {
 }
 
 /// Whether the text is a code, or its first fault.
+#[tactic(auto, using(crate::proofs::CodeLemmas::no_wrong_byte))]
 fn check_code(text: &str) -> Result<(), PackFault>
     ensures { MatchResult result (λ _. IsCode text.now) (λ e. read_code text.now ≡ Err e) }
 {

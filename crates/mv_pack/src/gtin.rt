@@ -51,6 +51,7 @@ impl Gtin {
     }
 
     /// The 14 digits, as text.
+    #[tactic(auto, using(crate::proofs::GtinLemmas::digits_are_text))]
     pub fn as_str(&self) -> &str
         ensures { result.now ≡ self.now }
     {

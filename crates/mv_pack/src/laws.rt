@@ -117,6 +117,14 @@ pub fn expiries_are_equal(earlier: Expiry, later: Expiry) -> bool
     earlier == later
 }
 
+/// Expiry dates are in the order of their years, then of their months, then of their days.
+pub fn order_of_expiries(earlier: Expiry, later: Expiry) -> Ordering
+    ensures { result ≡ ordering_then (nat_cmp earlier.year later.year)
+        (ordering_then (nat_cmp earlier.month later.month) (nat_cmp earlier.day later.day)) }
+{
+    earlier.cmp(&later)
+}
+
 /// Moments are equal exactly where their seconds are.
 pub fn moments_are_equal(before: Moment, after: Moment) -> bool
     ensures { IsTrue result ↔ (before ≡ after) }

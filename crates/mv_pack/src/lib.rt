@@ -1,8 +1,9 @@
-//! The values by which medicine packs are named: product codes, serial, batch and national numbers, dates and markets.
+//! The values by which medicine packs are named: product codes, serial, batch and national numbers, dates, moments and
+//! markets.
 //!
-//! Used by every crate above. Its contract: a reader accepts exactly the texts of the definitions in `specs/`
-//! (GS1 General Specifications, for the GTIN, its check digit, codes and dates), and else answers the first fault in the order of
-//! their numbers. No call takes memory. This crate knows no message and no JSON.
+//! Used by every crate above. Its contract: a reader accepts exactly the texts of the definitions in `specs/` (GS1
+//! General Specifications, for the GTIN, its check digit, codes and dates), and else answers the first fault in the order
+//! of their numbers. No call takes memory. This crate knows no message and no JSON.
 #![tactic(auto)]
 
 mod code;

@@ -4,7 +4,9 @@ use Rattle.std.specs.Prelude.{All, not, ◌&&◌, ◌==◌, slice_get, nat_lt, n
 use Rattle.std.specs.List.{range_with_len}
 use Rattle.std.proofs.lemmas.List.Elements.{All-nil, All-cons, All-append, All-weaker, All-head, All-tail}
 use mathlib.Core.List.{IsPrefix}
+use Rattle.mv_pack.specs.declared.key.PackKey.{PackKey}
 use Rattle.mv_message.specs.declared.message.Message.{Message}
+use Rattle.mv_message.specs.Kinds.{is_query_or_answer}
 use Rattle.mv_link.specs.declared.item.Item.{Item}
 use Rattle.mv_link.specs.declared.item.Item.TheVariants.{Receipt, Carried}
 use Rattle.mv_link.specs.Frames.{number_of}
@@ -14,12 +16,17 @@ use Rattle.mv_hub.specs.Record.{routed_from, routed_count, is_open}
 use Rattle.mv_hub.specs.Targets.{is_reached, is_target, reach, is_query}
 use Rattle.mv_hub.specs.Links.{gained, link_items_after, link_items}
 use Rattle.mv_hub.proofs.RecordLemmas.{routed_from-append}
+use Rattle.mv_repository.specs.declared.entry.LogEntry.{LogEntry}
+use Rattle.mv_repository.specs.declared.verdict.Local.{Local}
+use Rattle.mv_repository.specs.declared.verdict.Local.TheVariants.{Known, Absent}
 use Rattle.mv_repository.specs.Log.{items_from}
+use Rattle.mv_repository.specs.Query.{answer_to}
+use Rattle.mv_repository.specs.Verdict.{local_verdict}
 use Rattle.mv_machine.specs.declared.step.Step.{Step}
-use Rattle.mv_machine.specs.declared.step.Step.TheVariants.{Submit, Route, Relay, Apply, Repeat, Close, Lose}
+use Rattle.mv_machine.specs.declared.step.Step.TheVariants.{Submit, Verify, Route, Relay, Apply, Repeat, Close, Lose, Verdict}
 use Rattle.mv_machine.specs.declared.reply.Reply.{Reply}
-use Rattle.mv_machine.specs.State.{State, is_party, are_parties, submissions_of, waiting_of, sent_of, wire_of, log_of, items_on, applied_count}
-use Rattle.mv_machine.specs.Steps.{is_taken_message, submit, next_entry, is_full, route_unless, route_front, route, relay, apply_next, apply_front, apply, is_unsent, is_gone, repeat, close, lose_front, lose, outcome}
+use Rattle.mv_machine.specs.State.{State, is_party, are_parties, submissions_of, is_uplink_full, is_sender_full, sent_of, wire_of, log_of, items_on, applied_count, with_wire}
+use Rattle.mv_machine.specs.Steps.{submit, ask, verify_by, verify, verdict, with_applied, entry_from, is_answer_busy, next_entry, is_full, route_unless, route_front, route, relay, apply_next, apply_front, apply, is_unsent, is_gone, repeat, close, lose_front, lose, outcome}
 use Rattle.mv_machine.specs.Runs.{Runs}
 use Rattle.mv_machine.specs.Lawful.{AllFit, IsLawful}
 use Rattle.mv_machine.specs.Closing.{before_closing, AreAboutFirst, NothingRoutedLater, NothingSubmittedLater}
@@ -189,9 +196,28 @@ submit-goes_on : (st : State) (from : ℕ) (message : Message) → Continues st 
 unfolding submit
 submit-goes_on st from message =
     choose (Continues st) (not (is_party st from)) _ _ (λ _. goes_on-same st) (λ _.
-    choose (Continues st) (not (is_taken_message message)) _ _ (λ _. goes_on-same st) (λ _.
-    choose (Continues st) (length (waiting_of st from) == st.limits.uplink) _ _ (λ _. goes_on-same st) (λ _.
-    choose (Continues st) (length (submissions_of st from) == st.limits.submissions) _ _ (λ _. goes_on-same st) (λ _. goes_on st _ refl refl))))
+    choose (Continues st) (is_query_or_answer message) _ _ (λ _. goes_on-same st) (λ _.
+    choose (Continues st) (is_uplink_full st from) _ _ (λ _. goes_on-same st) (λ _.
+    choose (Continues st) (is_sender_full st from) _ _ (λ _. goes_on-same st) (λ _. goes_on st _ refl refl))))
+
+pub ask-goes_on : (st : State) (party : ℕ) (key : PackKey) → Continues st (ask st party key).state
+unfolding ask
+ask-goes_on st party key =
+    choose (Continues st) (not (is_party st party)) _ _ (λ _. goes_on-same st) (λ _.
+    choose (Continues st) (is_uplink_full st party) _ _ (λ _. goes_on-same st) (λ _.
+    choose (Continues st) (is_sender_full st party) _ _ (λ _. goes_on-same st) (λ _. goes_on st _ refl refl)))
+
+verify-goes_on : (st : State) (party : ℕ) (key : PackKey) → Continues st (verify st party key).state
+unfolding verify
+verify-goes_on st party key = choose (Continues st) (not (is_party st party)) _ _ (λ _. goes_on-same st) (λ _. by (local_verdict key (log_of st party)))
+  where
+    by : (local : Local) → Continues st (verify_by st party key local).state
+    by (Known verdict) = goes_on-same st
+    by Absent = ask-goes_on st party key
+
+verdict-goes_on : (st : State) (party q : ℕ) → Continues st (verdict st party q).state
+unfolding verdict
+verdict-goes_on st party q = choose (Continues st) (not (is_party st party)) _ _ (λ _. goes_on-same st) (λ _. goes_on-same st)
 
 route-goes_on : (st : State) (from : ℕ) → Continues st (route st from).state
 unfolding route
@@ -217,9 +243,13 @@ apply-goes_on : (st : State) (from to : ℕ) → Continues st (apply st from to)
 unfolding apply apply_front
 apply-goes_on st from to = choose (Continues st) (not (are_parties st from to)) _ _ (λ _. goes_on-same st) (λ _. front (wire_of st from to))
   where
+    applied : (entry : LogEntry) (rest : List ℕ) (answer : Option Message) → Continues st (with_wire (with_applied st to entry answer) from to rest)
+    applied entry rest None = goes_on st _ refl refl
+    applied entry rest (Some answer) = goes_on st _ refl refl
+
     next : (number : ℕ) (rest : List ℕ) (item : Option Item) → Continues st (apply_next st from to number rest item).state
     next number rest None = goes_on st _ refl refl
-    next number rest (Some item) = goes_on st _ refl refl
+    next number rest (Some item) = choose (Continues st) (is_answer_busy st to (answer_to (log_of st to) (entry_from from item))) _ _ (λ _. goes_on-same st) (λ _. applied (entry_from from item) rest (answer_to (log_of st to) (entry_from from item)))
 
     front : (wire : List ℕ) → Continues st (apply_front st from to wire).state
     front [] = goes_on-same st
@@ -252,12 +282,14 @@ lose-goes_on st from to = choose (Continues st) (not (are_parties st from to)) _
 
 outcome-goes_on : (st : State) (step : Step) → Continues st (outcome st step).state
 outcome-goes_on st (Submit from message) = submit-goes_on st from message
+outcome-goes_on st (Verify party key) = verify-goes_on st party key
 outcome-goes_on st (Route from) = route-goes_on st from
 outcome-goes_on st (Relay from to) = relay-goes_on st from to
 outcome-goes_on st (Apply from to) = apply-goes_on st from to
 outcome-goes_on st (Repeat from to number) = repeat-goes_on st from to number
 outcome-goes_on st (Close from to) = close-goes_on st from to
 outcome-goes_on st (Lose from to) = lose-goes_on st from to
+outcome-goes_on st (Verdict party q) = verdict-goes_on st party q
 
 goes_on-further : (first second third : State) → Continues first second → Continues second third → Continues first third
 goes_on-further first second third a b = record {

@@ -1,4 +1,5 @@
 pub mod PrefixLemmas
+pub mod AnswerLemmas
 pub mod LawfulLemmas
 pub mod BoundLemmas
 pub mod ClosingLemmas

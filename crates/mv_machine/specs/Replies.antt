@@ -1,9 +1,9 @@
 -- The numbers by which replies name refusals, and where want of memory may stand in place of a reply.
 use Rattle.std.specs.Prelude.{ℕ, List, codes, Bool, true, false}
 use Rattle.mv_machine.specs.declared.reply.Reply.{Reply}
-use Rattle.mv_machine.specs.declared.reply.Reply.TheVariants.{Submitted, Routed, Relayed, Applied, Old, Gap, Repeated, Closed, Lost, Refused}
+use Rattle.mv_machine.specs.declared.reply.Reply.TheVariants.{Submitted, Known, Asked, Routed, Relayed, Applied, Old, Gap, Repeated, Closed, Lost, Joint, Refused}
 use Rattle.mv_machine.specs.declared.reply.Refusal.{Refusal}
-use Rattle.mv_machine.specs.declared.reply.Refusal.TheVariants.{Party, NotYours, UplinkFull, SenderFull, UplinkEmpty, Busy, WireFull, WireEmpty, NotSent, Gone, Nothing, AlreadyClosed, Memory}
+use Rattle.mv_machine.specs.declared.reply.Refusal.TheVariants.{Party, NotYours, UplinkFull, SenderFull, UplinkEmpty, Busy, WireFull, WireEmpty, NotSent, Gone, Nothing, AlreadyClosed, AnswerBusy, Memory}
 
 -- the number of a refusal
 abbrev pub code_of : Refusal → List ℕ
@@ -19,19 +19,23 @@ code_of NotSent = codes "S9"
 code_of Gone = codes "S10"
 code_of Nothing = codes "S11"
 code_of AlreadyClosed = codes "S12"
+code_of AnswerBusy = codes "S13"
 code_of Memory = codes "S14"
 
 -- a reply that want of memory may stand in place of: the step takes memory
 abbrev pub takes_memory : Reply → Bool
 takes_memory (Submitted k) = true
+takes_memory (Known verdict) = false
+takes_memory (Asked q) = true
 takes_memory (Routed k reach) = true
 takes_memory (Relayed number) = true
-takes_memory (Applied number effect) = true
+takes_memory (Applied number effect answer) = true
 takes_memory (Old number) = false
 takes_memory (Gap number expected) = false
 takes_memory (Repeated number) = true
 takes_memory Closed = true
 takes_memory (Lost number) = false
+takes_memory (Joint joint) = false
 takes_memory (Refused refusal) = false
 
 -- a refusal for want of memory

@@ -4,15 +4,19 @@ use Rattle.mv_machine.specs.declared.step.Step.{Step}
 use Rattle.mv_machine.specs.declared.reply.Reply.{Reply}
 use Rattle.mv_machine.specs.Replies.{takes_memory, wants_memory}
 use Rattle.mv_machine.specs.State.{State}
-use Rattle.mv_machine.specs.Steps.{outcome}
+use Rattle.mv_machine.specs.Steps.{Outcome, outcome}
 
--- The step may get this reply and leave this state: those of its row, or, where the row takes memory, the refusal for want
--- of memory with nothing changed.
-unfoldable pub Allows : State → Step → Reply → State → Type 0
-Allows old step reply new =
+-- This reply and this state are those of an outcome; or, where what is done takes memory, the refusal for want of memory with
+-- nothing changed.
+unfoldable pub Meets : State → Outcome → Reply → State → Type 0
+Meets old expected reply new =
     MatchBool (wants_memory reply)
-    ((new ≡ old) × IsTrue (takes_memory (outcome old step).reply))
-    ((reply ≡ (outcome old step).reply) × (new ≡ (outcome old step).state))
+    ((new ≡ old) × IsTrue (takes_memory expected.reply))
+    ((reply ≡ expected.reply) × (new ≡ expected.state))
+
+-- the step may get this reply and leave this state: those of its row, want of memory included
+unfoldable pub Allows : State → Step → Reply → State → Type 0
+Allows old step reply new = Meets old (outcome old step) reply new
 
 -- the steps may get these replies, one after another, and leave this state
 abbrev pub Runs : State → List Step → List Reply → State → Type 0

@@ -1,5 +1,5 @@
 -- The state of the list machine: the whole system as plain lists.
-use Rattle.std.specs.Prelude.{◌&&◌, ℕ, List, [], length, drop, Bool, slice_index_or, nat_lt, replicate}
+use Rattle.std.specs.Prelude.{◌&&◌, ◌==◌, ℕ, List, [], ◌∷◌, ◌++◌, length, drop, Bool, slice_index_or, nat_lt, replicate, slice_set}
 use Rattle.mv_message.specs.declared.message.Message.{Message}
 use Rattle.mv_link.specs.declared.item.Item.{Item}
 use Rattle.mv_pairs.specs.Pairs.{cell, put}
@@ -35,6 +35,14 @@ submissions_of st party = slice_index_or st.submissions party []
 abbrev pub waiting_of : State → ℕ → List Message
 waiting_of st party = drop (routed_count st.entries party) (submissions_of st party)
 
+-- as many messages of a party are under way to the hub as its uplink takes
+abbrev pub is_uplink_full : State → ℕ → Bool
+is_uplink_full st party = length (waiting_of st party) == st.limits.uplink
+
+-- a party submitted as many messages as it may
+abbrev pub is_sender_full : State → ℕ → Bool
+is_sender_full st party = length (submissions_of st party) == st.limits.submissions
+
 -- how many frames of a link were relayed
 abbrev pub sent_of : State → ℕ → ℕ → ℕ
 sent_of st from to = cell st.sent from to 0
@@ -54,6 +62,11 @@ items_on st from to = link_items st.parties st.entries from to
 -- how many items of a sender a repository applied
 abbrev pub applied_count : State → ℕ → ℕ → ℕ
 applied_count st from to = length (items_from (log_of st to) from)
+
+-- the state once a party submitted one more message
+abbrev pub with_submission : State → ℕ → Message → State
+with_submission st party message =
+    record st { submissions = slice_set st.submissions party (submissions_of st party ++ message ∷ []) }
 
 -- the state with other frames under way on a link
 abbrev pub with_wire : State → ℕ → ℕ → List ℕ → State

@@ -1,8 +1,10 @@
 -- What each step answers and leaves where there is memory: a row for each kind of step, its refusals in their order.
-use Rattle.std.specs.Prelude.{◌==◌, ◌||◌, ◌+◌, ◌-◌, ℕ, List, [], ◌∷◌, ◌++◌, length, not, Bool, true, false, if◌then◌else◌, slice_set, slice_get, Option, Some, None, nat_lt, nat_le, find}
+use Rattle.std.specs.Prelude.{◌==◌, ◌||◌, ◌+◌, ◌-◌, ℕ, List, [], ◌∷◌, ◌++◌, length, not, Bool, false, if◌then◌else◌, slice_set, slice_get, Option, Some, None, nat_lt, nat_le, find}
 use Rattle.std.specs.List.{range_with_len}
 use Rattle.mv_message.specs.declared.message.Message.{Message}
-use Rattle.mv_message.specs.declared.message.Message.TheVariants.{Master}
+use Rattle.mv_message.specs.declared.message.Message.TheVariants.{Query}
+use Rattle.mv_message.specs.Kinds.{is_query_or_answer}
+use Rattle.mv_pack.specs.declared.key.PackKey.{PackKey}
 use Rattle.mv_link.specs.declared.item.Item.{Item}
 use Rattle.mv_pairs.specs.Pairs.{put}
 use Rattle.mv_hub.specs.declared.entry.Entry.{Entry}
@@ -10,14 +12,19 @@ use Rattle.mv_hub.specs.declared.entry.Entry.TheVariants.{Routed as RoutedEntry,
 use Rattle.mv_hub.specs.Record.{routed_count, is_open}
 use Rattle.mv_hub.specs.Targets.{reach}
 use Rattle.mv_hub.specs.Links.{gained}
+use Rattle.mv_repository.specs.declared.entry.LogEntry.{LogEntry}
+use Rattle.mv_repository.specs.declared.verdict.Local.{Local}
+use Rattle.mv_repository.specs.declared.verdict.Local.TheVariants.{Known as KnownPack, Absent}
 use Rattle.mv_repository.specs.Effect.{effect_of}
+use Rattle.mv_repository.specs.Query.{answer_to}
+use Rattle.mv_repository.specs.Verdict.{local_verdict, joint_verdict}
 use Rattle.mv_machine.specs.declared.step.Step.{Step}
-use Rattle.mv_machine.specs.declared.step.Step.TheVariants.{Submit, Route, Relay, Apply, Repeat, Close, Lose}
+use Rattle.mv_machine.specs.declared.step.Step.TheVariants.{Submit, Verify, Route, Relay, Apply, Repeat, Close, Lose, Verdict}
 use Rattle.mv_machine.specs.declared.reply.Reply.{Reply}
-use Rattle.mv_machine.specs.declared.reply.Reply.TheVariants.{Submitted, Routed, Relayed, Applied, Old, Gap, Repeated, Closed, Lost, Refused}
+use Rattle.mv_machine.specs.declared.reply.Reply.TheVariants.{Submitted, Known, Asked, Routed, Relayed, Applied, Old, Gap, Repeated, Closed, Lost, Joint as JointVerdict, Refused}
 use Rattle.mv_machine.specs.declared.reply.Refusal.{Refusal}
-use Rattle.mv_machine.specs.declared.reply.Refusal.TheVariants.{Party, NotYours, UplinkFull, SenderFull, UplinkEmpty, Busy, WireFull, WireEmpty, NotSent, Gone, Nothing, AlreadyClosed}
-use Rattle.mv_machine.specs.State.{State, is_party, are_parties, submissions_of, waiting_of, sent_of, wire_of, log_of, items_on, applied_count, with_wire}
+use Rattle.mv_machine.specs.declared.reply.Refusal.TheVariants.{Party, NotYours, UplinkFull, SenderFull, UplinkEmpty, Busy, WireFull, WireEmpty, NotSent, Gone, Nothing, AlreadyClosed, AnswerBusy}
+use Rattle.mv_machine.specs.State.{State, is_party, are_parties, submissions_of, is_uplink_full, is_sender_full, sent_of, wire_of, log_of, items_on, applied_count, with_submission, with_wire}
 
 -- a reply and the state that the step leaves
 pub record Outcome : Type 0 where
@@ -28,22 +35,33 @@ pub record Outcome : Type 0 where
 abbrev pub refused : Refusal → State → Outcome
 refused refusal st = record { reply = Refused refusal; state = st }
 
--- a message that a party may submit: a master alone so far
-abbrev pub is_taken_message : Message → Bool
-is_taken_message (Master gtin product) = true
-is_taken_message message = false
-
--- a party submits a message: it is the last of the party's submissions
+-- a party submits a message: it is the last of the party's submissions. Queries and answers are submitted by the system itself
 unfoldable pub submit : State → ℕ → Message → Outcome
 submit st from message =
     if not (is_party st from) then refused Party st
-    else (if not (is_taken_message message) then refused NotYours st
-    else (if length (waiting_of st from) == st.limits.uplink then refused UplinkFull st
-    else (if length (submissions_of st from) == st.limits.submissions then refused SenderFull st
-    else record {
-      reply = Submitted (length (submissions_of st from) + 1);
-      state = record st { submissions = slice_set st.submissions from (submissions_of st from ++ message ∷ []) };
-    })))
+    else (if is_query_or_answer message then refused NotYours st
+    else (if is_uplink_full st from then refused UplinkFull st
+    else (if is_sender_full st from then refused SenderFull st
+    else record { reply = Submitted (length (submissions_of st from) + 1); state = with_submission st from message })))
+
+-- a party asks the other repositories about a pack: the query is the last of its submissions
+unfoldable pub ask : State → ℕ → PackKey → Outcome
+ask st party key =
+    if not (is_party st party) then refused Party st
+    else (if is_uplink_full st party then refused UplinkFull st
+    else (if is_sender_full st party then refused SenderFull st
+    else record { reply = Asked (length (submissions_of st party) + 1); state = with_submission st party (Query key) }))
+
+-- a party verifies a pack, on which its own repository has this verdict: where it has none, the others are asked
+abbrev pub verify_by : State → ℕ → PackKey → Local → Outcome
+verify_by st party key (KnownPack verdict) = record { reply = Known verdict; state = st }
+verify_by st party key Absent = ask st party key
+
+-- a party verifies a pack
+unfoldable pub verify : State → ℕ → PackKey → Outcome
+verify st party key =
+    if not (is_party st party) then refused Party st
+    else verify_by st party key (local_verdict key (log_of st party))
 
 -- the entry by which the next message of a party is routed
 abbrev pub next_entry : State → ℕ → Message → Entry
@@ -90,16 +108,52 @@ relay st from to =
       };
     }))
 
+-- the answer that an entry calls for is the last of the submissions of the party whose repository applies it
+abbrev pub with_answer : State → ℕ → Option Message → State
+with_answer st party None = st
+with_answer st party (Some answer) = with_submission st party answer
+
+-- the number of that answer behind these submissions
+abbrev pub answer_number : List Message → Option Message → Option ℕ
+answer_number submissions None = None
+answer_number submissions (Some answer) = Some (length submissions + 1)
+
+-- an answer is called for, and the party can submit nothing now
+abbrev pub is_answer_busy : State → ℕ → Option Message → Bool
+is_answer_busy st party None = false
+is_answer_busy st party (Some answer) = is_uplink_full st party || is_sender_full st party
+
+-- a repository applied an entry, which called for this answer
+abbrev pub with_applied : State → ℕ → LogEntry → Option Message → State
+with_applied st party entry answer =
+    record (with_answer st party answer) { logs = slice_set st.logs party (log_of st party ++ entry ∷ []) }
+
+-- a repository applies an entry, which calls for this answer: both happen, or neither
+abbrev pub apply_entry : State → ℕ → ℕ → ℕ → List ℕ → LogEntry → Option Message → Outcome
+apply_entry st from to number rest entry answer =
+    if is_answer_busy st to answer then refused AnswerBusy st
+    else record {
+      reply = Applied number (effect_of (log_of st to) entry) (answer_number (submissions_of st to) answer);
+      state = with_wire (with_applied st to entry answer) from to rest;
+    }
+
+-- an item as it stands in the log of who applies it
+abbrev pub entry_from : ℕ → Item → LogEntry
+entry_from sender item = record { sender = sender; item = item }
+
+-- the item that a repository is to apply next from a sender, and the answer that this calls for
+abbrev pub next_item : State → ℕ → ℕ → Option Item
+next_item st from to = slice_get (items_on st from to) (applied_count st from to)
+
+abbrev pub next_answer : State → ℕ → ℕ → Option Item → Option Message
+next_answer st from to (Some item) = answer_to (log_of st to) (entry_from from item)
+next_answer st from to None = None
+
 -- a repository applies the member of the link that the next frame bears. A link always has it; a frame of no member would
 -- be dropped, as one behind a gap is
 abbrev pub apply_next : State → ℕ → ℕ → ℕ → List ℕ → Option Item → Outcome
-apply_next st from to number rest (Some item) = record {
-  reply = Applied number (effect_of item);
-  state = record st {
-    wires = put st.wires from to rest;
-    logs = slice_set st.logs to (log_of st to ++ record { sender = from; item = item } ∷ []);
-  };
-}
+apply_next st from to number rest (Some item) =
+    apply_entry st from to number rest (entry_from from item) (answer_to (log_of st to) (entry_from from item))
 apply_next st from to number rest None = record { reply = Gap number number; state = with_wire st from to rest }
 
 -- the frame in front of a wire is taken: it is old, it is behind a gap, or it is the next
@@ -152,12 +206,20 @@ lose st from to =
     if not (are_parties st from to) then refused Party st
     else lose_front st from to (wire_of st from to)
 
+-- a party takes the verdict on a query of its own
+unfoldable pub verdict : State → ℕ → ℕ → Outcome
+verdict st party q =
+    if not (is_party st party) then refused Party st
+    else record { reply = JointVerdict (joint_verdict party (log_of st party) q); state = st }
+
 -- what a step answers and leaves where there is memory
 abbrev pub outcome : State → Step → Outcome
 outcome st (Submit from message) = submit st from message
+outcome st (Verify party key) = verify st party key
 outcome st (Route from) = route st from
 outcome st (Relay from to) = relay st from to
 outcome st (Apply from to) = apply st from to
 outcome st (Repeat from to number) = repeat st from to number
 outcome st (Close from to) = close st from to
 outcome st (Lose from to) = lose st from to
+outcome st (Verdict party q) = verdict st party q

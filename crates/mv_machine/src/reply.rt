@@ -4,29 +4,58 @@ ghost use Rattle.std.specs.Prelude.{◌≡◌};
 
 use mv_link::Reach;
 use mv_message::Party;
-use mv_repository::Effect;
+use mv_repository::{Effect, Joint, Verdict};
 
 /// What a step is answered.
 #[derive(Debug, PartialEq, Eq, Drop)]
 pub enum Reply {
     /// The message is the `k`-th that the party submitted, counted from one.
-    Submitted { k: u32 },
+    Submitted {
+        k: u32,
+    },
+    /// The repository of the party holds the pack, and this is its verdict.
+    Known(Verdict),
+    /// The other repositories are asked, by the `q`-th message of the party.
+    Asked {
+        q: u32,
+    },
     /// The `k`-th message of the party was routed to these parties.
-    Routed { k: u32, reach: Reach },
+    Routed {
+        k: u32,
+        reach: Reach,
+    },
     /// The frame of this number went on the wire.
-    Relayed { number: u32 },
-    /// The frame of this number was applied, with this effect.
-    Applied { number: u32, effect: Effect },
+    Relayed {
+        number: u32,
+    },
+    /// The frame of this number was applied, with this effect; the answer that it called for is the message of this number
+    /// that the party of the repository submitted.
+    Applied {
+        number: u32,
+        effect: Effect,
+        answer: Option<u32>,
+    },
     /// The frame of this number was applied before, and was dropped.
-    Old { number: u32 },
+    Old {
+        number: u32,
+    },
     /// The frame of this number was dropped, since the frame `expected` has not been applied.
-    Gap { number: u32, expected: u32 },
+    Gap {
+        number: u32,
+        expected: u32,
+    },
     /// The frame of this number went on the wire again.
-    Repeated { number: u32 },
+    Repeated {
+        number: u32,
+    },
     /// The link is closed from now on.
     Closed,
     /// The frame of this number, the front one of its wire, is lost.
-    Lost { number: u32 },
+    Lost {
+        number: u32,
+    },
+    /// The verdict of all that were asked.
+    Joint(Joint),
     /// The step was refused, and nothing changed.
     Refused(Refusal),
 }
@@ -58,6 +87,8 @@ pub enum Refusal {
     Nothing,
     /// S12: the link is closed already.
     AlreadyClosed,
+    /// S13: the next frame carries a query, and the party can submit no answer now.
+    AnswerBusy,
     /// S14: memory was refused.
     Memory,
 }
@@ -82,6 +113,7 @@ impl Refusal {
             Refusal::Gone => "S10",
             Refusal::Nothing => "S11",
             Refusal::AlreadyClosed => "S12",
+            Refusal::AnswerBusy => "S13",
             Refusal::Memory => "S14",
         }
     }

@@ -1,12 +1,15 @@
 //! The steps of the system.
 
 use mv_message::{Message, Party};
+use mv_pack::PackKey;
 
 /// One step of the system.
 #[derive(Debug, PartialEq, Eq, Drop)]
 pub enum Step {
     /// A party submits a message to the hub.
     Submit { from: Party, message: Message },
+    /// A party verifies a pack: by its own repository where that holds the pack, else it asks the others.
+    Verify { party: Party, key: PackKey },
     /// The hub routes the next message of a party.
     Route { from: Party },
     /// The next frame of a link goes on its wire.
@@ -19,4 +22,6 @@ pub enum Step {
     Close { from: Party, to: Party },
     /// The front frame of a wire is lost.
     Lose { from: Party, to: Party },
+    /// A party takes the verdict on the query that was its `q`-th message.
+    Verdict { party: Party, q: u32 },
 }

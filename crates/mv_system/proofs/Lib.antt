@@ -1,4 +1,5 @@
 pub mod WireLemmas
+pub mod ApplyLemmas
 pub mod SystemLemmas
 pub mod RouteLemmas
 pub mod OpeningLemmas

@@ -1,7 +1,8 @@
 -- What the parts of the system say of the list machine's lists, and what each change of a part keeps.
-use Rattle.std.proofs.Common.{◌≡◌, ℕ, zero, suc, ◌+◌, ◌-◌, ◌<◌, ◌≤◌, Bool, true, false, List, [], ◌∷◌, ◌++◌, length, get_or, set, cond, map, drop, Some, sym, refl, ap, ◌∙◌, subst, arith, length-append, eqb, eqb-true, ltb-true, add-zero, inl, inr, get_or-set_same, get_or-set_other}
-use Rattle.std.specs.Prelude.{slice_get, option_map, IsTrue, nat_lt, ◌&&◌}
+use Rattle.std.proofs.Common.{◌≡◌, ℕ, zero, suc, ◌+◌, ◌-◌, ◌<◌, ◌≤◌, Bool, true, false, List, [], ◌∷◌, ◌++◌, length, get_or, set, cond, map, drop, Some, sym, refl, ap, ◌∙◌, subst, arith, length-append, eqb, eqb-true, ltb-true, add-zero, append-nil, inl, inr, get_or-set_same, get_or-set_other}
+use Rattle.std.specs.Prelude.{slice_get, option_map, option_to_list, IsTrue, nat_lt, ◌&&◌, ◌||◌, None, Option}
 use Rattle.std.proofs.lemmas.Bool.{and_parts, eqb-false}
+use Rattle.std.proofs.lemmas.List.{set-get_or}
 use Rattle.mv_message.specs.declared.message.Message.{Message}
 use Rattle.mv_link.specs.declared.item.Item.{Item}
 use Rattle.mv_link.specs.declared.item.Frame.{Frame}
@@ -14,12 +15,14 @@ use Rattle.mv_hub.specs.Hub.{HubState, items_on}
 use Rattle.mv_hub.proofs.RecordLemmas.{link_items-push, link_items-few}
 use Rattle.mv_repository.specs.declared.entry.LogEntry.{LogEntry}
 use Rattle.mv_repository.specs.Log.{items_from}
-use Rattle.mv_repository.specs.Repository.{RepositoryState, new_repository, with_applied}
-use Rattle.mv_machine.specs.State.{State, is_party, are_parties, submissions_of, wire_of, log_of, applied_count, items_on as link_of}
+use Rattle.mv_repository.specs.Query.{answer_to}
+use Rattle.mv_repository.specs.Repository.{RepositoryState, new_repository, with_applied as repository_with}
+use Rattle.mv_machine.specs.State.{State, is_party, are_parties, submissions_of, is_uplink_full, is_sender_full, wire_of, log_of, applied_count, items_on as link_of}
+use Rattle.mv_machine.specs.Steps.{entry_from, next_item, next_answer, is_answer_busy, with_applied}
 use Rattle.mv_machine.proofs.LawfulLemmas.{IsSound, applied-sound, items_from-push}
 use Rattle.mv_machine.proofs.BoundLemmas.{routed_count-few, entries-few}
 use Rattle.mv_system.specs.Wire.{WireState, new_wire, numbers_of}
-use Rattle.mv_system.specs.World.{Parts, wire_at, repository_at, state_of, AllFramesOf, FitsWire, IsSystem}
+use Rattle.mv_system.specs.World.{Parts, wire_at, repository_at, state_of, AllFramesOf, FitsWire, IsSystem, IsAnswerable}
 use Rattle.mv_system.proofs.WireLemmas.{length-numbers_of, numbers_of-front}
 
 pub sound_of : (p : Parts) → IsSystem p → IsSound (state_of p)
@@ -126,6 +129,7 @@ wire_kept p from to wire k frames fits =
         entries_name_parties = k.lawful.entries_name_parties;
         routed_in_order = k.lawful.routed_in_order;
         applied_in_order = k.lawful.applied_in_order;
+        answers_in_order = k.lawful.answers_in_order;
         senders_are_parties = k.lawful.senders_are_parties;
       };
       parties_least = k.parties_least;
@@ -193,6 +197,7 @@ sent_kept p sent k square = record {
     entries_name_parties = k.lawful.entries_name_parties;
     routed_in_order = k.lawful.routed_in_order;
     applied_in_order = k.lawful.applied_in_order;
+    answers_in_order = k.lawful.answers_in_order;
     senders_are_parties = k.lawful.senders_are_parties;
   };
   parties_least = k.parties_least;
@@ -208,26 +213,47 @@ sent_kept p sent k square = record {
   owners = k.owners;
 }
 
--- a repository applied an item from a sender
-pub log_view : (p : Parts) (st : State) (from to : ℕ) (item : Item) (accepted : List (List ℕ)) → state_of p ≡ st
-    → state_of (record p { accepted = accepted; repositories = set p.repositories to (with_applied (repository_at p.repositories to) from item) })
-    ≡ record st { logs = set st.logs to (log_of st to ++ record { sender = from; item = item } ∷ []) }
-log_view p st from to item accepted view =
-    subst (λ (t : State). state_of (record p { accepted = accepted; repositories = set p.repositories to (with_applied (repository_at p.repositories to) from item) })
-    ≡ record t { logs = set t.logs to (log_of t to ++ record { sender = from; item = item } ∷ []) }) view
-    (ap {A = List (List LogEntry)} {B = State} (λ l. record (state_of p) { logs = l })
-    (map-set (λ (r : RepositoryState). r.log) p.repositories to (with_applied (repository_at p.repositories to) from item)
-    ∙ ap (λ log. set (map (λ (r : RepositoryState). r.log) p.repositories) to (log ++ record { sender = from; item = item } ∷ [])) (sym (logs-at p.repositories to))))
+-- what the parties submitted, once one of them submitted an answer, if there is one
+pub submissions_after : State → ℕ → Option Message → List (List Message)
+submissions_after st party answer = set st.submissions party (submissions_of st party ++ option_to_list answer)
+
+pub with_applied_is : (st : State) (party : ℕ) (entry : LogEntry) (answer : Option Message)
+    → with_applied st party entry answer ≡ record st { submissions = submissions_after st party answer; logs = set st.logs party (log_of st party ++ entry ∷ []) }
+unfolding submissions_after
+with_applied_is st party entry (Some answer) = refl
+with_applied_is st party entry None =
+    ap {A = List (List Message)} {B = State} (λ l. record st { submissions = l; logs = set st.logs party (log_of st party ++ entry ∷ []) })
+    (sym (ap (set st.submissions party) (append-nil (submissions_of st party)) ∙ set-get_or st.submissions party []))
+
+-- a repository applied an item from a sender, and its party submitted the answer, if there is one
+pub log_view : (p : Parts) (st : State) (from to : ℕ) (item : Item) (answer : Option Message) (accepted : List (List ℕ)) → state_of p ≡ st
+    → state_of (record p {
+      submissions = set p.submissions to (get_or p.submissions to [] ++ option_to_list answer);
+      accepted = accepted;
+      repositories = set p.repositories to (repository_with (repository_at p.repositories to) from item);
+    })
+    ≡ with_applied st to (entry_from from item) answer
+unfolding submissions_after
+log_view p st from to item answer accepted view =
+    subst (λ (t : State). state_of (record p {
+      submissions = set p.submissions to (get_or p.submissions to [] ++ option_to_list answer);
+      accepted = accepted;
+      repositories = set p.repositories to (repository_with (repository_at p.repositories to) from item);
+    }) ≡ with_applied t to (entry_from from item) answer) view
+    (ap {A = List (List LogEntry)} {B = State} (λ l. record (state_of p) { submissions = set p.submissions to (get_or p.submissions to [] ++ option_to_list answer); logs = l })
+    (map-set (λ (r : RepositoryState). r.log) p.repositories to (repository_with (repository_at p.repositories to) from item)
+    ∙ ap (λ log. set (map (λ (r : RepositoryState). r.log) p.repositories) to (log ++ entry_from from item ∷ [])) (sym (logs-at p.repositories to)))
+    ∙ sym (with_applied_is (state_of p) to (entry_from from item) answer))
 
 length-one_if : {A : Type 0} (b : Bool) (x : A) → length (cond b (x ∷ []) []) ≡ cond b 1 0
 length-one_if true x = refl
 length-one_if false x = refl
 
 -- how many items of each sender each repository applied, once one more of a sender is applied
-applied_more : (st : State) (from to i j : ℕ) (item : Item) → to < length st.logs
-    → applied_count (record st { logs = set st.logs to (log_of st to ++ record { sender = from; item = item } ∷ []) }) i j
+applied_more : (st : State) (from to i j : ℕ) (item : Item) (submissions : List (List Message)) → to < length st.logs
+    → applied_count (record st { submissions = submissions; logs = set st.logs to (log_of st to ++ record { sender = from; item = item } ∷ []) }) i j
     ≡ applied_count st i j + cond (eqb to j && eqb from i) 1 0
-applied_more st from to i j item lt = by (eqb to j) refl
+applied_more st from to i j item submissions lt = by (eqb to j) refl
   where
     log : List LogEntry
     log = log_of st to ++ record { sender = from; item = item } ∷ []
@@ -257,15 +283,36 @@ accepted_more n t from to i j square from_lt to_lt = by (eqb to j) (eqb from i) 
     by false b e f = rw e (cell-put_other t from to i j _ 0 (inr (λ same. eqb-false to j e (sym same))) ∙ sym (add-zero (cell t i j 0)))
     by true false e f = rw (e, f) (cell-put_other t from to i j _ 0 (inl (λ same. eqb-false from i f (sym same))) ∙ sym (add-zero (cell t i j 0)))
 
--- the system once a repository applied the next item of a sender
-pub logged_kept : (p : Parts) (from to : ℕ) (item : Item) → IsSystem p → from < length p.hub.parties → to < length p.hub.parties
-    → slice_get (link_of (state_of p) from to) (applied_count (state_of p) from to) ≡ Some item
-    → IsSystem (record p { accepted = put p.accepted from to (cell p.accepted from to 0 + 1); repositories = set p.repositories to (with_applied (repository_at p.repositories to) from item) })
-logged_kept p from to item k from_lt to_lt next =
+-- where an answer can be submitted, there is room for it
+answer_fits : (st : State) (party : ℕ) (answer : Option Message) → length (submissions_of st party) ≤ st.limits.submissions → is_answer_busy st party answer ≡ false
+    → length (submissions_of st party ++ option_to_list answer) ≤ st.limits.submissions
+answer_fits st party None few free = omega (arith, few, length-append (submissions_of st party) [])
+answer_fits st party (Some answer) few free =
+    let not_full : is_sender_full st party ≡ false = neither (is_uplink_full st party) (is_sender_full st party) free in
+    omega (arith, few, eqb-false (length (submissions_of st party)) st.limits.submissions not_full, length-append (submissions_of st party) (answer ∷ []))
+  where
+    neither : (a b : Bool) → (a || b) ≡ false → b ≡ false
+    neither false b e = e
+    neither true b e = absurd (cc)
+
+-- the system once a repository applied the next item of a sender, and its party submitted the answer that it calls for
+pub logged_kept : (p : Parts) (from to : ℕ) (item : Item) (answer : Option Message) → IsSystem p → from < length p.hub.parties → to < length p.hub.parties
+    → next_item (state_of p) from to ≡ Some item
+    → answer_to (log_of (state_of p) to) (entry_from from item) ≡ answer
+    → is_answer_busy (state_of p) to answer ≡ false
+    → IsSystem (record p {
+      submissions = set p.submissions to (get_or p.submissions to [] ++ option_to_list answer);
+      accepted = put p.accepted from to (cell p.accepted from to 0 + 1);
+      repositories = set p.repositories to (repository_with (repository_at p.repositories to) from item);
+    })
+unfolding submissions_after
+logged_kept p from to item answer k from_lt to_lt next called free =
     let more = put p.accepted from to (cell p.accepted from to 0 + 1) in
-    let seen = log_view p (state_of p) from to item more refl in
-    let sound : IsSound (state_of (record p { accepted = more; repositories = set p.repositories to (with_applied (repository_at p.repositories to) from item) })) =
-    subst IsSound (sym seen) (applied-sound (state_of p) from to item (sound_of p k) from_lt next) in
+    let submissions = set p.submissions to (get_or p.submissions to [] ++ option_to_list answer) in
+    let seen = log_view p (state_of p) from to item answer more refl in
+    let whole = seen ∙ with_applied_is (state_of p) to (entry_from from item) answer in
+    let sound : IsSound (state_of (record p { submissions = submissions; accepted = more; repositories = set p.repositories to (repository_with (repository_at p.repositories to) from item) })) =
+    subst IsSound (sym seen) (applied-sound (state_of p) from to item answer (sound_of p k) from_lt to_lt next called) in
     record {
       well_formed = sound.well_formed;
       lawful = sound.lawful;
@@ -273,7 +320,8 @@ logged_kept p from to item k from_lt to_lt next =
       parties_most = k.parties_most;
       window = k.window;
       bounds = k.bounds;
-      submissions_few = k.submissions_few;
+      submissions_few = put-each (λ party l. length l ≤ p.limits.submissions) p.submissions to (get_or p.submissions to [] ++ option_to_list answer) []
+          (answer_fits (state_of p) to answer (k.submissions_few to) free) k.submissions_few;
       wires_square = k.wires_square;
       wires_fit = k.wires_fit;
       frames = k.frames;
@@ -281,9 +329,9 @@ logged_kept p from to item k from_lt to_lt next =
       accepted = λ i j i_lt j_lt.
           accepted_more (length p.hub.parties) p.accepted from to i j k.accepted_square from_lt to_lt
           ∙ ap (λ n. n + cond (eqb to j && eqb from i) 1 0) (k.accepted i j i_lt j_lt)
-          ∙ sym (applied_more (state_of p) from to i j item (omega (arith, k.well_formed.logs_each, to_lt)))
-          ∙ ap (λ (t : State). applied_count t i j) (sym seen);
-      owners = put-each (λ party r. party < length p.hub.parties → r.party ≡ party) p.repositories to (with_applied (repository_at p.repositories to) from item) (new_repository 0)
+          ∙ sym (applied_more (state_of p) from to i j item submissions (omega (arith, k.well_formed.logs_each, to_lt)))
+          ∙ ap (λ (t : State). applied_count t i j) (sym whole);
+      owners = put-each (λ party r. party < length p.hub.parties → r.party ≡ party) p.repositories to (repository_with (repository_at p.repositories to) from item) (new_repository 0)
           (k.owners to) k.owners;
     }
 
@@ -327,3 +375,58 @@ waiting-count p party k lt = routed_count-few (state_of p) party k.lawful lt
 pub entries-short : (p : Parts) → IsSystem p → length p.hub.entries < 4294967295
 entries-short p k =
     let few = entries-few (state_of p) k.lawful k.parties_most (λ party. omega (arith, k.submissions_few party, k.bounds.submissions_most)) in omega (arith, few)
+
+-- what a repository applied, and what its party submitted then, as the parts keep them
+pub record IsLogged (p : Parts) (st : State) (from to : ℕ) (item : Item) (repository : RepositoryState) (messages new_messages : List Message) (new_repository : RepositoryState) (count : ℕ) : Type 0 where
+  pub kept : IsSystem (record p {
+    submissions = set p.submissions to new_messages;
+    accepted = put p.accepted from to count;
+    repositories = set p.repositories to new_repository;
+  })
+  pub seen : (accepted : List (List ℕ)) → state_of (record p {
+    submissions = set p.submissions to new_messages;
+    accepted = accepted;
+    repositories = set p.repositories to new_repository;
+  }) ≡ with_applied st to (entry_from from item) (answer_to (log_of st to) (entry_from from item))
+  pub log_is : repository.log ≡ log_of st to
+  pub messages_are : messages ≡ submissions_of st to
+
+pub is_logged : (p : Parts) (st : State) (from to : ℕ) (item : Item) (repository : RepositoryState) (messages new_messages : List Message) (new_repository : RepositoryState) (count : ℕ)
+    → IsSystem p → state_of p ≡ st → ArePlaces p from to → next_item st from to ≡ Some item → IsAnswerable st from to
+    → repository ≡ repository_at p.repositories to → messages ≡ get_or p.submissions to []
+    → new_messages ≡ messages ++ option_to_list (answer_to repository.log (entry_from from item))
+    → new_repository ≡ repository_with repository from item
+    → count ≡ cell p.accepted from to 0 + 1
+    → IsLogged p st from to item repository messages new_messages new_repository count
+is_logged p st from to item repository messages new_messages new_repository count k view places next free old_repository old_messages now_messages now_repository now_count =
+    subst (λ (t : State). next_item t from to ≡ Some item → IsAnswerable t from to → IsLogged p t from to item repository messages new_messages new_repository count) view here next free
+  where
+    log_is : repository.log ≡ log_of (state_of p) to
+    log_is = ap (λ (r : RepositoryState). r.log) old_repository ∙ sym (logs-at p.repositories to)
+
+    answer : Option Message
+    answer = answer_to (log_of (state_of p) to) (entry_from from item)
+
+    more : new_messages ≡ get_or p.submissions to [] ++ option_to_list (answer_to (log_of (state_of p) to) (entry_from from item))
+    more =
+        now_messages ∙ ap (λ l. l ++ option_to_list (answer_to repository.log (entry_from from item))) old_messages
+        ∙ ap (λ l. get_or p.submissions to [] ++ option_to_list (answer_to l (entry_from from item))) log_is
+
+    with_item : new_repository ≡ repository_with (repository_at p.repositories to) from item
+    with_item = now_repository ∙ ap (λ r. repository_with r from item) old_repository
+
+    here : next_item (state_of p) from to ≡ Some item → IsAnswerable (state_of p) from to → IsLogged p (state_of p) from to item repository messages new_messages new_repository count
+    here next free =
+        let none : is_answer_busy (state_of p) to answer ≡ false = ap (λ o. is_answer_busy (state_of p) to (next_answer (state_of p) from to o)) (sym next) ∙ free in
+        record {
+          kept = subst (λ n. IsSystem (record p { submissions = set p.submissions to new_messages; accepted = put p.accepted from to n; repositories = set p.repositories to new_repository })) (sym now_count)
+              (subst (λ (r : RepositoryState). IsSystem (record p { submissions = set p.submissions to new_messages; accepted = put p.accepted from to (cell p.accepted from to 0 + 1); repositories = set p.repositories to r })) (sym with_item)
+              (subst (λ (l : List Message). IsSystem (record p { submissions = set p.submissions to l; accepted = put p.accepted from to (cell p.accepted from to 0 + 1); repositories = set p.repositories to (repository_with (repository_at p.repositories to) from item) })) (sym more)
+              (logged_kept p from to item answer k places.from_party places.to_party next refl none)));
+          seen = λ accepted.
+              subst (λ (r : RepositoryState). state_of (record p { submissions = set p.submissions to new_messages; accepted = accepted; repositories = set p.repositories to r }) ≡ with_applied (state_of p) to (entry_from from item) answer) (sym with_item)
+              (subst (λ (l : List Message). state_of (record p { submissions = set p.submissions to l; accepted = accepted; repositories = set p.repositories to (repository_with (repository_at p.repositories to) from item) }) ≡ with_applied (state_of p) to (entry_from from item) answer) (sym more)
+              (log_view p (state_of p) from to item answer accepted refl));
+          log_is = log_is;
+          messages_are = old_messages;
+        }

@@ -1,5 +1,5 @@
 -- What the system is seen as, the state of the list machine, and what it keeps beside that.
-use Rattle.std.specs.Prelude.{◌≡◌, ◌<◌, ◌≤◌, ◌==◌, ℕ, List, [], ◌∷◌, ◌++◌, length, map, drop, slice_index_or, slice_get, slice_set, IsTrue, Bool, true, false, Some, Result, Ok, Err}
+use Rattle.std.specs.Prelude.{◌≡◌, ◌<◌, ◌≤◌, ◌==◌, ℕ, List, [], ◌∷◌, length, map, slice_index_or, IsTrue, Bool, true, false, Option, Some, Result, Ok, Err}
 use Rattle.mv_message.specs.declared.message.Message.{Message}
 use Rattle.mv_link.specs.declared.item.Frame.{Frame}
 use Rattle.mv_link.specs.Frames.{IsFrameOf}
@@ -12,12 +12,13 @@ use Rattle.mv_hub.specs.declared.fault.RouteFault.TheVariants.{StrangerParty, Bu
 use Rattle.mv_link.specs.declared.item.Item.{Item}
 use Rattle.mv_repository.specs.declared.effect.Effect.{Effect}
 use Rattle.mv_repository.specs.Effect.{effect_of}
+use Rattle.mv_repository.specs.Query.{answer_to}
 use Rattle.mv_repository.specs.Repository.{RepositoryState, new_repository}
 use Rattle.mv_machine.specs.declared.reply.Refusal.TheVariants.{Busy as BusyLink}
 use Rattle.mv_machine.specs.Limits.{Bounds, AreBounds}
 use Rattle.mv_machine.specs.Replies.{takes_memory}
-use Rattle.mv_machine.specs.State.{State, applied_count, log_of, wire_of, with_wire, items_on as items_on_link}
-use Rattle.mv_machine.specs.Steps.{refused, route}
+use Rattle.mv_machine.specs.State.{State, submissions_of, applied_count, log_of}
+use Rattle.mv_machine.specs.Steps.{refused, route, entry_from, next_item, next_answer, is_answer_busy, answer_number, with_applied}
 use Rattle.mv_machine.specs.Lawful.{IsLawful, IsWellFormed}
 use Rattle.mv_system.specs.Wire.{WireState, new_wire, numbers_of}
 
@@ -111,17 +112,17 @@ CloseFails still_open (Err hub.AlreadyClosed) = still_open ≡ false
 CloseFails still_open (Err hub.Memory) = still_open ≡ true
 CloseFails still_open (Err _) = ⊥
 
--- a repository applied the next item of a link, whose frame stays on the wire
-abbrev pub Logs : State → ℕ → ℕ → Effect → State → Type 0
-Logs old from to effect new = (item : Item)
-    × (slice_get (items_on_link old from to) (applied_count old from to) ≡ Some item)
-    × (effect ≡ effect_of item)
-    × (new ≡ record old { logs = slice_set old.logs to (log_of old to ++ record { sender = from; item = item } ∷ []) })
+-- the party whose repository applies the next item of a link can submit the answer that this calls for, if it does
+abbrev pub IsAnswerable : State → ℕ → ℕ → Type 0
+IsAnswerable st from to = is_answer_busy st to (next_answer st from to (next_item st from to)) ≡ false
 
--- a repository applied the next item of a link, and its frame was taken off the wire
-abbrev pub Applies : State → ℕ → ℕ → Effect → State → Type 0
-Applies old from to effect new = (between : State) × Logs old from to effect between
-    × (new ≡ with_wire between from to (drop 1 (wire_of between from to)))
+-- a repository applied the next item of a link, whose frame stays on the wire
+abbrev pub Logs : State → ℕ → ℕ → Effect → Option ℕ → State → Type 0
+Logs old from to effect number new = (item : Item)
+    × (next_item old from to ≡ Some item)
+    × (effect ≡ effect_of (log_of old to) (entry_from from item))
+    × (number ≡ answer_number (submissions_of old to) (answer_to (log_of old to) (entry_from from item)))
+    × (new ≡ with_applied old to (entry_from from item) (answer_to (log_of old to) (entry_from from item)))
 
 -- the hub's refusal of the next message of a party is that of the list machine, and nothing changed
 abbrev pub RouteRefuses : State → ℕ → RouteFault → State → Type 0

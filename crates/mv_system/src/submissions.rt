@@ -1,9 +1,15 @@
 //! What one party submitted.
 
-ghost use Rattle.std.specs.Prelude.{◌≡◌, ◌∷◌, [], ◌++◌, length, slice_get, OnOk, OnErr};
+ghost use Rattle.std.specs.Prelude.{◌≡◌, ◌≤◌, ◌∷◌, [], ◌++◌, length, slice_get, option_to_list, IfOk, OnOk, OnErr};
 ghost use Rattle.std.specs.Option.{option_copied};
+ghost use Rattle.mv_repository.specs.Effect.{effect_of};
+ghost use Rattle.mv_repository.specs.Query.{answer_to};
+ghost use Rattle.mv_repository.specs.Repository.{with_applied};
+ghost use Rattle.mv_machine.specs.Steps.{answer_number, entry_from};
 
-use mv_message::Message;
+use mv_link::Item;
+use mv_message::{Message, Party};
+use mv_repository::{Effect, Repository};
 use std::alloc::{AllocError, Global};
 use std::marker::Model;
 
@@ -61,5 +67,38 @@ impl Submissions {
         };
         self.messages.push(message)?;
         Ok(())
+    }
+
+    /// Applies an item to the repository of the party, and adds the answer that it calls for: both, or neither where memory
+    /// is refused. Answers the effect, and the number of the answer among the submissions, from one.
+    pub(crate) fn apply(
+        &mut self,
+        repository: &mut Repository,
+        from: Party,
+        item: &Item,
+    ) -> Result<(Effect, Option<u32>), AllocError>
+        requires { length self.old ≤ 1000000 }
+        ensures effect { IfOk result (λ applied.
+            applied.0 ≡ effect_of repository.old.log (entry_from from item.now)) }
+        ensures number { IfOk result (λ applied. applied.1
+            ≡ answer_number self.old (answer_to repository.old.log (entry_from from item.now))) }
+        ensures submitted { OnOk result (self.new ≡ self.old
+            ++ option_to_list (answer_to repository.old.log (entry_from from item.now))) }
+        ensures applied { OnOk result (repository.new
+            ≡ with_applied repository.old from item.now) }
+        ensures err { OnErr result (self.new ≡ self.old) }
+        ensures unapplied { OnErr result (repository.new ≡ repository.old) }
+    {
+        self.messages.reserve(1)?;
+        let count = self.messages.len() as u32;
+        let (effect, answer) = repository.apply(from, item)?;
+        // Nothing fails from here on.
+        match answer {
+            None => Ok((effect, None)),
+            Some(answer) => {
+                self.messages.push_reserved(answer);
+                Ok((effect, Some(count + 1)))
+            }
+        }
     }
 }

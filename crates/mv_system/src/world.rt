@@ -4,9 +4,11 @@ ghost use Rattle.std.specs.Prelude.{◌≡◌, ◌<◌, ◌≤◌, ℕ, List, le
 ghost use mathlib.Core.List.{IsPrefix};
 ghost use Rattle.mv_hub.specs.Record.{routed_from};
 ghost use Rattle.mv_repository.specs.Log.{items_from};
+ghost use Rattle.mv_repository.specs.Query.{answers_of};
 ghost use Rattle.mv_machine.specs.State.{opening, is_party, submissions_of, log_of, items_on};
-ghost use Rattle.mv_machine.specs.Runs.{Allows, Runs};
-ghost use Rattle.mv_machine.specs.Lawful.{IsLawful, IsWellFormed};
+ghost use Rattle.mv_machine.specs.Steps.{ask};
+ghost use Rattle.mv_machine.specs.Runs.{Meets, Allows, Runs};
+ghost use Rattle.mv_machine.specs.Lawful.{answers_in, IsLawful, IsWellFormed};
 ghost use Rattle.mv_machine.specs.Closing.{NothingRoutedLater, NothingSubmittedLater};
 ghost use Rattle.mv_system.specs.Wire.{new_wire};
 
@@ -17,6 +19,7 @@ use mv_hub::{Entry, Hub, Parties};
 use mv_link::Incoming;
 use mv_machine::{Limits, Reply, Step};
 use mv_message::{Message, Party};
+use mv_pack::PackKey;
 use mv_pairs::PairTable;
 use mv_repository::{LogEntry, Repository};
 use std::alloc::{AllocError, Global};
@@ -147,11 +150,29 @@ impl World {
         reply
     }
 
+    /// Asks the other repositories about a pack, without a look at the party's own: the query is the last that the party
+    /// submitted.
+    ///
+    /// The first of these that holds is the refusal, and then nothing has changed: S1, there is no such party; S3, its uplink
+    /// is full; S4, it has submitted as many messages as it may; S14, memory was refused.
+    pub fn ask(&mut self, party: Party, key: &PackKey) -> Reply
+        ensures asked { Meets self.old (ask self.old party key.now) result self.new }
+        ensures closed { NothingSubmittedLater self.old self.new }
+        ensures well_formed { IsWellFormed self.new }
+        ensures lawful { IsLawful self.new }
+    {
+        self.check_lawful();
+        let reply = self.take_query(party, key);
+        self.check_lawful();
+        reply
+    }
+
     /// Takes steps in order. Refused for want of memory, it has taken none.
     ///
     /// Whatever the steps and whatever their order: what each repository applied from each sender is a prefix of what the
     /// record put on their link for the markets that it serves, in order and each once, and what was routed from a sender is
-    /// a prefix of what it submitted. Where a link was closed before these steps, nothing is applied over it that was submitted
+    /// a prefix of what it submitted. The answers that a party submitted are those that the log of its repository calls for, in
+    /// order. Where a link was closed before these steps, nothing is applied over it that was submitted
     /// during them; and over no link is anything applied that was routed after its closing.
     pub fn run(&mut self, steps: &[Step]) -> Result<Vec<Reply>, AllocError>
         ensures run { IfOk result (λ replies. Runs self.old steps.now replies.items self.new) }
@@ -159,6 +180,8 @@ impl World {
             → IsPrefix (items_from (log_of self.new to) from) (items_on self.new from to) }
         ensures routed { (party : ℕ) → party < length self.new.parties
             → IsPrefix (routed_from self.new.entries party) (submissions_of self.new party) }
+        ensures answered { (party : ℕ) → party < length self.new.parties
+            → answers_in (submissions_of self.new party) ≡ answers_of (log_of self.new party) }
         ensures closed { NothingSubmittedLater self.old self.new }
         ensures closing { NothingRoutedLater self.new }
         ensures well_formed { IsWellFormed self.new }

@@ -6,9 +6,11 @@ ghost use Rattle.mv_link.specs.Frames.{IsFrameOf};
 ghost use Rattle.mv_hub.specs.declared.entry.Entry.TheVariants.{Closed};
 ghost use Rattle.mv_hub.specs.Record.{routed_count, is_open};
 ghost use Rattle.mv_machine.specs.State.{is_party, are_parties, submissions_of, waiting_of, sent_of, wire_of, log_of, items_on, applied_count, with_wire};
-ghost use Rattle.mv_machine.specs.Steps.{route, is_unsent, is_gone};
-ghost use Rattle.mv_machine.specs.declared.reply.Reply.TheVariants.{Routed};
-ghost use Rattle.mv_system.specs.World.{RouteRefuses, RelayFails, RepeatFails, CloseFails, Logs, Applies};
+ghost use Rattle.mv_machine.specs.Steps.{route, apply, is_unsent, is_gone, next_item};
+ghost use Rattle.mv_machine.specs.Replies.{takes_memory};
+ghost use Rattle.mv_machine.specs.Lawful.{answers_in};
+ghost use Rattle.mv_machine.specs.declared.reply.Reply.TheVariants.{Routed, Applied};
+ghost use Rattle.mv_system.specs.World.{RouteRefuses, RelayFails, RepeatFails, CloseFails, IsAnswerable, Logs};
 
 use crate::world::World;
 use mv_hub::{HubFault, RouteFault};
@@ -26,6 +28,7 @@ impl World {
     ) -> Result<(), AllocError>
         requires party { IsTrue (is_party self.old from) }
         requires room { length (submissions_of self.old from) < self.old.limits.submissions }
+        requires own { answers_in (message.now ∷ []) ≡ [] }
         ensures ok { OnOk result (self.new ≡ record self.old {
           submissions = slice_set self.old.submissions from (submissions_of self.old from ++ message.now ∷ []);
         }) }
@@ -165,34 +168,44 @@ impl World {
         wire.drop_front();
     }
 
-    /// Applies the frame in front of a wire, which is the next of its link and stays on the wire.
-    fn log_front(&mut self, from: Party, to: Party) -> Result<Effect, AllocError>
+    /// Applies the frame in front of a wire, which is the next of its link and stays on the wire, and submits the answer that
+    /// it calls for.
+    fn log_front(&mut self, from: Party, to: Party) -> Result<(Effect, Option<u32>), AllocError>
         requires parties { IsTrue (are_parties self.old from to) }
         requires next { slice_get (wire_of self.old from to) 0 ≡ Some (applied_count self.old from to + 1) }
-        ensures member { IsSome (slice_get (items_on self.old from to) (applied_count self.old from to)) }
-        ensures ok { IfOk result (λ effect. Logs self.old from to effect self.new) }
+        requires answerable { IsAnswerable self.old from to }
+        ensures member { IsSome (next_item self.old from to) }
+        ensures ok { IfOk result (λ applied. Logs self.old from to applied.0 applied.1 self.new) }
         ensures err { OnErr result (self.new ≡ self.old) }
     {
         let Some(frame) = self.wires.at(from, to).front() else {
             unreachable!();
         };
         let repository = &mut self.repositories[to as usize];
-        let effect = repository.apply(from, &frame.item)?;
+        let submissions = &mut self.submissions[to as usize];
+        let applied = submissions.apply(repository, from, &frame.item)?;
         let incoming = self.accepted.at_mut(from, to);
         incoming.advance();
-        Ok(effect)
+        Ok(applied)
     }
 
-    /// Applies the frame in front of a wire, which is the next of its link, and takes it away.
-    pub(super) fn put_applied(&mut self, from: Party, to: Party) -> Result<Effect, AllocError>
+    /// Applies the frame in front of a wire, which is the next of its link, takes it away, and submits the answer that it
+    /// calls for.
+    pub(super) fn put_applied(
+        &mut self,
+        from: Party,
+        to: Party,
+    ) -> Result<(Effect, Option<u32>), AllocError>
         requires parties { IsTrue (are_parties self.old from to) }
         requires next { slice_get (wire_of self.old from to) 0 ≡ Some (applied_count self.old from to + 1) }
-        ensures member { IsSome (slice_get (items_on self.old from to) (applied_count self.old from to)) }
-        ensures ok { IfOk result (λ effect. Applies self.old from to effect self.new) }
+        requires answerable { IsAnswerable self.old from to }
+        ensures ok { IfOk result (λ applied. apply self.old from to
+            ≡ record { reply = Applied (applied_count self.old from to + 1) applied.0 applied.1; state = self.new }) }
+        ensures memory { IsTrue (takes_memory (apply self.old from to).reply) }
         ensures err { OnErr result (self.new ≡ self.old) }
     {
-        let effect = self.log_front(from, to)?;
+        let applied = self.log_front(from, to)?;
         self.drop_front(from, to);
-        Ok(effect)
+        Ok(applied)
     }
 }

@@ -1,14 +1,18 @@
 //! The steps: each asks the readers and makes one change. No step opens a field.
 
-ghost use Rattle.std.specs.Prelude.{◌≡◌};
-ghost use Rattle.mv_machine.specs.Runs.{Allows};
-ghost use Rattle.mv_machine.specs.Steps.{is_taken_message};
+ghost use Rattle.std.specs.Prelude.{◌≡◌, ◌∷◌, [], false};
+ghost use Rattle.mv_message.specs.Kinds.{is_query_or_answer};
+ghost use Rattle.mv_machine.specs.Runs.{Meets, Allows};
+ghost use Rattle.mv_machine.specs.Steps.{ask};
+ghost use Rattle.mv_machine.specs.Lawful.{answers_in};
 ghost use Rattle.mv_machine.specs.declared.step.Step.{Step as AStep};
 
 use crate::world::World;
 use mv_hub::{HubFault, RouteFault};
 use mv_machine::{Refusal, Reply, Step};
 use mv_message::{Message, Party};
+use mv_pack::PackKey;
+use mv_repository::Local;
 
 impl World {
     /// Takes one step.
@@ -17,33 +21,34 @@ impl World {
     {
         match step {
             Step::Submit { from, message } => self.submit(*from, message),
+            Step::Verify { party, key } => self.verify(*party, key),
             Step::Route { from } => self.route(*from),
             Step::Relay { from, to } => self.relay(*from, *to),
             Step::Apply { from, to } => self.apply(*from, *to),
             Step::Repeat { from, to, number } => self.repeat(*from, *to, *number),
             Step::Close { from, to } => self.close(*from, *to),
             Step::Lose { from, to } => self.lose(*from, *to),
+            Step::Verdict { party, q } => self.verdict(*party, *q),
         }
     }
 
-    #[tactic(auto, unfolding(mv_machine::specs::Runs::Allows, mv_machine::specs::Steps::submit))]
+    #[tactic(auto, unfolding(mv_machine::specs::Runs::Allows, mv_machine::specs::Runs::Meets, mv_machine::specs::Steps::submit))]
     fn submit(&mut self, from: Party, message: &Message) -> Reply
         ensures { Allows self.old (Step.Submit from message.now) result self.new }
     {
         if !self.is_party(from) {
             return Reply::Refused(Refusal::Party);
         }
-        if !is_taken_message(message) {
+        if is_query_or_answer(message) {
             return Reply::Refused(Refusal::NotYours);
         }
-        let limits = self.limits();
-        if self.waiting_count(from) == limits.uplink() as usize {
+        if self.is_uplink_full(from) {
             return Reply::Refused(Refusal::UplinkFull);
         }
-        let count = self.submission_count(from);
-        if count == limits.submissions() as usize {
+        if self.is_sender_full(from) {
             return Reply::Refused(Refusal::SenderFull);
         }
+        let count = self.submission_count(from);
         let Ok(()) = self.put_submission(from, message) else {
             return Reply::Refused(Refusal::Memory);
         };
@@ -52,7 +57,44 @@ impl World {
         }
     }
 
-    #[tactic(auto, unfolding(mv_machine::specs::Runs::Allows, mv_machine::specs::Steps::route))]
+    #[tactic(auto, unfolding(mv_machine::specs::Runs::Allows, mv_machine::specs::Runs::Meets, mv_machine::specs::Steps::verify))]
+    fn verify(&mut self, party: Party, key: &PackKey) -> Reply
+        ensures { Allows self.old (Step.Verify party key.now) result self.new }
+    {
+        if !self.is_party(party) {
+            return Reply::Refused(Refusal::Party);
+        }
+        match self.local_verdict(party, key) {
+            Local::Known(verdict) => Reply::Known(verdict),
+            Local::Absent => self.take_query(party, key),
+        }
+    }
+
+    /// Submits a query of a pack, without a look at the party's own repository.
+    #[tactic(auto, unfolding(mv_machine::specs::Runs::Meets, mv_machine::specs::Steps::ask))]
+    pub(super) fn take_query(&mut self, party: Party, key: &PackKey) -> Reply
+        ensures { Meets self.old (ask self.old party key.now) result self.new }
+    {
+        if !self.is_party(party) {
+            return Reply::Refused(Refusal::Party);
+        }
+        if self.is_uplink_full(party) {
+            return Reply::Refused(Refusal::UplinkFull);
+        }
+        if self.is_sender_full(party) {
+            return Reply::Refused(Refusal::SenderFull);
+        }
+        let count = self.submission_count(party);
+        let query = Message::Query { key: key.copy() };
+        let Ok(()) = self.put_submission(party, &query) else {
+            return Reply::Refused(Refusal::Memory);
+        };
+        Reply::Asked {
+            q: count as u32 + 1,
+        }
+    }
+
+    #[tactic(auto, unfolding(mv_machine::specs::Runs::Allows, mv_machine::specs::Runs::Meets, mv_machine::specs::Steps::route))]
     fn route(&mut self, from: Party) -> Reply
         ensures { Allows self.old (Step.Route from) result self.new }
     {
@@ -69,7 +111,7 @@ impl World {
         }
     }
 
-    #[tactic(auto, unfolding(mv_machine::specs::Runs::Allows, mv_machine::specs::Steps::relay))]
+    #[tactic(auto, unfolding(mv_machine::specs::Runs::Allows, mv_machine::specs::Runs::Meets, mv_machine::specs::Steps::relay))]
     fn relay(&mut self, from: Party, to: Party) -> Reply
         ensures { Allows self.old (Step.Relay from to) result self.new }
     {
@@ -86,7 +128,7 @@ impl World {
         }
     }
 
-    #[tactic(auto, unfolding(mv_machine::specs::Runs::Allows, mv_machine::specs::Steps::apply, mv_machine::specs::Steps::apply_front))]
+    #[tactic(auto, unfolding(mv_machine::specs::Runs::Allows, mv_machine::specs::Runs::Meets, mv_machine::specs::Steps::apply, mv_machine::specs::Steps::apply_front))]
     fn apply(&mut self, from: Party, to: Party) -> Reply
         ensures { Allows self.old (Step.Apply from to) result self.new }
     {
@@ -106,13 +148,20 @@ impl World {
             self.drop_front(from, to);
             return Reply::Gap { number, expected };
         }
-        let Ok(effect) = self.put_applied(from, to) else {
+        if self.is_answer_busy(from, to) {
+            return Reply::Refused(Refusal::AnswerBusy);
+        }
+        let Ok((effect, answer)) = self.put_applied(from, to) else {
             return Reply::Refused(Refusal::Memory);
         };
-        Reply::Applied { number, effect }
+        Reply::Applied {
+            number,
+            effect,
+            answer,
+        }
     }
 
-    #[tactic(auto, unfolding(mv_machine::specs::Runs::Allows, mv_machine::specs::Steps::repeat))]
+    #[tactic(auto, unfolding(mv_machine::specs::Runs::Allows, mv_machine::specs::Runs::Meets, mv_machine::specs::Steps::repeat))]
     fn repeat(&mut self, from: Party, to: Party, number: u32) -> Reply
         ensures { Allows self.old (Step.Repeat from to number) result self.new }
     {
@@ -130,7 +179,7 @@ impl World {
         }
     }
 
-    #[tactic(auto, unfolding(mv_machine::specs::Runs::Allows, mv_machine::specs::Steps::close))]
+    #[tactic(auto, unfolding(mv_machine::specs::Runs::Allows, mv_machine::specs::Runs::Meets, mv_machine::specs::Steps::close))]
     fn close(&mut self, from: Party, to: Party) -> Reply
         ensures { Allows self.old (Step.Close from to) result self.new }
     {
@@ -144,7 +193,7 @@ impl World {
         }
     }
 
-    #[tactic(auto, unfolding(mv_machine::specs::Runs::Allows, mv_machine::specs::Steps::lose))]
+    #[tactic(auto, unfolding(mv_machine::specs::Runs::Allows, mv_machine::specs::Runs::Meets, mv_machine::specs::Steps::lose))]
     fn lose(&mut self, from: Party, to: Party) -> Reply
         ensures { Allows self.old (Step.Lose from to) result self.new }
     {
@@ -159,11 +208,22 @@ impl World {
             }
         }
     }
+
+    #[tactic(auto, unfolding(mv_machine::specs::Runs::Allows, mv_machine::specs::Runs::Meets, mv_machine::specs::Steps::verdict))]
+    fn verdict(&mut self, party: Party, q: u32) -> Reply
+        ensures { Allows self.old (Step.Verdict party q) result self.new }
+    {
+        if !self.is_party(party) {
+            return Reply::Refused(Refusal::Party);
+        }
+        Reply::Joint(self.joint_verdict(party, q))
+    }
 }
 
-/// Whether a message is one that a party submits.
-fn is_taken_message(message: &Message) -> bool
-    ensures { result ≡ is_taken_message message.now }
+/// Whether a message is a query or an answer, which the system submits by itself.
+fn is_query_or_answer(message: &Message) -> bool
+    ensures value { result ≡ is_query_or_answer message.now }
+    ensures other { result ≡ false → answers_in (message.now ∷ []) ≡ [] }
 {
-    matches!(message, Message::Master { .. })
+    matches!(message, Message::Query { .. } | Message::Answer { .. })
 }

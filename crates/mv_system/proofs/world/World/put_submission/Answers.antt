@@ -19,4 +19,4 @@ invariant_of-self-2 c =
     let new : c.push.new.self ≡ old ++ message ∷ [] = c.in_ok-push.ensures.ok ∙ ap (λ l. l ++ message ∷ []) at in
     let room : length old < a.limits.submissions = subst (λ (t : State). length (submissions_of t from) < t.limits.submissions) (sym c.self.view_is) c.requires.room in
     subst (λ l. IsSystem (parts_of a.limits a.hub (set a.submissions.items from l) a.wires a.accepted a.repositories.items)) (sym new)
-    (submissions_kept p from (old ++ message ∷ []) c.self.invariant (submitted-sound (state_of p) from message (sound_of p c.self.invariant)) (omega (arith, room, length-append old (message ∷ []))))
+    (submissions_kept p from (old ++ message ∷ []) c.self.invariant (submitted-sound (state_of p) from message (sound_of p c.self.invariant) c.requires.own) (omega (arith, room, length-append old (message ∷ []))))

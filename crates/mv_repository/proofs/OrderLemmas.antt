@@ -1,7 +1,10 @@
 -- Lemmas on the order of stamps.
 use Rattle.std.proofs.Common.{◌≡◌, ℕ, suc, ◌+◌, ◌<◌, ◌≤◌, List, [], ◌∷◌, ◌++◌, length, refl, ◌∙◌, ap, subst, arith, Bool, true, false, cond, ◌&&◌, ◌||◌, nat_lt, ◌==◌}
 use Rattle.std.specs.Bool.{⊤}
-use Rattle.std.specs.Prelude.{slice_get, Some}
+use Rattle.std.specs.Prelude.{slice_get, Some, get_or}
+use Rattle.std.proofs.lemmas.Option.{slice_get_within, get_or_from_slice_get}
+use Rattle.std.proofs.lemmas.List.{get_or_append_left}
+use Rattle.mv_repository.specs.Stops.{no_entry}
 use Rattle.std.proofs.lemmas.Bool.Decides.{nat_tests}
 use Rattle.mv_repository.specs.declared.entry.LogEntry.{LogEntry}
 use Rattle.mv_repository.specs.Order.{Placed, rank, passes, put_in, ordered_after, ordered, stands_before, StandsBeforeAll, Ascends, AreOf, IsOrderOf}
@@ -29,15 +32,36 @@ passed x y e = passed_stamps (rank x.entry.item) (rank y.entry.item) x.place y.p
 kept : (x y : Placed) → passes x y ≡ false → y.place < x.place → stands_before y x ≡ true
 kept x y e h = kept_stamps (rank x.entry.item) (rank y.entry.item) x.place y.place e h
 
-over : (x y z : Placed) → passes x y ≡ true → stands_before y z ≡ true → stands_before x z ≡ true
+-- what passes an entry stands before all that stand behind it
+pub over : (x y z : Placed) → passes x y ≡ true → stands_before y z ≡ true → stands_before x z ≡ true
 over x y z e f = over_stamps (rank x.entry.item) (rank y.entry.item) (rank z.entry.item) x.place y.place z.place e f
 
 -- what passes an entry passes all that stand behind it
 pub passes_behind : (x y z : Placed) → passes x y ≡ true → stands_before y z ≡ true → passes x z ≡ true
 passes_behind x y z e f = passes_stamps (rank x.entry.item) (rank y.entry.item) (rank z.entry.item) y.place z.place e f
 
+asym_stamps : (a b m n : ℕ) → (nat_lt a b || (a == b && nat_lt m n)) ≡ true → (nat_lt b a || (b == a && nat_lt n m)) ≡ false
+asym_stamps a b m n e = grind (arith, nat_tests)
+
+self_stamps : (a m : ℕ) → (nat_lt a a || (a == a && nat_lt m m)) ≡ false
+self_stamps a m = grind (arith, nat_tests)
+
+behind_stamps : (a b m n : ℕ) → (nat_lt a b || (a == b && nat_lt m n)) ≡ true → nat_lt b a ≡ false
+behind_stamps a b m n e = grind (arith, nat_tests)
+
+-- of two entries one stands before the other at most
+pub stands-asym : (x y : Placed) → stands_before x y ≡ true → stands_before y x ≡ false
+stands-asym x y e = asym_stamps (rank x.entry.item) (rank y.entry.item) x.place y.place e
+
+pub stands-self : (x : Placed) → stands_before x x ≡ false
+stands-self x = self_stamps (rank x.entry.item) x.place
+
+-- what stands behind an entry does not pass it
+pub behind_passes : (x y : Placed) → stands_before x y ≡ true → passes y x ≡ false
+behind_passes x y e = behind_stamps (rank x.entry.item) (rank y.entry.item) x.place y.place e
+
 -- all places are below n
-abbrev AreBelow : ℕ → List Placed → Type 0
+abbrev pub AreBelow : ℕ → List Placed → Type 0
 AreBelow n [] = ⊤
 AreBelow n (first ∷ rest) = (first.place < n) × AreBelow n rest
 
@@ -143,3 +167,32 @@ order_of log = record {
   ascends = ordered-ascends log;
   count = omega (arith, length-after [] 0 log);
 }
+
+-- each entry is the one at its place in the log, also where the log is longer
+abbrev pub Stand : List LogEntry → List Placed → Type 0
+Stand log [] = ⊤
+Stand log (first ∷ rest) = (get_or log first.place no_entry ≡ first.entry) × Stand log rest
+
+get-or : (log : List LogEntry) (place : ℕ) (entry : LogEntry) → slice_get log place ≡ Some entry → get_or log place no_entry ≡ entry
+get-or log place entry e = get_or_from_slice_get log place entry no_entry e
+
+stand-of : (log : List LogEntry) (xs : List Placed) → AreOf log xs → Stand log xs
+stand-of log [] s = tt
+stand-of log (x ∷ xs) s = (get-or log x.place x.entry s.0, stand-of log xs s.1)
+
+below-of : (log : List LogEntry) (xs : List Placed) → AreOf log xs → AreBelow (length log) xs
+below-of log [] s = tt
+below-of log (x ∷ xs) s = (slice_get_within log x.place x.entry s.0, below-of log xs s.1)
+
+stand-more : (log : List LogEntry) (entry : LogEntry) (xs : List Placed) → AreBelow (length log) xs → Stand log xs → Stand (log ++ entry ∷ []) xs
+stand-more log entry [] u s = tt
+stand-more log entry (x ∷ xs) u s = (get_or_append_left log (entry ∷ []) no_entry x.place u.0 ∙ s.0, stand-more log entry xs u.1 s.1)
+
+pub ordered-below : (log : List LogEntry) → AreBelow (length log) (ordered log)
+ordered-below log = below-of log (ordered log) (ordered-of log)
+
+pub ordered-stand : (log : List LogEntry) → Stand log (ordered log)
+ordered-stand log = stand-of log (ordered log) (ordered-of log)
+
+pub still-stand : (log : List LogEntry) (entry : LogEntry) → Stand (log ++ entry ∷ []) (ordered log)
+still-stand log entry = stand-more log entry (ordered log) (ordered-below log) (ordered-stand log)

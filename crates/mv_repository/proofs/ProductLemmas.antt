@@ -8,7 +8,7 @@ use Rattle.std.specs.Option.{option_map, option_or, option_and_then}
 use Rattle.mv_message.specs.declared.message.Message.TheVariants.{Master}
 use Rattle.mv_message.specs.declared.message.Product.{Product}
 use Rattle.mv_link.specs.declared.item.Item.{Item}
-use Rattle.mv_link.specs.declared.item.Item.TheVariants.{Carried}
+use Rattle.mv_link.specs.declared.item.Item.TheVariants.{Receipt, Carried}
 use Rattle.mv_repository.specs.declared.entry.LogEntry.{LogEntry}
 use Rattle.mv_repository.specs.Order.{Placed, passes, put_in, ordered, StandsBeforeAll, Ascends, AreOf}
 use Rattle.mv_repository.specs.Keys.{is_same_text}

@@ -1,15 +1,64 @@
 -- What applying an item does, by its number.
-use Rattle.std.specs.Prelude.{ℕ, List, codes}
-use Rattle.mv_message.specs.declared.message.Message.TheVariants.{Master}
+use Rattle.std.specs.Prelude.{ℕ, ◌-◌, ◌&&◌, List, [], ◌∷◌, length, filter, not, Bool, is_some, codes, Option, Some, None, if◌then◌else◌}
+use Rattle.std.specs.Set.{distinct_count}
+use Rattle.mv_pack.specs.declared.key.PackKey.{PackKey}
+use Rattle.mv_message.specs.declared.standing.Standing.{Standing}
+use Rattle.mv_message.specs.declared.message.Message.TheVariants.{Master, Upload, Status, Recall, Withdraw}
 use Rattle.mv_link.specs.declared.item.Item.{Item}
-use Rattle.mv_link.specs.declared.item.Item.TheVariants.{Carried}
+use Rattle.mv_link.specs.declared.item.Item.TheVariants.{Receipt, Carried}
 use Rattle.mv_repository.specs.declared.effect.Effect.{Effect}
 use Rattle.mv_repository.specs.declared.effect.Effect.TheVariants as effects
+use Rattle.mv_repository.specs.declared.entry.LogEntry.{LogEntry}
+use Rattle.mv_repository.specs.Order.{Placed, passes, ordered}
+use Rattle.mv_repository.specs.Keys.{is_same_text, pack_key, batch_key}
+use Rattle.mv_repository.specs.Pack.{KnownPack, change_effect}
+use Rattle.mv_repository.specs.PackState.{batch_standing, known_pack}
 
--- the effect of an item
-abbrev pub effect_of : Item → Effect
-effect_of (Carried k stamp (Master gtin product)) = effects.Done
-effect_of _ = effects.Noted
+-- an entry that comes last, with its place in the log
+abbrev pub arriving : List LogEntry → LogEntry → Placed
+arriving log entry = record { place = length log; entry = entry }
+
+-- The entries of a log that stand before one that comes last, in the order of stamps: all but those that it passes.
+abbrev pub entries_before : List LogEntry → LogEntry → List Placed
+entries_before log entry = filter (λ placed. not (passes (arriving log entry) placed)) (ordered log)
+
+-- the serial numbers of packs that these entries don't make
+abbrev pub absent_serials : List Placed → List ℕ → List (List ℕ) → List (List ℕ)
+absent_serials before gtin serials = filter (λ serial. not (is_some (known_pack (pack_key gtin serial) before))) serials
+
+-- how many packs an upload makes; one that it names twice is made once
+abbrev pub new_count : List Placed → List ℕ → List (List ℕ) → ℕ
+new_count before gtin serials = distinct_count is_same_text (absent_serials before gtin serials)
+
+-- the effect of an upload: how many packs it makes, and how many of those that it names were there
+abbrev pub upload_effect : List Placed → List ℕ → List (List ℕ) → Effect
+upload_effect before gtin serials =
+    effects.Uploaded (new_count before gtin serials) (length serials - new_count before gtin serials)
+
+-- the effect of a status of a pack
+abbrev pub status_effect : List Placed → PackKey → Option KnownPack → Standing → ℕ → List ℕ → ℕ → Effect
+status_effect before key None to sender user at = effects.Unknown
+status_effect before key (Some held) to sender user at =
+    change_effect held (batch_standing before (batch_key key.gtin held.batch)) to sender user at
+
+-- the effect of what holds for ever: it is done once
+abbrev pub lasting_effect : Bool → Effect
+lasting_effect held_before = if held_before then effects.Noted else effects.Done
+
+-- the effect of an item from a sender, by the entries that stand before it
+abbrev pub effect_after : List Placed → ℕ → Item → Effect
+effect_after before sender (Carried k stamp (Master gtin product)) = effects.Done
+effect_after before sender (Carried k stamp (Upload gtin batch expiry national serials)) = upload_effect before gtin serials
+effect_after before sender (Carried k stamp (Status key to user at)) =
+    status_effect before key (known_pack key before) to sender user at
+effect_after before sender (Carried k stamp (Recall key at)) = lasting_effect (batch_standing before key).recalled
+effect_after before sender (Carried k stamp (Withdraw gtin at)) =
+    lasting_effect (batch_standing before (batch_key gtin [])).withdrawn
+effect_after before sender _ = effects.Noted
+
+-- the effect of an entry that comes last, at its own place in the order of stamps
+abbrev pub effect_of : List LogEntry → LogEntry → Effect
+effect_of log entry = effect_after (entries_before log entry) entry.sender entry.item
 
 -- the number of an effect
 abbrev pub code_of : Effect → List ℕ

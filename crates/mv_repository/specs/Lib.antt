@@ -2,6 +2,14 @@ pub mod Log
 pub mod Order
 pub mod Keys
 pub mod Product
-pub mod Copy
+pub mod Pack
+pub mod PackState
 pub mod Effect
+pub mod Query
+pub mod Verdict
+pub mod Counts
 pub mod Repository
+pub mod Copy
+pub mod Stops
+pub mod Track
+pub mod Tables

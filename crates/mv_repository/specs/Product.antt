@@ -3,7 +3,7 @@ use Rattle.std.specs.Prelude.{ℕ, List, [], ◌∷◌, Option, Some, None, if�
 use Rattle.mv_message.specs.declared.message.Message.TheVariants.{Master}
 use Rattle.mv_message.specs.declared.message.Product.{Product}
 use Rattle.mv_link.specs.declared.item.Item.{Item}
-use Rattle.mv_link.specs.declared.item.Item.TheVariants.{Carried}
+use Rattle.mv_link.specs.declared.item.Item.TheVariants.{Receipt, Carried}
 use Rattle.mv_repository.specs.Order.{Placed}
 use Rattle.mv_repository.specs.Keys.{is_same_text}
 

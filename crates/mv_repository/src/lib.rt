@@ -10,17 +10,22 @@ mod effect;
 mod entry;
 mod held;
 mod laws;
+mod order;
+mod packs;
 mod repository;
 mod sender;
+mod status;
+mod stops;
 #[cfg(test)]
 mod tests;
+mod track;
 mod verdict;
 
 pub use counts::Counts;
 pub use effect::Effect;
 pub use entry::LogEntry;
 pub use held::{Change, Held, REVERT_SECONDS};
-pub use laws::{one_more_is_put_in, ordered_is_the_order};
+pub use laws::{one_more_is_put_in, ordered_is_the_order, pack_is_of_its_own_entries};
 pub use repository::Repository;
 pub use sender::FromSender;
 pub use verdict::{Joint, Local, Verdict};

@@ -1,16 +1,24 @@
-//! The repository: one party's log, and the table that finds a product in it.
+//! The repository: one party's log, and the tables that say what it means.
 
-ghost use Rattle.std.specs.Prelude.{◌≡◌, ◌<◌, ℕ, List, Bool, false, OnOk, OnErr, IfOk, vec_len, vec_capacity};
+ghost use Rattle.std.specs.Prelude.{◌≡◌, ◌<◌, ◌≤◌, ℕ, List, Bool, false, OnOk, OnErr, IfOk, vec_len, vec_capacity, if◌then◌else◌};
 ghost use Rattle.std.specs.Option.{option_copied, option_map};
 ghost use Rattle.mv_repository.specs.Order.{rank, ordered};
-ghost use Rattle.mv_repository.specs.Keys.{is_same_text};
+ghost use Rattle.mv_repository.specs.Keys.{is_same_text, is_same_pack, is_same_batch};
 ghost use Rattle.mv_repository.specs.Copy.{is_master, product_in, last_master, entry_of, is_late};
+ghost use Rattle.mv_repository.specs.PackState.{has_pack};
+ghost use Rattle.mv_repository.specs.Tables.{Bears, IsUploadOf, IsUpTo};
 
-use crate::{Effect, FromSender, LogEntry};
+use crate::order::rank;
+use crate::packs::{add_status, add_uploads, ensure, ensure_all, pack, refresh_all};
+use crate::status::is_active;
+use crate::stops::Stops;
+use crate::track::{Track, copy_of};
+use crate::verdict::{is_for_destruction, verdict_when};
+use crate::{Effect, FromSender, Held, Local, LogEntry};
 use indexmap::IndexMap;
 use mv_link::Item;
-use mv_message::{Message, Party, Product};
-use mv_pack::Gtin;
+use mv_message::{Found, Message, Party, Product, Serials};
+use mv_pack::{BatchKey, Gtin, PackKey};
 use std::alloc::{AllocError, Global};
 use std::marker::Model;
 
@@ -23,22 +31,32 @@ pub struct Repository {
     log: Vec<LogEntry>,
     /// For each product code with a master, the place in the log of the last one by stamp.
     masters: IndexMap<Gtin, usize>,
+    /// For each pack that an upload or a status names, what is kept of it.
+    packs: IndexMap<PackKey, Track>,
+    /// The recalls and the withdrawals.
+    stops: Stops,
+    /// No stamp in the log is greater.
+    latest: u32,
 }
 
 impl Model for Repository {
     ghost use Rattle.mv_repository.specs.Repository.{RepositoryState};
-    ghost use Rattle.mv_repository.specs.Copy.{IsCopyOf};
+    ghost use Rattle.mv_repository.specs.Tables.{IsKept};
 
     ghost Value = { RepositoryState };
 
     ghost view = { λ a. record { party = a.party; log = a.log.items } };
 
-    ghost invariant = { λ a. IsCopyOf a.log.items a.masters.entries };
+    ghost invariant = { λ a.
+        IsKept a.log.items a.masters.entries a.packs.entries a.stops a.latest };
 }
 
 impl Repository {
     ghost use Rattle.mv_repository.specs.Repository.{new_repository, with_applied, product_of};
+    ghost use Rattle.mv_repository.specs.PackState.{pack_state, is_recalled, is_withdrawn};
     ghost use Rattle.mv_repository.specs.Effect.{effect_of};
+    ghost use Rattle.mv_repository.specs.Query.{found_of, answer_after, answer_to};
+    ghost use Rattle.mv_repository.specs.Verdict.{local_verdict};
     ghost use Rattle.mv_repository.specs.Log.{items_from};
 
     /// The repository of a party, which applied nothing. It takes no memory.
@@ -50,6 +68,9 @@ impl Repository {
             party,
             log: Vec::new(alloc),
             masters: IndexMap::new(alloc),
+            packs: IndexMap::new(alloc),
+            stops: Stops::new(alloc),
+            latest: 0,
         }
     }
 
@@ -100,20 +121,126 @@ impl Repository {
         product_in(&self.last_master(gtin)?.item)
     }
 
-    /// Applies an item that came from a party, and says what that did.
-    pub fn apply(&mut self, sender: Party, item: &Item) -> Result<Effect, AllocError>
-        ensures ok { OnOk result (self.new ≡ with_applied self.old sender item.now) }
-        ensures effect { IfOk result (λ effect. effect ≡ effect_of item.now) }
-        ensures err { OnErr result (self.new ≡ self.old) }
+    /// What a pack is; none where no upload names it. The log isn't searched.
+    pub fn pack(&self, key: &PackKey) -> Option<&Held>
+        ensures { option_copied result ≡ pack_state key.now self.now.log }
+    {
+        pack(&self.packs, key)
+    }
+
+    /// Whether a batch is recalled. The log isn't searched.
+    pub fn recalled(&self, batch: &BatchKey) -> bool
+        ensures { result ≡ is_recalled batch.now self.now.log }
+    {
+        self.stops.has_recall(batch)
+    }
+
+    /// Whether a product is withdrawn. The log isn't searched.
+    pub fn withdrawn(&self, gtin: &Gtin) -> bool
+        ensures { result ≡ is_withdrawn gtin.now self.now.log }
+    {
+        self.stops.has_withdrawal(gtin)
+    }
+
+    /// What is found of a pack.
+    fn found(&self, key: &PackKey) -> Found
+        ensures { result ≡ found_of key.now self.now.log }
+    {
+        let Some(held) = self.pack(key) else {
+            return Found::Absent;
+        };
+        let batch = BatchKey {
+            gtin: key.gtin,
+            batch: held.batch.copy(),
+        };
+        Found::Present {
+            batch: held.batch.copy(),
+            expiry: held.expiry,
+            national: copy_of(&held.national),
+            standing: held.standing,
+            recalled: self.recalled(&batch),
+            withdrawn: self.withdrawn(&key.gtin),
+        }
+    }
+
+    /// The verdict on a pack, where it is held. The log isn't searched.
+    pub fn verify(&self, key: &PackKey) -> Local
+        ensures { result ≡ local_verdict key.now self.now.log }
+    {
+        match self.found(key) {
+            Found::Absent => Local::Absent,
+            Found::Present {
+                standing,
+                recalled,
+                withdrawn,
+                ..
+            } => Local::Known(verdict_when(
+                is_active(standing),
+                recalled || withdrawn || is_for_destruction(standing),
+            )),
+        }
+    }
+
+    /// The answer that an item from a party calls for, before it is applied.
+    fn answer(&self, sender: Party, item: &Item) -> Option<Message>
+        ensures { result ≡ answer_after self.now.log sender item.now }
     {
         match item {
             Item::Carried {
-                message: Message::Master { gtin, .. },
+                k,
+                message: Message::Query { key },
                 ..
-            } => {
+            } => Some(Message::Answer {
+                asker: sender,
+                q: *k,
+                key: key.copy(),
+                found: self.found(key),
+            }),
+            _ => None,
+        }
+    }
+
+    /// Applies an item that came from a party: says what that did, at the item's own place in the order of stamps, and
+    /// gives the answer that it calls for, where it is a query. Want of memory leaves all as it was.
+    pub fn apply(
+        &mut self,
+        sender: Party,
+        item: &Item,
+    ) -> Result<(Effect, Option<Message>), AllocError>
+        ensures ok { OnOk result (self.new ≡ with_applied self.old sender item.now) }
+        ensures effect { IfOk result (λ done. done.0
+            ≡ effect_of self.old.log (record { sender = sender; item = item.now })) }
+        ensures answer { IfOk result (λ done. done.1
+            ≡ answer_to self.old.log (record { sender = sender; item = item.now })) }
+        ensures err { OnErr result (self.new ≡ self.old) }
+    {
+        let answer = self.answer(sender, item);
+        let effect = self.apply_item(sender, item)?;
+        Ok((effect, answer))
+    }
+
+    /// Applies an item, and gives its effect.
+    fn apply_item(&mut self, sender: Party, item: &Item) -> Result<Effect, AllocError>
+        ensures ok { OnOk result (self.new ≡ with_applied self.old sender item.now) }
+        ensures effect { IfOk result (λ effect. effect
+            ≡ effect_of self.old.log (record { sender = sender; item = item.now })) }
+        ensures err { OnErr result (self.new ≡ self.old) }
+    {
+        let Item::Carried { stamp, message, .. } = item else {
+            self.apply_noted(sender, item)?;
+            return Ok(Effect::Noted);
+        };
+        match message {
+            Message::Master { gtin, .. } => {
                 self.apply_master(sender, item, *gtin)?;
                 Ok(Effect::Done)
             }
+            Message::Upload { gtin, serials, .. } => {
+                self.apply_upload(sender, item, *gtin, serials)
+            }
+            Message::Status { key, .. } => self.apply_status(sender, item, key),
+            Message::Recall { key, .. } => self.apply_recall(sender, item, *stamp, key),
+            Message::Withdraw { gtin, .. } => self.apply_withdrawal(sender, item, *stamp, *gtin),
             _ => {
                 self.apply_noted(sender, item)?;
                 Ok(Effect::Noted)
@@ -123,18 +250,19 @@ impl Repository {
 
     /// Applies an item that changes no table.
     fn apply_noted(&mut self, sender: Party, item: &Item) -> Result<(), AllocError>
-        requires { (gtin : List ℕ) → is_master gtin item.now ≡ false }
+        requires { Bears item.now (λ gtin. false) (λ pack. false) (λ pack. false) (λ batch. false) (λ gtin. false) }
         ensures ok { OnOk result (self.new ≡ with_applied self.old sender item.now) }
         ensures err { OnErr result (self.new ≡ self.old) }
     {
         let entry = ready_entry(self.alloc, &mut self.log, sender, item)?;
         self.log.push_reserved(entry);
+        self.latest = latest_with(self.latest, item);
         Ok(())
     }
 
     /// Applies a master of a code. Where it is the last by stamp it is the one that the table finds.
     fn apply_master(&mut self, sender: Party, item: &Item, gtin: Gtin) -> Result<(), AllocError>
-        requires { (other : List ℕ) → is_master other item.now ≡ is_same_text gtin other }
+        requires { Bears item.now (is_same_text gtin) (λ pack. false) (λ pack. false) (λ batch. false) (λ gtin. false) }
         ensures ok { OnOk result (self.new ≡ with_applied self.old sender item.now) }
         ensures err { OnErr result (self.new ≡ self.old) }
     {
@@ -144,7 +272,163 @@ impl Repository {
             self.masters.insert(gtin, place)?;
         }
         self.log.push_reserved(entry);
+        self.latest = latest_with(self.latest, item);
         Ok(())
+    }
+
+    /// Applies an upload of packs.
+    fn apply_upload(
+        &mut self,
+        sender: Party,
+        item: &Item,
+        gtin: Gtin,
+        serials: &Serials,
+    ) -> Result<Effect, AllocError>
+        requires bears { Bears item.now (λ gtin. false) (has_pack gtin serials.now) (λ pack. false) (λ batch. false) (λ gtin. false) }
+        requires upload { IsUploadOf item.now gtin serials.now }
+        ensures ok { OnOk result (self.new ≡ with_applied self.old sender item.now) }
+        ensures effect { IfOk result (λ effect. effect
+            ≡ effect_of self.old.log (record { sender = sender; item = item.now })) }
+        ensures err { OnErr result (self.new ≡ self.old) }
+    {
+        let entry = ready_entry(self.alloc, &mut self.log, sender, item)?;
+        ensure_all(&mut self.packs, self.alloc, gtin, serials.as_slice())?;
+        let new = self.log.len();
+        self.log.push_reserved(entry);
+        let serials = serials.as_slice();
+        let count = add_uploads(
+            &mut self.packs,
+            self.log.as_slice(),
+            &self.stops,
+            gtin,
+            serials,
+            new,
+        );
+        self.latest = latest_with(self.latest, item);
+        Ok(Effect::Uploaded {
+            new: count as u64,
+            old: (serials.len() - count) as u64,
+        })
+    }
+
+    /// Applies a status of a pack.
+    fn apply_status(
+        &mut self,
+        sender: Party,
+        item: &Item,
+        key: &PackKey,
+    ) -> Result<Effect, AllocError>
+        requires { Bears item.now (λ gtin. false) (λ pack. false) (is_same_pack key.now) (λ batch. false) (λ gtin. false) }
+        ensures ok { OnOk result (self.new ≡ with_applied self.old sender item.now) }
+        ensures effect { IfOk result (λ effect. effect
+            ≡ effect_of self.old.log (record { sender = sender; item = item.now })) }
+        ensures err { OnErr result (self.new ≡ self.old) }
+    {
+        let entry = ready_entry(self.alloc, &mut self.log, sender, item)?;
+        ensure(&mut self.packs, self.alloc, key.copy())?;
+        let new = self.log.len();
+        self.log.push_reserved(entry);
+        match add_status(&mut self.packs, self.log.as_slice(), &self.stops, key, new) {
+            Ok(effect) => {
+                self.latest = latest_with(self.latest, item);
+                Ok(effect)
+            }
+            Err(error) => {
+                self.log.pop();
+                Err(error)
+            }
+        }
+    }
+
+    /// Applies a recall of a batch. One that comes late bears on packs that were worked out before.
+    fn apply_recall(
+        &mut self,
+        sender: Party,
+        item: &Item,
+        stamp: u32,
+        batch: &BatchKey,
+    ) -> Result<Effect, AllocError>
+        requires stamp { rank item.now ≡ stamp }
+        requires bears { Bears item.now (λ gtin. false) (λ pack. false) (λ pack. false) (is_same_batch batch.now) (λ gtin. false) }
+        ensures ok { OnOk result (self.new ≡ with_applied self.old sender item.now) }
+        ensures effect { IfOk result (λ effect. effect
+            ≡ effect_of self.old.log (record { sender = sender; item = item.now })) }
+        ensures err { OnErr result (self.new ≡ self.old) }
+    {
+        let entry = ready_entry(self.alloc, &mut self.log, sender, item)?;
+        let new = self.log.len();
+        self.log.push_reserved(entry);
+        let effect = match self
+            .stops
+            .add_recall(self.log.as_slice(), batch.copy(), new)
+        {
+            Ok(first) => lasting_effect(first),
+            Err(error) => {
+                self.log.pop();
+                return Err(error);
+            }
+        };
+        if self.latest <= stamp {
+            self.latest = stamp;
+            return Ok(effect);
+        }
+        refresh_all(&mut self.packs, self.log.as_slice(), &self.stops);
+        Ok(effect)
+    }
+
+    /// Applies a withdrawal of a product. One that comes late bears on packs that were worked out before.
+    fn apply_withdrawal(
+        &mut self,
+        sender: Party,
+        item: &Item,
+        stamp: u32,
+        gtin: Gtin,
+    ) -> Result<Effect, AllocError>
+        requires stamp { rank item.now ≡ stamp }
+        requires bears { Bears item.now (λ gtin. false) (λ pack. false) (λ pack. false) (λ batch. false) (is_same_text gtin) }
+        ensures ok { OnOk result (self.new ≡ with_applied self.old sender item.now) }
+        ensures effect { IfOk result (λ effect. effect
+            ≡ effect_of self.old.log (record { sender = sender; item = item.now })) }
+        ensures err { OnErr result (self.new ≡ self.old) }
+    {
+        let entry = ready_entry(self.alloc, &mut self.log, sender, item)?;
+        let new = self.log.len();
+        self.log.push_reserved(entry);
+        let effect = match self.stops.add_withdrawal(self.log.as_slice(), gtin, new) {
+            Ok(first) => lasting_effect(first),
+            Err(error) => {
+                self.log.pop();
+                return Err(error);
+            }
+        };
+        if self.latest <= stamp {
+            self.latest = stamp;
+            return Ok(effect);
+        }
+        refresh_all(&mut self.packs, self.log.as_slice(), &self.stops);
+        Ok(effect)
+    }
+}
+
+/// The effect of a recall or a withdrawal, which is the first of its kind or not.
+fn lasting_effect(is_first: bool) -> Effect
+    ensures { result ≡ (if is_first then Effect.Done else Effect.Noted) }
+{
+    if is_first {
+        Effect::Done
+    } else {
+        Effect::Noted
+    }
+}
+
+/// The greatest stamp, once an item comes.
+fn latest_with(latest: u32, item: &Item) -> u32
+    ensures before { latest ≤ result }
+    ensures item { IsUpTo result item.now }
+{
+    match item {
+        Item::Carried { stamp, .. } => { if latest < *stamp { *stamp } else { latest } }
+        Item::Receipt { .. } => latest,
     }
 }
 
@@ -164,16 +448,6 @@ fn ready_entry(
     };
     log.reserve(1)?;
     Ok(LogEntry { sender, item })
-}
-
-/// Where an item stands: by its stamp, and receipts behind every stamp.
-fn rank(item: &Item) -> u64
-    ensures { result ≡ rank item.now }
-{
-    match item {
-        Item::Carried { stamp, .. } => u64::from(*stamp),
-        Item::Receipt { .. } => 1 << 32,
-    }
 }
 
 /// The product that an item describes.

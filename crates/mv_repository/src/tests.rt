@@ -53,7 +53,9 @@ fn keeps_the_master_with_the_greatest_stamp(rt: HostRuntime) -> Result<(), Fail>
         (9, "Last", "Last"),
     ] {
         let item = master(alloc, stamp, gtin, name)?;
-        assert_eq!(rt; repository.apply(0, &item)?, Effect::Done);
+        let (effect, answer) = repository.apply(0, &item)?;
+        assert_eq!(rt; effect, Effect::Done);
+        assert!(rt; answer.is_none());
         assert!(rt; is_named(&repository, &gtin, known));
     }
     Ok(())
@@ -68,7 +70,8 @@ fn keeps_its_log_in_the_order_of_arrival(rt: HostRuntime) -> Result<(), Fail> {
             reach: Reach::new(ArrayVec::new()),
             query: false,
         };
-        assert_eq!(rt; repository.apply(sender, &item)?, Effect::Noted);
+        let (effect, _) = repository.apply(sender, &item)?;
+        assert_eq!(rt; effect, Effect::Noted);
     }
     assert_eq!(rt; repository.party(), 1);
     assert_eq!(rt; repository.log().len(), 3);

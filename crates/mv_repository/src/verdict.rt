@@ -1,5 +1,10 @@
 //! Verdicts on packs: authentic or not.
 
+ghost use Rattle.std.specs.Prelude.{◌≡◌};
+ghost use Rattle.mv_repository.specs.Verdict.{is_for_destruction, verdict_when};
+
+use mv_message::Standing;
+
 /// Whether a pack is authentic.
 #[derive(Clone, Copy, Debug, PartialEq, Eq)]
 pub enum Verdict {
@@ -27,4 +32,27 @@ pub enum Joint {
     Pending { left: u32 },
     /// All have answered, and this is the verdict.
     Decided(Verdict),
+}
+
+/// Whether a pack is to be destroyed.
+pub(crate) fn is_for_destruction(standing: Standing) -> bool
+    ensures { result ≡ is_for_destruction standing }
+{
+    match standing {
+        Standing::Destruction => true,
+        _ => false,
+    }
+}
+
+/// The verdict where a pack was found active or not, and stopped or not.
+pub(crate) fn verdict_when(active: bool, stopped: bool) -> Verdict
+    ensures { result ≡ verdict_when active stopped }
+{
+    if active {
+        Verdict::Authentic
+    } else {
+        Verdict::NotAuthentic {
+            falsification: !stopped,
+        }
+    }
 }

@@ -1,0 +1,227 @@
+-- Lemmas on the table of packs.
+use Rattle.std.proofs.Common.{◌≡◌, ℕ, zero, suc, ◌+◌, ◌<◌, ◌≤◌, List, [], ◌∷◌, length, get_or, take, refl, sym, ◌∙◌, ap, arith, Bool, true, false, cond, ◌&&◌, ◌||◌, nat_lt, Option, Some, None, is_some, IsSome, true≢false, subst, slice_get}
+use Rattle.std.proofs.lemmas.Bool.Decides.{nat_tests}
+use Rattle.std.specs.List.{list_any}
+use Rattle.std.specs.Map.{lookup, keys_of}
+use Rattle.std.specs.Option.{unwrap_or}
+use Rattle.std.specs.Cmp.Lexicographic.{same_text, nat_list_eq_equiv}
+use Rattle.std.proofs.lemmas.Map.Made.{is_some-lookup}
+use Rattle.std.proofs.lemmas.List.Folds.{list_any_more}
+use Rattle.std.proofs.lemmas.List.{take_all}
+use Rattle.mv_pack.specs.declared.key.PackKey.{PackKey}
+use Rattle.mv_pack.specs.declared.key.BatchKey.{BatchKey}
+use Rattle.mv_repository.specs.declared.entry.LogEntry.{LogEntry}
+use Rattle.mv_repository.specs.Keys.{is_same_text, is_same_pack, is_same_batch, pack_key, batch_key}
+use Rattle.mv_repository.specs.Order.{rank, passes}
+use Rattle.mv_repository.specs.PackState.{has_pack}
+use Rattle.mv_repository.specs.Stops.{StopTables, entry_at, comes_first, earlier_place}
+use Rattle.mv_repository.specs.Track.{Kept, nothing_kept, kept_in, with_upload, worked_out, refreshed, IsTrack, AreTracks, is_at, is_key_at}
+
+both : (a b : Bool) → (a && b) ≡ true → (a ≡ true) × (b ≡ true)
+both true true e = (refl, refl)
+both true false e = absurd (true≢false (sym e))
+both false b e = absurd (true≢false (sym e))
+
+-- keys that pass the test are one
+pub same_pack : (a b : PackKey) → is_same_pack a b ≡ true → a ≡ b
+same_pack a b e =
+    let p = both (is_same_text a.gtin b.gtin) (is_same_text a.serial b.serial) e in
+    let g = same_text a.gtin b.gtin (sym p.0) in
+    let s = same_text a.serial b.serial (sym p.1) in
+    λ i. pack_key (g i) (s i)
+
+pub same_batch : (a b : BatchKey) → is_same_batch a b ≡ true → a ≡ b
+same_batch a b e =
+    let p = both (is_same_text a.gtin b.gtin) (is_same_text a.batch b.batch) e in
+    let g = same_text a.gtin b.gtin (sym p.0) in
+    let s = same_text a.batch b.batch (sym p.1) in
+    λ i. batch_key (g i) (s i)
+
+pub text-sym : (a b : List ℕ) → is_same_text a b ≡ is_same_text b a
+text-sym a b = nat_list_eq_equiv.symm a b
+
+pub pack-sym : (a b : PackKey) → is_same_pack a b ≡ is_same_pack b a
+pack-sym a b = λ i. text-sym a.gtin b.gtin i && text-sym a.serial b.serial i
+
+pub text-self : (a : List ℕ) → is_same_text a a ≡ true
+text-self a = nat_list_eq_equiv.refl a
+
+pub pack-self : (a : PackKey) → is_same_pack a a ≡ true
+pack-self a = λ i. text-self a.gtin i && text-self a.serial i
+
+pub batch-self : (a : BatchKey) → is_same_batch a a ≡ true
+batch-self a = λ i. text-self a.gtin i && text-self a.batch i
+
+none_from : (o : Option Kept) → is_some o ≡ false → o ≡ None
+none_from None e = refl
+none_from (Some x) e = absurd (true≢false e)
+
+-- an entry with nothing kept says what no entry says
+pub ensure_same : (es es' : List (PackKey × Kept)) (key : PackKey) (v : Kept) → v ≡ nothing_kept → is_some (lookup (is_same_pack key) es) ≡ false
+    → ((p : PackKey) → lookup (is_same_pack p) es' ≡ cond (is_same_pack key p) (Some v) (lookup (is_same_pack p) es)) → (p : PackKey) → kept_in p es' ≡ kept_in p es
+ensure_same es es' key v empty none looks p =
+    ap (λ (o : Option Kept). unwrap_or o nothing_kept) (looks p)
+    ∙ ap (λ (w : Kept). unwrap_or (cond (is_same_pack key p) (Some w) (lookup (is_same_pack p) es)) nothing_kept) empty
+    ∙ by (is_same_pack key p) refl
+  where
+    by : (b : Bool) → is_same_pack key p ≡ b → unwrap_or (cond b (Some nothing_kept) (lookup (is_same_pack p) es)) nothing_kept ≡ unwrap_or (lookup (is_same_pack p) es) nothing_kept
+    by true e = sym (ap (λ (o : Option Kept). unwrap_or o nothing_kept) (ap (λ (q : PackKey). lookup (is_same_pack q) es) (sym (same_pack key p e)) ∙ none_from (lookup (is_same_pack key) es) none))
+    by false e = refl
+
+pub ensure_stays : (es es' : List (PackKey × Kept)) (key : PackKey) (v : Kept)
+    → ((p : PackKey) → lookup (is_same_pack p) es' ≡ cond (is_same_pack key p) (Some v) (lookup (is_same_pack p) es)) → (p : PackKey) → IsSome (lookup (is_same_pack p) es) → IsSome (lookup (is_same_pack p) es')
+ensure_stays es es' key v looks p h =
+    subst (λ (o : Option Kept). IsSome o) (sym (looks p))
+    (elim (is_same_pack key p) as (λ b. IsSome (cond b (Some v) (lookup (is_same_pack p) es))) [ true ↦ refl | false ↦ h ])
+
+-- a test of the key changes nothing where it chooses what the key has
+pub same_kept : (es : List (PackKey × Kept)) (key p : PackKey) → cond (is_same_pack key p) (kept_in key es) (kept_in p es) ≡ kept_in p es
+same_kept es key p = by (is_same_pack key p) refl
+  where
+    by : (b : Bool) → is_same_pack key p ≡ b → cond b (kept_in key es) (kept_in p es) ≡ kept_in p es
+    by true e = ap (λ (q : PackKey). kept_in q es) (same_pack key p e)
+    by false e = refl
+
+-- what an upload adds to what is kept of its packs
+
+not_itself_n : (a : ℕ) → nat_lt a a ≡ false
+not_itself_n a = grind (arith, nat_tests)
+
+new_first : (log : List LogEntry) (new : ℕ) → earlier_place log new (Some new) ≡ Some new
+new_first log new = ap (λ b. cond b (Some new) (Some new)) (not_itself_n (rank (entry_at log new).entry.item))
+
+-- once the newest is counted it does not come first again
+pub earlier_first : (log : List LogEntry) (new : ℕ) (o : Option ℕ) → comes_first log new (earlier_place log new o) ≡ false
+earlier_first log new o = by (comes_first log new o) refl
+  where
+    by : (b : Bool) → comes_first log new o ≡ b → comes_first log new (cond b (Some new) o) ≡ false
+    by true e = not_itself_n (rank (entry_at log new).entry.item)
+    by false e = e
+
+-- the same entry twice is that entry once
+earlier_twice : (log : List LogEntry) (new : ℕ) (o : Option ℕ) → earlier_place log new (earlier_place log new o) ≡ earlier_place log new o
+earlier_twice log new o = by (comes_first log new o) refl
+  where
+    by : (b : Bool) → comes_first log new o ≡ b → earlier_place log new (cond b (Some new) o) ≡ cond b (Some new) o
+    by true e = new_first log new
+    by false e = ap (λ b. cond b (Some new) o) e
+
+twice : (log : List LogEntry) (tables : StopTables) (p : PackKey) (new : ℕ) (k : Kept) → with_upload log tables p new (with_upload log tables p new k) ≡ with_upload log tables p new k
+twice log tables p new k = ap (λ (o : Option ℕ). worked_out log tables p o k.places) (earlier_twice log new k.birth)
+
+pub tracks_more : (log : List LogEntry) (tables : StopTables) (packs packs' : List (PackKey × Kept)) (key : PackKey) (new : ℕ) → AreTracks log tables packs
+    → ((p : PackKey) → kept_in p packs' ≡ cond (is_same_pack key p) (with_upload log tables key new (kept_in key packs)) (kept_in p packs)) → AreTracks log tables packs'
+tracks_more log tables packs packs' key new t looks p = subst (IsTrack log tables p) (sym (looks p)) (by (is_same_pack key p) refl)
+  where
+    more : IsTrack log tables key (with_upload log tables key new (kept_in key packs))
+    more = let track = t key in record { places_ascend = track.places_ascend; worked = refl }
+
+    by : (b : Bool) → is_same_pack key p ≡ b → IsTrack log tables p (cond b (with_upload log tables key new (kept_in key packs)) (kept_in p packs))
+    by true e = subst (λ (q : PackKey). IsTrack log tables q (with_upload log tables key new (kept_in key packs))) (same_pack key p e) more
+    by false e = t p
+
+or_and : (a b c : Bool) → (a && (b || c)) ≡ ((a && b) || (a && c))
+or_and true b c = refl
+or_and false b c = refl
+
+-- one serial number more
+has_more : (gtin : List ℕ) (serials : List (List ℕ)) (i : ℕ) (p : PackKey) → i < length serials
+    → has_pack gtin (take (i + 1) serials) p ≡ (has_pack gtin (take i serials) p || is_same_pack (pack_key gtin (get_or serials i [])) p)
+has_more gtin serials i p l =
+    ap (λ b. is_same_text gtin p.gtin && b) (list_any_more (λ s. is_same_text s p.serial) serials i [] l)
+    ∙ or_and (is_same_text gtin p.gtin) (list_any (λ s. is_same_text s p.serial) (take i serials)) (is_same_text (get_or serials i []) p.serial)
+
+pub looks_more : (log : List LogEntry) (tables : StopTables) (first packs packs' : List (PackKey × Kept)) (gtin : List ℕ) (serials : List (List ℕ)) (i : ℕ) (new : ℕ) → i < length serials
+    → ((p : PackKey) → kept_in p packs ≡ cond (has_pack gtin (take i serials) p) (with_upload log tables p new (kept_in p first)) (kept_in p first))
+    → ((p : PackKey) → kept_in p packs' ≡ cond (is_same_pack (pack_key gtin (get_or serials i [])) p) (with_upload log tables (pack_key gtin (get_or serials i [])) new (kept_in (pack_key gtin (get_or serials i [])) packs)) (kept_in p packs))
+    → (p : PackKey) → kept_in p packs' ≡ cond (has_pack gtin (take (i + 1) serials) p) (with_upload log tables p new (kept_in p first)) (kept_in p first)
+looks_more log tables first packs packs' gtin serials i new l old step p =
+    step p ∙ by (is_same_pack key p) refl ∙ ap (λ b. cond b (with_upload log tables p new (kept_in p first)) (kept_in p first)) (sym (has_more gtin serials i p l))
+  where
+    key : PackKey
+    key = pack_key gtin (get_or serials i [])
+
+    again : (a : Bool) → kept_in p packs ≡ cond a (with_upload log tables p new (kept_in p first)) (kept_in p first)
+        → with_upload log tables p new (kept_in p packs) ≡ cond (a || true) (with_upload log tables p new (kept_in p first)) (kept_in p first)
+    again true h = ap (with_upload log tables p new) h ∙ twice log tables p new (kept_in p first)
+    again false h = ap (with_upload log tables p new) h
+
+    or_false : (a : Bool) → cond a (with_upload log tables p new (kept_in p first)) (kept_in p first) ≡ cond (a || false) (with_upload log tables p new (kept_in p first)) (kept_in p first)
+    or_false true = refl
+    or_false false = refl
+
+    by : (b : Bool) → is_same_pack key p ≡ b
+        → cond b (with_upload log tables key new (kept_in key packs)) (kept_in p packs)
+        ≡ cond (has_pack gtin (take i serials) p || b) (with_upload log tables p new (kept_in p first)) (kept_in p first)
+    by true e = ap (λ (q : PackKey). with_upload log tables q new (kept_in q packs)) (same_pack key p e) ∙ again (has_pack gtin (take i serials) p) (old p)
+    by false e = old p ∙ or_false (has_pack gtin (take i serials) p)
+
+-- a pack that has an entry has one in a table of the same keys
+pub there_stays : (es es' : List (PackKey × Kept)) → keys_of es' ≡ keys_of es → (q : PackKey) → IsSome (lookup (is_same_pack q) es) → IsSome (lookup (is_same_pack q) es')
+there_stays es es' same q h = is_some-lookup (is_same_pack q) es' ∙ ap (list_any (is_same_pack q)) same ∙ sym (is_some-lookup (is_same_pack q) es) ∙ h
+
+-- what working packs out again changes
+
+or_nothing : (b : Bool) → (b || false) ≡ b
+or_nothing true = refl
+or_nothing false = refl
+
+-- the keys up to a place, and the one that stands there
+any_at : (es : List (PackKey × Kept)) (i : ℕ) (p : PackKey) → list_any (λ k. is_same_pack k p) (take (suc i) (keys_of es)) ≡ (list_any (λ k. is_same_pack k p) (take i (keys_of es)) || is_at p (slice_get es i))
+any_at [] zero p = refl
+any_at [] (suc i) p = refl
+any_at (e ∷ es) zero p = or_nothing (is_same_pack e.0 p)
+any_at (e ∷ es) (suc i) p =
+    elim (is_same_pack e.0 p) as (λ b. (b || list_any (λ k. is_same_pack k p) (take (suc i) (keys_of es))) ≡ ((b || list_any (λ k. is_same_pack k p) (take i (keys_of es))) || is_at p (slice_get es i))) [
+      | true ↦ refl
+      | false ↦ any_at es i p
+    ]
+
+-- a pack that has no entry
+absent : (es : List (PackKey × Kept)) (p : PackKey) → list_any (λ k. is_same_pack k p) (keys_of es) ≡ false → kept_in p es ≡ nothing_kept
+absent [] p h = refl
+absent (e ∷ es) p h = by (is_same_pack e.0 p) refl h (absent es p)
+  where
+    by : (b : Bool) → is_same_pack e.0 p ≡ b → (b || list_any (λ k. is_same_pack k p) (keys_of es)) ≡ false → (list_any (λ k. is_same_pack k p) (keys_of es) ≡ false → kept_in p es ≡ nothing_kept) → kept_in p (e ∷ es) ≡ nothing_kept
+    by true t h r = absurd (true≢false h)
+    by false t h r = ap (λ b. unwrap_or (cond b (Some e.1) (lookup (is_same_pack p) es)) nothing_kept) (pack-sym p e.0 ∙ t) ∙ r h
+
+pub refreshed_more : (log : List LogEntry) (tables : StopTables) (first packs packs' : List (PackKey × Kept)) (i : ℕ) → keys_of packs ≡ keys_of first
+    → ((p : PackKey) → kept_in p packs ≡ cond (list_any (λ k. is_same_pack k p) (take i (keys_of first))) (refreshed log tables p (kept_in p first)) (kept_in p first))
+    → ((p : PackKey) → kept_in p packs' ≡ cond (is_key_at packs i p) (refreshed log tables p (kept_in p packs)) (kept_in p packs))
+    → (p : PackKey) → kept_in p packs' ≡ cond (list_any (λ k. is_same_pack k p) (take (i + 1) (keys_of first))) (refreshed log tables p (kept_in p first)) (kept_in p first)
+refreshed_more log tables first packs packs' i same old step p =
+    let s : i + 1 ≡ suc i = omega arith in
+    step p ∙ ap (λ (k : Kept). cond (is_key_at packs i p) (refreshed log tables p k) k) (old p)
+    ∙ by (list_any (λ k. is_same_pack k p) (take i (keys_of first))) (is_key_at packs i p)
+    ∙ ap (λ b. cond b (refreshed log tables p (kept_in p first)) (kept_in p first))
+    (sym (ap (λ (m : ℕ). list_any (λ k. is_same_pack k p) (take m (keys_of first))) s ∙ ap (λ (ks : List PackKey). list_any (λ k. is_same_pack k p) (take (suc i) ks)) (sym same) ∙ any_at packs i p
+    ∙ ap (λ (ks : List PackKey). list_any (λ k. is_same_pack k p) (take i ks) || is_key_at packs i p) same))
+  where
+    by : (a b : Bool) → cond b (refreshed log tables p (cond a (refreshed log tables p (kept_in p first)) (kept_in p first))) (cond a (refreshed log tables p (kept_in p first)) (kept_in p first))
+        ≡ cond (a || b) (refreshed log tables p (kept_in p first)) (kept_in p first)
+    by true true = refl
+    by true false = refl
+    by false true = refl
+    by false false = refl
+
+pub refreshed_whole : (log : List LogEntry) (tables : StopTables) (first packs : List (PackKey × Kept)) (i : ℕ) → length (keys_of first) ≤ i
+    → ((p : PackKey) → kept_in p packs ≡ cond (list_any (λ k. is_same_pack k p) (take i (keys_of first))) (refreshed log tables p (kept_in p first)) (kept_in p first))
+    → (p : PackKey) → kept_in p packs ≡ refreshed log tables p (kept_in p first)
+refreshed_whole log tables first packs i l old p =
+    old p ∙ ap (λ (ks : List PackKey). cond (list_any (λ k. is_same_pack k p) ks) (refreshed log tables p (kept_in p first)) (kept_in p first)) (take_all i (keys_of first) l)
+    ∙ by (list_any (λ k. is_same_pack k p) (keys_of first)) refl
+  where
+    by : (b : Bool) → list_any (λ k. is_same_pack k p) (keys_of first) ≡ b → cond b (refreshed log tables p (kept_in p first)) (kept_in p first) ≡ refreshed log tables p (kept_in p first)
+    by true e = refl
+    by false e = let none = absent first p e in none ∙ ap (refreshed log tables p) (sym none)
+
+pub at_key : (log : List LogEntry) (tables : StopTables) (packs packs' : List (PackKey × Kept)) (place : ℕ) (key : PackKey) (v : Kept) → slice_get packs place ≡ Some (key, v)
+    → ((p : PackKey) → kept_in p packs' ≡ cond (is_same_pack key p) (refreshed log tables key (kept_in key packs)) (kept_in p packs))
+    → (p : PackKey) → kept_in p packs' ≡ cond (is_key_at packs place p) (refreshed log tables p (kept_in p packs)) (kept_in p packs)
+at_key log tables packs packs' place key v e looks p =
+    looks p ∙ by (is_same_pack key p) refl ∙ ap (λ (o : Option (PackKey × Kept)). cond (is_at p o) (refreshed log tables p (kept_in p packs)) (kept_in p packs)) (sym e)
+  where
+    by : (b : Bool) → is_same_pack key p ≡ b → cond b (refreshed log tables key (kept_in key packs)) (kept_in p packs) ≡ cond b (refreshed log tables p (kept_in p packs)) (kept_in p packs)
+    by true t = ap (λ (q : PackKey). refreshed log tables q (kept_in q packs)) (same_pack key p t)
+    by false t = refl

@@ -1,0 +1,96 @@
+-- What a repository keeps after one more entry of its log.
+use Rattle.std.proofs.Common.{◌≡◌, ℕ, ◌≤◌, List, [], ◌∷◌, ◌++◌, length, ◌∙◌, ap, Bool, true, false, cond, ◌||◌, Option, Some, None, is_some, refl, find}
+use Rattle.std.specs.List.{list_any}
+use Rattle.std.specs.Map.{lookup}
+use Rattle.std.specs.Option.{option_map}
+use Rattle.mv_pack.specs.declared.key.PackKey.{PackKey}
+use Rattle.mv_pack.specs.declared.key.BatchKey.{BatchKey}
+use Rattle.mv_repository.specs.declared.entry.LogEntry.{LogEntry}
+use Rattle.mv_repository.specs.Keys.{is_same_text, is_same_pack, is_same_batch}
+use Rattle.mv_repository.specs.Order.{Placed, rank, ordered}
+use Rattle.mv_repository.specs.Copy.{IsCopyOf}
+use Rattle.mv_repository.specs.Stops.{StopTables, AreStopsOf, place_of, earlier_place}
+use Rattle.mv_repository.specs.Track.{Kept, kept_in, with_status, with_upload, refreshed}
+use Rattle.mv_repository.specs.Tables.{Bears, IsUpTo, IsKept}
+use Rattle.mv_repository.proofs.ProductLemmas.{copy-noted}
+use Rattle.mv_repository.proofs.TableLemmas.{longer, tracks-stay, tracks-status, tracks-upload, tracks-refreshed, stops-stay, stops-recall, stops-withdrawal}
+use Rattle.mv_repository.proofs.LatestLemmas.{upto-longer, tracks-last}
+
+-- one of a kind is there where a first one is found
+pub found-any : (f : Placed → Bool) (xs : List Placed) → is_some (option_map place_of (find f xs)) ≡ list_any f xs
+found-any f [] = refl
+found-any f (x ∷ xs) =
+    elim (f x) as (λ b. is_some (option_map place_of (cond b (Some x) (find f xs))) ≡ (b || list_any f xs)) [
+      | true ↦ refl
+      | false ↦ found-any f xs
+    ]
+
+-- the table of packs may change in form
+pub kept-same : (log : List LogEntry) (masters : List (List ℕ × ℕ)) (packs packs' : List (PackKey × Kept)) (tables : StopTables) (n : ℕ) → IsKept log masters packs tables n
+    → ((pack : PackKey) → kept_in pack packs' ≡ kept_in pack packs) → IsKept log masters packs' tables n
+kept-same log masters packs packs' tables n kept same =
+    record { masters = kept.masters; tracks = λ pack. same pack ∙ kept.tracks pack; stops = kept.stops; upto = kept.upto }
+
+pub kept-noted : (log : List LogEntry) (entry : LogEntry) (masters : List (List ℕ × ℕ)) (packs : List (PackKey × Kept)) (tables : StopTables) (n m : ℕ) → IsKept log masters packs tables n
+    → Bears entry.item (λ gtin. false) (λ pack. false) (λ pack. false) (λ batch. false) (λ gtin. false) → n ≤ m → IsUpTo m entry.item → IsKept (longer log entry) masters packs tables m
+kept-noted log entry masters packs tables n m kept bears l h = record {
+  masters = copy-noted log masters entry kept.masters bears.master;
+  tracks = tracks-stay log entry packs bears.upload bears.status (bears.recall, bears.withdrawal) kept.tracks;
+  stops = stops-stay log entry tables (bears.recall, bears.withdrawal) kept.stops;
+  upto = upto-longer n m log entry l h kept.upto;
+}
+
+pub kept-master : (log : List LogEntry) (entry : LogEntry) (masters masters' : List (List ℕ × ℕ)) (packs : List (PackKey × Kept)) (tables : StopTables) (n m : ℕ) (code : List ℕ) → IsKept log masters packs tables n
+    → Bears entry.item (is_same_text code) (λ pack. false) (λ pack. false) (λ batch. false) (λ gtin. false) → n ≤ m → IsUpTo m entry.item
+    → IsCopyOf (longer log entry) masters' → IsKept (longer log entry) masters' packs tables m
+kept-master log entry masters masters' packs tables n m code kept bears l h copy = record {
+  masters = copy;
+  tracks = tracks-stay log entry packs bears.upload bears.status (bears.recall, bears.withdrawal) kept.tracks;
+  stops = stops-stay log entry tables (bears.recall, bears.withdrawal) kept.stops;
+  upto = upto-longer n m log entry l h kept.upto;
+}
+
+pub kept-status : (log : List LogEntry) (entry : LogEntry) (masters : List (List ℕ × ℕ)) (packs packs' : List (PackKey × Kept)) (tables : StopTables) (n m : ℕ) (key : PackKey) → IsKept log masters packs tables n
+    → Bears entry.item (λ gtin. false) (λ pack. false) (is_same_pack key) (λ batch. false) (λ gtin. false) → n ≤ m → IsUpTo m entry.item
+    → ((pack : PackKey) → kept_in pack packs' ≡ cond (is_same_pack key pack) (with_status (longer log entry) tables key (length log) (kept_in key packs)) (kept_in pack packs))
+    → IsKept (longer log entry) masters packs' tables m
+kept-status log entry masters packs packs' tables n m key kept bears l h looks = record {
+  masters = copy-noted log masters entry kept.masters bears.master;
+  tracks = tracks-status log entry packs packs' tables key kept.tracks kept.stops bears.upload bears.status (bears.recall, bears.withdrawal) looks;
+  stops = stops-stay log entry tables (bears.recall, bears.withdrawal) kept.stops;
+  upto = upto-longer n m log entry l h kept.upto;
+}
+
+pub kept-upload : (log : List LogEntry) (entry : LogEntry) (masters : List (List ℕ × ℕ)) (packs packs' : List (PackKey × Kept)) (tables : StopTables) (n m : ℕ) (has : PackKey → Bool) → IsKept log masters packs tables n
+    → Bears entry.item (λ gtin. false) has (λ pack. false) (λ batch. false) (λ gtin. false) → n ≤ m → IsUpTo m entry.item
+    → ((pack : PackKey) → kept_in pack packs' ≡ cond (has pack) (with_upload (longer log entry) tables pack (length log) (kept_in pack packs)) (kept_in pack packs))
+    → IsKept (longer log entry) masters packs' tables m
+kept-upload log entry masters packs packs' tables n m has kept bears l h looks = record {
+  masters = copy-noted log masters entry kept.masters bears.master;
+  tracks = tracks-upload log entry packs packs' tables has kept.tracks kept.stops bears.upload bears.status (bears.recall, bears.withdrawal) looks;
+  stops = stops-stay log entry tables (bears.recall, bears.withdrawal) kept.stops;
+  upto = upto-longer n m log entry l h kept.upto;
+}
+
+-- after an entry that stops a batch or a product, where all packs are worked out again
+pub kept-refreshed : (log : List LogEntry) (entry : LogEntry) (masters : List (List ℕ × ℕ)) (packs packs' : List (PackKey × Kept)) (tables tables' : StopTables) (n m : ℕ) (recalls : BatchKey → Bool) (withdrawals : List ℕ → Bool) → IsKept log masters packs tables n
+    → Bears entry.item (λ gtin. false) (λ pack. false) (λ pack. false) recalls withdrawals → n ≤ m → IsUpTo m entry.item → AreStopsOf (longer log entry) tables'
+    → ((pack : PackKey) → kept_in pack packs' ≡ refreshed (longer log entry) tables' pack (kept_in pack packs))
+    → IsKept (longer log entry) masters packs' tables' m
+kept-refreshed log entry masters packs packs' tables tables' n m recalls withdrawals kept bears l h stops looks = record {
+  masters = copy-noted log masters entry kept.masters bears.master;
+  tracks = tracks-refreshed log entry packs packs' tables' kept.tracks stops bears.upload bears.status looks;
+  stops = stops;
+  upto = upto-longer n m log entry l h kept.upto;
+}
+
+-- and where its stamp is the greatest
+pub kept-latest : (log : List LogEntry) (entry : LogEntry) (masters : List (List ℕ × ℕ)) (packs : List (PackKey × Kept)) (tables tables' : StopTables) (n m : ℕ) (recalls : BatchKey → Bool) (withdrawals : List ℕ → Bool) → IsKept log masters packs tables n
+    → Bears entry.item (λ gtin. false) (λ pack. false) (λ pack. false) recalls withdrawals → n ≤ m → IsUpTo m entry.item → AreStopsOf (longer log entry) tables'
+    → n ≤ rank entry.item → IsKept (longer log entry) masters packs tables' m
+kept-latest log entry masters packs tables tables' n m recalls withdrawals kept bears l h stops r = record {
+  masters = copy-noted log masters entry kept.masters bears.master;
+  tracks = tracks-last log entry packs n kept.upto r bears.upload bears.status kept.tracks;
+  stops = stops;
+  upto = upto-longer n m log entry l h kept.upto;
+}

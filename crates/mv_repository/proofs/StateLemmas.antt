@@ -1,0 +1,227 @@
+-- What a pack is depends on its own entries, the first recall of its batch and the first withdrawal of its product.
+use Rattle.std.proofs.Common.{◌≡◌, ℕ, List, [], ◌∷◌, ◌++◌, refl, sym, ◌∙◌, ap, append_assoc, Bool, true, false, cond, ◌||◌, Option, Some, None, IsSome, IfSome, true≢false, find, fold, map, subst, get_or}
+use Rattle.std.specs.List.{list_any}
+use Rattle.std.specs.Map.{lookup}
+use Rattle.std.specs.Option.{option_or, option_map}
+use Rattle.mv_pack.specs.declared.key.PackKey.{PackKey}
+use Rattle.mv_pack.specs.declared.key.BatchKey.{BatchKey}
+use Rattle.mv_message.specs.declared.message.Message.TheVariants.{Upload, Status}
+use Rattle.mv_link.specs.declared.item.Item.{Item}
+use Rattle.mv_link.specs.declared.item.Item.TheVariants.{Carried, Receipt}
+use Rattle.mv_repository.specs.declared.entry.LogEntry.{LogEntry}
+use Rattle.mv_repository.specs.declared.held.Held.{Held}
+use Rattle.mv_repository.specs.declared.stops.BatchStanding.{BatchStanding}
+use Rattle.mv_repository.specs.Keys.{is_same_batch, is_same_text, batch_key}
+use Rattle.mv_repository.specs.Order.{Placed, stands_before, ordered, StandsBeforeAll, Ascends}
+use Rattle.mv_repository.specs.Pack.{KnownPack, KnownChange, is_active, is_done, change_effect, change_to}
+use Rattle.mv_repository.specs.PackState.{is_recall_of, is_withdrawal_of, batch_standing, pack_after_item, pack_after, known_pack_from, known_pack, held_of, pack_state}
+use Rattle.mv_repository.specs.Stops.{FirstStops, StopTables, first_stops, is_before, standing_at, entry_at, place_of, stops_in, no_entry, first_recall, first_withdrawal, AreStopsOf}
+use Rattle.mv_repository.specs.Track.{is_upload_of, is_status_of, first_upload, statuses_of, pack_made_by, pack_changed, pack_step, pack_grown, user_in, user_at, known_of, held_step, held_made_at, grown_at}
+use Rattle.mv_repository.proofs.OrderLemmas.{stands-asym, stands-self, ordered-ascends, Stand}
+
+-- what is found behind y doesn't stand before it
+not_before : (f : Placed → Bool) (y : Placed) (xs : List Placed) → StandsBeforeAll y xs → is_before (find f xs) y ≡ false
+not_before f y [] h = refl
+not_before f y (x ∷ xs) h =
+    elim (f x) as (λ b. is_before (cond b (Some x) (find f xs)) y ≡ false) [
+      | true ↦ stands-asym y x h.0
+      | false ↦ not_before f y xs h.1
+    ]
+
+at_behind : (z y : Placed) (xs rest : List Placed) → StandsBeforeAll z (xs ++ y ∷ rest) → stands_before z y ≡ true
+at_behind z y [] rest h = h.0
+at_behind z y (x ∷ xs) rest h = at_behind z y xs rest h.1
+
+-- in the order of stamps one of a kind stands before an entry where the first of the kind does
+pub first-before : (f : Placed → Bool) (before : List Placed) (y : Placed) (rest : List Placed) → Ascends (before ++ y ∷ rest)
+    → list_any f before ≡ is_before (find f (before ++ y ∷ rest)) y
+first-before f [] y rest a =
+    elim (f y) as (λ t. false ≡ is_before (cond t (Some y) (find f rest)) y) [
+      | true ↦ sym (stands-self y)
+      | false ↦ sym (not_before f y rest a.0)
+    ]
+first-before f (z ∷ zs) y rest a =
+    elim (f z) as (λ t. (t || list_any f zs) ≡ is_before (cond t (Some z) (find f (zs ++ y ∷ rest))) y) [
+      | true ↦ sym (at_behind z y zs rest a.0)
+      | false ↦ first-before f zs y rest a.1
+    ]
+
+-- one entry, where the first stops are known
+abbrev next : FirstStops → PackKey → Option KnownPack → Placed → Option KnownPack
+next stops pack known x = pack_after (standing_at stops x) x pack known
+
+state-fold : (all before rest : List Placed) (pack : PackKey) (known : Option KnownPack) → all ≡ before ++ rest → Ascends all
+    → known_pack_from before rest pack known ≡ fold (next (first_stops all) pack) known rest
+state-fold all before [] pack known e a = refl
+state-fold all before (x ∷ xs) pack known e a =
+    let same : (f : Placed → Bool) → list_any f before ≡ is_before (find f all) x =
+    λ f. subst (λ (l : List Placed). list_any f before ≡ is_before (find f l) x) (sym e) (first-before f before x xs (subst Ascends e a)) in
+    let standing : batch_standing before ≡ standing_at (first_stops all) x =
+    (λ i batch. record { recalled = same (λ placed. is_recall_of batch placed.entry.item) i; withdrawn = same (λ placed. is_withdrawal_of batch.gtin placed.entry.item) i }) in
+    state-fold all (before ++ x ∷ []) xs pack (pack_after (batch_standing before) x pack known) (e ∙ sym (append_assoc before (x ∷ []) xs)) a
+    ∙ ap (λ (f : BatchKey → BatchStanding). fold (next (first_stops all) pack) (pack_after f x pack known) xs) standing
+
+-- an entry makes a pack, changes it, or leaves it
+after_item : (standing : BatchKey → BatchStanding) (place sender : ℕ) (item : Item) (pack : PackKey) (known : Option KnownPack)
+    → pack_after_item standing place sender item pack known
+    ≡ cond (is_upload_of pack item) (option_or known (pack_made_by item)) (cond (is_status_of pack item) (option_map (pack_changed standing place sender item pack) known) known)
+after_item standing place sender (Carried k stamp (Upload gtin batch expiry national serials)) pack known = refl
+after_item standing place sender (Carried k stamp (Status key to user at)) pack known = refl
+after_item standing place sender _ pack known = refl
+
+-- an upload is no status
+pub upload-no_status : (pack : PackKey) (item : Item) → is_upload_of pack item ≡ true → is_status_of pack item ≡ false
+upload-no_status pack (Carried k stamp (Upload gtin batch expiry national serials)) e = refl
+upload-no_status pack _ e = absurd (true≢false (sym e))
+
+pub upload-makes : (pack : PackKey) (item : Item) → is_upload_of pack item ≡ true → IsSome (pack_made_by item)
+upload-makes pack (Carried k stamp (Upload gtin batch expiry national serials)) e = refl
+upload-makes pack _ e = absurd (true≢false (sym e))
+
+-- a status of a pack that is held
+abbrev turn : FirstStops → PackKey → KnownPack → Placed → KnownPack
+turn stops pack held x = pack_changed (standing_at stops x) x.place x.entry.sender x.entry.item pack held
+
+next-tests : (stops : FirstStops) (pack : PackKey) (known : Option KnownPack) (x : Placed)
+    → next stops pack known x
+    ≡ cond (is_upload_of pack x.entry.item) (option_or known (pack_made_by x.entry.item)) (cond (is_status_of pack x.entry.item) (option_map (λ held. turn stops pack held x) known) known)
+next-tests stops pack known x = after_item (standing_at stops x) x.place x.entry.sender x.entry.item pack known
+
+-- a pack that is held goes by its statuses
+fold-held : (stops : FirstStops) (pack : PackKey) (held : KnownPack) (xs : List Placed)
+    → fold (next stops pack) (Some held) xs ≡ Some (fold (turn stops pack) held (statuses_of pack xs))
+fold-held stops pack held [] = refl
+fold-held stops pack held (x ∷ xs) =
+    ap (λ o. fold (next stops pack) o xs) (next-tests stops pack (Some held) x)
+    ∙ by (is_upload_of pack x.entry.item) refl (is_status_of pack x.entry.item) refl (λ h. fold-held stops pack h xs)
+  where
+    by : (n : Bool) → is_upload_of pack x.entry.item ≡ n → (s : Bool) → is_status_of pack x.entry.item ≡ s
+        → ((h : KnownPack) → fold (next stops pack) (Some h) xs ≡ Some (fold (turn stops pack) h (statuses_of pack xs)))
+        → fold (next stops pack) (cond n (Some held) (cond s (Some (turn stops pack held x)) (Some held))) xs
+        ≡ Some (fold (turn stops pack) held (cond s (x ∷ statuses_of pack xs) (statuses_of pack xs)))
+    by true e true f r = absurd (true≢false (sym f ∙ upload-no_status pack x.entry.item e))
+    by true e false f r = r held
+    by false e true f r = r (turn stops pack held x)
+    by false e false f r = r held
+
+-- behind its upload, each status counts
+fold-behind : (stops : FirstStops) (pack : PackKey) (birth : Placed) (held : KnownPack) (xs : List Placed) → StandsBeforeAll birth xs
+    → fold (pack_step stops pack birth) held (statuses_of pack xs) ≡ fold (turn stops pack) held (statuses_of pack xs)
+fold-behind stops pack birth held [] h = refl
+fold-behind stops pack birth held (x ∷ xs) h =
+    elim (is_status_of pack x.entry.item) as (λ s. fold (pack_step stops pack birth) held (cond s (x ∷ statuses_of pack xs) (statuses_of pack xs)) ≡ fold (turn stops pack) held (cond s (x ∷ statuses_of pack xs) (statuses_of pack xs))) [
+      | true ↦ ap (λ b. fold (pack_step stops pack birth) (cond b (turn stops pack held x) held) (statuses_of pack xs)) h.0 ∙ fold-behind stops pack birth (turn stops pack held x) xs h.1
+      | false ↦ fold-behind stops pack birth held xs h.1
+    ]
+
+-- a status in front of the first upload doesn't count
+grown-early : (stops : FirstStops) (pack : PackKey) (f : Placed → Bool) (x : Placed) (own xs : List Placed) → StandsBeforeAll x xs
+    → pack_grown stops pack (find f xs) (x ∷ own) ≡ pack_grown stops pack (find f xs) own
+grown-early stops pack f x own [] h = refl
+grown-early stops pack f x own (y ∷ ys) h =
+    elim (f y) as (λ b. pack_grown stops pack (cond b (Some y) (find f ys)) (x ∷ own) ≡ pack_grown stops pack (cond b (Some y) (find f ys)) own) [
+      | true ↦ ap (λ b. option_map (λ held. fold (pack_step stops pack y) (cond b (turn stops pack held x) held) own) (pack_made_by y.entry.item)) (stands-asym x y h.0)
+      | false ↦ grown-early stops pack f x own ys h.1
+    ]
+
+fold-grown : (stops : FirstStops) (pack : PackKey) (xs : List Placed) → Ascends xs
+    → fold (next stops pack) None xs ≡ pack_grown stops pack (first_upload pack xs) (statuses_of pack xs)
+fold-grown stops pack [] a = refl
+fold-grown stops pack (x ∷ xs) a =
+    ap (λ o. fold (next stops pack) o xs) (next-tests stops pack None x)
+    ∙ by (is_upload_of pack x.entry.item) refl (is_status_of pack x.entry.item) refl (fold-grown stops pack xs a.1)
+  where
+    born : (o : Option KnownPack) → IsSome o → fold (next stops pack) o xs ≡ option_map (λ held. fold (pack_step stops pack x) held (statuses_of pack xs)) o
+    born None h = absurd (true≢false (sym h))
+    born (Some made) h = fold-held stops pack made xs ∙ ap Some (sym (fold-behind stops pack x made xs a.0))
+
+    by : (n : Bool) → is_upload_of pack x.entry.item ≡ n → (s : Bool) → is_status_of pack x.entry.item ≡ s
+        → fold (next stops pack) None xs ≡ pack_grown stops pack (first_upload pack xs) (statuses_of pack xs)
+        → fold (next stops pack) (cond n (pack_made_by x.entry.item) (cond s None None)) xs
+        ≡ pack_grown stops pack (cond n (Some x) (first_upload pack xs)) (cond s (x ∷ statuses_of pack xs) (statuses_of pack xs))
+    by true e true f r = absurd (true≢false (sym f ∙ upload-no_status pack x.entry.item e))
+    by true e false f r = born (pack_made_by x.entry.item) (upload-makes pack x.entry.item e)
+    by false e true f r = r ∙ sym (grown-early stops pack (λ y. is_upload_of pack y.entry.item) x (statuses_of pack xs) xs a.0)
+    by false e false f r = r
+
+-- a pack by entries in order is what its own entries make of it
+pub known-grown : (pack : PackKey) (xs : List Placed) → Ascends xs
+    → known_pack pack xs ≡ pack_grown (first_stops xs) pack (first_upload pack xs) (statuses_of pack xs)
+known-grown pack xs a = state-fold xs [] xs pack None refl a ∙ fold-grown (first_stops xs) pack xs a
+
+-- a pack is seen whole by the place of its change, whose user the log has
+abbrev pub IsSeen : List LogEntry → KnownPack → Type 0
+IsSeen log pack = known_of log (held_of pack) ≡ pack
+
+pub made-seen : (log : List LogEntry) (item : Item) → IfSome (pack_made_by item) (IsSeen log)
+made-seen log (Carried k stamp (Upload gtin batch expiry national serials)) = refl
+made-seen log _ = tt
+
+changed-seen : (log : List LogEntry) (standing : BatchKey → BatchStanding) (place sender : ℕ) (item : Item) (pack : PackKey) (held : KnownPack)
+    → user_at log place ≡ user_in item → IsSeen log held → IsSeen log (pack_changed standing place sender item pack held)
+changed-seen log standing place sender (Carried k stamp (Status key to user at)) pack held e h =
+    by (is_done (change_effect held (standing (batch_key pack.gtin held.batch)) to sender user at))
+  where
+    change : KnownChange
+    change = record { by = sender; user = user; at = at; entry = place }
+
+    reverted : (active : Bool) → IsSeen log (record held { standing = to; change = cond active None (Some change) })
+    reverted true = refl
+    reverted false = λ i. record held { standing = to; change = Some (record change { user = e i }) }
+
+    by : (done : Bool) → IsSeen log (cond done (record held { standing = to; change = change_to to change }) held)
+    by true = reverted (is_active to)
+    by false = h
+changed-seen log standing place sender _ pack held e h = h
+
+pub step-seen : (log : List LogEntry) (stops : FirstStops) (pack : PackKey) (birth : Placed) (held : KnownPack) (x : Placed)
+    → get_or log x.place no_entry ≡ x.entry → IsSeen log held → IsSeen log (pack_step stops pack birth held x)
+step-seen log stops pack birth held x e h =
+    elim (stands_before birth x) as (λ b. IsSeen log (cond b (turn stops pack held x) held)) [
+      | true ↦ changed-seen log (standing_at stops x) x.place x.entry.sender x.entry.item pack held (ap (λ (entry : LogEntry). user_in entry.item) e) h
+      | false ↦ h
+    ]
+
+fold-seen : (log : List LogEntry) (stops : FirstStops) (pack : PackKey) (birth : Placed) (held : KnownPack) (xs : List Placed) → Stand log xs → IsSeen log held
+    → fold (held_step log stops pack birth) (held_of held) xs ≡ held_of (fold (pack_step stops pack birth) held xs)
+fold-seen log stops pack birth held [] s h = refl
+fold-seen log stops pack birth held (x ∷ xs) s h =
+    ap (λ k. fold (held_step log stops pack birth) (held_of (pack_step stops pack birth k x)) xs) h
+    ∙ fold-seen log stops pack birth (pack_step stops pack birth held x) xs s.1 (step-seen log stops pack birth held x s.0 h)
+
+entry-stands : (log : List LogEntry) (x : Placed) → get_or log x.place no_entry ≡ x.entry → entry_at log x.place ≡ x
+entry-stands log x e = λ i. record x { entry = e i }
+
+pub map-stands : (log : List LogEntry) (xs : List Placed) → Stand log xs → map (entry_at log) (map place_of xs) ≡ xs
+map-stands log [] s = refl
+map-stands log (x ∷ xs) s = λ i. (entry-stands log x s.0 i ∷ map-stands log xs s.1 i)
+
+pub find-stand : (f : Placed → Bool) (log : List LogEntry) (xs : List Placed) → Stand log xs → IfSome (find f xs) (λ x. get_or log x.place no_entry ≡ x.entry)
+find-stand f log [] s = tt
+find-stand f log (y ∷ ys) s =
+    elim (f y) as (λ b. IfSome (cond b (Some y) (find f ys)) (λ x. get_or log x.place no_entry ≡ x.entry)) [
+      | true ↦ s.0
+      | false ↦ find-stand f log ys s.1
+    ]
+
+pub find-stands : (f : Placed → Bool) (log : List LogEntry) (xs : List Placed) → Stand log xs
+    → option_map (entry_at log) (option_map place_of (find f xs)) ≡ find f xs
+find-stands f log xs s = by (find f xs) (find-stand f log xs s)
+  where
+    by : (o : Option Placed) → IfSome o (λ x. get_or log x.place no_entry ≡ x.entry) → option_map (entry_at log) (option_map place_of o) ≡ o
+    by None h = refl
+    by (Some x) h = ap Some (entry-stands log x h)
+
+-- a pack by places in a log, where the entries stand
+pub grown-stands : (log : List LogEntry) (tables : StopTables) (stops : FirstStops) (pack : PackKey) (birth : Option Placed) (own : List Placed)
+    → stops_in log tables ≡ stops → IfSome birth (λ x. get_or log x.place no_entry ≡ x.entry) → Stand log own
+    → grown_at log tables pack (option_map place_of birth) (map place_of own) ≡ option_map held_of (pack_grown stops pack birth own)
+grown-stands log tables stops pack None own e b s = refl
+grown-stands log tables stops pack (Some birth) own e b s =
+    (λ i. option_map (λ held. fold (held_step log (e i) pack (entry-stands log birth b i)) held (map-stands log own s i)) (option_map held_of (pack_made_by (entry-stands log birth b i).entry.item)))
+    ∙ by (pack_made_by birth.entry.item) (made-seen log birth.entry.item)
+  where
+    by : (made : Option KnownPack) → IfSome made (IsSeen log)
+        → option_map (λ held. fold (held_step log stops pack birth) held own) (option_map held_of made) ≡ option_map held_of (option_map (λ held. fold (pack_step stops pack birth) held own) made)
+    by None h = refl
+    by (Some held) h = ap Some (fold-seen log stops pack birth held own s h)

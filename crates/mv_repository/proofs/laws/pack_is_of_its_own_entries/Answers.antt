@@ -1,0 +1,7 @@
+use Rattle.mv_repository.specs.Order.{ordered}
+use Rattle.mv_repository.proofs.OrderLemmas.{ordered-ascends}
+use Rattle.mv_repository.proofs.StateLemmas.{known-grown}
+use Rattle.mv_repository.proofs.laws.pack_is_of_its_own_entries.Goals as goal
+
+pub returns : goal.returns
+returns c log pack = known-grown pack (ordered log) (ordered-ascends log)

@@ -1,0 +1,12 @@
+-- An entry with nothing kept says what no entry says.
+use Rattle.std.proofs.Common.{◌∙◌, sym}
+use Rattle.mv_repository.proofs.KeptLemmas.{ensure_same, ensure_stays}
+use Rattle.mv_repository.proofs.packs.ensure.Goals as goal
+
+pub returns-in_ok-insert-clause-stays : goal.returns-in_ok-insert-clause-stays
+returns-in_ok-insert-clause-stays c = ensure_stays c.args.packs.now.entries c.insert.new.self.entries c.args.key c.new.result c.in_ok-insert.ensures.updates.0
+
+pub returns-in_ok-insert-clause-same : goal.returns-in_ok-insert-clause-same
+returns-in_ok-insert-clause-same c =
+    ensure_same c.args.packs.now.entries c.insert.new.self.entries c.args.key c.new.result c.new.ensures
+    (sym c.contains_key.ensures ∙ c.if-not-contains_key.true) c.in_ok-insert.ensures.updates.0

@@ -1,0 +1,55 @@
+-- How much a repository has: five numbers, each thing counted once.
+use Rattle.std.specs.Prelude.{ℕ, List, [], ◌∷◌, map, filter, length, Bool, true, false, Option, Some, None}
+use Rattle.std.specs.List.{flat_map}
+use Rattle.std.specs.Set.{distinct_count}
+use Rattle.mv_pack.specs.declared.key.PackKey.{PackKey}
+use Rattle.mv_pack.specs.declared.key.BatchKey.{BatchKey}
+use Rattle.mv_message.specs.declared.message.Message.TheVariants.{Master, Upload, Recall}
+use Rattle.mv_link.specs.declared.item.Item.{Item}
+use Rattle.mv_link.specs.declared.item.Item.TheVariants.{Receipt, Carried}
+use Rattle.mv_repository.specs.declared.entry.LogEntry.{LogEntry}
+use Rattle.mv_repository.specs.declared.counts.Counts.{Counts}
+use Rattle.mv_repository.specs.declared.held.Held.{Held}
+use Rattle.mv_repository.specs.Keys.{is_same_text, is_same_pack, is_same_batch, pack_key}
+use Rattle.mv_repository.specs.Pack.{is_active}
+use Rattle.mv_repository.specs.PackState.{pack_state}
+
+-- the product codes that an item has a master of
+abbrev pub mastered_in : Item → List (List ℕ)
+mastered_in (Carried k stamp (Master gtin product)) = gtin ∷ []
+mastered_in _ = []
+
+-- the packs that an item uploads
+abbrev pub uploaded_in : Item → List PackKey
+uploaded_in (Carried k stamp (Upload gtin batch expiry national serials)) = map (pack_key gtin) serials
+uploaded_in _ = []
+
+-- the batches that an item recalls
+abbrev pub recalled_in : Item → List BatchKey
+recalled_in (Carried k stamp (Recall key at)) = key ∷ []
+recalled_in _ = []
+
+-- all product codes with a master, all packs uploaded and all batches recalled in a log, in the order of arrival
+abbrev pub mastered_products : List LogEntry → List (List ℕ)
+mastered_products log = flat_map (λ entry. mastered_in entry.item) log
+
+abbrev pub uploaded_packs : List LogEntry → List PackKey
+uploaded_packs log = flat_map (λ entry. uploaded_in entry.item) log
+
+abbrev pub recalled_batches : List LogEntry → List BatchKey
+recalled_batches log = flat_map (λ entry. recalled_in entry.item) log
+
+-- a pack is held, and active
+abbrev pub is_held_active : Option Held → Bool
+is_held_active None = false
+is_held_active (Some held) = is_active held.standing
+
+-- the counts of a log
+abbrev pub counts_of : List LogEntry → Counts
+counts_of log = record {
+  entries = length log;
+  products = distinct_count is_same_text (mastered_products log);
+  packs = distinct_count is_same_pack (uploaded_packs log);
+  active = distinct_count is_same_pack (filter (λ pack. is_held_active (pack_state pack log)) (uploaded_packs log));
+  recalled = distinct_count is_same_batch (recalled_batches log);
+}

@@ -1,0 +1,89 @@
+-- What a log means for one pack, one batch and one product: its entries are read in the order of stamps.
+use Rattle.std.specs.Prelude.{ℕ, List, [], ◌∷◌, ◌++◌, Bool, true, false, ◌&&◌, Option, Some, None, if◌then◌else◌}
+use Rattle.std.specs.List.{list_any}
+use Rattle.std.specs.Option.{option_map, option_or}
+use Rattle.mv_pack.specs.declared.key.PackKey.{PackKey}
+use Rattle.mv_pack.specs.declared.key.BatchKey.{BatchKey}
+use Rattle.mv_message.specs.declared.message.Message.TheVariants.{Upload, Status, Recall, Withdraw}
+use Rattle.mv_link.specs.declared.item.Item.{Item}
+use Rattle.mv_link.specs.declared.item.Item.TheVariants.{Receipt, Carried}
+use Rattle.mv_repository.specs.declared.entry.LogEntry.{LogEntry}
+use Rattle.mv_repository.specs.declared.held.Held.{Held}
+use Rattle.mv_repository.specs.declared.held.Change.{Change}
+use Rattle.mv_repository.specs.Order.{Placed, ordered}
+use Rattle.mv_repository.specs.Keys.{is_same_text, is_same_pack, is_same_batch, batch_key}
+use Rattle.mv_repository.specs.declared.stops.BatchStanding.{BatchStanding}
+use Rattle.mv_repository.specs.Pack.{KnownPack, KnownChange, new_pack, pack_after_status}
+
+-- an item is a recall of a batch
+abbrev pub is_recall_of : BatchKey → Item → Bool
+is_recall_of batch (Carried k stamp (Recall key at)) = is_same_batch key batch
+is_recall_of batch _ = false
+
+-- an item is a withdrawal of a product
+abbrev pub is_withdrawal_of : List ℕ → Item → Bool
+is_withdrawal_of gtin (Carried k stamp (Withdraw named at)) = is_same_text named gtin
+is_withdrawal_of gtin _ = false
+
+-- these packs of a product have the pack among them
+abbrev pub has_pack : List ℕ → List (List ℕ) → PackKey → Bool
+has_pack gtin serials pack = is_same_text gtin pack.gtin && list_any (λ serial. is_same_text serial pack.serial) serials
+
+-- how a batch stands by these entries: one recall holds for ever, and so does one withdrawal of the product
+abbrev pub batch_standing : List Placed → BatchKey → BatchStanding
+batch_standing entries batch = record {
+  recalled = list_any (λ placed. is_recall_of batch placed.entry.item) entries;
+  withdrawn = list_any (λ placed. is_withdrawal_of batch.gtin placed.entry.item) entries;
+}
+
+-- A pack once an item from a sender comes that stands at a place of the log, batches standing so before it. The first
+-- upload that names a pack makes it; only statuses change it.
+abbrev pub pack_after_item : (BatchKey → BatchStanding) → ℕ → ℕ → Item → PackKey → Option KnownPack → Option KnownPack
+pack_after_item standing place sender (Carried k stamp (Upload gtin batch expiry national serials)) pack known =
+    if has_pack gtin serials pack then option_or known (Some (new_pack batch expiry national)) else known
+pack_after_item standing place sender (Carried k stamp (Status key to user at)) pack known =
+    if is_same_pack key pack
+    then option_map (λ held. pack_after_status held (standing (batch_key pack.gtin held.batch)) to sender user at place) known
+    else known
+pack_after_item standing place sender _ pack known = known
+
+-- a pack once one more entry follows
+abbrev pub pack_after : (BatchKey → BatchStanding) → Placed → PackKey → Option KnownPack → Option KnownPack
+pack_after standing placed pack known =
+    pack_after_item standing placed.place placed.entry.sender placed.entry.item pack known
+
+-- a pack once the rest of these entries follow those before
+abbrev pub known_pack_from : List Placed → List Placed → PackKey → Option KnownPack → Option KnownPack
+known_pack_from before [] pack known = known
+known_pack_from before (placed ∷ rest) pack known =
+    known_pack_from (before ++ placed ∷ []) rest pack (pack_after (batch_standing before) placed pack known)
+
+-- a pack by these entries, in this order; none where no upload names it
+abbrev pub known_pack : PackKey → List Placed → Option KnownPack
+known_pack pack entries = known_pack_from [] entries pack None
+
+-- a change as a repository shows it: its user is that of the status at its place in the log
+abbrev pub change_of : KnownChange → Change
+change_of change = record { by = change.by; at = change.at; entry = change.entry }
+
+-- a pack as a repository shows it
+abbrev pub held_of : KnownPack → Held
+held_of pack = record {
+  batch = pack.batch;
+  expiry = pack.expiry;
+  national = pack.national;
+  standing = pack.standing;
+  change = option_map change_of pack.change;
+}
+
+-- a pack by a log
+abbrev pub pack_state : PackKey → List LogEntry → Option Held
+pack_state pack log = option_map held_of (known_pack pack (ordered log))
+
+-- a recall of a batch stands in a log
+abbrev pub is_recalled : BatchKey → List LogEntry → Bool
+is_recalled batch log = list_any (λ placed. is_recall_of batch placed.entry.item) (ordered log)
+
+-- a withdrawal of a product stands in a log
+abbrev pub is_withdrawn : List ℕ → List LogEntry → Bool
+is_withdrawn gtin log = list_any (λ placed. is_withdrawal_of gtin placed.entry.item) (ordered log)

@@ -1,0 +1,44 @@
+-- The tables that a repository keeps of its log.
+use Rattle.std.specs.Bool.{⊤}
+use Rattle.std.specs.Prelude.{◌≡◌, ◌≤◌, ℕ, List, [], ◌∷◌, Bool}
+use Rattle.mv_pack.specs.declared.key.PackKey.{PackKey}
+use Rattle.mv_pack.specs.declared.key.BatchKey.{BatchKey}
+use Rattle.mv_message.specs.declared.message.Message.TheVariants.{Upload}
+use Rattle.mv_link.specs.declared.item.Item.{Item}
+use Rattle.mv_link.specs.declared.item.Item.TheVariants.{Receipt, Carried}
+use Rattle.mv_repository.specs.declared.entry.LogEntry.{LogEntry}
+use Rattle.mv_repository.specs.Order.{Placed, ordered}
+use Rattle.mv_repository.specs.PackState.{is_recall_of, is_withdrawal_of}
+use Rattle.mv_repository.specs.Copy.{is_master, IsCopyOf}
+use Rattle.mv_repository.specs.Stops.{StopTables, AreStopsOf}
+use Rattle.mv_repository.specs.Track.{Kept, is_upload_of, is_status_of, AreTracksOf}
+
+-- what an item bears on: the products, packs and batches of which it is a master, an upload, a status, a recall or a
+-- withdrawal
+pub record Bears (item : Item) (masters : List ℕ → Bool) (uploads statuses : PackKey → Bool) (recalls : BatchKey → Bool) (withdrawals : List ℕ → Bool) : Type 0 where
+  pub master : (gtin : List ℕ) → is_master gtin item ≡ masters gtin
+  pub upload : (pack : PackKey) → is_upload_of pack item ≡ uploads pack
+  pub status : (pack : PackKey) → is_status_of pack item ≡ statuses pack
+  pub recall : (batch : BatchKey) → is_recall_of batch item ≡ recalls batch
+  pub withdrawal : (gtin : List ℕ) → is_withdrawal_of gtin item ≡ withdrawals gtin
+
+-- an item is an upload of these packs of a product
+abbrev pub IsUploadOf : Item → List ℕ → List (List ℕ) → Type 0
+IsUploadOf (Carried k stamp (Upload named batch expiry national packs)) gtin serials = (gtin ≡ named) × (serials ≡ packs)
+IsUploadOf _ gtin serials = ⊥
+
+-- no stamp is greater
+abbrev pub IsUpTo : ℕ → Item → Type 0
+IsUpTo latest (Carried k stamp message) = stamp ≤ latest
+IsUpTo latest (Receipt k reach query) = ⊤
+
+abbrev pub AllUpTo : ℕ → List Placed → Type 0
+AllUpTo latest [] = ⊤
+AllUpTo latest (first ∷ rest) = IsUpTo latest first.entry.item × AllUpTo latest rest
+
+-- the tables are those of a log, and no stamp in it is greater than the latest
+pub record IsKept (log : List LogEntry) (master_places : List (List ℕ × ℕ)) (packs : List (PackKey × Kept)) (tables : StopTables) (latest : ℕ) : Type 0 where
+  pub masters : IsCopyOf log master_places
+  pub tracks : AreTracksOf log packs
+  pub stops : AreStopsOf log tables
+  pub upto : AllUpTo latest (ordered log)

@@ -1,0 +1,128 @@
+//! What stops a batch for ever: for each batch the place in the log of its first recall by stamp, and for each product
+//! that of its first withdrawal.
+
+ghost use Rattle.std.specs.Prelude.{◌≡◌, ℕ, List, [], is_some, OnOk, OnErr, IfOk, if◌then◌else◌};
+ghost use Rattle.std.specs.Map.{lookup};
+ghost use Rattle.mv_pack.specs.declared.key.BatchKey.{BatchKey as ABatchKey};
+ghost use Rattle.mv_repository.specs.Keys.{is_same_text, is_same_batch};
+ghost use Rattle.mv_repository.specs.Stops.{StopTables, stops_in, standing_at, entry_at, earlier_place, comes_first};
+
+use crate::LogEntry;
+use crate::order::{comes_first, is_before};
+use indexmap::IndexMap;
+use mv_pack::{BatchKey, Gtin};
+use std::alloc::{AllocError, Global};
+use std::marker::Model;
+
+/// How a batch stands.
+#[derive(Clone, Copy, Debug, PartialEq, Eq)]
+pub struct BatchStanding {
+    /// The batch is recalled.
+    pub recalled: bool,
+    /// Its product is withdrawn.
+    pub withdrawn: bool,
+}
+
+/// The first recall of each batch and the first withdrawal of each product, by their places in the log.
+#[derive(Drop)]
+pub(crate) struct Stops {
+    recalls: IndexMap<BatchKey, usize>,
+    withdrawals: IndexMap<Gtin, usize>,
+}
+
+impl Model for Stops {
+    ghost use Rattle.mv_repository.specs.Stops.{StopTables};
+
+    ghost Value = { StopTables };
+
+    ghost view = { λ a. record { recalls = a.recalls.entries; withdrawals = a.withdrawals.entries } };
+}
+
+impl Stops {
+    /// Tables with nothing in them.
+    pub fn new(alloc: Global) -> Stops
+        ensures { result ≡ record { recalls = []; withdrawals = [] } }
+    {
+        Stops {
+            recalls: IndexMap::new(alloc),
+            withdrawals: IndexMap::new(alloc),
+        }
+    }
+
+    /// Whether a batch has a recall.
+    pub fn has_recall(&self, batch: &BatchKey) -> bool
+        ensures { result ≡ is_some (lookup (is_same_batch batch.now) self.now.recalls) }
+    {
+        self.recalls.contains_key(batch)
+    }
+
+    /// Whether a product has a withdrawal.
+    pub fn has_withdrawal(&self, gtin: &Gtin) -> bool
+        ensures { result ≡ is_some (lookup (is_same_text gtin.now) self.now.withdrawals) }
+    {
+        self.withdrawals.contains_key(gtin)
+    }
+
+    /// How a batch stands where an entry stands.
+    pub fn standing_at(&self, log: &[LogEntry], batch: &BatchKey, place: usize) -> BatchStanding
+        ensures { result
+            ≡ standing_at (stops_in log.now self.now) (entry_at log.now place) batch.now }
+    {
+        let recall = self.recalls.get(batch).copied();
+        let withdrawal = self.withdrawals.get(&batch.gtin).copied();
+        BatchStanding {
+            recalled: is_before(log, recall, place),
+            withdrawn: is_before(log, withdrawal, place),
+        }
+    }
+
+    /// Adds a recall, the newest entry; whether it is the first of its batch by stamp.
+    pub fn add_recall(
+        &mut self,
+        log: &[LogEntry],
+        batch: BatchKey,
+        new: usize,
+    ) -> Result<bool, AllocError>
+        ensures first { IfOk result (λ first. first
+            ≡ comes_first log.now new (lookup (is_same_batch batch) self.old.recalls)) }
+        ensures recalls { OnOk result ((other : ABatchKey) →
+            lookup (is_same_batch other) self.new.recalls
+            ≡ (if is_same_batch batch other
+            then earlier_place log.now new (lookup (is_same_batch batch) self.old.recalls)
+            else lookup (is_same_batch other) self.old.recalls)) }
+        ensures withdrawals { self.new.withdrawals ≡ self.old.withdrawals }
+        ensures err { OnErr result (self.new ≡ self.old) }
+    {
+        let first = self.recalls.get(&batch).copied();
+        if !comes_first(log, new, first) {
+            return Ok(false);
+        }
+        self.recalls.insert(batch, new)?;
+        Ok(true)
+    }
+
+    /// Adds a withdrawal, the newest entry; whether it is the first of its product by stamp.
+    pub fn add_withdrawal(
+        &mut self,
+        log: &[LogEntry],
+        gtin: Gtin,
+        new: usize,
+    ) -> Result<bool, AllocError>
+        ensures first { IfOk result (λ first. first
+            ≡ comes_first log.now new (lookup (is_same_text gtin) self.old.withdrawals)) }
+        ensures withdrawals { OnOk result ((other : List ℕ) →
+            lookup (is_same_text other) self.new.withdrawals
+            ≡ (if is_same_text gtin other
+            then earlier_place log.now new (lookup (is_same_text gtin) self.old.withdrawals)
+            else lookup (is_same_text other) self.old.withdrawals)) }
+        ensures recalls { self.new.recalls ≡ self.old.recalls }
+        ensures err { OnErr result (self.new ≡ self.old) }
+    {
+        let first = self.withdrawals.get(&gtin).copied();
+        if !comes_first(log, new, first) {
+            return Ok(false);
+        }
+        self.withdrawals.insert(gtin, new)?;
+        Ok(true)
+    }
+}

@@ -1,0 +1,331 @@
+//! What is kept of one pack: the place in the log of its first upload, those of its statuses in the order of stamps, and
+//! what they make of it. This file knows no other pack.
+
+ghost use Rattle.std.specs.Prelude.{◌≡◌, ◌≤◌, ◌∷◌, ◌++◌, [], ℕ, List, length, map, insert, take, OnOk, OnErr, IfOk, if◌then◌else◌};
+ghost use Rattle.std.specs.Option.{option_copied};
+ghost use Rattle.mv_repository.specs.Order.{Ascends};
+ghost use Rattle.mv_repository.specs.Pack.{pack_after_status};
+ghost use Rattle.mv_repository.specs.PackState.{held_of};
+ghost use Rattle.mv_repository.specs.Stops.{entry_at, stops_in, comes_first};
+ghost use Rattle.mv_repository.specs.Track.{known_of, held_made_at, held_step, grown_at, put_place, nothing_kept, IsTrack, with_status, with_upload, refreshed, places_before, held_before, effect_when, newest_effect};
+
+use crate::order::{comes_first, passes, stands_before};
+use crate::status::{change_effect, is_active};
+use crate::stops::{BatchStanding, Stops};
+use crate::{Change, Effect, Held, LogEntry};
+use mv_link::Item;
+use mv_message::{Message, Party, Standing};
+use mv_pack::{BatchKey, Moment, National, PackKey};
+use std::alloc::{AllocError, Global};
+use std::marker::Model;
+
+/// A national number once more, where there is one.
+pub(crate) fn copy_of(national: &Option<National>) -> Option<National>
+    ensures { result ≡ national.now }
+{
+    match national {
+        Some(national) => Some(national.copy()),
+        None => None,
+    }
+}
+
+/// The pack that the upload at a place of the log makes.
+fn made_at(log: &[LogEntry], place: usize) -> Option<Held>
+    ensures { result ≡ held_made_at log.now place }
+{
+    let Item::Carried {
+        message: Message::Upload {
+            batch,
+            expiry,
+            national,
+            ..
+        },
+        ..
+    } = &log.get(place)?.item
+    else {
+        return None;
+    };
+    Some(Held {
+        batch: batch.copy(),
+        expiry: *expiry,
+        national: copy_of(national),
+        standing: Standing::Active,
+        change: None,
+    })
+}
+
+/// A pack that is held, once a status comes that stands at a place of the log.
+fn changed(
+    log: &[LogEntry],
+    held: Held,
+    batch: BatchStanding,
+    to: Standing,
+    sender: Party,
+    user: &str,
+    at: Moment,
+    entry: usize,
+) -> Held
+    ensures { result ≡ held_of (pack_after_status (known_of log.now held) batch to sender user.now at entry) }
+{
+    if change_effect(log, &held, batch, to, sender, user, at) != Effect::Done {
+        return held;
+    }
+    let change = if is_active(to) {
+        None
+    } else {
+        Some(Change {
+            by: sender,
+            at,
+            entry,
+        })
+    };
+    Held {
+        standing: to,
+        change,
+        ..held
+    }
+}
+
+/// A pack that is held, after one more of its statuses.
+fn advance(
+    log: &[LogEntry],
+    stops: &Stops,
+    pack: &PackKey,
+    birth: usize,
+    held: Held,
+    place: usize,
+) -> Held
+    ensures { result ≡ held_step log.now (stops_in log.now stops.now) pack.now
+        (entry_at log.now birth) held (entry_at log.now place) }
+{
+    if !stands_before(log, birth, place) {
+        return held;
+    }
+    let Some(entry) = log.get(place) else {
+        return held;
+    };
+    let Item::Carried {
+        message: Message::Status { to, user, at, .. },
+        ..
+    } = &entry.item
+    else {
+        return held;
+    };
+    let batch = BatchKey {
+        gtin: pack.gtin,
+        batch: held.batch.copy(),
+    };
+    let standing = stops.standing_at(log, &batch, place);
+    changed(
+        log,
+        held,
+        standing,
+        *to,
+        entry.sender,
+        user.as_str(),
+        *at,
+        place,
+    )
+}
+
+/// A pack by its own entries.
+fn work_out(
+    log: &[LogEntry],
+    stops: &Stops,
+    pack: &PackKey,
+    birth: Option<usize>,
+    places: &[usize],
+) -> Option<Held>
+    ensures { result ≡ grown_at log.now stops.now pack.now birth places.now }
+{
+    let first = birth?;
+    let mut held = made_at(log, first)?;
+    for place in places {
+        held = advance(log, stops, pack, first, held, *place);
+    }
+    Some(held)
+}
+
+/// Where the newest entry goes among places in the order of stamps: behind all that it doesn't pass.
+fn place_for(log: &[LogEntry], places: &[usize], new: usize) -> usize
+    requires ascend { Ascends (map (entry_at log.now) places.now) }
+    ensures within { result ≤ length places.now }
+    ensures put { insert places.now result new ≡ put_place log.now new places.now }
+    ensures before { take result places.now ≡ places_before log.now new places.now }
+{
+    let mut at = places.len();
+    while at > 0 && passes(log, new, places[at - 1]) {
+        at -= 1;
+    }
+    at
+}
+
+/// The same pack after one more status, which stands last.
+fn one_more(
+    log: &[LogEntry],
+    stops: &Stops,
+    pack: &PackKey,
+    birth: Option<usize>,
+    held: Option<Held>,
+    new: usize,
+) -> Option<Held>
+    ensures { (places : List ℕ) → held ≡ grown_at log.now stops.now pack.now birth places
+        → result ≡ grown_at log.now stops.now pack.now birth (places ++ new ∷ []) }
+{
+    let first = birth?;
+    let held = held?;
+    Some(advance(log, stops, pack, first, held, new))
+}
+
+/// The effect of the status at a place of the log, on a pack that may be held.
+fn effect_on(
+    log: &[LogEntry],
+    stops: &Stops,
+    pack: &PackKey,
+    held: &Option<Held>,
+    place: usize,
+) -> Effect
+    ensures { result ≡ effect_when log.now (stops_in log.now stops.now) pack.now
+        held.now (entry_at log.now place) }
+{
+    let Some(held) = held else {
+        return Effect::Unknown;
+    };
+    let Some(entry) = log.get(place) else {
+        return Effect::Noted;
+    };
+    let Item::Carried {
+        message: Message::Status { to, user, at, .. },
+        ..
+    } = &entry.item
+    else {
+        return Effect::Noted;
+    };
+    let batch = BatchKey {
+        gtin: pack.gtin,
+        batch: held.batch.copy(),
+    };
+    let standing = stops.standing_at(log, &batch, place);
+    change_effect(log, held, standing, *to, entry.sender, user.as_str(), *at)
+}
+
+/// The effect of the newest entry, a status that goes to a place among those of its pack.
+fn newest_effect(
+    log: &[LogEntry],
+    stops: &Stops,
+    pack: &PackKey,
+    birth: Option<usize>,
+    places: &[usize],
+    held: &Option<Held>,
+    new: usize,
+    at: usize,
+) -> Effect
+    requires worked { held.now ≡ grown_at log.now stops.now pack.now birth places.now }
+    requires within { at ≤ length places.now }
+    requires before { take at places.now ≡ places_before log.now new places.now }
+    ensures { result ≡ effect_when log.now (stops_in log.now stops.now) pack.now
+        (held_before log.now stops.now pack.now new birth places.now) (entry_at log.now new) }
+{
+    if comes_first(log, new, birth) {
+        return Effect::Unknown;
+    }
+    if at == places.len() {
+        return effect_on(log, stops, pack, held, new);
+    }
+    let before = work_out(log, stops, pack, birth, &places[..at]);
+    effect_on(log, stops, pack, &before, new)
+}
+
+/// What is kept of a pack.
+#[derive(Drop)]
+pub(crate) struct Track {
+    /// The place of the first upload that names the pack.
+    birth: Option<usize>,
+    /// The places of its statuses, in the order of stamps.
+    places: Vec<usize>,
+    /// What they make of it.
+    held: Option<Held>,
+}
+
+impl Model for Track {
+    ghost use Rattle.mv_repository.specs.Track.{Kept};
+
+    ghost Value = { Kept };
+
+    ghost view = { λ a. record { birth = a.birth; places = a.places.items; held = a.held } };
+}
+
+impl Track {
+    /// Nothing is kept yet.
+    pub fn new(alloc: Global) -> Track
+        ensures { result ≡ nothing_kept }
+    {
+        Track {
+            birth: None,
+            places: Vec::new(alloc),
+            held: None,
+        }
+    }
+
+    /// What the pack is; none where no upload names it.
+    pub fn held(&self) -> Option<&Held>
+        ensures { option_copied result ≡ self.now.held }
+    {
+        self.held.as_ref()
+    }
+
+    /// Adds the newest entry, a status of the pack, and gives its effect where it stands.
+    pub fn add_status(
+        &mut self,
+        log: &[LogEntry],
+        stops: &Stops,
+        pack: &PackKey,
+        new: usize,
+    ) -> Result<Effect, AllocError>
+        requires { IsTrack log.now stops.now pack.now self.old }
+        ensures ok { OnOk result
+            (self.new ≡ with_status log.now stops.now pack.now new self.old) }
+        ensures effect { IfOk result (λ effect. effect
+            ≡ newest_effect log.now stops.now pack.now new self.old) }
+        ensures err { OnErr result (self.new ≡ self.old) }
+    {
+        let at = place_for(log, self.places.as_slice(), new);
+        let is_last = at == self.places.len();
+        let places = self.places.as_slice();
+        let effect = newest_effect(log, stops, pack, self.birth, places, &self.held, new, at);
+        self.places.insert(at, new)?;
+        self.held = if is_last {
+            one_more(log, stops, pack, self.birth, self.held.take(), new)
+        } else {
+            work_out(log, stops, pack, self.birth, self.places.as_slice())
+        };
+        Ok(effect)
+    }
+
+    /// Adds the newest entry, an upload that names the pack; whether it is the first such by stamp.
+    pub fn add_upload(
+        &mut self,
+        log: &[LogEntry],
+        stops: &Stops,
+        pack: &PackKey,
+        new: usize,
+    ) -> bool
+        requires { IsTrack log.now stops.now pack.now self.old }
+        ensures kept { self.new ≡ with_upload log.now stops.now pack.now new self.old }
+        ensures first { result ≡ comes_first log.now new self.old.birth }
+    {
+        if !comes_first(log, new, self.birth) {
+            return false;
+        }
+        self.birth = Some(new);
+        self.held = work_out(log, stops, pack, self.birth, self.places.as_slice());
+        true
+    }
+
+    /// Works the pack out again.
+    pub fn refresh(&mut self, log: &[LogEntry], stops: &Stops, pack: &PackKey)
+        ensures { self.new ≡ refreshed log.now stops.now pack.now self.old }
+    {
+        self.held = work_out(log, stops, pack, self.birth, self.places.as_slice());
+    }
+}

@@ -7,9 +7,13 @@ use Rattle.mv_tool.specs.declared.field.LineField.TheVariants as fields
 abbrev pub field_name : LineField → List ℕ
 field_name fields.Do = codes "do"
 field_name fields.From = codes "from"
+field_name fields.Gtin = codes "gtin"
 field_name fields.Message = codes "message"
 field_name fields.Number = codes "number"
 field_name fields.Parties = codes "parties"
+field_name fields.Party = codes "party"
+field_name fields.Q = codes "q"
+field_name fields.Serial = codes "serial"
 field_name fields.Submissions = codes "submissions"
 field_name fields.To = codes "to"
 field_name fields.Uplink = codes "uplink"

@@ -22,7 +22,9 @@ kind_named text =
     else (if bytes_eq text (codes "repeat") then Some kinds.Repeat
     else (if bytes_eq text (codes "close") then Some kinds.Close
     else (if bytes_eq text (codes "lose") then Some kinds.Lose
-    else None)))))))
+    else (if bytes_eq text (codes "verify") then Some kinds.Verify
+    else (if bytes_eq text (codes "verdict") then Some kinds.Verdict
+    else None)))))))))
 
 -- the fields of a line, in byte order of their names
 abbrev pub fields_of : LineKind → List LineField
@@ -35,6 +37,8 @@ fields_of kinds.Apply = fields.Do ∷ fields.From ∷ fields.To ∷ []
 fields_of kinds.Repeat = fields.Do ∷ fields.From ∷ fields.Number ∷ fields.To ∷ []
 fields_of kinds.Close = fields.Do ∷ fields.From ∷ fields.To ∷ []
 fields_of kinds.Lose = fields.Do ∷ fields.From ∷ fields.To ∷ []
+fields_of kinds.Verify = fields.Do ∷ fields.Gtin ∷ fields.Party ∷ fields.Serial ∷ []
+fields_of kinds.Verdict = fields.Do ∷ fields.Party ∷ fields.Q ∷ []
 
 -- the names of these fields
 abbrev pub names_of : LineKind → List (List ℕ)

@@ -2,6 +2,8 @@
 use Rattle.std.specs.Prelude.{◌≡◌, ◌≢◌, ◌&&◌, ◌^◌, ℕ, Bool, true, false, nat_lt, if◌then◌else◌, List, [], ◌∷◌, ◌++◌, Option, Some, None, option_and_then, Result, Ok, Err}
 use Rattle.serde_json.specs.Data.{Data, Items, no_items, item}
 use Rattle.serde_json.specs.Find.{get, as_str, as_array, as_number, as_u64}
+use Rattle.mv_pack.specs.Code.{read_code}
+use Rattle.mv_pack.specs.Gtin.{read_gtin}
 use Rattle.mv_pack.specs.Market.{read_market}
 use Rattle.mv_pack.specs.declared.fault.PackFault.{PackFault}
 use Rattle.mv_message.specs.Messages.{read_message}
@@ -33,6 +35,19 @@ member_at field value = some_or (Missing field) (get (field_name field) value)
 -- the text of a field: M3, M5
 abbrev pub text_at : LineField → Data → Result (List ℕ) LineFault
 text_at field value = member_at field value and_then λ found. some_or (Kind field) (as_str found)
+
+-- a refusal of a reader of values is a fault of the field (M6)
+abbrev pub of_field : {A : Type 0} → LineField → Result A PackFault → Result A LineFault
+of_field field (Ok meaning) = Ok meaning
+of_field field (Err fault) = Err (Pack field fault)
+
+-- the product code of a field: M3, M5, M6
+unfoldable pub gtin_at : LineField → Data → Result (List ℕ) LineFault
+gtin_at field value = text_at field value and_then λ text. of_field field (read_gtin text)
+
+-- the serial number of a field: M3, M5, M6
+unfoldable pub serial_at : LineField → Data → Result (List ℕ) LineFault
+serial_at field value = text_at field value and_then λ text. of_field field (read_code text)
 
 -- a number of at most 32 bits
 abbrev pub of_32_bits : ℕ → Option ℕ
@@ -67,11 +82,6 @@ is_text_list value = texts_among (as_array value)
 abbrev pub are_text_lists : Items → Bool
 are_text_lists no_items = true
 are_text_lists (item value items) = is_text_list value && are_text_lists items
-
--- a refusal of a reader of values is a fault of the field (M6)
-abbrev pub of_field : {A : Type 0} → LineField → Result A PackFault → Result A LineFault
-of_field field (Ok meaning) = Ok meaning
-of_field field (Err fault) = Err (Pack field fault)
 
 -- a market of a list
 abbrev pub market_item : LineField → Data → Result (List ℕ) LineFault

@@ -1,6 +1,6 @@
 -- The JSON value of each reply. Its text is the value's compact text: no blanks, the keys in byte order.
-use Rattle.std.specs.Prelude.{ℕ, List, map, codes, true}
-use Rattle.serde_json.specs.Data.{Data, boolean, number, unsigned, string, array, object, Items, no_members, member}
+use Rattle.std.specs.Prelude.{ℕ, List, map, codes, true, Option, Some, None}
+use Rattle.serde_json.specs.Data.{Data, boolean, number, unsigned, string, array, object, Items, Members, no_members, member}
 use Rattle.serde_json.specs.View.{items_of}
 use Rattle.mv_pack.specs.Fault.{code_of as pack_code}
 use Rattle.mv_pack.specs.declared.fault.PackFault.{PackFault}
@@ -9,8 +9,14 @@ use Rattle.mv_message.specs.Fields.{field_name as message_field_name}
 use Rattle.mv_message.specs.declared.fault.MessageFault.{MessageFault}
 use Rattle.mv_message.specs.declared.fault.MessageFault.TheVariants as message
 use Rattle.mv_repository.specs.Effect.{code_of as effect_code}
+use Rattle.mv_repository.specs.declared.effect.Effect.{Effect}
+use Rattle.mv_repository.specs.declared.effect.Effect.TheVariants.{Uploaded}
+use Rattle.mv_repository.specs.declared.verdict.Joint.{Joint}
+use Rattle.mv_repository.specs.declared.verdict.Joint.TheVariants.{NotAsked, Pending, Decided}
+use Rattle.mv_repository.specs.declared.verdict.Verdict.{Verdict}
+use Rattle.mv_repository.specs.declared.verdict.Verdict.TheVariants.{Authentic, NotAuthentic}
 use Rattle.mv_machine.specs.declared.reply.Reply.{Reply}
-use Rattle.mv_machine.specs.declared.reply.Reply.TheVariants.{Submitted, Routed, Relayed, Applied, Old, Gap, Repeated, Closed, Lost, Refused}
+use Rattle.mv_machine.specs.declared.reply.Reply.TheVariants as replies
 use Rattle.mv_machine.specs.declared.reply.Refusal.{Refusal}
 use Rattle.mv_machine.specs.declared.reply.Refusal.TheVariants.{Busy}
 use Rattle.mv_machine.specs.Replies.{code_of as refusal_code}
@@ -84,18 +90,47 @@ refusal_value refusal = refused (refusal_code refusal)
 abbrev pub opened_value : ℕ → Data
 opened_value count = numbered (codes "opened") count
 
+-- a verdict on a pack
+abbrev pub verdict_value : Verdict → Data
+verdict_value Authentic = object (member (codes "verdict") (string (codes "authentic")) no_members)
+verdict_value (NotAuthentic falsification) =
+    object (member (codes "falsification") (boolean falsification)
+    (member (codes "verdict") (string (codes "not authentic")) no_members))
+
+-- the verdict of all that were asked
+abbrev pub joint_value : Joint → Data
+joint_value NotAsked = object (member (codes "verdict") (string (codes "not asked")) no_members)
+joint_value (Pending left) =
+    object (member (codes "left") (whole left) (member (codes "verdict") (string (codes "pending")) no_members))
+joint_value (Decided verdict) = verdict_value verdict
+
+-- the members of an effect: its number, and for E12 how many packs were new and how many were there
+abbrev pub effect_members : Effect → Members
+effect_members (Uploaded new old) =
+    member (codes "effect") (string (codes "E12"))
+    (member (codes "new") (whole new) (member (codes "old") (whole old) no_members))
+effect_members effect = member (codes "effect") (string (effect_code effect)) no_members
+
+-- before these, the answer that was called for
+abbrev pub with_answer : Option ℕ → Members → Members
+with_answer None members = members
+with_answer (Some k) members = member (codes "answer") (whole k) members
+
 -- the reply to a step
 abbrev pub reply_value : Reply → Data
-reply_value (Submitted k) = numbered (codes "submitted") k
-reply_value (Routed k reach) =
+reply_value (replies.Submitted k) = numbered (codes "submitted") k
+reply_value (replies.Routed k reach) =
     object (member (codes "reach") (array (wholes reach)) (member (codes "routed") (whole k) no_members))
-reply_value (Relayed n) = numbered (codes "relayed") n
-reply_value (Applied n effect) =
-    object (member (codes "applied") (whole n) (member (codes "effect") (string (effect_code effect)) no_members))
-reply_value (Old n) = numbered (codes "old") n
-reply_value (Gap n expected) =
+reply_value (replies.Relayed n) = numbered (codes "relayed") n
+reply_value (replies.Known verdict) = verdict_value verdict
+reply_value (replies.Asked q) = numbered (codes "asked") q
+reply_value (replies.Applied n effect answer) =
+    object (with_answer answer (member (codes "applied") (whole n) (effect_members effect)))
+reply_value (replies.Old n) = numbered (codes "old") n
+reply_value (replies.Gap n expected) =
     object (member (codes "expected") (whole expected) (member (codes "gap") (whole n) no_members))
-reply_value (Repeated n) = numbered (codes "repeated") n
-reply_value Closed = object (member (codes "closed") (boolean true) no_members)
-reply_value (Lost n) = numbered (codes "lost") n
-reply_value (Refused refusal) = refusal_value refusal
+reply_value (replies.Repeated n) = numbered (codes "repeated") n
+reply_value replies.Closed = object (member (codes "closed") (boolean true) no_members)
+reply_value (replies.Lost n) = numbered (codes "lost") n
+reply_value (replies.Joint verdict) = joint_value verdict
+reply_value (replies.Refused refusal) = refusal_value refusal

@@ -5,6 +5,7 @@ use Rattle.serde_json.specs.Data.{Data}
 use Rattle.serde_json.specs.Find.{as_object}
 use Rattle.serde_json.specs.Read.{read}
 use Rattle.mv_machine.specs.declared.step.Step.TheVariants as steps
+use Rattle.mv_repository.specs.Keys.{pack_key}
 use Rattle.mv_tool.specs.declared.field.LineField.TheVariants as fields
 use Rattle.mv_tool.specs.declared.line_fault.LineFault.{LineFault}
 use Rattle.mv_tool.specs.declared.line_fault.LineFault.TheVariants.{NotJson, NotObject}
@@ -12,7 +13,7 @@ use Rattle.mv_tool.specs.declared.kind.LineKind.{LineKind}
 use Rattle.mv_tool.specs.declared.kind.LineKind.TheVariants as kinds
 use Rattle.mv_tool.specs.declared.request.Request.{Request}
 use Rattle.mv_tool.specs.declared.request.Request.TheVariants.{Open, Step}
-use Rattle.mv_tool.specs.Reading.{◌and_then◌, some_or, number_at, message_at, market_lists_at}
+use Rattle.mv_tool.specs.Reading.{◌and_then◌, some_or, gtin_at, serial_at, number_at, message_at, market_lists_at}
 use Rattle.mv_tool.specs.Kinds.{kind_at, known_kind_at}
 
 -- the opening that the fields of a line ask, each read in byte order of its name
@@ -72,6 +73,21 @@ lose_at value =
     number_at fields.To value and_then λ to.
     Ok (Step (steps.Lose from to))
 
+-- the verifying of a pack that the fields of a line ask
+unfoldable pub verify_at : Data → Result Request LineFault
+verify_at value =
+    gtin_at fields.Gtin value and_then λ gtin.
+    number_at fields.Party value and_then λ party.
+    serial_at fields.Serial value and_then λ serial.
+    Ok (Step (steps.Verify party (pack_key gtin serial)))
+
+-- the taking of a verdict that the fields of a line ask
+unfoldable pub verdict_at : Data → Result Request LineFault
+verdict_at value =
+    number_at fields.Party value and_then λ party.
+    number_at fields.Q value and_then λ q.
+    Ok (Step (steps.Verdict party q))
+
 -- what the fields of a line of a kind ask
 abbrev pub request_at : LineKind → Data → Result Request LineFault
 request_at kinds.Open value = open_at value
@@ -82,6 +98,8 @@ request_at kinds.Apply value = apply_at value
 request_at kinds.Repeat value = repeat_at value
 request_at kinds.Close value = close_at value
 request_at kinds.Lose value = lose_at value
+request_at kinds.Verify value = verify_at value
+request_at kinds.Verdict value = verdict_at value
 
 -- What the value of a line asks, or the first fault: M2, those of `do`, M4, then those of each field.
 unfoldable pub read_request : Data → Result Request LineFault

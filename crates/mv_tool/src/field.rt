@@ -9,12 +9,20 @@ pub(crate) enum LineField {
     Do,
     /// `from`: the party that something comes from.
     From,
+    /// `gtin`: the product code of a pack.
+    Gtin,
     /// `message`: the message to submit.
     Message,
     /// `number`: the number of a frame.
     Number,
     /// `parties`: the markets that each party serves.
     Parties,
+    /// `party`: the party that asks.
+    Party,
+    /// `q`: the number of a query among what its party submitted.
+    Q,
+    /// `serial`: the serial number of a pack.
+    Serial,
     /// `submissions`: how many messages each party submits at most.
     Submissions,
     /// `to`: the party that something goes to.
@@ -37,9 +45,13 @@ impl LineField {
         match self {
             LineField::Do => "do",
             LineField::From => "from",
+            LineField::Gtin => "gtin",
             LineField::Message => "message",
             LineField::Number => "number",
             LineField::Parties => "parties",
+            LineField::Party => "party",
+            LineField::Q => "q",
+            LineField::Serial => "serial",
             LineField::Submissions => "submissions",
             LineField::To => "to",
             LineField::Uplink => "uplink",

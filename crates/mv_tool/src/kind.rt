@@ -31,6 +31,10 @@ pub(crate) enum LineKind {
     Close,
     /// `lose`: the front frame of a wire is lost.
     Lose,
+    /// `verify`: a party verifies a pack.
+    Verify,
+    /// `verdict`: a party takes the verdict on a query.
+    Verdict,
 }
 
 impl LineKind {
@@ -47,6 +51,8 @@ impl LineKind {
             LineKind::Repeat => &["do", "from", "number", "to"],
             LineKind::Close => &["do", "from", "to"],
             LineKind::Lose => &["do", "from", "to"],
+            LineKind::Verify => &["do", "gtin", "party", "serial"],
+            LineKind::Verdict => &["do", "party", "q"],
         }
     }
 }
@@ -64,6 +70,8 @@ fn kind_called(name: &str) -> Option<LineKind>
         "repeat" => Some(LineKind::Repeat),
         "close" => Some(LineKind::Close),
         "lose" => Some(LineKind::Lose),
+        "verify" => Some(LineKind::Verify),
+        "verdict" => Some(LineKind::Verdict),
         _ => None,
     }
 }

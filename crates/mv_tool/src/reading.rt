@@ -2,10 +2,11 @@
 
 ghost use Rattle.std.specs.Prelude.{◌≡◌, MatchResult, Ok, Err};
 ghost use Rattle.serde_json.specs.View.{view};
-ghost use Rattle.mv_tool.specs.Reading.{member_at, text_at, whole_number, number_at, message_at, Gives};
+ghost use Rattle.mv_tool.specs.Reading.{member_at, text_at, gtin_at, serial_at, whole_number, number_at, message_at, Gives};
 
 use crate::{LineFault, LineField};
 use mv_message::{Message, MessageFault};
+use mv_pack::{Gtin, Serial};
 use serde_json::Value;
 use std::alloc::Global;
 
@@ -30,6 +31,28 @@ pub(crate) fn text_of(value: &Value, field: LineField) -> Result<&str, LineFault
     match member_of(value, field)?.as_str() {
         Some(text) => Ok(text),
         None => Err(LineFault::Kind(field)),
+    }
+}
+
+/// The product code of a field: M3, M5, M6.
+#[tactic(auto, unfolding(crate::specs::Reading::gtin_at))]
+pub(crate) fn gtin_of(value: &Value, field: LineField) -> Result<Gtin, LineFault>
+    ensures { result ≡ gtin_at field (view value.now) }
+{
+    match Gtin::read(text_of(value, field)?) {
+        Ok(gtin) => Ok(gtin),
+        Err(fault) => Err(LineFault::Pack(field, fault)),
+    }
+}
+
+/// The serial number of a field: M3, M5, M6.
+#[tactic(auto, unfolding(crate::specs::Reading::serial_at))]
+pub(crate) fn serial_of(value: &Value, field: LineField) -> Result<Serial, LineFault>
+    ensures { result ≡ serial_at field (view value.now) }
+{
+    match Serial::read(text_of(value, field)?) {
+        Ok(serial) => Ok(serial),
+        Err(fault) => Err(LineFault::Pack(field, fault)),
     }
 }
 

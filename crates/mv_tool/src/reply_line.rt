@@ -1,14 +1,15 @@
 //! The texts of replies: each is the canonical text of one JSON object.
 
-ghost use Rattle.std.specs.Prelude.{◌≡◌, IfOk, map, string_bytes};
+ghost use Rattle.std.specs.Prelude.{◌≡◌, None, Some, IfOk, map, string_bytes};
 ghost use Rattle.serde_json.specs.View.{view};
 ghost use Rattle.serde_json.specs.Written.{compact_text};
-ghost use Rattle.mv_tool.specs.ReplyLines.{whole, refused, refused_field, refused_pack, message_fault_value, line_fault_value, refusal_value, opened_value, reply_value};
+ghost use Rattle.mv_tool.specs.ReplyLines.{whole, refused, refused_field, refused_pack, message_fault_value, line_fault_value, refusal_value, opened_value, verdict_value, joint_value, reply_value};
 
 use crate::LineFault;
 use mv_machine::{Refusal, Reply};
 use mv_message::{MessageFault, Party};
 use mv_pack::PackFault;
+use mv_repository::{Effect, Joint, Verdict};
 use serde_json::{Value, json};
 use std::alloc::{AllocError, Global};
 
@@ -61,9 +62,18 @@ fn reply_to_value(alloc: Global, reply: &Reply) -> Result<Value, AllocError>
             json!(in alloc; { "reach": reach, "routed": *k })
         }
         Reply::Relayed { number } => json!(in alloc; { "relayed": *number }),
-        Reply::Applied { number, effect } => {
-            json!(in alloc; { "applied": *number, "effect": effect.code() })
-        }
+        Reply::Known(verdict) => verdict_to_value(alloc, *verdict),
+        Reply::Asked { q } => json!(in alloc; { "asked": *q }),
+        Reply::Applied {
+            number,
+            effect,
+            answer: None,
+        } => applied_to_value(alloc, *number, *effect),
+        Reply::Applied {
+            number,
+            effect,
+            answer: Some(answer),
+        } => answered_to_value(alloc, *number, *effect, *answer),
         Reply::Old { number } => json!(in alloc; { "old": *number }),
         Reply::Gap { number, expected } => {
             json!(in alloc; { "expected": *expected, "gap": *number })
@@ -71,7 +81,67 @@ fn reply_to_value(alloc: Global, reply: &Reply) -> Result<Value, AllocError>
         Reply::Repeated { number } => json!(in alloc; { "repeated": *number }),
         Reply::Closed => json!(in alloc; { "closed": true }),
         Reply::Lost { number } => json!(in alloc; { "lost": *number }),
+        Reply::Joint(verdict) => joint_to_value(alloc, *verdict),
         Reply::Refused(refusal) => refusal_to_value(alloc, *refusal),
+    }
+}
+
+/// The value of a reply that a frame was applied.
+fn applied_to_value(alloc: Global, number: u32, effect: Effect) -> Result<Value, AllocError>
+    ensures { IfOk result (λ value. view value ≡ reply_value (Reply.Applied number effect None)) }
+{
+    let code = effect.code();
+    match effect {
+        Effect::Uploaded { new, old } => {
+            json!(in alloc; { "applied": number, "effect": code, "new": new, "old": old })
+        }
+        _ => json!(in alloc; { "applied": number, "effect": code }),
+    }
+}
+
+/// The value of a reply that a frame was applied, and called for an answer.
+fn answered_to_value(
+    alloc: Global,
+    number: u32,
+    effect: Effect,
+    answer: u32,
+) -> Result<Value, AllocError>
+    ensures { IfOk result (λ value.
+        view value ≡ reply_value (Reply.Applied number effect (Some answer))) }
+{
+    let code = effect.code();
+    match effect {
+        Effect::Uploaded { new, old } => json!(in alloc; {
+            "answer": answer,
+            "applied": number,
+            "effect": code,
+            "new": new,
+            "old": old
+        }),
+        _ => json!(in alloc; { "answer": answer, "applied": number, "effect": code }),
+    }
+}
+
+/// The value of a verdict on a pack.
+fn verdict_to_value(alloc: Global, verdict: Verdict) -> Result<Value, AllocError>
+    ensures { IfOk result (λ value. view value ≡ verdict_value verdict) }
+{
+    match verdict {
+        Verdict::Authentic => json!(in alloc; { "verdict": "authentic" }),
+        Verdict::NotAuthentic { falsification } => {
+            json!(in alloc; { "falsification": falsification, "verdict": "not authentic" })
+        }
+    }
+}
+
+/// The value of the verdict of all that were asked.
+fn joint_to_value(alloc: Global, verdict: Joint) -> Result<Value, AllocError>
+    ensures { IfOk result (λ value. view value ≡ joint_value verdict) }
+{
+    match verdict {
+        Joint::NotAsked => json!(in alloc; { "verdict": "not asked" }),
+        Joint::Pending { left } => json!(in alloc; { "left": left, "verdict": "pending" }),
+        Joint::Decided(verdict) => verdict_to_value(alloc, verdict),
     }
 }
 

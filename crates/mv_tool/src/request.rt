@@ -3,13 +3,14 @@
 ghost use Rattle.std.specs.Prelude.{◌≡◌};
 ghost use Rattle.serde_json.specs.View.{view};
 ghost use Rattle.mv_tool.specs.Reading.{Gives};
-ghost use Rattle.mv_tool.specs.Requests.{open_at, submit_at, route_at, relay_at, apply_at, repeat_at, close_at, lose_at, request_at, read_request, read_line};
+ghost use Rattle.mv_tool.specs.Requests.{open_at, submit_at, route_at, relay_at, apply_at, repeat_at, close_at, lose_at, verify_at, verdict_at, request_at, read_request, read_line};
 
 use crate::kind::{LineKind, kind_of, known_kind};
 use crate::market_lists::market_lists_of;
-use crate::reading::{message_of, number_of};
+use crate::reading::{gtin_of, message_of, number_of, serial_of};
 use crate::{LineFault, LineField, MarketLists};
 use mv_machine::Step;
+use mv_pack::PackKey;
 use serde_json::Value;
 use std::alloc::Global;
 
@@ -75,6 +76,8 @@ impl Request {
             LineKind::Repeat => Request::repeat_of(value),
             LineKind::Close => Request::close_of(value),
             LineKind::Lose => Request::lose_of(value),
+            LineKind::Verify => Request::verify_of(value),
+            LineKind::Verdict => Request::verdict_of(value),
         }
     }
 
@@ -165,5 +168,27 @@ impl Request {
         let from = number_of(value, LineField::From)?;
         let to = number_of(value, LineField::To)?;
         Ok(Request::Step(Step::Lose { from, to }))
+    }
+
+    /// The verifying of a pack that the fields of a line ask.
+    #[tactic(auto, unfolding(crate::specs::Requests::verify_at))]
+    fn verify_of(value: &Value) -> Result<Request, LineFault>
+        ensures { Gives result (verify_at (view value.now)) }
+    {
+        let gtin = gtin_of(value, LineField::Gtin)?;
+        let party = number_of(value, LineField::Party)?;
+        let serial = serial_of(value, LineField::Serial)?;
+        let key = PackKey { gtin, serial };
+        Ok(Request::Step(Step::Verify { party, key }))
+    }
+
+    /// The taking of a verdict that the fields of a line ask.
+    #[tactic(auto, unfolding(crate::specs::Requests::verdict_at))]
+    fn verdict_of(value: &Value) -> Result<Request, LineFault>
+        ensures { Gives result (verdict_at (view value.now)) }
+    {
+        let party = number_of(value, LineField::Party)?;
+        let q = number_of(value, LineField::Q)?;
+        Ok(Request::Step(Step::Verdict { party, q }))
     }
 }

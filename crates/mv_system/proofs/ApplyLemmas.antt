@@ -1,6 +1,6 @@
 -- The row of the list machine for a frame that is the next of its link.
-use Rattle.std.proofs.Common.{◌≡◌, ℕ, suc, ◌+◌, ◌-◌, ◌<◌, ◌≤◌, Bool, true, false, List, [], ◌∷◌, length, cond, drop, Some, None, Option, sym, refl, ap, ◌∙◌, subst, arith, leb, ltb}
-use Rattle.std.specs.Prelude.{slice_get, not, IsTrue, IsSome, nat_le, nat_lt, option_to_list}
+use Rattle.std.proofs.Common.{◌≡◌, ℕ, ◌+◌, ◌-◌, Bool, true, false, List, [], ◌∷◌, cond, drop, Some, None, Option, sym, refl, ap, ◌∙◌, subst, arith}
+use Rattle.std.specs.Prelude.{slice_get, not, IsTrue, IsSome, nat_le, nat_lt}
 use Rattle.std.proofs.lemmas.Bool.{lt-leb, le-ltb}
 use Rattle.mv_message.specs.declared.message.Message.{Message}
 use Rattle.mv_link.specs.declared.item.Item.{Item}

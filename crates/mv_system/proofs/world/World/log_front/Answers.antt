@@ -1,15 +1,15 @@
-use Rattle.std.proofs.Common.{◌≡◌, ◌+◌, ◌++◌, [], get_or, set, Some, arith, refl, sym, ap, subst, ◌∙◌}
-use Rattle.std.specs.Prelude.{slice_get, option_map, option_to_list, IsSome}
+use Rattle.std.proofs.Common.{◌≡◌, ◌+◌, [], get_or, arith, refl, sym, ap, subst, ◌∙◌}
+use Rattle.std.specs.Prelude.{slice_get, option_map, IsSome}
 use Rattle.std.specs.Option.{option_copied}
 use Rattle.std.proofs.lemmas.List.{get_or_read, length-map}
-use Rattle.mv_pairs.specs.Pairs.{cell, put}
+use Rattle.mv_pairs.specs.Pairs.{cell}
 use Rattle.mv_repository.specs.Effect.{effect_of}
 use Rattle.mv_repository.specs.Query.{answer_to}
-use Rattle.mv_repository.specs.Repository.{RepositoryState, new_repository, with_applied as repository_with}
-use Rattle.mv_machine.specs.State.{State, applied_count, submissions_of, log_of, items_on}
+use Rattle.mv_repository.specs.Repository.{RepositoryState, new_repository}
+use Rattle.mv_machine.specs.State.{submissions_of}
 use Rattle.mv_machine.specs.Steps.{entry_from, answer_number}
 use Rattle.mv_system.specs.Wire.{new_wire}
-use Rattle.mv_system.specs.World.{parts_of, state_of, repository_at, IsSystem, IsAnswerable}
+use Rattle.mv_system.specs.World.{parts_of, repository_at}
 use Rattle.mv_system.proofs.WireLemmas.{numbers_of-front}
 use Rattle.mv_system.proofs.SystemLemmas.{link_facts, parties-places, applied_count-few, is_logged, front_item}
 use Rattle.mv_system.proofs.world.World.log_front.Goals as goal

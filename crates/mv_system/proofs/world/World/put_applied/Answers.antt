@@ -1,11 +1,8 @@
 -- The row of a frame that is the next.
-use Rattle.std.proofs.Common.{◌≡◌, true, drop, sym, subst, ap, ◌∙◌, refl}
-use Rattle.std.specs.Prelude.{IsSome, IsTrue, Some}
+use Rattle.std.proofs.Common.{◌≡◌, true, sym, subst, ◌∙◌}
 use Rattle.mv_repository.specs.Query.{answer_to}
-use Rattle.mv_machine.specs.declared.reply.Reply.TheVariants.{Applied}
-use Rattle.mv_machine.specs.Replies.{takes_memory}
-use Rattle.mv_machine.specs.State.{State, are_parties, log_of, wire_of, applied_count, with_wire}
-use Rattle.mv_machine.specs.Steps.{Outcome, entry_from}
+use Rattle.mv_machine.specs.State.{State, are_parties, log_of}
+use Rattle.mv_machine.specs.Steps.{entry_from}
 use Rattle.mv_system.proofs.ApplyLemmas.{applied_row, outcome_is, takes_room, with_applied-parties}
 use Rattle.mv_system.proofs.world.World.put_applied.Goals as goal
 

@@ -84,7 +84,8 @@ impl BatchLinks {
     /// A batch is linked to another from now on. Where memory is refused nothing has changed.
     pub(crate) fn add(&mut self, before: &BatchKey, after: &BatchKey) -> Result<(), AllocError>
         ensures ok { OnOk result ((other : ABatch) → linked_in self.new other
-            ≡ (if is_same_batch before.now other then with_link (linked_in self.old before.now) after.now
+            ≡ (if is_same_batch before.now other
+            then with_link (linked_in self.old before.now) after.now
             else linked_in self.old other)) }
         ensures err { OnErr result (self.new ≡ self.old) }
     {
@@ -172,7 +173,8 @@ fn copies(alloc: Global, batches: &[BatchKey]) -> Result<Vec<BatchKey>, AllocErr
 /// The batches, ascending and each once.
 fn ascending(batches: Vec<BatchKey>) -> Vec<BatchKey>
     ensures order { IsStrictlySortedBy batch_cmp result.items }
-    ensures members { (batch : ABatch) → Contains result.items batch ↔ Contains batches.items batch }
+    ensures members { (batch : ABatch)
+        → Contains result.items batch ↔ Contains batches.items batch }
 {
     let mut batches = batches;
     batches.sort_unstable();

@@ -120,7 +120,8 @@ impl Catalogues {
     /// A product has this master from now on. Where memory is refused nothing has changed.
     pub(crate) fn set_product(&mut self, gtin: Gtin, product: &Product) -> Result<(), AllocError>
         ensures ok { OnOk result ((other : List ℕ) → catalogue_in self.new other
-            ≡ (if is_same_gtin gtin other then Some (with_product (catalogue_in self.old gtin) product.now)
+            ≡ (if is_same_gtin gtin other
+            then Some (with_product (catalogue_in self.old gtin) product.now)
             else catalogue_in self.old other)) }
         ensures err { OnErr result (self.new ≡ self.old) }
     {
@@ -142,7 +143,8 @@ impl Catalogues {
         expiry: Expiry,
     ) -> Result<(), AllocError>
         ensures ok { OnOk result ((other : List ℕ) → catalogue_in self.new other
-            ≡ (if is_same_gtin gtin other then Some (with_listing (catalogue_in self.old gtin) (batch.now, expiry))
+            ≡ (if is_same_gtin gtin other
+            then Some (with_listing (catalogue_in self.old gtin) (batch.now, expiry))
             else catalogue_in self.old other)) }
         ensures err { OnErr result (self.new ≡ self.old) }
     {

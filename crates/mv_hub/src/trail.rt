@@ -121,7 +121,8 @@ fn note(
     batch_links: &mut BatchLinks,
     entry: &Entry,
 ) -> Result<(), AllocError>
-    ensures ok { OnOk result ((entries : List AnEntry) → AreTables entries catalogues.old batch_links.old
+    ensures ok { OnOk result ((entries : List AnEntry)
+        → AreTables entries catalogues.old batch_links.old
         → AreTables (entries ++ entry.now ∷ []) catalogues.new batch_links.new) }
     ensures catalogues { OnErr result (catalogues.new ≡ catalogues.old) }
     ensures links { OnErr result (batch_links.new ≡ batch_links.old) }

@@ -17,7 +17,7 @@ pub invariant_of-self-then-self-stamp : goal.invariant_of-self-then-self-stamp
 invariant_of-self-then-self-stamp c =
     let log = c.ready_entry.new.log.items in
     let entry = c.in_ok-entry.entry in
-    let kept : IsKept log c.self.inside.masters.entries c.self.inside.packs.entries c.self.inside.stops c.self.inside.latest = rw c.ready_entry.ensures.items c.self.invariant in
+    let kept : IsKept log c.self.inside.masters.entries c.self.inside.packs.entries c.self.inside.stops c.self.inside.latest = rw c.ready_entry.ensures.items c.self.invariant.0 in
     let new : c.len-new.result ≡ length log = search rules in
     let bears : Bears entry.item (λ gtin. false) (λ pack. false) (λ pack. false) (λ batch. false) (is_same_text c.args.gtin) = rw c.in_ok-entry.ensures.entry c.requires.bears in
     let stops : AreStopsOf (longer log entry) c.add_withdrawal.new.self =
@@ -26,14 +26,14 @@ invariant_of-self-then-self-stamp c =
     let least : c.self.inside.latest ≤ c.args.stamp = omega arith in
     let stamp : rank entry.item ≡ c.args.stamp = rw c.in_ok-entry.ensures.entry c.requires.stamp in
     rw c.push_reserved.ensures.items
-    (kept-latest log entry c.self.inside.masters.entries c.self.inside.packs.entries c.self.inside.stops c.add_withdrawal.new.self c.self.inside.latest c.args.stamp (λ batch. false) (is_same_text c.args.gtin) kept
-    bears least (upto_rank c.args.stamp entry.item (omega (arith, stamp))) stops (omega (arith, stamp)))
+    ((kept-latest log entry c.self.inside.masters.entries c.self.inside.packs.entries c.self.inside.stops c.add_withdrawal.new.self c.self.inside.latest c.args.stamp (λ batch. false) (is_same_text c.args.gtin) kept
+    bears least (upto_rank c.args.stamp entry.item (omega (arith, stamp))) stops (omega (arith, stamp))), c.self.invariant.1)
 
 pub invariant_of-self-2 : goal.invariant_of-self-2
 invariant_of-self-2 c =
     let log = c.ready_entry.new.log.items in
     let entry = c.in_ok-entry.entry in
-    let kept : IsKept log c.self.inside.masters.entries c.self.inside.packs.entries c.self.inside.stops c.self.inside.latest = rw c.ready_entry.ensures.items c.self.invariant in
+    let kept : IsKept log c.self.inside.masters.entries c.self.inside.packs.entries c.self.inside.stops c.self.inside.latest = rw c.ready_entry.ensures.items c.self.invariant.0 in
     let new : c.len-new.result ≡ length log = search rules in
     let bears : Bears entry.item (λ gtin. false) (λ pack. false) (λ pack. false) (λ batch. false) (is_same_text c.args.gtin) = rw c.in_ok-entry.ensures.entry c.requires.bears in
     let stops : AreStopsOf (longer log entry) c.add_withdrawal.new.self =
@@ -41,15 +41,15 @@ invariant_of-self-2 c =
     (rw (c.as_slice.ensures.value, c.push_reserved.ensures.items, new) at c.in-Ok.ensures.withdrawals) c.in-Ok.ensures.recalls in
     let stamp : rank entry.item ≡ c.args.stamp = rw c.in_ok-entry.ensures.entry c.requires.stamp in
     rw c.push_reserved.ensures.items
-    (kept-refreshed log entry c.self.inside.masters.entries c.self.inside.packs.entries c.refresh_all.new.packs.entries c.self.inside.stops c.add_withdrawal.new.self c.self.inside.latest c.self.inside.latest (λ batch. false) (is_same_text c.args.gtin) kept
+    ((kept-refreshed log entry c.self.inside.masters.entries c.self.inside.packs.entries c.refresh_all.new.packs.entries c.self.inside.stops c.add_withdrawal.new.self c.self.inside.latest c.self.inside.latest (λ batch. false) (is_same_text c.args.gtin) kept
     bears (omega arith) (upto_rank c.self.inside.latest entry.item (omega (arith, stamp))) stops
-    (rw (c.as_slice-2.ensures.value, c.push_reserved.ensures.items) at c.refresh_all.ensures))
+    (rw (c.as_slice-2.ensures.value, c.push_reserved.ensures.items) at c.refresh_all.ensures)), record { held = c.count_packs-self-inside.ensures.held; active = c.count_packs-self-inside.ensures.active })
 
 pub returns-then-self-stamp-clause-effect : goal.returns-then-self-stamp-clause-effect
 returns-then-self-stamp-clause-effect c =
     let log = c.ready_entry.new.log.items in
     let entry = c.in_ok-entry.entry in
-    let kept : IsKept log c.self.inside.masters.entries c.self.inside.packs.entries c.self.inside.stops c.self.inside.latest = rw c.ready_entry.ensures.items c.self.invariant in
+    let kept : IsKept log c.self.inside.masters.entries c.self.inside.packs.entries c.self.inside.stops c.self.inside.latest = rw c.ready_entry.ensures.items c.self.invariant.0 in
     let new : c.len-new.result ≡ length log = search rules in
     let is : is_withdrawal_of c.args.gtin entry.item ≡ true = rw c.in_ok-entry.ensures.entry (c.requires.bears.withdrawal c.args.gtin ∙ text-self c.args.gtin) in
     rw (← c.self.view_is)
@@ -61,7 +61,7 @@ pub returns-clause-effect : goal.returns-clause-effect
 returns-clause-effect c =
     let log = c.ready_entry.new.log.items in
     let entry = c.in_ok-entry.entry in
-    let kept : IsKept log c.self.inside.masters.entries c.self.inside.packs.entries c.self.inside.stops c.self.inside.latest = rw c.ready_entry.ensures.items c.self.invariant in
+    let kept : IsKept log c.self.inside.masters.entries c.self.inside.packs.entries c.self.inside.stops c.self.inside.latest = rw c.ready_entry.ensures.items c.self.invariant.0 in
     let new : c.len-new.result ≡ length log = search rules in
     let is : is_withdrawal_of c.args.gtin entry.item ≡ true = rw c.in_ok-entry.ensures.entry (c.requires.bears.withdrawal c.args.gtin ∙ text-self c.args.gtin) in
     rw (← c.self.view_is)

@@ -314,21 +314,28 @@ fn query_is_answered(alloc: Global) -> Option<bool> {
     let mut repository = changed(alloc, Standing::Exported, T)?;
     let query = carried(6, Message::Query { key: pack("S1")? });
     let (_, answer) = repository.apply(2, &query).ok()?;
-    let Some(
+    Some(is_exported_answer(&answer?))
+}
+
+/// Whether a message answers the sixth message of party 2 with a pack that was exported.
+fn is_exported_answer(answer: &Message) -> bool {
+    match answer {
         Message::Answer {
             asker,
             q,
             found,
             ..
-        },
-    ) = answer
-    else {
-        return Some(false);
-    };
-    let Found::Present { standing, .. } = found else {
-        return Some(false);
-    };
-    Some(asker == 2 && q == 6 && standing == Standing::Exported)
+        } => *asker == 2 && *q == 6 && is_exported(found),
+        _ => false,
+    }
+}
+
+/// Whether a pack was found that was exported.
+fn is_exported(found: &Found) -> bool {
+    match found {
+        Found::Present { standing, .. } => *standing == Standing::Exported,
+        Found::Absent => false,
+    }
 }
 
 /// Whether the verdict on an own query waits for the party that was asked.

@@ -241,13 +241,17 @@ count-push : (test : Kept → Bool) (key : PackKey) (es : List (PackKey × Kept)
 count-push test key es h = sym (length-filter (λ e. test e.1) (es ++ (key, nothing_kept) ∷ [])) ∙ ap length (filter-push test key es h) ∙ length-filter (λ e. test e.1) es
 
 -- an entry with nothing kept counts for nothing
-pub tally-push : (key : PackKey) (es es' : List (PackKey × Kept)) (tally : Tally) → es' ≡ es ++ (key, nothing_kept) ∷ [] → IsTally es tally → IsTally es' tally
-tally-push key es es' tally e t =
-    rw e (record { held = t.held ∙ sym (count-push is_made key es refl); active = t.active ∙ sym (count-push is_active_kept key es refl) })
+pub count-inserted : (test : Kept → Bool) (key : PackKey) (es es' : List (PackKey × Kept)) (kept : Kept) → test nothing_kept ≡ false → kept ≡ nothing_kept → es' ≡ es ++ (key, kept) ∷ []
+    → count_by (λ e. test e.1) es' ≡ count_by (λ e. test e.1) es
+count-inserted test key es es' kept none nothing e =
+    ap (λ (xs : List (PackKey × Kept)). count_by (λ e. test e.1) xs) (e ∙ ap (λ (k : Kept). es ++ (key, k) ∷ []) nothing) ∙ count-push test key es none
 
-pub one-least : (b : Bool) → one_if b ≤ 1
+one-least : (b : Bool) → one_if b ≤ 1
 one-least true = omega arith
 one-least false = omega arith
+
+pub at-most-one : (n : ℕ) (b : Bool) → n ≡ one_if b → n ≤ 1
+at-most-one n b e = rw e (one-least b)
 
 same_sum : (m n k : ℕ) → m + k ≡ n + k → n ≡ m
 same_sum m n k e = omega (arith, e)

@@ -52,7 +52,7 @@ pack-self a = λ i. text-self a.gtin i && text-self a.serial i
 pub batch-self : (a : BatchKey) → is_same_batch a a ≡ true
 batch-self a = λ i. text-self a.gtin i && text-self a.batch i
 
-none_from : (o : Option Kept) → is_some o ≡ false → o ≡ None
+pub none_from : (o : Option Kept) → is_some o ≡ false → o ≡ None
 none_from None e = refl
 none_from (Some x) e = absurd (true≢false e)
 

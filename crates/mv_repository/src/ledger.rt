@@ -148,6 +148,7 @@ impl Ledger {
     pub fn counts(&self) -> Counts
         ensures { result ≡ counts_of self.now.log }
     {
+        prove!(self.tally.held <= self.packs.len());
         Counts {
             entries: self.log.len(),
             products: self.masters.len(),

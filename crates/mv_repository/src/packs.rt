@@ -6,7 +6,6 @@ ghost use Rattle.std.specs.List.{count_by, IsDistinct};
 ghost use Rattle.std.specs.Map.{set_value};
 ghost use Rattle.std.specs.Option.{option_copied};
 ghost use Rattle.mv_pack.specs.declared.key.PackKey.{PackKey as APackKey};
-ghost use Rattle.mv_repository.specs.declared.packs.Tally.{Tally as ATally};
 ghost use Rattle.mv_repository.specs.Keys.{is_same_pack, pack_key};
 ghost use Rattle.mv_repository.specs.PackState.{has_pack};
 ghost use Rattle.mv_repository.specs.Stops.{comes_first};
@@ -36,8 +35,10 @@ pub(crate) fn ensure(
     ensures stays { (pack : APackKey) → IsSome (get is_same_pack packs.old pack)
         → IsSome (get is_same_pack packs.new pack) }
     ensures same { (pack : APackKey) → kept_in pack packs.new.entries ≡ kept_in pack packs.old.entries }
-    ensures tally { (tally : ATally) → IsTally packs.old.entries tally
-        → IsTally packs.new.entries tally }
+    ensures held { count_by (λ entry. is_made entry.1) packs.new.entries
+        ≡ count_by (λ entry. is_made entry.1) packs.old.entries }
+    ensures active { count_by (λ entry. is_active_kept entry.1) packs.new.entries
+        ≡ count_by (λ entry. is_active_kept entry.1) packs.old.entries }
 {
     if !packs.contains_key(&key) {
         packs.insert(key, Track::new(alloc))?;
@@ -55,8 +56,10 @@ pub(crate) fn ensure_all(
     ensures there { OnOk result ((k : ℕ) → k < length serials.now
         → IsSome (get is_same_pack packs.new (pack_key gtin (get_or serials.now k [])))) }
     ensures same { (pack : APackKey) → kept_in pack packs.new.entries ≡ kept_in pack packs.old.entries }
-    ensures tally { (tally : ATally) → IsTally packs.old.entries tally
-        → IsTally packs.new.entries tally }
+    ensures held { count_by (λ entry. is_made entry.1) packs.new.entries
+        ≡ count_by (λ entry. is_made entry.1) packs.old.entries }
+    ensures active { count_by (λ entry. is_active_kept entry.1) packs.new.entries
+        ≡ count_by (λ entry. is_active_kept entry.1) packs.old.entries }
 {
     for serial in serials {
         let serial = serial.copy();

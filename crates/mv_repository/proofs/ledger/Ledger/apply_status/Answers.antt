@@ -1,12 +1,12 @@
 -- The pack of the status is worked out with it; where memory is refused all is as before.
-use Rattle.std.proofs.Common.{◌≡◌, ◌∙◌, ◌-◌, [], ◌∷◌, rules, arith, length, take, true, ℕ, Bool, ◌≤◌}
+use Rattle.std.proofs.Common.{◌≡◌, ◌∙◌, sym, ◌-◌, [], ◌∷◌, rules, arith, length, take, true}
 use Rattle.std.proofs.Math.Seq.{take-append_seam}
 use Rattle.std.specs.Prelude.{vec_len}
 use Rattle.mv_repository.specs.Effect.{effect_of}
-use Rattle.mv_repository.specs.Track.{is_status_of, is_made, is_active_kept, one_if}
+use Rattle.mv_repository.specs.Track.{is_status_of, is_made, is_active_kept}
 use Rattle.mv_repository.specs.Tables.{IsKept}
 use Rattle.mv_repository.proofs.KeptLemmas.{same_kept, pack-self}
-use Rattle.mv_repository.proofs.CountLemmas.{tally-same, count-set, one-least}
+use Rattle.mv_repository.proofs.CountLemmas.{tally-same, count-set, at-most-one}
 use Rattle.mv_repository.proofs.EffectLemmas.{status-effect}
 use Rattle.mv_repository.proofs.TableLemmas.{is_track}
 use Rattle.mv_repository.proofs.LedgerLemmas.{kept-same, kept-status}
@@ -28,7 +28,7 @@ invariant_of-self-in-Ok c =
     rw c.push_reserved.ensures.items
     ((kept-status log c.in_ok-entry.entry c.self.inside.masters.entries c.ensure.new.packs.entries c.add_status.new.packs.entries c.self.inside.stops c.self.inside.latest c.latest_with-self-inside.result c.args.key.now kept
     (rw c.in_ok-entry.ensures.entry c.requires) c.latest_with-self-inside.ensures.before (rw c.in_ok-entry.ensures.entry c.latest_with-self-inside.ensures.item)
-    (rw (c.as_slice.ensures.value, c.push_reserved.ensures.items, new) at c.in-Ok.ensures.ok)), c.retallied.ensures)
+    (rw (c.as_slice.ensures.value, c.push_reserved.ensures.items, new) at c.in-Ok.ensures.ok)), c.retallied-self-inside.ensures)
 
 pub invariant_of-self-in-Err : goal.invariant_of-self-in-Err
 invariant_of-self-in-Err c =
@@ -40,8 +40,8 @@ invariant_of-self-in-Err c =
     rw back
     ((kept-same c.self.inside.log.items c.self.inside.masters.entries c.self.inside.packs.entries c.add_status.new.packs.entries c.self.inside.stops c.self.inside.latest c.self.invariant.0
     (λ pack. c.in-Err.ensures.err pack ∙ same_kept c.ensure.new.packs.entries c.args.key.now pack ∙ c.ensure.ensures.same pack)),
-    tally-same c.args.key.now c.ensure.new.packs.entries c.add_status.new.packs.entries c.self.inside.tally c.in_ok-ensure.ensures.there c.add_status.ensures.entries
-    (c.in-Err.ensures.err c.args.key.now ∙ same_kept c.ensure.new.packs.entries c.args.key.now c.args.key.now) (c.ensure.ensures.tally c.self.inside.tally c.self.invariant.1))
+    tally-same c.args.key.now c.ensure.new.packs.entries c.add_status.new.packs.entries c.self.inside.tally (rw c.copy.ensures at c.in_ok-ensure.ensures.there) c.add_status.ensures.entries
+    (c.in-Err.ensures.err c.args.key.now ∙ same_kept c.ensure.new.packs.entries c.args.key.now c.args.key.now) (record { held = c.self.invariant.1.held ∙ sym c.ensure.ensures.held; active = c.self.invariant.1.active ∙ sym c.ensure.ensures.active }))
 
 pub returns-in-Ok-clause-effect : goal.returns-in-Ok-clause-effect
 returns-in-Ok-clause-effect c =
@@ -56,14 +56,11 @@ returns-in-Ok-clause-effect c =
     ∙ status-effect log entry c.ensure.new.packs.entries c.self.inside.stops c.args.key.now kept.tracks kept.stops is
     ∙ (λ i. effect_of (c.ready_entry.ensures.items i) (c.in_ok-entry.ensures.entry i)))
 
-pub retallied-requires : goal.retallied-requires
-retallied-requires c =
-    let before = c.ensure.ensures.tally c.self.inside.tally c.self.invariant.1 in
+pub retallied-self-inside-requires : goal.retallied-self-inside-requires
+retallied-self-inside-requires c =
+    let there = rw c.copy.ensures at c.in_ok-ensure.ensures.there in
     record {
-      held = count-set is_made c.args.key.now c.ensure.new.packs.entries c.add_status.new.packs.entries _ _ _ c.in_ok-ensure.ensures.there c.in-Ok.ensures.entries before.held c.tally_of-was.ensures.held c.tally_of-is.ensures.held;
-      active = count-set is_active_kept c.args.key.now c.ensure.new.packs.entries c.add_status.new.packs.entries _ _ _ c.in_ok-ensure.ensures.there c.in-Ok.ensures.entries before.active c.tally_of-was.ensures.active c.tally_of-is.ensures.active;
-      ones = (at_most c.tally_of-was.ensures.held, at_most c.tally_of-was.ensures.active, at_most c.tally_of-is.ensures.held, at_most c.tally_of-is.ensures.active);
+      held = count-set is_made c.args.key.now c.ensure.new.packs.entries c.add_status.new.packs.entries _ _ _ there c.in-Ok.ensures.entries (c.self.invariant.1.held ∙ sym c.ensure.ensures.held) c.tally_of-was.ensures.held c.tally_of-is.ensures.held;
+      active = count-set is_active_kept c.args.key.now c.ensure.new.packs.entries c.add_status.new.packs.entries _ _ _ there c.in-Ok.ensures.entries (c.self.invariant.1.active ∙ sym c.ensure.ensures.active) c.tally_of-was.ensures.active c.tally_of-is.ensures.active;
+      ones = (at-most-one _ _ c.tally_of-was.ensures.held, at-most-one _ _ c.tally_of-was.ensures.active, at-most-one _ _ c.tally_of-is.ensures.held, at-most-one _ _ c.tally_of-is.ensures.active);
     }
-  where
-    at_most : {n : ℕ} {b : Bool} → n ≡ one_if b → n ≤ 1
-    at_most {n} {b} e = rw e (one-least b)

@@ -1,5 +1,5 @@
 -- Each pack of the upload is worked out with it.
-use Rattle.std.proofs.Common.{◌≡◌, ◌∙◌, ◌-◌, ap, ℕ, List, rules, length}
+use Rattle.std.proofs.Common.{◌≡◌, ◌∙◌, ◌-◌, ap, sym, ℕ, List, rules, length}
 use Rattle.mv_repository.specs.PackState.{has_pack}
 use Rattle.mv_repository.specs.declared.effect.Effect.TheVariants.{Uploaded}
 use Rattle.mv_repository.specs.Effect.{effect_of}
@@ -17,7 +17,13 @@ add_uploads-count-requires-clause-tracks c =
     (are_tracks log c.in_ok-entry.entry c.self.inside.packs.entries c.ensure_all.new.packs.entries c.self.inside.stops kept.tracks kept.stops c.ensure_all.ensures.same)
 
 pub add_uploads-count-requires-clause-tally : goal.add_uploads-count-requires-clause-tally
-add_uploads-count-requires-clause-tally c = c.ensure_all.ensures.tally c.self.inside.tally c.self.invariant.1
+add_uploads-count-requires-clause-tally c =
+    record { held = c.self.invariant.1.held ∙ sym c.ensure_all.ensures.held; active = c.self.invariant.1.active ∙ sym c.ensure_all.ensures.active }
+
+pub invariant_of-self-in_err-ensure_all : goal.invariant_of-self-in_err-ensure_all
+invariant_of-self-in_err-ensure_all c =
+    (kept-same c.ready_entry.new.log.items _ c.self.inside.packs.entries _ _ _ (rw c.ready_entry.ensures.items c.self.invariant.0) c.ensure_all.ensures.same,
+    record { held = c.self.invariant.1.held ∙ sym c.ensure_all.ensures.held; active = c.self.invariant.1.active ∙ sym c.ensure_all.ensures.active })
 
 pub invariant_of-self-2 : goal.invariant_of-self-2
 invariant_of-self-2 c =

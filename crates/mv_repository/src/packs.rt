@@ -136,8 +136,8 @@ fn add_tallied(
     ensures keys { keys packs.new ≡ keys packs.old }
     ensures kept { (pack : APackKey) → kept_in pack packs.new.entries
         ≡ (if is_same_pack key.now pack
-            then with_upload log.now stops.now key.now new (kept_in key.now packs.old.entries)
-            else kept_in pack packs.old.entries) }
+        then with_upload log.now stops.now key.now new (kept_in key.now packs.old.entries)
+        else kept_in pack packs.old.entries) }
     ensures first { result ≡ comes_first log.now new (kept_in key.now packs.old.entries).birth }
     ensures tally { IsTally packs.new.entries tally.new }
 {

@@ -1,5 +1,5 @@
 -- One serial number more.
-use Rattle.std.proofs.Common.{◌≡◌, ◌∙◌, ◌+◌, ◌≤◌, [], length, get_or, Bool, true, false, cond, arith}
+use Rattle.std.proofs.Common.{◌≡◌, ◌∙◌, ◌+◌, ◌≤◌, [], get_or, Bool, true, false, cond, arith}
 use Rattle.std.proofs.lemmas.List.{get_or_default}
 use Rattle.mv_repository.specs.Keys.{pack_key}
 use Rattle.mv_repository.proofs.KeptLemmas.{tracks_more, looks_more, there_stays}

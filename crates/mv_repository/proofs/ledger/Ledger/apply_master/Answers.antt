@@ -1,5 +1,5 @@
 -- Where the master is late the table stays; else its place is the one that the table finds.
-use Rattle.std.proofs.Common.{◌≡◌, ◌∙◌, List, [], ◌∷◌, ◌++◌, ℕ, sym, ap, rules, length, refl, arith, false, ◌≤◌}
+use Rattle.std.proofs.Common.{◌≡◌, ◌∙◌, List, ℕ, sym, ap, rules, length, refl, arith, false, ◌≤◌}
 use Rattle.mv_repository.specs.declared.entry.LogEntry.{LogEntry}
 use Rattle.mv_repository.specs.Copy.{is_master, is_late, last_master, IsCopyOf}
 use Rattle.mv_repository.specs.Order.{ordered}
@@ -27,10 +27,14 @@ invariant_of-self-3 c =
     let upto : IsUpTo c.latest_with-self-inside.result c.in_ok-entry.entry.item = rw c.in_ok-entry.ensures.entry c.latest_with-self-inside.ensures.item in
     rw c.push_reserved.ensures.items
     (elim c.if-not-is_late.branch [
-      | then-not-is_late+in_ok-insert w ↦ rw w.self-inside-is
-          (kept-master log c.in_ok-entry.entry c.self.inside.masters.entries _ c.self.inside.packs.entries c.self.inside.stops c.self.inside.latest c.latest_with-self-inside.result c.args.gtin kept bears before upto
-          (copy-latest log c.self.inside.masters.entries _ c.in_ok-entry.entry c.args.gtin c.len-place.result copy names (late ∙ w.if-not-is_late.true) w.in_ok-insert.ensures.updates.0 place), c.self.invariant.1)
-      | else-not-is_late w ↦ rw w.self-inside-is
-          (kept-master log c.in_ok-entry.entry c.self.inside.masters.entries _ c.self.inside.packs.entries c.self.inside.stops c.self.inside.latest c.latest_with-self-inside.result c.args.gtin kept bears before upto
-          (copy-late log c.self.inside.masters.entries c.in_ok-entry.entry c.args.gtin copy names (late ∙ w.if-not-is_late.false)), c.self.invariant.1)
+      | then-not-is_late+in_ok-insert w ↦ rw w.self-inside-is (
+        kept-master log c.in_ok-entry.entry c.self.inside.masters.entries _ c.self.inside.packs.entries c.self.inside.stops c.self.inside.latest c.latest_with-self-inside.result c.args.gtin kept bears before upto
+            (copy-latest log c.self.inside.masters.entries _ c.in_ok-entry.entry c.args.gtin c.len-place.result copy names (late ∙ w.if-not-is_late.true) w.in_ok-insert.ensures.updates.0 place),
+        c.self.invariant.1,
+      )
+      | else-not-is_late w ↦ rw w.self-inside-is (
+        kept-master log c.in_ok-entry.entry c.self.inside.masters.entries _ c.self.inside.packs.entries c.self.inside.stops c.self.inside.latest c.latest_with-self-inside.result c.args.gtin kept bears before upto
+            (copy-late log c.self.inside.masters.entries c.in_ok-entry.entry c.args.gtin copy names (late ∙ w.if-not-is_late.false)),
+        c.self.invariant.1,
+      )
     ])

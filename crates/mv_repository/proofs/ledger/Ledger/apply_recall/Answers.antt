@@ -5,7 +5,7 @@ use Rattle.mv_repository.specs.Order.{rank}
 use Rattle.mv_repository.specs.Stops.{AreStopsOf}
 use Rattle.mv_repository.specs.PackState.{is_recall_of}
 use Rattle.mv_repository.specs.Effect.{effect_of}
-use Rattle.mv_repository.specs.Tables.{Bears, IsKept, IsUpTo}
+use Rattle.mv_repository.specs.Tables.{Bears, IsKept}
 use Rattle.mv_repository.proofs.TableLemmas.{longer, stops-recall}
 use Rattle.mv_repository.proofs.LatestLemmas.{upto_rank}
 use Rattle.mv_repository.proofs.KeptLemmas.{batch-self}
@@ -25,9 +25,11 @@ invariant_of-self-then-self-stamp c =
     (rw (c.as_slice.ensures.value, c.push_reserved.ensures.items, new, c.copy.ensures) at c.in-Ok.ensures.recalls) c.in-Ok.ensures.withdrawals in
     let least : c.self.inside.latest ≤ c.args.stamp = omega arith in
     let stamp : rank entry.item ≡ c.args.stamp = rw c.in_ok-entry.ensures.entry c.requires.stamp in
-    rw c.push_reserved.ensures.items
-    ((kept-latest log entry c.self.inside.masters.entries c.self.inside.packs.entries c.self.inside.stops c.add_recall.new.self c.self.inside.latest c.args.stamp (is_same_batch c.args.batch.now) (λ gtin. false) kept
-    bears least (upto_rank c.args.stamp entry.item (omega (arith, stamp))) stops (omega (arith, stamp))), c.self.invariant.1)
+    rw c.push_reserved.ensures.items (
+      (kept-latest log entry c.self.inside.masters.entries c.self.inside.packs.entries c.self.inside.stops c.add_recall.new.self c.self.inside.latest c.args.stamp (is_same_batch c.args.batch.now) (λ gtin. false) kept
+          bears least (upto_rank c.args.stamp entry.item (omega (arith, stamp))) stops (omega (arith, stamp))),
+      c.self.invariant.1,
+    )
 
 pub invariant_of-self-2 : goal.invariant_of-self-2
 invariant_of-self-2 c =
@@ -40,10 +42,12 @@ invariant_of-self-2 c =
     stops-recall log entry c.self.inside.stops c.add_recall.new.self c.args.batch.now kept.stops bears.recall bears.withdrawal
     (rw (c.as_slice.ensures.value, c.push_reserved.ensures.items, new, c.copy.ensures) at c.in-Ok.ensures.recalls) c.in-Ok.ensures.withdrawals in
     let stamp : rank entry.item ≡ c.args.stamp = rw c.in_ok-entry.ensures.entry c.requires.stamp in
-    rw c.push_reserved.ensures.items
-    ((kept-refreshed log entry c.self.inside.masters.entries c.self.inside.packs.entries c.refresh_all.new.packs.entries c.self.inside.stops c.add_recall.new.self c.self.inside.latest c.self.inside.latest (is_same_batch c.args.batch.now) (λ gtin. false) kept
-    bears (omega arith) (upto_rank c.self.inside.latest entry.item (omega (arith, stamp))) stops
-    (rw (c.as_slice-2.ensures.value, c.push_reserved.ensures.items) at c.refresh_all.ensures)), record { held = c.count_packs-self-inside.ensures.held; active = c.count_packs-self-inside.ensures.active })
+    rw c.push_reserved.ensures.items (
+      (kept-refreshed log entry c.self.inside.masters.entries c.self.inside.packs.entries c.refresh_all.new.packs.entries c.self.inside.stops c.add_recall.new.self c.self.inside.latest c.self.inside.latest (is_same_batch c.args.batch.now) (λ gtin. false) kept
+          bears (omega arith) (upto_rank c.self.inside.latest entry.item (omega (arith, stamp))) stops
+          (rw (c.as_slice-2.ensures.value, c.push_reserved.ensures.items) at c.refresh_all.ensures)),
+      record { held = c.count_packs-self-inside.ensures.held; active = c.count_packs-self-inside.ensures.active },
+    )
 
 pub returns-then-self-stamp-clause-effect : goal.returns-then-self-stamp-clause-effect
 returns-then-self-stamp-clause-effect c =

@@ -25,10 +25,12 @@ invariant_of-self-in-Ok c =
     let kept : IsKept log c.self.inside.masters.entries c.ensure.new.packs.entries c.self.inside.stops c.self.inside.latest =
     kept-same log _ c.self.inside.packs.entries _ _ _ (rw c.ready_entry.ensures.items c.self.invariant.0) c.ensure.ensures.same in
     let new : c.len-new.result ≡ length log = search rules in
-    rw c.push_reserved.ensures.items
-    ((kept-status log c.in_ok-entry.entry c.self.inside.masters.entries c.ensure.new.packs.entries c.add_status.new.packs.entries c.self.inside.stops c.self.inside.latest c.latest_with-self-inside.result c.args.key.now kept
-    (rw c.in_ok-entry.ensures.entry c.requires) c.latest_with-self-inside.ensures.before (rw c.in_ok-entry.ensures.entry c.latest_with-self-inside.ensures.item)
-    (rw (c.as_slice.ensures.value, c.push_reserved.ensures.items, new) at c.in-Ok.ensures.ok)), c.retallied-self-inside.ensures)
+    rw c.push_reserved.ensures.items (
+      (kept-status log c.in_ok-entry.entry c.self.inside.masters.entries c.ensure.new.packs.entries c.add_status.new.packs.entries c.self.inside.stops c.self.inside.latest c.latest_with-self-inside.result c.args.key.now kept
+          (rw c.in_ok-entry.ensures.entry c.requires) c.latest_with-self-inside.ensures.before (rw c.in_ok-entry.ensures.entry c.latest_with-self-inside.ensures.item)
+          (rw (c.as_slice.ensures.value, c.push_reserved.ensures.items, new) at c.in-Ok.ensures.ok)),
+      c.retallied-self-inside.ensures,
+    )
 
 pub invariant_of-self-in-Err : goal.invariant_of-self-in-Err
 invariant_of-self-in-Err c =
@@ -37,11 +39,12 @@ invariant_of-self-in-Err c =
     let before : vec_len c.push_reserved.new.self - 1 ≡ length log = omega (arith, c.push_reserved.ensures.len, c.len-new.ensures, new) in
     let back : c.pop.new.self.items ≡ c.self.inside.log.items =
     c.pop.ensures.rest ∙ (λ i. take (before i) (c.push_reserved.ensures.items i)) ∙ take-append_seam log (c.in_ok-entry.entry ∷ []) ∙ c.ready_entry.ensures.items in
-    rw back
-    ((kept-same c.self.inside.log.items c.self.inside.masters.entries c.self.inside.packs.entries c.add_status.new.packs.entries c.self.inside.stops c.self.inside.latest c.self.invariant.0
-    (λ pack. c.in-Err.ensures.err pack ∙ same_kept c.ensure.new.packs.entries c.args.key.now pack ∙ c.ensure.ensures.same pack)),
-    tally-same c.args.key.now c.ensure.new.packs.entries c.add_status.new.packs.entries c.self.inside.tally (rw c.copy.ensures at c.in_ok-ensure.ensures.there) c.add_status.ensures.entries
-    (c.in-Err.ensures.err c.args.key.now ∙ same_kept c.ensure.new.packs.entries c.args.key.now c.args.key.now) (record { held = c.self.invariant.1.held ∙ sym c.ensure.ensures.held; active = c.self.invariant.1.active ∙ sym c.ensure.ensures.active }))
+    rw back (
+      (kept-same c.self.inside.log.items c.self.inside.masters.entries c.self.inside.packs.entries c.add_status.new.packs.entries c.self.inside.stops c.self.inside.latest c.self.invariant.0
+          (λ pack. c.in-Err.ensures.err pack ∙ same_kept c.ensure.new.packs.entries c.args.key.now pack ∙ c.ensure.ensures.same pack)),
+      tally-same c.args.key.now c.ensure.new.packs.entries c.add_status.new.packs.entries c.self.inside.tally (rw c.copy.ensures at c.in_ok-ensure.ensures.there) c.add_status.ensures.entries
+          (c.in-Err.ensures.err c.args.key.now ∙ same_kept c.ensure.new.packs.entries c.args.key.now c.args.key.now) (record { held = c.self.invariant.1.held ∙ sym c.ensure.ensures.held; active = c.self.invariant.1.active ∙ sym c.ensure.ensures.active }),
+    )
 
 pub returns-in-Ok-clause-effect : goal.returns-in-Ok-clause-effect
 returns-in-Ok-clause-effect c =

@@ -21,9 +21,10 @@ add_uploads-count-requires-clause-tally c =
     record { held = c.self.invariant.1.held ∙ sym c.ensure_all.ensures.held; active = c.self.invariant.1.active ∙ sym c.ensure_all.ensures.active }
 
 pub invariant_of-self-in_err-ensure_all : goal.invariant_of-self-in_err-ensure_all
-invariant_of-self-in_err-ensure_all c =
-    (kept-same c.ready_entry.new.log.items _ c.self.inside.packs.entries _ _ _ (rw c.ready_entry.ensures.items c.self.invariant.0) c.ensure_all.ensures.same,
-    record { held = c.self.invariant.1.held ∙ sym c.ensure_all.ensures.held; active = c.self.invariant.1.active ∙ sym c.ensure_all.ensures.active })
+invariant_of-self-in_err-ensure_all c = (
+  kept-same c.ready_entry.new.log.items _ c.self.inside.packs.entries _ _ _ (rw c.ready_entry.ensures.items c.self.invariant.0) c.ensure_all.ensures.same,
+  record { held = c.self.invariant.1.held ∙ sym c.ensure_all.ensures.held; active = c.self.invariant.1.active ∙ sym c.ensure_all.ensures.active },
+)
 
 pub invariant_of-self-2 : goal.invariant_of-self-2
 invariant_of-self-2 c =
@@ -32,10 +33,12 @@ invariant_of-self-2 c =
     kept-same log _ c.self.inside.packs.entries _ _ _ (rw c.ready_entry.ensures.items c.self.invariant.0) c.ensure_all.ensures.same in
     let new : c.len-new.result ≡ length log = search rules in
     let serials : c.as_slice-serials.result.now ≡ c.args.serials.now = search rules in
-    rw c.push_reserved.ensures.items
-    ((kept-upload log c.in_ok-entry.entry c.self.inside.masters.entries c.ensure_all.new.packs.entries c.add_uploads-count.new.packs.entries c.self.inside.stops c.self.inside.latest c.latest_with-self-inside.result (has_pack c.args.gtin c.args.serials.now) kept
-    (rw c.in_ok-entry.ensures.entry c.requires.bears) c.latest_with-self-inside.ensures.before (rw c.in_ok-entry.ensures.entry c.latest_with-self-inside.ensures.item)
-    (rw (serials, c.as_slice-2.ensures.value, c.push_reserved.ensures.items, new) at c.add_uploads-count.ensures.kept)), c.add_uploads-count.ensures.tally)
+    rw c.push_reserved.ensures.items (
+      (kept-upload log c.in_ok-entry.entry c.self.inside.masters.entries c.ensure_all.new.packs.entries c.add_uploads-count.new.packs.entries c.self.inside.stops c.self.inside.latest c.latest_with-self-inside.result (has_pack c.args.gtin c.args.serials.now) kept
+          (rw c.in_ok-entry.ensures.entry c.requires.bears) c.latest_with-self-inside.ensures.before (rw c.in_ok-entry.ensures.entry c.latest_with-self-inside.ensures.item)
+          (rw (serials, c.as_slice-2.ensures.value, c.push_reserved.ensures.items, new) at c.add_uploads-count.ensures.kept)),
+      c.add_uploads-count.ensures.tally,
+    )
 
 pub returns-clause-effect : goal.returns-clause-effect
 returns-clause-effect c =

@@ -1,9 +1,10 @@
 -- The counts of a log, by the tables.
-use Rattle.std.proofs.Common.{◌≡◌, ◌≤◌, ℕ, zero, suc, ◌+◌, take, slice_get, List, [], ◌∷◌, ◌++◌, length, refl, sym, ◌∙◌, ap, arith, Bool, true, false, cond, ◌&&◌, ◌||◌, Option, Some, None, is_some, true≢false, find, filter, map}
+use Rattle.std.proofs.Common.{◌≡◌, ◌≤◌, ℕ, zero, suc, ◌+◌, take, slice_get, List, [], ◌∷◌, ◌++◌, length, refl, sym, ◌∙◌, ap, arith, Bool, true, false, cond, ◌&&◌, ◌||◌, Option, Some, None, is_some, IsSome, true≢false, filter, map}
 use Rattle.std.specs.Cmp.{IsEquivalence}
 use Rattle.std.specs.Cmp.Lexicographic.{nat_list_eq_equiv}
 use Rattle.std.specs.List.{list_any, flat_map, IsDistinct, count_by}
-use Rattle.std.specs.Map.{lookup, keys_of}
+use Rattle.std.specs.Map.{lookup, keys_of, set_value}
+use Rattle.mv_repository.specs.declared.packs.Tally.{Tally}
 use Rattle.std.specs.Option.{option_map, option_or, unwrap_or}
 use Rattle.std.specs.Set.{distinct_count, is_member}
 use Rattle.std.proofs.lemmas.List.Sums.{length-filter}
@@ -13,16 +14,16 @@ use Rattle.mv_pack.specs.declared.key.PackKey.{PackKey}
 use Rattle.mv_pack.specs.declared.key.BatchKey.{BatchKey}
 use Rattle.mv_message.specs.declared.message.Message.TheVariants.{Master, Upload, Recall}
 use Rattle.mv_link.specs.declared.item.Item.{Item}
-use Rattle.mv_link.specs.declared.item.Item.TheVariants.{Carried, Receipt}
+use Rattle.mv_link.specs.declared.item.Item.TheVariants.{Carried}
 use Rattle.mv_repository.specs.declared.entry.LogEntry.{LogEntry}
 use Rattle.mv_repository.specs.declared.held.Held.{Held}
 use Rattle.mv_repository.specs.Keys.{is_same_text, is_same_pack, is_same_batch, pack_key}
 use Rattle.mv_repository.specs.Order.{Placed, passes, put_in, ordered_after, ordered}
 use Rattle.mv_repository.specs.Copy.{is_master, last_master, IsCopyOf, place_of as master_place}
-use Rattle.mv_repository.specs.PackState.{has_pack, is_recall_of, pack_state, known_pack, held_of}
+use Rattle.mv_repository.specs.PackState.{has_pack, is_recall_of, pack_state, held_of}
 use Rattle.mv_repository.specs.Counts.{mastered_in, uploaded_in, recalled_in, mastered_products, uploaded_packs, recalled_batches, is_held_active}
-use Rattle.mv_repository.specs.Stops.{StopTables, AreStopsOf, place_of, first_recall, first_stops}
-use Rattle.mv_repository.specs.Track.{Kept, is_upload_of, first_upload, statuses_of, pack_grown, nothing_kept, kept_in, AreTracksOf, is_made, is_active_kept, is_kept_so}
+use Rattle.mv_repository.specs.Stops.{StopTables, AreStopsOf, place_of, first_stops}
+use Rattle.mv_repository.specs.Track.{Kept, is_upload_of, first_upload, statuses_of, pack_grown, nothing_kept, kept_in, AreTracksOf, is_made, is_active_kept, is_kept_so, one_if, IsTally}
 use Rattle.mv_repository.proofs.OrderLemmas.{ordered-ascends}
 use Rattle.mv_repository.proofs.StateLemmas.{known-grown}
 use Rattle.mv_repository.proofs.KeptLemmas.{text-sym, text-self, pack-sym, pack-self, same_pack, same_batch}
@@ -203,3 +204,62 @@ count-more test es i count count' is c e h =
 pub count-within : (i count count' : ℕ) (is : Bool) → count ≤ i → count' ≡ cond is (count + 1) count → count' ≤ i + 1
 count-within i count count' true l e = omega (arith, e, l)
 count-within i count count' false l e = omega (arith, e, l)
+
+length-one : (b : Bool) (e : PackKey × Kept) (es : List (PackKey × Kept)) → length (cond b (e ∷ es) es) ≡ length es + one_if b
+length-one true e es = omega arith
+length-one false e es = omega arith
+
+filter-set : (test : Kept → Bool) (key : PackKey) (es : List (PackKey × Kept)) (w : Kept) → IsSome (lookup (is_same_pack key) es)
+    → length (filter (λ e. test e.1) (set_value (is_same_pack key) es w)) + one_if (test (kept_in key es)) ≡ length (filter (λ e. test e.1) es) + one_if (test w)
+filter-set test key [] w h = absurd (true≢false (sym h))
+filter-set test key (e ∷ es) w h = by (is_same_pack key e.0) h (filter-set test key es w)
+  where
+    part : List (PackKey × Kept) → List (PackKey × Kept)
+    part xs = filter (λ e. test e.1) xs
+
+    by : (b : Bool) → IsSome (cond b (Some e.1) (lookup (is_same_pack key) es))
+        → (IsSome (lookup (is_same_pack key) es) → length (part (set_value (is_same_pack key) es w)) + one_if (test (kept_in key es)) ≡ length (part es) + one_if (test w))
+        → length (part (cond b ((e.0, w) ∷ es) (e ∷ set_value (is_same_pack key) es w))) + one_if (test (unwrap_or (cond b (Some e.1) (lookup (is_same_pack key) es)) nothing_kept))
+        ≡ length (part (e ∷ es)) + one_if (test w)
+    by true h r = omega (arith, length-one (test w) (e.0, w) (part es), length-one (test e.1) e (part es))
+    by false h r = omega (arith, length-one (test e.1) e (part (set_value (is_same_pack key) es w)), length-one (test e.1) e (part es), r h)
+
+-- one pack written anew
+pub count-set : (test : Kept → Bool) (key : PackKey) (es es' : List (PackKey × Kept)) (total was is : ℕ) → IsSome (lookup (is_same_pack key) es) → es' ≡ set_value (is_same_pack key) es (kept_in key es')
+    → total ≡ count_by (λ e. test e.1) es → was ≡ one_if (test (kept_in key es)) → is ≡ one_if (test (kept_in key es')) → count_by (λ e. test e.1) es' + was ≡ total + is
+count-set test key es es' total was is h set t w i =
+    let one = filter-set test key es (kept_in key es') h in
+    let after = ap (λ (xs : List (PackKey × Kept)). count_by (λ e. test e.1) xs) set ∙ sym (length-filter (λ e. test e.1) (set_value (is_same_pack key) es (kept_in key es'))) in
+    let before = t ∙ sym (length-filter (λ e. test e.1) es) in
+    (λ j. after j + w j) ∙ one ∙ sym (λ j. before j + i j)
+
+filter-push : (test : Kept → Bool) (key : PackKey) (es : List (PackKey × Kept)) → test nothing_kept ≡ false → filter (λ e. test e.1) (es ++ (key, nothing_kept) ∷ []) ≡ filter (λ e. test e.1) es
+filter-push test key [] h = ap (λ b. cond b ((key, nothing_kept) ∷ []) []) h
+filter-push test key (e ∷ es) h = ap (λ (xs : List (PackKey × Kept)). cond (test e.1) (e ∷ xs) xs) (filter-push test key es h)
+
+count-push : (test : Kept → Bool) (key : PackKey) (es : List (PackKey × Kept)) → test nothing_kept ≡ false → count_by (λ e. test e.1) (es ++ (key, nothing_kept) ∷ []) ≡ count_by (λ e. test e.1) es
+count-push test key es h = sym (length-filter (λ e. test e.1) (es ++ (key, nothing_kept) ∷ [])) ∙ ap length (filter-push test key es h) ∙ length-filter (λ e. test e.1) es
+
+-- an entry with nothing kept counts for nothing
+pub count-inserted : (test : Kept → Bool) (key : PackKey) (es es' : List (PackKey × Kept)) (kept : Kept) → test nothing_kept ≡ false → kept ≡ nothing_kept → es' ≡ es ++ (key, kept) ∷ []
+    → count_by (λ e. test e.1) es' ≡ count_by (λ e. test e.1) es
+count-inserted test key es es' kept none nothing e =
+    ap (λ (xs : List (PackKey × Kept)). count_by (λ e. test e.1) xs) (e ∙ ap (λ (k : Kept). es ++ (key, k) ∷ []) nothing) ∙ count-push test key es none
+
+one-least : (b : Bool) → one_if b ≤ 1
+one-least true = omega arith
+one-least false = omega arith
+
+pub at-most-one : (n : ℕ) (b : Bool) → n ≡ one_if b → n ≤ 1
+at-most-one n b e = rw e (one-least b)
+
+same_sum : (m n k : ℕ) → m + k ≡ n + k → n ≡ m
+same_sum m n k e = omega (arith, e)
+
+-- one pack written as it was
+pub tally-same : (key : PackKey) (es es' : List (PackKey × Kept)) (tally : Tally) → IsSome (lookup (is_same_pack key) es) → es' ≡ set_value (is_same_pack key) es (kept_in key es') → kept_in key es' ≡ kept_in key es
+    → IsTally es tally → IsTally es' tally
+tally-same key es es' tally h set same t = record {
+  held = same_sum _ _ (one_if (is_made (kept_in key es))) (count-set is_made key es es' tally.held _ _ h set t.held refl (ap (λ (k : Kept). one_if (is_made k)) (sym same)));
+  active = same_sum _ _ (one_if (is_active_kept (kept_in key es))) (count-set is_active_kept key es es' tally.active _ _ h set t.active refl (ap (λ (k : Kept). one_if (is_active_kept k)) (sym same)));
+}

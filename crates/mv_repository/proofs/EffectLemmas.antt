@@ -3,7 +3,7 @@ use Rattle.std.proofs.Common.{◌≡◌, ℕ, ◌+◌, ◌<◌, zero, suc, List,
 use Rattle.std.specs.Cmp.Lexicographic.{same_text, nat_list_eq_equiv}
 use Rattle.std.specs.List.{list_any}
 use Rattle.std.specs.Map.{lookup}
-use Rattle.std.specs.Option.{option_map, unwrap_or}
+use Rattle.std.specs.Option.{option_map}
 use Rattle.std.specs.Set.{distinct_count, is_member, unique_keys}
 use Rattle.std.proofs.lemmas.List.Elements.{filter-append}
 use Rattle.std.proofs.lemmas.Map.Made.{is_member-filter}
@@ -12,20 +12,19 @@ use Rattle.mv_pack.specs.declared.key.PackKey.{PackKey}
 use Rattle.mv_pack.specs.declared.key.BatchKey.{BatchKey}
 use Rattle.mv_message.specs.declared.message.Message.TheVariants.{Upload, Status, Recall, Withdraw}
 use Rattle.mv_link.specs.declared.item.Item.{Item}
-use Rattle.mv_link.specs.declared.item.Item.TheVariants.{Carried, Receipt}
+use Rattle.mv_link.specs.declared.item.Item.TheVariants.{Carried}
 use Rattle.mv_repository.specs.declared.entry.LogEntry.{LogEntry}
-use Rattle.mv_repository.specs.declared.effect.Effect.{Effect}
 use Rattle.mv_repository.specs.declared.effect.Effect.TheVariants as effects
 use Rattle.mv_repository.specs.declared.stops.BatchStanding.{BatchStanding}
-use Rattle.mv_repository.specs.Keys.{is_same_text, is_same_pack, is_same_batch, pack_key, batch_key}
+use Rattle.mv_repository.specs.Keys.{is_same_text, is_same_batch, pack_key, batch_key}
 use Rattle.mv_repository.specs.Order.{Placed, passes, ordered}
 use Rattle.mv_repository.specs.Pack.{KnownPack, change_effect}
 use Rattle.mv_repository.specs.PackState.{has_pack, is_recall_of, is_withdrawal_of, batch_standing, known_pack, held_of}
-use Rattle.mv_repository.specs.Effect.{entries_before, absent_serials, new_count, upload_effect, status_effect, lasting_effect, effect_after, effect_of}
-use Rattle.mv_repository.specs.Stops.{FirstStops, StopTables, first_stops, is_before, standing_at, entry_at, place_of, stops_in, no_entry, first_recall, first_withdrawal, AreStopsOf, comes_first, earlier_place}
+use Rattle.mv_repository.specs.Effect.{entries_before, new_count, upload_effect, status_effect, lasting_effect, effect_after, effect_of}
+use Rattle.mv_repository.specs.Stops.{FirstStops, StopTables, first_stops, is_before, standing_at, entry_at, place_of, no_entry, first_recall, first_withdrawal, AreStopsOf, comes_first}
 use Rattle.mv_repository.specs.Tables.{IsUploadOf}
-use Rattle.mv_repository.specs.Track.{Kept, is_upload_of, is_status_of, first_upload, statuses_of, pack_made_by, pack_step, pack_grown, known_of, effect_by, effect_at, effect_when, counted_place, places_before, held_before, newest_effect, grown_at, kept_in, track_of, AreTracksOf, with_upload, made_count}
-use Rattle.mv_repository.proofs.OrderLemmas.{Stand, still-stand, ordered-below, ordered-ascends}
+use Rattle.mv_repository.specs.Track.{Kept, is_upload_of, is_status_of, first_upload, statuses_of, pack_made_by, pack_step, pack_grown, known_of, effect_by, effect_when, counted_place, places_before, held_before, newest_effect, grown_at, kept_in, AreTracksOf, with_upload, made_count}
+use Rattle.mv_repository.proofs.OrderLemmas.{Stand, still-stand, ordered-below}
 use Rattle.mv_repository.proofs.StateLemmas.{IsSeen, step-seen, made-seen, find-stand, grown-stands, upload-makes}
 use Rattle.mv_repository.proofs.KeptLemmas.{same_pack, same_batch, text-sym, earlier_first}
 use Rattle.mv_repository.proofs.TableLemmas.{longer, newest, newest-stands, filter-stand, stops-found}

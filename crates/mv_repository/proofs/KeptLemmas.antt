@@ -12,7 +12,7 @@ use Rattle.mv_pack.specs.declared.key.PackKey.{PackKey}
 use Rattle.mv_pack.specs.declared.key.BatchKey.{BatchKey}
 use Rattle.mv_repository.specs.declared.entry.LogEntry.{LogEntry}
 use Rattle.mv_repository.specs.Keys.{is_same_text, is_same_pack, is_same_batch, pack_key, batch_key}
-use Rattle.mv_repository.specs.Order.{rank, passes}
+use Rattle.mv_repository.specs.Order.{rank}
 use Rattle.mv_repository.specs.PackState.{has_pack}
 use Rattle.mv_repository.specs.Stops.{StopTables, entry_at, comes_first, earlier_place}
 use Rattle.mv_repository.specs.Track.{Kept, nothing_kept, kept_in, with_upload, worked_out, refreshed, IsTrack, AreTracks, is_at, is_key_at}
@@ -52,7 +52,7 @@ pack-self a = λ i. text-self a.gtin i && text-self a.serial i
 pub batch-self : (a : BatchKey) → is_same_batch a a ≡ true
 batch-self a = λ i. text-self a.gtin i && text-self a.batch i
 
-none_from : (o : Option Kept) → is_some o ≡ false → o ≡ None
+pub none_from : (o : Option Kept) → is_some o ≡ false → o ≡ None
 none_from None e = refl
 none_from (Some x) e = absurd (true≢false e)
 

@@ -1,19 +1,18 @@
 -- What a ledger keeps after one more entry of its log.
-use Rattle.std.proofs.Common.{◌≡◌, ℕ, ◌≤◌, List, [], ◌∷◌, ◌++◌, length, ◌∙◌, ap, Bool, true, false, cond, ◌||◌, Option, Some, None, is_some, refl, find}
+use Rattle.std.proofs.Common.{◌≡◌, ℕ, ◌≤◌, List, [], ◌∷◌, length, ◌∙◌, Bool, true, false, cond, ◌||◌, Some, is_some, refl, find}
 use Rattle.std.specs.List.{list_any}
-use Rattle.std.specs.Map.{lookup}
 use Rattle.std.specs.Option.{option_map}
 use Rattle.mv_pack.specs.declared.key.PackKey.{PackKey}
 use Rattle.mv_pack.specs.declared.key.BatchKey.{BatchKey}
 use Rattle.mv_repository.specs.declared.entry.LogEntry.{LogEntry}
-use Rattle.mv_repository.specs.Keys.{is_same_text, is_same_pack, is_same_batch}
-use Rattle.mv_repository.specs.Order.{Placed, rank, ordered}
+use Rattle.mv_repository.specs.Keys.{is_same_text, is_same_pack}
+use Rattle.mv_repository.specs.Order.{Placed, rank}
 use Rattle.mv_repository.specs.Copy.{IsCopyOf}
-use Rattle.mv_repository.specs.Stops.{StopTables, AreStopsOf, place_of, earlier_place}
+use Rattle.mv_repository.specs.Stops.{StopTables, AreStopsOf, place_of}
 use Rattle.mv_repository.specs.Track.{Kept, kept_in, with_status, with_upload, refreshed}
 use Rattle.mv_repository.specs.Tables.{Bears, IsUpTo, IsKept}
 use Rattle.mv_repository.proofs.ProductLemmas.{copy-noted}
-use Rattle.mv_repository.proofs.TableLemmas.{longer, tracks-stay, tracks-status, tracks-upload, tracks-refreshed, stops-stay, stops-recall, stops-withdrawal}
+use Rattle.mv_repository.proofs.TableLemmas.{longer, tracks-stay, tracks-status, tracks-upload, tracks-refreshed, stops-stay}
 use Rattle.mv_repository.proofs.LatestLemmas.{upto-longer, tracks-last}
 
 -- one of a kind is there where a first one is found

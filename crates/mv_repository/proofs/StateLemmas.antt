@@ -1,23 +1,21 @@
 -- What a pack is depends on its own entries, the first recall of its batch and the first withdrawal of its product.
 use Rattle.std.proofs.Common.{◌≡◌, ℕ, List, [], ◌∷◌, ◌++◌, refl, sym, ◌∙◌, ap, append_assoc, Bool, true, false, cond, ◌||◌, Option, Some, None, IsSome, IfSome, true≢false, find, fold, map, subst, get_or}
 use Rattle.std.specs.List.{list_any}
-use Rattle.std.specs.Map.{lookup}
 use Rattle.std.specs.Option.{option_or, option_map}
 use Rattle.mv_pack.specs.declared.key.PackKey.{PackKey}
 use Rattle.mv_pack.specs.declared.key.BatchKey.{BatchKey}
 use Rattle.mv_message.specs.declared.message.Message.TheVariants.{Upload, Status}
 use Rattle.mv_link.specs.declared.item.Item.{Item}
-use Rattle.mv_link.specs.declared.item.Item.TheVariants.{Carried, Receipt}
+use Rattle.mv_link.specs.declared.item.Item.TheVariants.{Carried}
 use Rattle.mv_repository.specs.declared.entry.LogEntry.{LogEntry}
-use Rattle.mv_repository.specs.declared.held.Held.{Held}
 use Rattle.mv_repository.specs.declared.stops.BatchStanding.{BatchStanding}
-use Rattle.mv_repository.specs.Keys.{is_same_batch, is_same_text, batch_key}
-use Rattle.mv_repository.specs.Order.{Placed, stands_before, ordered, StandsBeforeAll, Ascends}
+use Rattle.mv_repository.specs.Keys.{batch_key}
+use Rattle.mv_repository.specs.Order.{Placed, stands_before, StandsBeforeAll, Ascends}
 use Rattle.mv_repository.specs.Pack.{KnownPack, KnownChange, is_active, is_done, change_effect, change_to}
-use Rattle.mv_repository.specs.PackState.{is_recall_of, is_withdrawal_of, batch_standing, pack_after_item, pack_after, known_pack_from, known_pack, held_of, pack_state}
-use Rattle.mv_repository.specs.Stops.{FirstStops, StopTables, first_stops, is_before, standing_at, entry_at, place_of, stops_in, no_entry, first_recall, first_withdrawal, AreStopsOf}
-use Rattle.mv_repository.specs.Track.{is_upload_of, is_status_of, first_upload, statuses_of, pack_made_by, pack_changed, pack_step, pack_grown, user_in, user_at, known_of, held_step, held_made_at, grown_at}
-use Rattle.mv_repository.proofs.OrderLemmas.{stands-asym, stands-self, ordered-ascends, Stand}
+use Rattle.mv_repository.specs.PackState.{is_recall_of, is_withdrawal_of, batch_standing, pack_after_item, pack_after, known_pack_from, known_pack, held_of}
+use Rattle.mv_repository.specs.Stops.{FirstStops, StopTables, first_stops, is_before, standing_at, entry_at, place_of, stops_in, no_entry}
+use Rattle.mv_repository.specs.Track.{is_upload_of, is_status_of, first_upload, statuses_of, pack_made_by, pack_changed, pack_step, pack_grown, user_in, user_at, known_of, held_step, grown_at}
+use Rattle.mv_repository.proofs.OrderLemmas.{stands-asym, stands-self, Stand}
 
 -- what is found behind y doesn't stand before it
 not_before : (f : Placed → Bool) (y : Placed) (xs : List Placed) → StandsBeforeAll y xs → is_before (find f xs) y ≡ false

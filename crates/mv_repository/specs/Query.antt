@@ -6,7 +6,7 @@ use Rattle.mv_message.specs.declared.message.Message.TheVariants.{Query, Answer}
 use Rattle.mv_message.specs.declared.found.Found.{Found}
 use Rattle.mv_message.specs.declared.found.Found.TheVariants.{Absent, Present}
 use Rattle.mv_link.specs.declared.item.Item.{Item}
-use Rattle.mv_link.specs.declared.item.Item.TheVariants.{Receipt, Carried}
+use Rattle.mv_link.specs.declared.item.Item.TheVariants.{Carried}
 use Rattle.mv_repository.specs.declared.entry.LogEntry.{LogEntry}
 use Rattle.mv_repository.specs.declared.held.Held.{Held}
 use Rattle.mv_repository.specs.Keys.{batch_key}

@@ -1,12 +1,14 @@
 -- What is kept of one pack, and that this gives what the pack is.
-use Rattle.std.specs.Prelude.{◌≡◌, ℕ, List, [], ◌∷◌, map, fold, filter, find, get_or, slice_get, not, is_some, Bool, true, false, Option, Some, None, if◌then◌else◌}
+use Rattle.std.specs.Prelude.{◌≡◌, ℕ, List, [], ◌∷◌, map, fold, filter, find, get_or, slice_get, not, is_some, Bool, false, Option, Some, None, if◌then◌else◌}
+use Rattle.std.specs.List.{count_by}
 use Rattle.std.specs.Map.{lookup}
+use Rattle.mv_repository.specs.declared.packs.Tally.{Tally}
 use Rattle.std.specs.Option.{option_map, unwrap_or}
 use Rattle.mv_pack.specs.declared.key.PackKey.{PackKey}
 use Rattle.mv_pack.specs.declared.key.BatchKey.{BatchKey}
 use Rattle.mv_message.specs.declared.message.Message.TheVariants.{Upload, Status}
 use Rattle.mv_link.specs.declared.item.Item.{Item}
-use Rattle.mv_link.specs.declared.item.Item.TheVariants.{Receipt, Carried}
+use Rattle.mv_link.specs.declared.item.Item.TheVariants.{Carried}
 use Rattle.mv_repository.specs.declared.entry.LogEntry.{LogEntry}
 use Rattle.mv_repository.specs.declared.held.Held.{Held}
 use Rattle.mv_repository.specs.declared.held.Change.{Change}
@@ -213,3 +215,12 @@ is_active_kept kept = is_held_active kept.held
 abbrev pub is_kept_so : (Kept → Bool) → Option (PackKey × Kept) → Bool
 is_kept_so test None = false
 is_kept_so test (Some entry) = test entry.1
+
+-- the tally of a table: how many packs are held, and how many of them are active
+pub record IsTally (table : List (PackKey × Kept)) (tally : Tally) : Type 0 where
+  pub held : tally.held ≡ count_by (λ entry. is_made entry.1) table
+  pub active : tally.active ≡ count_by (λ entry. is_active_kept entry.1) table
+
+-- one where something holds
+abbrev pub one_if : Bool → ℕ
+one_if holds = if holds then 1 else 0

@@ -10,7 +10,10 @@ ghost use Rattle.mv_repository.specs.PackState.{has_pack};
 ghost use Rattle.mv_repository.specs.Tables.{Bears, IsUploadOf, IsUpTo};
 
 use crate::order::rank;
-use crate::packs::{add_status, add_uploads, count_packs, ensure, ensure_all, pack, refresh_all};
+use crate::packs::{
+    Tally, add_status, add_uploads, count_packs, ensure, ensure_all, pack, refresh_all, retallied,
+    tally_of,
+};
 use crate::status::is_active;
 use crate::stops::Stops;
 use crate::track::{Track, copy_of};
@@ -34,6 +37,8 @@ pub(crate) struct Ledger {
     masters: IndexMap<Gtin, usize>,
     /// For each pack that an upload or a status names, what is kept of it.
     packs: IndexMap<PackKey, Track>,
+    /// How many of them are held, and how many are active.
+    tally: Tally,
     /// The recalls and the withdrawals.
     stops: Stops,
     /// No stamp in the log is greater.
@@ -43,13 +48,15 @@ pub(crate) struct Ledger {
 impl Model for Ledger {
     ghost use Rattle.mv_repository.specs.Repository.{RepositoryState};
     ghost use Rattle.mv_repository.specs.Tables.{IsKept};
+    ghost use Rattle.mv_repository.specs.Track.{IsTally};
 
     ghost Value = { RepositoryState };
 
     ghost view = { λ a. record { party = a.party; log = a.log.items } };
 
     ghost invariant = { λ a.
-        IsKept a.log.items a.masters.entries a.packs.entries a.stops a.latest };
+        IsKept a.log.items a.masters.entries a.packs.entries a.stops a.latest
+        × IsTally a.packs.entries a.tally };
 }
 
 impl Ledger {
@@ -70,6 +77,7 @@ impl Ledger {
             log: Vec::new(alloc),
             masters: IndexMap::new(alloc),
             packs: IndexMap::new(alloc),
+            tally: Tally { held: 0, active: 0 },
             stops: Stops::new(alloc),
             latest: 0,
         }
@@ -140,12 +148,12 @@ impl Ledger {
     pub fn counts(&self) -> Counts
         ensures { result ≡ counts_of self.now.log }
     {
-        let tally = count_packs(&self.packs);
+        prove!(self.tally.held <= self.packs.len());
         Counts {
             entries: self.log.len(),
             products: self.masters.len(),
-            packs: tally.held,
-            active: tally.active,
+            packs: self.tally.held,
+            active: self.tally.active,
             recalled: self.stops.recalled_count(),
         }
     }
@@ -308,6 +316,7 @@ impl Ledger {
             &mut self.packs,
             self.log.as_slice(),
             &self.stops,
+            &mut self.tally,
             gtin,
             serials,
             new,
@@ -336,8 +345,11 @@ impl Ledger {
         ensure(&mut self.packs, self.alloc, key.copy())?;
         let new = self.log.len();
         self.log.push_reserved(entry);
+        let was = tally_of(&self.packs, key);
         match add_status(&mut self.packs, self.log.as_slice(), &self.stops, key, new) {
             Ok(effect) => {
+                let is = tally_of(&self.packs, key);
+                self.tally = retallied(&self.packs, self.tally, was, is);
                 self.latest = latest_with(self.latest, item);
                 Ok(effect)
             }
@@ -381,6 +393,7 @@ impl Ledger {
             return Ok(effect);
         }
         refresh_all(&mut self.packs, self.log.as_slice(), &self.stops);
+        self.tally = count_packs(&self.packs);
         Ok(effect)
     }
 
@@ -414,6 +427,7 @@ impl Ledger {
             return Ok(effect);
         }
         refresh_all(&mut self.packs, self.log.as_slice(), &self.stops);
+        self.tally = count_packs(&self.packs);
         Ok(effect)
     }
 }

@@ -163,105 +163,129 @@ fn reverted_after_expiry(alloc: Global) -> Option<Effect> {
     effect(&mut repository, 1, item)
 }
 
-/// The effects of a second change of S1, of a revert of a pack that no upload names, and of two reverts of S1.
-fn further_effects(alloc: Global) -> Option<(Effect, Effect, Effect, Effect)> {
+/// The effect of a second change of S1.
+fn changed_again(alloc: Global) -> Option<Effect> {
     let mut repository = changed(alloc, Standing::Supplied, T)?;
-    let again = effect(
+    effect(
         &mut repository,
         1,
-        status(alloc, 4, "S1", Standing::Supplied, "u1", T),
-    )?;
-    let unknown = effect(
+        status(alloc, 5, "S1", Standing::Supplied, "u1", T),
+    )
+}
+
+/// The effect of a revert of a pack that no upload names.
+fn reverted_unknown(alloc: Global) -> Option<Effect> {
+    let mut repository = changed(alloc, Standing::Supplied, T)?;
+    effect(
         &mut repository,
         1,
         status(alloc, 5, "S9", Standing::Active, "u1", T),
-    )?;
-    let first = effect(
-        &mut repository,
-        1,
-        status(alloc, 6, "S1", Standing::Active, "u1", T),
-    )?;
-    let second = effect(
-        &mut repository,
-        1,
-        status(alloc, 7, "S1", Standing::Active, "u1", T),
-    )?;
-    Some((again, unknown, first, second))
+    )
+}
+
+/// A repository in which S1 was supplied and then something else came.
+fn supplied_then(alloc: Global, sender: u32, item: Option<Item>) -> Option<Repository> {
+    let mut repository = changed(alloc, Standing::Supplied, T)?;
+    effect(&mut repository, sender, item)?;
+    Some(repository)
+}
+
+/// A revert of S1 by party 1 as user u1.
+fn revert(alloc: Global, stamp: u32) -> Option<Item> {
+    status(alloc, stamp, "S1", Standing::Active, "u1", T + 20)
+}
+
+/// The effect of a revert of S1 once something else came.
+fn reverted_after(alloc: Global, item: Option<Item>) -> Option<Effect> {
+    let mut repository = supplied_then(alloc, 1, item)?;
+    effect(&mut repository, 1, revert(alloc, 6))
 }
 
 #[test]
 fn numbers_what_it_refuses(rt: HostRuntime) {
     let alloc = rt.alloc();
     assert!(rt; reverted_after_expiry(alloc) == Some(Effect::Expired));
-    let effects = further_effects(alloc);
-    assert!(rt;
-        effects
-            == Some((
-                Effect::NotActive,
-                Effect::Unknown,
-                Effect::Done,
-                Effect::AlreadyActive
-            ))
-    );
-}
-
-/// The effect of a revert of S1 once its batch was recalled or its product withdrawn, and the verdict then.
-fn reverted_when_stopped(alloc: Global, stop: Option<Item>) -> Option<(Effect, Local)> {
-    let mut repository = changed(alloc, Standing::Supplied, T)?;
-    effect(&mut repository, 0, stop)?;
-    let item = status(alloc, 5, "S1", Standing::Active, "u1", T + 20);
-    let effect = effect(&mut repository, 1, item)?;
-    Some((effect, verdict(&repository)?))
+    assert!(rt; changed_again(alloc) == Some(Effect::NotActive));
+    assert!(rt; reverted_unknown(alloc) == Some(Effect::Unknown));
+    assert!(rt; reverted_after(alloc, revert(alloc, 5)) == Some(Effect::AlreadyActive));
 }
 
 #[test]
 fn reverts_nothing_that_is_recalled_or_withdrawn(rt: HostRuntime) {
     let alloc = rt.alloc();
-    let known = Local::Known(Verdict::NotAuthentic {
-        falsification: false,
-    });
-    assert!(rt; reverted_when_stopped(alloc, recall(4)) == Some((Effect::Recalled, known)));
-    assert!(rt; reverted_when_stopped(alloc, withdrawal(4)) == Some((Effect::Withdrawn, known)));
+    assert!(rt; reverted_after(alloc, recall(5)) == Some(Effect::Recalled));
+    assert!(rt; reverted_after(alloc, withdrawal(5)) == Some(Effect::Withdrawn));
 }
 
-/// A recall before the upload, the upload, and a second recall.
-fn recalled_before(alloc: Global) -> Option<(Effect, Effect, Effect, Local)> {
-    let mut repository = Repository::new(alloc, 1);
-    let first = effect(&mut repository, 0, recall(2))?;
-    let uploaded = effect(&mut repository, 0, upload(alloc, 3, "B1", true))?;
-    let second = effect(&mut repository, 0, recall(4))?;
-    Some((first, uploaded, second, verdict(&repository)?))
+/// The verdict on S1, supplied, once something else came.
+fn verdict_after(alloc: Global, item: Option<Item>) -> Option<Local> {
+    verdict(&supplied_then(alloc, 1, item)?)
 }
 
 #[test]
-fn a_pack_of_a_recalled_batch_is_authentic_while_active(rt: HostRuntime) {
-    let uploaded = Effect::Uploaded { new: 2, old: 1 };
-    let known = Local::Known(Verdict::Authentic);
-    assert!(rt;
-        recalled_before(rt.alloc()) == Some((Effect::Done, uploaded, Effect::Noted, known))
-    );
+fn suspects_no_falsification_of_what_is_stopped(rt: HostRuntime) {
+    let alloc = rt.alloc();
+    let stopped = Local::Known(Verdict::NotAuthentic {
+        falsification: false,
+    });
+    assert!(rt; verdict_after(alloc, recall(5)) == Some(stopped));
+    assert!(rt; verdict_after(alloc, withdrawal(5)) == Some(stopped));
+    assert!(rt; verdict_after(alloc, revert(alloc, 5)) == Some(Local::Known(Verdict::Authentic)));
 }
 
-/// A status that comes before its upload, by arrival and not by stamp.
-fn status_first(alloc: Global) -> Option<(Effect, Effect, Standing)> {
+/// A repository to which the batch B1 was recalled before anything else.
+fn recalled_before(alloc: Global) -> Option<Repository> {
+    let mut repository = Repository::new(alloc, 1);
+    effect(&mut repository, 0, recall(2))?;
+    Some(repository)
+}
+
+/// The effect of one more item there.
+fn effect_after_recall(alloc: Global, item: Option<Item>) -> Option<Effect> {
+    effect(&mut recalled_before(alloc)?, 0, item)
+}
+
+#[test]
+fn a_recall_is_done_once(rt: HostRuntime) {
+    let alloc = rt.alloc();
+    assert!(rt; effect_after_recall(alloc, recall(4)) == Some(Effect::Noted));
+    let uploaded = effect_after_recall(alloc, upload(alloc, 3, "B1", true));
+    assert!(rt; uploaded == Some(Effect::Uploaded { new: 2, old: 1 }));
+}
+
+/// A repository to which a status came before its upload, by arrival and not by stamp.
+fn status_first(alloc: Global) -> Option<Repository> {
     let mut repository = Repository::new(alloc, 2);
-    let early = status(alloc, 3, "S1", Standing::Supplied, "u1", T);
-    let unknown = effect(&mut repository, 1, early)?;
-    let uploaded = effect(&mut repository, 0, upload(alloc, 2, "B1", false))?;
-    Some((unknown, uploaded, standing(&repository)?))
+    effect(
+        &mut repository,
+        1,
+        status(alloc, 3, "S1", Standing::Supplied, "u1", T),
+    )?;
+    Some(repository)
+}
+
+/// The effect of the upload that comes late.
+fn late_upload(alloc: Global) -> Option<Effect> {
+    effect(&mut status_first(alloc)?, 0, upload(alloc, 2, "B1", false))
+}
+
+/// How S1 stands then.
+fn standing_after_late_upload(alloc: Global) -> Option<Standing> {
+    let mut repository = status_first(alloc)?;
+    effect(&mut repository, 0, upload(alloc, 2, "B1", false))?;
+    standing(&repository)
 }
 
 #[test]
 fn a_status_waits_for_its_upload(rt: HostRuntime) {
-    let uploaded = Effect::Uploaded { new: 1, old: 0 };
-    assert!(rt; status_first(rt.alloc()) == Some((Effect::Unknown, uploaded, Standing::Supplied)));
+    let alloc = rt.alloc();
+    assert!(rt; late_upload(alloc) == Some(Effect::Uploaded { new: 1, old: 0 }));
+    assert!(rt; standing_after_late_upload(alloc) == Some(Standing::Supplied));
 }
 
 /// A repository in which a stop comes late, between a change of S1 and its revert.
 fn stopped_late(alloc: Global, stop: Option<Item>) -> Option<Repository> {
-    let mut repository = changed(alloc, Standing::Supplied, T)?;
-    let item = status(alloc, 5, "S1", Standing::Active, "u1", T + 20);
-    effect(&mut repository, 1, item)?;
+    let mut repository = supplied_then(alloc, 1, revert(alloc, 5))?;
     effect(&mut repository, 0, stop)?;
     Some(repository)
 }
@@ -291,13 +315,22 @@ fn a_late_stop_undoes_a_revert(rt: HostRuntime) {
     assert!(rt; counts_when_stopped_late(alloc, recall(4)) == Some(counts));
 }
 
-/// Whether the pack S1 is of the batch B1 once the upload with the smaller stamp comes late.
-fn first_upload_wins(alloc: Global) -> Option<bool> {
+/// Whether the pack S1 is of the batch B1.
+fn is_of_first_batch(repository: &Repository) -> Option<bool> {
+    Some(repository.pack(&pack("S1")?)?.batch.as_str() == "B1")
+}
+
+/// A repository to which the upload with the smaller stamp comes late.
+fn uploaded_twice(alloc: Global) -> Option<Repository> {
     let mut repository = Repository::new(alloc, 2);
     effect(&mut repository, 1, upload(alloc, 3, "B2", false))?;
     effect(&mut repository, 0, upload(alloc, 2, "B1", false))?;
-    let held = repository.pack(&pack("S1")?)?;
-    Some(held.batch == Batch::read("B1").ok()?)
+    Some(repository)
+}
+
+/// Whether the pack S1 is of the batch B1 there.
+fn first_upload_wins(alloc: Global) -> Option<bool> {
+    is_of_first_batch(&uploaded_twice(alloc)?)
 }
 
 /// Whether the batch B1 is recalled and the product withdrawn, once each came.

@@ -1,5 +1,5 @@
 -- One more status at the end is one more step.
-use Rattle.std.proofs.Common.{◌≡◌, ◌∙◌, rules, ap, sym, refl, ℕ, List, [], ◌∷◌, ◌++◌, map, fold, Option, Some, None}
+use Rattle.std.proofs.Common.{◌≡◌, ◌∙◌, ap, sym, refl, ℕ, List, [], ◌∷◌, ◌++◌, map, fold, Option, Some, None}
 use Rattle.std.proofs.lemmas.Option.{none-some}
 use Rattle.std.specs.Option.{option_map, unwrap_or}
 use Rattle.mv_repository.specs.declared.held.Held.{Held}

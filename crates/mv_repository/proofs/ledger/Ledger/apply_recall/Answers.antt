@@ -5,7 +5,7 @@ use Rattle.mv_repository.specs.Order.{rank}
 use Rattle.mv_repository.specs.Stops.{AreStopsOf}
 use Rattle.mv_repository.specs.PackState.{is_recall_of}
 use Rattle.mv_repository.specs.Effect.{effect_of}
-use Rattle.mv_repository.specs.Tables.{Bears, IsKept, IsUpTo}
+use Rattle.mv_repository.specs.Tables.{Bears, IsKept}
 use Rattle.mv_repository.proofs.TableLemmas.{longer, stops-recall}
 use Rattle.mv_repository.proofs.LatestLemmas.{upto_rank}
 use Rattle.mv_repository.proofs.KeptLemmas.{batch-self}
@@ -17,7 +17,7 @@ pub invariant_of-self-then-self-stamp : goal.invariant_of-self-then-self-stamp
 invariant_of-self-then-self-stamp c =
     let log = c.ready_entry.new.log.items in
     let entry = c.in_ok-entry.entry in
-    let kept : IsKept log c.self.inside.masters.entries c.self.inside.packs.entries c.self.inside.stops c.self.inside.latest = rw c.ready_entry.ensures.items c.self.invariant in
+    let kept : IsKept log c.self.inside.masters.entries c.self.inside.packs.entries c.self.inside.stops c.self.inside.latest = rw c.ready_entry.ensures.items c.self.invariant.0 in
     let new : c.len-new.result ≡ length log = search rules in
     let bears : Bears entry.item (λ gtin. false) (λ pack. false) (λ pack. false) (is_same_batch c.args.batch.now) (λ gtin. false) = rw c.in_ok-entry.ensures.entry c.requires.bears in
     let stops : AreStopsOf (longer log entry) c.add_recall.new.self =
@@ -25,31 +25,35 @@ invariant_of-self-then-self-stamp c =
     (rw (c.as_slice.ensures.value, c.push_reserved.ensures.items, new, c.copy.ensures) at c.in-Ok.ensures.recalls) c.in-Ok.ensures.withdrawals in
     let least : c.self.inside.latest ≤ c.args.stamp = omega arith in
     let stamp : rank entry.item ≡ c.args.stamp = rw c.in_ok-entry.ensures.entry c.requires.stamp in
-    rw c.push_reserved.ensures.items
-    (kept-latest log entry c.self.inside.masters.entries c.self.inside.packs.entries c.self.inside.stops c.add_recall.new.self c.self.inside.latest c.args.stamp (is_same_batch c.args.batch.now) (λ gtin. false) kept
-    bears least (upto_rank c.args.stamp entry.item (omega (arith, stamp))) stops (omega (arith, stamp)))
+    rw c.push_reserved.ensures.items (
+      (kept-latest log entry c.self.inside.masters.entries c.self.inside.packs.entries c.self.inside.stops c.add_recall.new.self c.self.inside.latest c.args.stamp (is_same_batch c.args.batch.now) (λ gtin. false) kept
+          bears least (upto_rank c.args.stamp entry.item (omega (arith, stamp))) stops (omega (arith, stamp))),
+      c.self.invariant.1,
+    )
 
 pub invariant_of-self-2 : goal.invariant_of-self-2
 invariant_of-self-2 c =
     let log = c.ready_entry.new.log.items in
     let entry = c.in_ok-entry.entry in
-    let kept : IsKept log c.self.inside.masters.entries c.self.inside.packs.entries c.self.inside.stops c.self.inside.latest = rw c.ready_entry.ensures.items c.self.invariant in
+    let kept : IsKept log c.self.inside.masters.entries c.self.inside.packs.entries c.self.inside.stops c.self.inside.latest = rw c.ready_entry.ensures.items c.self.invariant.0 in
     let new : c.len-new.result ≡ length log = search rules in
     let bears : Bears entry.item (λ gtin. false) (λ pack. false) (λ pack. false) (is_same_batch c.args.batch.now) (λ gtin. false) = rw c.in_ok-entry.ensures.entry c.requires.bears in
     let stops : AreStopsOf (longer log entry) c.add_recall.new.self =
     stops-recall log entry c.self.inside.stops c.add_recall.new.self c.args.batch.now kept.stops bears.recall bears.withdrawal
     (rw (c.as_slice.ensures.value, c.push_reserved.ensures.items, new, c.copy.ensures) at c.in-Ok.ensures.recalls) c.in-Ok.ensures.withdrawals in
     let stamp : rank entry.item ≡ c.args.stamp = rw c.in_ok-entry.ensures.entry c.requires.stamp in
-    rw c.push_reserved.ensures.items
-    (kept-refreshed log entry c.self.inside.masters.entries c.self.inside.packs.entries c.refresh_all.new.packs.entries c.self.inside.stops c.add_recall.new.self c.self.inside.latest c.self.inside.latest (is_same_batch c.args.batch.now) (λ gtin. false) kept
-    bears (omega arith) (upto_rank c.self.inside.latest entry.item (omega (arith, stamp))) stops
-    (rw (c.as_slice-2.ensures.value, c.push_reserved.ensures.items) at c.refresh_all.ensures))
+    rw c.push_reserved.ensures.items (
+      (kept-refreshed log entry c.self.inside.masters.entries c.self.inside.packs.entries c.refresh_all.new.packs.entries c.self.inside.stops c.add_recall.new.self c.self.inside.latest c.self.inside.latest (is_same_batch c.args.batch.now) (λ gtin. false) kept
+          bears (omega arith) (upto_rank c.self.inside.latest entry.item (omega (arith, stamp))) stops
+          (rw (c.as_slice-2.ensures.value, c.push_reserved.ensures.items) at c.refresh_all.ensures)),
+      record { held = c.count_packs-self-inside.ensures.held; active = c.count_packs-self-inside.ensures.active },
+    )
 
 pub returns-then-self-stamp-clause-effect : goal.returns-then-self-stamp-clause-effect
 returns-then-self-stamp-clause-effect c =
     let log = c.ready_entry.new.log.items in
     let entry = c.in_ok-entry.entry in
-    let kept : IsKept log c.self.inside.masters.entries c.self.inside.packs.entries c.self.inside.stops c.self.inside.latest = rw c.ready_entry.ensures.items c.self.invariant in
+    let kept : IsKept log c.self.inside.masters.entries c.self.inside.packs.entries c.self.inside.stops c.self.inside.latest = rw c.ready_entry.ensures.items c.self.invariant.0 in
     let new : c.len-new.result ≡ length log = search rules in
     let is : is_recall_of c.args.batch.now entry.item ≡ true = rw c.in_ok-entry.ensures.entry (c.requires.bears.recall c.args.batch.now ∙ batch-self c.args.batch.now) in
     rw (← c.self.view_is)
@@ -61,7 +65,7 @@ pub returns-clause-effect : goal.returns-clause-effect
 returns-clause-effect c =
     let log = c.ready_entry.new.log.items in
     let entry = c.in_ok-entry.entry in
-    let kept : IsKept log c.self.inside.masters.entries c.self.inside.packs.entries c.self.inside.stops c.self.inside.latest = rw c.ready_entry.ensures.items c.self.invariant in
+    let kept : IsKept log c.self.inside.masters.entries c.self.inside.packs.entries c.self.inside.stops c.self.inside.latest = rw c.ready_entry.ensures.items c.self.invariant.0 in
     let new : c.len-new.result ≡ length log = search rules in
     let is : is_recall_of c.args.batch.now entry.item ≡ true = rw c.in_ok-entry.ensures.entry (c.requires.bears.recall c.args.batch.now ∙ batch-self c.args.batch.now) in
     rw (← c.self.view_is)

@@ -1,11 +1,12 @@
 -- The pack of the status is worked out with it; where memory is refused all is as before.
-use Rattle.std.proofs.Common.{◌≡◌, ◌∙◌, ◌-◌, [], ◌∷◌, rules, arith, length, take, true}
+use Rattle.std.proofs.Common.{◌≡◌, ◌∙◌, sym, ◌-◌, [], ◌∷◌, rules, arith, length, take, true}
 use Rattle.std.proofs.Math.Seq.{take-append_seam}
 use Rattle.std.specs.Prelude.{vec_len}
 use Rattle.mv_repository.specs.Effect.{effect_of}
-use Rattle.mv_repository.specs.Track.{is_status_of}
+use Rattle.mv_repository.specs.Track.{is_status_of, is_made, is_active_kept}
 use Rattle.mv_repository.specs.Tables.{IsKept}
 use Rattle.mv_repository.proofs.KeptLemmas.{same_kept, pack-self}
+use Rattle.mv_repository.proofs.CountLemmas.{tally-same, count-set, at-most-one}
 use Rattle.mv_repository.proofs.EffectLemmas.{status-effect}
 use Rattle.mv_repository.proofs.TableLemmas.{is_track}
 use Rattle.mv_repository.proofs.LedgerLemmas.{kept-same, kept-status}
@@ -15,19 +16,21 @@ pub add_status-requires-clause-track : goal.add_status-requires-clause-track
 add_status-requires-clause-track c =
     let log = c.ready_entry.new.log.items in
     let kept : IsKept log c.self.inside.masters.entries c.ensure.new.packs.entries c.self.inside.stops c.self.inside.latest =
-    kept-same log _ c.self.inside.packs.entries _ _ _ (rw c.ready_entry.ensures.items c.self.invariant) c.ensure.ensures.same in
+    kept-same log _ c.self.inside.packs.entries _ _ _ (rw c.ready_entry.ensures.items c.self.invariant.0) c.ensure.ensures.same in
     rw (c.as_slice.ensures.value, c.push_reserved.ensures.items) (is_track log c.in_ok-entry.entry c.ensure.new.packs.entries c.self.inside.stops c.args.key.now kept.tracks kept.stops)
 
 pub invariant_of-self-in-Ok : goal.invariant_of-self-in-Ok
 invariant_of-self-in-Ok c =
     let log = c.ready_entry.new.log.items in
     let kept : IsKept log c.self.inside.masters.entries c.ensure.new.packs.entries c.self.inside.stops c.self.inside.latest =
-    kept-same log _ c.self.inside.packs.entries _ _ _ (rw c.ready_entry.ensures.items c.self.invariant) c.ensure.ensures.same in
+    kept-same log _ c.self.inside.packs.entries _ _ _ (rw c.ready_entry.ensures.items c.self.invariant.0) c.ensure.ensures.same in
     let new : c.len-new.result ≡ length log = search rules in
-    rw c.push_reserved.ensures.items
-    (kept-status log c.in_ok-entry.entry c.self.inside.masters.entries c.ensure.new.packs.entries c.add_status.new.packs.entries c.self.inside.stops c.self.inside.latest c.latest_with-self-inside.result c.args.key.now kept
-    (rw c.in_ok-entry.ensures.entry c.requires) c.latest_with-self-inside.ensures.before (rw c.in_ok-entry.ensures.entry c.latest_with-self-inside.ensures.item)
-    (rw (c.as_slice.ensures.value, c.push_reserved.ensures.items, new) at c.in-Ok.ensures.ok))
+    rw c.push_reserved.ensures.items (
+      (kept-status log c.in_ok-entry.entry c.self.inside.masters.entries c.ensure.new.packs.entries c.add_status.new.packs.entries c.self.inside.stops c.self.inside.latest c.latest_with-self-inside.result c.args.key.now kept
+          (rw c.in_ok-entry.ensures.entry c.requires) c.latest_with-self-inside.ensures.before (rw c.in_ok-entry.ensures.entry c.latest_with-self-inside.ensures.item)
+          (rw (c.as_slice.ensures.value, c.push_reserved.ensures.items, new) at c.in-Ok.ensures.ok)),
+      c.retallied-self-inside.ensures,
+    )
 
 pub invariant_of-self-in-Err : goal.invariant_of-self-in-Err
 invariant_of-self-in-Err c =
@@ -36,19 +39,31 @@ invariant_of-self-in-Err c =
     let before : vec_len c.push_reserved.new.self - 1 ≡ length log = omega (arith, c.push_reserved.ensures.len, c.len-new.ensures, new) in
     let back : c.pop.new.self.items ≡ c.self.inside.log.items =
     c.pop.ensures.rest ∙ (λ i. take (before i) (c.push_reserved.ensures.items i)) ∙ take-append_seam log (c.in_ok-entry.entry ∷ []) ∙ c.ready_entry.ensures.items in
-    rw back
-    (kept-same c.self.inside.log.items c.self.inside.masters.entries c.self.inside.packs.entries c.add_status.new.packs.entries c.self.inside.stops c.self.inside.latest c.self.invariant
-    (λ pack. c.in-Err.ensures.err pack ∙ same_kept c.ensure.new.packs.entries c.args.key.now pack ∙ c.ensure.ensures.same pack))
+    rw back (
+      (kept-same c.self.inside.log.items c.self.inside.masters.entries c.self.inside.packs.entries c.add_status.new.packs.entries c.self.inside.stops c.self.inside.latest c.self.invariant.0
+          (λ pack. c.in-Err.ensures.err pack ∙ same_kept c.ensure.new.packs.entries c.args.key.now pack ∙ c.ensure.ensures.same pack)),
+      tally-same c.args.key.now c.ensure.new.packs.entries c.add_status.new.packs.entries c.self.inside.tally (rw c.copy.ensures at c.in_ok-ensure.ensures.there) c.add_status.ensures.entries
+          (c.in-Err.ensures.err c.args.key.now ∙ same_kept c.ensure.new.packs.entries c.args.key.now c.args.key.now) (record { held = c.self.invariant.1.held ∙ sym c.ensure.ensures.held; active = c.self.invariant.1.active ∙ sym c.ensure.ensures.active }),
+    )
 
 pub returns-in-Ok-clause-effect : goal.returns-in-Ok-clause-effect
 returns-in-Ok-clause-effect c =
     let log = c.ready_entry.new.log.items in
     let entry = c.in_ok-entry.entry in
     let kept : IsKept log c.self.inside.masters.entries c.ensure.new.packs.entries c.self.inside.stops c.self.inside.latest =
-    kept-same log _ c.self.inside.packs.entries _ _ _ (rw c.ready_entry.ensures.items c.self.invariant) c.ensure.ensures.same in
+    kept-same log _ c.self.inside.packs.entries _ _ _ (rw c.ready_entry.ensures.items c.self.invariant.0) c.ensure.ensures.same in
     let new : c.len-new.result ≡ length log = search rules in
     let is : is_status_of c.args.key.now entry.item ≡ true = rw c.in_ok-entry.ensures.entry (c.requires.status c.args.key.now ∙ pack-self c.args.key.now) in
     rw (← c.self.view_is)
     ((rw (c.as_slice.ensures.value, c.push_reserved.ensures.items, new) at c.in-Ok.ensures.effect)
     ∙ status-effect log entry c.ensure.new.packs.entries c.self.inside.stops c.args.key.now kept.tracks kept.stops is
     ∙ (λ i. effect_of (c.ready_entry.ensures.items i) (c.in_ok-entry.ensures.entry i)))
+
+pub retallied-self-inside-requires : goal.retallied-self-inside-requires
+retallied-self-inside-requires c =
+    let there = rw c.copy.ensures at c.in_ok-ensure.ensures.there in
+    record {
+      held = count-set is_made c.args.key.now c.ensure.new.packs.entries c.add_status.new.packs.entries _ _ _ there c.in-Ok.ensures.entries (c.self.invariant.1.held ∙ sym c.ensure.ensures.held) c.tally_of-was.ensures.held c.tally_of-is.ensures.held;
+      active = count-set is_active_kept c.args.key.now c.ensure.new.packs.entries c.add_status.new.packs.entries _ _ _ there c.in-Ok.ensures.entries (c.self.invariant.1.active ∙ sym c.ensure.ensures.active) c.tally_of-was.ensures.active c.tally_of-is.ensures.active;
+      ones = (at-most-one _ _ c.tally_of-was.ensures.held, at-most-one _ _ c.tally_of-was.ensures.active, at-most-one _ _ c.tally_of-is.ensures.held, at-most-one _ _ c.tally_of-is.ensures.active);
+    }

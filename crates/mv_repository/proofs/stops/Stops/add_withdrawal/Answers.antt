@@ -1,5 +1,5 @@
 -- What is put in is the first of its product.
-use Rattle.std.proofs.Common.{◌≡◌, ◌∙◌, ap, sym, cond, rules, Bool, true, Option, Some}
+use Rattle.std.proofs.Common.{◌≡◌, ◌∙◌, ap, sym, cond, rules, true, Some}
 use Rattle.std.specs.Map.{lookup}
 use Rattle.mv_repository.specs.Keys.{is_same_text}
 use Rattle.mv_repository.specs.Stops.{comes_first, earlier_place}

@@ -1,0 +1,1 @@
+//! The router: parties, routing, closing, repeats, catalogue and batch links.

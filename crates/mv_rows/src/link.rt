@@ -1,0 +1,1 @@
+//! Links: what is pushed, relayed, repeated and accepted.

@@ -1,0 +1,1 @@
+//! Messages: reading, faults, canonical texts and copies.

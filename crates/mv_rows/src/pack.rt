@@ -1,0 +1,1 @@
+//! Identifiers, dates and moments.

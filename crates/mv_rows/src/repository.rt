@@ -1,0 +1,1 @@
+//! A national repository: effects, states of packs, recalls, withdrawals, answers and verdicts.

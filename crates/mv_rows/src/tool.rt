@@ -1,0 +1,1 @@
+//! The lines of the program, over readers and writers that fail.

@@ -106,7 +106,7 @@ standing-about pack batch xs = λ i. record { recalled = recalled-about pack bat
 abbrev batch_of : KnownPack → List ℕ
 batch_of held = held.batch
 
-batch-status : (held : KnownPack) (standing : BatchStanding) (to : Standing) (sender : ℕ) (user : List ℕ) (at entry : ℕ)
+pub batch-status : (held : KnownPack) (standing : BatchStanding) (to : Standing) (sender : ℕ) (user : List ℕ) (at entry : ℕ)
     → (pack_after_status held standing to sender user at entry).batch ≡ held.batch
 batch-status held standing to sender user at entry =
     elim (is_done (change_effect held standing to sender user at)) as (λ b. (cond b (record held { standing = to; change = change_to to (record { by = sender; user = user; at = at; entry = entry }) }) held).batch ≡ held.batch) [

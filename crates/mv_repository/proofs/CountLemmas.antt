@@ -1,5 +1,5 @@
 -- The counts of a log, by the tables.
-use Rattle.std.proofs.Common.{◌≡◌, ◌≤◌, ℕ, zero, suc, ◌+◌, take, slice_get, List, [], ◌∷◌, ◌++◌, length, refl, sym, ◌∙◌, ap, arith, Bool, true, false, cond, ◌&&◌, ◌||◌, Option, Some, None, is_some, IsSome, true≢false, filter, map}
+use Rattle.std.proofs.Common.{◌≡◌, ◌≤◌, ℕ, ◌+◌, List, [], ◌∷◌, ◌++◌, length, refl, sym, ◌∙◌, ap, arith, Bool, true, false, cond, ◌&&◌, ◌||◌, Option, Some, None, is_some, IsSome, true≢false, filter, map}
 use Rattle.std.specs.Cmp.{IsEquivalence}
 use Rattle.std.specs.Cmp.Lexicographic.{nat_list_eq_equiv}
 use Rattle.std.specs.List.{list_any, flat_map, IsDistinct, count_by}
@@ -23,7 +23,7 @@ use Rattle.mv_repository.specs.Copy.{is_master, last_master, IsCopyOf, place_of 
 use Rattle.mv_repository.specs.PackState.{has_pack, is_recall_of, pack_state, held_of}
 use Rattle.mv_repository.specs.Counts.{mastered_in, uploaded_in, recalled_in, mastered_products, uploaded_packs, recalled_batches, is_held_active}
 use Rattle.mv_repository.specs.Stops.{StopTables, AreStopsOf, place_of, first_stops}
-use Rattle.mv_repository.specs.Track.{Kept, is_upload_of, first_upload, statuses_of, pack_grown, nothing_kept, kept_in, AreTracksOf, is_made, is_active_kept, is_kept_so, one_if, IsTally}
+use Rattle.mv_repository.specs.Track.{Kept, is_upload_of, first_upload, statuses_of, pack_grown, nothing_kept, kept_in, AreTracksOf, is_made, is_active_kept, one_if, IsTally}
 use Rattle.mv_repository.proofs.OrderLemmas.{ordered-ascends}
 use Rattle.mv_repository.proofs.StateLemmas.{known-grown}
 use Rattle.mv_repository.proofs.KeptLemmas.{text-sym, text-self, pack-sym, pack-self, same_pack, same_batch}
@@ -176,34 +176,6 @@ count-active log es distinct tracks =
     counted-part is_active_kept es (filter (λ pack. is_held_active (pack_state pack log)) (uploaded_packs log)) distinct refl
     (λ pack. ap is_active_kept (tracks pack) ∙ active-made log pack
     ∙ sym (is_member-filter pack-equiv (λ q. is_held_active (pack_state q log)) pack (λ x e. ap (λ (q : PackKey). is_held_active (pack_state q log)) (same_pack pack x e)) (uploaded_packs log)))
-
-raised : (t : Bool) (m n : ℕ) → m ≡ cond t (n + 1) n → suc m ≡ cond t (suc n + 1) (suc n)
-raised true m n e = omega (arith, e)
-raised false m n e = ap suc e
-
-filter-more : (test : Kept → Bool) (es : List (PackKey × Kept)) (i : ℕ)
-    → length (filter (λ e. test e.1) (take (suc i) es)) ≡ cond (is_kept_so test (slice_get es i)) (length (filter (λ e. test e.1) (take i es)) + 1) (length (filter (λ e. test e.1) (take i es)))
-filter-more test [] zero = refl
-filter-more test [] (suc i) = refl
-filter-more test (e ∷ es) zero = elim (test e.1) as (λ b. length (cond b (e ∷ []) []) ≡ cond b (0 + 1) 0) [ true ↦ refl | false ↦ refl ]
-filter-more test (e ∷ es) (suc i) =
-    elim (test e.1) as (λ b. length (cond b (e ∷ filter (λ e. test e.1) (take (suc i) es)) (filter (λ e. test e.1) (take (suc i) es)))
-    ≡ cond (is_kept_so test (slice_get es i)) (length (cond b (e ∷ filter (λ e. test e.1) (take i es)) (filter (λ e. test e.1) (take i es))) + 1) (length (cond b (e ∷ filter (λ e. test e.1) (take i es)) (filter (λ e. test e.1) (take i es))))) [
-      | true ↦ raised (is_kept_so test (slice_get es i)) (length (filter (λ e. test e.1) (take (suc i) es))) (length (filter (λ e. test e.1) (take i es))) (filter-more test es i)
-      | false ↦ filter-more test es i
-    ]
-
--- one place more
-pub count-more : (test : Kept → Bool) (es : List (PackKey × Kept)) (i count count' : ℕ) (is : Bool) → count ≡ count_by (λ e. test e.1) (take i es) → is ≡ is_kept_so test (slice_get es i) → count' ≡ cond is (count + 1) count
-    → count' ≡ count_by (λ e. test e.1) (take (i + 1) es)
-count-more test es i count count' is c e h =
-    let k : i + 1 ≡ suc i = omega arith in
-    let n : count ≡ length (filter (λ e. test e.1) (take i es)) = c ∙ sym (length-filter (λ e. test e.1) (take i es)) in
-    h ∙ (λ j. cond (e j) (n j + 1) (n j)) ∙ sym (filter-more test es i) ∙ length-filter (λ e. test e.1) (take (suc i) es) ∙ ap (λ m. count_by (λ e. test e.1) (take m es)) (sym k)
-
-pub count-within : (i count count' : ℕ) (is : Bool) → count ≤ i → count' ≡ cond is (count + 1) count → count' ≤ i + 1
-count-within i count count' true l e = omega (arith, e, l)
-count-within i count count' false l e = omega (arith, e, l)
 
 length-one : (b : Bool) (e : PackKey × Kept) (es : List (PackKey × Kept)) → length (cond b (e ∷ es) es) ≡ length es + one_if b
 length-one true e es = omega arith

@@ -1,5 +1,5 @@
 -- Lemmas on the table of packs.
-use Rattle.std.proofs.Common.{◌≡◌, ℕ, zero, suc, ◌+◌, ◌<◌, ◌≤◌, List, [], ◌∷◌, length, get_or, take, refl, sym, ◌∙◌, ap, arith, Bool, true, false, cond, ◌&&◌, ◌||◌, nat_lt, Option, Some, None, is_some, IsSome, true≢false, subst, slice_get}
+use Rattle.std.proofs.Common.{◌≡◌, ℕ, ◌+◌, ◌<◌, List, [], length, get_or, take, refl, sym, ◌∙◌, ap, arith, Bool, true, false, cond, ◌&&◌, ◌||◌, nat_lt, Option, Some, None, is_some, IsSome, true≢false, subst}
 use Rattle.std.proofs.lemmas.Bool.Decides.{nat_tests}
 use Rattle.std.specs.List.{list_any}
 use Rattle.std.specs.Map.{lookup, keys_of}
@@ -7,7 +7,6 @@ use Rattle.std.specs.Option.{unwrap_or}
 use Rattle.std.specs.Cmp.Lexicographic.{same_text, nat_list_eq_equiv}
 use Rattle.std.proofs.lemmas.Map.Made.{is_some-lookup}
 use Rattle.std.proofs.lemmas.List.Folds.{list_any_more}
-use Rattle.std.proofs.lemmas.List.{take_all}
 use Rattle.mv_pack.specs.declared.key.PackKey.{PackKey}
 use Rattle.mv_pack.specs.declared.key.BatchKey.{BatchKey}
 use Rattle.mv_repository.specs.declared.entry.LogEntry.{LogEntry}
@@ -15,7 +14,8 @@ use Rattle.mv_repository.specs.Keys.{is_same_text, is_same_pack, is_same_batch, 
 use Rattle.mv_repository.specs.Order.{rank}
 use Rattle.mv_repository.specs.PackState.{has_pack}
 use Rattle.mv_repository.specs.Stops.{StopTables, entry_at, comes_first, earlier_place}
-use Rattle.mv_repository.specs.Track.{Kept, nothing_kept, kept_in, with_upload, worked_out, refreshed, IsTrack, AreTracks, is_at, is_key_at}
+use Rattle.mv_repository.specs.Track.{Kept, nothing_kept, kept_in, with_upload, worked_out, refreshed, IsTrack, AreTracks, is_upload_of}
+use Rattle.mv_repository.specs.Uploads.{is_named_at}
 
 both : (a b : Bool) → (a && b) ≡ true → (a ≡ true) × (b ≡ true)
 both true true e = (refl, refl)
@@ -131,30 +131,37 @@ has_more gtin serials i p l =
     ap (λ b. is_same_text gtin p.gtin && b) (list_any_more (λ s. is_same_text s p.serial) serials i [] l)
     ∙ or_and (is_same_text gtin p.gtin) (list_any (λ s. is_same_text s p.serial) (take i serials)) (is_same_text (get_or serials i []) p.serial)
 
+-- one more of those that are done, where to do it twice is to do it once
+done_more : (f : Kept → Kept) (a b : Bool) (first now : Kept) → f (f first) ≡ f first → now ≡ cond a (f first) first → cond b (f now) now ≡ cond (a || b) (f first) first
+done_more f true true first now twice e = ap f e ∙ twice
+done_more f true false first now twice e = e
+done_more f false true first now twice e = ap f e
+done_more f false false first now twice e = e
+
+-- one pack more, where what is done to a pack is f
+done_at : (f : PackKey → Kept → Kept) (packs : List (PackKey × Kept)) (key p : PackKey) → cond (is_same_pack key p) (f key (kept_in key packs)) (kept_in p packs) ≡ cond (is_same_pack key p) (f p (kept_in p packs)) (kept_in p packs)
+done_at f packs key p = by (is_same_pack key p) refl
+  where
+    by : (b : Bool) → is_same_pack key p ≡ b → cond b (f key (kept_in key packs)) (kept_in p packs) ≡ cond b (f p (kept_in p packs)) (kept_in p packs)
+    by true e = ap (λ (q : PackKey). f q (kept_in q packs)) (same_pack key p e)
+    by false e = refl
+
+serials_more : (f : PackKey → Kept → Kept) → ((p : PackKey) (k : Kept) → f p (f p k) ≡ f p k) → (first packs packs' : List (PackKey × Kept)) (gtin : List ℕ) (serials : List (List ℕ)) (i : ℕ) → i < length serials
+    → ((p : PackKey) → kept_in p packs ≡ cond (has_pack gtin (take i serials) p) (f p (kept_in p first)) (kept_in p first))
+    → ((p : PackKey) → kept_in p packs' ≡ cond (is_same_pack (pack_key gtin (get_or serials i [])) p) (f (pack_key gtin (get_or serials i [])) (kept_in (pack_key gtin (get_or serials i [])) packs)) (kept_in p packs))
+    → (p : PackKey) → kept_in p packs' ≡ cond (has_pack gtin (take (i + 1) serials) p) (f p (kept_in p first)) (kept_in p first)
+serials_more f again first packs packs' gtin serials i l old step p =
+    step p
+    ∙ done_at f packs (pack_key gtin (get_or serials i [])) p
+    ∙ done_more (f p) (has_pack gtin (take i serials) p) (is_same_pack (pack_key gtin (get_or serials i [])) p) (kept_in p first) (kept_in p packs) (again p (kept_in p first)) (old p)
+    ∙ ap (λ b. cond b (f p (kept_in p first)) (kept_in p first)) (sym (has_more gtin serials i p l))
+
 pub looks_more : (log : List LogEntry) (tables : StopTables) (first packs packs' : List (PackKey × Kept)) (gtin : List ℕ) (serials : List (List ℕ)) (i : ℕ) (new : ℕ) → i < length serials
     → ((p : PackKey) → kept_in p packs ≡ cond (has_pack gtin (take i serials) p) (with_upload log tables p new (kept_in p first)) (kept_in p first))
     → ((p : PackKey) → kept_in p packs' ≡ cond (is_same_pack (pack_key gtin (get_or serials i [])) p) (with_upload log tables (pack_key gtin (get_or serials i [])) new (kept_in (pack_key gtin (get_or serials i [])) packs)) (kept_in p packs))
     → (p : PackKey) → kept_in p packs' ≡ cond (has_pack gtin (take (i + 1) serials) p) (with_upload log tables p new (kept_in p first)) (kept_in p first)
-looks_more log tables first packs packs' gtin serials i new l old step p =
-    step p ∙ by (is_same_pack key p) refl ∙ ap (λ b. cond b (with_upload log tables p new (kept_in p first)) (kept_in p first)) (sym (has_more gtin serials i p l))
-  where
-    key : PackKey
-    key = pack_key gtin (get_or serials i [])
-
-    again : (a : Bool) → kept_in p packs ≡ cond a (with_upload log tables p new (kept_in p first)) (kept_in p first)
-        → with_upload log tables p new (kept_in p packs) ≡ cond (a || true) (with_upload log tables p new (kept_in p first)) (kept_in p first)
-    again true h = ap (with_upload log tables p new) h ∙ twice log tables p new (kept_in p first)
-    again false h = ap (with_upload log tables p new) h
-
-    or_false : (a : Bool) → cond a (with_upload log tables p new (kept_in p first)) (kept_in p first) ≡ cond (a || false) (with_upload log tables p new (kept_in p first)) (kept_in p first)
-    or_false true = refl
-    or_false false = refl
-
-    by : (b : Bool) → is_same_pack key p ≡ b
-        → cond b (with_upload log tables key new (kept_in key packs)) (kept_in p packs)
-        ≡ cond (has_pack gtin (take i serials) p || b) (with_upload log tables p new (kept_in p first)) (kept_in p first)
-    by true e = ap (λ (q : PackKey). with_upload log tables q new (kept_in q packs)) (same_pack key p e) ∙ again (has_pack gtin (take i serials) p) (old p)
-    by false e = old p ∙ or_false (has_pack gtin (take i serials) p)
+looks_more log tables first packs packs' gtin serials i new l old step =
+    serials_more (λ p k. with_upload log tables p new k) (λ p k. twice log tables p new k) first packs packs' gtin serials i l old step
 
 -- a pack that has an entry has one in a table of the same keys
 pub there_stays : (es es' : List (PackKey × Kept)) → keys_of es' ≡ keys_of es → (q : PackKey) → IsSome (lookup (is_same_pack q) es) → IsSome (lookup (is_same_pack q) es')
@@ -162,66 +169,33 @@ there_stays es es' same q h = is_some-lookup (is_same_pack q) es' ∙ ap (list_a
 
 -- what working packs out again changes
 
-or_nothing : (b : Bool) → (b || false) ≡ b
-or_nothing true = refl
-or_nothing false = refl
+pub refreshed_more : (log : List LogEntry) (tables : StopTables) (first packs packs' : List (PackKey × Kept)) (gtin : List ℕ) (serials : List (List ℕ)) (i : ℕ) → i < length serials
+    → ((p : PackKey) → kept_in p packs ≡ cond (has_pack gtin (take i serials) p) (refreshed log tables p (kept_in p first)) (kept_in p first))
+    → ((p : PackKey) → kept_in p packs' ≡ cond (is_same_pack (pack_key gtin (get_or serials i [])) p) (refreshed log tables (pack_key gtin (get_or serials i [])) (kept_in (pack_key gtin (get_or serials i [])) packs)) (kept_in p packs))
+    → (p : PackKey) → kept_in p packs' ≡ cond (has_pack gtin (take (i + 1) serials) p) (refreshed log tables p (kept_in p first)) (kept_in p first)
+refreshed_more log tables first packs packs' gtin serials i l old step =
+    serials_more (λ p k. refreshed log tables p k) (λ p k. refl) first packs packs' gtin serials i l old step
 
--- the keys up to a place, and the one that stands there
-any_at : (es : List (PackKey × Kept)) (i : ℕ) (p : PackKey) → list_any (λ k. is_same_pack k p) (take (suc i) (keys_of es)) ≡ (list_any (λ k. is_same_pack k p) (take i (keys_of es)) || is_at p (slice_get es i))
-any_at [] zero p = refl
-any_at [] (suc i) p = refl
-any_at (e ∷ es) zero p = or_nothing (is_same_pack e.0 p)
-any_at (e ∷ es) (suc i) p =
-    elim (is_same_pack e.0 p) as (λ b. (b || list_any (λ k. is_same_pack k p) (take (suc i) (keys_of es))) ≡ ((b || list_any (λ k. is_same_pack k p) (take i (keys_of es))) || is_at p (slice_get es i))) [
-      | true ↦ refl
-      | false ↦ any_at es i p
-    ]
-
--- a pack that has no entry
-absent : (es : List (PackKey × Kept)) (p : PackKey) → list_any (λ k. is_same_pack k p) (keys_of es) ≡ false → kept_in p es ≡ nothing_kept
-absent [] p h = refl
-absent (e ∷ es) p h = by (is_same_pack e.0 p) refl h (absent es p)
-  where
-    by : (b : Bool) → is_same_pack e.0 p ≡ b → (b || list_any (λ k. is_same_pack k p) (keys_of es)) ≡ false → (list_any (λ k. is_same_pack k p) (keys_of es) ≡ false → kept_in p es ≡ nothing_kept) → kept_in p (e ∷ es) ≡ nothing_kept
-    by true t h r = absurd (true≢false h)
-    by false t h r = ap (λ b. unwrap_or (cond b (Some e.1) (lookup (is_same_pack p) es)) nothing_kept) (pack-sym p e.0 ∙ t) ∙ r h
-
-pub refreshed_more : (log : List LogEntry) (tables : StopTables) (first packs packs' : List (PackKey × Kept)) (i : ℕ) → keys_of packs ≡ keys_of first
-    → ((p : PackKey) → kept_in p packs ≡ cond (list_any (λ k. is_same_pack k p) (take i (keys_of first))) (refreshed log tables p (kept_in p first)) (kept_in p first))
-    → ((p : PackKey) → kept_in p packs' ≡ cond (is_key_at packs i p) (refreshed log tables p (kept_in p packs)) (kept_in p packs))
-    → (p : PackKey) → kept_in p packs' ≡ cond (list_any (λ k. is_same_pack k p) (take (i + 1) (keys_of first))) (refreshed log tables p (kept_in p first)) (kept_in p first)
-refreshed_more log tables first packs packs' i same old step p =
-    let s : i + 1 ≡ suc i = omega arith in
-    step p ∙ ap (λ (k : Kept). cond (is_key_at packs i p) (refreshed log tables p k) k) (old p)
-    ∙ by (list_any (λ k. is_same_pack k p) (take i (keys_of first))) (is_key_at packs i p)
+-- the packs of one upload more
+pub refreshed_upload : (log : List LogEntry) (tables : StopTables) (first packs packs' : List (PackKey × Kept)) (places : List ℕ) (i place : ℕ) → i < length places → place ≡ get_or places i 0
+    → ((p : PackKey) → kept_in p packs ≡ cond (is_named_at log (take i places) p) (refreshed log tables p (kept_in p first)) (kept_in p first))
+    → ((p : PackKey) → kept_in p packs' ≡ cond (is_upload_of p (entry_at log place).entry.item) (refreshed log tables p (kept_in p packs)) (kept_in p packs))
+    → (p : PackKey) → kept_in p packs' ≡ cond (is_named_at log (take (i + 1) places) p) (refreshed log tables p (kept_in p first)) (kept_in p first)
+refreshed_upload log tables first packs packs' places i place l e old step p =
+    step p
+    ∙ done_more (refreshed log tables p) (is_named_at log (take i places) p) (is_upload_of p (entry_at log place).entry.item) (kept_in p first) (kept_in p packs) refl (old p)
     ∙ ap (λ b. cond b (refreshed log tables p (kept_in p first)) (kept_in p first))
-    (sym (ap (λ (m : ℕ). list_any (λ k. is_same_pack k p) (take m (keys_of first))) s ∙ ap (λ (ks : List PackKey). list_any (λ k. is_same_pack k p) (take (suc i) ks)) (sym same) ∙ any_at packs i p
-    ∙ ap (λ (ks : List PackKey). list_any (λ k. is_same_pack k p) (take i ks) || is_key_at packs i p) same))
-  where
-    by : (a b : Bool) → cond b (refreshed log tables p (cond a (refreshed log tables p (kept_in p first)) (kept_in p first))) (cond a (refreshed log tables p (kept_in p first)) (kept_in p first))
-        ≡ cond (a || b) (refreshed log tables p (kept_in p first)) (kept_in p first)
-    by true true = refl
-    by true false = refl
-    by false true = refl
-    by false false = refl
+    (ap (λ (n : ℕ). is_named_at log (take i places) p || is_upload_of p (entry_at log n).entry.item) e
+    ∙ sym (list_any_more (λ (n : ℕ). is_upload_of p (entry_at log n).entry.item) places i 0 l))
 
-pub refreshed_whole : (log : List LogEntry) (tables : StopTables) (first packs : List (PackKey × Kept)) (i : ℕ) → length (keys_of first) ≤ i
-    → ((p : PackKey) → kept_in p packs ≡ cond (list_any (λ k. is_same_pack k p) (take i (keys_of first))) (refreshed log tables p (kept_in p first)) (kept_in p first))
-    → (p : PackKey) → kept_in p packs ≡ refreshed log tables p (kept_in p first)
-refreshed_whole log tables first packs i l old p =
-    old p ∙ ap (λ (ks : List PackKey). cond (list_any (λ k. is_same_pack k p) ks) (refreshed log tables p (kept_in p first)) (kept_in p first)) (take_all i (keys_of first) l)
-    ∙ by (list_any (λ k. is_same_pack k p) (keys_of first)) refl
+-- a pack of which nothing is kept
+pub refreshed_absent : (log : List LogEntry) (tables : StopTables) (packs : List (PackKey × Kept)) (key : PackKey) → is_some (lookup (is_same_pack key) packs) ≡ false
+    → (p : PackKey) → kept_in p packs ≡ cond (is_same_pack key p) (refreshed log tables key (kept_in key packs)) (kept_in p packs)
+refreshed_absent log tables packs key none p = by (is_same_pack key p) refl
   where
-    by : (b : Bool) → list_any (λ k. is_same_pack k p) (keys_of first) ≡ b → cond b (refreshed log tables p (kept_in p first)) (kept_in p first) ≡ refreshed log tables p (kept_in p first)
-    by true e = refl
-    by false e = let none = absent first p e in none ∙ ap (refreshed log tables p) (sym none)
+    nothing : kept_in key packs ≡ nothing_kept
+    nothing = ap (λ (o : Option Kept). unwrap_or o nothing_kept) (none_from (lookup (is_same_pack key) packs) none)
 
-pub at_key : (log : List LogEntry) (tables : StopTables) (packs packs' : List (PackKey × Kept)) (place : ℕ) (key : PackKey) (v : Kept) → slice_get packs place ≡ Some (key, v)
-    → ((p : PackKey) → kept_in p packs' ≡ cond (is_same_pack key p) (refreshed log tables key (kept_in key packs)) (kept_in p packs))
-    → (p : PackKey) → kept_in p packs' ≡ cond (is_key_at packs place p) (refreshed log tables p (kept_in p packs)) (kept_in p packs)
-at_key log tables packs packs' place key v e looks p =
-    looks p ∙ by (is_same_pack key p) refl ∙ ap (λ (o : Option (PackKey × Kept)). cond (is_at p o) (refreshed log tables p (kept_in p packs)) (kept_in p packs)) (sym e)
-  where
-    by : (b : Bool) → is_same_pack key p ≡ b → cond b (refreshed log tables key (kept_in key packs)) (kept_in p packs) ≡ cond b (refreshed log tables p (kept_in p packs)) (kept_in p packs)
-    by true t = ap (λ (q : PackKey). refreshed log tables q (kept_in q packs)) (same_pack key p t)
-    by false t = refl
+    by : (b : Bool) → is_same_pack key p ≡ b → kept_in p packs ≡ cond b (refreshed log tables key (kept_in key packs)) (kept_in p packs)
+    by true e = ap (λ (q : PackKey). kept_in q packs) (sym (same_pack key p e)) ∙ nothing ∙ sym (ap (refreshed log tables key) nothing)
+    by false e = refl

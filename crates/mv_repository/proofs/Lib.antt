@@ -8,6 +8,8 @@ pub mod PlaceLemmas
 pub mod LedgerLemmas
 pub mod StateLemmas
 pub mod TableLemmas
+pub mod UploadsLemmas
+pub mod ElsewhereLemmas
 pub mod ProductLemmas
 pub mod InquiriesLemmas
 pub mod ChangesLemmas

@@ -14,5 +14,6 @@ pub mod Repository
 pub mod Copy
 pub mod Stops
 pub mod Track
+pub mod Uploads
 pub mod Inquiries
 pub mod Tables

@@ -1,5 +1,5 @@
 -- What is kept of one pack, and that this gives what the pack is.
-use Rattle.std.specs.Prelude.{◌≡◌, ℕ, List, [], ◌∷◌, map, fold, filter, find, get_or, slice_get, not, is_some, Bool, false, Option, Some, None, if◌then◌else◌}
+use Rattle.std.specs.Prelude.{◌≡◌, ℕ, List, [], ◌∷◌, map, fold, filter, find, get_or, not, is_some, Bool, false, Option, Some, None, if◌then◌else◌}
 use Rattle.std.specs.List.{count_by}
 use Rattle.std.specs.Map.{lookup}
 use Rattle.mv_repository.specs.declared.packs.Tally.{Tally}
@@ -191,14 +191,6 @@ AreTracks log tables table = (pack : PackKey) → IsTrack log tables pack (kept_
 abbrev pub AreTracksOf : List LogEntry → List (PackKey × Kept) → Type 0
 AreTracksOf log table = (pack : PackKey) → kept_in pack table ≡ track_of pack log
 
--- a pack stands at a place of the table
-abbrev pub is_at : PackKey → Option (PackKey × Kept) → Bool
-is_at pack None = false
-is_at pack (Some entry) = is_same_pack entry.0 pack
-
-abbrev pub is_key_at : List (PackKey × Kept) → ℕ → PackKey → Bool
-is_key_at table place pack = is_at pack (slice_get table place)
-
 -- how many packs of an upload the newest entry makes, as far as the table says
 abbrev pub made_count : List LogEntry → ℕ → List (PackKey × Kept) → List ℕ → List (List ℕ) → ℕ
 made_count log new table gtin serials = distinct_count is_same_text (filter (λ serial. comes_first log new (kept_in (pack_key gtin serial) table).birth) serials)
@@ -210,11 +202,6 @@ is_made kept = is_some kept.birth
 -- the pack is held, and active
 abbrev pub is_active_kept : Kept → Bool
 is_active_kept kept = is_held_active kept.held
-
--- something is kept, and it is so
-abbrev pub is_kept_so : (Kept → Bool) → Option (PackKey × Kept) → Bool
-is_kept_so test None = false
-is_kept_so test (Some entry) = test entry.1
 
 -- the tally of a table: how many packs are held, and how many of them are active
 pub record IsTally (table : List (PackKey × Kept)) (tally : Tally) : Type 0 where

@@ -8,21 +8,22 @@ ghost use Rattle.mv_repository.specs.Keys.{is_same_text, is_same_pack, is_same_b
 ghost use Rattle.mv_repository.specs.Copy.{is_master, product_in, last_master, entry_of, is_late};
 ghost use Rattle.mv_repository.specs.PackState.{has_pack};
 ghost use Rattle.mv_repository.specs.Tables.{Bears, IsUploadOf, IsUpTo};
+ghost use Rattle.mv_repository.specs.Uploads.{uploaded_batch};
 
 use crate::order::rank;
 use crate::packs::{
-    Tally, add_status, add_uploads, count_packs, ensure, ensure_all, pack, refresh_all, retallied,
-    tally_of,
+    Tally, add_status, add_uploads, ensure, ensure_all, pack, refresh_uploads, retallied, tally_of,
 };
 use crate::status::is_active;
 use crate::stops::Stops;
 use crate::track::{Track, copy_of};
+use crate::uploads::Uploads;
 use crate::verdict::{is_for_destruction, verdict_when};
 use crate::{Counts, Effect, Held, Local, LogEntry};
 use indexmap::IndexMap;
 use mv_link::Item;
 use mv_message::{Found, Message, Party, Product, Serials};
-use mv_pack::{BatchKey, Gtin, PackKey};
+use mv_pack::{Batch, BatchKey, Gtin, PackKey};
 use std::alloc::{AllocError, Global};
 use std::marker::Model;
 
@@ -41,6 +42,8 @@ pub(crate) struct Ledger {
     tally: Tally,
     /// The recalls and the withdrawals.
     stops: Stops,
+    /// Where the uploads of a batch, and those of a product, stand in the log.
+    uploads: Uploads,
     /// No stamp in the log is greater.
     latest: u32,
 }
@@ -55,7 +58,7 @@ impl Model for Ledger {
     ghost view = { λ a. record { party = a.party; log = a.log.items } };
 
     ghost invariant = { λ a.
-        IsKept a.log.items a.masters.entries a.packs.entries a.stops a.latest
+        IsKept a.log.items a.masters.entries a.packs.entries a.stops a.uploads a.latest
         × IsTally a.packs.entries a.tally };
 }
 
@@ -79,6 +82,7 @@ impl Ledger {
             packs: IndexMap::new(alloc),
             tally: Tally { held: 0, active: 0 },
             stops: Stops::new(alloc),
+            uploads: Uploads::new(alloc),
             latest: 0,
         }
     }
@@ -251,9 +255,12 @@ impl Ledger {
                 self.apply_master(sender, item, *gtin)?;
                 Ok(Effect::Done)
             }
-            Message::Upload { gtin, serials, .. } => {
-                self.apply_upload(sender, item, *gtin, serials)
-            }
+            Message::Upload {
+                gtin,
+                batch,
+                serials,
+                ..
+            } => self.apply_upload(sender, item, *gtin, batch, serials),
             Message::Status { key, .. } => self.apply_status(sender, item, key),
             Message::Recall { key, .. } => self.apply_recall(sender, item, *stamp, key),
             Message::Withdraw { gtin, .. } => self.apply_withdrawal(sender, item, *stamp, *gtin),
@@ -298,10 +305,12 @@ impl Ledger {
         sender: Party,
         item: &Item,
         gtin: Gtin,
+        batch: &Batch,
         serials: &Serials,
     ) -> Result<Effect, AllocError>
         requires bears { Bears item.now (λ gtin. false) (has_pack gtin serials.now) (λ pack. false) (λ batch. false) (λ gtin. false) }
         requires upload { IsUploadOf item.now gtin serials.now }
+        requires batch { uploaded_batch item.now ≡ batch.now }
         ensures ok { OnOk result (self.new ≡ with_applied self.old sender item.now) }
         ensures effect { IfOk result (λ effect. effect
             ≡ effect_of self.old.log (record { sender = sender; item = item.now })) }
@@ -310,6 +319,8 @@ impl Ledger {
         let entry = ready_entry(self.alloc, &mut self.log, sender, item)?;
         ensure_all(&mut self.packs, self.alloc, gtin, serials.as_slice())?;
         let new = self.log.len();
+        let batch = batch.copy();
+        self.uploads.add(BatchKey { gtin, batch }, new)?;
         self.log.push_reserved(entry);
         let serials = serials.as_slice();
         let count = add_uploads(
@@ -343,24 +354,15 @@ impl Ledger {
     {
         let entry = ready_entry(self.alloc, &mut self.log, sender, item)?;
         ensure(&mut self.packs, self.alloc, key.copy())?;
-        let new = self.log.len();
-        self.log.push_reserved(entry);
         let was = tally_of(&self.packs, key);
-        match add_status(&mut self.packs, self.log.as_slice(), &self.stops, key, new) {
-            Ok(effect) => {
-                let is = tally_of(&self.packs, key);
-                self.tally = retallied(&self.packs, self.tally, was, is);
-                self.latest = latest_with(self.latest, item);
-                Ok(effect)
-            }
-            Err(error) => {
-                self.log.pop();
-                Err(error)
-            }
-        }
+        let effect = add_status(&mut self.packs, &mut self.log, entry, &self.stops, key)?;
+        let is = tally_of(&self.packs, key);
+        self.tally = retallied(&self.packs, self.tally, was, is);
+        self.latest = latest_with(self.latest, item);
+        Ok(effect)
     }
 
-    /// Applies a recall of a batch. One that comes late bears on packs that were worked out before.
+    /// Applies a recall of a batch. One that comes late bears on packs of the batch that were worked out before.
     fn apply_recall(
         &mut self,
         sender: Party,
@@ -376,28 +378,19 @@ impl Ledger {
         ensures err { OnErr result (self.new ≡ self.old) }
     {
         let entry = ready_entry(self.alloc, &mut self.log, sender, item)?;
-        let new = self.log.len();
-        self.log.push_reserved(entry);
-        let effect = match self
-            .stops
-            .add_recall(self.log.as_slice(), batch.copy(), new)
-        {
-            Ok(first) => lasting_effect(first),
-            Err(error) => {
-                self.log.pop();
-                return Err(error);
-            }
-        };
+        let first = self.stops.add_recall(&mut self.log, entry, batch.copy())?;
+        let effect = lasting_effect(first);
         if self.latest <= stamp {
             self.latest = stamp;
             return Ok(effect);
         }
-        refresh_all(&mut self.packs, self.log.as_slice(), &self.stops);
-        self.tally = count_packs(&self.packs);
+        let log = self.log.as_slice();
+        let places = self.uploads.of_batch(batch);
+        refresh_uploads(&mut self.packs, log, &self.stops, &mut self.tally, places);
         Ok(effect)
     }
 
-    /// Applies a withdrawal of a product. One that comes late bears on packs that were worked out before.
+    /// Applies a withdrawal of a product. One that comes late bears on packs of the product that were worked out before.
     fn apply_withdrawal(
         &mut self,
         sender: Party,
@@ -413,21 +406,15 @@ impl Ledger {
         ensures err { OnErr result (self.new ≡ self.old) }
     {
         let entry = ready_entry(self.alloc, &mut self.log, sender, item)?;
-        let new = self.log.len();
-        self.log.push_reserved(entry);
-        let effect = match self.stops.add_withdrawal(self.log.as_slice(), gtin, new) {
-            Ok(first) => lasting_effect(first),
-            Err(error) => {
-                self.log.pop();
-                return Err(error);
-            }
-        };
+        let first = self.stops.add_withdrawal(&mut self.log, entry, gtin)?;
+        let effect = lasting_effect(first);
         if self.latest <= stamp {
             self.latest = stamp;
             return Ok(effect);
         }
-        refresh_all(&mut self.packs, self.log.as_slice(), &self.stops);
-        self.tally = count_packs(&self.packs);
+        let log = self.log.as_slice();
+        let places = self.uploads.of_product(&gtin);
+        refresh_uploads(&mut self.packs, log, &self.stops, &mut self.tally, places);
         Ok(effect)
     }
 }

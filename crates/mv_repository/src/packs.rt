@@ -1,20 +1,23 @@
 //! The table of packs: for each pack that an entry names, what is kept of it.
 
-ghost use Rattle.std.specs.Prelude.{◌≡◌, ◌<◌, ◌≤◌, ◌+◌, ◌^◌, ℕ, [], length, get_or, slice_get, OnOk, OnErr, IfOk, IsSome, All, if◌then◌else◌};
+ghost use Rattle.std.specs.Prelude.{◌≡◌, ◌<◌, ◌≤◌, ◌+◌, ◌^◌, ◌++◌, ◌∷◌, ℕ, [], length, get_or, vec_len, vec_capacity, OnOk, OnErr, IfOk, IsSome, if◌then◌else◌};
 ghost use Rattle.indexmap.specs.IndexMap.{get, keys};
-ghost use Rattle.std.specs.List.{count_by, IsDistinct};
+ghost use Rattle.std.specs.List.{count_by};
 ghost use Rattle.std.specs.Map.{set_value};
 ghost use Rattle.std.specs.Option.{option_copied};
 ghost use Rattle.mv_pack.specs.declared.key.PackKey.{PackKey as APackKey};
 ghost use Rattle.mv_repository.specs.Keys.{is_same_pack, pack_key};
 ghost use Rattle.mv_repository.specs.PackState.{has_pack};
-ghost use Rattle.mv_repository.specs.Stops.{comes_first};
-ghost use Rattle.mv_repository.specs.Track.{kept_in, IsTrack, AreTracks, with_status, with_upload, refreshed, is_key_at, newest_effect, made_count, is_made, is_active_kept, is_kept_so, one_if, IsTally};
+ghost use Rattle.mv_repository.specs.Stops.{entry_at, comes_first};
+ghost use Rattle.mv_repository.specs.Track.{kept_in, IsTrack, AreTracks, with_status, with_upload, refreshed, newest_effect, made_count, is_made, is_active_kept, is_upload_of, one_if, IsTally};
+ghost use Rattle.mv_repository.specs.Uploads.{is_named_at};
 
 use crate::stops::Stops;
 use crate::track::Track;
 use crate::{Effect, Held, LogEntry};
 use indexmap::IndexMap;
+use mv_link::Item;
+use mv_message::Message;
 use mv_pack::{Gtin, PackKey, Serial};
 use std::alloc::{AllocError, Global};
 
@@ -68,31 +71,37 @@ pub(crate) fn ensure_all(
     Ok(())
 }
 
-/// Adds the newest entry, a status, to what is kept of its pack.
+/// Writes a status into the log, and adds it to what is kept of its pack. Where memory is refused nothing has changed.
 pub(crate) fn add_status(
     packs: &mut IndexMap<PackKey, Track>,
-    log: &[LogEntry],
+    log: &mut Vec<LogEntry>,
+    entry: LogEntry,
     stops: &Stops,
     key: &PackKey,
-    new: usize,
 ) -> Result<Effect, AllocError>
+    requires room { vec_len log.old < vec_capacity log.old }
     requires there { IsSome (get is_same_pack packs.old key.now) }
-    requires track { IsTrack log.now stops.now key.now (kept_in key.now packs.old.entries) }
+    requires track { IsTrack (log.old.items ++ entry ∷ []) stops.now key.now
+        (kept_in key.now packs.old.entries) }
+    ensures log { OnOk result (log.new.items ≡ log.old.items ++ entry ∷ []) }
     ensures ok { OnOk result ((pack : APackKey) → kept_in pack packs.new.entries
         ≡ (if is_same_pack key.now pack
-        then with_status log.now stops.now key.now new (kept_in key.now packs.old.entries)
+        then with_status (log.old.items ++ entry ∷ []) stops.now key.now
+        (length log.old.items) (kept_in key.now packs.old.entries)
         else kept_in pack packs.old.entries)) }
     ensures entries { packs.new.entries
         ≡ set_value (is_same_pack key.now) packs.old.entries (kept_in key.now packs.new.entries) }
     ensures effect { IfOk result (λ effect. effect
-        ≡ newest_effect log.now stops.now key.now new (kept_in key.now packs.old.entries)) }
+        ≡ newest_effect (log.old.items ++ entry ∷ []) stops.now key.now
+        (length log.old.items) (kept_in key.now packs.old.entries)) }
+    ensures log_err { OnErr result (log.new.items ≡ log.old.items) }
     ensures err { OnErr result ((pack : APackKey) → kept_in pack packs.new.entries
         ≡ (if is_same_pack key.now pack then kept_in key.now packs.old.entries
         else kept_in pack packs.old.entries)) }
 {
     match packs.get_mut(key) {
-        Some(track) => track.add_status(log, stops, key, new),
-        None => Ok(Effect::Unknown),
+        Some(track) => track.add_status(log, entry, stops, key),
+        None => unreachable!(),
     }
 }
 
@@ -240,39 +249,108 @@ pub(crate) fn add_uploads(
 
 /// Works one pack out again.
 fn refresh(packs: &mut IndexMap<PackKey, Track>, log: &[LogEntry], stops: &Stops, key: &PackKey)
-    ensures keys { keys packs.new ≡ keys packs.old }
+    requires there { IsSome (get is_same_pack packs.old key.now) }
     ensures kept { (pack : APackKey) → kept_in pack packs.new.entries
         ≡ (if is_same_pack key.now pack
         then refreshed log.now stops.now key.now (kept_in key.now packs.old.entries)
         else kept_in pack packs.old.entries) }
+    ensures entries { packs.new.entries
+        ≡ set_value (is_same_pack key.now) packs.old.entries (kept_in key.now packs.new.entries) }
 {
     if let Some(track) = packs.get_mut(key) {
         track.refresh(log, stops, key);
     }
 }
 
-/// Works out the pack that stands at a place of the table.
-fn refresh_at(packs: &mut IndexMap<PackKey, Track>, log: &[LogEntry], stops: &Stops, place: usize)
-    ensures keys { keys packs.new ≡ keys packs.old }
+/// The same, with the tally of the table. A pack of which nothing is kept stays as it is.
+fn refresh_tallied(
+    packs: &mut IndexMap<PackKey, Track>,
+    log: &[LogEntry],
+    stops: &Stops,
+    tally: &mut Tally,
+    key: &PackKey,
+)
+    requires tally { IsTally packs.old.entries tally.old }
     ensures kept { (pack : APackKey) → kept_in pack packs.new.entries
-        ≡ (if is_key_at packs.old.entries place pack
-        then refreshed log.now stops.now pack (kept_in pack packs.old.entries)
+        ≡ (if is_same_pack key.now pack
+        then refreshed log.now stops.now key.now (kept_in key.now packs.old.entries)
         else kept_in pack packs.old.entries) }
+    ensures tally { IsTally packs.new.entries tally.new }
 {
-    let Some((key, _)) = packs.get_index(place) else {
+    if !packs.contains_key(key) {
         return;
-    };
-    let key = key.copy();
-    refresh(packs, log, stops, &key);
+    }
+    let was = tally_of(packs, key);
+    refresh(packs, log, stops, key);
+    *tally = retallied(packs, *tally, was, tally_of(packs, key));
 }
 
-/// Works every pack out again.
-pub(crate) fn refresh_all(packs: &mut IndexMap<PackKey, Track>, log: &[LogEntry], stops: &Stops)
-    ensures { (pack : APackKey) → kept_in pack packs.new.entries
-        ≡ refreshed log.now stops.now pack (kept_in pack packs.old.entries) }
+/// Works out again these packs of a product.
+fn refresh_serials(
+    packs: &mut IndexMap<PackKey, Track>,
+    log: &[LogEntry],
+    stops: &Stops,
+    tally: &mut Tally,
+    gtin: Gtin,
+    serials: &[Serial],
+)
+    requires tally { IsTally packs.old.entries tally.old }
+    ensures kept { (pack : APackKey) → kept_in pack packs.new.entries
+        ≡ (if has_pack gtin serials.now pack
+        then refreshed log.now stops.now pack (kept_in pack packs.old.entries)
+        else kept_in pack packs.old.entries) }
+    ensures tally { IsTally packs.new.entries tally.new }
 {
-    for place in 0..packs.len() {
-        refresh_at(packs, log, stops, place);
+    for serial in serials {
+        let serial = serial.copy();
+        refresh_tallied(packs, log, stops, tally, &PackKey { gtin, serial });
+    }
+}
+
+/// Works out again the packs that the upload at a place of the log names.
+fn refresh_upload(
+    packs: &mut IndexMap<PackKey, Track>,
+    log: &[LogEntry],
+    stops: &Stops,
+    tally: &mut Tally,
+    place: usize,
+)
+    requires tally { IsTally packs.old.entries tally.old }
+    ensures kept { (pack : APackKey) → kept_in pack packs.new.entries
+        ≡ (if is_upload_of pack (entry_at log.now place).entry.item
+        then refreshed log.now stops.now pack (kept_in pack packs.old.entries)
+        else kept_in pack packs.old.entries) }
+    ensures tally { IsTally packs.new.entries tally.new }
+{
+    let Some(entry) = log.get(place) else {
+        return;
+    };
+    if let Item::Carried {
+        message: Message::Upload { gtin, serials, .. },
+        ..
+    } = &entry.item
+    {
+        refresh_serials(packs, log, stops, tally, *gtin, serials.as_slice());
+    }
+}
+
+/// Works out again the packs that the uploads at these places of the log name.
+pub(crate) fn refresh_uploads(
+    packs: &mut IndexMap<PackKey, Track>,
+    log: &[LogEntry],
+    stops: &Stops,
+    tally: &mut Tally,
+    places: &[usize],
+)
+    requires tally { IsTally packs.old.entries tally.old }
+    ensures kept { (pack : APackKey) → kept_in pack packs.new.entries
+        ≡ (if is_named_at log.now places.now pack
+        then refreshed log.now stops.now pack (kept_in pack packs.old.entries)
+        else kept_in pack packs.old.entries) }
+    ensures tally { IsTally packs.new.entries tally.new }
+{
+    for place in places {
+        refresh_upload(packs, log, stops, tally, *place);
     }
 }
 
@@ -283,39 +361,4 @@ pub(crate) struct Tally {
     pub held: usize,
     /// Those of them that are active.
     pub active: usize,
-}
-
-/// Whether the pack that stands at a place of the table is held.
-fn is_made_at(packs: &IndexMap<PackKey, Track>, place: usize) -> bool
-    ensures { result ≡ is_kept_so is_made (slice_get packs.now.entries place) }
-{
-    match packs.get_index(place) {
-        Some((_, track)) => track.is_made(),
-        None => false,
-    }
-}
-
-/// Whether the pack that stands at a place of the table is active.
-fn is_active_at(packs: &IndexMap<PackKey, Track>, place: usize) -> bool
-    ensures { result ≡ is_kept_so is_active_kept (slice_get packs.now.entries place) }
-{
-    match packs.get_index(place) {
-        Some((_, track)) => track.is_active(),
-        None => false,
-    }
-}
-
-/// Counts the packs of the table.
-pub(crate) fn count_packs(packs: &IndexMap<PackKey, Track>) -> Tally
-    ensures held { result.held ≡ count_by (λ entry. is_made entry.1) packs.now.entries }
-    ensures active { result.active ≡ count_by (λ entry. is_active_kept entry.1) packs.now.entries }
-    ensures distinct { IsDistinct is_same_pack (keys packs.now) }
-{
-    let mut held = 0;
-    let mut active = 0;
-    for place in 0..packs.len() {
-        held = one_more_if(held, is_made_at(packs, place));
-        active = one_more_if(active, is_active_at(packs, place));
-    }
-    Tally { held, active }
 }

@@ -1,7 +1,7 @@
 //! What stops a batch for ever: for each batch the place in the log of its first recall by stamp, and for each product
 //! that of its first withdrawal.
 
-ghost use Rattle.std.specs.Prelude.{◌≡◌, ℕ, List, [], length, is_some, OnOk, OnErr, IfOk, if◌then◌else◌};
+ghost use Rattle.std.specs.Prelude.{◌≡◌, ◌<◌, ◌++◌, ◌∷◌, ℕ, List, [], length, is_some, vec_len, vec_capacity, OnOk, OnErr, IfOk, if◌then◌else◌};
 ghost use Rattle.std.specs.List.{IsDistinct};
 ghost use Rattle.std.specs.Map.{lookup, keys_of};
 ghost use Rattle.mv_pack.specs.declared.key.BatchKey.{BatchKey as ABatchKey};
@@ -85,53 +85,75 @@ impl Stops {
         }
     }
 
-    /// Adds a recall, the newest entry; whether it is the first of its batch by stamp.
+    /// Writes a recall of a batch into the log, and adds it; whether it is the first of the batch by stamp. Where memory
+    /// is refused nothing has changed.
     pub fn add_recall(
         &mut self,
-        log: &[LogEntry],
+        log: &mut Vec<LogEntry>,
+        entry: LogEntry,
         batch: BatchKey,
-        new: usize,
     ) -> Result<bool, AllocError>
-        ensures first { IfOk result (λ first. first
-            ≡ comes_first log.now new (lookup (is_same_batch batch) self.old.recalls)) }
+        requires { vec_len log.old < vec_capacity log.old }
+        ensures log { OnOk result (log.new.items ≡ log.old.items ++ entry ∷ []) }
+        ensures first { IfOk result (λ first. first ≡ comes_first (log.old.items ++ entry ∷ [])
+            (length log.old.items) (lookup (is_same_batch batch) self.old.recalls)) }
         ensures recalls { OnOk result ((other : ABatchKey) →
             lookup (is_same_batch other) self.new.recalls
             ≡ (if is_same_batch batch other
-            then earlier_place log.now new (lookup (is_same_batch batch) self.old.recalls)
+            then earlier_place (log.old.items ++ entry ∷ []) (length log.old.items)
+            (lookup (is_same_batch batch) self.old.recalls)
             else lookup (is_same_batch other) self.old.recalls)) }
         ensures withdrawals { self.new.withdrawals ≡ self.old.withdrawals }
+        ensures log_err { OnErr result (log.new.items ≡ log.old.items) }
         ensures err { OnErr result (self.new ≡ self.old) }
     {
+        self.recalls.reserve(1)?;
+        // All room is got: nothing fails from here on.
+        let new = log.len();
+        log.push_reserved(entry);
         let first = self.recalls.get(&batch).copied();
-        if !comes_first(log, new, first) {
+        if !comes_first(log.as_slice(), new, first) {
             return Ok(false);
         }
-        self.recalls.insert(batch, new)?;
+        let Ok(_) = self.recalls.insert(batch, new) else {
+            unreachable!();
+        };
         Ok(true)
     }
 
-    /// Adds a withdrawal, the newest entry; whether it is the first of its product by stamp.
+    /// Writes a withdrawal of a product into the log, and adds it; whether it is the first of the product by stamp. Where
+    /// memory is refused nothing has changed.
     pub fn add_withdrawal(
         &mut self,
-        log: &[LogEntry],
+        log: &mut Vec<LogEntry>,
+        entry: LogEntry,
         gtin: Gtin,
-        new: usize,
     ) -> Result<bool, AllocError>
-        ensures first { IfOk result (λ first. first
-            ≡ comes_first log.now new (lookup (is_same_text gtin) self.old.withdrawals)) }
+        requires { vec_len log.old < vec_capacity log.old }
+        ensures log { OnOk result (log.new.items ≡ log.old.items ++ entry ∷ []) }
+        ensures first { IfOk result (λ first. first ≡ comes_first (log.old.items ++ entry ∷ [])
+            (length log.old.items) (lookup (is_same_text gtin) self.old.withdrawals)) }
         ensures withdrawals { OnOk result ((other : List ℕ) →
             lookup (is_same_text other) self.new.withdrawals
             ≡ (if is_same_text gtin other
-            then earlier_place log.now new (lookup (is_same_text gtin) self.old.withdrawals)
+            then earlier_place (log.old.items ++ entry ∷ []) (length log.old.items)
+            (lookup (is_same_text gtin) self.old.withdrawals)
             else lookup (is_same_text other) self.old.withdrawals)) }
         ensures recalls { self.new.recalls ≡ self.old.recalls }
+        ensures log_err { OnErr result (log.new.items ≡ log.old.items) }
         ensures err { OnErr result (self.new ≡ self.old) }
     {
+        self.withdrawals.reserve(1)?;
+        // All room is got: nothing fails from here on.
+        let new = log.len();
+        log.push_reserved(entry);
         let first = self.withdrawals.get(&gtin).copied();
-        if !comes_first(log, new, first) {
+        if !comes_first(log.as_slice(), new, first) {
             return Ok(false);
         }
-        self.withdrawals.insert(gtin, new)?;
+        let Ok(_) = self.withdrawals.insert(gtin, new) else {
+            unreachable!();
+        };
         Ok(true)
     }
 }

@@ -1,7 +1,7 @@
 //! What is kept of one pack: the place in the log of its first upload, those of its statuses in the order of stamps, and
 //! what they make of it. This file knows no other pack.
 
-ghost use Rattle.std.specs.Prelude.{◌≡◌, ◌≤◌, ◌∷◌, ◌++◌, [], ℕ, List, length, map, insert, take, OnOk, OnErr, IfOk, if◌then◌else◌};
+ghost use Rattle.std.specs.Prelude.{◌≡◌, ◌<◌, ◌≤◌, ◌∷◌, ◌++◌, [], ℕ, List, length, map, insert, take, vec_len, vec_capacity, OnOk, OnErr, IfOk, if◌then◌else◌};
 ghost use Rattle.std.specs.Option.{option_copied};
 ghost use Rattle.mv_repository.specs.Order.{Ascends};
 ghost use Rattle.mv_repository.specs.Pack.{pack_after_status};
@@ -291,26 +291,37 @@ impl Track {
         }
     }
 
-    /// Adds the newest entry, a status of the pack, and gives its effect where it stands.
+    /// Writes a status of the pack into the log, adds it, and gives its effect where it stands. Where memory is refused
+    /// nothing has changed.
     pub fn add_status(
         &mut self,
-        log: &[LogEntry],
+        log: &mut Vec<LogEntry>,
+        entry: LogEntry,
         stops: &Stops,
         pack: &PackKey,
-        new: usize,
     ) -> Result<Effect, AllocError>
-        requires { IsTrack log.now stops.now pack.now self.old }
-        ensures ok { OnOk result
-            (self.new ≡ with_status log.now stops.now pack.now new self.old) }
-        ensures effect { IfOk result (λ effect. effect
-            ≡ newest_effect log.now stops.now pack.now new self.old) }
+        requires room { vec_len log.old < vec_capacity log.old }
+        requires track { IsTrack (log.old.items ++ entry ∷ []) stops.now pack.now self.old }
+        ensures log { OnOk result (log.new.items ≡ log.old.items ++ entry ∷ []) }
+        ensures ok { OnOk result (self.new ≡ with_status (log.old.items ++ entry ∷ []) stops.now
+            pack.now (length log.old.items) self.old) }
+        ensures effect { IfOk result (λ effect. effect ≡ newest_effect
+            (log.old.items ++ entry ∷ []) stops.now pack.now (length log.old.items) self.old) }
+        ensures log_err { OnErr result (log.new.items ≡ log.old.items) }
         ensures err { OnErr result (self.new ≡ self.old) }
     {
+        self.places.reserve(1)?;
+        // All room is got: nothing fails from here on.
+        let new = log.len();
+        log.push_reserved(entry);
+        let log = log.as_slice();
         let at = place_for(log, self.places.as_slice(), new);
         let is_last = at == self.places.len();
         let places = self.places.as_slice();
         let effect = newest_effect(log, stops, pack, self.birth, places, &self.held, new, at);
-        self.places.insert(at, new)?;
+        let Ok(()) = self.places.insert(at, new) else {
+            unreachable!();
+        };
         self.held = if is_last {
             one_more(log, stops, pack, self.birth, self.held.take(), new)
         } else {

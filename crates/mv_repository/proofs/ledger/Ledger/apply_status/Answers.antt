@@ -1,7 +1,5 @@
 -- The pack of the status is worked out with it; where memory is refused all is as before.
-use Rattle.std.proofs.Common.{◌≡◌, ◌∙◌, sym, ◌-◌, [], ◌∷◌, rules, arith, length, take, true}
-use Rattle.std.proofs.Math.Seq.{take-append_seam}
-use Rattle.std.specs.Prelude.{vec_len}
+use Rattle.std.proofs.Common.{◌≡◌, ◌∙◌, sym, true}
 use Rattle.mv_repository.specs.Effect.{effect_of}
 use Rattle.mv_repository.specs.Track.{is_status_of, is_made, is_active_kept}
 use Rattle.mv_repository.specs.Tables.{IsKept}
@@ -15,47 +13,40 @@ use Rattle.mv_repository.proofs.ledger.Ledger.apply_status.Goals as goal
 pub add_status-requires-clause-track : goal.add_status-requires-clause-track
 add_status-requires-clause-track c =
     let log = c.ready_entry.new.log.items in
-    let kept : IsKept log c.self.inside.masters.entries c.ensure.new.packs.entries c.self.inside.stops c.self.inside.latest =
-    kept-same log _ c.self.inside.packs.entries _ _ _ (rw c.ready_entry.ensures.items c.self.invariant.0) c.ensure.ensures.same in
-    rw (c.as_slice.ensures.value, c.push_reserved.ensures.items) (is_track log c.in_ok-entry.entry c.ensure.new.packs.entries c.self.inside.stops c.args.key.now kept.tracks kept.stops)
+    let kept : IsKept log c.self.inside.masters.entries c.ensure.new.packs.entries c.self.inside.stops c.self.inside.uploads c.self.inside.latest =
+    kept-same log _ c.self.inside.packs.entries _ _ _ _ (rw c.ready_entry.ensures.items c.self.invariant.0) c.ensure.ensures.same in
+    is_track log c.in_ok-entry.entry c.ensure.new.packs.entries c.self.inside.stops c.args.key.now kept.tracks kept.stops
 
-pub invariant_of-self-in-Ok : goal.invariant_of-self-in-Ok
-invariant_of-self-in-Ok c =
+pub invariant_of-self-2 : goal.invariant_of-self-2
+invariant_of-self-2 c =
     let log = c.ready_entry.new.log.items in
-    let kept : IsKept log c.self.inside.masters.entries c.ensure.new.packs.entries c.self.inside.stops c.self.inside.latest =
-    kept-same log _ c.self.inside.packs.entries _ _ _ (rw c.ready_entry.ensures.items c.self.invariant.0) c.ensure.ensures.same in
-    let new : c.len-new.result ≡ length log = search rules in
-    rw c.push_reserved.ensures.items (
-      (kept-status log c.in_ok-entry.entry c.self.inside.masters.entries c.ensure.new.packs.entries c.add_status.new.packs.entries c.self.inside.stops c.self.inside.latest c.latest_with-self-inside.result c.args.key.now kept
+    let kept : IsKept log c.self.inside.masters.entries c.ensure.new.packs.entries c.self.inside.stops c.self.inside.uploads c.self.inside.latest =
+    kept-same log _ c.self.inside.packs.entries _ _ _ _ (rw c.ready_entry.ensures.items c.self.invariant.0) c.ensure.ensures.same in
+    rw c.in_ok-effect.ensures.log (
+      (kept-status log c.in_ok-entry.entry c.self.inside.masters.entries c.ensure.new.packs.entries c.add_status.new.packs.entries c.self.inside.stops c.self.inside.uploads c.self.inside.latest c.latest_with-self-inside.result c.args.key.now kept
           (rw c.in_ok-entry.ensures.entry c.requires) c.latest_with-self-inside.ensures.before (rw c.in_ok-entry.ensures.entry c.latest_with-self-inside.ensures.item)
-          (rw (c.as_slice.ensures.value, c.push_reserved.ensures.items, new) at c.in-Ok.ensures.ok)),
+          c.in_ok-effect.ensures.ok),
       c.retallied-self-inside.ensures,
     )
 
-pub invariant_of-self-in-Err : goal.invariant_of-self-in-Err
-invariant_of-self-in-Err c =
-    let log = c.ready_entry.new.log.items in
-    let new : c.len-new.result ≡ length log = search rules in
-    let before : vec_len c.push_reserved.new.self - 1 ≡ length log = omega (arith, c.push_reserved.ensures.len, c.len-new.ensures, new) in
-    let back : c.pop.new.self.items ≡ c.self.inside.log.items =
-    c.pop.ensures.rest ∙ (λ i. take (before i) (c.push_reserved.ensures.items i)) ∙ take-append_seam log (c.in_ok-entry.entry ∷ []) ∙ c.ready_entry.ensures.items in
-    rw back (
-      (kept-same c.self.inside.log.items c.self.inside.masters.entries c.self.inside.packs.entries c.add_status.new.packs.entries c.self.inside.stops c.self.inside.latest c.self.invariant.0
-          (λ pack. c.in-Err.ensures.err pack ∙ same_kept c.ensure.new.packs.entries c.args.key.now pack ∙ c.ensure.ensures.same pack)),
+pub invariant_of-self-in_err-effect : goal.invariant_of-self-in_err-effect
+invariant_of-self-in_err-effect c =
+    rw (c.in_err-effect.ensures.log_err ∙ c.ready_entry.ensures.items) (
+      (kept-same c.self.inside.log.items c.self.inside.masters.entries c.self.inside.packs.entries c.add_status.new.packs.entries c.self.inside.stops c.self.inside.uploads c.self.inside.latest c.self.invariant.0
+          (λ pack. c.in_err-effect.ensures.err pack ∙ same_kept c.ensure.new.packs.entries c.args.key.now pack ∙ c.ensure.ensures.same pack)),
       tally-same c.args.key.now c.ensure.new.packs.entries c.add_status.new.packs.entries c.self.inside.tally (rw c.copy.ensures at c.in_ok-ensure.ensures.there) c.add_status.ensures.entries
-          (c.in-Err.ensures.err c.args.key.now ∙ same_kept c.ensure.new.packs.entries c.args.key.now c.args.key.now) (record { held = c.self.invariant.1.held ∙ sym c.ensure.ensures.held; active = c.self.invariant.1.active ∙ sym c.ensure.ensures.active }),
+          (c.in_err-effect.ensures.err c.args.key.now ∙ same_kept c.ensure.new.packs.entries c.args.key.now c.args.key.now) (record { held = c.self.invariant.1.held ∙ sym c.ensure.ensures.held; active = c.self.invariant.1.active ∙ sym c.ensure.ensures.active }),
     )
 
-pub returns-in-Ok-clause-effect : goal.returns-in-Ok-clause-effect
-returns-in-Ok-clause-effect c =
+pub returns-clause-effect : goal.returns-clause-effect
+returns-clause-effect c =
     let log = c.ready_entry.new.log.items in
     let entry = c.in_ok-entry.entry in
-    let kept : IsKept log c.self.inside.masters.entries c.ensure.new.packs.entries c.self.inside.stops c.self.inside.latest =
-    kept-same log _ c.self.inside.packs.entries _ _ _ (rw c.ready_entry.ensures.items c.self.invariant.0) c.ensure.ensures.same in
-    let new : c.len-new.result ≡ length log = search rules in
+    let kept : IsKept log c.self.inside.masters.entries c.ensure.new.packs.entries c.self.inside.stops c.self.inside.uploads c.self.inside.latest =
+    kept-same log _ c.self.inside.packs.entries _ _ _ _ (rw c.ready_entry.ensures.items c.self.invariant.0) c.ensure.ensures.same in
     let is : is_status_of c.args.key.now entry.item ≡ true = rw c.in_ok-entry.ensures.entry (c.requires.status c.args.key.now ∙ pack-self c.args.key.now) in
     rw (← c.self.view_is)
-    ((rw (c.as_slice.ensures.value, c.push_reserved.ensures.items, new) at c.in-Ok.ensures.effect)
+    (c.in_ok-effect.ensures.effect
     ∙ status-effect log entry c.ensure.new.packs.entries c.self.inside.stops c.args.key.now kept.tracks kept.stops is
     ∙ (λ i. effect_of (c.ready_entry.ensures.items i) (c.in_ok-entry.ensures.entry i)))
 
@@ -63,7 +54,7 @@ pub retallied-self-inside-requires : goal.retallied-self-inside-requires
 retallied-self-inside-requires c =
     let there = rw c.copy.ensures at c.in_ok-ensure.ensures.there in
     record {
-      held = count-set is_made c.args.key.now c.ensure.new.packs.entries c.add_status.new.packs.entries _ _ _ there c.in-Ok.ensures.entries (c.self.invariant.1.held ∙ sym c.ensure.ensures.held) c.tally_of-was.ensures.held c.tally_of-is.ensures.held;
-      active = count-set is_active_kept c.args.key.now c.ensure.new.packs.entries c.add_status.new.packs.entries _ _ _ there c.in-Ok.ensures.entries (c.self.invariant.1.active ∙ sym c.ensure.ensures.active) c.tally_of-was.ensures.active c.tally_of-is.ensures.active;
+      held = count-set is_made c.args.key.now c.ensure.new.packs.entries c.add_status.new.packs.entries _ _ _ there c.add_status.ensures.entries (c.self.invariant.1.held ∙ sym c.ensure.ensures.held) c.tally_of-was.ensures.held c.tally_of-is.ensures.held;
+      active = count-set is_active_kept c.args.key.now c.ensure.new.packs.entries c.add_status.new.packs.entries _ _ _ there c.add_status.ensures.entries (c.self.invariant.1.active ∙ sym c.ensure.ensures.active) c.tally_of-was.ensures.active c.tally_of-is.ensures.active;
       ones = (at-most-one _ _ c.tally_of-was.ensures.held, at-most-one _ _ c.tally_of-was.ensures.active, at-most-one _ _ c.tally_of-is.ensures.held, at-most-one _ _ c.tally_of-is.ensures.active);
     }

@@ -11,8 +11,6 @@ mod item;
 mod laws;
 mod outgoing;
 mod reach;
-#[cfg(test)]
-mod tests;
 
 pub use fault::LinkFault;
 pub use incoming::{Incoming, Look};

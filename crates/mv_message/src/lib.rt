@@ -35,6 +35,3 @@ pub use reading::MOST_TEXT_BYTES;
 pub use serials::Serials;
 pub use standing::Standing;
 pub use text::Text;
-
-#[cfg(test)]
-mod tests;

@@ -22,6 +22,3 @@ pub use gtin::Gtin;
 pub use key::{BatchKey, PackKey};
 pub use market::Market;
 pub use moment::{Moment, YEAR_2100};
-
-#[cfg(test)]
-mod tests;

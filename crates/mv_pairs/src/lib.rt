@@ -7,7 +7,5 @@
 
 mod row;
 mod table;
-#[cfg(test)]
-mod tests;
 
 pub use table::PairTable;

@@ -1,1 +1,23 @@
 //! Tables with one value for each pair of parties.
+
+use mv_pairs::PairTable;
+use std::alloc::AllocError;
+
+#[test]
+fn keeps_a_value_for_each_pair(rt: HostRuntime) {
+    let alloc = rt.alloc();
+    let Ok(mut table) = PairTable::from_fn(alloc, 3, || -> Result<u32, AllocError> { Ok(7) }) else {
+        assert!(rt; false, "memory is refused");
+        return;
+    };
+    let parties = table.parties();
+    assert_eq!(rt; parties, 3);
+    if parties != 3 {
+        return;
+    }
+    *table.at_mut(0, 2) = 8;
+    *table.at_mut(2, 0) = 9;
+    for (from, to, value) in [(0, 2, 8), (2, 0, 9), (0, 0, 7), (1, 2, 7), (2, 2, 7)] {
+        assert_eq!(rt; *table.at(from, to), value, "at {from}, {to}");
+    }
+}

@@ -21,6 +21,3 @@ pub use entry::Entry;
 pub use fault::{HubFault, RouteFault};
 pub use hub::Hub;
 pub use parties::Parties;
-
-#[cfg(test)]
-mod tests;

@@ -1,1 +1,415 @@
-//! The router: parties, routing, closing, repeats, catalogue and batch links.
+//! The router: its record and stamps, the catalogue, the links between batches, and the refusals that the program cannot show.
+
+use mv_hub::{Catalogue, Entry, Hub, HubFault, Parties, RouteFault};
+use mv_link::{Frame, Item};
+use mv_message::Message;
+use mv_pack::{Batch, BatchKey, Expiry, Gtin, Market};
+use std::alloc::Global;
+
+/// The master of a product for Finland.
+const FINNISH: &str =
+    "{\"common\":\"paracetamol\",\"form\":\"tablet\",\"gtin\":\"09506000134352\",\"markets\":[\"FI\"],\"msg\":\"master\",\"name\":\"Examplin\",\"pack_size\":\"30\",\"pack_type\":\"blister\",\"scheme\":\"GTIN\",\"strength\":\"500 mg\"}";
+
+/// The master of the same product for Sweden.
+const SWEDISH: &str =
+    "{\"common\":\"paracetamol\",\"form\":\"tablet\",\"gtin\":\"09506000134352\",\"markets\":[\"SE\"],\"msg\":\"master\",\"name\":\"Examplin\",\"pack_size\":\"30\",\"pack_type\":\"blister\",\"scheme\":\"GTIN\",\"strength\":\"500 mg\"}";
+
+/// An upload of a pack of its batch B1.
+const FIRST_BATCH: &str =
+    "{\"batch\":\"B1\",\"expiry\":\"280200\",\"gtin\":\"09506000134352\",\"msg\":\"upload\",\"serials\":[\"S1\"]}";
+
+/// An upload of a pack of its batch B1, with another expiry.
+const LATER_EXPIRY: &str =
+    "{\"batch\":\"B1\",\"expiry\":\"290131\",\"gtin\":\"09506000134352\",\"msg\":\"upload\",\"serials\":[\"S1\"]}";
+
+/// An upload of a pack of its batch B2.
+const SECOND_BATCH: &str =
+    "{\"batch\":\"B2\",\"expiry\":\"280200\",\"gtin\":\"09506000134352\",\"msg\":\"upload\",\"serials\":[\"S1\"]}";
+
+/// A question about a pack of the product.
+const QUERY: &str = "{\"gtin\":\"09506000134352\",\"msg\":\"query\",\"serial\":\"S1\"}";
+
+/// An answer to a party that is none.
+const LOST_ANSWER: &str =
+    "{\"asker\":7,\"found\":null,\"gtin\":\"09506000134352\",\"msg\":\"answer\",\"q\":1,\"serial\":\"S1\"}";
+
+/// A repack of batch B1 of the product into batch C1 of another.
+const B1_TO_C1: &str =
+    "{\"after_batch\":\"C1\",\"after_gtin\":\"04012345678901\",\"after_serials\":[\"X1\"],\"at\":1800000000,\"before_batch\":\"B1\",\"before_gtin\":\"09506000134352\",\"before_serials\":[\"S1\"],\"msg\":\"repack\"}";
+
+/// A repack of batch C1 of the other product into its batch C2.
+const C1_TO_C2: &str =
+    "{\"after_batch\":\"C2\",\"after_gtin\":\"04012345678901\",\"after_serials\":[\"X1\"],\"at\":1800000000,\"before_batch\":\"C1\",\"before_gtin\":\"04012345678901\",\"before_serials\":[\"S1\"],\"msg\":\"repack\"}";
+
+/// A repack of batch C2 of the other product into batch B1 of the first.
+const C2_TO_B1: &str =
+    "{\"after_batch\":\"B1\",\"after_gtin\":\"09506000134352\",\"after_serials\":[\"X1\"],\"at\":1800000000,\"before_batch\":\"C2\",\"before_gtin\":\"04012345678901\",\"before_serials\":[\"S1\"],\"msg\":\"repack\"}";
+
+/// A repack of batch B2 into itself.
+const B2_TO_B2: &str =
+    "{\"after_batch\":\"B2\",\"after_gtin\":\"09506000134352\",\"after_serials\":[\"X1\"],\"at\":1800000000,\"before_batch\":\"B2\",\"before_gtin\":\"09506000134352\",\"before_serials\":[\"S1\"],\"msg\":\"repack\"}";
+
+/// A hub of three parties: 0 serves no market, 1 the first, 2 the second.
+fn hub_of(alloc: Global, first: Market, second: Market) -> Option<Hub> {
+    let one = vec![in alloc; first].ok()?;
+    let two = vec![in alloc; second].ok()?;
+    let lists = vec![in alloc; Vec::new(alloc), one, two].ok()?;
+    let parties = Parties::new(alloc, lists).ok()?;
+    Hub::new(alloc, parties, 8).ok()
+}
+
+/// Such a hub for Finland and Sweden.
+fn opened(alloc: Global) -> Option<Hub> {
+    let finland = Market::read("FI").ok()?;
+    let sweden = Market::read("SE").ok()?;
+    hub_of(alloc, finland, sweden)
+}
+
+/// The product.
+fn product_code() -> Option<Gtin> {
+    Gtin::read("09506000134352").ok()
+}
+
+/// The message that a text is.
+fn message_of(alloc: Global, text: &str) -> Option<Message> {
+    Message::read(alloc, text.as_bytes()).ok()
+}
+
+/// Whether a message of a party is its `k`-th and reaches these parties.
+fn reaches(hub: &mut Hub, from: u32, message: &Message, k: u32, reached: &[u32]) -> bool {
+    if hub.record().len() > 1_000 {
+        return false;
+    }
+    match hub.route(from, message) {
+        Ok((number, reach)) => number == k && reach.as_slice() == reached,
+        Err(_) => false,
+    }
+}
+
+/// Whether the message of a text, from a party, is its `k`-th and reaches these parties.
+fn is_routed(hub: &mut Hub, alloc: Global, from: u32, text: &str, k: u32, to: &[u32]) -> bool {
+    match message_of(alloc, text) {
+        Some(message) => reaches(hub, from, &message, k, to),
+        None => false,
+    }
+}
+
+/// Whether the product moves from Finland to Sweden while packs of it are uploaded.
+fn moves(hub: &mut Hub, alloc: Global) -> bool {
+    is_routed(hub, alloc, 0, FINNISH, 1, &[1])
+        && is_routed(hub, alloc, 0, FIRST_BATCH, 2, &[1])
+        && is_routed(hub, alloc, 0, SWEDISH, 3, &[1, 2])
+        && is_routed(hub, alloc, 0, FIRST_BATCH, 4, &[2])
+}
+
+/// How many messages of party 0 were routed, and how many items were put on its link to each party.
+fn totals(hub: &Hub) -> [u32; 4] {
+    if hub.parties().len() != 3 {
+        return [0; 4];
+    }
+    [
+        hub.routed_count(0),
+        hub.total(0, 0),
+        hub.total(0, 1),
+        hub.total(0, 2),
+    ]
+}
+
+/// Whether the product is for Sweden alone, which party 2 serves.
+fn is_swedish(hub: &Hub) -> bool {
+    let (Some(gtin), Ok(sweden)) = (product_code(), Market::read("SE")) else {
+        return false;
+    };
+    let markets = [sweden];
+    hub.markets(&gtin) == Some(markets.as_slice())
+        && hub.parties().serving(&markets).as_slice() == [2].as_slice()
+}
+
+/// Whether a frame has this number, and carries the message of that number under this stamp.
+fn carries(frame: &Frame, number: u32, stamp: u32) -> bool {
+    match &frame.item {
+        Item::Carried {
+            k,
+            stamp: given,
+            ..
+        } => frame.number == number && *k == number && *given == stamp,
+        Item::Receipt { .. } => false,
+    }
+}
+
+/// Whether the next frame of the link from party 0 to party 1 does.
+fn is_carried(hub: &mut Hub, number: u32, stamp: u32) -> bool {
+    match hub.relay(0, 1) {
+        Ok(frame) => carries(&frame, number, stamp),
+        Err(_) => false,
+    }
+}
+
+/// Whether an entry says that the `k`-th message of party 0 was routed.
+fn is_entry(entry: &Entry, number: u32) -> bool {
+    matches!(entry, Entry::Routed { from: 0, k, .. } if *k == number)
+}
+
+/// Whether the record has two messages of party 0, and between them the closing of the link from party 1 to party 2.
+fn has_a_closing_between(hub: &Hub) -> bool {
+    let record = hub.record();
+    record.len() == 3
+        && is_entry(&record[0], 1)
+        && record[1] == Entry::Closed { from: 1, to: 2 }
+        && is_entry(&record[2], 2)
+}
+
+/// Whether a closing counts in the stamps of the messages behind it.
+fn is_stamped(hub: &mut Hub, alloc: Global) -> bool {
+    is_routed(hub, alloc, 0, FINNISH, 1, &[1])
+        && hub.close(1, 2) == Ok(())
+        && is_routed(hub, alloc, 0, FIRST_BATCH, 2, &[1])
+        && has_a_closing_between(hub)
+        && is_carried(hub, 1, 1)
+        && is_carried(hub, 2, 3)
+}
+
+/// Whether a frame has the receipt of a first message, a query that reached party 2.
+fn is_receipt(frame: &Frame) -> bool {
+    match &frame.item {
+        Item::Receipt { k, reach, query } => {
+            *k == 1 && *query && reach.as_slice() == [2].as_slice()
+        }
+        Item::Carried { .. } => false,
+    }
+}
+
+/// Whether the next frame of the link of party 1 to itself has.
+fn has_receipt(hub: &mut Hub) -> bool {
+    match hub.relay(1, 1) {
+        Ok(frame) => is_receipt(&frame),
+        Err(_) => false,
+    }
+}
+
+/// Whether a query goes to the others that serve its product, and an answer to a party that is none to nobody.
+fn asks(hub: &mut Hub, alloc: Global) -> bool {
+    is_routed(hub, alloc, 1, QUERY, 1, &[2])
+        && has_receipt(hub)
+        && is_routed(hub, alloc, 2, QUERY, 1, &[])
+        && is_routed(hub, alloc, 2, LOST_ANSWER, 2, &[])
+}
+
+/// Whether both is so in a hub where nothing has happened, and the links and the table of markets are as they should be.
+fn moves_and_asks(alloc: Global) -> bool {
+    match opened(alloc) {
+        Some(mut hub) => {
+            moves(&mut hub, alloc)
+                && totals(&hub) == [4, 4, 3, 2]
+                && is_swedish(&hub)
+                && asks(&mut hub, alloc)
+        }
+        None => false,
+    }
+}
+
+#[test]
+fn moves_a_product_to_another_market_and_asks_there(rt: HostRuntime) {
+    assert!(rt; moves_and_asks(rt.alloc()));
+}
+
+/// Why a message is not routed.
+fn fault_of(hub: &mut Hub, from: u32, message: &Message) -> Option<RouteFault> {
+    if hub.record().len() > 1_000 {
+        return None;
+    }
+    hub.route(from, message).err()
+}
+
+/// Why a query of a party is not routed.
+fn route_fault(hub: &mut Hub, alloc: Global, from: u32) -> Option<RouteFault> {
+    match message_of(alloc, QUERY) {
+        Some(message) => fault_of(hub, from, &message),
+        None => None,
+    }
+}
+
+/// Why a link gives no next frame.
+fn relay_fault(hub: &mut Hub, from: u32, to: u32) -> Option<HubFault> {
+    hub.relay(from, to).err()
+}
+
+/// Why a link does not give its first frame again.
+fn repeat_fault(hub: &Hub, from: u32, to: u32) -> Option<HubFault> {
+    hub.repeat(from, to, 1).err()
+}
+
+/// Whether each call refuses a party that is none.
+fn is_refused(hub: &mut Hub, alloc: Global) -> bool {
+    route_fault(hub, alloc, 3) == Some(RouteFault::StrangerParty)
+        && relay_fault(hub, 3, 0) == Some(HubFault::StrangerParty)
+        && relay_fault(hub, 0, 3) == Some(HubFault::StrangerParty)
+        && repeat_fault(hub, 0, 3) == Some(HubFault::StrangerParty)
+        && hub.close(3, 0) == Err(HubFault::StrangerParty)
+}
+
+/// Both, in a hub where nothing has happened.
+fn is_refused_and_stamped(alloc: Global) -> bool {
+    match opened(alloc) {
+        Some(mut hub) => is_refused(&mut hub, alloc) && is_stamped(&mut hub, alloc),
+        None => false,
+    }
+}
+
+#[test]
+fn refuses_strangers_and_stamps_by_the_place_in_the_record(rt: HostRuntime) {
+    assert!(rt; is_refused_and_stamped(rt.alloc()));
+    assert!(rt; HubFault::StrangerParty.code() == "H4");
+    assert!(rt; RouteFault::Busy(1).code() == "H5");
+}
+
+/// Whether the product of a catalogue is for this market alone, and without a market whether there is none.
+fn is_for(catalogue: &Catalogue, market: &str) -> bool {
+    let Some(product) = &catalogue.product else {
+        return market.is_empty();
+    };
+    let markets = product.markets.as_slice();
+    markets.len() == 1 && markets[0].as_str() == market
+}
+
+/// Whether batches with their expiry are these.
+fn are_listed(listed: &[(Batch, Expiry)], named: &[(&str, &str)]) -> bool {
+    if listed.len() != named.len() {
+        return false;
+    }
+    for i in 0..listed.len() {
+        if listed[i].0.as_str() != named[i].0 || listed[i].1.text().as_str() != named[i].1 {
+            return false;
+        }
+    }
+    true
+}
+
+/// Whether the catalogue of the product has this market, and these batches and dates of expiry.
+fn has_catalogue(hub: &Hub, market: &str, named: &[(&str, &str)]) -> bool {
+    let Some(gtin) = product_code() else {
+        return false;
+    };
+    match hub.catalogue(&gtin) {
+        Some(catalogue) => {
+            is_for(catalogue, market) && are_listed(catalogue.batches.as_slice(), named)
+        }
+        None => false,
+    }
+}
+
+/// Whether batches are listed before there is a master.
+fn lists_batches(hub: &mut Hub, alloc: Global) -> bool {
+    is_routed(hub, alloc, 0, FIRST_BATCH, 1, &[])
+        && is_routed(hub, alloc, 0, FIRST_BATCH, 2, &[])
+        && is_routed(hub, alloc, 0, SECOND_BATCH, 3, &[])
+        && has_catalogue(hub, "", &[("B1", "280229"), ("B2", "280229")])
+}
+
+/// Whether the catalogue then has the last of two masters, and one more expiry of the first batch.
+fn lists_more(hub: &mut Hub, alloc: Global) -> bool {
+    is_routed(hub, alloc, 0, FINNISH, 4, &[1])
+        && is_routed(hub, alloc, 0, SWEDISH, 5, &[1, 2])
+        && is_routed(hub, alloc, 0, LATER_EXPIRY, 6, &[2])
+        && has_catalogue(
+            hub,
+            "SE",
+            &[("B1", "280229"), ("B2", "280229"), ("B1", "290131")],
+        )
+}
+
+/// Both, in a hub where nothing has happened.
+fn is_listed(alloc: Global) -> bool {
+    match opened(alloc) {
+        Some(mut hub) => lists_batches(&mut hub, alloc) && lists_more(&mut hub, alloc),
+        None => false,
+    }
+}
+
+#[test]
+fn lists_each_batch_and_expiry_once(rt: HostRuntime) {
+    assert!(rt; is_listed(rt.alloc()));
+}
+
+/// A batch of the product.
+fn batch(number: &str) -> Option<BatchKey> {
+    let gtin = product_code()?;
+    let batch = Batch::read(number).ok()?;
+    Some(BatchKey { gtin, batch })
+}
+
+/// Whether batches are these, by their product codes and numbers.
+fn are_batches(list: &[BatchKey], named: &[(&str, &str)]) -> bool {
+    if list.len() != named.len() {
+        return false;
+    }
+    for i in 0..list.len() {
+        if list[i].gtin.as_str() != named[i].0 || list[i].batch.as_str() != named[i].1 {
+            return false;
+        }
+    }
+    true
+}
+
+/// Whether these batches, and they alone, are linked to a batch of the product.
+fn has_linked(hub: &Hub, number: &str, named: &[(&str, &str)]) -> bool {
+    let Some(batch) = batch(number) else {
+        return false;
+    };
+    match hub.linked(&batch) {
+        Ok(list) => are_batches(list.as_slice(), named),
+        Err(_) => false,
+    }
+}
+
+/// Whether these batches, and they alone, descend from a batch of the product.
+fn has_descendants(hub: &Hub, number: &str, named: &[(&str, &str)]) -> bool {
+    let Some(batch) = batch(number) else {
+        return false;
+    };
+    match hub.descendants(&batch) {
+        Ok(list) => are_batches(list.as_slice(), named),
+        Err(_) => false,
+    }
+}
+
+/// The first batch after, in a ring of links.
+const C1: (&str, &str) = ("04012345678901", "C1");
+
+/// The second batch after.
+const C2: (&str, &str) = ("04012345678901", "C2");
+
+/// The batch in which the ring begins and ends.
+const B1: (&str, &str) = ("09506000134352", "B1");
+
+/// Whether a ring of links is followed, and ends at the batch where it began.
+fn is_ring(hub: &mut Hub, alloc: Global) -> bool {
+    is_routed(hub, alloc, 0, B1_TO_C1, 1, &[])
+        && is_routed(hub, alloc, 0, C1_TO_C2, 2, &[])
+        && is_routed(hub, alloc, 0, C2_TO_B1, 3, &[])
+        && has_linked(hub, "B1", &[C1])
+        && has_descendants(hub, "B1", &[C1, C2, B1])
+        && has_descendants(hub, "B9", &[])
+}
+
+/// Whether another batch is then linked to itself alone, and the first to the second once though it was twice.
+fn is_linked_once(hub: &mut Hub, alloc: Global) -> bool {
+    is_routed(hub, alloc, 0, B2_TO_B2, 4, &[])
+        && is_routed(hub, alloc, 0, B1_TO_C1, 5, &[])
+        && has_linked(hub, "B2", &[("09506000134352", "B2")])
+        && has_descendants(hub, "B2", &[("09506000134352", "B2")])
+        && has_linked(hub, "B1", &[C1])
+}
+
+/// Both, in a hub where nothing has happened.
+fn follows_links(alloc: Global) -> bool {
+    match opened(alloc) {
+        Some(mut hub) => is_ring(&mut hub, alloc) && is_linked_once(&mut hub, alloc),
+        None => false,
+    }
+}
+
+#[test]
+fn follows_links_round_a_ring_and_lists_each_once(rt: HostRuntime) {
+    assert!(rt; follows_links(rt.alloc()));
+}

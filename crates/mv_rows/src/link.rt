@@ -1,1 +1,119 @@
 //! Links: what is pushed, relayed, repeated and accepted.
+
+use arrayvec::ArrayVec;
+use mv_link::{Frame, Incoming, Item, LinkFault, Look, Outgoing, Reach};
+use std::alloc::{AllocError, Global};
+
+fn receipt(k: u32) -> Item {
+    Item::Receipt {
+        k,
+        reach: Reach::new(ArrayVec::new()),
+        query: false,
+    }
+}
+
+/// The number of a frame whose item has the same number, else 0.
+fn number_of(relayed: Result<Frame, LinkFault>) -> u32 {
+    match relayed {
+        Ok(
+            Frame {
+                number,
+                item: Item::Receipt { k, .. },
+            },
+        ) => { if k == number { number } else { 0 } }
+        _ => 0,
+    }
+}
+
+/// Pushes an item where there is room for it.
+fn push(link: &mut Outgoing, k: u32) -> bool {
+    link.room(1) && link.push(receipt(k)).is_ok()
+}
+
+/// A link with a window of two, on which three items were pushed and relayed.
+fn relayed(alloc: Global) -> Option<Outgoing> {
+    let mut link = Outgoing::new(alloc, 2).ok()?;
+    for k in 1..=3 {
+        if !push(&mut link, k) || number_of(link.relay()) != k {
+            return None;
+        }
+    }
+    Some(link)
+}
+
+/// The number of the fault by which the frame of a number is refused.
+fn refusal(link: &Outgoing, number: u32) -> &'static str {
+    match link.again(number) {
+        Ok(_) => "none",
+        Err(fault) => fault.code(),
+    }
+}
+
+#[test]
+fn takes_no_item_into_a_full_window(rt: HostRuntime) -> Result<(), AllocError> {
+    let mut link = Outgoing::new(rt.alloc(), 2)?;
+    assert!(rt; push(&mut link, 1));
+    assert!(rt; push(&mut link, 2));
+    assert!(rt; !push(&mut link, 3));
+    assert_eq!(rt; number_of(link.relay()), 1);
+    assert!(rt; push(&mut link, 3));
+    assert_eq!(rt; link.total(), 3);
+    assert_eq!(rt; link.sent(), 1);
+    Ok(())
+}
+
+#[test]
+fn gives_again_the_frames_of_its_window_alone(rt: HostRuntime) {
+    let Some(mut link) = relayed(rt.alloc()) else {
+        assert!(rt; false, "memory is refused");
+        return;
+    };
+    assert_eq!(rt; refusal(&link, 0), "L2");
+    assert_eq!(rt; refusal(&link, 1), "L3");
+    assert_eq!(rt; number_of(link.again(2)), 2);
+    assert_eq!(rt; number_of(link.again(3)), 3);
+    assert_eq!(rt; refusal(&link, 4), "L2");
+    assert!(rt; matches!(link.relay(), Err(LinkFault::Nothing)));
+}
+
+#[test]
+fn numbers_its_faults(rt: HostRuntime) {
+    assert_eq!(rt; LinkFault::Nothing.code(), "L1");
+    assert_eq!(rt; LinkFault::Memory.code(), "L4");
+}
+
+#[test]
+fn takes_each_frame_once_and_in_order(rt: HostRuntime) {
+    let first = Frame {
+        number: 1,
+        item: receipt(1),
+    };
+    let second = Frame {
+        number: 2,
+        item: receipt(2),
+    };
+    let mut end = Incoming::new();
+    assert_eq!(rt; end.look(&second), Look::Gap { expected: 1 });
+    assert_eq!(rt; end.look(&first), Look::Next);
+    assert_eq!(rt; end.count(), 0);
+    end.advance();
+    assert_eq!(rt; end.count(), 1);
+    assert_eq!(rt; end.look(&first), Look::Old);
+    assert_eq!(rt; end.look(&second), Look::Next);
+}
+
+#[test]
+fn copies_a_frame(rt: HostRuntime) {
+    let mut parties = ArrayVec::new();
+    parties.push(3);
+    let frame = Frame {
+        number: 9,
+        item: Item::Receipt {
+            k: 7,
+            reach: Reach::new(parties),
+            query: true,
+        },
+    };
+    let copied = frame.copy(rt.alloc());
+    assert!(rt; copied == Ok(frame));
+}

@@ -1,1 +1,109 @@
-//! Messages: reading, faults, canonical texts and copies.
+//! Messages: that copies equal what was copied, and that values are read back. Which lines are read, why others are not, and
+//! what is written is shown by the examples of `mvhub canon`.
+
+use mv_message::{Found, Markets, Message, Serials, Standing, Text};
+use mv_pack::{Batch, Expiry, Market, Serial};
+use std::alloc::Global;
+
+const MASTER: &str =
+    "{\"common\":\"paracetamol\",\"form\":\"tablet\",\"gtin\":\"09506000134352\",\"markets\":[\"FI\"],\"msg\":\"master\",\"name\":\"Examplin\",\"pack_size\":\"30\",\"pack_type\":\"blister\",\"scheme\":\"GTIN\",\"strength\":\"500 mg\"}";
+
+const UPLOAD: &str =
+    "{\"batch\":\"B1\",\"expiry\":\"280200\",\"gtin\":\"9506000134352\",\"msg\":\"upload\",\"national\":\"123456\",\"serials\":[\"S1\",\"S2\"],\"v\":2}";
+
+const STATUS: &str =
+    "{\"at\":1800000000,\"gtin\":\"09506000134352\",\"msg\":\"status\",\"serial\":\"S1\",\"to\":\"free_sample\",\"user\":\"u1\"}";
+
+const RECALL: &str =
+    "{\"at\":1800000010,\"batch\":\"B1\",\"gtin\":\"09506000134352\",\"msg\":\"recall\"}";
+
+const REPACK: &str =
+    "{\"after_batch\":\"C1\",\"after_gtin\":\"04012345678901\",\"after_serials\":[\"X1\",\"X2\"],\"at\":0,\"before_batch\":\"B1\",\"before_gtin\":\"09506000134352\",\"before_serials\":[\"S1\"],\"msg\":\"repack\"}";
+
+const WITHDRAW: &str =
+    "{\"at\":1800000000,\"gtin\":\"9506000134352\",\"msg\":\"withdraw\",\"v\":2}";
+
+const QUERY: &str = "{\"gtin\":\"9506000134352\",\"msg\":\"query\",\"serial\":\"S1\"}";
+
+const ANSWER: &str =
+    "{\"asker\":2,\"found\":{\"batch\":\"B1\",\"expiry\":\"280229\",\"national\":null,\"recalled\":true,\"standing\":\"supplied\",\"withdrawn\":true},\"gtin\":\"09506000134352\",\"msg\":\"answer\",\"q\":1,\"serial\":\"S1\",\"v\":2}";
+
+fn message(alloc: Global, text: &str) -> Option<Message> {
+    Message::read(alloc, text.as_bytes()).ok()
+}
+
+fn is_copied(alloc: Global, text: &str) -> Option<bool> {
+    let message = message(alloc, text)?;
+    let copy = message.copy(alloc).ok()?;
+    Some(copy == message)
+}
+
+fn is_read_back(alloc: Global, text: &str) -> Option<bool> {
+    let message = message(alloc, text)?;
+    let value = message.to_value(alloc).ok()?;
+    let again = Message::from_value(alloc, &value).ok()?;
+    Some(again == message)
+}
+
+fn pack_found() -> Option<Found> {
+    Some(Found::Present {
+        batch: Batch::read("B1").ok()?,
+        expiry: Expiry::read("280200").ok()?,
+        national: None,
+        standing: Standing::FreeSample,
+        recalled: true,
+        withdrawn: false,
+    })
+}
+
+fn is_pack_copied() -> Option<bool> {
+    let found = pack_found()?;
+    Some(found.copy() == found)
+}
+
+fn are_serials_copied(alloc: Global) -> Option<bool> {
+    let first = Serial::read("S1").ok()?;
+    let second = Serial::read("S2").ok()?;
+    let serials = Serials::new(vec![in alloc; first, second].ok()?);
+    let copy = serials.copy(alloc).ok()?;
+    Some(serials == copy && copy.as_slice().len() == 2)
+}
+
+fn are_markets_copied(alloc: Global) -> Option<bool> {
+    let finland = Market::read("FI").ok()?;
+    let markets = Markets::new(vec![in alloc; finland].ok()?);
+    let copy = markets.copy(alloc).ok()?;
+    Some(markets == copy && copy.as_slice() == [finland].as_slice())
+}
+
+fn is_text_copied(alloc: Global) -> Option<bool> {
+    let text = Text::new(String::from_str(alloc, "500 mg").ok()?);
+    let copy = text.copy(alloc).ok()?;
+    Some(text == copy && copy.as_str() == "500 mg")
+}
+
+#[test]
+fn copies_each_message(rt: HostRuntime) {
+    for text in [
+        MASTER, UPLOAD, STATUS, RECALL, REPACK, WITHDRAW, QUERY, ANSWER,
+    ] {
+        assert_eq!(rt; is_copied(rt.alloc(), text), Some(true), "at {text}");
+    }
+}
+
+#[test]
+fn reads_each_value_back(rt: HostRuntime) {
+    for text in [
+        MASTER, UPLOAD, STATUS, RECALL, REPACK, WITHDRAW, QUERY, ANSWER,
+    ] {
+        assert_eq!(rt; is_read_back(rt.alloc(), text), Some(true), "at {text}");
+    }
+}
+
+#[test]
+fn copies_what_messages_hold(rt: HostRuntime) {
+    assert_eq!(rt; is_pack_copied(), Some(true));
+    assert_eq!(rt; are_serials_copied(rt.alloc()), Some(true));
+    assert_eq!(rt; are_markets_copied(rt.alloc()), Some(true));
+    assert_eq!(rt; is_text_copied(rt.alloc()), Some(true));
+}

@@ -13,6 +13,3 @@ pub use laws::{closed_links_stay_closed, runs_are_lawful, stamps_fit};
 pub use limits::{Limits, LimitsFault};
 pub use reply::{Refusal, Reply};
 pub use step::Step;
-
-#[cfg(test)]
-mod tests;

@@ -11,6 +11,3 @@ mod wire;
 mod world;
 
 pub use world::World;
-
-#[cfg(test)]
-mod tests;

@@ -10,20 +10,14 @@ mod effect;
 mod entry;
 mod held;
 mod inquiries;
-#[cfg(test)]
-mod inquiries_tests;
 mod laws;
 mod ledger;
 mod order;
 mod packs;
 mod repository;
-#[cfg(test)]
-mod rules_tests;
 mod sender;
 mod status;
 mod stops;
-#[cfg(test)]
-mod tests;
 mod track;
 mod verdict;
 

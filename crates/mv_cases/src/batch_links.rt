@@ -51,12 +51,15 @@ fn hub_at_last(alloc: Global) -> Option<Hub> {
 
 /// How many entries the record has, and how many items were pushed on the link of the party to itself.
 fn lengths(hub: &Hub) -> [usize; 2] {
+    if hub.parties().len() == 0 {
+        return [0; 2];
+    }
     [hub.record().len(), hub.total(0, 0) as usize]
 }
 
 /// What comes of a routing. Where memory was refused nothing has changed, and the message is routed again.
 fn routed_at_last(hub: &mut Hub, message: &Message) -> Option<(u32, Reach)> {
-    if hub.parties().len() != 1 || hub.record().len() > 1_000_000 {
+    if hub.record().len() > 1_000_000 {
         return None;
     }
     let before = lengths(hub);
@@ -162,9 +165,7 @@ fn follows_linked_batches_round_a_ring(rt: HostRuntime) -> Result<(), Fail> {
 fn has_two_batches(catalogue: &Catalogue) -> bool {
     match catalogue.batches.as_slice() {
         [first, second] => {
-            catalogue.product.is_none()
-                && first.0.as_str() == "B1"
-                && second.0.as_str() == "B2"
+            catalogue.product.is_none() && first.0.as_str() == "B1" && second.0.as_str() == "B2"
         }
         _ => false,
     }

@@ -35,7 +35,7 @@ fn steps(alloc: Global) -> Option<Vec<Step>> {
         Step::Relay { from: 0, to: 1 },
         Step::Relay { from: 0, to: 1 },
         Step::Apply { from: 0, to: 1 },
-        Step::Apply { from: 0, to: 1 }
+        Step::Apply { from: 0, to: 1 },
     ];
     steps.ok()
 }

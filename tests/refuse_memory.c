@@ -1,5 +1,5 @@
 /* Refuses one request for memory of the program that this is loaded into: the one whose number, from 1, is in REFUSE_AT. At the
- * end it writes how many requests there were to the file that REFUSE_COUNT names. */
+ * end it writes how many requests there were to the file that REFUSE_COUNT names, where it names one. */
 #define _GNU_SOURCE
 #include <dlfcn.h>
 #include <errno.h>
@@ -44,7 +44,8 @@ void *realloc(void *old, size_t size)
 __attribute__((destructor)) static void tell(void)
 {
     unsigned long count = requests;
-    FILE *out = fopen(getenv("REFUSE_COUNT"), "w");
+    const char *name = getenv("REFUSE_COUNT");
+    FILE *out = name ? fopen(name, "w") : NULL;
     if (out) {
         fprintf(out, "%lu\n", count);
         fclose(out);

@@ -1,14 +1,16 @@
-//! Tests that cross crates: what a user sees of the whole system, with the answers of a person who knew them.
+//! Calls of the hub and of the system that the program never makes, with the answers of a person who knew them.
 //!
 //! Nothing stands on this crate. Each test is to be right with ample memory, and also where any one request for memory is refused:
-//! then a call says so and has changed nothing, and the same call is made again.
+//! then a call says so and has changed nothing, and the same call is made again. What the program does then is seen on `examples/`.
 #![tactic(auto)]
 
 #[cfg(test)]
-mod first_path;
+mod asking;
 #[cfg(test)]
-mod links;
+mod batch_links;
+#[cfg(test)]
+mod message;
 #[cfg(test)]
 mod system;
 #[cfg(test)]
-mod verification;
+mod whole_run;

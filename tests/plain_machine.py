@@ -135,6 +135,8 @@ def pack_of(pack, entries):
     held = None
     for place, (sender, item) in enumerate(entries):
         message = item.message
+        if message.get("gtin") != pack[0]:
+            continue
         if held is None and names(message, pack):
             held = Held(message["batch"], message["expiry"], "active", None)
         elif is_status(message, pack) and status_effect(held, sender, message, entries[:place]) == "E1":

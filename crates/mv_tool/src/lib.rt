@@ -34,6 +34,3 @@ use open_fault::OpenFault;
 use request::Request;
 pub use status::Status;
 pub use steps::serve;
-
-#[cfg(test)]
-mod tests;

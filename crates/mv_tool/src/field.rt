@@ -4,7 +4,7 @@ ghost use Rattle.std.specs.Prelude.{◌≡◌};
 
 /// A field of a line, other than those of the message that it holds.
 #[derive(Clone, Copy, Debug, PartialEq, Eq)]
-pub(crate) enum LineField {
+pub enum LineField {
     /// `do`: what is asked.
     Do,
     /// `from`: the party that something comes from.

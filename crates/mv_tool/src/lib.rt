@@ -27,13 +27,11 @@ mod steps;
 pub use canonical::canon;
 pub use command_line::command;
 pub use fault::ServeFault;
-use field::LineField;
-use line_fault::LineFault;
-use market_lists::MarketLists;
+pub use field::LineField;
+pub use line_fault::LineFault;
+pub use market_lists::MarketLists;
 use open_fault::OpenFault;
-use request::Request;
+pub use reply_line::reply_text;
+pub use request::Request;
 pub use status::Status;
 pub use steps::serve;
-
-#[cfg(test)]
-mod tests;

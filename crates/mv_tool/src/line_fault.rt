@@ -10,7 +10,7 @@ use std::alloc::{AllocError, AllocFailed};
 
 /// Why a line asks nothing.
 #[derive(Debug, Drop)]
-pub(crate) enum LineFault {
+pub enum LineFault {
     /// M1: the line is no JSON.
     NotJson,
     /// M2: the line is no JSON object.

@@ -16,7 +16,7 @@ use std::marker::Model;
 
 /// A list of markets for each party, party 0 first.
 #[derive(Debug, Drop)]
-pub(crate) struct MarketLists {
+pub struct MarketLists {
     lists: Vec<Vec<Market>>,
 }
 
@@ -37,7 +37,7 @@ impl MarketLists {
     }
 
     /// The lists.
-    pub(crate) fn into_lists(self) -> Vec<Vec<Market>>
+    pub fn into_lists(self) -> Vec<Vec<Market>>
         ensures { map (λ list. list.items) result.items ≡ self }
     {
         self.lists

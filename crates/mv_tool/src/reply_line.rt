@@ -15,7 +15,7 @@ use std::alloc::{AllocError, Global};
 
 /// The text of the reply to a step.
 #[tactic(auto, using(crate::proofs::ReplyLineLemmas::reply_no_float))]
-pub(crate) fn reply_text(alloc: Global, reply: &Reply) -> Result<String, AllocError>
+pub fn reply_text(alloc: Global, reply: &Reply) -> Result<String, AllocError>
     ensures { IfOk result (λ text. string_bytes text ≡ compact_text (reply_value reply.now)) }
 {
     reply_to_value(alloc, reply)?.to_string(alloc)

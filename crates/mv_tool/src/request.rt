@@ -16,7 +16,7 @@ use std::alloc::Global;
 
 /// What a line asks.
 #[derive(Debug, Drop)]
-pub(crate) enum Request {
+pub enum Request {
     /// To open a system of these parties and limits, which are as the line has them.
     Open {
         parties: MarketLists,
@@ -36,7 +36,7 @@ impl Request {
     /// `do`; M4 with the first key, in byte order, that such lines do not have; then the faults of the fields, in byte
     /// order of their names. Want of memory may stand in place of any answer.
     #[tactic(auto, using(mv_message::proofs::ValueLemmas::utf8_test, mv_message::proofs::ValueLemmas::utf8_fact))]
-    pub(crate) fn read(alloc: Global, line: &[u8]) -> Result<Request, LineFault>
+    pub fn read(alloc: Global, line: &[u8]) -> Result<Request, LineFault>
         ensures { Gives result (read_line line.now) }
     {
         match Value::from_slice(alloc, line) {

@@ -194,12 +194,9 @@ impl Message {
                 national,
                 serials,
             } => Ok(upload_copy(alloc, *gtin, batch, *expiry, national, serials)?),
-            Message::Status { key, to, user, at } => Ok(Message::Status {
-                key: key.copy(),
-                to: *to,
-                user: user.copy(alloc)?,
-                at: *at,
-            }),
+            Message::Status { key, to, user, at } => {
+                Ok(status_copy(alloc, key, *to, user, *at)?)
+            }
             Message::Recall { key, at } => Ok(Message::Recall {
                 key: key.copy(),
                 at: *at,
@@ -249,6 +246,24 @@ fn upload_copy(
         expiry,
         national: national_copy(national),
         serials: serials.copy(alloc)?,
+    })
+}
+
+/// A change of standing of its own with the same values.
+fn status_copy(
+    alloc: Global,
+    key: &PackKey,
+    to: Standing,
+    user: &Text,
+    at: Moment,
+) -> Result<Message, AllocError>
+    ensures { IfOk result (λ message. message ≡ Message.Status key.now to user.now at) }
+{
+    Ok(Message::Status {
+        key: key.copy(),
+        to,
+        user: user.copy(alloc)?,
+        at,
     })
 }
 

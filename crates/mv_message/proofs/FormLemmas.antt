@@ -22,7 +22,7 @@ use Rattle.mv_message.specs.Readers.{message_at}
 use Rattle.mv_message.specs.Reading.{◌and_then◌, some_or, text_at}
 use Rattle.mv_message.specs.Numbers.{whole_number}
 use Rattle.mv_message.specs.Versions.{version_numbered, version_of, version_at}
-use Rattle.mv_message.specs.Reads.{HasText, IsOfVersion, IsOfForm}
+use Rattle.mv_message.specs.Reads.{HasText, HasOnly, IsOfVersion, IsOfForm}
 use Rattle.mv_message.specs.Values.{whole}
 use Rattle.mv_message.proofs.NumberLemmas.{whole_number_ok}
 use Rattle.mv_message.proofs.ReadingLemmas.{both_ok, some_or_ok, as_object_ok, text_ok, text_is_read, same_bytes, found_by_name}
@@ -139,12 +139,16 @@ opened d m h =
       same_form v.0 d m b.0 k.0 u.1 k.2,
     )
 
+-- an object of that version and form, with no other key, is read by its fields
+pub read_by_fields : (d : Data) (version : Version) (form : Form) → version_at d ≡ Ok version → form_at version d ≡ Ok form → HasOnly (names_of version form) d → read_message d ≡ message_at version form d
+unfolding read_message
+read_by_fields d version form of_version of_form (ms, is_object, known) =
+    ap (λ o. some_or NotObject o and_then λ ms. version_at d and_then λ version. form_at version d and_then λ form. known_form_at version form ms and_then λ known. message_at version known d) (ap as_object is_object)
+    ∙ ap (λ r. r and_then λ version. form_at version d and_then λ form. known_form_at version form ms and_then λ known. message_at version known d) of_version
+    ∙ ap (λ r. r and_then λ form. known_form_at version form ms and_then λ known. message_at version known d) of_form
+    ∙ ap (λ o. unless_unknown form o and_then λ known. message_at version known d) (none_unknown (names_of version form) (keys_of ms) known)
+
 -- an object of that version and form is read as what its fields give
 pub reopened : (d : Data) (m : Message) (version : Version) (form : Form) → IsOfVersion version d → IsOfForm version form d → IsIn form version → message_at version form d ≡ Ok m → read_message d ≡ Ok m
-unfolding read_message
-reopened d m version form of_version ((ms, is_object, known), name) is_in fields_read =
-    ap (λ o. some_or NotObject o and_then λ ms. version_at d and_then λ version. form_at version d and_then λ form. known_form_at version form ms and_then λ known. message_at version known d) (ap as_object is_object)
-    ∙ ap (λ r. r and_then λ version. form_at version d and_then λ form. known_form_at version form ms and_then λ known. message_at version known d) (version_read d version of_version)
-    ∙ ap (λ r. r and_then λ form. known_form_at version form ms and_then λ known. message_at version known d) (form_read version d form name is_in)
-    ∙ ap (λ o. unless_unknown form o and_then λ known. message_at version known d) (none_unknown (names_of version form) (keys_of ms) known)
-    ∙ fields_read
+reopened d m version form of_version (known, name) is_in fields_read =
+    read_by_fields d version form (version_read d version of_version) (form_read version d form name is_in) known ∙ fields_read

@@ -9,3 +9,4 @@ pub mod FoundLemmas
 pub mod SpelledLemmas
 pub mod ReadsLemmas
 pub mod LegalLemmas
+pub mod FirstFaultLemmas

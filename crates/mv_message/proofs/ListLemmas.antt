@@ -5,7 +5,7 @@ use Rattle.std.specs.List.{list_all}
 use Rattle.serde_json.specs.Find.{as_str}
 use Rattle.serde_json.specs.View.{view, items_view}
 use Rattle.serde_json.specs.declared.value.Value.{Value}
-use Rattle.mv_message.specs.Reading.{◌and_then◌, are_texts, count_of}
+use Rattle.mv_message.specs.Reading.{◌and_then◌, are_texts, length_of}
 use Rattle.mv_message.specs.declared.fault.MessageFault.{MessageFault}
 
 -- all values are texts where all members are
@@ -14,9 +14,9 @@ all_are_texts [] = refl
 all_are_texts (v ∷ vs) = ap (λ b. is_some (as_str (view v)) && b) (all_are_texts vs)
 
 -- there are as many values as members
-pub count_is_length : (vs : List Value) → count_of (items_view vs) ≡ length vs
-count_is_length [] = refl
-count_is_length (v ∷ vs) = ap (λ n. suc n) (count_is_length vs)
+pub length_of_view : (vs : List Value) → length_of (items_view vs) ≡ length vs
+length_of_view [] = refl
+length_of_view (v ∷ vs) = ap (λ n. suc n) (length_of_view vs)
 
 -- what reading gives, behind what was read before
 abbrev pub with_front : {A : Type 0} → List A → Result (List A) MessageFault → Result (List A) MessageFault

@@ -20,7 +20,7 @@ use Rattle.mv_message.specs.Fields.{field_name}
 use Rattle.mv_message.specs.declared.standing.Standing.{Standing}
 use Rattle.mv_message.specs.declared.standing.Standing.TheVariants.{Active, Supplied, Exported, Destruction, Sample, FreeSample, Stolen, Repackaged}
 use Rattle.mv_message.specs.Standings.{standing_name, standings, standing_named}
-use Rattle.mv_message.specs.Reading.{◌and_then◌, some_or, of_field, member_at, text_at, gtin_at, code_at, expiry_at, standing_at, national_of, national_at, limited, free_text_at, are_texts, count_of, texts_at, read_item, read_each, markets_at, serials_at}
+use Rattle.mv_message.specs.Reading.{◌and_then◌, some_or, of_field, member_at, text_at, gtin_at, code_at, expiry_at, standing_at, national_of, national_at, limited, free_text_at, are_texts, length_of, texts_at, read_item, read_each, markets_at, serials_at}
 use Rattle.mv_message.specs.Legal.{IsFreeText}
 use Rattle.mv_message.specs.Reads.{Has, HasText, HasFreeText, Spells, SpellsNational, SpellEach, SpellsList, SpellsSerials}
 
@@ -209,7 +209,7 @@ free_text_is_read f d t h =
     ap (λ r. r and_then limited f) (text_is_read f d t h.0)
     ∙ ap (λ b. cond b (Err (TextLength f)) (Ok t)) (within_count (length t) MOST_TEXT_BYTES h.1.0 h.1.1)
 
-each_spelled : {A : Type 0} (reader : List ℕ → Result A PackFault) (f : Field) (ds : Items) (xs : List A) → read_each reader f ds ≡ Ok xs → SpellEach reader ds xs × (count_of ds ≡ length xs)
+each_spelled : {A : Type 0} (reader : List ℕ → Result A PackFault) (f : Field) (ds : Items) (xs : List A) → read_each reader f ds ≡ Ok xs → SpellEach reader ds xs × (length_of ds ≡ length xs)
 each_spelled reader f no_items [] h = (tt, refl)
 each_spelled reader f no_items (x ∷ xs) h = cc
 each_spelled {A} reader f (item d ds) xs h =
@@ -218,10 +218,10 @@ each_spelled {A} reader f (item d ds) xs h =
     let t = both_ok (some_or (Kind f) (as_str d)) (λ t. of_field f (reader t)) a.0 a.1 in
     let rest = each_spelled reader f ds b.0 b.1 in
     let whole : (a.0 ∷ b.0) ≡ xs = cc in
-    subst (λ (zs : List A). SpellEach reader (item d ds) zs × (suc (count_of ds) ≡ length zs)) whole
+    subst (λ (zs : List A). SpellEach reader (item d ds) zs × (suc (length_of ds) ≡ length zs)) whole
     ((t.0, as_str_ok d t.0 (some_or_ok (Kind f) (as_str d) t.0 t.1), of_field_ok f (reader t.0) a.0 t.2, rest.0), ap (λ n. suc n) rest.1)
 
-each_is_read : {A : Type 0} (reader : List ℕ → Result A PackFault) (f : Field) (ds : Items) (xs : List A) → SpellEach reader ds xs → (read_each reader f ds ≡ Ok xs) × (are_texts ds ≡ true) × (count_of ds ≡ length xs)
+each_is_read : {A : Type 0} (reader : List ℕ → Result A PackFault) (f : Field) (ds : Items) (xs : List A) → SpellEach reader ds xs → (read_each reader f ds ≡ Ok xs) × (are_texts ds ≡ true) × (length_of ds ≡ length xs)
 each_is_read reader f no_items [] h = (refl, refl, refl)
 each_is_read reader f no_items (x ∷ xs) h = absurd h
 each_is_read reader f (item d ds) [] h = absurd h
@@ -238,18 +238,18 @@ regrouped : {A B C : Type 0} (r : Result A MessageFault) (f : A → Result B Mes
 regrouped (Ok x) f g = refl
 regrouped (Err e) f g = refl
 
-texts_ok : (most : ℕ) (f : Field) (d : Data) (ds : Items) → texts_at most f d ≡ Ok ds → (get (field_name f) d ≡ Some (array ds)) × (1 ≤ count_of ds) × (count_of ds ≤ most)
+texts_ok : (most : ℕ) (f : Field) (d : Data) (ds : Items) → texts_at most f d ≡ Ok ds → (get (field_name f) d ≡ Some (array ds)) × (1 ≤ length_of ds) × (length_of ds ≤ most)
 unfolding texts_at
 texts_ok most f d ds h =
     let counted : Items → Result Items MessageFault = λ es.
-    cond (not (are_texts es)) (Err (Kind f)) (cond ((count_of es == 0) || nat_lt most (count_of es)) (Err (Count f)) (Ok es)) in
+    cond (not (are_texts es)) (Err (Kind f)) (cond ((length_of es == 0) || nat_lt most (length_of es)) (Err (Count f)) (Ok es)) in
     let a = both_ok (member_at f d and_then λ x. some_or (Kind f) (as_array x)) counted ds (regrouped (member_at f d) (λ x. some_or (Kind f) (as_array x)) counted ∙ h) in
     let b = both_ok (member_at f d) (λ x. some_or (Kind f) (as_array x)) a.0 a.1 in
-    let texts = unrefused (not (are_texts a.0)) (Kind f) (cond ((count_of a.0 == 0) || nat_lt most (count_of a.0)) (Err (Count f)) (Ok a.0)) ds a.2 in
-    let kept = unrefused ((count_of a.0 == 0) || nat_lt most (count_of a.0)) (Count f) (Ok a.0) ds texts.1 in
-    let bounds = count_within (count_of a.0) most kept.0 in
+    let texts = unrefused (not (are_texts a.0)) (Kind f) (cond ((length_of a.0 == 0) || nat_lt most (length_of a.0)) (Err (Count f)) (Ok a.0)) ds a.2 in
+    let kept = unrefused ((length_of a.0 == 0) || nat_lt most (length_of a.0)) (Count f) (Ok a.0) ds texts.1 in
+    let bounds = count_within (length_of a.0) most kept.0 in
     let same : a.0 ≡ ds = cc in
-    subst (λ (es : Items). (get (field_name f) d ≡ Some (array es)) × (1 ≤ count_of es) × (count_of es ≤ most)) same (
+    subst (λ (es : Items). (get (field_name f) d ≡ Some (array es)) × (1 ≤ length_of es) × (length_of es ≤ most)) same (
       some_or_ok (Missing f) (get (field_name f) d) b.0 b.1 ∙ ap (λ x. Some x) (as_array_ok b.0 a.0 (some_or_ok (Kind f) (as_array b.0) a.0 b.2)),
       bounds.0,
       bounds.1,
@@ -268,8 +268,8 @@ unfolding texts_at
 spelling_list_is_read reader most f d xs (ds, found, low, high, spelling) =
     let each = each_is_read reader f ds xs spelling in
     ap (λ o. (some_or (Missing f) o and_then λ x. some_or (Kind f) (as_array x) and_then λ es.
-    cond (not (are_texts es)) (Err (Kind f)) (cond ((count_of es == 0) || nat_lt most (count_of es)) (Err (Count f)) (Ok es))) and_then read_each reader f) found
-    ∙ ap (λ b. cond (not b) (Err (Kind f)) (cond ((count_of ds == 0) || nat_lt most (count_of ds)) (Err (Count f)) (Ok ds)) and_then read_each reader f) each.1
+    cond (not (are_texts es)) (Err (Kind f)) (cond ((length_of es == 0) || nat_lt most (length_of es)) (Err (Count f)) (Ok es))) and_then read_each reader f) found
+    ∙ ap (λ b. cond (not b) (Err (Kind f)) (cond ((length_of ds == 0) || nat_lt most (length_of ds)) (Err (Count f)) (Ok ds)) and_then read_each reader f) each.1
     ∙ ap (λ b. cond b (Err (Count f)) (Ok ds) and_then read_each reader f) (ap (λ n. (n == 0) || nat_lt most n) each.2 ∙ within_count (length xs) most low high)
     ∙ each.0
 

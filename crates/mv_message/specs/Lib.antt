@@ -9,6 +9,7 @@ pub mod Versions
 pub mod Forms
 pub mod Found
 pub mod Readers
+pub mod FieldFaults
 pub mod Values
 pub mod Messages
 pub mod Legal

@@ -86,9 +86,9 @@ are_texts no_items = true
 are_texts (item value items) = is_some (as_str value) && are_texts items
 
 -- how many members a list has
-abbrev pub count_of : Items → ℕ
-count_of no_items = 0
-count_of (item value items) = suc (count_of items)
+abbrev pub length_of : Items → ℕ
+length_of no_items = 0
+length_of (item value items) = suc (length_of items)
 
 -- the list of a field, all of whose members are texts, 1 to most of them: M3, M5, M7
 unfoldable pub texts_at : ℕ → Field → Data → Result Items MessageFault
@@ -96,7 +96,7 @@ texts_at most field value =
     member_at field value and_then λ found.
     some_or (Kind field) (as_array found) and_then λ items.
     if not (are_texts items) then Err (Kind field)
-    else (if (count_of items == 0) || nat_lt most (count_of items) then Err (Count field)
+    else (if (length_of items == 0) || nat_lt most (length_of items) then Err (Count field)
     else Ok items)
 
 -- a member of a list, by its reader

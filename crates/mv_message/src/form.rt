@@ -6,7 +6,7 @@ ghost use Rattle.mv_message.specs.Reading.{Gives};
 ghost use Rattle.mv_message.specs.Forms.{form_named, form_at, names_of, known_form_at};
 
 use crate::members::first_unknown;
-use crate::reading::text_of;
+use crate::reading::text_at;
 use crate::version::Version;
 use crate::{Field, MessageFault, Text};
 use serde_json::{Map, Value};
@@ -77,7 +77,7 @@ impl Form {
 }
 
 /// The form of that name, among those of the version.
-fn form_called(version: Version, name: &str) -> Option<Form>
+fn form_named(version: Version, name: &str) -> Option<Form>
     ensures { result ≡ form_named version name.now }
 {
     match name {
@@ -98,17 +98,17 @@ fn form_called(version: Version, name: &str) -> Option<Form>
 
 /// The form of an object: M3, M5.
 #[tactic(auto, unfolding(crate::specs::Forms::form_at))]
-pub(crate) fn form_of(value: &Value, version: Version) -> Result<Form, MessageFault>
+pub(crate) fn form_at(value: &Value, version: Version) -> Result<Form, MessageFault>
     ensures { result ≡ form_at version (view value.now) }
 {
-    match form_called(version, text_of(value, Field::Msg)?) {
+    match form_named(version, text_at(value, Field::Msg)?) {
         Some(form) => Ok(form),
         None => Err(MessageFault::Kind(Field::Msg)),
     }
 }
 
 /// The form, where its messages have all keys of the object; else M4 with the first other one.
-pub(crate) fn known_form(
+pub(crate) fn known_form_at(
     alloc: Global,
     members: &Map<String, Value>,
     version: Version,

@@ -5,22 +5,22 @@ ghost use Rattle.serde_json.specs.View.{view};
 ghost use Rattle.mv_message.specs.Found.{present_names, first_present_at, second_present_at, present_at, present_of, found_of, found_at};
 
 use crate::members::first_unknown;
-use crate::numbers::truth_of;
-use crate::reading::{batch_of, expiry_of, member_of, national_of, standing_of};
+use crate::numbers::truth_at;
+use crate::reading::{batch_at, expiry_at, member_at, national_at, standing_at};
 use crate::version::Version;
 use crate::{Field, Found, MessageFault};
 use serde_json::Value;
 
 /// What the field `found` says: M3, M5.
 #[tactic(auto, unfolding(crate::specs::Found::found_at))]
-pub(crate) fn found_of(value: &Value, version: Version) -> Result<Found, MessageFault>
+pub(crate) fn found_at(value: &Value, version: Version) -> Result<Found, MessageFault>
     ensures { result ≡ found_at version (view value.now) }
 {
-    found_in(member_of(value, Field::Found)?, version)
+    found_of(member_at(value, Field::Found)?, version)
 }
 
 /// What a value says was found: M5 of `found` where it is neither `null` nor a legal pack.
-fn found_in(value: &Value, version: Version) -> Result<Found, MessageFault>
+fn found_of(value: &Value, version: Version) -> Result<Found, MessageFault>
     ensures { result ≡ found_of version (view value.now) }
 {
     if value.is_null() {
@@ -44,8 +44,8 @@ fn present_of(value: &Value, version: Version) -> Result<Found, MessageFault>
         return Err(MessageFault::Kind(Field::Found));
     }
     match version {
-        Version::One => first_present_of(value),
-        Version::Two => second_present_of(value),
+        Version::One => first_present_at(value),
+        Version::Two => second_present_at(value),
     }
 }
 
@@ -68,13 +68,13 @@ fn present_names(version: Version) -> &'static [&'static str]
 
 /// The pack that the fields of an object give, in version 1.
 #[tactic(auto, unfolding(crate::specs::Found::first_present_at))]
-fn first_present_of(value: &Value) -> Result<Found, MessageFault>
+fn first_present_at(value: &Value) -> Result<Found, MessageFault>
     ensures { result ≡ first_present_at (view value.now) }
 {
-    let batch = batch_of(value, Field::Batch)?;
-    let expiry = expiry_of(value, Field::Expiry)?;
-    let recalled = truth_of(value, Field::Recalled)?;
-    let standing = standing_of(value, Field::Standing)?;
+    let batch = batch_at(value, Field::Batch)?;
+    let expiry = expiry_at(value, Field::Expiry)?;
+    let recalled = truth_at(value, Field::Recalled)?;
+    let standing = standing_at(value, Field::Standing)?;
     Ok(Found::Present {
         batch,
         expiry,
@@ -87,15 +87,15 @@ fn first_present_of(value: &Value) -> Result<Found, MessageFault>
 
 /// The pack that the fields of an object give, in version 2.
 #[tactic(auto, unfolding(crate::specs::Found::second_present_at))]
-fn second_present_of(value: &Value) -> Result<Found, MessageFault>
+fn second_present_at(value: &Value) -> Result<Found, MessageFault>
     ensures { result ≡ second_present_at (view value.now) }
 {
-    let batch = batch_of(value, Field::Batch)?;
-    let expiry = expiry_of(value, Field::Expiry)?;
-    let national = national_of(value, Field::National)?;
-    let recalled = truth_of(value, Field::Recalled)?;
-    let standing = standing_of(value, Field::Standing)?;
-    let withdrawn = truth_of(value, Field::Withdrawn)?;
+    let batch = batch_at(value, Field::Batch)?;
+    let expiry = expiry_at(value, Field::Expiry)?;
+    let national = national_at(value, Field::National)?;
+    let recalled = truth_at(value, Field::Recalled)?;
+    let standing = standing_at(value, Field::Standing)?;
+    let withdrawn = truth_at(value, Field::Withdrawn)?;
     Ok(Found::Present {
         batch,
         expiry,

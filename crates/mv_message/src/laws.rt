@@ -1,6 +1,6 @@
 //! Laws of the JSON form of messages, a sentence each; what they say holds of every value and message.
 
-ghost use Rattle.mv_message.specs.Laws.{ReadsBack, ReadsExactly, ReadIsLegal, ReadsOne};
+ghost use Rattle.mv_message.specs.Laws.{ReadsBack, ReadsExactly, ReadIsLegal, ReadsOne, FirstFaultIsGiven, FieldsAreInOrder};
 
 /// Each legal message is read back from its value.
 #[tactic(auto, using(crate::proofs::LegalLemmas::reads_back))]
@@ -23,4 +23,17 @@ pub fn read_is_legal()
 /// No value is a spelling of two messages.
 pub fn reads_one()
     ensures { ReadsOne }
+{}
+
+/// Of an object that has a version, a form and no key but the fields of that form, the fault is that of the first of
+/// these fields that has one, each looked at by itself; it is read where none has.
+#[tactic(auto, using(crate::proofs::FirstFaultLemmas::first_fault_is_given))]
+pub fn first_fault_is_given()
+    ensures { FirstFaultIsGiven }
+{}
+
+/// The fields of a message stand in byte order of their names, each once.
+#[tactic(auto, using(crate::proofs::FirstFaultLemmas::fields_are_in_order))]
+pub fn fields_are_in_order()
+    ensures { FieldsAreInOrder }
 {}

@@ -9,7 +9,7 @@ ghost use Rattle.mv_pack.specs.Code.{read_code};
 ghost use Rattle.mv_pack.specs.Market.{read_market};
 ghost use Rattle.mv_message.specs.Reading.{Gives, texts_at, markets_at, serials_at, read_item, read_each};
 
-use crate::reading::member_of;
+use crate::reading::member_at;
 use crate::{Field, Markets, MessageFault, Serials};
 use mv_pack::{Market, Serial};
 use serde_json::Value;
@@ -22,13 +22,13 @@ pub const MOST_MARKETS: usize = 32;
 pub const MOST_SERIALS: usize = 100;
 
 /// The members of a field that is a list of 1 to `most` texts: M3, M5, M7.
-#[tactic(auto, using(crate::proofs::ListLemmas::all_are_texts, crate::proofs::ListLemmas::count_is_length), unfolding(crate::specs::Reading::texts_at))]
-fn texts_of(value: &Value, field: Field, most: usize) -> Result<&[Value], MessageFault>
+#[tactic(auto, using(crate::proofs::ListLemmas::all_are_texts, crate::proofs::ListLemmas::length_of_view), unfolding(crate::specs::Reading::texts_at))]
+fn texts_at(value: &Value, field: Field, most: usize) -> Result<&[Value], MessageFault>
     ensures { MatchResult result
         (λ list. texts_at most field (view value.now) ≡ Ok (items_view list.now))
         (λ fault. texts_at most field (view value.now) ≡ Err fault) }
 {
-    let Some(list) = member_of(value, field)?.as_array() else {
+    let Some(list) = member_at(value, field)?.as_array() else {
         return Err(MessageFault::Kind(field));
     };
     let list = list.as_slice();
@@ -50,14 +50,14 @@ fn are_texts(list: &[Value]) -> bool
 
 /// The markets of a field, 1 to 32: M3, M5, M7, M6.
 #[tactic(auto, unfolding(crate::specs::Reading::markets_at))]
-pub(crate) fn markets_of(
+pub(crate) fn markets_at(
     alloc: Global,
     value: &Value,
     field: Field,
 ) -> Result<Markets, MessageFault>
     ensures { Gives result (markets_at field (view value.now)) }
 {
-    let list = texts_of(value, field, MOST_MARKETS)?;
+    let list = texts_at(value, field, MOST_MARKETS)?;
     Ok(Markets::new(markets_in(alloc, list, field)?))
 }
 
@@ -90,14 +90,14 @@ fn market_in(value: &Value, field: Field) -> Result<Market, MessageFault>
 
 /// The serial numbers of a field, 1 to 100: M3, M5, M7, M6.
 #[tactic(auto, unfolding(crate::specs::Reading::serials_at))]
-pub(crate) fn serials_of(
+pub(crate) fn serials_at(
     alloc: Global,
     value: &Value,
     field: Field,
 ) -> Result<Serials, MessageFault>
     ensures { Gives result (serials_at field (view value.now)) }
 {
-    let list = texts_of(value, field, MOST_SERIALS)?;
+    let list = texts_at(value, field, MOST_SERIALS)?;
     Ok(Serials::new(serials_in(alloc, list, field)?))
 }
 

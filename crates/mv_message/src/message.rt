@@ -4,10 +4,10 @@ ghost use Rattle.std.specs.Prelude.{◌≡◌, IfOk, IfErr, IsOk, IsTrue};
 ghost use Rattle.serde_json.specs.View.{view};
 ghost use Rattle.mv_message.specs.Reading.{Gives};
 
-use crate::form::{form_of, known_form};
+use crate::form::{form_at, known_form_at};
 use crate::found::national_copy;
-use crate::readers::message_of;
-use crate::version::version_of;
+use crate::readers::message_at;
+use crate::version::version_at;
 use crate::{Found, Markets, MessageFault, Serials, Standing, Text};
 use mv_pack::{Batch, BatchKey, Expiry, Gtin, Moment, National, PackKey};
 use serde_json::Value;
@@ -60,51 +60,76 @@ impl Product {
 pub enum Message {
     /// The product master: what is sold under a product code, and where.
     Master {
+        /// The product code.
         gtin: Gtin,
+        /// What is sold under it from now on.
         product: Product,
     },
     /// Packs of a batch, each active from now on (Article 33 of Delegated Regulation (EU) 2016/161).
     Upload {
+        /// The product code of the packs.
         gtin: Gtin,
+        /// Their batch.
         batch: Batch,
+        /// The last day on which they may be supplied.
         expiry: Expiry,
+        /// Their national number, where the product has one.
         national: Option<National>,
+        /// Their serial numbers: 1 to 100 in a legal message.
         serials: Serials,
     },
     /// A change of a pack's standing: it is decommissioned, or made active again (Articles 13 and 16 to 25).
     Status {
+        /// The pack.
         key: PackKey,
+        /// The standing that it is to take.
         to: Standing,
+        /// Who changes it, by a name of the sender's own: 1 to 200 bytes in a legal message.
         user: Text,
+        /// When it changes, in whole seconds since 1970.
         at: Moment,
     },
     /// The recall of a batch.
     Recall {
+        /// The batch.
         key: BatchKey,
+        /// When it is recalled, in whole seconds since 1970.
         at: Moment,
     },
-    /// Packs of a batch were repackaged as packs of another (Article 16 and 35(4)).
+    /// Packs of a batch were repackaged as packs of another (Articles 16 and 35(4)).
     Repack {
+        /// The batch of the packs that were taken.
         before: BatchKey,
+        /// The serial numbers of these: 1 to 100 in a legal message.
         before_serials: Serials,
+        /// The batch of the packs that were made of them. It may be the same.
         after: BatchKey,
+        /// The serial numbers of these: 1 to 100 in a legal message.
         after_serials: Serials,
+        /// When they were repackaged, in whole seconds since 1970.
         at: Moment,
     },
     /// The withdrawal of a product.
     Withdraw {
+        /// The product code.
         gtin: Gtin,
+        /// When it is withdrawn, in whole seconds since 1970.
         at: Moment,
     },
     /// The question what a repository holds of a pack (Article 34).
     Query {
+        /// The pack.
         key: PackKey,
     },
-    /// The answer to the query that was the `q`-th message of the party that asked.
+    /// The answer to a query.
     Answer {
+        /// The party that asked.
         asker: Party,
+        /// The number of the query among all that this party sent, counted from 1; not 0 in a legal message.
         q: u32,
+        /// The pack that it asked for.
         key: PackKey,
+        /// What was found of the pack.
         found: Found,
     },
 }
@@ -145,9 +170,9 @@ impl Message {
         let Some(members) = value.as_object() else {
             return Err(MessageFault::NotObject);
         };
-        let version = version_of(value)?;
-        let form = known_form(alloc, members, version, form_of(value, version)?)?;
-        message_of(alloc, value, version, form)
+        let version = version_at(value)?;
+        let form = known_form_at(alloc, members, version, form_at(value, version)?)?;
+        message_at(alloc, value, version, form)
     }
 
     /// A message of its own that equals this one. The only refusal is M9, for want of memory.
@@ -168,19 +193,10 @@ impl Message {
                 expiry,
                 national,
                 serials,
-            } => Ok(Message::Upload {
-                gtin: *gtin,
-                batch: batch.copy(),
-                expiry: *expiry,
-                national: national_copy(national),
-                serials: serials.copy(alloc)?,
-            }),
-            Message::Status { key, to, user, at } => Ok(Message::Status {
-                key: key.copy(),
-                to: *to,
-                user: user.copy(alloc)?,
-                at: *at,
-            }),
+            } => Ok(upload_copy(alloc, *gtin, batch, *expiry, national, serials)?),
+            Message::Status { key, to, user, at } => {
+                Ok(status_copy(alloc, key, *to, user, *at)?)
+            }
             Message::Recall { key, at } => Ok(Message::Recall {
                 key: key.copy(),
                 at: *at,
@@ -191,13 +207,7 @@ impl Message {
                 after,
                 after_serials,
                 at,
-            } => Ok(Message::Repack {
-                before: before.copy(),
-                before_serials: before_serials.copy(alloc)?,
-                after: after.copy(),
-                after_serials: after_serials.copy(alloc)?,
-                at: *at,
-            }),
+            } => Ok(repack_copy(alloc, before, before_serials, after, after_serials, *at)?),
             Message::Withdraw { gtin, at } => Ok(Message::Withdraw {
                 gtin: *gtin,
                 at: *at,
@@ -216,4 +226,64 @@ impl Message {
             }),
         }
     }
+}
+
+/// An upload of its own with the same values.
+fn upload_copy(
+    alloc: Global,
+    gtin: Gtin,
+    batch: &Batch,
+    expiry: Expiry,
+    national: &Option<National>,
+    serials: &Serials,
+) -> Result<Message, AllocError>
+    ensures { IfOk result (λ message. message
+        ≡ Message.Upload gtin batch.now expiry national.now serials.now) }
+{
+    Ok(Message::Upload {
+        gtin,
+        batch: batch.copy(),
+        expiry,
+        national: national_copy(national),
+        serials: serials.copy(alloc)?,
+    })
+}
+
+/// A change of standing of its own with the same values.
+fn status_copy(
+    alloc: Global,
+    key: &PackKey,
+    to: Standing,
+    user: &Text,
+    at: Moment,
+) -> Result<Message, AllocError>
+    ensures { IfOk result (λ message. message ≡ Message.Status key.now to user.now at) }
+{
+    Ok(Message::Status {
+        key: key.copy(),
+        to,
+        user: user.copy(alloc)?,
+        at,
+    })
+}
+
+/// A repackaging of its own with the same values.
+fn repack_copy(
+    alloc: Global,
+    before: &BatchKey,
+    before_serials: &Serials,
+    after: &BatchKey,
+    after_serials: &Serials,
+    at: Moment,
+) -> Result<Message, AllocError>
+    ensures { IfOk result (λ message. message
+        ≡ Message.Repack before.now before_serials.now after.now after_serials.now at) }
+{
+    Ok(Message::Repack {
+        before: before.copy(),
+        before_serials: before_serials.copy(alloc)?,
+        after: after.copy(),
+        after_serials: after_serials.copy(alloc)?,
+        at,
+    })
 }

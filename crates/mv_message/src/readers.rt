@@ -6,11 +6,11 @@ ghost use Rattle.mv_message.specs.Reading.{Gives};
 ghost use Rattle.mv_message.specs.Readers.{master_at, upload_national_at, upload_at, status_at, recall_at, repack_at, withdraw_at, query_at, answer_at, message_at};
 
 use crate::form::Form;
-use crate::found_reading::found_of;
-use crate::lists::{markets_of, serials_of};
-use crate::numbers::{count_of, moment_of, number_of};
+use crate::found_reading::found_at;
+use crate::lists::{markets_at, serials_at};
+use crate::numbers::{count_at, moment_at, number_at};
 use crate::reading::{
-    batch_of, expiry_of, free_text_of, gtin_of, national_of, serial_of, standing_of,
+    batch_at, expiry_at, free_text_at, gtin_at, national_at, serial_at, standing_at,
 };
 use crate::version::Version;
 use crate::{Field, Message, MessageFault, Product};
@@ -19,7 +19,7 @@ use serde_json::Value;
 use std::alloc::Global;
 
 /// The message of a form that the fields of an object give.
-pub(crate) fn message_of(
+pub(crate) fn message_at(
     alloc: Global,
     value: &Value,
     version: Version,
@@ -28,31 +28,31 @@ pub(crate) fn message_of(
     ensures { Gives result (message_at version form (view value.now)) }
 {
     match form {
-        Form::Answer => answer_of(value, version),
-        Form::Master => master_of(alloc, value),
-        Form::Query => query_of(value),
-        Form::Recall => recall_of(value),
-        Form::Repack => repack_of(alloc, value),
-        Form::Status => status_of(alloc, value),
-        Form::Upload => upload_of(alloc, value, version),
-        Form::Withdraw => withdraw_of(value),
+        Form::Answer => answer_at(value, version),
+        Form::Master => master_at(alloc, value),
+        Form::Query => query_at(value),
+        Form::Recall => recall_at(value),
+        Form::Repack => repack_at(alloc, value),
+        Form::Status => status_at(alloc, value),
+        Form::Upload => upload_at(alloc, value, version),
+        Form::Withdraw => withdraw_at(value),
     }
 }
 
 /// The product master that the fields give.
 #[tactic(auto, unfolding(crate::specs::Readers::master_at))]
-fn master_of(alloc: Global, value: &Value) -> Result<Message, MessageFault>
+fn master_at(alloc: Global, value: &Value) -> Result<Message, MessageFault>
     ensures { Gives result (master_at (view value.now)) }
 {
-    let common = free_text_of(alloc, value, Field::Common)?;
-    let form = free_text_of(alloc, value, Field::Form)?;
-    let gtin = gtin_of(value, Field::Gtin)?;
-    let markets = markets_of(alloc, value, Field::Markets)?;
-    let name = free_text_of(alloc, value, Field::Name)?;
-    let pack_size = free_text_of(alloc, value, Field::PackSize)?;
-    let pack_type = free_text_of(alloc, value, Field::PackType)?;
-    let scheme = free_text_of(alloc, value, Field::Scheme)?;
-    let strength = free_text_of(alloc, value, Field::Strength)?;
+    let common = free_text_at(alloc, value, Field::Common)?;
+    let form = free_text_at(alloc, value, Field::Form)?;
+    let gtin = gtin_at(value, Field::Gtin)?;
+    let markets = markets_at(alloc, value, Field::Markets)?;
+    let name = free_text_at(alloc, value, Field::Name)?;
+    let pack_size = free_text_at(alloc, value, Field::PackSize)?;
+    let pack_type = free_text_at(alloc, value, Field::PackType)?;
+    let scheme = free_text_at(alloc, value, Field::Scheme)?;
+    let strength = free_text_at(alloc, value, Field::Strength)?;
     Ok(Message::Master {
         gtin,
         product: Product {
@@ -70,14 +70,14 @@ fn master_of(alloc: Global, value: &Value) -> Result<Message, MessageFault>
 
 /// The upload that the fields give.
 #[tactic(auto, unfolding(crate::specs::Readers::upload_at))]
-fn upload_of(alloc: Global, value: &Value, version: Version) -> Result<Message, MessageFault>
+fn upload_at(alloc: Global, value: &Value, version: Version) -> Result<Message, MessageFault>
     ensures { Gives result (upload_at version (view value.now)) }
 {
-    let batch = batch_of(value, Field::Batch)?;
-    let expiry = expiry_of(value, Field::Expiry)?;
-    let gtin = gtin_of(value, Field::Gtin)?;
-    let national = upload_national_of(value, version)?;
-    let serials = serials_of(alloc, value, Field::Serials)?;
+    let batch = batch_at(value, Field::Batch)?;
+    let expiry = expiry_at(value, Field::Expiry)?;
+    let gtin = gtin_at(value, Field::Gtin)?;
+    let national = upload_national_at(value, version)?;
+    let serials = serials_at(alloc, value, Field::Serials)?;
     Ok(Message::Upload {
         gtin,
         batch,
@@ -88,25 +88,25 @@ fn upload_of(alloc: Global, value: &Value, version: Version) -> Result<Message, 
 }
 
 /// The national number of an upload, which version 1 does not have.
-fn upload_national_of(value: &Value, version: Version) -> Result<Option<National>, MessageFault>
+fn upload_national_at(value: &Value, version: Version) -> Result<Option<National>, MessageFault>
     ensures { result ≡ upload_national_at version (view value.now) }
 {
     match version {
         Version::One => Ok(None),
-        Version::Two => national_of(value, Field::National),
+        Version::Two => national_at(value, Field::National),
     }
 }
 
 /// The change of standing that the fields give.
 #[tactic(auto, unfolding(crate::specs::Readers::status_at))]
-fn status_of(alloc: Global, value: &Value) -> Result<Message, MessageFault>
+fn status_at(alloc: Global, value: &Value) -> Result<Message, MessageFault>
     ensures { Gives result (status_at (view value.now)) }
 {
-    let at = moment_of(value, Field::At)?;
-    let gtin = gtin_of(value, Field::Gtin)?;
-    let serial = serial_of(value, Field::Serial)?;
-    let to = standing_of(value, Field::To)?;
-    let user = free_text_of(alloc, value, Field::User)?;
+    let at = moment_at(value, Field::At)?;
+    let gtin = gtin_at(value, Field::Gtin)?;
+    let serial = serial_at(value, Field::Serial)?;
+    let to = standing_at(value, Field::To)?;
+    let user = free_text_at(alloc, value, Field::User)?;
     Ok(Message::Status {
         key: PackKey { gtin, serial },
         to,
@@ -117,12 +117,12 @@ fn status_of(alloc: Global, value: &Value) -> Result<Message, MessageFault>
 
 /// The recall that the fields give.
 #[tactic(auto, unfolding(crate::specs::Readers::recall_at))]
-fn recall_of(value: &Value) -> Result<Message, MessageFault>
+fn recall_at(value: &Value) -> Result<Message, MessageFault>
     ensures { result ≡ recall_at (view value.now) }
 {
-    let at = moment_of(value, Field::At)?;
-    let batch = batch_of(value, Field::Batch)?;
-    let gtin = gtin_of(value, Field::Gtin)?;
+    let at = moment_at(value, Field::At)?;
+    let batch = batch_at(value, Field::Batch)?;
+    let gtin = gtin_at(value, Field::Gtin)?;
     Ok(Message::Recall {
         key: BatchKey { gtin, batch },
         at,
@@ -131,16 +131,16 @@ fn recall_of(value: &Value) -> Result<Message, MessageFault>
 
 /// The repackaging that the fields give.
 #[tactic(auto, unfolding(crate::specs::Readers::repack_at))]
-fn repack_of(alloc: Global, value: &Value) -> Result<Message, MessageFault>
+fn repack_at(alloc: Global, value: &Value) -> Result<Message, MessageFault>
     ensures { Gives result (repack_at (view value.now)) }
 {
-    let after_batch = batch_of(value, Field::AfterBatch)?;
-    let after_gtin = gtin_of(value, Field::AfterGtin)?;
-    let after_serials = serials_of(alloc, value, Field::AfterSerials)?;
-    let at = moment_of(value, Field::At)?;
-    let before_batch = batch_of(value, Field::BeforeBatch)?;
-    let before_gtin = gtin_of(value, Field::BeforeGtin)?;
-    let before_serials = serials_of(alloc, value, Field::BeforeSerials)?;
+    let after_batch = batch_at(value, Field::AfterBatch)?;
+    let after_gtin = gtin_at(value, Field::AfterGtin)?;
+    let after_serials = serials_at(alloc, value, Field::AfterSerials)?;
+    let at = moment_at(value, Field::At)?;
+    let before_batch = batch_at(value, Field::BeforeBatch)?;
+    let before_gtin = gtin_at(value, Field::BeforeGtin)?;
+    let before_serials = serials_at(alloc, value, Field::BeforeSerials)?;
     Ok(Message::Repack {
         before: BatchKey {
             gtin: before_gtin,
@@ -158,21 +158,21 @@ fn repack_of(alloc: Global, value: &Value) -> Result<Message, MessageFault>
 
 /// The withdrawal that the fields give.
 #[tactic(auto, unfolding(crate::specs::Readers::withdraw_at))]
-fn withdraw_of(value: &Value) -> Result<Message, MessageFault>
+fn withdraw_at(value: &Value) -> Result<Message, MessageFault>
     ensures { result ≡ withdraw_at (view value.now) }
 {
-    let at = moment_of(value, Field::At)?;
-    let gtin = gtin_of(value, Field::Gtin)?;
+    let at = moment_at(value, Field::At)?;
+    let gtin = gtin_at(value, Field::Gtin)?;
     Ok(Message::Withdraw { gtin, at })
 }
 
 /// The query that the fields give.
 #[tactic(auto, unfolding(crate::specs::Readers::query_at))]
-fn query_of(value: &Value) -> Result<Message, MessageFault>
+fn query_at(value: &Value) -> Result<Message, MessageFault>
     ensures { result ≡ query_at (view value.now) }
 {
-    let gtin = gtin_of(value, Field::Gtin)?;
-    let serial = serial_of(value, Field::Serial)?;
+    let gtin = gtin_at(value, Field::Gtin)?;
+    let serial = serial_at(value, Field::Serial)?;
     Ok(Message::Query {
         key: PackKey { gtin, serial },
     })
@@ -180,14 +180,14 @@ fn query_of(value: &Value) -> Result<Message, MessageFault>
 
 /// The answer that the fields give.
 #[tactic(auto, unfolding(crate::specs::Readers::answer_at))]
-fn answer_of(value: &Value, version: Version) -> Result<Message, MessageFault>
+fn answer_at(value: &Value, version: Version) -> Result<Message, MessageFault>
     ensures { result ≡ answer_at version (view value.now) }
 {
-    let asker = number_of(value, Field::Asker)?;
-    let found = found_of(value, version)?;
-    let gtin = gtin_of(value, Field::Gtin)?;
-    let q = count_of(value, Field::Q)?;
-    let serial = serial_of(value, Field::Serial)?;
+    let asker = number_at(value, Field::Asker)?;
+    let found = found_at(value, version)?;
+    let gtin = gtin_at(value, Field::Gtin)?;
+    let q = count_at(value, Field::Q)?;
+    let serial = serial_at(value, Field::Serial)?;
     Ok(Message::Answer {
         asker,
         q,

@@ -14,7 +14,7 @@ use std::alloc::Global;
 pub const MOST_TEXT_BYTES: usize = 200;
 
 /// The value of a field, else M3.
-pub(crate) fn member_of(value: &Value, field: Field) -> Result<&Value, MessageFault>
+pub(crate) fn member_at(value: &Value, field: Field) -> Result<&Value, MessageFault>
     ensures { MatchResult result
         (λ member. member_at field (view value.now) ≡ Ok (view member.now))
         (λ fault. member_at field (view value.now) ≡ Err fault) }
@@ -26,12 +26,12 @@ pub(crate) fn member_of(value: &Value, field: Field) -> Result<&Value, MessageFa
 }
 
 /// The text of a field: M3, M5.
-pub(crate) fn text_of(value: &Value, field: Field) -> Result<&str, MessageFault>
+pub(crate) fn text_at(value: &Value, field: Field) -> Result<&str, MessageFault>
     ensures { MatchResult result
         (λ text. text_at field (view value.now) ≡ Ok text.now)
         (λ fault. text_at field (view value.now) ≡ Err fault) }
 {
-    match member_of(value, field)?.as_str() {
+    match member_at(value, field)?.as_str() {
         Some(text) => Ok(text),
         None => Err(MessageFault::Kind(field)),
     }
@@ -39,10 +39,10 @@ pub(crate) fn text_of(value: &Value, field: Field) -> Result<&str, MessageFault>
 
 /// The product code of a field: M3, M5, M6.
 #[tactic(auto, unfolding(crate::specs::Reading::gtin_at))]
-pub(crate) fn gtin_of(value: &Value, field: Field) -> Result<Gtin, MessageFault>
+pub(crate) fn gtin_at(value: &Value, field: Field) -> Result<Gtin, MessageFault>
     ensures { result ≡ gtin_at field (view value.now) }
 {
-    match Gtin::read(text_of(value, field)?) {
+    match Gtin::read(text_at(value, field)?) {
         Ok(gtin) => Ok(gtin),
         Err(fault) => Err(MessageFault::Pack(field, fault)),
     }
@@ -50,10 +50,10 @@ pub(crate) fn gtin_of(value: &Value, field: Field) -> Result<Gtin, MessageFault>
 
 /// The serial number of a field: M3, M5, M6.
 #[tactic(auto, unfolding(crate::specs::Reading::code_at))]
-pub(crate) fn serial_of(value: &Value, field: Field) -> Result<Serial, MessageFault>
+pub(crate) fn serial_at(value: &Value, field: Field) -> Result<Serial, MessageFault>
     ensures { result ≡ code_at field (view value.now) }
 {
-    match Serial::read(text_of(value, field)?) {
+    match Serial::read(text_at(value, field)?) {
         Ok(serial) => Ok(serial),
         Err(fault) => Err(MessageFault::Pack(field, fault)),
     }
@@ -61,10 +61,10 @@ pub(crate) fn serial_of(value: &Value, field: Field) -> Result<Serial, MessageFa
 
 /// The batch number of a field: M3, M5, M6.
 #[tactic(auto, unfolding(crate::specs::Reading::code_at))]
-pub(crate) fn batch_of(value: &Value, field: Field) -> Result<Batch, MessageFault>
+pub(crate) fn batch_at(value: &Value, field: Field) -> Result<Batch, MessageFault>
     ensures { result ≡ code_at field (view value.now) }
 {
-    match Batch::read(text_of(value, field)?) {
+    match Batch::read(text_at(value, field)?) {
         Ok(batch) => Ok(batch),
         Err(fault) => Err(MessageFault::Pack(field, fault)),
     }
@@ -72,10 +72,10 @@ pub(crate) fn batch_of(value: &Value, field: Field) -> Result<Batch, MessageFaul
 
 /// The expiry date of a field: M3, M5, M6.
 #[tactic(auto, unfolding(crate::specs::Reading::expiry_at))]
-pub(crate) fn expiry_of(value: &Value, field: Field) -> Result<Expiry, MessageFault>
+pub(crate) fn expiry_at(value: &Value, field: Field) -> Result<Expiry, MessageFault>
     ensures { result ≡ expiry_at field (view value.now) }
 {
-    match Expiry::read(text_of(value, field)?) {
+    match Expiry::read(text_at(value, field)?) {
         Ok(expiry) => Ok(expiry),
         Err(fault) => Err(MessageFault::Pack(field, fault)),
     }
@@ -83,14 +83,14 @@ pub(crate) fn expiry_of(value: &Value, field: Field) -> Result<Expiry, MessageFa
 
 /// The national number of a field, or none where there is `null`: M3, M5, M6.
 #[tactic(auto, unfolding(crate::specs::Reading::national_at))]
-pub(crate) fn national_of(value: &Value, field: Field) -> Result<Option<National>, MessageFault>
+pub(crate) fn national_at(value: &Value, field: Field) -> Result<Option<National>, MessageFault>
     ensures { result ≡ national_at field (view value.now) }
 {
-    national_in(member_of(value, field)?, field)
+    national_of(member_at(value, field)?, field)
 }
 
 /// The national number that a value is, or none where it is `null`: M5, M6.
-fn national_in(found: &Value, field: Field) -> Result<Option<National>, MessageFault>
+fn national_of(found: &Value, field: Field) -> Result<Option<National>, MessageFault>
     ensures { result ≡ national_of field (view found.now) }
 {
     if found.is_null() {
@@ -107,17 +107,17 @@ fn national_in(found: &Value, field: Field) -> Result<Option<National>, MessageF
 
 /// The standing of a field: M3, M5.
 #[tactic(auto, unfolding(crate::specs::Reading::standing_at))]
-pub(crate) fn standing_of(value: &Value, field: Field) -> Result<Standing, MessageFault>
+pub(crate) fn standing_at(value: &Value, field: Field) -> Result<Standing, MessageFault>
     ensures { result ≡ standing_at field (view value.now) }
 {
-    match standing_called(text_of(value, field)?) {
+    match standing_named(text_at(value, field)?) {
         Some(standing) => Ok(standing),
         None => Err(MessageFault::Kind(field)),
     }
 }
 
 /// The standing of that name.
-fn standing_called(name: &str) -> Option<Standing>
+fn standing_named(name: &str) -> Option<Standing>
     ensures { result ≡ standing_named name.now }
 {
     match name {
@@ -135,10 +135,10 @@ fn standing_called(name: &str) -> Option<Standing>
 
 /// The free text of a field: M3, M5, M8.
 #[tactic(auto, unfolding(crate::specs::Reading::free_text_at))]
-pub(crate) fn free_text_of(alloc: Global, value: &Value, field: Field) -> Result<Text, MessageFault>
+pub(crate) fn free_text_at(alloc: Global, value: &Value, field: Field) -> Result<Text, MessageFault>
     ensures { Gives result (free_text_at field (view value.now)) }
 {
-    let text = text_of(value, field)?;
+    let text = text_at(value, field)?;
     if text.is_empty() || text.len() > MOST_TEXT_BYTES {
         return Err(MessageFault::TextLength(field));
     }

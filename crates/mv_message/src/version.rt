@@ -18,7 +18,7 @@ pub(crate) enum Version {
 
 /// The version of an object: M5 of `v`.
 #[tactic(auto, unfolding(crate::specs::Versions::version_at))]
-pub(crate) fn version_of(value: &Value) -> Result<Version, MessageFault>
+pub(crate) fn version_at(value: &Value) -> Result<Version, MessageFault>
     ensures { result ≡ version_at (view value.now) }
 {
     let Some(found) = value.get(Field::V.as_str()) else {

@@ -12,7 +12,7 @@ use Rattle.mv_pack.specs.declared.fault.PackFault.TheVariants.{Date}
 use Rattle.jiff_core.specs.Calendar.{days_from_civil, days_in_month}
 use Rattle.jiff_core.proofs.SignedLemmas.{signed_arith}
 use Rattle.jiff_core.proofs.CalendarLemmas.{day_count-lt_year, days_in_month_bounds}
-use Rattle.mv_pack.specs.Expiry.{CivilDate, IsExpiry, day_of, dated, number_at, expiry_text, read_expiry}
+use Rattle.mv_pack.specs.Expiry.{CivilDate, IsExpiry, day_of, dated, two_digits_at, expiry_text, read_expiry}
 use Rattle.mv_pack.specs.Gtin.{is_digit}
 
 -- no day of the range has a negative number
@@ -33,8 +33,8 @@ pub two_are_digits : (n : ℕ) → n < 100 → (is_digit (n / 10 + 48) ≡ true)
 two_are_digits n h = (digit_is (n / 10 + 48) (omega arith) (omega arith), digit_is (n % 10 + 48) (omega arith) (omega arith))
 
 -- the two digits from a place on stand for a number below 100
-number_below : (t : List ℕ) (i : ℕ) → list_all is_digit t ≡ true → i + 1 < length t → number_at i t < 100
-number_below t i all within =
+two_digits_below : (t : List ℕ) (i : ℕ) → list_all is_digit t ≡ true → i + 1 < length t → two_digits_at i t < 100
+two_digits_below t i all within =
     let tens = digit_bounds (get_or t i 0) (passes_at is_digit t i 0 all (omega arith)) in
     let units = digit_bounds (get_or t (i + 1) 0) (passes_at is_digit t (i + 1) 0 all within) in
     omega arith
@@ -57,12 +57,12 @@ dated_is_expiry year month day date from until h =
 -- what is read is a date of the range
 pub read_expiry_is_expiry : (t : List ℕ) (date : CivilDate) → read_expiry t ≡ Ok date → IsExpiry date
 read_expiry_is_expiry t date h =
-    let reading = dated (2000 + number_at 0 t) (number_at 2 t) (number_at 4 t) in
+    let reading = dated (2000 + two_digits_at 0 t) (two_digits_at 2 t) (two_digits_at 4 t) in
     let chosen = chosen_ok ((length t == 6) && list_all is_digit t) reading Date date h in
     let tests = and_parts (length t == 6) (list_all is_digit t) chosen.0 in
     let six : length t ≡ 6 = grind (arith, nat_tests, tests.0) in
-    let year = number_below t 0 tests.1 (omega arith) in
-    dated_is_expiry (2000 + number_at 0 t) (number_at 2 t) (number_at 4 t) date (omega arith) (omega arith) chosen.1
+    let year = two_digits_below t 0 tests.1 (omega arith) in
+    dated_is_expiry (2000 + two_digits_at 0 t) (two_digits_at 2 t) (two_digits_at 4 t) date (omega arith) (omega arith) chosen.1
 
 -- a date that there is
 dated_is : (y m d : ℕ) → 1 ≤ m → m ≤ 12 → 1 ≤ d → d ≤ days_in_month (pos y) m → dated y m d ≡ Ok (record { year = y; month = m; day = d })
@@ -78,9 +78,9 @@ read_expiry_text d h =
     let mm = two_are_digits d.month (omega arith) in
     let dd = two_are_digits d.day (omega (arith, days_in_month_bounds (pos d.year) d.month)) in
     let all : list_all is_digit (expiry_text d) ≡ true = cc in
-    let year : 2000 + number_at 0 (expiry_text d) ≡ d.year = omega arith in
-    let month : number_at 2 (expiry_text d) ≡ d.month = omega arith in
-    let day : number_at 4 (expiry_text d) ≡ d.day = omega arith in
-    ap (λ b. cond b (dated (2000 + number_at 0 (expiry_text d)) (number_at 2 (expiry_text d)) (number_at 4 (expiry_text d))) (Err Date)) all
+    let year : 2000 + two_digits_at 0 (expiry_text d) ≡ d.year = omega arith in
+    let month : two_digits_at 2 (expiry_text d) ≡ d.month = omega arith in
+    let day : two_digits_at 4 (expiry_text d) ≡ d.day = omega arith in
+    ap (λ b. cond b (dated (2000 + two_digits_at 0 (expiry_text d)) (two_digits_at 2 (expiry_text d)) (two_digits_at 4 (expiry_text d))) (Err Date)) all
     ∙ same_dated _ _ _ _ _ _ year month day
     ∙ dated_is d.year d.month d.day h.2 h.3 h.4 h.5

@@ -28,8 +28,8 @@ abbrev pub is_expired_at : CivilDate → ℕ → Bool
 is_expired_at date seconds = int_lt (day_of date) (pos (seconds / SECONDS_OF_DAY))
 
 -- the number that the two digits from a place on stand for
-abbrev pub number_at : ℕ → List ℕ → ℕ
-number_at place text = 10 * (slice_index text place - 48) + (slice_index text (place + 1) - 48)
+abbrev pub two_digits_at : ℕ → List ℕ → ℕ
+two_digits_at place text = 10 * (slice_index text place - 48) + (slice_index text (place + 1) - 48)
 
 -- a month of a year has this day, or the day is 0
 abbrev pub IsDayOrZero : ℕ → ℕ → ℕ → Type 0
@@ -40,7 +40,7 @@ IsDayOrZero year month day =
 abbrev pub IsExpiryText : List ℕ → Type 0
 IsExpiryText text =
     (length text ≡ 6) × IsTrue (list_all is_digit text)
-    × IsDayOrZero (2000 + number_at 0 text) (number_at 2 text) (number_at 4 text)
+    × IsDayOrZero (2000 + two_digits_at 0 text) (two_digits_at 2 text) (two_digits_at 4 text)
 
 -- The date of a year, a month and a day, where there is one; the day 0 is the last of the month.
 abbrev pub dated : ℕ → ℕ → ℕ → Result CivilDate PackFault
@@ -57,7 +57,7 @@ dated year month day =
 abbrev pub read_expiry : List ℕ → Result CivilDate PackFault
 read_expiry text =
     if (length text == 6) && list_all is_digit text
-    then dated (2000 + number_at 0 text) (number_at 2 text) (number_at 4 text)
+    then dated (2000 + two_digits_at 0 text) (two_digits_at 2 text) (two_digits_at 4 text)
     else Err Date
 
 -- a number below 100 as two digits

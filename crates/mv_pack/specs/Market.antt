@@ -6,12 +6,12 @@ use Rattle.mv_pack.specs.declared.fault.PackFault.TheVariants.{Market}
 
 -- a byte is one of the letters A to Z
 abbrev pub is_capital : ℕ → Bool
-is_capital c = nat_le 65 c && nat_le c 90
+is_capital byte = nat_le 65 byte && nat_le byte 90
 
 -- two capital letters
 abbrev pub IsMarket : List ℕ → Type 0
-IsMarket t = (length t ≡ 2) × IsTrue (list_all is_capital t)
+IsMarket text = (length text ≡ 2) × IsTrue (list_all is_capital text)
 
 -- what reading a text gives: the market, or the fault
 abbrev pub read_market : List ℕ → Result (List ℕ) PackFault
-read_market t = if (length t == 2) && list_all is_capital t then Ok t else Err Market
+read_market text = if (length text == 2) && list_all is_capital text then Ok text else Err Market

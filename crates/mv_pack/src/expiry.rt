@@ -1,8 +1,9 @@
 //! Expiry dates.
 
 ghost use Rattle.std.specs.Prelude.{◌≡◌, ◌+◌, ◌*◌, ◌-◌, ◌++◌, ◌<◌, ◌≤◌, ◌/◌, ◌↔◌, length, IsOk, IsTrue, pos, ◌≤ℤ◌};
+ghost use Rattle.std.specs.List.{list_all};
 ghost use Rattle.mv_pack.specs.Gtin.{is_digit};
-ghost use Rattle.mv_pack.specs.Expiry.{read_expiry, dated, day_of, is_expired_at, two_digits, expiry_text, IsDayOrZero, IsExpiryText};
+ghost use Rattle.mv_pack.specs.Expiry.{read_expiry, dated, day_of, is_expired_at, two_digits_at, two_digits, expiry_text, IsDayOrZero, IsExpiryText};
 
 use crate::gtin::are_digits;
 use crate::{Moment, PackFault};
@@ -45,9 +46,9 @@ impl Expiry {
         if digits.len() != 6 || !are_digits(digits) {
             return Err(PackFault::Date);
         }
-        let year = 2000 + number_of(digits[0], digits[1]) as u16;
-        let month = number_of(digits[2], digits[3]);
-        let day = number_of(digits[4], digits[5]);
+        let year = 2000 + two_digits_at(0, digits) as u16;
+        let month = two_digits_at(2, digits);
+        let day = two_digits_at(4, digits);
         Expiry::dated(year, month, day)
     }
 
@@ -110,15 +111,15 @@ impl Expiry {
     }
 }
 
-/// The number that two digits stand for.
-#[tactic(auto, using(crate::proofs::GtinLemmas::digit_bounds))]
-fn number_of(tens: u8, units: u8) -> u8
-    requires tens_digit { IsTrue (is_digit tens) }
-    requires units_digit { IsTrue (is_digit units) }
-    ensures value { result ≡ 10 * (tens - 48) + (units - 48) }
+/// The number that the two digits from a place on stand for.
+#[tactic(auto, using(crate::proofs::TextLemmas::passes_at, crate::proofs::GtinLemmas::digit_bounds))]
+fn two_digits_at(place: usize, digits: &[u8]) -> u8
+    requires digits { IsTrue (list_all is_digit digits.now) }
+    requires within { place + 1 < length digits.now }
+    ensures value { result ≡ two_digits_at place digits.now }
     ensures bound { result < 100 }
 {
-    10 * (tens - b'0') + (units - b'0')
+    10 * (digits[place] - b'0') + (digits[place + 1] - b'0')
 }
 
 /// Appends a number below 100, as two digits.

@@ -65,11 +65,7 @@ impl Gtin {
     pub fn digits(&self) -> [u8; 14]
         ensures { result ≡ digit_values self.now }
     {
-        let mut digits = [0; 14];
-        for i in 0..14 {
-            digits[i] = self.bytes[i].saturating_sub(b'0');
-        }
-        digits
+        self.bytes.map(|byte| byte.saturating_sub(b'0'))
     }
 }
 

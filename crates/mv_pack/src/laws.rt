@@ -83,88 +83,88 @@ pub fn order_of_gtins(left: &Gtin, right: &Gtin) -> Ordering
 }
 
 /// Markets are equal exactly where their letters are.
-pub fn markets_are_equal(first: &Market, second: &Market) -> bool
-    ensures { IsTrue result ↔ (first.now ≡ second.now) }
+pub fn markets_are_equal(left: &Market, right: &Market) -> bool
+    ensures { IsTrue result ↔ (left.now ≡ right.now) }
 {
-    first == second
+    left == right
 }
 
 /// Markets are in the order of their letters.
-pub fn order_of_markets(first: &Market, second: &Market) -> Ordering
-    ensures { result ≡ slice_cmp nat_cmp first.now second.now }
+pub fn order_of_markets(left: &Market, right: &Market) -> Ordering
+    ensures { result ≡ slice_cmp nat_cmp left.now right.now }
 {
-    first.cmp(second)
+    left.cmp(right)
 }
 
 /// Serial, batch and national numbers are equal exactly where their texts are.
-pub fn codes_are_equal<K>(one: &Code<K>, another: &Code<K>) -> bool
-    ensures { IsTrue result ↔ (one.now ≡ another.now) }
+pub fn codes_are_equal<K>(left: &Code<K>, right: &Code<K>) -> bool
+    ensures { IsTrue result ↔ (left.now ≡ right.now) }
 {
-    one == another
+    left == right
 }
 
 /// Serial, batch and national numbers are in the order of their bytes.
-pub fn order_of_codes<K>(one: &Code<K>, another: &Code<K>) -> Ordering
-    ensures { result ≡ slice_cmp nat_cmp one.now another.now }
+pub fn order_of_codes<K>(left: &Code<K>, right: &Code<K>) -> Ordering
+    ensures { result ≡ slice_cmp nat_cmp left.now right.now }
 {
-    one.cmp(another)
+    left.cmp(right)
 }
 
 /// Expiry dates are equal exactly where their year, month and day are.
-pub fn expiries_are_equal(earlier: Expiry, later: Expiry) -> bool
-    ensures { IsTrue result ↔ (earlier ≡ later) }
+pub fn expiries_are_equal(left: Expiry, right: Expiry) -> bool
+    ensures { IsTrue result ↔ (left ≡ right) }
 {
-    earlier == later
+    left == right
 }
 
 /// Expiry dates are in the order of their years, then of their months, then of their days.
-pub fn order_of_expiries(earlier: Expiry, later: Expiry) -> Ordering
-    ensures { result ≡ ordering_then (nat_cmp earlier.year later.year)
-        (ordering_then (nat_cmp earlier.month later.month) (nat_cmp earlier.day later.day)) }
+pub fn order_of_expiries(left: Expiry, right: Expiry) -> Ordering
+    ensures { result ≡ ordering_then (nat_cmp left.year right.year)
+        (ordering_then (nat_cmp left.month right.month) (nat_cmp left.day right.day)) }
 {
-    earlier.cmp(&later)
+    left.cmp(&right)
 }
 
 /// Moments are equal exactly where their seconds are.
-pub fn moments_are_equal(before: Moment, after: Moment) -> bool
-    ensures { IsTrue result ↔ (before ≡ after) }
+pub fn moments_are_equal(left: Moment, right: Moment) -> bool
+    ensures { IsTrue result ↔ (left ≡ right) }
 {
-    before == after
+    left == right
 }
 
 /// Moments are in the order of their seconds.
-pub fn order_of_moments(before: Moment, after: Moment) -> Ordering
-    ensures { result ≡ nat_cmp before after }
+pub fn order_of_moments(left: Moment, right: Moment) -> Ordering
+    ensures { result ≡ nat_cmp left right }
 {
-    before.cmp(&after)
+    left.cmp(&right)
 }
 
 /// Packs are equal exactly where their product code and serial number are.
-pub fn pack_keys_are_equal(pack: &PackKey, other: &PackKey) -> bool
-    ensures { IsTrue result ↔ (pack.now ≡ other.now) }
+pub fn pack_keys_are_equal(left: &PackKey, right: &PackKey) -> bool
+    ensures { IsTrue result ↔ (left.now ≡ right.now) }
 {
-    pack == other
+    left == right
 }
 
 /// Packs are in the order of the bytes of their product code, then of their serial number.
-pub fn order_of_pack_keys(pack: &PackKey, other: &PackKey) -> Ordering
-    ensures { result ≡ ordering_then (slice_cmp nat_cmp pack.now.gtin other.now.gtin)
-        (slice_cmp nat_cmp pack.now.serial other.now.serial) }
+pub fn order_of_pack_keys(left: &PackKey, right: &PackKey) -> Ordering
+    ensures { result ≡ ordering_then (slice_cmp nat_cmp left.now.gtin right.now.gtin)
+        (slice_cmp nat_cmp left.now.serial right.now.serial) }
 {
-    pack.cmp(other)
+    left.cmp(right)
 }
 
 /// Batches are equal exactly where their product code and batch number are.
-pub fn batch_keys_are_equal(batch: &BatchKey, other: &BatchKey) -> bool
-    ensures { IsTrue result ↔ (batch.now ≡ other.now) }
+pub fn batch_keys_are_equal(left: &BatchKey, right: &BatchKey) -> bool
+    ensures { IsTrue result ↔ (left.now ≡ right.now) }
 {
-    batch == other
+    left == right
 }
 
 /// Batches are in the order of the bytes of their product code, then of their batch number.
-pub fn order_of_batch_keys(batch: &BatchKey, other: &BatchKey) -> Ordering
-    ensures { result ≡ ordering_then (slice_cmp nat_cmp batch.now.gtin other.now.gtin)
-        (slice_cmp nat_cmp batch.now.batch other.now.batch) }
+pub fn order_of_batch_keys(left: &BatchKey, right: &BatchKey) -> Ordering
+    ensures { result ≡ ordering_then (slice_cmp nat_cmp left.now.gtin right.now.gtin)
+        (slice_cmp nat_cmp left.now.batch right.now.batch) }
 {
-    batch.cmp(other)
+    left.cmp(right)
 }

@@ -1,7 +1,7 @@
 -- What a repository knows of a pack and of a batch, and what one status does to a pack (Delegated Regulation (EU)
 -- 2016/161, Articles 13, 36 and 40).
-use Rattle.std.specs.Prelude.{ℕ, ◌+◌, ◌/◌, ◌==◌, ◌&&◌, nat_lt, pos, int_lt, List, not, Bool, true, false, Option, Some, None, if◌then◌else◌}
-use Rattle.mv_pack.specs.Expiry.{CivilDate, day_of}
+use Rattle.std.specs.Prelude.{ℕ, ◌+◌, ◌==◌, ◌&&◌, nat_lt, List, not, Bool, true, false, Option, Some, None, if◌then◌else◌}
+use Rattle.mv_pack.specs.Expiry.{CivilDate, is_expired_at}
 use Rattle.mv_message.specs.declared.standing.Standing.{Standing}
 use Rattle.mv_message.specs.declared.standing.Standing.TheVariants as standings
 use Rattle.mv_repository.specs.declared.effect.Effect.{Effect}
@@ -42,10 +42,6 @@ is_final _ = false
 abbrev pub new_pack : List ℕ → CivilDate → Option (List ℕ) → KnownPack
 new_pack batch expiry national =
     record { batch = batch; expiry = expiry; national = national; standing = standings.Active; change = None }
-
--- the expiry date lies before the day of a moment
-abbrev pub is_expired_at : CivilDate → ℕ → Bool
-is_expired_at expiry at = int_lt (day_of expiry) (pos (at / 86400))
 
 -- a change was asked for by this party as this user
 abbrev pub is_change_by : KnownChange → ℕ → List ℕ → Bool

@@ -16,6 +16,7 @@ use crate::stops::Stops;
 use crate::track::Track;
 use crate::{Effect, Held, LogEntry};
 use indexmap::IndexMap;
+use indexmap::map::Entry;
 use mv_link::Item;
 use mv_message::Message;
 use mv_pack::{Gtin, PackKey, Serial};
@@ -43,8 +44,8 @@ pub(crate) fn ensure(
     ensures active { count_by (λ entry. is_active_kept entry.1) packs.new.entries
         ≡ count_by (λ entry. is_active_kept entry.1) packs.old.entries }
 {
-    if !packs.contains_key(&key) {
-        packs.insert(key, Track::new(alloc))?;
+    if let Entry::Vacant(place) = packs.entry(key)? {
+        place.insert(Track::new(alloc));
     }
     Ok(())
 }

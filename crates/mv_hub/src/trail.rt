@@ -108,9 +108,7 @@ impl AuditTrail {
         self.entries.reserve(1)?;
         note(&mut self.catalogues, &mut self.batch_links, &entry)?;
         // Nothing fails from here on.
-        let Ok(()) = self.entries.push(entry) else {
-            unreachable!()
-        };
+        self.entries.push_reserved(entry);
         Ok(())
     }
 }

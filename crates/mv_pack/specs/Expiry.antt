@@ -3,7 +3,6 @@ use Rattle.std.specs.Prelude.{◌≡◌, ℕ, ◌+◌, ◌-◌, ◌*◌, ◌≤�
 use Rattle.std.specs.List.{list_all}
 use Rattle.jiff_core.specs.Calendar.{days_in_month, days_from_civil}
 use Rattle.mv_pack.specs.Gtin.{is_digit}
-use Rattle.mv_pack.specs.declared.expiry.TheConstants.{SECONDS_OF_DAY}
 use Rattle.mv_pack.specs.declared.fault.PackFault.{PackFault}
 use Rattle.mv_pack.specs.declared.fault.PackFault.TheVariants.{Date}
 
@@ -23,9 +22,13 @@ IsExpiry date =
 abbrev pub day_of : CivilDate → ℤ
 day_of date = days_from_civil (pos date.year) date.month date.day
 
+-- the seconds of a day
+abbrev pub seconds_of_day : ℕ
+seconds_of_day = 86400
+
 -- the date lies before the day of a moment, in seconds since 1970-01-01T00:00:00Z
 abbrev pub is_expired_at : CivilDate → ℕ → Bool
-is_expired_at date seconds = int_lt (day_of date) (pos (seconds / SECONDS_OF_DAY))
+is_expired_at date seconds = int_lt (day_of date) (pos (seconds / seconds_of_day))
 
 -- the number that the two digits from a place on stand for
 abbrev pub two_digits_at : ℕ → List ℕ → ℕ

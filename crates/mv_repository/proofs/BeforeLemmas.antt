@@ -10,9 +10,9 @@ use Rattle.mv_repository.specs.declared.entry.LogEntry.{LogEntry}
 use Rattle.mv_repository.specs.declared.stops.BatchStanding.{BatchStanding}
 use Rattle.mv_repository.specs.Order.{Placed, rank, passes, stands_before, ordered, StandsBeforeAll, Ascends}
 use Rattle.mv_repository.specs.Pack.{KnownPack}
-use Rattle.mv_repository.specs.PackState.{is_recall_of, is_withdrawal_of, batch_standing, known_pack}
+use Rattle.mv_repository.specs.PackState.{is_recall_of, is_withdrawal_of, is_recalled_by, is_withdrawn_by, batch_standing, known_pack}
 use Rattle.mv_repository.specs.Effect.{entries_before}
-use Rattle.mv_repository.specs.Stops.{FirstStops, first_stops, is_before, standing_at}
+use Rattle.mv_repository.specs.Stops.{FirstStops, first_recall, first_withdrawal, first_stops, is_before, standing_at}
 use Rattle.mv_repository.specs.Track.{is_upload_of, is_status_of, first_upload, statuses_of, pack_made_by, pack_changed, pack_step, pack_grown}
 use Rattle.mv_repository.proofs.OrderLemmas.{passes_behind, AreBelow, ordered-ascends, ordered-below}
 use Rattle.mv_repository.proofs.StateLemmas.{known-grown}
@@ -82,12 +82,22 @@ find-below f n (y ∷ ys) u = elim (f y) as (λ b. IfSome (cond b (Some y) (find
 any-before : (f : Placed → Bool) (x : Placed) (xs : List Placed) → Ascends xs → AreBelow x.place xs → list_any f (filter (stays_before x) xs) ≡ is_before (find f xs) x
 any-before f x xs a u = any-find f (filter (stays_before x) xs) ∙ ap is_some (find-counted f x xs a) ∙ counted-before x (find f xs) (find-below f x.place xs u)
 
+-- a batch is recalled by the entries before one that comes last, where its first recall stands before that one
+pub recalled-before : (batch : BatchKey) (log : List LogEntry) (entry : LogEntry)
+    → is_recalled_by batch (entries_before log entry) ≡ is_before (first_recall batch (ordered log)) (newest log entry)
+recalled-before batch log entry =
+    any-before (λ placed. is_recall_of batch placed.entry.item) (newest log entry) (ordered log) (ordered-ascends log) (ordered-below log)
+
+-- the same of a product and its first withdrawal
+pub withdrawn-before : (gtin : List ℕ) (log : List LogEntry) (entry : LogEntry)
+    → is_withdrawn_by gtin (entries_before log entry) ≡ is_before (first_withdrawal gtin (ordered log)) (newest log entry)
+withdrawn-before gtin log entry =
+    any-before (λ placed. is_withdrawal_of gtin placed.entry.item) (newest log entry) (ordered log) (ordered-ascends log) (ordered-below log)
+
 -- how a batch stands by the entries before one that comes last
 pub standing-before : (log : List LogEntry) (entry : LogEntry) → batch_standing (entries_before log entry) ≡ standing_at (first_stops (ordered log)) (newest log entry)
 standing-before log entry =
-    let any : (f : Placed → Bool) → list_any f (entries_before log entry) ≡ is_before (find f (ordered log)) (newest log entry) =
-    λ f. any-before f (newest log entry) (ordered log) (ordered-ascends log) (ordered-below log) in
-    (λ i batch. record { recalled = any (λ placed. is_recall_of batch placed.entry.item) i; withdrawn = any (λ placed. is_withdrawal_of batch.gtin placed.entry.item) i })
+    (λ i batch. record { recalled = recalled-before batch log entry i; withdrawn = withdrawn-before batch.gtin log entry i })
 
 -- two parts of a list may be taken in either order
 filter-swap : (f g : Placed → Bool) (xs : List Placed) → filter f (filter g xs) ≡ filter g (filter f xs)

@@ -19,7 +19,7 @@ use Rattle.mv_repository.specs.declared.stops.BatchStanding.{BatchStanding}
 use Rattle.mv_repository.specs.Keys.{is_same_text, is_same_batch, pack_key, batch_key}
 use Rattle.mv_repository.specs.Order.{Placed, passes, ordered}
 use Rattle.mv_repository.specs.Pack.{KnownPack, change_effect}
-use Rattle.mv_repository.specs.PackState.{has_pack, is_recall_of, is_withdrawal_of, batch_standing, known_pack, held_of}
+use Rattle.mv_repository.specs.PackState.{has_pack, is_recall_of, is_withdrawal_of, is_recalled_by, is_withdrawn_by, batch_standing, known_pack, held_of}
 use Rattle.mv_repository.specs.Effect.{entries_before, new_count, upload_effect, status_effect, lasting_effect, effect_after, effect_of}
 use Rattle.mv_repository.specs.Stops.{FirstStops, StopTables, first_stops, is_before, standing_at, entry_at, place_of, no_entry, first_recall, first_withdrawal, AreStopsOf, comes_first}
 use Rattle.mv_repository.specs.Tables.{IsUploadOf}
@@ -28,7 +28,7 @@ use Rattle.mv_repository.proofs.OrderLemmas.{Stand, still-stand, ordered-below}
 use Rattle.mv_repository.proofs.StateLemmas.{IsSeen, step-seen, made-seen, find-stand, grown-stands, upload-makes}
 use Rattle.mv_repository.proofs.KeptLemmas.{same_pack, same_batch, text-sym, earlier_first}
 use Rattle.mv_repository.proofs.TableLemmas.{longer, newest, newest-stands, filter-stand, stops-found}
-use Rattle.mv_repository.proofs.BeforeLemmas.{stays_before, counted, counted-before, find-below, standing-before, known-before}
+use Rattle.mv_repository.proofs.BeforeLemmas.{stays_before, counted, counted-before, find-below, recalled-before, withdrawn-before, standing-before, known-before}
 
 -- by places in the log
 
@@ -138,11 +138,11 @@ pub recall-effect : (log : List LogEntry) (entry : LogEntry) (tables : StopTable
 recall-effect log entry tables key first stops e h =
     ap (λ b. cond b effects.Done effects.Noted) (h ∙ first-effect (λ placed. is_recall_of key placed.entry.item) log entry (lookup (is_same_batch key) tables.recalls) (stops.recalls key))
     ∙ sym (lasting (is_before (first_recall key (ordered log)) (newest log entry)))
-    ∙ ap (λ (f : BatchKey → BatchStanding). lasting_effect (f key).recalled) (sym (standing-before log entry))
+    ∙ ap lasting_effect (sym (recalled-before key log entry))
     ∙ by entry.item e
   where
-    by : (item : Item) → is_recall_of key item ≡ true → lasting_effect (batch_standing (entries_before log entry) key).recalled ≡ effect_after (entries_before log entry) entry.sender item
-    by (Carried k stamp (Recall named at)) e = ap (λ (q : BatchKey). lasting_effect (batch_standing (entries_before log entry) q).recalled) (sym (same_batch named key e))
+    by : (item : Item) → is_recall_of key item ≡ true → lasting_effect (is_recalled_by key (entries_before log entry)) ≡ effect_after (entries_before log entry) entry.sender item
+    by (Carried k stamp (Recall named at)) e = ap (λ (q : BatchKey). lasting_effect (is_recalled_by q (entries_before log entry))) (sym (same_batch named key e))
     by _ e = absurd (true≢false (sym e))
 
 pub withdrawal-effect : (log : List LogEntry) (entry : LogEntry) (tables : StopTables) (key : List ℕ) (first : Bool) → AreStopsOf log tables → is_withdrawal_of key entry.item ≡ true
@@ -150,11 +150,11 @@ pub withdrawal-effect : (log : List LogEntry) (entry : LogEntry) (tables : StopT
 withdrawal-effect log entry tables key first stops e h =
     ap (λ b. cond b effects.Done effects.Noted) (h ∙ first-effect (λ placed. is_withdrawal_of key placed.entry.item) log entry (lookup (is_same_text key) tables.withdrawals) (stops.withdrawals key))
     ∙ sym (lasting (is_before (first_withdrawal key (ordered log)) (newest log entry)))
-    ∙ ap (λ (f : BatchKey → BatchStanding). lasting_effect (f (batch_key key [])).withdrawn) (sym (standing-before log entry))
+    ∙ ap lasting_effect (sym (withdrawn-before key log entry))
     ∙ by entry.item e
   where
-    by : (item : Item) → is_withdrawal_of key item ≡ true → lasting_effect (batch_standing (entries_before log entry) (batch_key key [])).withdrawn ≡ effect_after (entries_before log entry) entry.sender item
-    by (Carried k stamp (Withdraw named at)) e = ap (λ (q : List ℕ). lasting_effect (batch_standing (entries_before log entry) (batch_key q [])).withdrawn) (sym (same_text named key (sym e)))
+    by : (item : Item) → is_withdrawal_of key item ≡ true → lasting_effect (is_withdrawn_by key (entries_before log entry)) ≡ effect_after (entries_before log entry) entry.sender item
+    by (Carried k stamp (Withdraw named at)) e = ap (λ (q : List ℕ). lasting_effect (is_withdrawn_by q (entries_before log entry))) (sym (same_text named key (sym e)))
     by _ e = absurd (true≢false (sym e))
 
 -- uploads: how many packs are new

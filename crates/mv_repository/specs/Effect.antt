@@ -1,5 +1,5 @@
 -- What applying an item does, by its number.
-use Rattle.std.specs.Prelude.{ℕ, ◌-◌, List, [], length, filter, not, Bool, is_some, codes, Option, Some, None, if◌then◌else◌}
+use Rattle.std.specs.Prelude.{ℕ, ◌-◌, List, length, filter, not, Bool, is_some, codes, Option, Some, None, if◌then◌else◌}
 use Rattle.std.specs.Set.{distinct_count}
 use Rattle.mv_pack.specs.declared.key.PackKey.{PackKey}
 use Rattle.mv_message.specs.declared.standing.Standing.{Standing}
@@ -12,7 +12,7 @@ use Rattle.mv_repository.specs.declared.entry.LogEntry.{LogEntry}
 use Rattle.mv_repository.specs.Order.{Placed, passes, ordered}
 use Rattle.mv_repository.specs.Keys.{is_same_text, pack_key, batch_key}
 use Rattle.mv_repository.specs.Pack.{KnownPack, change_effect}
-use Rattle.mv_repository.specs.PackState.{batch_standing, known_pack}
+use Rattle.mv_repository.specs.PackState.{is_recalled_by, is_withdrawn_by, batch_standing, known_pack}
 
 -- an entry that comes last, with its place in the log
 abbrev pub arriving : List LogEntry → LogEntry → Placed
@@ -51,9 +51,8 @@ effect_after before sender (Carried k stamp (Master gtin product)) = effects.Don
 effect_after before sender (Carried k stamp (Upload gtin batch expiry national serials)) = upload_effect before gtin serials
 effect_after before sender (Carried k stamp (Status key to user at)) =
     status_effect before key (known_pack key before) to sender user at
-effect_after before sender (Carried k stamp (Recall key at)) = lasting_effect (batch_standing before key).recalled
-effect_after before sender (Carried k stamp (Withdraw gtin at)) =
-    lasting_effect (batch_standing before (batch_key gtin [])).withdrawn
+effect_after before sender (Carried k stamp (Recall key at)) = lasting_effect (is_recalled_by key before)
+effect_after before sender (Carried k stamp (Withdraw gtin at)) = lasting_effect (is_withdrawn_by gtin before)
 effect_after before sender _ = effects.Noted
 
 -- the effect of an entry that comes last, at its own place in the order of stamps

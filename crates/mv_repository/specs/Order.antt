@@ -1,7 +1,7 @@
 -- A log in the order of the hub's stamps: carried entries by stamp, those of one stamp in the order of the log, and behind
 -- them the receipts in the order of the log.
 use Rattle.std.specs.Bool.{⊤}
-use Rattle.std.specs.Prelude.{◌≡◌, ℕ, List, [], ◌∷◌, ◌++◌, ◌+◌, length, Bool, true, ◌||◌, ◌&&◌, ◌==◌, nat_lt, Some, slice_get, if◌then◌else◌}
+use Rattle.std.specs.Prelude.{◌≡◌, ℕ, List, [], ◌∷◌, ◌++◌, ◌+◌, ◌^◌, length, Bool, true, ◌||◌, ◌&&◌, ◌==◌, nat_lt, Some, slice_get, if◌then◌else◌}
 use Rattle.mv_link.specs.declared.item.Item.{Item}
 use Rattle.mv_link.specs.declared.item.Item.TheVariants.{Receipt, Carried}
 use Rattle.mv_repository.specs.declared.entry.LogEntry.{LogEntry}
@@ -11,10 +11,14 @@ pub record Placed : Type 0 where
   pub place : ℕ  -- counted from 0
   pub entry : LogEntry
 
--- where an item stands: by its stamp, and receipts behind every stamp of 32 bits
+-- where receipts stand: behind every stamp of 32 bits
+abbrev pub receipt_rank : ℕ
+receipt_rank = 2 ^ 32
+
+-- where an item stands: by its stamp, and receipts behind every stamp
 abbrev pub rank : Item → ℕ
 rank (Carried k stamp message) = stamp
-rank (Receipt k reach query) = 4294967296
+rank (Receipt k reach query) = receipt_rank
 
 -- an entry stands before one that came earlier
 abbrev pub passes : Placed → Placed → Bool

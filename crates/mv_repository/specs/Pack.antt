@@ -1,13 +1,12 @@
 -- What a repository knows of a pack and of a batch, and what one status does to a pack (Delegated Regulation (EU)
 -- 2016/161, Articles 13, 36 and 40).
-use Rattle.std.specs.Prelude.{ℕ, ◌+◌, ◌/◌, ◌==◌, ◌&&◌, nat_lt, pos, int_lt, List, not, Bool, true, false, Option, Some, None, if◌then◌else◌}
-use Rattle.mv_pack.specs.Expiry.{CivilDate, day_of}
+use Rattle.std.specs.Prelude.{ℕ, ◌+◌, ◌*◌, ◌==◌, ◌&&◌, nat_lt, List, not, Bool, true, false, Option, Some, None, if◌then◌else◌}
+use Rattle.mv_pack.specs.Expiry.{CivilDate, seconds_of_day, is_expired_at}
 use Rattle.mv_message.specs.declared.standing.Standing.{Standing}
 use Rattle.mv_message.specs.declared.standing.Standing.TheVariants as standings
 use Rattle.mv_repository.specs.declared.effect.Effect.{Effect}
 use Rattle.mv_repository.specs.declared.effect.Effect.TheVariants as effects
 use Rattle.mv_repository.specs.declared.stops.BatchStanding.{BatchStanding}
-use Rattle.mv_repository.specs.declared.held.TheConstants.{REVERT_SECONDS}
 use Rattle.mv_repository.specs.Keys.{is_same_text}
 
 -- a change of a pack from active: the party and the user who asked for it, the moment that they gave, and the place of
@@ -43,13 +42,13 @@ abbrev pub new_pack : List ℕ → CivilDate → Option (List ℕ) → KnownPack
 new_pack batch expiry national =
     record { batch = batch; expiry = expiry; national = national; standing = standings.Active; change = None }
 
--- the expiry date lies before the day of a moment
-abbrev pub is_expired_at : CivilDate → ℕ → Bool
-is_expired_at expiry at = int_lt (day_of expiry) (pos (at / 86400))
-
 -- a change was asked for by this party as this user
 abbrev pub is_change_by : KnownChange → ℕ → List ℕ → Bool
 is_change_by change sender user = (change.by == sender) && is_same_text change.user user
+
+-- the seconds within which a change may be reverted: ten days (Article 13(1)(b))
+abbrev pub revert_seconds : ℕ
+revert_seconds = 10 * seconds_of_day
 
 -- What a revert does to a pack that was changed: the first of these that holds. It is refused to another party or user,
 -- before the change, more than ten days after it, once the pack has expired, and where its batch is recalled or its
@@ -59,7 +58,7 @@ revert_effect expiry batch None sender user at = effects.OtherUser
 revert_effect expiry batch (Some change) sender user at =
     if not (is_change_by change sender user) then effects.OtherUser
     else (if nat_lt at change.at then effects.TooEarly
-    else (if nat_lt (change.at + REVERT_SECONDS) at then effects.TooLate
+    else (if nat_lt (change.at + revert_seconds) at then effects.TooLate
     else (if is_expired_at expiry at then effects.Expired
     else (if batch.recalled then effects.Recalled
     else (if batch.withdrawn then effects.Withdrawn

@@ -29,11 +29,19 @@ is_withdrawal_of gtin _ = false
 abbrev pub has_pack : List ℕ → List (List ℕ) → PackKey → Bool
 has_pack gtin serials pack = is_same_text gtin pack.gtin && list_any (λ serial. is_same_text serial pack.serial) serials
 
--- how a batch stands by these entries: one recall holds for ever, and so does one withdrawal of the product
+-- a batch is recalled by these entries: one recall holds for ever
+abbrev pub is_recalled_by : BatchKey → List Placed → Bool
+is_recalled_by batch entries = list_any (λ placed. is_recall_of batch placed.entry.item) entries
+
+-- a product is withdrawn by these entries: one withdrawal holds for ever
+abbrev pub is_withdrawn_by : List ℕ → List Placed → Bool
+is_withdrawn_by gtin entries = list_any (λ placed. is_withdrawal_of gtin placed.entry.item) entries
+
+-- how a batch stands by these entries
 abbrev pub batch_standing : List Placed → BatchKey → BatchStanding
 batch_standing entries batch = record {
-  recalled = list_any (λ placed. is_recall_of batch placed.entry.item) entries;
-  withdrawn = list_any (λ placed. is_withdrawal_of batch.gtin placed.entry.item) entries;
+  recalled = is_recalled_by batch entries;
+  withdrawn = is_withdrawn_by batch.gtin entries;
 }
 
 -- A pack once an item from a sender comes that stands at a place of the log, batches standing so before it. The first
@@ -82,8 +90,8 @@ pack_state pack log = option_map held_of (known_pack pack (ordered log))
 
 -- a recall of a batch stands in a log
 abbrev pub is_recalled : BatchKey → List LogEntry → Bool
-is_recalled batch log = list_any (λ placed. is_recall_of batch placed.entry.item) (ordered log)
+is_recalled batch log = is_recalled_by batch (ordered log)
 
 -- a withdrawal of a product stands in a log
 abbrev pub is_withdrawn : List ℕ → List LogEntry → Bool
-is_withdrawn gtin log = list_any (λ placed. is_withdrawal_of gtin placed.entry.item) (ordered log)
+is_withdrawn gtin log = is_withdrawn_by gtin (ordered log)

@@ -16,7 +16,8 @@ use Rattle.mv_repository.specs.Uploads.{UploadPlaces, FindsUploads}
 
 -- what an item bears on: the products, packs and batches of which it is a master, an upload, a status, a recall or a
 -- withdrawal
-pub record Bears (item : Item) (masters : List ℕ → Bool) (uploads statuses : PackKey → Bool) (recalls : BatchKey → Bool) (withdrawals : List ℕ → Bool) : Type 0 where
+pub record Bears (item : Item) (masters : List ℕ → Bool) (uploads statuses : PackKey → Bool)
+    (recalls : BatchKey → Bool) (withdrawals : List ℕ → Bool) : Type 0 where
   pub master : (gtin : List ℕ) → is_master gtin item ≡ masters gtin
   pub upload : (pack : PackKey) → is_upload_of pack item ≡ uploads pack
   pub status : (pack : PackKey) → is_status_of pack item ≡ statuses pack
@@ -38,7 +39,8 @@ AllUpTo latest [] = ⊤
 AllUpTo latest (first ∷ rest) = IsUpTo latest first.entry.item × AllUpTo latest rest
 
 -- the tables are those of a log, and no stamp in it is greater than the latest
-pub record IsKept (log : List LogEntry) (master_places : List (List ℕ × ℕ)) (packs : List (PackKey × Kept)) (tables : StopTables) (index : UploadPlaces) (latest : ℕ) : Type 0 where
+pub record IsKept (log : List LogEntry) (master_places : List (List ℕ × ℕ)) (packs : List (PackKey × Kept))
+    (tables : StopTables) (index : UploadPlaces) (latest : ℕ) : Type 0 where
   pub masters : IsCopyOf log master_places
   pub tracks : AreTracksOf log packs
   pub stops : AreStopsOf log tables

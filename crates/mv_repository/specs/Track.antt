@@ -193,7 +193,8 @@ AreTracksOf log table = (pack : PackKey) → kept_in pack table ≡ track_of pac
 
 -- how many packs of an upload the newest entry makes, as far as the table says
 abbrev pub made_count : List LogEntry → ℕ → List (PackKey × Kept) → List ℕ → List (List ℕ) → ℕ
-made_count log new table gtin serials = distinct_count is_same_text (filter (λ serial. comes_first log new (kept_in (pack_key gtin serial) table).birth) serials)
+made_count log new table gtin serials =
+    distinct_count is_same_text (filter (λ serial. comes_first log new (kept_in (pack_key gtin serial) table).birth) serials)
 
 -- an upload has made the pack
 abbrev pub is_made : Kept → Bool

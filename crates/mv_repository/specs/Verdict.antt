@@ -26,16 +26,19 @@ abbrev pub is_for_destruction : Standing → Bool
 is_for_destruction standings.Destruction = true
 is_for_destruction _ = false
 
+-- a pack is recalled, withdrawn, or to be destroyed: there is a reason other than falsification
+abbrev pub is_stopped : Bool → Bool → Standing → Bool
+is_stopped recalled withdrawn standing = recalled || withdrawn || is_for_destruction standing
+
 -- a pack was found active
 abbrev pub found_active : Found → Bool
 found_active founds.Absent = false
 found_active (founds.Present batch expiry national standing recalled withdrawn) = is_active standing
 
--- a pack was found recalled, withdrawn, or to be destroyed: there is a reason other than falsification
+-- a pack was found stopped
 abbrev pub found_stopped : Found → Bool
 found_stopped founds.Absent = false
-found_stopped (founds.Present batch expiry national standing recalled withdrawn) =
-    recalled || withdrawn || is_for_destruction standing
+found_stopped (founds.Present batch expiry national standing recalled withdrawn) = is_stopped recalled withdrawn standing
 
 -- The verdict where a finding is active or not, and where one is stopped or not: authentic where one is active; else a
 -- falsification is suspected, unless there is another reason. An active pack is authentic also where it is recalled or
@@ -47,7 +50,7 @@ verdict_when active stopped = if active then Authentic else NotAuthentic (not st
 abbrev pub local_verdict_of : Found → Local
 local_verdict_of founds.Absent = Absent
 local_verdict_of (founds.Present batch expiry national standing recalled withdrawn) =
-    Known (verdict_when (is_active standing) (recalled || withdrawn || is_for_destruction standing))
+    Known (verdict_when (is_active standing) (is_stopped recalled withdrawn standing))
 
 -- the verdict of a log on a pack
 abbrev pub local_verdict : PackKey → List LogEntry → Local

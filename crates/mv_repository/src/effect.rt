@@ -2,12 +2,12 @@
 
 ghost use Rattle.std.specs.Prelude.{◌≡◌};
 
-/// What applying an item did.
+/// What applying an item did, by the entries that stand before it in the order of stamps.
 #[derive(Clone, Copy, Debug, PartialEq, Eq)]
 pub enum Effect {
     /// E1: what the message asked was done.
     Done,
-    /// E2: no upload names the pack.
+    /// E2: no upload that names the pack stands before the status.
     Unknown,
     /// E3: the pack was changed from active before.
     NotActive,
@@ -27,7 +27,7 @@ pub enum Effect {
     Recalled,
     /// E11: the item was noted in the log, and changed nothing else.
     Noted,
-    /// E12: so many packs of the upload were new, and so many were there.
+    /// E12: by the entries that stand before it, so many packs of the upload were new, and so many were there.
     Uploaded { new: u64, old: u64 },
     /// E13: the product of the pack to be reverted is withdrawn.
     Withdrawn,

@@ -9,10 +9,12 @@ ghost use Rattle.mv_repository.specs.declared.entry.LogEntry.{LogEntry as AnEntr
 ghost use Rattle.mv_repository.specs.Verdict.{joint_verdict, found_active, found_stopped, verdict_when};
 ghost use Rattle.mv_repository.specs.Inquiries.{IsInquiriesOf, HasRoomFor, has_reply, inquiry_in, tells_of_query, with_receipt, with_finding, known_verdict, verdict_once_asked};
 
+use crate::status::is_active;
+use crate::verdict::{is_stopped, verdict_when};
 use crate::{Joint, Verdict};
 use indexmap::{IndexMap, IndexSet};
 use mv_link::{Item, Reach};
-use mv_message::{Found, Message, Party, Standing};
+use mv_message::{Found, Message, Party};
 use std::alloc::{AllocError, Global};
 
 /// What is known of a query.
@@ -232,13 +234,7 @@ impl Inquiry {
     fn verdict(&self) -> Verdict
         ensures { result ≡ verdict_when self.now.active self.now.stopped }
     {
-        if self.active {
-            Verdict::Authentic
-        } else {
-            Verdict::NotAuthentic {
-                falsification: !self.stopped,
-            }
-        }
+        verdict_when(self.active, self.stopped)
     }
 }
 
@@ -260,13 +256,10 @@ fn tells_of_query(party: Party, sender: Party, item: &Item) -> bool
 fn found_active(found: &Found) -> bool
     ensures { result ≡ found_active found.now }
 {
-    matches!(
-        found,
-        Found::Present {
-            standing: Standing::Active,
-            ..
-        }
-    )
+    match found {
+        Found::Present { standing, .. } => is_active(*standing),
+        Found::Absent => false,
+    }
 }
 
 /// Whether a pack was found recalled, withdrawn, or to be destroyed.
@@ -279,7 +272,7 @@ fn found_stopped(found: &Found) -> bool
             recalled,
             withdrawn,
             ..
-        } => *recalled || *withdrawn || matches!(standing, Standing::Destruction),
+        } => is_stopped(*recalled, *withdrawn, *standing),
         Found::Absent => false,
     }
 }

@@ -18,7 +18,7 @@ use crate::status::is_active;
 use crate::stops::Stops;
 use crate::track::{Track, copy_of};
 use crate::uploads::Uploads;
-use crate::verdict::{is_for_destruction, verdict_when};
+use crate::verdict::{is_stopped, verdict_when};
 use crate::{Counts, Effect, Held, Local, LogEntry};
 use indexmap::IndexMap;
 use mv_link::Item;
@@ -196,7 +196,7 @@ impl Ledger {
                 ..
             } => Local::Known(verdict_when(
                 is_active(standing),
-                recalled || withdrawn || is_for_destruction(standing),
+                is_stopped(recalled, withdrawn, standing),
             )),
         }
     }

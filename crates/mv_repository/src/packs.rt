@@ -16,6 +16,7 @@ use crate::stops::Stops;
 use crate::track::Track;
 use crate::{Effect, Held, LogEntry};
 use indexmap::IndexMap;
+use indexmap::map::Entry;
 use mv_link::Item;
 use mv_message::Message;
 use mv_pack::{Gtin, PackKey, Serial};
@@ -43,8 +44,8 @@ pub(crate) fn ensure(
     ensures active { count_by (λ entry. is_active_kept entry.1) packs.new.entries
         ≡ count_by (λ entry. is_active_kept entry.1) packs.old.entries }
 {
-    if !packs.contains_key(&key) {
-        packs.insert(key, Track::new(alloc))?;
+    if let Entry::Vacant(place) = packs.entry(key)? {
+        place.insert(Track::new(alloc));
     }
     Ok(())
 }
@@ -105,14 +106,25 @@ pub(crate) fn add_status(
     }
 }
 
-/// Adds the newest entry, an upload, to what is kept of one pack; whether it makes the pack.
+/// How an upload changed one pack.
+#[derive(Clone, Copy)]
+struct Added {
+    /// Whether it makes the pack.
+    is_new: bool,
+    /// What the pack added to the tally before.
+    was: Tally,
+    /// What it adds now.
+    is: Tally,
+}
+
+/// Adds the newest entry, an upload, to what is kept of one pack.
 fn add_upload(
     packs: &mut IndexMap<PackKey, Track>,
     log: &[LogEntry],
     stops: &Stops,
     key: &PackKey,
     new: usize,
-) -> bool
+) -> Added
     requires there { IsSome (get is_same_pack packs.old key.now) }
     requires track { IsTrack log.now stops.now key.now (kept_in key.now packs.old.entries) }
     ensures keys { keys packs.new ≡ keys packs.old }
@@ -122,15 +134,24 @@ fn add_upload(
         else kept_in pack packs.old.entries) }
     ensures entries { packs.new.entries
         ≡ set_value (is_same_pack key.now) packs.old.entries (kept_in key.now packs.new.entries) }
-    ensures first { result ≡ comes_first log.now new (kept_in key.now packs.old.entries).birth }
+    ensures first { result.is_new ≡ comes_first log.now new (kept_in key.now packs.old.entries).birth }
+    ensures was_held { result.was.held ≡ one_if (is_made (kept_in key.now packs.old.entries)) }
+    ensures was_active { result.was.active ≡ one_if (is_active_kept (kept_in key.now packs.old.entries)) }
+    ensures held { result.is.held ≡ one_if (is_made (kept_in key.now packs.new.entries)) }
+    ensures active { result.is.active ≡ one_if (is_active_kept (kept_in key.now packs.new.entries)) }
 {
     match packs.get_mut(key) {
-        Some(track) => track.add_upload(log, stops, key, new),
-        None => true,
+        Some(track) => {
+            let was = tally_of_track(track);
+            let is_new = track.add_upload(log, stops, key, new);
+            let is = tally_of_track(track);
+            Added { is_new, was, is }
+        }
+        None => unreachable!(),
     }
 }
 
-/// The same, with the tally of the table.
+/// The same, with the tally of the table; whether it makes the pack.
 fn add_tallied(
     packs: &mut IndexMap<PackKey, Track>,
     log: &[LogEntry],
@@ -150,10 +171,20 @@ fn add_tallied(
     ensures first { result ≡ comes_first log.now new (kept_in key.now packs.old.entries).birth }
     ensures tally { IsTally packs.new.entries tally.new }
 {
-    let was = tally_of(packs, key);
-    let is_new = add_upload(packs, log, stops, key, new);
-    *tally = retallied(packs, *tally, was, tally_of(packs, key));
-    is_new
+    let added = add_upload(packs, log, stops, key, new);
+    *tally = retallied(packs, *tally, added.was, added.is);
+    added.is_new
+}
+
+/// What a pack of which this is kept adds to the tally.
+fn tally_of_track(track: &Track) -> Tally
+    ensures held { result.held ≡ one_if (is_made track.now) }
+    ensures active { result.active ≡ one_if (is_active_kept track.now) }
+{
+    Tally {
+        held: usize::from(track.is_made()),
+        active: usize::from(track.is_active()),
+    }
 }
 
 /// What one pack adds to the tally: one or nothing.
@@ -162,10 +193,7 @@ pub(crate) fn tally_of(packs: &IndexMap<PackKey, Track>, key: &PackKey) -> Tally
     ensures active { result.active ≡ one_if (is_active_kept (kept_in key.now packs.now.entries)) }
 {
     match packs.get(key) {
-        Some(track) => Tally {
-            held: usize::from(track.is_made()),
-            active: usize::from(track.is_active()),
-        },
+        Some(track) => tally_of_track(track),
         None => Tally { held: 0, active: 0 },
     }
 }

@@ -3,7 +3,7 @@
 ghost use Rattle.std.specs.Prelude.{◌≡◌, IsTrue, ◌↔◌};
 ghost use Rattle.std.specs.Option.{option_map};
 ghost use Rattle.mv_repository.specs.Keys.{is_same_text};
-ghost use Rattle.mv_repository.specs.Pack.{is_active, is_final, is_expired_at, is_change_by, revert_effect, change_effect, pack_after_status};
+ghost use Rattle.mv_repository.specs.Pack.{is_active, is_final, is_change_by, revert_effect, change_effect, pack_after_status};
 ghost use Rattle.mv_repository.specs.PackState.{held_of};
 ghost use Rattle.mv_repository.specs.Track.{user_in, user_at, known_of, known_change};
 
@@ -12,7 +12,7 @@ use crate::stops::BatchStanding;
 use crate::{Change, Effect, Held, LogEntry};
 use mv_link::Item;
 use mv_message::{Message, Party, Standing};
-use mv_pack::{Expiry, Moment};
+use mv_pack::Moment;
 
 /// Whether a pack stands active.
 pub(crate) fn is_active(standing: Standing) -> bool
@@ -32,13 +32,6 @@ fn is_final(standing: Standing) -> bool
         Standing::Destruction | Standing::Stolen | Standing::Repackaged => true,
         _ => false,
     }
-}
-
-/// Whether an expiry date lies before the day of a moment.
-fn is_expired_at(expiry: Expiry, at: Moment) -> bool
-    ensures { result ≡ is_expired_at expiry at }
-{
-    expiry.expired_at(at)
 }
 
 /// The user whom an item names.
@@ -87,7 +80,7 @@ fn revert_effect(
         Effect::TooEarly
     } else if changed_at + REVERT_SECONDS < at.seconds() {
         Effect::TooLate
-    } else if is_expired_at(held.expiry, at) {
+    } else if held.expiry.expired_at(at) {
         Effect::Expired
     } else if batch.recalled {
         Effect::Recalled

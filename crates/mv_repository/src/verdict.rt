@@ -1,7 +1,7 @@
 //! Verdicts on packs: authentic or not.
 
 ghost use Rattle.std.specs.Prelude.{◌≡◌};
-ghost use Rattle.mv_repository.specs.Verdict.{is_for_destruction, verdict_when};
+ghost use Rattle.mv_repository.specs.Verdict.{is_for_destruction, is_stopped, verdict_when};
 
 use mv_message::Standing;
 
@@ -35,13 +35,20 @@ pub enum Joint {
 }
 
 /// Whether a pack is to be destroyed.
-pub(crate) fn is_for_destruction(standing: Standing) -> bool
+fn is_for_destruction(standing: Standing) -> bool
     ensures { result ≡ is_for_destruction standing }
 {
     match standing {
         Standing::Destruction => true,
         _ => false,
     }
+}
+
+/// Whether a pack is stopped: recalled, withdrawn, or to be destroyed.
+pub(crate) fn is_stopped(recalled: bool, withdrawn: bool, standing: Standing) -> bool
+    ensures { result ≡ is_stopped recalled withdrawn standing }
+{
+    recalled || withdrawn || is_for_destruction(standing)
 }
 
 /// The verdict where a pack was found active or not, and stopped or not.

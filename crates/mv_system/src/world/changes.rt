@@ -52,10 +52,7 @@ impl World {
         let Some(message) = of_sender.get(place) else {
             unreachable!();
         };
-        match self.hub.route(from, message) {
-            Ok(routed) => Ok(routed),
-            Err(fault) => return Err(fault),
-        }
+        self.hub.route(from, message)
     }
 
     /// Takes the next frame of a link from the hub, which is not yet on the wire.
@@ -69,10 +66,7 @@ impl World {
         ensures err { OnErr result (self.new ≡ self.old) }
         ensures fault { RelayFails (sent_of self.old from to) (length (items_on self.old from to)) result }
     {
-        match self.hub.relay(from, to) {
-            Ok(frame) => Ok(frame),
-            Err(fault) => return Err(fault),
-        }
+        self.hub.relay(from, to)
     }
 
     /// Puts a frame of a link on its wire.
@@ -115,10 +109,7 @@ impl World {
         ensures fault { RepeatFails (is_unsent self.now from to number)
             (is_gone self.now from to number) result }
     {
-        match self.hub.repeat(from, to, number) {
-            Ok(frame) => Ok(frame),
-            Err(fault) => return Err(fault),
-        }
+        self.hub.repeat(from, to, number)
     }
 
     /// Puts a frame of a link on its wire again.
@@ -153,10 +144,7 @@ impl World {
         ensures err { OnErr result (self.new ≡ self.old) }
         ensures fault { CloseFails (is_open self.old.entries from to) result }
     {
-        match self.hub.close(from, to) {
-            Ok(()) => Ok(()),
-            Err(fault) => return Err(fault),
-        }
+        self.hub.close(from, to)
     }
 
     /// Takes the frame in front of a wire away.

@@ -65,10 +65,7 @@ impl World {
             count,
             || -> Result<Wire, AllocError>
                 ensures { IfOk result (λ wire. wire ≡ new_wire size) }
-            {
-                let wire = Wire::new(alloc, size)?;
-                Ok(wire)
-            },
+            { Wire::new(alloc, size) },
         )?;
         let accepted = PairTable::from_fn(
             alloc,

@@ -92,10 +92,7 @@ impl World {
         ensures err { OnErr result (self.new ≡ self.old) }
         ensures fault { RelayFails (sent_of self.old from to) (length (items_on self.old from to)) result }
     {
-        let frame = match self.next_frame(from, to) {
-            Ok(frame) => frame,
-            Err(fault) => return Err(fault),
-        };
+        let frame = self.next_frame(from, to)?;
         let number = frame.number;
         self.push_frame(from, to, frame);
         Ok(number)
@@ -127,10 +124,7 @@ impl World {
         ensures fault { RepeatFails (is_unsent self.old from to number)
             (is_gone self.old from to number) result }
     {
-        let frame = match self.frame_again(from, to, number) {
-            Ok(frame) => frame,
-            Err(fault) => return Err(fault),
-        };
+        let frame = self.frame_again(from, to, number)?;
         self.push_frame(from, to, frame);
         Ok(())
     }

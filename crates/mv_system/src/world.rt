@@ -139,7 +139,7 @@ impl World {
 
     /// Takes one step, and answers as the list machine does. A refused step has changed nothing.
     ///
-    /// What holds after each run, holds after each step: see [`World::run`].
+    /// After each step there holds what holds after each run: see [`World::run`].
     pub fn step(&mut self, step: &Step) -> Reply
         ensures allowed { Allows self.old step.now result self.new }
         ensures closed { NothingSubmittedLater self.old self.new }

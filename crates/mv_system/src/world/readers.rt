@@ -171,8 +171,8 @@ impl World {
         self.accepted.at(from, to).count()
     }
 
-    /// What holds of every system. It does nothing: by looking at a field it opens the invariant, so that its callers, which
-    /// open no field, can promise what follows from that.
+    /// What holds of every system. It does nothing: by looking at a field it opens the invariant, so that steps, queries and
+    /// runs can promise what follows from that.
     pub(super) fn check_lawful(&self)
         ensures well_formed { IsWellFormed self.now }
         ensures lawful { IsLawful self.now }

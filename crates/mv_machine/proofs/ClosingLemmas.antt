@@ -27,7 +27,7 @@ use Rattle.mv_machine.specs.declared.step.Step.TheVariants.{Submit, Verify, Rout
 use Rattle.mv_machine.specs.declared.reply.Reply.{Reply}
 use Rattle.mv_machine.specs.State.{State, is_party, are_parties, submissions_of, is_uplink_full, is_sender_full, sent_of, wire_of, log_of, items_on, applied_count, with_wire}
 use Rattle.mv_machine.specs.Steps.{submit, ask, verify_by, verify, verdict, with_applied, entry_from, is_answer_busy, next_entry, is_full, route_unless, route_front, route, relay, apply_next, apply_front, apply, is_unsent, is_gone, repeat, close, lose_front, lose, outcome}
-use Rattle.mv_machine.specs.Runs.{Runs}
+use Rattle.mv_machine.specs.Runs.{Allows, Runs}
 use Rattle.mv_machine.specs.Lawful.{AllFit, IsLawful}
 use Rattle.mv_machine.specs.Closing.{before_closing, AreAboutFirst, NothingRoutedLater, NothingSubmittedLater}
 use Rattle.mv_machine.proofs.BoundLemmas.{routed_count-few}
@@ -191,7 +191,7 @@ goes_on-same st = goes_on st st refl refl
 goes_on-entry : (st : State) (entry : Entry) → Continues st (record st { entries = st.entries ++ entry ∷ [] })
 goes_on-entry st entry = record { parties = refl; entries = (entry ∷ [], refl) }
 
--- each step goes on with the record
+-- what each step leaves where there is memory goes on with the record
 submit-goes_on : (st : State) (from : ℕ) (message : Message) → Continues st (submit st from message).state
 unfolding submit
 submit-goes_on st from message =
@@ -297,15 +297,18 @@ goes_on-further first second third a b = record {
   entries = (a.entries.0 ++ b.entries.0, sym (append_assoc first.entries a.entries.0 b.entries.0) ∙ ap (λ l. l ++ b.entries.0) a.entries.1 ∙ b.entries.1);
 }
 
+-- so each step goes on with the record, want of memory included
+pub step-goes_on : (old : State) (step : Step) (reply : Reply) (new : State) → Allows old step reply new → Continues old new
+step-goes_on old step reply new allowed =
+    allowed-case (Continues old) old step reply new allowed (goes_on-same old) (outcome-goes_on old step)
+
 -- and so does each run
 pub run-goes_on : (old : State) (steps : List Step) (replies : List Reply) (new : State) → Runs old steps replies new → Continues old new
 run-goes_on old [] [] new run = subst (Continues old) (sym run) (goes_on-same old)
 run-goes_on old [] (reply ∷ replies) new run = absurd run
 run-goes_on old (step ∷ steps) [] new run = absurd run
 run-goes_on old (step ∷ steps) (reply ∷ replies) new run =
-    goes_on-further old run.0 new
-    (allowed-case (Continues old) old step reply run.0 run.1 (goes_on-same old) (outcome-goes_on old step))
-    (run-goes_on run.0 steps replies new run.2)
+    goes_on-further old run.0 new (step-goes_on old step reply run.0 run.1) (run-goes_on run.0 steps replies new run.2)
 
 -- where a link is closed in one state, nothing that was submitted since is applied over it in a later one
 pub nothing_submitted_later : (old new : State) → IsLawful old → IsLawful new → Continues old new → NothingSubmittedLater old new

@@ -3,3 +3,4 @@ pub mod AnswerLemmas
 pub mod LawfulLemmas
 pub mod BoundLemmas
 pub mod ClosingLemmas
+pub mod StampLemmas

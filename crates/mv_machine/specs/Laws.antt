@@ -7,6 +7,7 @@ use Rattle.mv_machine.specs.State.{State, submissions_of, opening}
 use Rattle.mv_machine.specs.Runs.{Runs}
 use Rattle.mv_machine.specs.Lawful.{IsLawful, IsWellFormed}
 use Rattle.mv_machine.specs.Closing.{NothingRoutedLater, NothingSubmittedLater}
+use Rattle.mv_machine.specs.Stamps.{StampsNameRoutings, StampsAreDistinct, RepositoriesAgree}
 
 -- whatever the steps and whatever their order, a system that opened comes to lawful states alone
 abbrev pub RunsAreLawful : Type 0
@@ -25,3 +26,12 @@ ClosedLinksStayClosed = (parties : List (List (List ℕ))) (limits : Bounds) (fi
 abbrev pub StampsFit : Type 0
 StampsFit = (st : State) → IsLawful st → length st.parties ≤ 64
     → ((party : ℕ) → length (submissions_of st party) ≤ 1000000) → length st.entries ≤ 64004096
+
+-- in a lawful state each stamp of a log is the place of the record where its message was routed, and in no log does one stand
+-- twice
+abbrev pub LawfulStampsAreDistinct : Type 0
+LawfulStampsAreDistinct = (st : State) → IsLawful st → StampsNameRoutings st × StampsAreDistinct st
+
+-- in a lawful state two repositories that have the same messages about a pack agree on it
+abbrev pub LawfulRepositoriesAgree : Type 0
+LawfulRepositoriesAgree = (st : State) → IsLawful st → RepositoriesAgree st

@@ -5,4 +5,5 @@ pub mod Steps
 pub mod Runs
 pub mod Lawful
 pub mod Closing
+pub mod Stamps
 pub mod Laws

@@ -9,7 +9,9 @@ mod limits;
 mod reply;
 mod step;
 
-pub use laws::{closed_links_stay_closed, runs_are_lawful, stamps_fit};
+pub use laws::{
+    closed_links_stay_closed, repositories_agree, runs_are_lawful, stamps_are_distinct, stamps_fit,
+};
 pub use limits::{Limits, LimitsFault};
 pub use reply::{Refusal, Reply};
 pub use step::Step;

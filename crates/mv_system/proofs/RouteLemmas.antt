@@ -1,8 +1,8 @@
 -- The hub's routing against the row of the list machine.
 use Rattle.std.proofs.Common.{◌≡◌, ℕ, ◌+◌, ◌-◌, ◌<◌, Bool, true, false, List, [], ◌∷◌, length, cond, Some, None, Option, Ok, Err, sym, refl, ap, ◌∙◌, subst, arith}
-use Rattle.std.specs.Prelude.{slice_get, IsTrue, find, nat_lt, not, ◌==◌, ◌||◌, ◌&&◌, Result}
+use Rattle.std.specs.Prelude.{slice_get, IsTrue, find, nat_lt, not, ◌==◌, ◌||◌, ◌&&◌, Result, IfOk, IfErr, OnOk, OnErr}
 use Rattle.std.specs.List.{range_with_len}
-use Rattle.std.proofs.lemmas.Bool.{le-ltb}
+use Rattle.std.proofs.lemmas.Bool.{le-ltb, lt-ltb}
 use Rattle.mv_message.specs.declared.message.Message.{Message}
 use Rattle.mv_hub.specs.declared.fault.HubFault.{HubFault}
 use Rattle.mv_hub.specs.declared.fault.HubFault.TheVariants as hub
@@ -10,8 +10,10 @@ use Rattle.mv_hub.specs.declared.fault.RouteFault.{RouteFault}
 use Rattle.mv_hub.specs.declared.fault.RouteFault.TheVariants.{StrangerParty, Busy, Memory}
 use Rattle.mv_hub.specs.Record.{routed_count, is_open}
 use Rattle.mv_hub.specs.Fault.{FailsBy, RouteFailsBy}
-use Rattle.mv_hub.specs.Hub.{HubState, sent_of, items_on, next_items, is_busy, busy_party, busy_fault, route_fault, relay_fault, close_fault}
+use Rattle.mv_hub.specs.Targets.{reach}
+use Rattle.mv_hub.specs.Hub.{HubState, with_routed, sent_of, items_on, next_items, is_busy, busy_party, busy_fault, route_fault, relay_fault, close_fault}
 use Rattle.mv_hub.proofs.RecordLemmas.{link_items-few, gained-few}
+use Rattle.mv_machine.specs.declared.reply.Reply.TheVariants.{Routed}
 use Rattle.mv_machine.specs.declared.reply.Refusal.TheVariants.{Party}
 use Rattle.mv_machine.specs.Replies.{takes_memory}
 use Rattle.mv_machine.specs.State.{State, is_party, submissions_of}
@@ -82,6 +84,37 @@ refuses A st from message full StrangerParty row fails = stranger_never full fai
 refuses A st from message full (Busy to) row fails = (row ∙ ap (route_unless st from message) (busy_with full to fails), refl)
 refuses A st from message full Memory row fails =
     (subst (λ (x : Outcome). IsTrue (takes_memory x.reply)) (sym (row ∙ ap (route_unless st from message) (not_busy full fails))) refl, refl)
+
+-- the hub routes the message that waits as the row does
+pub routes : (p : Parts) (from : ℕ) (message : Message) (new : HubState) (result : Result (ℕ × List ℕ) RouteFault) → IsSystem p → from < length p.hub.parties
+    → slice_get (submissions_of (state_of p) from) (routed_count p.hub.entries from) ≡ Some message
+    → IfOk result (λ routed. routed.0 ≡ routed_count p.hub.entries from + 1) → IfOk result (λ routed. routed.1 ≡ reach p.hub.parties p.hub.entries from message)
+    → OnOk result (new ≡ with_routed p.hub from message) → RouteFailsBy (route_fault p.hub from message) result
+    → IfOk result (λ routed. route (state_of p) from ≡ record { reply = Routed routed.0 routed.1; state = state_of (record p { hub = new }) })
+routes p from message new (Err fault) k place next number reached ok fails = tt
+routes p from message new (Ok routed) k place next number reached ok fails =
+    let full = find (is_full (state_of p) from message) (range_with_len 0 (length p.hub.parties)) in
+    let party : is_party (state_of p) from ≡ true = lt-ltb from (length p.hub.parties) place in
+    let free : full ≡ None =
+    sym (busy_party_is_full p from message k place)
+    ∙ routed_full (busy_party p.hub from message) routed (subst (λ f. RouteFailsBy f (Ok routed)) (route_fault-party p.hub from message party) fails) in
+    route_waiting (state_of p) from message party next ∙ ap (route_unless (state_of p) from message) free
+    ∙ ap {A = ℕ} {B = Outcome} (λ k. record { reply = Routed k (reach p.hub.parties p.hub.entries from message); state = state_of (record p { hub = with_routed p.hub from message }) }) (sym number)
+    ∙ ap {A = List ℕ} {B = Outcome} (λ l. record { reply = Routed routed.0 l; state = state_of (record p { hub = with_routed p.hub from message }) }) (sym reached)
+    ∙ ap {A = HubState} {B = Outcome} (λ h. record { reply = Routed routed.0 routed.1; state = state_of (record p { hub = h }) }) (sym ok)
+
+-- the hub refuses the message that waits as the row does
+pub route_refused : (p : Parts) (from : ℕ) (message : Message) (new : HubState) (result : Result (ℕ × List ℕ) RouteFault) → IsSystem p → from < length p.hub.parties
+    → slice_get (submissions_of (state_of p) from) (routed_count p.hub.entries from) ≡ Some message
+    → OnErr result (new ≡ p.hub) → RouteFailsBy (route_fault p.hub from message) result
+    → IfErr result (λ fault. RouteRefuses (state_of p) from fault (state_of (record p { hub = new })))
+route_refused p from message new (Ok routed) k place next err fails = tt
+route_refused p from message new (Err fault) k place next err fails =
+    let party : is_party (state_of p) from ≡ true = lt-ltb from (length p.hub.parties) place in
+    let row = route_waiting (state_of p) from message party next ∙ ap (route_unless (state_of p) from message) (sym (busy_party_is_full p from message k place)) in
+    subst (λ (h : HubState). RouteRefuses (state_of p) from fault (state_of (record p { hub = h }))) (sym err)
+    (refuses ℕ (state_of p) from message (busy_party p.hub from message) fault row
+    (subst (λ f. RouteFailsBy {A = ℕ} f (Err fault)) (route_fault-party p.hub from message party) fails))
 
 none_where : (b : Bool) → cond b (Some hub.Nothing) None ≡ None → b ≡ false
 none_where false e = refl

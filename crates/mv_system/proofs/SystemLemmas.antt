@@ -1,6 +1,6 @@
 -- What the parts of the system say of the list machine's lists, and what each change of a part keeps.
 use Rattle.std.proofs.Common.{◌≡◌, ℕ, zero, suc, ◌+◌, ◌-◌, ◌<◌, ◌≤◌, Bool, true, false, List, [], ◌∷◌, ◌++◌, length, get_or, set, cond, map, drop, Some, sym, refl, ap, ◌∙◌, subst, arith, length-append, eqb, eqb-true, ltb-true, add-zero, append-nil, inl, inr, get_or-set_same, get_or-set_other}
-use Rattle.std.specs.Prelude.{slice_get, option_map, option_to_list, IsTrue, nat_lt, ◌&&◌, ◌||◌, None, Option}
+use Rattle.std.specs.Prelude.{slice_get, option_map, option_to_list, IsTrue, nat_lt, ◌&&◌, ◌||◌, None, Option, Result, Ok, Err, OnOk, OnErr}
 use Rattle.std.proofs.lemmas.Bool.{and_parts, eqb-false}
 use Rattle.std.proofs.lemmas.List.{set-get_or}
 use Rattle.mv_message.specs.declared.message.Message.{Message}
@@ -182,6 +182,13 @@ entered_kept p entry k sound = record {
   accepted = k.accepted;
   owners = k.owners;
 }
+
+-- the hub answered a call, and is as the call leaves it: the parts keep what they keep where they do so of a success
+pub hub_kept : {A F : Type 0} (Why : Result A F → Type 0) (p : Parts) (new after : HubState) (result : Result A F)
+    → OnOk result (new ≡ after) → OnErr result (new ≡ p.hub) → Why result → IsSystem p
+    → ((value : A) → Why (Ok value) → IsSystem (record p { hub = after })) → IsSystem (record p { hub = new })
+hub_kept Why p new after (Ok value) ok err why kept after_kept = subst (λ h. IsSystem (record p { hub = h })) (sym ok) (after_kept value why)
+hub_kept Why p new after (Err fault) ok err why kept after_kept = subst (λ h. IsSystem (record p { hub = h })) (sym err) kept
 
 -- the system with other counts of what was relayed
 pub sent_kept : (p : Parts) (sent : List (List ℕ)) → IsSystem p → IsSquare (length p.hub.parties) sent → IsSystem (record p { hub = record p.hub { sent = sent } })

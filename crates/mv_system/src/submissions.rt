@@ -38,12 +38,14 @@ impl Submissions {
         }
     }
 
+    /// All messages, the oldest first.
     pub(crate) fn as_slice(&self) -> &[Message]
         ensures { result.now ≡ self.now }
     {
         self.messages.as_slice()
     }
 
+    /// How many messages there are.
     pub(crate) fn len(&self) -> usize
         ensures { result ≡ length self.now }
     {

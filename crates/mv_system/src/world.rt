@@ -10,6 +10,7 @@ ghost use Rattle.mv_machine.specs.Steps.{ask};
 ghost use Rattle.mv_machine.specs.Runs.{Meets, Allows, Runs};
 ghost use Rattle.mv_machine.specs.Lawful.{answers_in, IsLawful, IsWellFormed};
 ghost use Rattle.mv_machine.specs.Closing.{NothingRoutedLater, NothingSubmittedLater};
+ghost use Rattle.mv_machine.specs.Stamps.{RepositoriesAgree};
 ghost use Rattle.mv_system.specs.Wire.{new_wire};
 
 use crate::opening::{new_repositories, no_submissions};
@@ -64,10 +65,7 @@ impl World {
             count,
             || -> Result<Wire, AllocError>
                 ensures { IfOk result (λ wire. wire ≡ new_wire size) }
-            {
-                let wire = Wire::new(alloc, size)?;
-                Ok(wire)
-            },
+            { Wire::new(alloc, size) },
         )?;
         let accepted = PairTable::from_fn(
             alloc,
@@ -140,11 +138,17 @@ impl World {
     }
 
     /// Takes one step, and answers as the list machine does. A refused step has changed nothing.
+    ///
+    /// After each step there holds what holds after each run: see [`World::run`].
     pub fn step(&mut self, step: &Step) -> Reply
         ensures allowed { Allows self.old step.now result self.new }
+        ensures closed { NothingSubmittedLater self.old self.new }
+        ensures closing { NothingRoutedLater self.new }
+        ensures agreed { RepositoriesAgree self.new }
         ensures well_formed { IsWellFormed self.new }
         ensures lawful { IsLawful self.new }
     {
+        self.check_lawful();
         let reply = self.take_step(step);
         self.check_lawful();
         reply
@@ -158,6 +162,8 @@ impl World {
     pub fn ask(&mut self, party: Party, key: &PackKey) -> Reply
         ensures asked { Meets self.old (ask self.old party key.now) result self.new }
         ensures closed { NothingSubmittedLater self.old self.new }
+        ensures closing { NothingRoutedLater self.new }
+        ensures agreed { RepositoriesAgree self.new }
         ensures well_formed { IsWellFormed self.new }
         ensures lawful { IsLawful self.new }
     {
@@ -173,7 +179,8 @@ impl World {
     /// record put on their link for the markets that it serves, in order and each once, and what was routed from a sender is
     /// a prefix of what it submitted. The answers that a party submitted are those that the log of its repository calls for, in
     /// order. Where a link was closed before these steps, nothing is applied over it that was submitted
-    /// during them; and over no link is anything applied that was routed after its closing.
+    /// during them; and over no link is anything applied that was routed after its closing. Two repositories that applied the
+    /// same messages about a pack, in whatever order these came, agree on it.
     pub fn run(&mut self, steps: &[Step]) -> Result<Vec<Reply>, AllocError>
         ensures run { IfOk result (λ replies. Runs self.old steps.now replies.items self.new) }
         ensures applied { (from to : ℕ) → from < length self.new.parties → to < length self.new.parties
@@ -184,6 +191,7 @@ impl World {
             → answers_in (submissions_of self.new party) ≡ answers_of (log_of self.new party) }
         ensures closed { NothingSubmittedLater self.old self.new }
         ensures closing { NothingRoutedLater self.new }
+        ensures agreed { RepositoriesAgree self.new }
         ensures well_formed { IsWellFormed self.new }
         ensures lawful { IsLawful self.new }
         ensures err { OnErr result (self.new ≡ self.old) }

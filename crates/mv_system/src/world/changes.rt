@@ -52,10 +52,7 @@ impl World {
         let Some(message) = of_sender.get(place) else {
             unreachable!();
         };
-        match self.hub.route(from, message) {
-            Ok(routed) => Ok(routed),
-            Err(fault) => return Err(fault),
-        }
+        self.hub.route(from, message)
     }
 
     /// Takes the next frame of a link from the hub, which is not yet on the wire.
@@ -69,10 +66,7 @@ impl World {
         ensures err { OnErr result (self.new ≡ self.old) }
         ensures fault { RelayFails (sent_of self.old from to) (length (items_on self.old from to)) result }
     {
-        match self.hub.relay(from, to) {
-            Ok(frame) => Ok(frame),
-            Err(fault) => return Err(fault),
-        }
+        self.hub.relay(from, to)
     }
 
     /// Puts a frame of a link on its wire.
@@ -98,10 +92,7 @@ impl World {
         ensures err { OnErr result (self.new ≡ self.old) }
         ensures fault { RelayFails (sent_of self.old from to) (length (items_on self.old from to)) result }
     {
-        let frame = match self.next_frame(from, to) {
-            Ok(frame) => frame,
-            Err(fault) => return Err(fault),
-        };
+        let frame = self.next_frame(from, to)?;
         let number = frame.number;
         self.push_frame(from, to, frame);
         Ok(number)
@@ -115,10 +106,7 @@ impl World {
         ensures fault { RepeatFails (is_unsent self.now from to number)
             (is_gone self.now from to number) result }
     {
-        match self.hub.repeat(from, to, number) {
-            Ok(frame) => Ok(frame),
-            Err(fault) => return Err(fault),
-        }
+        self.hub.repeat(from, to, number)
     }
 
     /// Puts a frame of a link on its wire again.
@@ -136,10 +124,7 @@ impl World {
         ensures fault { RepeatFails (is_unsent self.old from to number)
             (is_gone self.old from to number) result }
     {
-        let frame = match self.frame_again(from, to, number) {
-            Ok(frame) => frame,
-            Err(fault) => return Err(fault),
-        };
+        let frame = self.frame_again(from, to, number)?;
         self.push_frame(from, to, frame);
         Ok(())
     }
@@ -153,10 +138,7 @@ impl World {
         ensures err { OnErr result (self.new ≡ self.old) }
         ensures fault { CloseFails (is_open self.old.entries from to) result }
     {
-        match self.hub.close(from, to) {
-            Ok(()) => Ok(()),
-            Err(fault) => return Err(fault),
-        }
+        self.hub.close(from, to)
     }
 
     /// Takes the frame in front of a wire away.

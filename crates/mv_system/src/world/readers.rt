@@ -9,6 +9,8 @@ ghost use Rattle.mv_machine.specs.Steps.{refused, apply, next_item, next_answer,
 ghost use Rattle.mv_machine.specs.declared.reply.Refusal.TheVariants.{AnswerBusy};
 ghost use Rattle.mv_machine.specs.State.{is_uplink_full, is_sender_full, log_of, is_party, are_parties, submissions_of, waiting_of, wire_of, applied_count};
 ghost use Rattle.mv_machine.specs.Lawful.{IsLawful, IsWellFormed};
+ghost use Rattle.mv_machine.specs.Closing.{NothingRoutedLater};
+ghost use Rattle.mv_machine.specs.Stamps.{RepositoriesAgree};
 ghost use Rattle.mv_system.specs.Wire.{numbers_of};
 ghost use Rattle.mv_system.specs.World.{IsAnswerable};
 
@@ -123,8 +125,7 @@ impl World {
         ensures busy { IsTrue result → apply self.now from to ≡ refused AnswerBusy self.now }
         ensures free { result ≡ false → IsAnswerable self.now from to }
     {
-        let waiting = self.has_answer_waiting(from, to);
-        waiting
+        self.has_answer_waiting(from, to)
     }
 
     /// The wire of a link.
@@ -170,10 +171,13 @@ impl World {
         self.accepted.at(from, to).count()
     }
 
-    /// What holds of every system.
+    /// What holds of every system. It does nothing: by looking at a field it opens the invariant, so that steps, queries and
+    /// runs can promise what follows from that.
     pub(super) fn check_lawful(&self)
         ensures well_formed { IsWellFormed self.now }
         ensures lawful { IsLawful self.now }
+        ensures closing { NothingRoutedLater self.now }
+        ensures agreed { RepositoriesAgree self.now }
     {
         let _ = &self.limits;
     }

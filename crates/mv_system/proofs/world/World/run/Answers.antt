@@ -2,6 +2,7 @@ use Rattle.std.proofs.Common.{◌≡◌, ◌+◌, [], ◌∷◌, ◌++◌, take,
 use Rattle.std.proofs.lemmas.List.{take_more}
 use Rattle.mv_machine.specs.Runs.{Runs}
 use Rattle.mv_machine.proofs.LawfulLemmas.{runs-push}
+use Rattle.mv_machine.proofs.StampLemmas.{repositories_agree}
 use Rattle.mv_machine.proofs.ClosingLemmas.{nothing_routed_later, nothing_submitted_later, goes_on-same, run-goes_on}
 use Rattle.mv_system.proofs.world.World.run.Goals as goal
 
@@ -27,9 +28,6 @@ pub returns-in_err-reserve-clause-closed : goal.returns-in_err-reserve-clause-cl
 returns-in_err-reserve-clause-closed c =
     let lawful = c.check_lawful.ensures.lawful in nothing_submitted_later c.args.self.now c.args.self.now lawful lawful (goes_on-same c.args.self.now)
 
-pub returns-in_err-reserve-clause-closing : goal.returns-in_err-reserve-clause-closing
-returns-in_err-reserve-clause-closing c = nothing_routed_later c.args.self.now c.check_lawful.ensures.lawful
-
 -- The steps went on with the record.
 pub returns-clause-closed : goal.returns-clause-closed
 returns-clause-closed c =
@@ -39,3 +37,6 @@ returns-clause-closed c =
 
 pub returns-clause-closing : goal.returns-clause-closing
 returns-clause-closing c = nothing_routed_later c.loop-step.self c.loop-step.invariant.lawful
+
+pub returns-clause-agreed : goal.returns-clause-agreed
+returns-clause-agreed c = repositories_agree c.loop-step.self c.loop-step.invariant.lawful

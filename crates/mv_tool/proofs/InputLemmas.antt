@@ -1,5 +1,5 @@
 -- Lemmas on an input that comes in parts.
-use Rattle.std.proofs.Common.{◌≡◌, ℕ, ◌+◌, ◌<◌, List, [], ◌∷◌, ◌++◌, length, refl, sym, ◌∙◌, ap, arith, append_assoc, length-append, true, false}
+use Rattle.std.proofs.Common.{◌≡◌, ℕ, ◌+◌, ◌<◌, ◌≤◌, List, [], ◌∷◌, ◌++◌, length, refl, sym, ◌∙◌, ap, arith, append_assoc, length-append, true, false, rules}
 use Rattle.std.proofs.Common.{take, drop, get_or, drop-cons, add-one, append-nil}
 use Rattle.std.proofs.lemmas.List.{take-append-drop, map-append}
 use Rattle.std.proofs.lemmas.List.Elements.{All-append, filter-append}
@@ -7,8 +7,8 @@ use Rattle.std.specs.Prelude.{cond, ◌==◌, map, filter}
 use Rattle.std.specs.Io.BufRead.{strip_last}
 use Rattle.mv_tool.specs.declared.fault.ServeFault.{ServeFault}
 use Rattle.mv_tool.specs.declared.fault.ServeFault.TheVariants.{Read, Write, Memory, TooManyLines, LineTooLong}
-use Rattle.mv_tool.specs.Lines.{whole_from, rest_from, lines_of, has_byte}
-use Rattle.mv_tool.specs.Served.{Taken, Stopped, StopsAt, IsShort}
+use Rattle.mv_tool.specs.Lines.{whole_from, rest_from, lines_of, has_byte, lines_limit, IsShort, KeepLimits}
+use Rattle.mv_tool.specs.Served.{Taken, Stopped, StopsAt}
 use Rattle.mv_tool.proofs.RepliesLemmas.{IsReplies-append, IsReplies-nil}
 
 -- the whole pieces of two parts
@@ -39,6 +39,17 @@ lines_of-append ps qs = ap (filter has_byte) (map-append (strip_last 13) ps qs) 
 pub whole_lines-append : (begun xs ys : List ℕ) → lines_of (whole_from begun (xs ++ ys)) ≡ lines_of (whole_from begun xs) ++ lines_of (whole_from (rest_from begun xs) ys)
 whole_lines-append begun xs ys = ap lines_of (whole_from-append begun xs ys) ∙ lines_of-append (whole_from begun xs) (whole_from (rest_from begun xs) ys)
 
+-- no piece keeps the limits, wherever a run has come
+pub KeepLimits-nil : (count : ℕ) → count ≤ lines_limit → KeepLimits count []
+KeepLimits-nil count few = record { few = omega (arith, few); short = search rules }
+
+-- pieces keep the limits where those of both parts do
+pub KeepLimits-append : (count : ℕ) (ps qs : List (List ℕ)) → KeepLimits count ps → KeepLimits (count + length ps) qs → KeepLimits count (ps ++ qs)
+KeepLimits-append count ps qs first next = record {
+  few = rw length-append (omega (arith, next.few));
+  short = All-append IsShort ps qs first.short next.short;
+}
+
 -- the place where a later part stops is one of the whole
 pub stops_later : (fault : ServeFault) (begun : List ℕ) (count : ℕ) (front good bad tail : List ℕ)
     → StopsAt fault (rest_from begun front) (count + length (whole_from begun front)) good bad → StopsAt fault begun count (front ++ good) (bad ++ tail)
@@ -47,8 +58,14 @@ stops_later Write begun count front good bad tail why = why
 stops_later Memory begun count front good bad tail why = why
 stops_later TooManyLines begun count front good bad tail why =
     (rw (whole_from-append begun front good, length-append) (omega (arith, why.0)), rw length-append (omega (arith, why.1)))
-stops_later LineTooLong begun count front good bad tail (full, next, more, e, other) =
-    (rw (rest_from-append begun front good) full, next, more ++ tail, ap (λ l. l ++ tail) e, other)
+stops_later LineTooLong begun count front good bad tail (behind, full, next, more, e, other) = (
+  rw (whole_from-append begun front good, length-append) (omega (arith, behind)),
+  rw (rest_from-append begun front good) full,
+  next,
+  more ++ tail,
+  ap (λ l. l ++ tail) e,
+  other,
+)
 
 -- a list is cut before and behind one member
 pub cut_at : (xs : List ℕ) (i d : ℕ) → i < length xs → xs ≡ take i xs ++ ((get_or xs i d ∷ []) ++ drop (i + 1) xs)
@@ -59,10 +76,10 @@ module _ {S : Type 0} (Reply : S → List ℕ → List ℕ → S → Type 0) whe
   pub taken_more : {begun xs begun' ys begun'' out other : List ℕ} {count count' count'' : ℕ} {a b c : S}
       → Taken Reply begun count a xs begun' count' b out → Taken Reply begun' count' b ys begun'' count'' c other
       → Taken Reply begun count a (xs ++ ys) begun'' count'' c (out ++ other)
-  taken_more {begun = begun} {xs = xs} {ys = ys} {out = out} {other = other} {a = a} {b = b} {c = c} first next = record {
+  taken_more {begun = begun} {xs = xs} {ys = ys} {out = out} {other = other} {count = count} {a = a} {b = b} {c = c} first next = record {
     rest = next.rest ∙ ap (λ l. rest_from l ys) first.rest ∙ sym (rest_from-append begun xs ys);
     counted = rw (whole_from-append begun xs ys, length-append, ← first.rest) (omega (arith, first.counted, next.counted));
-    short = rw (whole_from-append begun xs ys, ← first.rest) (All-append IsShort _ _ first.short next.short);
+    kept = rw (whole_from-append begun xs ys, ← first.rest) (KeepLimits-append count _ _ first.kept (rw first.counted at next.kept));
     replied = rw (whole_lines-append begun xs ys, ← first.rest) (IsReplies-append Reply a b c _ _ out other first.replied next.replied);
   }
 
@@ -75,15 +92,19 @@ module _ {S : Type 0} (Reply : S → List ℕ → List ℕ → S → Type 0) whe
     bad = stopped.bad ++ tail;
     cut = cut ∙ ap (λ l. front ++ (l ++ tail)) stopped.cut ∙ simp append_assoc;
     why = stops_later fault begun count front stopped.good stopped.bad tail (rw (first.rest, first.counted) at stopped.why);
+    kept = rw (whole_from-append begun front stopped.good, ← first.rest) (KeepLimits-append count _ _ first.kept (rw first.counted at stopped.kept));
     after = stopped.after;
     replied = rw (whole_lines-append begun front stopped.good, ← first.rest) (IsReplies-append Reply a b stopped.after _ _ out other first.replied stopped.replied);
   }
 
   -- the taking stops before one byte
-  pub stopped_here : (kept begun : List ℕ) (count byte : ℕ) (a : S) (fault : ServeFault) → StopsAt fault begun count [] (byte ∷ [])
+  pub stopped_here : (kept begun : List ℕ) (count byte : ℕ) (a : S) (fault : ServeFault) → count ≤ lines_limit → StopsAt fault begun count [] (byte ∷ [])
       → (out : List ℕ) × (kept ≡ kept ++ out) × Stopped Reply fault begun count a (byte ∷ []) out
-  stopped_here kept begun count byte a fault why =
-      ([], sym (append-nil kept), record { good = []; bad = byte ∷ []; cut = refl; why = why; after = a; replied = IsReplies-nil Reply a })
+  stopped_here kept begun count byte a fault few why = (
+    [],
+    sym (append-nil kept),
+    record { good = []; bad = byte ∷ []; cut = refl; why = why; kept = KeepLimits-nil count few; after = a; replied = IsReplies-nil Reply a },
+  )
 
   -- what stopped a later part of the bytes, stopped their taking; `kept` are the replies before
   pub grown_stopped : (kept kept' kept'' : List ℕ) {begun front begun' out back all : List ℕ} {count count' : ℕ} {a b : S} (fault : ServeFault) (tail : List ℕ)

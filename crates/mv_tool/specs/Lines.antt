@@ -1,5 +1,5 @@
--- The lines of an input.
-use Rattle.std.specs.Prelude.{ℕ, List, [], ◌∷◌, ◌++◌, ◌==◌, Bool, true, false, if◌then◌else◌, map, filter}
+-- The lines of an input, and the limits of the format (docs/FORMATS.md, Lines).
+use Rattle.std.specs.Prelude.{ℕ, ◌+◌, ◌≤◌, List, [], ◌∷◌, ◌++◌, ◌==◌, Bool, true, false, if◌then◌else◌, map, filter, length, All}
 use Rattle.std.specs.Io.BufRead.{strip_last}
 
 -- the pieces of the bytes that end by a line feed, without it, in order; `begun` is what the first has so far
@@ -29,3 +29,20 @@ has_byte (x ∷ xs) = true
 -- the lines that pieces are, without those that are empty: one final carriage return (13) is dropped of each piece
 abbrev pub lines_of : List (List ℕ) → List (List ℕ)
 lines_of ps = filter has_byte (map (strip_last 13) ps)
+
+-- the bytes that a line has at most, its line feed not counted
+abbrev pub line_limit : ℕ
+line_limit = 65536
+
+-- the lines that a run has at most
+abbrev pub lines_limit : ℕ
+lines_limit = 1000000
+
+-- a piece is no longer than a line may be, its carriage return counted
+abbrev pub IsShort : List ℕ → Type 0
+IsShort piece = length piece ≤ line_limit
+
+-- Behind `count` lines these pieces are no more than a run may have, and none is longer than a line may be.
+pub record KeepLimits (count : ℕ) (ps : List (List ℕ)) : Type 0 where
+  pub few : count + length ps ≤ lines_limit
+  pub short : All IsShort ps

@@ -2,11 +2,10 @@
 
 ghost use Rattle.std.specs.Prelude.{◌≡◌, ℕ, ◌<◌, ◌≤◌, List, [], ◌∷◌, ◌++◌, length, OnOk, IfErr, vec_items};
 ghost use Rattle.std.specs.Io.BufRead.{strip_last};
-ghost use Rattle.mv_tool.specs.Lines.{last_piece, lines_of};
+ghost use Rattle.mv_tool.specs.Lines.{last_piece, lines_of, line_limit, lines_limit};
 ghost use Rattle.mv_tool.specs.Replies.{IsReplies};
 ghost use Rattle.std.specs.Io.KnownBytes.{Appends};
 ghost use Rattle.mv_tool.specs.Served.{Wrote, Readied, Taken, Stopped, Halted, HaltedLast};
-ghost use Rattle.mv_tool.specs.declared.limits.TheConstants.{LINE_LIMIT as line_limit, LINES_LIMIT as lines_limit};
 
 use crate::answering::Answering;
 use crate::fault::ServeFault;
@@ -70,7 +69,7 @@ impl Input {
             IsReplies S.replies answering.old (lines_of (last_piece self.old.begun.items))
             out answering.new)) }
         ensures err { IfErr result (λ fault.
-            HaltedLast S.replies fault answering.old (lines_of (last_piece self.old.begun.items))
+            HaltedLast S.replies fault self.old.lines answering.old (last_piece self.old.begun.items)
             (W.contents writer.old) (W.contents writer.new)) }
     {
         self.replies.clear();

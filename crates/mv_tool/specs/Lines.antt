@@ -1,11 +1,15 @@
 -- The lines of an input, and the limits of the format (docs/FORMATS.md, Lines).
-use Rattle.std.specs.Prelude.{ℕ, ◌+◌, ◌≤◌, List, [], ◌∷◌, ◌++◌, ◌==◌, Bool, true, false, if◌then◌else◌, map, filter, length, All}
+use Rattle.std.specs.Prelude.{◌≢◌, ℕ, ◌+◌, ◌≤◌, List, [], ◌∷◌, ◌++◌, ◌==◌, Bool, true, false, if◌then◌else◌, map, filter, length, All, EachIndex, slice_index}
 use Rattle.std.specs.Io.BufRead.{strip_last}
 
 -- the pieces of the bytes that end by a line feed, without it, in order; `begun` is what the first has so far
 abbrev pub whole_from : List ℕ → List ℕ → List (List ℕ)
 whole_from begun [] = []
 whole_from begun (x ∷ xs) = if x == 10 then begun ∷ whole_from [] xs else whole_from (begun ++ x ∷ []) xs
+
+-- none of the bytes ends a line
+abbrev pub IsUnended : List ℕ → Type 0
+IsUnended bytes = EachIndex bytes (λ k. slice_index bytes k ≢ 10)
 
 -- what stands behind the last line feed
 abbrev pub rest_from : List ℕ → List ℕ → List ℕ

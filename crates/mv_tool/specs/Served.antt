@@ -36,6 +36,10 @@ StopsAt LineTooLong begun count good bad =
     (count + length (whole_from begun good) < lines_limit) × (length (rest_from begun good) ≡ line_limit)
     × (next : ℕ) × (more : List ℕ) × (bad ≡ next ∷ more) × (next ≢ 10)
 
+-- the taking of bytes of a line stopped among them
+abbrev pub StopsIn : ServeFault → List ℕ → ℕ → List ℕ → Type 0
+StopsIn fault begun count bytes = (good : List ℕ) × (bad : List ℕ) × (bytes ≡ good ++ bad) × StopsAt fault begun count good bad
+
 -- the taking of the bytes stopped at a place, and `out` are the replies to the lines that end before it, which keep the limits
 pub record Stopped {S : Type 0} (rule : ReplyRule S) (fault : ServeFault) (begun : List ℕ) (count : ℕ) (before : S)
     (bytes out : List ℕ) : Type 0 where

@@ -178,16 +178,22 @@ fn stops_at_a_write_that_fails_or_takes_nothing(rt: HostRuntime) {
     }
 }
 
-/// How many reads a run makes whose first write fails.
-fn reads_before_a_write_that_fails(alloc: Global, task: Task) -> u32 {
-    let mut reader = script_of(4, 0, 0);
+/// Whether a run that gets a line a read, and whose first write fails, ends by V2 after exactly one read.
+fn ends_at_the_first_write(alloc: Global, task: Task) -> bool {
+    let mut reader = Script {
+        text: b"[]\n[]\n[]\n",
+        size: 3,
+        reads: 0,
+        fails_at: 0,
+        interrupted: 0,
+    };
     let mut writer = sink_of(alloc, 1, 0);
-    let _ = answer(alloc, task, &mut reader, &mut writer);
-    reader.reads
+    let ended = answer(alloc, task, &mut reader, &mut writer);
+    ended == Err(ServeFault::Write) && reader.reads == 1
 }
 
 #[test]
 fn writes_the_replies_to_what_one_read_gave_before_the_next(rt: HostRuntime) {
-    assert_eq!(rt; reads_before_a_write_that_fails(rt.alloc(), Task::Steps), 1);
-    assert_eq!(rt; reads_before_a_write_that_fails(rt.alloc(), Task::Canon), 1);
+    assert!(rt; ends_at_the_first_write(rt.alloc(), Task::Steps));
+    assert!(rt; ends_at_the_first_write(rt.alloc(), Task::Canon));
 }

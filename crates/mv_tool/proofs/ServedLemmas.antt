@@ -1,40 +1,43 @@
 -- Lemmas on what a run over lines has written.
-use Rattle.std.proofs.Common.{◌≡◌, ℕ, ◌+◌, ◌<◌, ◌≤◌, List, [], ◌∷◌, ◌++◌, length, refl, sym, ◌∙◌, ap, arith, append_assoc, length-append, append-nil, take, subst, All, rules}
+use Rattle.std.proofs.Common.{◌≡◌, ℕ, ◌<◌, ◌≤◌, List, [], ◌∷◌, ◌++◌, length, refl, sym, ◌∙◌, ap, arith, append_assoc, append-nil, take, subst, rules}
 use Rattle.std.specs.Prelude.{Option, Result, Ok, Err, OnOk, IfErr}
 use Rattle.std.specs.Io.KnownBytes.{Appends, Consumes}
 use Rattle.std.proofs.KnownBytes.{Appends-trans, Consumes-trans}
-use Rattle.std.proofs.lemmas.List.Elements.{All-append}
 use Rattle.mv_tool.specs.declared.fault.ServeFault.{ServeFault}
 use Rattle.mv_tool.specs.declared.fault.ServeFault.TheVariants.{Read, Write, Memory, TooManyLines, LineTooLong}
-use Rattle.mv_tool.specs.declared.limits.TheConstants.{LINE_LIMIT, LINES_LIMIT}
-use Rattle.mv_tool.specs.Lines.{whole_from, rest_from, pieces, last_piece, lines_of}
+use Rattle.mv_tool.specs.Lines.{whole_from, rest_from, pieces, last_piece, lines_of, line_limit, lines_limit, KeepLimits}
 use Rattle.mv_tool.specs.Output.{WrotePart}
 use Rattle.mv_tool.specs.Replies.{IsReplies}
-use Rattle.mv_tool.specs.Served.{Taken, Stopped, WroteReplies, Halted, HaltedLast, Served, Ended, IsShort}
+use Rattle.mv_tool.specs.Served.{Taken, Stopped, WroteReplies, Halted, HaltedLast, Served, Ended}
 use Rattle.mv_tool.proofs.RepliesLemmas.{IsReplies-append, IsReplies-nil}
-use Rattle.mv_tool.proofs.InputLemmas.{lines_of-append, whole_lines-append, stopped_later}
+use Rattle.mv_tool.proofs.InputLemmas.{whole_from-append, lines_of-append, KeepLimits-nil, KeepLimits-append, stopped_later}
 
--- a last piece is short, and is the last that a run may have
-last_short : (begun : List ℕ) → length begun ≤ LINE_LIMIT → All IsShort (last_piece begun)
-last_short [] short = search rules
-last_short (x ∷ xs) short = search rules
-
-last_few : (begun : List ℕ) (count : ℕ) → count ≤ LINES_LIMIT → (0 < length begun → count < LINES_LIMIT) → count + length (last_piece begun) ≤ LINES_LIMIT
-last_few [] count few behind = omega (arith, few)
-last_few (x ∷ xs) count few behind = omega (arith, behind (omega arith))
+-- a last piece keeps the limits
+pub last_kept : (begun : List ℕ) (count : ℕ) → count ≤ lines_limit → (0 < length begun → count < lines_limit) → length begun ≤ line_limit
+    → KeepLimits count (last_piece begun)
+last_kept [] count few behind short = KeepLimits-nil count few
+last_kept (x ∷ xs) count few behind short = record { few = omega (arith, behind (omega arith)); short = search rules }
 
 -- nothing more was read
 pub read_none : (a b c : Option (List ℕ)) (xs block : List ℕ) (n : ℕ) → Consumes a b xs → Consumes b c (take n block) → n ≡ 0 → Consumes a c xs
 read_none a b c xs block n p q e = subst (λ l. Consumes a c l) (append-nil xs) (Consumes-trans a b c xs [] p (rw e at q))
 
 module _ {S : Type 0} (Reply : S → List ℕ → List ℕ → S → Type 0) where
-  -- the replies to some first lines stand ready, and their first bytes went out
-  wrote_replies : (before after : S) (lines answered unanswered : List (List ℕ)) (ready : List ℕ) (old new : Option (List ℕ))
-      → lines ≡ answered ++ unanswered → IsReplies Reply before answered ready after → WrotePart ready old new → WroteReplies Reply before lines old new
-  wrote_replies before after lines answered unanswered ready old new cut replied (out, more, e, written) = record {
+  -- all pieces that came keep the limits
+  pub all_kept : {bytes begun' out : List ℕ} {count' : ℕ} {before between : S} → Taken Reply [] 0 before bytes begun' count' between out
+      → count' ≤ lines_limit → (0 < length begun' → count' < lines_limit) → length begun' ≤ line_limit → KeepLimits 0 (pieces bytes)
+  all_kept {begun' = begun'} {count' = count'} taken few behind short =
+      KeepLimits-append 0 _ _ taken.kept (rw (taken.rest, taken.counted) at (last_kept begun' count' few behind short))
+
+  -- the replies to some first pieces stand ready, and their first bytes went out
+  wrote_replies : (count : ℕ) (before after : S) (ps answered unanswered : List (List ℕ)) (ready : List ℕ) (old new : Option (List ℕ))
+      → ps ≡ answered ++ unanswered → KeepLimits count answered → IsReplies Reply before (lines_of answered) ready after → WrotePart ready old new
+      → WroteReplies Reply count before ps old new
+  wrote_replies count before after ps answered unanswered ready old new cut kept replied (out, more, e, written) = record {
     answered = answered;
     unanswered = unanswered;
     cut = cut;
+    kept = kept;
     out = out;
     unwritten = more;
     after = after;
@@ -46,37 +49,38 @@ module _ {S : Type 0} (Reply : S → List ℕ → List ℕ → S → Type 0) whe
   pub block_broken : {A : Type 0} (taken : Result A ServeFault) (kept ready begun bytes begun' : List ℕ) (count count' : ℕ) (before after : S) (old new : Option (List ℕ)) → kept ≡ []
       → OnOk taken ((out : List ℕ) × (ready ≡ kept ++ out) × Taken Reply begun count before bytes begun' count' after out)
       → IfErr taken (λ fault. (out : List ℕ) × (ready ≡ kept ++ out) × Stopped Reply fault begun count before bytes out)
-      → WrotePart ready old new → WroteReplies Reply before (lines_of (whole_from begun bytes)) old new
+      → WrotePart ready old new → WroteReplies Reply count before (whole_from begun bytes) old new
   block_broken (Ok u) kept ready begun bytes begun' count count' before after old new none (out, grown, t) stopped part =
-      wrote_replies before after _ (lines_of (whole_from begun bytes)) [] ready old new (sym (append-nil _)) (rw (grown, none) t.replied) part
+      wrote_replies count before after _ (whole_from begun bytes) [] ready old new (sym (append-nil _)) t.kept (rw (grown, none) t.replied) part
   block_broken (Err e) kept ready begun bytes begun' count count' before after old new none taken (out, grown, s) part =
-      wrote_replies before s.after _ (lines_of (whole_from begun s.good)) (lines_of (whole_from (rest_from begun s.good) s.bad)) ready old new
-      (ap (λ l. lines_of (whole_from begun l)) s.cut ∙ whole_lines-append begun s.good s.bad) (rw (grown, none) s.replied) part
+      wrote_replies count before s.after _ (whole_from begun s.good) (whole_from (rest_from begun s.good) s.bad) ready old new
+      (ap (λ l. whole_from begun l) s.cut ∙ whole_from-append begun s.good s.bad) s.kept (rw (grown, none) s.replied) part
 
   -- the write of the last line's reply failed
-  pub last_broken : {A : Type 0} (answered : Result A ServeFault) (kept ready : List ℕ) (lines : List (List ℕ)) (before after : S) (old new : Option (List ℕ)) → kept ≡ []
-      → OnOk answered ((out : List ℕ) × (ready ≡ kept ++ out) × IsReplies Reply before lines out after)
+  pub last_broken : {A : Type 0} (answered : Result A ServeFault) (kept ready begun : List ℕ) (count : ℕ) (before after : S) (old new : Option (List ℕ)) → kept ≡ []
+      → count ≤ lines_limit → (0 < length begun → count < lines_limit) → length begun ≤ line_limit
+      → OnOk answered ((out : List ℕ) × (ready ≡ kept ++ out) × IsReplies Reply before (lines_of (last_piece begun)) out after)
       → IfErr answered (λ _. ready ≡ kept)
-      → WrotePart ready old new → WroteReplies Reply before lines old new
-  last_broken (Ok u) kept ready lines before after old new none (out, grown, replied) same part =
-      wrote_replies before after _ lines [] ready old new (sym (append-nil _)) (rw (grown, none) replied) part
-  last_broken (Err e) kept ready lines before after old new none replied same part =
-      wrote_replies before before _ [] lines ready old new refl (rw (same, none) (IsReplies-nil Reply before)) part
+      → WrotePart ready old new → WroteReplies Reply count before (last_piece begun) old new
+  last_broken (Ok u) kept ready begun count before after old new none few behind short (out, grown, replied) same part =
+      wrote_replies count before after _ (last_piece begun) [] ready old new (sym (append-nil _)) (last_kept begun count few behind short) (rw (grown, none) replied) part
+  last_broken (Err e) kept ready begun count before after old new none few behind short replied same part =
+      wrote_replies count before before _ [] (last_piece begun) ready old new refl (KeepLimits-nil count few) (rw (same, none) (IsReplies-nil Reply before)) part
 
   -- the replies to a later part of the input broke off
   wrote_later : (before between : S) (front back : List ℕ) (begun' out : List ℕ) (count' : ℕ) (a b c : Option (List ℕ)) → Appends a b out
-      → Taken Reply [] 0 before front begun' count' between out → WroteReplies Reply between (lines_of (whole_from begun' back)) b c
-      → WroteReplies Reply before (lines_of (pieces (front ++ back))) a c
+      → Taken Reply [] 0 before front begun' count' between out → WroteReplies Reply count' between (whole_from begun' back) b c
+      → WroteReplies Reply 0 before (pieces (front ++ back)) a c
   wrote_later before between front back begun' out count' a b c written taken broken = record {
-    answered = lines_of (whole_from [] front) ++ broken.answered;
-    unanswered = broken.unanswered ++ lines_of (last_piece (rest_from [] (front ++ back)));
-    cut = lines_of-append (whole_from [] (front ++ back)) (last_piece (rest_from [] (front ++ back)))
-        ∙ ap (λ l. l ++ lines_of (last_piece (rest_from [] (front ++ back)))) (whole_lines-append [] front back ∙ ap (λ l. lines_of (whole_from [] front) ++ l) (rw taken.rest at broken.cut))
+    answered = whole_from [] front ++ broken.answered;
+    unanswered = broken.unanswered ++ last_piece (rest_from [] (front ++ back));
+    cut = ap (λ l. l ++ last_piece (rest_from [] (front ++ back))) (whole_from-append [] front back ∙ ap (λ l. whole_from [] front ++ l) (rw taken.rest at broken.cut))
         ∙ simp append_assoc;
+    kept = KeepLimits-append 0 _ _ taken.kept (rw taken.counted at broken.kept);
     out = out ++ broken.out;
     unwritten = broken.unwritten;
     after = broken.after;
-    replied = rw (append_assoc out broken.out broken.unwritten) (IsReplies-append Reply before between broken.after _ _ out (broken.out ++ broken.unwritten) taken.replied broken.replied);
+    replied = rw (lines_of-append (whole_from [] front) broken.answered, append_assoc out broken.out broken.unwritten) (IsReplies-append Reply before between broken.after _ _ out (broken.out ++ broken.unwritten) taken.replied broken.replied);
     written = Appends-trans a b c out broken.out written broken.written;
   }
 
@@ -98,32 +102,32 @@ module _ {S : Type 0} (Reply : S → List ℕ → List ℕ → S → Type 0) whe
 
   -- the answering of the last line ended, and so the run
   pub halted_last : (fault : ServeFault) (before between : S) (bytes begun' out : List ℕ) (count' : ℕ) (a b c : Option (List ℕ)) → Appends a b out
-      → Taken Reply [] 0 before bytes begun' count' between out → HaltedLast Reply fault between (lines_of (last_piece begun')) b c
+      → Taken Reply [] 0 before bytes begun' count' between out → HaltedLast Reply fault count' between (last_piece begun') b c
       → Ended Reply fault before bytes a c
   halted_last Read before between bytes begun' out count' a b c written taken h = absurd h
   halted_last TooManyLines before between bytes begun' out count' a b c written taken h = absurd h
   halted_last LineTooLong before between bytes begun' out count' a b c written taken h = absurd h
   halted_last Memory before between bytes begun' out count' a b c written taken h =
-      (out, subst (λ l. Appends a c l) (append-nil out) (Appends-trans a b c out [] written h), record { good = bytes; bad = []; cut = sym (append-nil bytes); why = tt; after = between; replied = taken.replied })
+      (out, subst (λ l. Appends a c l) (append-nil out) (Appends-trans a b c out [] written h), record { good = bytes; bad = []; cut = sym (append-nil bytes); why = tt; kept = taken.kept; after = between; replied = taken.replied })
   halted_last Write before between bytes begun' out count' a b c written taken broken = record {
-    answered = lines_of (whole_from [] bytes) ++ broken.answered;
+    answered = whole_from [] bytes ++ broken.answered;
     unanswered = broken.unanswered;
-    cut = lines_of-append (whole_from [] bytes) (last_piece (rest_from [] bytes)) ∙ ap (λ l. lines_of (whole_from [] bytes) ++ l) (rw taken.rest at broken.cut) ∙ simp append_assoc;
+    cut = ap (λ l. whole_from [] bytes ++ l) (rw taken.rest at broken.cut) ∙ simp append_assoc;
+    kept = KeepLimits-append 0 _ _ taken.kept (rw taken.counted at broken.kept);
     out = out ++ broken.out;
     unwritten = broken.unwritten;
     after = broken.after;
-    replied = rw (append_assoc out broken.out broken.unwritten) (IsReplies-append Reply before between broken.after _ _ out (broken.out ++ broken.unwritten) taken.replied broken.replied);
+    replied = rw (lines_of-append (whole_from [] bytes) broken.answered, append_assoc out broken.out broken.unwritten) (IsReplies-append Reply before between broken.after _ _ out (broken.out ++ broken.unwritten) taken.replied broken.replied);
     written = Appends-trans a b c out broken.out written broken.written;
   }
 
   -- the last line is answered, and so the input
   pub served_whole : (before between after : S) (bytes begun' out other : List ℕ) (count' : ℕ) (a b c : Option (List ℕ)) → Appends a b out
-      → Taken Reply [] 0 before bytes begun' count' between out → length begun' ≤ LINE_LIMIT → count' ≤ LINES_LIMIT → (0 < length begun' → count' < LINES_LIMIT)
+      → Taken Reply [] 0 before bytes begun' count' between out → count' ≤ lines_limit → (0 < length begun' → count' < lines_limit) → length begun' ≤ line_limit
       → Appends b c other → IsReplies Reply between (lines_of (last_piece begun')) other after
       → Served Reply before bytes after a c
-  served_whole before between after bytes begun' out other count' a b c written taken short few behind more replied = record {
-    few = rw length-append (omega (arith, taken.counted, rw taken.rest at (last_few begun' count' few behind)));
-    short = All-append IsShort _ _ taken.short (rw taken.rest at (last_short begun' short));
+  served_whole before between after bytes begun' out other count' a b c written taken few behind short more replied = record {
+    kept = all_kept taken few behind short;
     out = out ++ other;
     replied = rw (lines_of-append (whole_from [] bytes) (last_piece (rest_from [] bytes))) (IsReplies-append Reply before between after _ _ out other taken.replied (rw taken.rest at replied));
     written = Appends-trans a b c out other written more;

@@ -1,10 +1,9 @@
 -- What a run over lines has read, answered and written.
-use Rattle.std.specs.Prelude.{◌≡◌, ◌≢◌, ℕ, ◌+◌, ◌<◌, ◌≤◌, List, [], ◌∷◌, ◌++◌, length, All, Option, ⊤}
+use Rattle.std.specs.Prelude.{◌≡◌, ◌≢◌, ℕ, ◌+◌, ◌<◌, List, [], ◌∷◌, ◌++◌, length, Option, ⊤}
 use Rattle.std.specs.Io.KnownBytes.{Appends}
 use Rattle.mv_tool.specs.declared.fault.ServeFault.{ServeFault}
 use Rattle.mv_tool.specs.declared.fault.ServeFault.TheVariants.{Read, Write, Memory, TooManyLines, LineTooLong}
-use Rattle.mv_tool.specs.declared.limits.TheConstants.{LINE_LIMIT, LINES_LIMIT}
-use Rattle.mv_tool.specs.Lines.{whole_from, rest_from, pieces, lines_of}
+use Rattle.mv_tool.specs.Lines.{whole_from, rest_from, pieces, lines_of, line_limit, lines_limit, KeepLimits}
 use Rattle.mv_tool.specs.Replies.{ReplyRule, IsReplies}
 
 -- some bytes went out, and the fact holds of them
@@ -15,17 +14,13 @@ Wrote old new Fact = (out : List ℕ) × Appends old new out × Fact out
 abbrev pub Readied : List ℕ → List ℕ → (List ℕ → Type 0) → Type 0
 Readied old new Fact = (out : List ℕ) × (new ≡ old ++ out) × Fact out
 
--- a piece is no longer than a line may be, its carriage return counted
-abbrev pub IsShort : List ℕ → Type 0
-IsShort piece = length piece ≤ LINE_LIMIT
-
--- The bytes were taken, and `out` are the replies to the lines that end in them. Before them the line had `begun` and
--- `count` lines had come; behind them `begun'` and `count'`.
+-- The bytes were taken, and `out` are the replies to the lines that end in them, which keep the limits. Before them the line
+-- had `begun` and `count` lines had come; behind them `begun'` and `count'`.
 pub record Taken {S : Type 0} (rule : ReplyRule S) (begun : List ℕ) (count : ℕ) (before : S)
     (bytes begun' : List ℕ) (count' : ℕ) (after : S) (out : List ℕ) : Type 0 where
   pub rest : begun' ≡ rest_from begun bytes
   pub counted : count' ≡ count + length (whole_from begun bytes)
-  pub short : All IsShort (whole_from begun bytes)
+  pub kept : KeepLimits count (whole_from begun bytes)
   pub replied : IsReplies rule before (lines_of (whole_from begun bytes)) out after
 
 -- why the taking of bytes stops between `good` and `bad`
@@ -35,61 +30,67 @@ StopsAt Write begun count good bad = ⊥
 StopsAt Memory begun count good bad = ⊤
 -- all lines that a run may have are read, and more follows
 StopsAt TooManyLines begun count good bad =
-    (count + length (whole_from begun good) ≡ LINES_LIMIT) × (0 < length bad)
--- the line has all the bytes that it may have, and the next is not its end
-StopsAt LineTooLong begun count good bad = (length (rest_from begun good) ≡ LINE_LIMIT)
+    (count + length (whole_from begun good) ≡ lines_limit) × (0 < length bad)
+-- a line that a run may have has all the bytes that it may have, and the next is not its end
+StopsAt LineTooLong begun count good bad =
+    (count + length (whole_from begun good) < lines_limit) × (length (rest_from begun good) ≡ line_limit)
     × (next : ℕ) × (more : List ℕ) × (bad ≡ next ∷ more) × (next ≢ 10)
 
--- the taking of the bytes stopped at a place, and `out` are the replies to the lines that end before it
+-- the taking of bytes of a line stopped among them
+abbrev pub StopsIn : ServeFault → List ℕ → ℕ → List ℕ → Type 0
+StopsIn fault begun count bytes = (good : List ℕ) × (bad : List ℕ) × (bytes ≡ good ++ bad) × StopsAt fault begun count good bad
+
+-- the taking of the bytes stopped at a place, and `out` are the replies to the lines that end before it, which keep the limits
 pub record Stopped {S : Type 0} (rule : ReplyRule S) (fault : ServeFault) (begun : List ℕ) (count : ℕ) (before : S)
     (bytes out : List ℕ) : Type 0 where
   pub good : List ℕ
   pub bad : List ℕ
   pub cut : bytes ≡ good ++ bad
   pub why : StopsAt fault begun count good bad
+  pub kept : KeepLimits count (whole_from begun good)
   pub after : S
   pub replied : IsReplies rule before (lines_of (whole_from begun good)) out after
 
--- of the replies to some first lines the first bytes went out, and no more
-pub record WroteReplies {S : Type 0} (rule : ReplyRule S) (before : S) (lines : List (List ℕ))
+-- Of the replies to some first pieces the first bytes went out, and no more. Those pieces keep the limits, behind `count` lines.
+pub record WroteReplies {S : Type 0} (rule : ReplyRule S) (count : ℕ) (before : S) (ps : List (List ℕ))
     (old new : Option (List ℕ)) : Type 0 where
   pub answered : List (List ℕ)
   pub unanswered : List (List ℕ)
-  pub cut : lines ≡ answered ++ unanswered
+  pub cut : ps ≡ answered ++ unanswered
+  pub kept : KeepLimits count answered
   pub out : List ℕ
   pub unwritten : List ℕ
   pub after : S
-  pub replied : IsReplies rule before answered (out ++ unwritten) after
+  pub replied : IsReplies rule before (lines_of answered) (out ++ unwritten) after
   pub written : Appends old new out
 
 -- what was written where a fault ended the taking of these bytes
 abbrev pub Halted : {S : Type 0} → ReplyRule S → ServeFault → List ℕ → ℕ → S → List ℕ
     → Option (List ℕ) → Option (List ℕ) → Type 0
-Halted rule Write begun count before bytes old new = WroteReplies rule before (lines_of (whole_from begun bytes)) old new
+Halted rule Write begun count before bytes old new = WroteReplies rule count before (whole_from begun bytes) old new
 Halted rule fault begun count before bytes old new = Wrote old new (Stopped rule fault begun count before bytes)
 
--- what was written where a fault ended the answering of the last line, if there is one
-abbrev pub HaltedLast : {S : Type 0} → ReplyRule S → ServeFault → S → List (List ℕ)
+-- what was written where a fault ended the answering of the last piece, if there is one
+abbrev pub HaltedLast : {S : Type 0} → ReplyRule S → ServeFault → ℕ → S → List (List ℕ)
     → Option (List ℕ) → Option (List ℕ) → Type 0
-HaltedLast rule Write before lines old new = WroteReplies rule before lines old new
-HaltedLast rule Memory before lines old new = Appends old new []
-HaltedLast rule _ before lines old new = ⊥
+HaltedLast rule Write count before ps old new = WroteReplies rule count before ps old new
+HaltedLast rule Memory count before ps old new = Appends old new []
+HaltedLast rule _ count before ps old new = ⊥
 
--- A whole input was answered: it had no more lines than a run may have, none was longer than a line may be, and the replies
--- to them went out.
+-- A whole input was answered: its lines keep the limits, and the replies to them went out.
 pub record Served {S : Type 0} (rule : ReplyRule S) (before : S) (bytes : List ℕ) (after : S)
     (old new : Option (List ℕ)) : Type 0 where
-  pub few : length (pieces bytes) ≤ LINES_LIMIT
-  pub short : All IsShort (pieces bytes)
+  pub kept : KeepLimits 0 (pieces bytes)
   pub out : List ℕ
   pub replied : IsReplies rule before (lines_of (pieces bytes)) out after
   pub written : Appends old new out
 
 -- What a run that read these bytes and ended by a fault has written. Where a read failed: the replies to the lines that
--- ended. Where a write failed: the first bytes of the replies to some first lines. Where memory was refused, or a line or a
--- byte came that may not: the replies to the lines that ended before that place.
+-- ended; what was read keeps the limits, the line that it leaves begun too. Where a write failed: the first bytes of the replies
+-- to some first lines, which keep the limits. Where memory was refused, or a line or a byte came that may not: the replies to the
+-- lines that ended before that place, which keep the limits.
 abbrev pub Ended : {S : Type 0} → ReplyRule S → ServeFault → S → List ℕ → Option (List ℕ) → Option (List ℕ) → Type 0
-Ended {S = S} rule Read before bytes old new =
-    Wrote old new (λ out. (after : S) × IsReplies rule before (lines_of (whole_from [] bytes)) out after)
-Ended rule Write before bytes old new = WroteReplies rule before (lines_of (pieces bytes)) old new
+Ended {S = S} rule Read before bytes old new = KeepLimits 0 (pieces bytes)
+    × Wrote old new (λ out. (after : S) × IsReplies rule before (lines_of (whole_from [] bytes)) out after)
+Ended rule Write before bytes old new = WroteReplies rule 0 before (pieces bytes) old new
 Ended rule fault before bytes old new = Wrote old new (Stopped rule fault [] 0 before bytes)

@@ -112,6 +112,7 @@ fn command_line<'a>(alloc: Global) -> Result<Command<'a>, AllocError>
         .subcommand(steps)?
         .subcommand(canon)
 }
+
 /// The task that the subcommand names.
 fn task_named(matches: &ArgMatches<'_>) -> Option<Task>
     ensures { result ≡ option_and_then task_called (subcommand_name_of matches.now) }

@@ -2,16 +2,16 @@
 
 ghost use Rattle.std.specs.Prelude.{◌≡◌, ℕ, ◌<◌, ◌≤◌, List, [], ◌∷◌, ◌++◌, length, OnOk, IfErr, vec_items};
 ghost use Rattle.std.specs.Io.BufRead.{strip_last};
-ghost use Rattle.mv_tool.specs.Lines.{last_piece, lines_of};
+ghost use Rattle.mv_tool.specs.Lines.{IsUnended, last_piece, lines_of, line_limit, lines_limit};
 ghost use Rattle.mv_tool.specs.Replies.{IsReplies};
 ghost use Rattle.std.specs.Io.KnownBytes.{Appends};
-ghost use Rattle.mv_tool.specs.Served.{Wrote, Readied, Taken, Stopped, Halted, HaltedLast};
-ghost use Rattle.mv_tool.specs.declared.limits.TheConstants.{LINE_LIMIT as line_limit, LINES_LIMIT as lines_limit};
+ghost use Rattle.mv_tool.specs.Served.{Wrote, Readied, Taken, StopsIn, Stopped, Halted, HaltedLast};
 
 use crate::answering::Answering;
 use crate::fault::ServeFault;
 use crate::limits::{LINE_LIMIT, LINES_LIMIT};
 use crate::output::put_out;
+use memchr::memchr;
 use std::alloc::Global;
 use std::io::Write;
 
@@ -70,7 +70,7 @@ impl Input {
             IsReplies S.replies answering.old (lines_of (last_piece self.old.begun.items))
             out answering.new)) }
         ensures err { IfErr result (λ fault.
-            HaltedLast S.replies fault answering.old (lines_of (last_piece self.old.begun.items))
+            HaltedLast S.replies fault self.old.lines answering.old (last_piece self.old.begun.items)
             (W.contents writer.old) (W.contents writer.new)) }
     {
         self.replies.clear();
@@ -89,35 +89,54 @@ impl Input {
             Stopped S.replies fault self.old.begun.items self.old.lines answering.old
             bytes.now out)) }
     {
-        for byte in bytes {
-            self.take(answering, *byte)?;
+        let mut rest = bytes;
+        while let Some(end) = memchr(b'\n', rest) {
+            self.take_line(answering, &rest[..end])?;
+            rest = &rest[end + 1..];
         }
-        Ok(())
+        self.take_part(rest)
     }
 
-    /// Takes the next byte, and answers the line that it ends.
-    fn take<S: Answering>(&mut self, answering: &mut S, byte: u8) -> Result<(), ServeFault>
+    /// Takes what is left of a line, but for its line feed, and answers the line.
+    fn take_line<S: Answering>(&mut self, answering: &mut S, part: &[u8]) -> Result<(), ServeFault>
+        requires unended { IsUnended part.now }
         ensures ok { OnOk result (Readied self.old.replies.items self.new.replies.items (λ out.
-            Taken S.replies self.old.begun.items self.old.lines answering.old (byte ∷ [])
-            self.new.begun.items self.new.lines answering.new out)) }
+            Taken S.replies self.old.begun.items self.old.lines answering.old
+            (part.now ++ 10 ∷ []) self.new.begun.items self.new.lines answering.new out)) }
         ensures err { IfErr result (λ fault.
             Readied self.old.replies.items self.new.replies.items (λ out.
             Stopped S.replies fault self.old.begun.items self.old.lines answering.old
-            (byte ∷ []) out)) }
+            (part.now ++ 10 ∷ []) out)) }
     {
+        self.take_part(part)?;
         if self.lines == LINES_LIMIT {
             return Err(ServeFault::TooManyLines);
         }
-        if byte == b'\n' {
-            self.answer(answering)?;
-            self.begun.clear();
-            self.lines += 1;
+        self.answer(answering)?;
+        self.begun.clear();
+        self.lines += 1;
+        Ok(())
+    }
+
+    /// Takes the next bytes of a line, of which none ends it.
+    fn take_part(&mut self, part: &[u8]) -> Result<(), ServeFault>
+        requires unended { IsUnended part.now }
+        ensures ok { OnOk result (self.new.begun.items ≡ self.old.begun.items ++ part.now) }
+        ensures err { IfErr result (λ fault.
+            StopsIn fault self.old.begun.items self.old.lines part.now) }
+        ensures lines { self.new.lines ≡ self.old.lines }
+        ensures replies { self.new.replies.items ≡ self.old.replies.items }
+    {
+        if part.is_empty() {
             return Ok(());
         }
-        if self.begun.len() == LINE_LIMIT {
+        if self.lines == LINES_LIMIT {
+            return Err(ServeFault::TooManyLines);
+        }
+        if part.len() > LINE_LIMIT - self.begun.len() {
             return Err(ServeFault::LineTooLong);
         }
-        self.begun.push(byte)?;
+        self.begun.extend_from_slice(part)?;
         Ok(())
     }
 

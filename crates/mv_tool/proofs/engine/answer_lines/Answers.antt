@@ -1,7 +1,7 @@
 use Rattle.std.proofs.KnownBytes.{Consumes-kept, Consumes-whole, Consumes-trans, Appends-trans}
 use Rattle.std.proofs.lemmas.Result.{err_from_is_err_and, MatchResult-weaker}
 use Rattle.mv_tool.proofs.InputLemmas.{taken_more}
-use Rattle.mv_tool.proofs.ServedLemmas.{halted_later, halted_last, served_whole, read_none}
+use Rattle.mv_tool.proofs.ServedLemmas.{all_kept, halted_later, halted_last, served_whole, read_none}
 use Rattle.mv_tool.proofs.engine.answer_lines.Goals as goal
 
 -- the read failed
@@ -11,7 +11,10 @@ returns-in_err-count-clause-err g c =
     rw (p.1, p.2, c.in_err-count.ensures.fault) (
       c.loop.invariant.0,
       Consumes-kept _ _ _ _ c.loop.invariant.1 c.in_err-count.ensures.err,
-      (c.loop.invariant.2, c.loop.invariant.3, (c.loop.answering, c.loop.invariant.4.replied)),
+      (
+        all_kept g.S.Answering.replies c.loop.invariant.4 c.loop.input.few c.loop.input.not_behind c.loop.input.short,
+        (c.loop.invariant.2, c.loop.invariant.3, (c.loop.answering, c.loop.invariant.4.replied)),
+      ),
     )
 
 -- the bytes that were read stopped it
@@ -40,7 +43,7 @@ returns-then-count-eq0-clause-ok g c =
     MatchResult-weaker c.answer_last.result c.answer_last.ensures.ok (λ u last. Consumes-whole _ _ c.loop.invariant.0 _
     (read_none _ _ _ _ _ _ c.loop.invariant.1 c.in_ok-count.ensures.read c.if-count-eq0.true)
     (c.in_ok-count.ensures.end c.if-count-eq0.true)
-    (served_whole g.S.Answering.replies _ _ _ _ _ _ _ _ _ _ _ c.loop.invariant.3 c.loop.invariant.4 c.loop.input.short c.loop.input.few c.loop.input.not_behind last.1 last.2)) (λ e t. t)
+    (served_whole g.S.Answering.replies _ _ _ _ _ _ _ _ _ _ _ c.loop.invariant.3 c.loop.invariant.4 c.loop.input.few c.loop.input.not_behind c.loop.input.short last.1 last.2)) (λ e t. t)
 
 -- the input ended, and the answering of the last line failed
 pub returns-then-count-eq0-clause-err : goal.returns-then-count-eq0-clause-err

@@ -306,10 +306,11 @@ def opened(asked):
 
 
 class Session:
-    """Answers lines; `machine` is the system once one is open."""
+    """Answers lines; `machine` is the system once one is open, and `steps` are those that it took, each with its fields and its reply."""
 
     def __init__(self):
         self.machine = None
+        self.steps = []
 
     def reply(self, line):
         """The object that answers a line."""
@@ -324,7 +325,9 @@ class Session:
             if task == "open":
                 self.machine = opened(asked)
                 return {"opened": len(asked["parties"])}
-            return self.step(task, asked)
+            reply = self.step(task, asked)
+            self.steps.append((task, asked, reply))
+            return reply
         except Refused as refused:
             return refused.reply
 
@@ -350,11 +353,15 @@ def reply_text(reply):
     return json.dumps(reply, sort_keys=True, separators=(",", ":"), ensure_ascii=False).encode() + b"\n"
 
 
-def answer(given):
-    """The replies to an input, each with its line feed."""
-    session = Session()
+def take(session, given):
+    """The replies of a session to an input, each with its line feed."""
     lines = [line.removesuffix(b"\r") for line in given.split(b"\n")]
     return [reply_text(session.reply(line)) for line in lines if line]
+
+
+def answer(given):
+    """The replies to an input."""
+    return take(Session(), given)
 
 
 if __name__ == "__main__":

@@ -46,11 +46,12 @@ class Carried(NamedTuple):
 
 
 class Change(NamedTuple):
-    """Who took a pack out of the active ones, and when."""
+    """Who took a pack out of the active ones, and when, and the stamp of the status that said so."""
 
     by: int
     user: str
     at: int
+    stamp: int
 
 
 class Held(NamedTuple):
@@ -58,6 +59,7 @@ class Held(NamedTuple):
 
     batch: str
     expiry: int
+    national: str | None
     standing: str
     change: Change | None
 
@@ -74,6 +76,14 @@ def in_order(log):
 def held_before(log, stamp):
     """The carried items of a log that have a smaller stamp, in order."""
     return [(sender, item) for sender, item in in_order(log) if item.stamp < stamp]
+
+
+def product_of(gtin, entries):
+    """The last master of a product among the entries; nothing where there is none."""
+    for _, item in reversed(entries):
+        if item.message["msg"] == "master" and item.message["gtin"] == gtin:
+            return item.message
+    return None
 
 
 def is_recalled(gtin, batch, entries):
@@ -138,10 +148,10 @@ def pack_of(pack, entries):
         if message.get("gtin") != pack[0]:
             continue
         if held is None and names(message, pack):
-            held = Held(message["batch"], message["expiry"], "active", None)
+            held = Held(message["batch"], message["expiry"], message.get("national"), "active", None)
         elif is_status(message, pack) and status_effect(held, sender, message, entries[:place]) == "E1":
-            change = None if message["to"] == "active" else Change(sender, message["user"], message["at"])
-            held = Held(held.batch, held.expiry, message["to"], change)
+            change = None if message["to"] == "active" else Change(sender, message["user"], message["at"], item.stamp)
+            held = held._replace(standing=message["to"], change=change)
     return held
 
 
@@ -174,13 +184,37 @@ def effect_of(log, sender, item):
     return {"effect": "E11"}
 
 
+def counts_of(log):
+    """How much a log has, each thing counted once: entries, products with a master, packs, those active, batches recalled."""
+    entries = in_order(log)
+    products = {item.message["gtin"] for _, item in entries if item.message["msg"] == "master"}
+    uploads = [item.message for _, item in entries if item.message["msg"] == "upload"]
+    packs = {(message["gtin"], serial) for message in uploads for serial in message["serials"]}
+    batches = {(item.message["gtin"], item.message["batch"]) for _, item in entries if item.message["msg"] == "recall"}
+    return {
+        "entries": len(log),
+        "products": len(products),
+        "packs": len(packs),
+        "active": len([pack for pack in packs if pack_of(pack, entries).standing == "active"]),
+        "recalled": len(batches),
+    }
+
+
+def place_of(stamp, log):
+    """The place in a log, from 0, of the item with a stamp."""
+    return [isinstance(item, Carried) and item.stamp == stamp for _, item in log].index(True)
+
+
 def found_of(pack, log):
-    """What a query finds of a pack by a whole log: nothing, or its standing and whether it is recalled or withdrawn."""
+    """What a query finds of a pack by a whole log: nothing, or the pack and whether it is recalled or withdrawn."""
     entries = in_order(log)
     held = pack_of(pack, entries)
     if held is None:
         return None
     return {
+        "batch": held.batch,
+        "expiry": held.expiry,
+        "national": held.national,
         "standing": held.standing,
         "recalled": is_recalled(pack[0], held.batch, entries),
         "withdrawn": is_withdrawn(pack[0], entries),
@@ -376,7 +410,7 @@ class Machine:
         found = found_of(pack, self.logs[party])
         number = self.wires[asker][party].pop(0)
         self.logs[party].append((asker, item))
-        self.submitted[party].append({"msg": "answer", "asker": asker, "q": item.k, "found": found})
+        self.submitted[party].append({"msg": "answer", "asker": asker, "q": item.k, "gtin": pack[0], "serial": pack[1], "found": found})
         return {"answer": len(self.submitted[party]), "applied": number, "effect": "E11"}
 
     def repeat(self, sender, receiver, number):

@@ -113,25 +113,60 @@ fn is_done(world: &World) -> bool {
         && world.hub().record().len() == 2
 }
 
-/// Whether memory was refused to a step.
-fn has_refusal(replies: &[Reply]) -> bool {
-    for reply in replies {
-        if *reply == Reply::Refused(Refusal::Memory) {
-            return true;
+/// The place of the first step to which memory was refused.
+fn refused_place(replies: &[Reply]) -> Option<usize> {
+    for place in 0..replies.len() {
+        if replies[place] == Reply::Refused(Refusal::Memory) {
+            return Some(place);
         }
     }
-    false
+    None
 }
 
-/// Whether the steps, taken by one call, get the right replies, or memory was refused to one of them.
+/// Whether steps, taken by one call in a system, get these replies.
+fn are_replies(world: &mut World, steps: &[Step], replies: &[Reply]) -> bool {
+    match world.run(steps) {
+        Ok(found) => found.as_slice() == replies,
+        Err(_) => false,
+    }
+}
+
+/// Whether all came as it comes in a new system where the step at that place is left out: refused, it has changed nothing.
+fn is_left_out(
+    world: &World,
+    alloc: Global,
+    steps: &[Step],
+    replies: &[Reply],
+    place: usize,
+) -> bool {
+    if place >= steps.len() || place >= replies.len() {
+        return false;
+    }
+    match opened_at_last(alloc, 8, 1000) {
+        Some(mut other) => {
+            are_replies(&mut other, &steps[..place], &replies[..place])
+                && are_replies(&mut other, &steps[place + 1..], &replies[place + 1..])
+                && lengths(&other) == lengths(world)
+        }
+        None => false,
+    }
+}
+
+/// Whether the replies are right and the system is as it should be, or memory was refused to a step, which changed nothing.
+fn is_right(world: &World, alloc: Global, steps: &[Step], replies: &[Reply]) -> bool {
+    match refused_place(replies) {
+        Some(place) => is_left_out(world, alloc, steps, replies, place),
+        None => are_right(replies) && is_done(world),
+    }
+}
+
+/// Whether the steps, taken by one call, do what they should.
 fn is_run(world: &mut World, alloc: Global) -> bool {
     let Some(steps) = steps_at_last(alloc) else {
         return false;
     };
     match replies_at_last(world, steps.as_slice()) {
-        Some(replies) => {
-            has_refusal(replies.as_slice()) || (are_right(replies.as_slice()) && is_done(world))
-        }
+        Some(replies) => is_right(world, alloc, steps.as_slice(), replies.as_slice()),
         None => false,
     }
 }

@@ -1,6 +1,6 @@
 //! The router: its record and stamps, the catalogue, the links between batches, and the refusals that the program cannot show.
 
-use mv_hub::{Catalogue, Entry, Hub, HubFault, Parties, RouteFault};
+use mv_hub::{Catalogue, Entry, Hub, HubFault, Pairs, Parties, RouteFault};
 use mv_link::{Frame, Item};
 use mv_message::Message;
 use mv_pack::{Batch, BatchKey, Expiry, Gtin, Market};
@@ -13,6 +13,10 @@ const FINNISH: &str =
 /// The master of the same product for Sweden.
 const SWEDISH: &str =
     "{\"common\":\"paracetamol\",\"form\":\"tablet\",\"gtin\":\"09506000134352\",\"markets\":[\"SE\"],\"msg\":\"master\",\"name\":\"Examplin\",\"pack_size\":\"30\",\"pack_type\":\"blister\",\"scheme\":\"GTIN\",\"strength\":\"500 mg\"}";
+
+/// The master of the same product for both.
+const FOR_BOTH: &str =
+    "{\"common\":\"paracetamol\",\"form\":\"tablet\",\"gtin\":\"09506000134352\",\"markets\":[\"FI\",\"SE\"],\"msg\":\"master\",\"name\":\"Examplin\",\"pack_size\":\"30\",\"pack_type\":\"blister\",\"scheme\":\"GTIN\",\"strength\":\"500 mg\"}";
 
 /// An upload of a pack of its batch B1.
 const FIRST_BATCH: &str =
@@ -28,6 +32,10 @@ const SECOND_BATCH: &str =
 
 /// A question about a pack of the product.
 const QUERY: &str = "{\"gtin\":\"09506000134352\",\"msg\":\"query\",\"serial\":\"S1\"}";
+
+/// An answer to party 1.
+const ANSWER: &str =
+    "{\"asker\":1,\"found\":null,\"gtin\":\"09506000134352\",\"msg\":\"answer\",\"q\":1,\"serial\":\"S1\"}";
 
 /// An answer to a party that is none.
 const LOST_ANSWER: &str =
@@ -187,30 +195,41 @@ fn has_receipt(hub: &mut Hub) -> bool {
     }
 }
 
-/// Whether a query goes to the others that serve its product, and an answer to a party that is none to nobody.
+/// Whether a query goes to the others that serve its product, an answer to who asked, and one to a party that is none to nobody.
 fn asks(hub: &mut Hub, alloc: Global) -> bool {
-    is_routed(hub, alloc, 1, QUERY, 1, &[2])
+    is_routed(hub, alloc, 0, FOR_BOTH, 1, &[1, 2])
+        && is_routed(hub, alloc, 1, QUERY, 1, &[2])
         && has_receipt(hub)
-        && is_routed(hub, alloc, 2, QUERY, 1, &[])
+        && is_routed(hub, alloc, 2, ANSWER, 1, &[1])
         && is_routed(hub, alloc, 2, LOST_ANSWER, 2, &[])
 }
 
-/// Whether both is so in a hub where nothing has happened, and the links and the table of markets are as they should be.
-fn moves_and_asks(alloc: Global) -> bool {
+/// Whether it is so in a hub where nothing has happened.
+fn is_asked(alloc: Global) -> bool {
+    match opened(alloc) {
+        Some(mut hub) => asks(&mut hub, alloc),
+        None => false,
+    }
+}
+
+#[test]
+fn asks_the_others_and_answers_who_asked(rt: HostRuntime) {
+    assert!(rt; is_asked(rt.alloc()));
+}
+
+/// Whether the product moves in a hub where nothing has happened, and the links and the table of markets are as they should be.
+fn is_moved(alloc: Global) -> bool {
     match opened(alloc) {
         Some(mut hub) => {
-            moves(&mut hub, alloc)
-                && totals(&hub) == [4, 4, 3, 2]
-                && is_swedish(&hub)
-                && asks(&mut hub, alloc)
+            moves(&mut hub, alloc) && totals(&hub) == [4, 4, 3, 2] && is_swedish(&hub)
         }
         None => false,
     }
 }
 
 #[test]
-fn moves_a_product_to_another_market_and_asks_there(rt: HostRuntime) {
-    assert!(rt; moves_and_asks(rt.alloc()));
+fn moves_a_product_to_another_market(rt: HostRuntime) {
+    assert!(rt; is_moved(rt.alloc()));
 }
 
 /// Why a message is not routed.
@@ -234,9 +253,9 @@ fn relay_fault(hub: &mut Hub, from: u32, to: u32) -> Option<HubFault> {
     hub.relay(from, to).err()
 }
 
-/// Why a link does not give its first frame again.
-fn repeat_fault(hub: &Hub, from: u32, to: u32) -> Option<HubFault> {
-    hub.repeat(from, to, 1).err()
+/// Why a link does not give a frame again.
+fn repeat_fault(hub: &Hub, from: u32, to: u32, number: u32) -> Option<HubFault> {
+    hub.repeat(from, to, number).err()
 }
 
 /// Whether each call refuses a party that is none.
@@ -244,7 +263,7 @@ fn is_refused(hub: &mut Hub, alloc: Global) -> bool {
     route_fault(hub, alloc, 3) == Some(RouteFault::StrangerParty)
         && relay_fault(hub, 3, 0) == Some(HubFault::StrangerParty)
         && relay_fault(hub, 0, 3) == Some(HubFault::StrangerParty)
-        && repeat_fault(hub, 0, 3) == Some(HubFault::StrangerParty)
+        && repeat_fault(hub, 0, 3, 1) == Some(HubFault::StrangerParty)
         && hub.close(3, 0) == Err(HubFault::StrangerParty)
 }
 
@@ -261,6 +280,41 @@ fn refuses_strangers_and_stamps_by_the_place_in_the_record(rt: HostRuntime) {
     assert!(rt; is_refused_and_stamped(rt.alloc()));
     assert!(rt; HubFault::StrangerParty.code() == "H4");
     assert!(rt; RouteFault::Busy(1).code() == "H5");
+}
+
+/// Whether the link from party 0 to party 1 gives its first frame again.
+fn is_repeated(hub: &Hub) -> bool {
+    match hub.repeat(0, 1, 1) {
+        Ok(frame) => carries(&frame, 1, 1),
+        Err(_) => false,
+    }
+}
+
+/// Whether the link from party 0 to party 1 is closed behind a master that went over it.
+fn closes(hub: &mut Hub, alloc: Global) -> bool {
+    is_routed(hub, alloc, 0, FINNISH, 1, &[1]) && is_carried(hub, 1, 1) && hub.close(0, 1) == Ok(())
+}
+
+/// Whether nothing new then goes over it, and what went over it can be repeated.
+fn keeps_closed(hub: &mut Hub, alloc: Global) -> bool {
+    is_routed(hub, alloc, 0, FIRST_BATCH, 2, &[])
+        && relay_fault(hub, 0, 1) == Some(HubFault::Nothing)
+        && hub.close(0, 1) == Err(HubFault::AlreadyClosed)
+        && repeat_fault(hub, 0, 1, 2) == Some(HubFault::NotSent)
+        && is_repeated(hub)
+}
+
+/// Both, in a hub where nothing has happened.
+fn is_closed(alloc: Global) -> bool {
+    match opened(alloc) {
+        Some(mut hub) => closes(&mut hub, alloc) && keeps_closed(&mut hub, alloc),
+        None => false,
+    }
+}
+
+#[test]
+fn closes_a_link_for_what_is_new(rt: HostRuntime) {
+    assert!(rt; is_closed(rt.alloc()));
 }
 
 /// Whether the product of a catalogue is for this market alone, and without a market whether there is none.
@@ -329,6 +383,30 @@ fn is_listed(alloc: Global) -> bool {
 #[test]
 fn lists_each_batch_and_expiry_once(rt: HostRuntime) {
     assert!(rt; is_listed(rt.alloc()));
+}
+
+/// A catalogue of one batch, and no product.
+fn catalogue_of(alloc: Global, number: &str) -> Option<Catalogue> {
+    let batch = Batch::read(number).ok()?;
+    let expiry = Expiry::read("280200").ok()?;
+    let list = vec![in alloc; (batch, expiry)].ok()?;
+    Some(Catalogue {
+        product: None,
+        batches: Pairs::new(list),
+    })
+}
+
+/// Whether the catalogues of two batches are equal.
+fn are_equal(alloc: Global, first: &str, second: &str) -> Option<bool> {
+    let one = catalogue_of(alloc, first)?;
+    let other = catalogue_of(alloc, second)?;
+    Some(one == other)
+}
+
+#[test]
+fn tells_catalogues_apart_by_their_batches(rt: HostRuntime) {
+    assert!(rt; are_equal(rt.alloc(), "B1", "B1") == Some(true));
+    assert!(rt; are_equal(rt.alloc(), "B1", "B2") == Some(false));
 }
 
 /// A batch of the product.

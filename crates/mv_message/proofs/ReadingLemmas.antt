@@ -14,8 +14,6 @@ use Rattle.mv_pack.specs.declared.fault.PackFault.{PackFault}
 use Rattle.mv_message.specs.declared.field.Field.{Field}
 use Rattle.mv_message.specs.declared.fault.MessageFault.{MessageFault}
 use Rattle.mv_message.specs.declared.fault.MessageFault.TheVariants.{Missing, Kind, Count, TextLength}
-use Rattle.mv_message.specs.declared.lists.TheConstants.{MOST_MARKETS, MOST_SERIALS}
-use Rattle.mv_message.specs.declared.reading.TheConstants.{MOST_TEXT_BYTES}
 use Rattle.mv_message.specs.Fields.{field_name}
 use Rattle.mv_message.specs.declared.standing.Standing.{Standing}
 use Rattle.mv_message.specs.declared.standing.Standing.TheVariants.{Active, Supplied, Exported, Destruction, Sample, FreeSample, Stolen, Repackaged}
@@ -23,6 +21,7 @@ use Rattle.mv_message.specs.Standings.{standing_name, standings, standing_named}
 use Rattle.mv_message.specs.Reading.{◌and_then◌, some_or, of_field, member_at, text_at, gtin_at, code_at, expiry_at, standing_at, national_of, national_at, limited, free_text_at, are_texts, length_of, texts_at, read_item, read_each, markets_at, serials_at}
 use Rattle.mv_message.specs.Legal.{IsFreeText}
 use Rattle.mv_message.specs.Reads.{Has, HasText, HasFreeText, Spells, SpellsNational, SpellEach, SpellsList, SpellsSerials}
+use Rattle.mv_message.specs.Limits.{most_markets, most_serials, most_text_bytes}
 
 -- two steps gave a meaning, so each did
 pub both_ok : {A B : Type 0} (r : Result A MessageFault) (f : A → Result B MessageFault) (y : B) → (r and_then f) ≡ Ok y → (x : A) × (r ≡ Ok x) × (f x ≡ Ok y)
@@ -192,8 +191,8 @@ within_count n most low high = grind (arith, nat_tests)
 
 limited_ok : (f : Field) (t x : List ℕ) → limited f t ≡ Ok x → (t ≡ x) × IsFreeText t
 limited_ok f t x h =
-    let passed = unrefused ((length t == 0) || nat_lt MOST_TEXT_BYTES (length t)) (TextLength f) (Ok t) x h in
-    (cc, count_within (length t) MOST_TEXT_BYTES passed.0)
+    let passed = unrefused ((length t == 0) || nat_lt most_text_bytes (length t)) (TextLength f) (Ok t) x h in
+    (cc, count_within (length t) most_text_bytes passed.0)
 
 -- a field that is read as a free text is one
 pub free_text_ok : (f : Field) (d : Data) (t : List ℕ) → free_text_at f d ≡ Ok t → HasFreeText d f t
@@ -207,7 +206,7 @@ pub free_text_is_read : (f : Field) (d : Data) (t : List ℕ) → HasFreeText d 
 unfolding free_text_at
 free_text_is_read f d t h =
     ap (λ r. r and_then limited f) (text_is_read f d t h.0)
-    ∙ ap (λ b. cond b (Err (TextLength f)) (Ok t)) (within_count (length t) MOST_TEXT_BYTES h.1.0 h.1.1)
+    ∙ ap (λ b. cond b (Err (TextLength f)) (Ok t)) (within_count (length t) most_text_bytes h.1.0 h.1.1)
 
 each_spelled : {A : Type 0} (reader : List ℕ → Result A PackFault) (f : Field) (ds : Items) (xs : List A) → read_each reader f ds ≡ Ok xs → SpellEach reader ds xs × (length_of ds ≡ length xs)
 each_spelled reader f no_items [] h = (tt, refl)
@@ -274,18 +273,18 @@ spelling_list_is_read reader most f d xs (ds, found, low, high, spelling) =
     ∙ each.0
 
 -- a field that is read as markets or serial numbers is a spelling of them
-pub markets_ok : (f : Field) (d : Data) (xs : List (List ℕ)) → markets_at f d ≡ Ok xs → SpellsList read_market MOST_MARKETS d f xs
+pub markets_ok : (f : Field) (d : Data) (xs : List (List ℕ)) → markets_at f d ≡ Ok xs → SpellsList read_market most_markets d f xs
 unfolding markets_at
-markets_ok f d xs h = spelled_list read_market MOST_MARKETS f d xs h
+markets_ok f d xs h = spelled_list read_market most_markets f d xs h
 
-pub markets_read : (f : Field) (d : Data) (xs : List (List ℕ)) → SpellsList read_market MOST_MARKETS d f xs → markets_at f d ≡ Ok xs
+pub markets_read : (f : Field) (d : Data) (xs : List (List ℕ)) → SpellsList read_market most_markets d f xs → markets_at f d ≡ Ok xs
 unfolding markets_at
-markets_read f d xs h = spelling_list_is_read read_market MOST_MARKETS f d xs h
+markets_read f d xs h = spelling_list_is_read read_market most_markets f d xs h
 
 pub serials_ok : (f : Field) (d : Data) (xs : List (List ℕ)) → serials_at f d ≡ Ok xs → SpellsSerials d f xs
 unfolding serials_at
-serials_ok f d xs h = spelled_list read_code MOST_SERIALS f d xs h
+serials_ok f d xs h = spelled_list read_code most_serials f d xs h
 
 pub serials_read : (f : Field) (d : Data) (xs : List (List ℕ)) → SpellsSerials d f xs → serials_at f d ≡ Ok xs
 unfolding serials_at
-serials_read f d xs h = spelling_list_is_read read_code MOST_SERIALS f d xs h
+serials_read f d xs h = spelling_list_is_read read_code most_serials f d xs h

@@ -10,23 +10,22 @@ use Rattle.mv_pack.specs.declared.key.BatchKey.{BatchKey}
 use Rattle.mv_pack.specs.declared.key.PackKey.{PackKey}
 use Rattle.mv_message.specs.declared.found.Found.{Found}
 use Rattle.mv_message.specs.declared.found.Found.TheVariants.{Absent, Present}
-use Rattle.mv_message.specs.declared.lists.TheConstants.{MOST_MARKETS, MOST_SERIALS}
 use Rattle.mv_message.specs.declared.message.Message.{Message}
 use Rattle.mv_message.specs.declared.message.Message.TheVariants as messages
 use Rattle.mv_message.specs.declared.message.Product.{Product}
-use Rattle.mv_message.specs.declared.reading.TheConstants.{MOST_TEXT_BYTES}
+use Rattle.mv_message.specs.Limits.{most_markets, most_serials, most_text_bytes}
 
 -- a text of 1 to 200 bytes
 abbrev pub IsFreeText : List ℕ → Type 0
-IsFreeText text = (1 ≤ length text) × (length text ≤ MOST_TEXT_BYTES)
+IsFreeText text = (1 ≤ length text) × (length text ≤ most_text_bytes)
 
 -- 1 to 32 markets
 abbrev pub AreMarkets : List (List ℕ) → Type 0
-AreMarkets markets = (1 ≤ length markets) × (length markets ≤ MOST_MARKETS) × AllByRecursion IsMarket markets
+AreMarkets markets = (1 ≤ length markets) × (length markets ≤ most_markets) × AllByRecursion IsMarket markets
 
 -- 1 to 100 serial numbers
 abbrev pub AreSerials : List (List ℕ) → Type 0
-AreSerials serials = (1 ≤ length serials) × (length serials ≤ MOST_SERIALS) × AllByRecursion IsCode serials
+AreSerials serials = (1 ≤ length serials) × (length serials ≤ most_serials) × AllByRecursion IsCode serials
 
 -- the texts and the list keep their limits
 abbrev pub IsLegalProduct : Product → Type 0

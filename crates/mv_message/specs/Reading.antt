@@ -10,11 +10,10 @@ use Rattle.mv_pack.specs.declared.fault.PackFault.{PackFault}
 use Rattle.mv_message.specs.declared.field.Field.{Field}
 use Rattle.mv_message.specs.declared.fault.MessageFault.{MessageFault}
 use Rattle.mv_message.specs.declared.fault.MessageFault.TheVariants.{Missing, Kind, Pack, Count, TextLength, Memory}
-use Rattle.mv_message.specs.declared.reading.TheConstants.{MOST_TEXT_BYTES}
-use Rattle.mv_message.specs.declared.lists.TheConstants.{MOST_MARKETS, MOST_SERIALS}
 use Rattle.mv_message.specs.declared.standing.Standing.{Standing}
 use Rattle.mv_message.specs.Fields.{field_name}
 use Rattle.mv_message.specs.Standings.{standing_named}
+use Rattle.mv_message.specs.Limits.{most_markets, most_serials, most_text_bytes}
 
 -- the next step on what was read, or the fault that there was
 infixl 10 ◌and_then◌
@@ -59,7 +58,7 @@ standing_at field value = text_at field value and_then λ text. some_or (Kind fi
 -- a text of 1 to 200 bytes, else M8
 abbrev pub limited : Field → List ℕ → Result (List ℕ) MessageFault
 limited field text =
-    if (length text == 0) || nat_lt MOST_TEXT_BYTES (length text) then Err (TextLength field) else Ok text
+    if (length text == 0) || nat_lt most_text_bytes (length text) then Err (TextLength field) else Ok text
 
 -- the free text of a field: M3, M5, M8
 unfoldable pub free_text_at : Field → Data → Result (List ℕ) MessageFault
@@ -111,11 +110,11 @@ read_each reader field (item value items) =
 
 -- the markets of a field, 1 to 32: M3, M5, M7, M6
 unfoldable pub markets_at : Field → Data → Result (List (List ℕ)) MessageFault
-markets_at field value = texts_at MOST_MARKETS field value and_then read_each read_market field
+markets_at field value = texts_at most_markets field value and_then read_each read_market field
 
 -- the serial numbers of a field, 1 to 100: M3, M5, M7, M6
 unfoldable pub serials_at : Field → Data → Result (List (List ℕ)) MessageFault
-serials_at field value = texts_at MOST_SERIALS field value and_then read_each read_code field
+serials_at field value = texts_at most_serials field value and_then read_each read_code field
 
 -- A function returned what reading gives, or memory was refused.
 abbrev pub Gives : {A : Type 0} → Result A MessageFault → Result A MessageFault → Type 0

@@ -17,7 +17,6 @@ use Rattle.mv_message.specs.declared.form.Form.{Form}
 use Rattle.mv_message.specs.declared.form.Form.TheVariants as forms
 use Rattle.mv_message.specs.declared.found.Found.{Found}
 use Rattle.mv_message.specs.declared.found.Found.TheVariants.{Absent, Present}
-use Rattle.mv_message.specs.declared.lists.TheConstants.{MOST_MARKETS, MOST_SERIALS}
 use Rattle.mv_message.specs.declared.message.Message.{Message}
 use Rattle.mv_message.specs.declared.message.Message.TheVariants as messages
 use Rattle.mv_message.specs.declared.message.Product.{Product}
@@ -30,6 +29,7 @@ use Rattle.mv_message.specs.Legal.{IsFreeText}
 use Rattle.mv_message.specs.Members.{keys_of}
 use Rattle.mv_message.specs.Standings.{standing_name}
 use Rattle.mv_message.specs.Values.{whole}
+use Rattle.mv_message.specs.Limits.{most_markets, most_serials}
 
 -- the value is an object that has no key but these
 abbrev pub HasOnly : List (List ℕ) → Data → Type 0
@@ -73,7 +73,7 @@ SpellsList reader most value field xs =
 
 -- the field is a list of 1 to 100 texts of these serial numbers
 abbrev pub SpellsSerials : Data → Field → List (List ℕ) → Type 0
-SpellsSerials value field serials = SpellsList read_code MOST_SERIALS value field serials
+SpellsSerials value field serials = SpellsList read_code most_serials value field serials
 
 -- the field is the number of seconds of this moment
 abbrev pub HasMoment : Data → Field → ℕ → Type 0
@@ -92,7 +92,7 @@ IsOfForm version form value = HasOnly (names_of version form) value × HasText v
 abbrev pub HasProduct : Data → Product → Type 0
 HasProduct value product =
     HasFreeText value fields.Common product.common × HasFreeText value fields.Form product.form
-    × SpellsList read_market MOST_MARKETS value fields.Markets product.markets
+    × SpellsList read_market most_markets value fields.Markets product.markets
     × HasFreeText value fields.Name product.name × HasFreeText value fields.PackSize product.pack_size
     × HasFreeText value fields.PackType product.pack_type × HasFreeText value fields.Scheme product.scheme
     × HasFreeText value fields.Strength product.strength

@@ -3,8 +3,7 @@ use Rattle.std.proofs.Common.{◌≡◌, ℕ, ◌+◌, ◌<◌, List, [], ◌∷
 use Rattle.std.specs.Prelude.{IsUtf8, ◌==◌, nat_lt, Option, None, Some, Result, Ok, Err}
 use Rattle.std.specs.List.{list_all, position_from}
 use Rattle.std.proofs.lemmas.Bool.Decides.{nat_tests}
-use Rattle.mv_pack.specs.Code.{is_code_character, first_wrong, read_characters, read_code, IsCode}
-use Rattle.mv_pack.specs.declared.code.TheConstants.{MOST_CODE_BYTES}
+use Rattle.mv_pack.specs.Code.{is_code_character, first_wrong, read_characters, read_code, IsCode, most_code_bytes}
 use Rattle.mv_pack.specs.declared.fault.PackFault.{PackFault}
 use Rattle.mv_pack.specs.declared.fault.PackFault.TheVariants.{Empty, TooLong}
 use Rattle.mv_pack.proofs.TextLemmas.{text_of_ascii}
@@ -48,7 +47,7 @@ read_chosen false false None t c h = (refl, refl, refl, cc)
 pub read_code_is_code : (t c : List ℕ) → read_code t ≡ Ok c → IsCode c
 unfolding chosen
 read_code_is_code t c h =
-    let tests = read_chosen (length t == 0) (nat_lt MOST_CODE_BYTES (length t)) (first_wrong t) t c h in
+    let tests = read_chosen (length t == 0) (nat_lt most_code_bytes (length t)) (first_wrong t) t c h in
     subst IsCode tests.3
     (grind (arith, nat_tests, tests.0), grind (arith, nat_tests, tests.1), no_wrong_byte t tests.2)
 

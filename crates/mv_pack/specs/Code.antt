@@ -3,7 +3,6 @@ use Rattle.std.specs.Prelude.{ℕ, ◌+◌, ◌≤◌, ◌==◌, ◌&&◌, ◌||
 use Rattle.std.specs.List.{list_all, position_from}
 use Rattle.mv_pack.specs.Gtin.{is_digit}
 use Rattle.mv_pack.specs.Market.{is_capital}
-use Rattle.mv_pack.specs.declared.code.TheConstants.{MOST_CODE_BYTES}
 use Rattle.mv_pack.specs.declared.fault.PackFault.{PackFault}
 use Rattle.mv_pack.specs.declared.fault.PackFault.TheVariants.{Empty, TooLong, Character}
 
@@ -21,9 +20,13 @@ is_mark byte =
 abbrev pub is_code_character : ℕ → Bool
 is_code_character byte = is_digit byte || is_capital byte || is_small_letter byte || is_mark byte
 
+-- the characters of a serial number at most (GS1 General Specifications, AI 21), which are those of all codes here
+abbrev pub most_code_bytes : ℕ
+most_code_bytes = 20
+
 -- 1 to 20 characters of codes
 abbrev pub IsCode : List ℕ → Type 0
-IsCode text = (1 ≤ length text) × (length text ≤ MOST_CODE_BYTES) × IsTrue (list_all is_code_character text)
+IsCode text = (1 ≤ length text) × (length text ≤ most_code_bytes) × IsTrue (list_all is_code_character text)
 
 -- the place of the first byte that is no character of codes, counted from zero
 abbrev pub first_wrong : List ℕ → Option ℕ
@@ -38,5 +41,5 @@ read_characters text (Some place) = Err (Character (place + 1))
 abbrev pub read_code : List ℕ → Result (List ℕ) PackFault
 read_code text =
     if length text == 0 then Err Empty
-    else (if nat_lt MOST_CODE_BYTES (length text) then Err TooLong
+    else (if nat_lt most_code_bytes (length text) then Err TooLong
     else read_characters text (first_wrong text))

@@ -13,7 +13,7 @@ use Rattle.mv_tool.proofs.RepliesLemmas.{IsReplies-append, IsReplies-nil}
 use Rattle.mv_tool.proofs.InputLemmas.{whole_from-append, lines_of-append, KeepLimits-nil, KeepLimits-append, stopped_later}
 
 -- a last piece keeps the limits
-pub last_kept : (begun : List ℕ) (count : ℕ) → count ≤ lines_limit → (0 < length begun → count < lines_limit) → length begun ≤ line_limit
+last_kept : (begun : List ℕ) (count : ℕ) → count ≤ lines_limit → (0 < length begun → count < lines_limit) → length begun ≤ line_limit
     → KeepLimits count (last_piece begun)
 last_kept [] count few behind short = KeepLimits-nil count few
 last_kept (x ∷ xs) count few behind short = record { few = omega (arith, behind (omega arith)); short = search rules }
@@ -24,10 +24,17 @@ read_none a b c xs block n p q e = subst (λ l. Consumes a c l) (append-nil xs) 
 
 module _ {S : Type 0} (Reply : S → List ℕ → List ℕ → S → Type 0) where
   -- all pieces that came keep the limits
-  pub all_kept : {bytes begun' out : List ℕ} {count' : ℕ} {before between : S} → Taken Reply [] 0 before bytes begun' count' between out
+  all_kept : {bytes begun' out : List ℕ} {count' : ℕ} {before between : S} → Taken Reply [] 0 before bytes begun' count' between out
       → count' ≤ lines_limit → (0 < length begun' → count' < lines_limit) → length begun' ≤ line_limit → KeepLimits 0 (pieces bytes)
   all_kept {begun' = begun'} {count' = count'} taken few behind short =
       KeepLimits-append 0 _ _ taken.kept (rw (taken.rest, taken.counted) at (last_kept begun' count' few behind short))
+
+  -- a read failed, and the bytes before it are taken
+  pub unread : (before between : S) (bytes begun' out : List ℕ) (count' : ℕ) (old new : Option (List ℕ)) → Appends old new out
+      → Taken Reply [] 0 before bytes begun' count' between out
+      → count' ≤ lines_limit → (0 < length begun' → count' < lines_limit) → length begun' ≤ line_limit → Ended Reply Read before bytes old new
+  unread before between bytes begun' out count' old new written taken few behind short =
+      (all_kept taken few behind short, (out, written, (between, taken.replied)))
 
   -- the replies to some first pieces stand ready, and their first bytes went out
   wrote_replies : (count : ℕ) (before after : S) (ps answered unanswered : List (List ℕ)) (ready : List ℕ) (old new : Option (List ℕ))

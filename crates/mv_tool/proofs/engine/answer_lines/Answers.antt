@@ -1,7 +1,7 @@
 use Rattle.std.proofs.KnownBytes.{Consumes-kept, Consumes-whole, Consumes-trans, Appends-trans}
 use Rattle.std.proofs.lemmas.Result.{err_from_is_err_and, MatchResult-weaker}
 use Rattle.mv_tool.proofs.InputLemmas.{taken_more}
-use Rattle.mv_tool.proofs.ServedLemmas.{all_kept, halted_later, halted_last, served_whole, read_none}
+use Rattle.mv_tool.proofs.ServedLemmas.{unread, halted_later, halted_last, served_whole, read_none}
 use Rattle.mv_tool.proofs.engine.answer_lines.Goals as goal
 
 -- the read failed
@@ -11,10 +11,7 @@ returns-in_err-count-clause-err g c =
     rw (p.1, p.2, c.in_err-count.ensures.fault) (
       c.loop.invariant.0,
       Consumes-kept _ _ _ _ c.loop.invariant.1 c.in_err-count.ensures.err,
-      (
-        all_kept g.S.Answering.replies c.loop.invariant.4 c.loop.input.few c.loop.input.not_behind c.loop.input.short,
-        (c.loop.invariant.2, c.loop.invariant.3, (c.loop.answering, c.loop.invariant.4.replied)),
-      ),
+      unread g.S.Answering.replies _ _ _ _ _ _ _ _ c.loop.invariant.3 c.loop.invariant.4 c.loop.input.few c.loop.input.not_behind c.loop.input.short,
     )
 
 -- the bytes that were read stopped it
@@ -53,3 +50,11 @@ returns-then-count-eq0-clause-err g c =
       read_none _ _ _ _ _ _ c.loop.invariant.1 c.in_ok-count.ensures.read c.if-count-eq0.true,
       halted_last g.S.Answering.replies fault _ _ _ _ _ _ _ _ _ c.loop.invariant.3 c.loop.invariant.4 halted,
     ))
+
+-- no more reads are made
+pub returns-clause-err : goal.returns-clause-err
+returns-clause-err g c = (
+  c.loop.invariant.0,
+  c.loop.invariant.1,
+  unread g.S.Answering.replies _ _ _ _ _ _ _ _ c.loop.invariant.3 c.loop.invariant.4 c.loop.input.few c.loop.input.not_behind c.loop.input.short,
+)

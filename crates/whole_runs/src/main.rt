@@ -74,6 +74,16 @@ impl Plan {
         Some(())
     }
 
+    /// Takes the steps: the replies, and what the repositories show then where that is asked for. None where memory was refused.
+    fn answer(&mut self, with_copies: bool) -> Option<Page> {
+        let mut page = Page::new(self.alloc);
+        self.run(&mut page)?;
+        if with_copies {
+            self.show(&mut page)?;
+        }
+        Some(page)
+    }
+
     /// Takes the steps, and writes the replies. None where memory was refused.
     fn run(&mut self, page: &mut Page) -> Option<()> {
         let Some(world) = &mut self.world else {
@@ -106,18 +116,19 @@ fn opened(alloc: Global, lists: MarketLists, limits: Option<Limits>) -> Option<W
     World::open(alloc, parties, limits?).ok()
 }
 
-/// The replies to the steps of an input, and what the repositories show then where that is asked for.
-fn answer(alloc: Global, input: &[u8], with_copies: bool) -> Option<Page> {
+/// What the lines of an input ask.
+fn plan_of(alloc: Global, input: &[u8]) -> Option<Plan> {
     let mut plan = Plan::new(alloc);
     for line in input.split(|byte| *byte == b'\n') {
         plan.take(line)?;
     }
-    let mut page = Page::new(alloc);
-    plan.run(&mut page)?;
-    if with_copies {
-        plan.show(&mut page)?;
-    }
-    Some(page)
+    Some(plan)
+}
+
+/// What is written to an input.
+fn answer(alloc: Global, input: &[u8], with_copies: bool) -> Option<Page> {
+    let mut plan = plan_of(alloc, input)?;
+    plan.answer(with_copies)
 }
 
 /// Whether the words behind the program's name ask for what the repositories show; none where they are mistaken.

@@ -50,15 +50,19 @@ fn asked(words: &[String]) -> Option<(Shape, u32)> {
     Some((shape, size))
 }
 
-/// How many batches descend from the first.
+/// How many batches descend from the first, where they are linked in a shape.
 fn count_descendants(alloc: Global, shape: Shape, size: u32) -> Option<usize> {
-    let mut hub = hub_of_one(alloc)?;
     let gtin = Gtin::read("09506000134352").ok()?;
-    let routed = match shape {
-        Shape::Chain => link_chain(alloc, &mut hub, gtin, size),
-        Shape::Complete => link_all(alloc, &mut hub, gtin, size),
-    };
-    routed?;
+    let mut hub = hub_of_one(alloc)?;
+    match shape {
+        Shape::Chain => link_chain(alloc, &mut hub, gtin, size)?,
+        Shape::Complete => link_all(alloc, &mut hub, gtin, size)?,
+    }
+    descendants_of_first(alloc, &hub, gtin)
+}
+
+/// How many batches descend from the first.
+fn descendants_of_first(alloc: Global, hub: &Hub, gtin: Gtin) -> Option<usize> {
     let first = batch(alloc, gtin, 0)?;
     let found = hub.descendants(&first).ok()?;
     Some(found.len())
@@ -66,7 +70,8 @@ fn count_descendants(alloc: Global, shape: Shape, size: u32) -> Option<usize> {
 
 /// A hub with one party, which serves no market.
 fn hub_of_one(alloc: Global) -> Option<Hub> {
-    let lists = vec![in alloc; Vec::new(alloc)].ok()?;
+    let mut lists = Vec::with_capacity(alloc, 1).ok()?;
+    lists.push_reserved(Vec::new(alloc));
     let parties = Parties::new(alloc, lists).ok()?;
     Hub::new(alloc, parties, 2).ok()
 }
@@ -105,10 +110,12 @@ fn link(alloc: Global, hub: &mut Hub, gtin: Gtin, before: u32, after: u32) -> Op
 /// A repackaging of one batch into another, which names no pack.
 fn repack(alloc: Global, gtin: Gtin, before: u32, after: u32) -> Option<Message> {
     let at = Moment::of(1_800_000_000).ok()?;
+    let before = batch(alloc, gtin, before)?;
+    let after = batch(alloc, gtin, after)?;
     Some(Message::Repack {
-        before: batch(alloc, gtin, before)?,
+        before,
         before_serials: Serials::new(Vec::new(alloc)),
-        after: batch(alloc, gtin, after)?,
+        after,
         after_serials: Serials::new(Vec::new(alloc)),
         at,
     })

@@ -36,7 +36,8 @@ const OTHER_UPLOAD: &str =
 
 /// A hub of one party, which serves no market.
 fn hub(alloc: Global) -> Option<Hub> {
-    let lists = vec![in alloc; Vec::new(alloc)].ok()?;
+    let mut lists = Vec::with_capacity(alloc, 1).ok()?;
+    lists.push_reserved(Vec::new(alloc));
     let parties = Parties::new(alloc, lists).ok()?;
     Hub::new(alloc, parties, 8).ok()
 }

@@ -10,7 +10,9 @@ use std::alloc::Global;
 fn parties(alloc: Global) -> Option<Parties> {
     let finland = Market::read("FI").ok()?;
     let served = vec![in alloc; finland].ok()?;
-    let lists = vec![in alloc; Vec::new(alloc), served].ok()?;
+    let mut lists = Vec::with_capacity(alloc, 2).ok()?;
+    lists.push_reserved(Vec::new(alloc));
+    lists.push_reserved(served);
     Parties::new(alloc, lists).ok()
 }
 

@@ -27,17 +27,16 @@ fn submission(alloc: Global, text: &str) -> Option<Step> {
 fn steps(alloc: Global) -> Option<Vec<Step>> {
     let master = submission(alloc, MASTER)?;
     let upload = submission(alloc, UPLOAD)?;
-    let steps = vec![in alloc;
-        master,
-        upload,
-        Step::Route { from: 0 },
-        Step::Route { from: 0 },
-        Step::Relay { from: 0, to: 1 },
-        Step::Relay { from: 0, to: 1 },
-        Step::Apply { from: 0, to: 1 },
-        Step::Apply { from: 0, to: 1 },
-    ];
-    steps.ok()
+    let mut steps = Vec::with_capacity(alloc, 8).ok()?;
+    steps.push_reserved(master);
+    steps.push_reserved(upload);
+    steps.push_reserved(Step::Route { from: 0 });
+    steps.push_reserved(Step::Route { from: 0 });
+    steps.push_reserved(Step::Relay { from: 0, to: 1 });
+    steps.push_reserved(Step::Relay { from: 0, to: 1 });
+    steps.push_reserved(Step::Apply { from: 0, to: 1 });
+    steps.push_reserved(Step::Apply { from: 0, to: 1 });
+    Some(steps)
 }
 
 /// These steps, made again where memory was refused once.

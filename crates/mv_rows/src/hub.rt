@@ -61,7 +61,10 @@ const B2_TO_B2: &str =
 fn hub_of(alloc: Global, first: Market, second: Market) -> Option<Hub> {
     let one = vec![in alloc; first].ok()?;
     let two = vec![in alloc; second].ok()?;
-    let lists = vec![in alloc; Vec::new(alloc), one, two].ok()?;
+    let mut lists = Vec::with_capacity(alloc, 3).ok()?;
+    lists.push_reserved(Vec::new(alloc));
+    lists.push_reserved(one);
+    lists.push_reserved(two);
     let parties = Parties::new(alloc, lists).ok()?;
     Hub::new(alloc, parties, 8).ok()
 }
@@ -389,7 +392,8 @@ fn lists_each_batch_and_expiry_once(rt: HostRuntime) {
 fn catalogue_of(alloc: Global, number: &str) -> Option<Catalogue> {
     let batch = Batch::read(number).ok()?;
     let expiry = Expiry::read("280200").ok()?;
-    let list = vec![in alloc; (batch, expiry)].ok()?;
+    let mut list = Vec::with_capacity(alloc, 1).ok()?;
+    list.push_reserved((batch, expiry));
     Some(Catalogue {
         product: None,
         batches: Pairs::new(list),

@@ -5,7 +5,7 @@
 #![tactic(auto)]
 
 use mv_hub::{Hub, Parties};
-use mv_message::{Message, Serials};
+use mv_message::{Message, Serials, Shared};
 use mv_pack::{Batch, BatchKey, Gtin, Moment};
 use std::alloc::Global;
 use std::env;
@@ -98,7 +98,7 @@ fn link_all(alloc: Global, hub: &mut Hub, gtin: Gtin, size: u32) -> Option<()> {
 
 /// Routes a repackaging of one batch into another, and relays its receipt.
 fn link(alloc: Global, hub: &mut Hub, gtin: Gtin, before: u32, after: u32) -> Option<()> {
-    let message = repack(alloc, gtin, before, after)?;
+    let message = Shared::new(alloc, repack(alloc, gtin, before, after)?).ok()?;
     if hub.record().len() >= 1_000_000 {
         return None;
     }

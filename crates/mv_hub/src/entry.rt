@@ -1,6 +1,6 @@
 //! The entries of the hub's record.
 
-use mv_message::{Message, Party};
+use mv_message::{Message, Party, Shared};
 
 /// An entry of the record.
 #[derive(Debug, PartialEq, Eq, Drop)]
@@ -9,7 +9,7 @@ pub enum Entry {
     Routed {
         from: Party,
         k: u32,
-        message: Message,
+        message: Shared<Message>,
     },
     /// The hub closed the link from one party to another, for ever.
     Closed {

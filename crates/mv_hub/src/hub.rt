@@ -20,7 +20,7 @@ use crate::trail::AuditTrail;
 use crate::{Catalogue, Entry, HubFault, Parties, RouteFault};
 use arrayvec::ArrayVec;
 use mv_link::{Frame, Item, LinkFault, Outgoing, PARTIES_LIMIT, Reach};
-use mv_message::{Message, Party};
+use mv_message::{Message, Party, Shared};
 use mv_pack::{BatchKey, Gtin, Market};
 use mv_pairs::PairTable;
 use std::alloc::{AllocError, Global};
@@ -271,22 +271,29 @@ impl Hub {
     }
 
     /// The receipt that the routing of a message that reaches these parties puts on a link, if it does.
-    fn receipt(&self, from: Party, to: Party, message: &Message, reached: &Reach) -> Option<Item>
+    fn receipt(
+        &self,
+        from: Party,
+        to: Party,
+        message: &Shared<Message>,
+        reached: &Reach,
+    ) -> Result<Option<Item>, AllocError>
         requires from { from < length self.now.parties }
         requires to { to < length self.now.parties }
         requires few { length self.now.entries < 4294967295 }
-        ensures { option_to_list result ≡ (if (to == from) && is_open self.now.entries from from
+        ensures { IfOk result (λ receipt. option_to_list receipt
+            ≡ (if (to == from) && is_open self.now.entries from from
             then Receipt (routed_count self.now.entries from + 1) reached.now (is_query message.now) ∷ []
-            else []) }
+            else [])) }
     {
         if !self.has_receipt(from, to) {
-            return None;
+            return Ok(None);
         }
-        Some(Item::Receipt {
+        Ok(Some(Item::Receipt {
             k: self.routed_count(from) + 1,
-            reach: reached.copy(),
-            query: is_query(message),
-        })
+            reach: Shared::new(self.alloc, reached.copy())?,
+            query: is_query(message.get()),
+        }))
     }
 
     /// The message as the routing of it puts it on a link, if it reaches the party there.
@@ -294,7 +301,7 @@ impl Hub {
         &self,
         from: Party,
         to: Party,
-        message: &Message,
+        message: &Shared<Message>,
         reached: &Reach,
     ) -> Result<Option<Item>, AllocError>
         requires from { from < length self.now.parties }
@@ -308,13 +315,10 @@ impl Hub {
         if !has_party(reached, to) {
             return Ok(None);
         }
-        let Ok(message) = message.copy(self.alloc) else {
-            return Err(AllocError);
-        };
         Ok(Some(Item::Carried {
             k: self.routed_count(from) + 1,
             stamp: self.record().len() as u32 + 1,
-            message,
+            message: message.share()?,
         }))
     }
 
@@ -323,7 +327,7 @@ impl Hub {
         &self,
         from: Party,
         to: Party,
-        message: &Message,
+        message: &Shared<Message>,
         reached: &Reach,
     ) -> Result<Gain, AllocError>
         requires from { from < length self.now.parties }
@@ -332,7 +336,7 @@ impl Hub {
         requires reached { reached.now ≡ reach self.now.parties self.now.entries from message.now }
         ensures { IfOk result (λ gain. gain ≡ next_items self.now from message.now to) }
     {
-        let receipt = self.receipt(from, to, message, reached);
+        let receipt = self.receipt(from, to, message, reached)?;
         let carried = self.carried(from, to, message, reached)?;
         Ok(Gain::new(receipt, carried))
     }
@@ -341,7 +345,7 @@ impl Hub {
     fn gains(
         &self,
         from: Party,
-        message: &Message,
+        message: &Shared<Message>,
         reached: &Reach,
     ) -> Result<Vec<Gain>, AllocError>
         requires from { from < length self.now.parties }
@@ -360,7 +364,7 @@ impl Hub {
     fn put_routed(
         &mut self,
         from: Party,
-        message: &Message,
+        message: &Shared<Message>,
         gains: Vec<Gain>,
     ) -> Result<(), AllocError>
         requires from { from < length self.old.parties }
@@ -371,14 +375,8 @@ impl Hub {
         ensures err { OnErr result (self.new ≡ self.old) }
     {
         let k = self.routed_count(from) + 1;
-        let Ok(copy) = message.copy(self.alloc) else {
-            return Err(AllocError);
-        };
-        self.trail.push(Entry::Routed {
-            from,
-            k,
-            message: copy,
-        })?;
+        let message = message.share()?;
+        self.trail.push(Entry::Routed { from, k, message })?;
         // Nothing fails from here on.
         put_row(&mut self.links, from, gains);
         self.counts[from as usize] = k;
@@ -437,7 +435,11 @@ impl Hub {
     ///
     /// The first of these that holds is the fault: H4, there is no such party; H5, a link has no room for what it would
     /// gain, the least such; H7, memory was refused.
-    pub fn route(&mut self, from: Party, message: &Message) -> Result<(u32, Reach), RouteFault>
+    pub fn route(
+        &mut self,
+        from: Party,
+        message: &Shared<Message>,
+    ) -> Result<(u32, Reach), RouteFault>
         requires { length self.old.entries < 4294967295 }
         ensures number { IfOk result (λ routed. routed.0 ≡ routed_count self.old.entries from + 1) }
         ensures reach { IfOk result (λ routed.
@@ -449,7 +451,7 @@ impl Hub {
         if from >= self.parties().len() {
             return Err(RouteFault::StrangerParty);
         }
-        let reached = self.reach(from, message);
+        let reached = self.reach(from, message.get());
         if let Some(to) = self.busy_party(from, &reached) {
             return Err(RouteFault::Busy(to));
         }

@@ -128,7 +128,7 @@ fn note(
     let Entry::Routed { message, .. } = entry else {
         return Ok(());
     };
-    match message {
+    match message.get() {
         Message::Master { gtin, product } => catalogues.set_product(*gtin, product)?,
         Message::Upload {
             gtin,

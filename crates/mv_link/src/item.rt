@@ -3,8 +3,7 @@
 ghost use Rattle.std.specs.Prelude.{◌≡◌, IfOk, IfErr};
 
 use crate::{LinkFault, Reach};
-use mv_message::Message;
-use std::alloc::Global;
+use mv_message::{Message, Shared};
 
 /// What a link carries from its sender.
 #[derive(Debug, PartialEq, Eq, Drop)]
@@ -13,7 +12,7 @@ pub enum Item {
     /// that message was a query.
     Receipt {
         k: u32,
-        reach: Reach,
+        reach: Shared<Reach>,
         query: bool,
     },
     /// The sender's `k`-th message, counted from one, and its stamp: the place in the hub's record of its routing,
@@ -21,24 +20,29 @@ pub enum Item {
     Carried {
         k: u32,
         stamp: u32,
-        message: Message,
+        message: Shared<Message>,
     },
 }
 
 impl Item {
     /// An item of its own that equals this one. The only refusal is L4, for want of memory.
-    pub fn copy(&self, alloc: Global) -> Result<Item, LinkFault>
+    pub fn copy(&self) -> Result<Item, LinkFault>
         ensures copy { IfOk result (λ item. item ≡ self.now) }
         ensures memory { IfErr result (λ fault. fault ≡ LinkFault.Memory) }
     {
         match self {
-            Item::Receipt { k, reach, query } => Ok(Item::Receipt {
-                k: *k,
-                reach: reach.copy(),
-                query: *query,
-            }),
+            Item::Receipt { k, reach, query } => {
+                let Ok(reach) = reach.share() else {
+                    return Err(LinkFault::Memory);
+                };
+                Ok(Item::Receipt {
+                    k: *k,
+                    reach,
+                    query: *query,
+                })
+            }
             Item::Carried { k, stamp, message } => {
-                let Ok(message) = message.copy(alloc) else {
+                let Ok(message) = message.share() else {
                     return Err(LinkFault::Memory);
                 };
                 Ok(Item::Carried {
@@ -62,11 +66,11 @@ pub struct Frame {
 
 impl Frame {
     /// A frame of its own that equals this one. The only refusal is L4, for want of memory.
-    pub fn copy(&self, alloc: Global) -> Result<Frame, LinkFault>
+    pub fn copy(&self) -> Result<Frame, LinkFault>
         ensures copy { IfOk result (λ frame. frame ≡ self.now) }
         ensures memory { IfErr result (λ fault. fault ≡ LinkFault.Memory) }
     {
-        let item = self.item.copy(alloc)?;
+        let item = self.item.copy()?;
         Ok(Frame {
             number: self.number,
             item,

@@ -10,7 +10,6 @@ use std::marker::Model;
 /// The sending end of one link. Its items are numbered from 1 in the order in which they were pushed.
 #[derive(Drop)]
 pub struct Outgoing {
-    alloc: Global,
     held: HeapCircularBuffer<Item>,
     total: u32,
     sent: u32,
@@ -38,7 +37,6 @@ impl Outgoing {
     {
         let held = HeapCircularBuffer::with_capacity(alloc, window as usize)?;
         Ok(Outgoing {
-            alloc,
             held,
             total: 0,
             sent: 0,
@@ -92,7 +90,7 @@ impl Outgoing {
         let behind = (self.total - number) as usize;
         let place = self.held.len() - 1 - behind;
         let item = self.held.get(place).unwrap();
-        let item = item.copy(self.alloc)?;
+        let item = item.copy()?;
         Ok(Frame { number, item })
     }
 

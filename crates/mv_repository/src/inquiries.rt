@@ -14,7 +14,7 @@ use crate::verdict::{is_stopped, verdict_when};
 use crate::{Joint, Verdict};
 use indexmap::{IndexMap, IndexSet};
 use mv_link::{Item, Reach};
-use mv_message::{Found, Message, Party};
+use mv_message::{Found, Message, Party, Shared};
 use std::alloc::{AllocError, Global};
 
 /// What is known of a query.
@@ -80,7 +80,7 @@ impl Inquiries {
         }
         match item {
             Item::Receipt { k, reach, .. } => self.note_receipt(*k, reach),
-            Item::Carried { message, .. } => match message {
+            Item::Carried { message, .. } => match message.get() {
                 Message::Answer { q, found, .. } => self.note_answer(sender, *q, found),
                 _ => (),
             },
@@ -88,13 +88,13 @@ impl Inquiries {
     }
 
     /// Notes the receipt of a query.
-    fn note_receipt(&mut self, query: u32, reach: &Reach)
+    fn note_receipt(&mut self, query: u32, reach: &Shared<Reach>)
         requires { 0 < map_spare self.old.inquiries }
         ensures inquiries { (q : ℕ) → inquiry_in self.new q ≡ (if query == q
             then with_receipt reach.now (inquiry_in self.old q) else inquiry_in self.old q) }
         ensures replies { (q other : ℕ) → has_reply self.new q other ≡ has_reply self.old q other }
     {
-        let inquiry = self.inquiry(query).with_receipt(reach);
+        let inquiry = self.inquiry(query).with_receipt(reach.get());
         let Ok(_) = self.inquiries.insert(query, inquiry) else {
             unreachable!();
         };
@@ -244,11 +244,10 @@ fn tells_of_query(party: Party, sender: Party, item: &Item) -> bool
 {
     match item {
         Item::Receipt { query, .. } => *query && sender == party,
-        Item::Carried {
-            message: Message::Answer { asker, .. },
-            ..
-        } => *asker == party,
-        Item::Carried { .. } => false,
+        Item::Carried { message, .. } => match message.get() {
+            Message::Answer { asker, .. } => *asker == party,
+            _ => false,
+        },
     }
 }
 

@@ -22,7 +22,7 @@ use crate::verdict::{is_stopped, verdict_when};
 use crate::{Counts, Effect, Held, Local, LogEntry};
 use indexmap::IndexMap;
 use mv_link::Item;
-use mv_message::{Found, Message, Party, Product, Serials};
+use mv_message::{Found, Message, Party, Product, Serials, Shared};
 use mv_pack::{Batch, BatchKey, Gtin, PackKey};
 use std::alloc::{AllocError, Global};
 use std::marker::Model;
@@ -202,22 +202,22 @@ impl Ledger {
     }
 
     /// The answer that an item from a party calls for, before it is applied.
-    fn answer(&self, sender: Party, item: &Item) -> Option<Message>
-        ensures { result ≡ answer_after self.now.log sender item.now }
+    fn answer(&self, sender: Party, item: &Item) -> Result<Option<Shared<Message>>, AllocError>
+        ensures { IfOk result (λ answer. answer ≡ answer_after self.now.log sender item.now) }
     {
-        match item {
-            Item::Carried {
-                k,
-                message: Message::Query { key },
-                ..
-            } => Some(Message::Answer {
-                asker: sender,
-                q: *k,
-                key: key.copy(),
-                found: self.found(key),
-            }),
-            _ => None,
-        }
+        let Item::Carried { k, message, .. } = item else {
+            return Ok(None);
+        };
+        let Message::Query { key } = message.get() else {
+            return Ok(None);
+        };
+        let answer = Message::Answer {
+            asker: sender,
+            q: *k,
+            key: key.copy(),
+            found: self.found(key),
+        };
+        Ok(Some(Shared::new(self.alloc, answer)?))
     }
 
     /// Applies an item that came from a party: says what that did, at the item's own place in the order of stamps, and
@@ -226,7 +226,7 @@ impl Ledger {
         &mut self,
         sender: Party,
         item: &Item,
-    ) -> Result<(Effect, Option<Message>), AllocError>
+    ) -> Result<(Effect, Option<Shared<Message>>), AllocError>
         ensures ok { OnOk result (self.new ≡ with_applied self.old sender item.now) }
         ensures effect { IfOk result (λ done. done.0
             ≡ effect_of self.old.log (record { sender = sender; item = item.now })) }
@@ -234,7 +234,7 @@ impl Ledger {
             ≡ answer_to self.old.log (record { sender = sender; item = item.now })) }
         ensures err { OnErr result (self.new ≡ self.old) }
     {
-        let answer = self.answer(sender, item);
+        let answer = self.answer(sender, item)?;
         let effect = self.apply_item(sender, item)?;
         Ok((effect, answer))
     }
@@ -250,7 +250,7 @@ impl Ledger {
             self.apply_noted(sender, item)?;
             return Ok(Effect::Noted);
         };
-        match message {
+        match message.get() {
             Message::Master { gtin, .. } => {
                 self.apply_master(sender, item, *gtin)?;
                 Ok(Effect::Done)
@@ -277,7 +277,7 @@ impl Ledger {
         ensures ok { OnOk result (self.new ≡ with_applied self.old sender item.now) }
         ensures err { OnErr result (self.new ≡ self.old) }
     {
-        let entry = ready_entry(self.alloc, &mut self.log, sender, item)?;
+        let entry = ready_entry(&mut self.log, sender, item)?;
         self.log.push_reserved(entry);
         self.latest = latest_with(self.latest, item);
         Ok(())
@@ -289,7 +289,7 @@ impl Ledger {
         ensures ok { OnOk result (self.new ≡ with_applied self.old sender item.now) }
         ensures err { OnErr result (self.new ≡ self.old) }
     {
-        let entry = ready_entry(self.alloc, &mut self.log, sender, item)?;
+        let entry = ready_entry(&mut self.log, sender, item)?;
         let place = self.log.len();
         if !self.is_late(&gtin, item) {
             self.masters.insert(gtin, place)?;
@@ -316,7 +316,7 @@ impl Ledger {
             ≡ effect_of self.old.log (record { sender = sender; item = item.now })) }
         ensures err { OnErr result (self.new ≡ self.old) }
     {
-        let entry = ready_entry(self.alloc, &mut self.log, sender, item)?;
+        let entry = ready_entry(&mut self.log, sender, item)?;
         ensure_all(&mut self.packs, self.alloc, gtin, serials.as_slice())?;
         let new = self.log.len();
         let batch = batch.copy();
@@ -352,7 +352,7 @@ impl Ledger {
             ≡ effect_of self.old.log (record { sender = sender; item = item.now })) }
         ensures err { OnErr result (self.new ≡ self.old) }
     {
-        let entry = ready_entry(self.alloc, &mut self.log, sender, item)?;
+        let entry = ready_entry(&mut self.log, sender, item)?;
         ensure(&mut self.packs, self.alloc, key.copy())?;
         let was = tally_of(&self.packs, key);
         let effect = add_status(&mut self.packs, &mut self.log, entry, &self.stops, key)?;
@@ -377,7 +377,7 @@ impl Ledger {
             ≡ effect_of self.old.log (record { sender = sender; item = item.now })) }
         ensures err { OnErr result (self.new ≡ self.old) }
     {
-        let entry = ready_entry(self.alloc, &mut self.log, sender, item)?;
+        let entry = ready_entry(&mut self.log, sender, item)?;
         let first = self.stops.add_recall(&mut self.log, entry, batch.copy())?;
         let effect = lasting_effect(first);
         if self.latest <= stamp {
@@ -405,7 +405,7 @@ impl Ledger {
             ≡ effect_of self.old.log (record { sender = sender; item = item.now })) }
         ensures err { OnErr result (self.new ≡ self.old) }
     {
-        let entry = ready_entry(self.alloc, &mut self.log, sender, item)?;
+        let entry = ready_entry(&mut self.log, sender, item)?;
         let first = self.stops.add_withdrawal(&mut self.log, entry, gtin)?;
         let effect = lasting_effect(first);
         if self.latest <= stamp {
@@ -442,17 +442,12 @@ fn latest_with(latest: u32, item: &Item) -> u32
 }
 
 /// An entry of its own for an item, and room for it in the log.
-fn ready_entry(
-    alloc: Global,
-    log: &mut Vec<LogEntry>,
-    sender: Party,
-    item: &Item,
-) -> Result<LogEntry, AllocError>
+fn ready_entry(log: &mut Vec<LogEntry>, sender: Party, item: &Item) -> Result<LogEntry, AllocError>
     ensures entry { IfOk result (λ entry. entry ≡ record { sender = sender; item = item.now }) }
     ensures room { OnOk result (vec_len log.new < vec_capacity log.new) }
     ensures items { log.new.items ≡ log.old.items }
 {
-    let Ok(item) = item.copy(alloc) else {
+    let Ok(item) = item.copy() else {
         return Err(AllocError);
     };
     log.reserve(1)?;
@@ -464,10 +459,10 @@ fn product_in(item: &Item) -> Option<&Product>
     ensures { option_copied result ≡ product_in item.now }
 {
     match item {
-        Item::Carried {
-            message: Message::Master { product, .. },
-            ..
-        } => Some(product),
-        _ => None,
+        Item::Carried { message, .. } => match message.get() {
+            Message::Master { product, .. } => Some(product),
+            _ => None,
+        },
+        Item::Receipt { .. } => None,
     }
 }

@@ -353,11 +353,10 @@ fn refresh_upload(
     let Some(entry) = log.get(place) else {
         return;
     };
-    if let Item::Carried {
-        message: Message::Upload { gtin, serials, .. },
-        ..
-    } = &entry.item
-    {
+    let Item::Carried { message, .. } = &entry.item else {
+        return;
+    };
+    if let Message::Upload { gtin, serials, .. } = message.get() {
         refresh_serials(packs, log, stops, tally, *gtin, serials.as_slice());
     }
 }

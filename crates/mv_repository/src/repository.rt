@@ -7,7 +7,7 @@ use crate::inquiries::Inquiries;
 use crate::ledger::Ledger;
 use crate::{Counts, Effect, FromSender, Held, Joint, Local, LogEntry};
 use mv_link::Item;
-use mv_message::{Message, Party, Product};
+use mv_message::{Message, Party, Product, Shared};
 use mv_pack::{BatchKey, Gtin, PackKey};
 use std::alloc::{AllocError, Global};
 use std::marker::Model;
@@ -126,7 +126,7 @@ impl Repository {
         &mut self,
         sender: Party,
         item: &Item,
-    ) -> Result<(Effect, Option<Message>), AllocError>
+    ) -> Result<(Effect, Option<Shared<Message>>), AllocError>
         ensures ok { OnOk result (self.new ≡ with_applied self.old sender item.now) }
         ensures effect { IfOk result (λ done. done.0
             ≡ effect_of self.old.log (record { sender = sender; item = item.now })) }

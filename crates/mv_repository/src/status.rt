@@ -39,11 +39,11 @@ fn user_in(item: &Item) -> &str
     ensures { result.now ≡ user_in item.now }
 {
     match item {
-        Item::Carried {
-            message: Message::Status { user, .. },
-            ..
-        } => user.as_str(),
-        _ => "",
+        Item::Carried { message, .. } => match message.get() {
+            Message::Status { user, .. } => user.as_str(),
+            _ => "",
+        },
+        Item::Receipt { .. } => "",
     }
 }
 

@@ -33,15 +33,15 @@ pub(crate) fn copy_of(national: &Option<National>) -> Option<National>
 fn made_at(log: &[LogEntry], place: usize) -> Option<Held>
     ensures { result ≡ held_made_at log.now place }
 {
-    let Item::Carried {
-        message: Message::Upload {
-            batch,
-            expiry,
-            national,
-            ..
-        },
+    let Item::Carried { message, .. } = &log.get(place)?.item else {
+        return None;
+    };
+    let Message::Upload {
+        batch,
+        expiry,
+        national,
         ..
-    } = &log.get(place)?.item
+    } = message.get()
     else {
         return None;
     };
@@ -104,11 +104,10 @@ fn advance(
     let Some(entry) = log.get(place) else {
         return held;
     };
-    let Item::Carried {
-        message: Message::Status { to, user, at, .. },
-        ..
-    } = &entry.item
-    else {
+    let Item::Carried { message, .. } = &entry.item else {
+        return held;
+    };
+    let Message::Status { to, user, at, .. } = message.get() else {
         return held;
     };
     let batch = BatchKey {
@@ -194,11 +193,10 @@ fn effect_on(
     let Some(entry) = log.get(place) else {
         return Effect::Noted;
     };
-    let Item::Carried {
-        message: Message::Status { to, user, at, .. },
-        ..
-    } = &entry.item
-    else {
+    let Item::Carried { message, .. } = &entry.item else {
+        return Effect::Noted;
+    };
+    let Message::Status { to, user, at, .. } = message.get() else {
         return Effect::Noted;
     };
     let batch = BatchKey {

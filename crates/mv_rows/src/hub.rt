@@ -2,7 +2,7 @@
 
 use mv_hub::{Catalogue, Entry, Hub, HubFault, Pairs, Parties, RouteFault};
 use mv_link::{Frame, Item};
-use mv_message::Message;
+use mv_message::{Message, Shared};
 use mv_pack::{Batch, BatchKey, Expiry, Gtin, Market};
 use std::alloc::Global;
 
@@ -82,12 +82,12 @@ fn product_code() -> Option<Gtin> {
 }
 
 /// The message that a text is.
-fn message_of(alloc: Global, text: &str) -> Option<Message> {
-    Message::read(alloc, text.as_bytes()).ok()
+fn message_of(alloc: Global, text: &str) -> Option<Shared<Message>> {
+    Shared::new(alloc, Message::read(alloc, text.as_bytes()).ok()?).ok()
 }
 
 /// Whether a message of a party is its `k`-th and reaches these parties.
-fn reaches(hub: &mut Hub, from: u32, message: &Message, k: u32, reached: &[u32]) -> bool {
+fn reaches(hub: &mut Hub, from: u32, message: &Shared<Message>, k: u32, reached: &[u32]) -> bool {
     if hub.record().len() > 1_000 {
         return false;
     }
@@ -184,7 +184,7 @@ fn is_stamped(hub: &mut Hub, alloc: Global) -> bool {
 fn is_receipt(frame: &Frame) -> bool {
     match &frame.item {
         Item::Receipt { k, reach, query } => {
-            *k == 1 && *query && reach.as_slice() == [2].as_slice()
+            *k == 1 && *query && reach.get().as_slice() == [2].as_slice()
         }
         Item::Carried { .. } => false,
     }
@@ -236,7 +236,7 @@ fn moves_a_product_to_another_market(rt: HostRuntime) {
 }
 
 /// Why a message is not routed.
-fn fault_of(hub: &mut Hub, from: u32, message: &Message) -> Option<RouteFault> {
+fn fault_of(hub: &mut Hub, from: u32, message: &Shared<Message>) -> Option<RouteFault> {
     if hub.record().len() > 1_000 {
         return None;
     }

@@ -2,14 +2,15 @@
 
 use arrayvec::ArrayVec;
 use mv_link::{Frame, Incoming, Item, LinkFault, Look, Outgoing, Reach};
+use mv_message::Shared;
 use std::alloc::{AllocError, Global};
 
-fn receipt(k: u32) -> Item {
-    Item::Receipt {
+fn receipt(alloc: Global, k: u32) -> Result<Item, AllocError> {
+    Ok(Item::Receipt {
         k,
-        reach: Reach::new(ArrayVec::new()),
+        reach: Shared::new(alloc, Reach::new(ArrayVec::new()))?,
         query: false,
-    }
+    })
 }
 
 /// The number of a frame whose item has the same number, else 0.
@@ -26,15 +27,18 @@ fn number_of(relayed: Result<Frame, LinkFault>) -> u32 {
 }
 
 /// Pushes an item where there is room for it.
-fn push(link: &mut Outgoing, k: u32) -> bool {
-    link.room(1) && link.push(receipt(k)).is_ok()
+fn push(alloc: Global, link: &mut Outgoing, k: u32) -> bool {
+    match receipt(alloc, k) {
+        Ok(item) => link.room(1) && link.push(item).is_ok(),
+        Err(_) => false,
+    }
 }
 
 /// A link with a window of two, on which three items were pushed and relayed.
 fn relayed(alloc: Global) -> Option<Outgoing> {
     let mut link = Outgoing::new(alloc, 2).ok()?;
     for k in 1..=3 {
-        if !push(&mut link, k) || number_of(link.relay()) != k {
+        if !push(alloc, &mut link, k) || number_of(link.relay()) != k {
             return None;
         }
     }
@@ -52,11 +56,11 @@ fn refusal(link: &Outgoing, number: u32) -> &'static str {
 #[test]
 fn takes_no_item_into_a_full_window(rt: HostRuntime) -> Result<(), AllocError> {
     let mut link = Outgoing::new(rt.alloc(), 2)?;
-    assert!(rt; push(&mut link, 1));
-    assert!(rt; push(&mut link, 2));
-    assert!(rt; !push(&mut link, 3));
+    assert!(rt; push(rt.alloc(), &mut link, 1));
+    assert!(rt; push(rt.alloc(), &mut link, 2));
+    assert!(rt; !push(rt.alloc(), &mut link, 3));
     assert_eq!(rt; number_of(link.relay()), 1);
-    assert!(rt; push(&mut link, 3));
+    assert!(rt; push(rt.alloc(), &mut link, 3));
     assert_eq!(rt; link.total(), 3);
     assert_eq!(rt; link.sent(), 1);
     Ok(())
@@ -83,14 +87,14 @@ fn numbers_its_faults(rt: HostRuntime) {
 }
 
 #[test]
-fn takes_each_frame_once_and_in_order(rt: HostRuntime) {
+fn takes_each_frame_once_and_in_order(rt: HostRuntime) -> Result<(), AllocError> {
     let first = Frame {
         number: 1,
-        item: receipt(1),
+        item: receipt(rt.alloc(), 1)?,
     };
     let second = Frame {
         number: 2,
-        item: receipt(2),
+        item: receipt(rt.alloc(), 2)?,
     };
     let mut end = Incoming::new();
     assert_eq!(rt; end.look(&second), Look::Gap { expected: 1 });
@@ -100,20 +104,22 @@ fn takes_each_frame_once_and_in_order(rt: HostRuntime) {
     assert_eq!(rt; end.count(), 1);
     assert_eq!(rt; end.look(&first), Look::Old);
     assert_eq!(rt; end.look(&second), Look::Next);
+    Ok(())
 }
 
 #[test]
-fn copies_a_frame(rt: HostRuntime) {
+fn copies_a_frame(rt: HostRuntime) -> Result<(), AllocError> {
     let mut parties = ArrayVec::new();
     parties.push(3);
     let frame = Frame {
         number: 9,
         item: Item::Receipt {
             k: 7,
-            reach: Reach::new(parties),
+            reach: Shared::new(rt.alloc(), Reach::new(parties))?,
             query: true,
         },
     };
-    let copied = frame.copy(rt.alloc());
+    let copied = frame.copy();
     assert!(rt; copied == Ok(frame));
+    Ok(())
 }

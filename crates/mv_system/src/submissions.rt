@@ -8,7 +8,7 @@ ghost use Rattle.mv_repository.specs.Repository.{with_applied};
 ghost use Rattle.mv_machine.specs.Steps.{answer_number, entry_from};
 
 use mv_link::Item;
-use mv_message::{Message, Party};
+use mv_message::{Message, Party, Shared};
 use mv_repository::{Effect, Repository};
 use std::alloc::{AllocError, Global};
 use std::marker::Model;
@@ -16,7 +16,7 @@ use std::marker::Model;
 /// What one party submitted, the oldest message first.
 #[derive(Drop)]
 pub(crate) struct Submissions {
-    messages: Vec<Message>,
+    messages: Vec<Shared<Message>>,
 }
 
 impl Model for Submissions {
@@ -39,7 +39,7 @@ impl Submissions {
     }
 
     /// All messages, the oldest first.
-    pub(crate) fn as_slice(&self) -> &[Message]
+    pub(crate) fn as_slice(&self) -> &[Shared<Message>]
         ensures { result.now ≡ self.now }
     {
         self.messages.as_slice()
@@ -53,21 +53,18 @@ impl Submissions {
     }
 
     /// The message at a place, counted from 0.
-    pub(crate) fn get(&self, place: usize) -> Option<&Message>
+    pub(crate) fn get(&self, place: usize) -> Option<&Shared<Message>>
         ensures { option_copied result ≡ slice_get self.now place }
     {
         self.messages.get(place)
     }
 
-    /// Adds a copy of a message. Refused for want of memory, nothing has changed.
-    pub(crate) fn push(&mut self, alloc: Global, message: &Message) -> Result<(), AllocError>
+    /// Adds a message. Refused for want of memory, nothing has changed.
+    pub(crate) fn push(&mut self, message: &Shared<Message>) -> Result<(), AllocError>
         ensures ok { OnOk result (self.new ≡ self.old ++ message.now ∷ []) }
         ensures err { OnErr result (self.new ≡ self.old) }
     {
-        let Ok(message) = message.copy(alloc) else {
-            return Err(AllocError);
-        };
-        self.messages.push(message)?;
+        self.messages.push(message.share()?)?;
         Ok(())
     }
 

@@ -19,7 +19,7 @@ use crate::wire::Wire;
 use mv_hub::{Entry, Hub, Parties};
 use mv_link::Incoming;
 use mv_machine::{Limits, Reply, Step};
-use mv_message::{Message, Party};
+use mv_message::{Message, Party, Shared};
 use mv_pack::PackKey;
 use mv_pairs::PairTable;
 use mv_repository::{LogEntry, Repository};
@@ -96,7 +96,7 @@ impl World {
     }
 
     /// What a party submitted, the oldest message first.
-    pub fn sub(&self, party: Party) -> &[Message]
+    pub fn sub(&self, party: Party) -> &[Shared<Message>]
         requires { IsTrue (is_party self.now party) }
         ensures { result.now ≡ submissions_of self.now party }
     {

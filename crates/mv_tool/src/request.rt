@@ -10,6 +10,7 @@ use crate::market_lists::market_lists_of;
 use crate::reading::{gtin_of, message_of, number_of, serial_of};
 use crate::{LineFault, LineField, MarketLists};
 use mv_machine::Step;
+use mv_message::Shared;
 use mv_pack::PackKey;
 use serde_json::Value;
 use std::alloc::Global;
@@ -107,6 +108,9 @@ impl Request {
     {
         let from = number_of(value, LineField::From)?;
         let message = message_of(alloc, value)?;
+        let Ok(message) = Shared::new(alloc, message) else {
+            return Err(LineFault::Memory);
+        };
         Ok(Request::Step(Step::Submit { from, message }))
     }
 

@@ -41,7 +41,7 @@ impl Named {
     /// Notes what a step names. None where memory was refused.
     pub(crate) fn note(&mut self, step: &Step) -> Option<()> {
         match step {
-            Step::Submit { message, .. } => self.note_message(message),
+            Step::Submit { message, .. } => self.note_message(message.get()),
             Step::Verify { key, .. } => self.note_pack(key),
             _ => Some(()),
         }

@@ -15,16 +15,16 @@ ghost use Rattle.mv_system.specs.World.{RouteRefuses, RelayFails, RepeatFails, C
 use crate::world::World;
 use mv_hub::{HubFault, RouteFault};
 use mv_link::{Frame, Reach};
-use mv_message::{Message, Party};
+use mv_message::{Message, Party, Shared};
 use mv_repository::Effect;
 use std::alloc::AllocError;
 
 impl World {
-    /// A party submits a copy of a message. Refused for want of memory.
+    /// A party submits a message. Refused for want of memory.
     pub(super) fn put_submission(
         &mut self,
         from: Party,
-        message: &Message,
+        message: &Shared<Message>,
     ) -> Result<(), AllocError>
         requires party { IsTrue (is_party self.old from) }
         requires room { length (submissions_of self.old from) < self.old.limits.submissions }
@@ -35,7 +35,7 @@ impl World {
         ensures err { OnErr result (self.new ≡ self.old) }
     {
         let of_sender = &mut self.submissions[from as usize];
-        of_sender.push(self.alloc, message)?;
+        of_sender.push(message)?;
         Ok(())
     }
 

@@ -188,10 +188,10 @@ fn is_carried_query(item: &Item) -> bool
     ensures { (log : List ALogEntry) (sender : ℕ) → result ≡ is_some (answer_after log sender item.now) }
 {
     match item {
-        Item::Carried {
-            message: Message::Query { .. },
-            ..
-        } => true,
-        _ => false,
+        Item::Carried { message, .. } => match message.get() {
+            Message::Query { .. } => true,
+            _ => false,
+        },
+        Item::Receipt { .. } => false,
     }
 }

@@ -10,7 +10,7 @@ ghost use Rattle.mv_machine.specs.declared.step.Step.{Step as AStep};
 use crate::world::World;
 use mv_hub::{HubFault, RouteFault};
 use mv_machine::{Refusal, Reply, Step};
-use mv_message::{Message, Party};
+use mv_message::{Message, Party, Shared};
 use mv_pack::PackKey;
 use mv_repository::Local;
 
@@ -33,13 +33,13 @@ impl World {
     }
 
     #[tactic(auto, unfolding(mv_machine::specs::Runs::Allows, mv_machine::specs::Runs::Meets, mv_machine::specs::Steps::submit))]
-    fn submit(&mut self, from: Party, message: &Message) -> Reply
+    fn submit(&mut self, from: Party, message: &Shared<Message>) -> Reply
         ensures { Allows self.old (Step.Submit from message.now) result self.new }
     {
         if !self.is_party(from) {
             return Reply::Refused(Refusal::Party);
         }
-        if is_query_or_answer(message) {
+        if is_query_or_answer(message.get()) {
             return Reply::Refused(Refusal::NotYours);
         }
         if self.is_uplink_full(from) {
@@ -85,7 +85,9 @@ impl World {
             return Reply::Refused(Refusal::SenderFull);
         }
         let count = self.submission_count(party);
-        let query = Message::Query { key: key.copy() };
+        let Ok(query) = Shared::new(self.alloc, Message::Query { key: key.copy() }) else {
+            return Reply::Refused(Refusal::Memory);
+        };
         let Ok(()) = self.put_submission(party, &query) else {
             return Reply::Refused(Refusal::Memory);
         };

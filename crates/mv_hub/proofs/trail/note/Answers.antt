@@ -14,7 +14,7 @@ pub returns-in_ok-set_product-in-Master-clause-ok : goal.returns-in_ok-set_produ
 returns-in_ok-set_product-in-Master-clause-ok c = λ entries tables.
     let m = c.in-Master in
     subst (λ e. AreTables (entries ++ e ∷ []) c.set_product.new.self c.args.batch_links.now)
-    (sym (c.in-Routed.is ∙ ap (Routed c.in-Routed.from c.in-Routed.k) m.is))
+    (sym (c.in-Routed.is ∙ ap (Routed c.in-Routed.from c.in-Routed.k) (sym c.get.ensures ∙ m.is)))
     (tables-product entries (Routed _ _ (Master m.gtin m.product)) c.args.catalogues.now c.set_product.new.self c.args.batch_links.now m.gtin m.product
     (λ g. refl) (λ g. refl) (λ b. refl) c.in_ok-set_product-in-Master.ensures.ok tables)
 
@@ -22,7 +22,7 @@ pub returns-in_ok-add_batch-in-Upload-clause-ok : goal.returns-in_ok-add_batch-i
 returns-in_ok-add_batch-in-Upload-clause-ok c = λ entries tables.
     let m = c.in-Upload in
     subst (λ e. AreTables (entries ++ e ∷ []) c.add_batch.new.self c.args.batch_links.now)
-    (sym (c.in-Routed.is ∙ ap (Routed c.in-Routed.from c.in-Routed.k) m.is))
+    (sym (c.in-Routed.is ∙ ap (Routed c.in-Routed.from c.in-Routed.k) (sym c.get.ensures ∙ m.is)))
     (tables-batch entries (Routed _ _ (Upload m.gtin m.batch m.expiry m.national m.serials)) c.args.catalogues.now c.add_batch.new.self c.args.batch_links.now m.gtin (m.batch, m.expiry)
     (λ g. refl) (λ g. refl) (λ b. refl) c.in_ok-add_batch-in-Upload.ensures.ok tables)
 
@@ -30,12 +30,13 @@ pub returns-in_ok-add-in-Repack-clause-ok : goal.returns-in_ok-add-in-Repack-cla
 returns-in_ok-add-in-Repack-clause-ok c = λ entries tables.
     let m = c.in-Repack in
     subst (λ e. AreTables (entries ++ e ∷ []) c.args.catalogues.now c.add.new.self)
-    (sym (c.in-Routed.is ∙ ap (Routed c.in-Routed.from c.in-Routed.k) m.is))
+    (sym (c.in-Routed.is ∙ ap (Routed c.in-Routed.from c.in-Routed.k) (sym c.get.ensures ∙ m.is)))
     (tables-link entries (Routed _ _ (Repack m.before m.before_serials m.after m.after_serials m.at)) c.args.catalogues.now c.args.batch_links.now c.add.new.self m.before m.after
     (λ g. refl) (λ g. refl) (λ b. refl) c.in_ok-add-in-Repack.ensures.ok tables)
 
-pub returns-in_default-message-clause-ok : goal.returns-in_default-message-clause-ok
-returns-in_default-message-clause-ok c = λ entries tables.
-    let m = c.in_default-message in
-    subst (λ e. AreTables (entries ++ e ∷ []) c.args.catalogues.now c.args.batch_links.now) (sym c.in-Routed.is)
-    (tables-other entries c.in-Routed.from c.in-Routed.k c.in-Routed.message c.args.catalogues.now c.args.batch_links.now m.not-Master m.not-Upload m.not-Repack tables)
+pub returns-in_default-get-clause-ok : goal.returns-in_default-get-clause-ok
+returns-in_default-get-clause-ok c = λ entries tables.
+    let m = c.in_default-get in
+    subst (λ e. AreTables (entries ++ e ∷ []) c.args.catalogues.now c.args.batch_links.now)
+    (sym (c.in-Routed.is ∙ ap (Routed c.in-Routed.from c.in-Routed.k) (sym c.get.ensures)))
+    (tables-other entries c.in-Routed.from c.in-Routed.k c.get.result.now c.args.catalogues.now c.args.batch_links.now m.not-Master m.not-Upload m.not-Repack tables)

@@ -48,8 +48,8 @@ invariant_of-self-2 c =
     let count : c.routed_count-k.result + 1 ≡ routed_count a.trail from + 1 =
     ap (λ n. n + 1) (c.routed_count-k.ensures.value ∙ ap (λ (h : HubState). routed_count h.entries from) back) in
     let entries : c.push.new.self ≡ a.trail ++ Routed from (routed_count a.trail from + 1) message ∷ [] =
-    c.in_ok-push.ensures.ok ∙ ap (λ k. a.trail ++ Routed from k c.in-Ok.copy ∷ []) count
-    ∙ ap (λ m. a.trail ++ Routed from (routed_count a.trail from + 1) m ∷ []) c.in-Ok.ensures.copy in
+    c.in_ok-push.ensures.ok ∙ ap (λ k. a.trail ++ Routed from k c.in_ok-message.message ∷ []) count
+    ∙ ap (λ m. a.trail ++ Routed from (routed_count a.trail from + 1) m ∷ []) c.in_ok-message.ensures in
     subst (λ l. IsKept a.parties a.window l (set a.counts.items from (c.routed_count-k.result + 1)) a.open_links c.put_row.new.links) (sym entries)
     (subst (λ k. IsKept a.parties a.window (a.trail ++ Routed from (routed_count a.trail from + 1) message ∷ []) (set a.counts.items from k) a.open_links c.put_row.new.links) (sym count)
     (kept-routed a.parties a.window a.trail a.counts.items a.open_links a.links c.put_row.new.links c.args.gains.items from message

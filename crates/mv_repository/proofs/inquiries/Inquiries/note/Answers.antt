@@ -23,6 +23,6 @@ pub returns-in-Answer : goal.returns-in-Answer
 returns-in-Answer c log =
     let told : tells_of_query c.args.party c.args.sender c.args.item.now ≡ true = sym c.tells_of_query.ensures ∙ c.if-not-tells_of_query.false in
     let is : c.args.item.now ≡ Carried c.in-Carried.k c.in-Carried.stamp (Answer c.in-Answer.asker c.in-Answer.q c.in-Answer.key c.in-Answer.found) =
-    c.in-Carried.is ∙ ap (Carried c.in-Carried.k c.in-Carried.stamp) c.in-Answer.is in
+    c.in-Carried.is ∙ ap (Carried c.in-Carried.k c.in-Carried.stamp) (sym c.get.ensures ∙ c.in-Answer.is) in
     rw is (answer_noted c.args.party log c.args.sender c.in-Carried.k c.in-Carried.stamp c.in-Answer.asker c.in-Answer.q c.in-Answer.key c.in-Answer.found c.args.self.now c.note_answer.new.self
     (sym (ap (tells_of_query c.args.party c.args.sender) is) ∙ told) c.note_answer.ensures.inquiries c.note_answer.ensures.replies)

@@ -1,7 +1,7 @@
 //! Messages: that copies equal what was copied, and that values are read back. Which lines are read, why others are not, and
 //! what is written is shown by the examples of `mvhub canon`.
 
-use mv_message::{Found, Markets, Message, Serials, Standing, Text};
+use mv_message::{Found, Markets, Message, Serials, Shared, Standing, Text};
 use mv_pack::{Batch, Expiry, Market, Serial};
 use std::alloc::Global;
 
@@ -43,6 +43,22 @@ fn is_read_back(alloc: Global, text: &str) -> Option<bool> {
     let value = message.to_value(alloc).ok()?;
     let again = Message::from_value(alloc, &value).ok()?;
     Some(again == message)
+}
+
+fn shared(alloc: Global, text: &str) -> Option<Shared<Message>> {
+    Shared::new(alloc, message(alloc, text)?).ok()
+}
+
+/// Whether one that shares a message with another equals it, and shows the message.
+fn is_shared(alloc: Global, text: &str) -> Option<bool> {
+    let first = shared(alloc, text)?;
+    let second = first.share().ok()?;
+    Some(first == second && *second.get() == message(alloc, text)?)
+}
+
+/// Whether what is shared of two messages is equal.
+fn are_shared_alike(alloc: Global, left: &str, right: &str) -> Option<bool> {
+    Some(shared(alloc, left)? == shared(alloc, right)?)
 }
 
 fn pack_found() -> Option<Found> {
@@ -98,6 +114,13 @@ fn reads_each_value_back(rt: HostRuntime) {
     ] {
         assert_eq!(rt; is_read_back(rt.alloc(), text), Some(true), "at {text}");
     }
+}
+
+#[test]
+fn shares_a_message(rt: HostRuntime) {
+    assert_eq!(rt; is_shared(rt.alloc(), RECALL), Some(true));
+    assert_eq!(rt; are_shared_alike(rt.alloc(), QUERY, QUERY), Some(true));
+    assert_eq!(rt; are_shared_alike(rt.alloc(), QUERY, RECALL), Some(false));
 }
 
 #[test]

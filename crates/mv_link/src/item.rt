@@ -2,7 +2,7 @@
 
 ghost use Rattle.std.specs.Prelude.{◌≡◌, IfOk, IfErr};
 
-use crate::{LinkFault, Reach};
+use crate::{LinkFault, SharedReach};
 use mv_message::{Message, Shared};
 
 /// What a link carries from its sender.
@@ -12,7 +12,7 @@ pub enum Item {
     /// that message was a query.
     Receipt {
         k: u32,
-        reach: Shared<Reach>,
+        reach: SharedReach,
         query: bool,
     },
     /// The sender's `k`-th message, counted from one, and its stamp: the place in the hub's record of its routing,

@@ -11,6 +11,7 @@ mod item;
 mod laws;
 mod outgoing;
 mod reach;
+mod shared_reach;
 
 pub use fault::LinkFault;
 pub use incoming::{Incoming, Look};
@@ -18,3 +19,4 @@ pub use item::{Frame, Item};
 pub use laws::accepted_is_prefix;
 pub use outgoing::Outgoing;
 pub use reach::{PARTIES_LIMIT, Reach};
+pub use shared_reach::SharedReach;

@@ -184,7 +184,7 @@ fn is_stamped(hub: &mut Hub, alloc: Global) -> bool {
 fn is_receipt(frame: &Frame) -> bool {
     match &frame.item {
         Item::Receipt { k, reach, query } => {
-            *k == 1 && *query && reach.get().as_slice() == [2].as_slice()
+            *k == 1 && *query && reach.as_slice() == [2].as_slice()
         }
         Item::Carried { .. } => false,
     }

@@ -1,14 +1,13 @@
 //! Links: what is pushed, relayed, repeated and accepted.
 
 use arrayvec::ArrayVec;
-use mv_link::{Frame, Incoming, Item, LinkFault, Look, Outgoing, Reach};
-use mv_message::Shared;
+use mv_link::{Frame, Incoming, Item, LinkFault, Look, Outgoing, Reach, SharedReach};
 use std::alloc::{AllocError, Global};
 
 fn receipt(alloc: Global, k: u32) -> Result<Item, AllocError> {
     Ok(Item::Receipt {
         k,
-        reach: Shared::new(alloc, Reach::new(ArrayVec::new()))?,
+        reach: SharedReach::of(alloc, &Reach::new(ArrayVec::new()))?,
         query: false,
     })
 }
@@ -115,11 +114,23 @@ fn copies_a_frame(rt: HostRuntime) -> Result<(), AllocError> {
         number: 9,
         item: Item::Receipt {
             k: 7,
-            reach: Shared::new(rt.alloc(), Reach::new(parties))?,
+            reach: SharedReach::of(rt.alloc(), &Reach::new(parties))?,
             query: true,
         },
     };
     let copied = frame.copy();
     assert!(rt; copied == Ok(frame));
+    Ok(())
+}
+
+#[test]
+fn keeps_the_parties_of_a_reach(rt: HostRuntime) -> Result<(), AllocError> {
+    let mut parties = ArrayVec::new();
+    parties.push(3);
+    let kept = SharedReach::of(rt.alloc(), &Reach::new(parties))?;
+    let shared = kept.share()?;
+    assert_eq!(rt; shared.as_slice(), [3].as_slice());
+    assert!(rt; shared == kept);
+    assert!(rt; kept != SharedReach::of(rt.alloc(), &Reach::new(ArrayVec::new()))?);
     Ok(())
 }

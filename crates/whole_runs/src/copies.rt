@@ -77,7 +77,7 @@ fn entry_value(alloc: Global, party: Party, place: usize, entry: &LogEntry) -> O
 fn item_value(alloc: Global, item: &Item) -> Option<Value> {
     match item {
         Item::Receipt { k, reach, query } => {
-            receipt_value(alloc, *k, reach.get().as_slice(), *query)
+            receipt_value(alloc, *k, reach.as_slice(), *query)
         }
         Item::Carried { k, stamp, message } => { carried_value(alloc, *k, *stamp, message.get()) }
     }

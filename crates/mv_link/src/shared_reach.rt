@@ -1,0 +1,67 @@
+//! The reach of a message as its receipt keeps it.
+
+ghost use Rattle.std.specs.Prelude.{◌≡◌, nat_eq, IfOk};
+ghost use Rattle.std.specs.Cmp.{partial_equiv_from_equiv};
+ghost use Rattle.std.specs.Cmp.Lexicographic.{pointwise, nat_list_eq_equiv};
+
+use crate::Reach;
+use mv_message::{Party, Shared};
+use std::alloc::{AllocError, Global};
+use std::marker::Model;
+
+/// The parties that a message reached, as long a list as they are many, kept once however many hold it. Contracts see the
+/// list.
+#[derive(Debug, Drop)]
+pub struct SharedReach {
+    parties: Shared<Vec<Party>>,
+}
+
+impl Model for SharedReach {
+    ghost use Rattle.std.specs.Prelude.{ℕ, List};
+
+    ghost Value = { List ℕ };
+
+    ghost view = { λ reach. reach.parties.items };
+}
+
+impl SharedReach {
+    /// The parties of a reach. Refused for want of memory.
+    pub fn of(alloc: Global, reach: &Reach) -> Result<SharedReach, AllocError>
+        ensures { IfOk result (λ kept. kept ≡ reach.now) }
+    {
+        let parties = reach.as_slice().to_vec(alloc)?;
+        Ok(SharedReach {
+            parties: Shared::new(alloc, parties)?,
+        })
+    }
+
+    /// The same once more. Refused where so many hold it that they cannot be counted.
+    pub fn share(&self) -> Result<SharedReach, AllocError>
+        ensures { IfOk result (λ shared. shared ≡ self.now) }
+    {
+        Ok(SharedReach {
+            parties: self.parties.share()?,
+        })
+    }
+
+    /// The parties, in the order of the reach.
+    pub fn as_slice(&self) -> &[Party]
+        ensures { result.now ≡ self.now }
+    {
+        self.parties.get().as_slice()
+    }
+}
+
+impl PartialEq for SharedReach {
+    ghost eq = { pointwise nat_eq };
+
+    ghost laws = { partial_equiv_from_equiv nat_list_eq_equiv };
+
+    fn eq(&self, other: &Self) -> bool {
+        self.as_slice() == other.as_slice()
+    }
+}
+
+impl Eq for SharedReach {
+    ghost laws = { nat_list_eq_equiv };
+}

@@ -21,6 +21,17 @@ use std::marker::{Model, PhantomData};
 /// The most bytes of a serial, batch or national number.
 pub const MOST_CODE_BYTES: usize = 20;
 
+/// Each character of codes at its own place, and at every other place `#`, which is none.
+static CODE_CHARACTERS: [u8; 256] = *b"\
+    ################################\
+    #!\"##%&'()*+,-./0123456789:;<=>?\
+    #ABCDEFGHIJKLMNOPQRSTUVWXYZ####_\
+    #abcdefghijklmnopqrstuvwxyz#####\
+    ################################\
+    ################################\
+    ################################\
+    ################################";
+
 /// The serial number of a pack (Delegated Regulation (EU) 2016/161, Article 4(b)(ii)).
 pub type Serial = Code<SerialKind>;
 
@@ -127,7 +138,7 @@ fn first_wrong(text: &[u8]) -> Option<usize>
 fn is_code_character(byte: u8) -> bool
     ensures { result ≡ is_code_character byte }
 {
-    byte.is_ascii_alphanumeric() || matches!(byte, b'!' | b'"' | b'%'..=b'/' | b':'..=b'?' | b'_')
+    CODE_CHARACTERS[byte as usize] != b'#'
 }
 
 impl<K> PartialEq for Code<K> {

@@ -1,14 +1,17 @@
 //! Product codes.
-ghost use Rattle.std.specs.Prelude.{◌≡◌, ◌+◌, ◌*◌, ◌-◌, ◌≤◌, ◌↔◌, length, map, IsOk, IsTrue};
+ghost use Rattle.std.specs.Prelude.{◌≡◌, ◌+◌, ◌*◌, ◌-◌, ◌≤◌, ◌↔◌, [], ◌∷◌, length, map, IsOk, IsTrue};
 ghost use Rattle.std.specs.List.{list_all};
+ghost use Rattle.std.specs.Cmp.Rules.{hashing};
+ghost use Rattle.std.proofs.Common.{rules};
 ghost use Rattle.mv_pack.specs.Gtin.{is_digit, check_sum, padded, read_gtin, IsGtinText, digit_values};
 
 use crate::PackFault;
+use std::hash::{Hash, Hasher};
 use std::marker::Model;
 use std::str;
 
 /// A Global Trade Item Number, by its 14 digits.
-#[derive(Clone, Copy, Debug, PartialEq, Eq, PartialOrd, Ord, Hash)]
+#[derive(Clone, Copy, Debug, PartialEq, Eq, PartialOrd, Ord)]
 pub struct Gtin {
     bytes: [u8; 14],
 }
@@ -66,6 +69,17 @@ impl Gtin {
         ensures { result ≡ digit_values self.now }
     {
         self.bytes.map(|byte| byte.saturating_sub(b'0'))
+    }
+}
+
+/// By its digits, in one write: each write costs a hasher a step.
+impl Hash for Gtin {
+    ghost hash_input = { λ digits. digits ∷ [] };
+
+    ghost respects_eq = { Prim.search (hashing, rules) };
+
+    fn hash<H: Hasher>(&self, state: &mut H) {
+        state.write(&self.bytes);
     }
 }
 

@@ -1,13 +1,13 @@
 -- Lemmas on links.
-use Rattle.std.proofs.Common.{◌≡◌, ℕ, ◌+◌, ◌-◌, List, [], ◌∷◌, ◌++◌, length, take, drop, refl, sym, ◌∙◌, ap, arith, append_assoc, length-append, Bool, true, false, cond, suc, add-one, drop-cons}
+use Rattle.std.proofs.Common.{◌≡◌, ℕ, ◌+◌, ◌-◌, List, [], ◌∷◌, ◌++◌, length, take, drop, refl, sym, ◌∙◌, ap, arith, append_assoc, append-nil, length-append, Bool, true, false, cond, suc, add-one, drop-cons}
 use Rattle.std.specs.Prelude.{Some, slice_get, All, ◌==◌}
 use Rattle.std.proofs.lemmas.List.{take-append-drop}
 use Rattle.std.proofs.lemmas.List.Elements.{All-tail}
-use Rattle.std.proofs.lemmas.Bool.{eqb-true}
+use Rattle.std.proofs.lemmas.Bool.{eqb-true, eq-eqb, ne_eqb}
 use Rattle.std.proofs.lemmas.Option.{slice_get_within, get_or_from_slice_get}
 use Rattle.mv_link.specs.declared.item.Item.{Item}
 use Rattle.mv_link.specs.declared.item.Frame.{Frame}
-use Rattle.mv_link.specs.Frames.{IsFrameOf, accepted_after}
+use Rattle.mv_link.specs.Frames.{IsFrameOf, accepted_after, accepted, OneMoreFrame}
 use Rattle.mv_link.specs.Sending.{Sending, with_item, EndsWithHeld}
 
 -- the list with one more item ends with what is held then
@@ -42,3 +42,34 @@ accepted_front list (frame ∷ frames) count valid = by (frame.number == (count 
         let rest = later (count + 1) in
         (rest.0, member_first list count frame.item (ap (λ n. slice_get list n) (sym place) ∙ here.1) ∙ ap (λ l. frame.item ∷ l) rest.1)
     by false e later = later count
+
+-- one more frame, behind those that came after so many were accepted
+pub accepted-push : (count : ℕ) (frames : List Frame) (frame : Frame)
+    → accepted_after count (frames ++ frame ∷ []) ≡ accepted_after count frames ++ cond (frame.number == (count + length (accepted_after count frames) + 1)) (frame.item ∷ []) []
+accepted-push count [] frame = ap (λ n. cond (frame.number == n) (frame.item ∷ []) []) (omega arith)
+accepted-push count (first ∷ frames) frame = by (first.number == (count + 1)) (accepted-push (count + 1) frames frame) (accepted-push count frames frame)
+  where
+    by : (b : Bool)
+        → accepted_after (count + 1) (frames ++ frame ∷ []) ≡ accepted_after (count + 1) frames ++ cond (frame.number == (count + 1 + length (accepted_after (count + 1) frames) + 1)) (frame.item ∷ []) []
+        → accepted_after count (frames ++ frame ∷ []) ≡ accepted_after count frames ++ cond (frame.number == (count + length (accepted_after count frames) + 1)) (frame.item ∷ []) []
+        → cond b (first.item ∷ accepted_after (count + 1) (frames ++ frame ∷ [])) (accepted_after count (frames ++ frame ∷ []))
+        ≡ cond b (first.item ∷ accepted_after (count + 1) frames) (accepted_after count frames)
+        ++ cond (frame.number == (count + length (cond b (first.item ∷ accepted_after (count + 1) frames) (accepted_after count frames)) + 1)) (frame.item ∷ []) []
+    by true later _ =
+        ap (λ l. first.item ∷ l) later
+        ∙ ap (λ n. first.item ∷ (accepted_after (count + 1) frames ++ cond (frame.number == n) (frame.item ∷ []) [])) (omega arith)
+    by false _ later = later
+
+-- so a frame of another number changes nothing
+accepted-other : (frames : List Frame) (frame : Frame) → (frame.number == (length (accepted frames) + 1)) ≡ false → accepted (frames ++ frame ∷ []) ≡ accepted frames
+accepted-other frames frame other =
+    accepted-push 0 frames frame ∙ ap (λ n. accepted frames ++ cond (frame.number == (n + 1)) (frame.item ∷ []) []) (omega arith)
+    ∙ ap (λ b. accepted frames ++ cond b (frame.item ∷ []) []) other ∙ append-nil (accepted frames)
+
+pub one_more : (frames : List Frame) (frame : Frame) → OneMoreFrame frames frame
+one_more frames frame = record {
+  next = λ e. accepted-push 0 frames frame ∙ ap (λ n. accepted frames ++ cond (frame.number == (n + 1)) (frame.item ∷ []) []) (omega arith)
+      ∙ ap (λ b. accepted frames ++ cond b (frame.item ∷ []) []) (eq-eqb frame.number (length (accepted frames) + 1) e);
+  old = λ le. accepted-other frames frame (ne_eqb frame.number (length (accepted frames) + 1) (λ e. omega (arith, e, le)));
+  gap = λ lt. accepted-other frames frame (ne_eqb frame.number (length (accepted frames) + 1) (λ e. omega (arith, e, lt)));
+}

@@ -1,5 +1,5 @@
 -- Frames, the list that they are of, and what is accepted of them.
-use Rattle.std.specs.Prelude.{◌≡◌, ℕ, ◌+◌, ◌-◌, ◌≤◌, ◌==◌, List, [], ◌∷◌, ◌++◌, All, slice_get, Some, if◌then◌else◌}
+use Rattle.std.specs.Prelude.{◌≡◌, ℕ, ◌+◌, ◌-◌, ◌<◌, ◌≤◌, ◌==◌, List, [], ◌∷◌, ◌++◌, length, All, slice_get, Some, if◌then◌else◌}
 use Rattle.mv_link.specs.declared.item.Item.{Item}
 use Rattle.mv_link.specs.declared.item.Item.TheVariants.{Receipt, Carried}
 use Rattle.mv_link.specs.declared.item.Frame.{Frame}
@@ -27,3 +27,14 @@ accepted frames = accepted_after 0 frames
 abbrev pub AcceptedIsPrefix : Type 0
 AcceptedIsPrefix = (list : List Item) (frames : List Frame) → All (IsFrameOf list) frames
     → (rest : List Item) × (list ≡ accepted frames ++ rest)
+
+-- One more frame comes: where its number is the next, its item is accepted behind those before; where it is old, or behind a gap,
+-- what is accepted stays as it was.
+pub record OneMoreFrame (frames : List Frame) (frame : Frame) : Type 0 where
+  pub next : frame.number ≡ length (accepted frames) + 1 → accepted (frames ++ frame ∷ []) ≡ accepted frames ++ frame.item ∷ []
+  pub old : frame.number ≤ length (accepted frames) → accepted (frames ++ frame ∷ []) ≡ accepted frames
+  pub gap : length (accepted frames) + 1 < frame.number → accepted (frames ++ frame ∷ []) ≡ accepted frames
+
+-- so it is, whatever frames came before
+abbrev pub OneMoreFrameIsLookedAt : Type 0
+OneMoreFrameIsLookedAt = (frames : List Frame) (frame : Frame) → OneMoreFrame frames frame

@@ -16,7 +16,7 @@ mod shared_reach;
 pub use fault::LinkFault;
 pub use incoming::{Incoming, Look};
 pub use item::{Frame, Item};
-pub use laws::accepted_is_prefix;
+pub use laws::{accepted_is_prefix, one_more_frame_is_looked_at};
 pub use outgoing::Outgoing;
 pub use reach::{PARTIES_LIMIT, Reach};
 pub use shared_reach::SharedReach;

@@ -24,7 +24,7 @@ invariant_of-self-2 c =
     kept-same log _ c.self.inside.packs.entries _ _ _ _ (rw c.ready_entry.ensures.items c.self.invariant.0) c.ensure.ensures.same in
     rw c.in_ok-effect.ensures.log (
       (kept-status log c.in_ok-entry.entry c.self.inside.masters.entries c.ensure.new.packs.entries c.add_status.new.packs.entries c.self.inside.stops c.self.inside.uploads c.self.inside.latest c.latest_with-self-inside.result c.args.key.now kept
-          (rw c.in_ok-entry.ensures.entry c.requires) c.latest_with-self-inside.ensures.before (rw c.in_ok-entry.ensures.entry c.latest_with-self-inside.ensures.item)
+          (rw c.in_ok-entry.ensures.entry c.requires) (rw c.in_ok-entry.ensures.entry c.latest_with-self-inside.ensures)
           c.in_ok-effect.ensures.ok),
       c.retallied-self-inside.ensures,
     )

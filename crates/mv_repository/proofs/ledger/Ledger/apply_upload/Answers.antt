@@ -43,7 +43,7 @@ invariant_of-self-2 c =
     let serials : c.as_slice-serials.result.now ≡ c.args.serials.now = search rules in
     rw c.push_reserved.ensures.items (
       (kept-upload log c.in_ok-entry.entry c.self.inside.masters.entries c.ensure_all.new.packs.entries c.add_uploads-count.new.packs.entries c.self.inside.stops c.self.inside.uploads c.add.new.self c.self.inside.latest c.latest_with-self-inside.result c.args.gtin c.args.batch.now c.args.serials.now kept
-          (rw c.in_ok-entry.ensures.entry c.requires.bears) c.latest_with-self-inside.ensures.before (rw c.in_ok-entry.ensures.entry c.latest_with-self-inside.ensures.item)
+          (rw c.in_ok-entry.ensures.entry c.requires.bears) (rw c.in_ok-entry.ensures.entry c.latest_with-self-inside.ensures)
           (rw (serials, c.as_slice-2.ensures.value, c.push_reserved.ensures.items, new) at c.add_uploads-count.ensures.kept)
           c.add.ensures.keeps (rw (new, c.copy-batch.ensures) at c.in_ok-add.ensures.added) (rw c.in_ok-entry.ensures.entry c.requires.batch)),
       c.add_uploads-count.ensures.tally,

@@ -1,36 +1,61 @@
-//! A plain program that does the work of `mvhub`, to compare its speed with.
+//! A plain program that does the work of `mvhub`, to compare its time and memory with.
 
 mod canon;
+mod fault;
+mod fields;
+mod hub;
+mod inquiries;
+mod lines;
+mod link;
+mod log;
 mod message;
+mod packs;
+mod party;
 mod repository;
+mod request;
+mod steps;
+mod stops;
+mod text;
+mod values;
 mod world;
 
-use std::env;
-use std::io::{self, BufRead, BufWriter, Write};
+use lines::{answer_all, Fault};
+use std::fs::File;
+use std::io::{self, BufReader};
+use std::mem::ManuallyDrop;
+use std::os::fd::AsFd;
+use std::process::ExitCode;
+use steps::Session;
 
-fn main() -> io::Result<()> {
-    match env::args().nth(1).as_deref() {
-        Some("canon") => answer_lines(canon::answer),
-        Some("steps") => {
-            let mut session = world::Session::default();
-            answer_lines(|line| session.answer(line))
+/// The bytes that are read at once.
+const BLOCK: usize = 1 << 16;
+
+fn main() -> ExitCode {
+    let words: Vec<String> = std::env::args().skip(1).collect();
+    let words: Vec<&str> = words.iter().map(String::as_str).collect();
+    let done = match words[..] {
+        ["canon"] => run(canon::answer),
+        ["steps"] => {
+            // The process gives its memory back at once, so nothing of the session is dropped piece by piece.
+            let mut session = ManuallyDrop::new(Session::default());
+            run(|line, out| session.answer(line, out))
         }
-        _ => panic!("plain canon, or plain steps"),
+        _ => {
+            eprintln!("plain canon, or plain steps");
+            return ExitCode::from(2);
+        }
+    };
+    match done {
+        Ok(()) => ExitCode::SUCCESS,
+        Err(fault) => {
+            eprintln!("plain: {}", fault.code());
+            ExitCode::FAILURE
+        }
     }
 }
 
-/// Writes the answer to each line that is not empty.
-fn answer_lines(mut answer: impl FnMut(&[u8]) -> String) -> io::Result<()> {
-    let mut input = io::stdin().lock();
-    let mut output = BufWriter::new(io::stdout().lock());
-    let mut line = Vec::new();
-    while input.read_until(b'\n', &mut line)? > 0 {
-        let text = line.strip_suffix(b"\n").unwrap_or(&line);
-        let text = text.strip_suffix(b"\r").unwrap_or(text);
-        if !text.is_empty() {
-            writeln!(output, "{}", answer(text))?;
-        }
-        line.clear();
-    }
-    output.flush()
+/// Answers the lines of standard input.
+fn run(answer: impl FnMut(&[u8], &mut Vec<u8>)) -> Result<(), Fault> {
+    let output = io::stdout().as_fd().try_clone_to_owned().map_err(|_| Fault::Write)?;
+    answer_all(BufReader::with_capacity(BLOCK, io::stdin().lock()), File::from(output), answer)
 }

@@ -1,350 +1,246 @@
-//! Messages, and how they are read from JSON values.
+//! Messages, and how they are read.
 
-use serde_json::{Map, Value};
+use crate::fault::Fault;
+use crate::fields::{kind_of, object_in, Fields, Object};
+use crate::values::{read_market, BatchKey, Code, Expiry, Gtin, Market, PackKey, Standing};
+use serde_json::Value;
 
-pub type Party = u32;
-pub type Object = Map<String, Value>;
+const MOST_MARKETS: usize = 32;
+const MOST_SERIALS: usize = 100;
 
-/// A product code, by its 14 digits.
-#[derive(Clone, Copy, PartialEq, Eq, PartialOrd, Ord, Hash)]
-pub struct Gtin([u8; 14]);
-
-/// A serial, batch or national number.
-#[derive(Clone, Copy, PartialEq, Eq, PartialOrd, Ord, Hash)]
-pub struct Code {
-    length: u8,
-    bytes: [u8; 20],
+/// What is sold under a product code, and where.
+pub struct Master {
+    pub common: Box<str>,
+    pub form: Box<str>,
+    pub gtin: Gtin,
+    pub markets: Box<[Market]>,
+    pub name: Box<str>,
+    pub pack_size: Box<str>,
+    pub pack_type: Box<str>,
+    pub scheme: Box<str>,
+    pub strength: Box<str>,
 }
 
-#[derive(Clone, Copy, PartialEq, Eq)]
-pub struct Expiry {
-    pub year: u16,
-    pub month: u8,
-    pub day: u8,
+/// Packs of a batch, each active.
+pub struct Upload {
+    pub batch: Code,
+    pub expiry: Expiry,
+    pub gtin: Gtin,
+    pub national: Option<Code>,
+    pub serials: Box<[Code]>,
 }
 
-pub type Market = [u8; 2];
-pub type PackKey = (Gtin, Code);
-pub type BatchKey = (Gtin, Code);
+/// A pack takes a standing.
+pub struct Status {
+    pub at: u64,
+    pub pack: PackKey,
+    pub to: Standing,
+    pub user: Box<str>,
+}
 
-#[derive(Clone, Copy, PartialEq, Eq)]
-pub enum Standing {
-    Active,
-    Supplied,
-    Exported,
-    Destruction,
-    Sample,
-    FreeSample,
-    Stolen,
-    Repackaged,
+/// Packs of a batch were repackaged as packs of another.
+pub struct Repack {
+    pub after: BatchKey,
+    pub after_serials: Box<[Code]>,
+    pub at: u64,
+    pub before: BatchKey,
+    pub before_serials: Box<[Code]>,
 }
 
 /// What was found of a pack that is held.
-#[derive(Clone, Copy)]
 pub struct Found {
-    pub standing: Standing,
+    pub batch: Code,
+    pub expiry: Expiry,
+    pub national: Option<Code>,
     pub recalled: bool,
+    pub standing: Standing,
     pub withdrawn: bool,
 }
 
-#[allow(dead_code)]
+/// What was found of a pack, for the party whose message of this number was the query.
+pub struct Answer {
+    pub asker: u32,
+    pub found: Option<Found>,
+    pub pack: PackKey,
+    pub q: u32,
+}
+
 pub enum Message {
-    Master {
-        gtin: Gtin,
-        texts: [String; 7],
-        markets: Vec<Market>,
-    },
-    Upload {
-        gtin: Gtin,
-        batch: Code,
-        expiry: Expiry,
-        national: Option<Code>,
-        serials: Vec<Code>,
-    },
-    Status {
-        key: PackKey,
-        to: Standing,
-        user: String,
-        at: u64,
-    },
-    Recall {
-        key: BatchKey,
-        at: u64,
-    },
-    Repack {
-        before: BatchKey,
-        before_serials: Vec<Code>,
-        after: BatchKey,
-        after_serials: Vec<Code>,
-        at: u64,
-    },
-    Withdraw {
-        gtin: Gtin,
-        at: u64,
-    },
-    Query {
-        key: PackKey,
-    },
-    Answer {
-        asker: Party,
-        q: u32,
-        found: Option<Found>,
-    },
+    Master(Box<Master>),
+    Upload(Upload),
+    Status(Status),
+    Recall { at: u64, batch: BatchKey },
+    Repack(Box<Repack>),
+    Query(PackKey),
+    Answer(Box<Answer>),
+    Withdrawal { at: u64, gtin: Gtin },
 }
 
-impl Gtin {
-    pub fn read(text: &str) -> Option<Gtin> {
-        let digits = text.as_bytes();
-        if !matches!(digits.len(), 8 | 12 | 13 | 14) || !digits.iter().all(u8::is_ascii_digit) {
-            return None;
+impl Found {
+    /// Whether version 1 cannot say it.
+    pub fn is_second(&self) -> bool {
+        self.national.is_some() || self.withdrawn
+    }
+}
+
+impl Message {
+    /// The message that a value is.
+    pub fn read(value: Value) -> Result<Message, Fault> {
+        Message::read_object(object_in(value)?)
+    }
+
+    /// The message that an object is: of version 2 where it has a `v`.
+    pub fn read_object(object: Object) -> Result<Message, Fault> {
+        let is_second = match object.get("v") {
+            None => false,
+            Some(version) if version.as_u64() == Some(2) => true,
+            Some(_) => return Err(Fault::WrongType("v")),
+        };
+        match (kind_of(&object, "msg")?, is_second) {
+            ("master", _) => read_master(fields_of(object, &MASTER, is_second)?),
+            ("upload", false) => read_upload(Fields::of(object, &UPLOAD)?, is_second),
+            ("upload", true) => read_upload(Fields::of(object, &SECOND_UPLOAD)?, is_second),
+            ("status", _) => read_status(fields_of(object, &STATUS, is_second)?),
+            ("recall", _) => read_recall(fields_of(object, &RECALL, is_second)?),
+            ("repack", _) => read_repack(fields_of(object, &REPACK, is_second)?),
+            ("query", _) => read_query(fields_of(object, &QUERY, is_second)?),
+            ("answer", _) => read_answer(fields_of(object, &ANSWER, is_second)?, is_second),
+            ("withdraw", true) => read_withdrawal(fields_of(object, &WITHDRAWAL, is_second)?),
+            _ => Err(Fault::WrongType("msg")),
         }
-        let mut bytes = [b'0'; 14];
-        bytes[14 - digits.len()..].copy_from_slice(digits);
-        let weighted = |(place, digit): (usize, &u8)| {
-            u32::from(digit - b'0') * if place % 2 == 0 { 3 } else { 1 }
-        };
-        let sum: u32 = bytes.iter().enumerate().map(weighted).sum();
-        (sum % 10 == 0).then_some(Gtin(bytes))
-    }
-
-    pub fn as_str(&self) -> &str {
-        std::str::from_utf8(&self.0).expect("digits")
     }
 }
 
-impl Code {
-    pub fn read(text: &str) -> Option<Code> {
-        let is_legal = |byte: &u8| {
-            byte.is_ascii_alphanumeric()
-                || matches!(byte, b'!' | b'"' | b'%'..=b'/' | b':'..=b'?' | b'_')
-        };
-        if text.is_empty() || text.len() > 20 || !text.as_bytes().iter().all(is_legal) {
-            return None;
-        }
-        let mut bytes = [0; 20];
-        bytes[..text.len()].copy_from_slice(text.as_bytes());
-        Some(Code {
-            length: text.len() as u8,
-            bytes,
-        })
-    }
+const MASTER: [&str; 11] = [
+    "common", "form", "gtin", "markets", "msg", "name", "pack_size", "pack_type", "scheme", "strength", "v",
+];
+const UPLOAD: [&str; 5] = ["batch", "expiry", "gtin", "msg", "serials"];
+const SECOND_UPLOAD: [&str; 7] = ["batch", "expiry", "gtin", "msg", "national", "serials", "v"];
+const STATUS: [&str; 7] = ["at", "gtin", "msg", "serial", "to", "user", "v"];
+const RECALL: [&str; 5] = ["at", "batch", "gtin", "msg", "v"];
+const REPACK: [&str; 9] = [
+    "after_batch",
+    "after_gtin",
+    "after_serials",
+    "at",
+    "before_batch",
+    "before_gtin",
+    "before_serials",
+    "msg",
+    "v",
+];
+const QUERY: [&str; 4] = ["gtin", "msg", "serial", "v"];
+const ANSWER: [&str; 7] = ["asker", "found", "gtin", "msg", "q", "serial", "v"];
+const WITHDRAWAL: [&str; 4] = ["at", "gtin", "msg", "v"];
+const FOUND: [&str; 4] = ["batch", "expiry", "recalled", "standing"];
+const SECOND_FOUND: [&str; 6] = ["batch", "expiry", "national", "recalled", "standing", "withdrawn"];
+
+/// The fields of an object that may have those of these names; the last of them, `v`, in version 2 alone.
+fn fields_of(object: Object, names: &[&str], is_second: bool) -> Result<Fields, Fault> {
+    let count = if is_second { names.len() } else { names.len() - 1 };
+    Fields::of(object, &names[..count])
 }
 
-impl Expiry {
-    pub fn read(text: &str) -> Option<Expiry> {
-        if text.len() != 6 || !text.bytes().all(|byte| byte.is_ascii_digit()) {
-            return None;
-        }
-        let number: u32 = text.parse().ok()?;
-        let (year, month, day) = (
-            2000 + (number / 10000) as u16,
-            (number / 100 % 100) as u8,
-            (number % 100) as u8,
-        );
-        let last = match month {
-            2 => {
-                if year % 4 == 0 && year != 2100 {
-                    29
-                } else {
-                    28
-                }
-            }
-            4 | 6 | 9 | 11 => 30,
-            1..=12 => 31,
-            _ => return None,
-        };
-        (day <= last).then_some(Expiry {
-            year,
-            month,
-            day: if day == 0 { last } else { day },
-        })
-    }
-
-    pub fn text(self) -> String {
-        format!("{:02}{:02}{:02}", self.year - 2000, self.month, self.day)
-    }
-
-    /// The days from 1970-01-01 to the date.
-    pub fn days(self) -> u64 {
-        let (year, month) = (u64::from(self.year), u64::from(self.month));
-        let (year, month) = if month > 2 {
-            (year, month - 3)
-        } else {
-            (year - 1, month + 9)
-        };
-        year * 365 + year / 4 - year / 100
-            + year / 400
-            + (153 * month + 2) / 5
-            + u64::from(self.day)
-            - 719_469
-    }
+fn read_master(mut fields: Fields) -> Result<Message, Fault> {
+    let common = fields.free_text("common")?;
+    let form = fields.free_text("form")?;
+    let gtin = fields.gtin("gtin")?;
+    let markets = fields.list("markets", MOST_MARKETS, read_market)?;
+    fields.pass("msg")?;
+    Ok(Message::Master(Box::new(Master {
+        common,
+        form,
+        gtin,
+        markets,
+        name: fields.free_text("name")?,
+        pack_size: fields.free_text("pack_size")?,
+        pack_type: fields.free_text("pack_type")?,
+        scheme: fields.free_text("scheme")?,
+        strength: fields.free_text("strength")?,
+    })))
 }
 
-impl Standing {
-    pub fn read(text: &str) -> Option<Standing> {
-        Some(match text {
-            "active" => Standing::Active,
-            "supplied" => Standing::Supplied,
-            "exported" => Standing::Exported,
-            "destruction" => Standing::Destruction,
-            "sample" => Standing::Sample,
-            "free_sample" => Standing::FreeSample,
-            "stolen" => Standing::Stolen,
-            "repackaged" => Standing::Repackaged,
-            _ => return None,
-        })
-    }
+fn read_upload(mut fields: Fields, is_second: bool) -> Result<Message, Fault> {
+    let batch = fields.code("batch")?;
+    let expiry = fields.expiry("expiry")?;
+    let gtin = fields.gtin("gtin")?;
+    fields.pass("msg")?;
+    let national = if is_second { fields.code_or_null("national")? } else { None };
+    let serials = fields.list("serials", MOST_SERIALS, Code::read)?;
+    Ok(Message::Upload(Upload { batch, expiry, gtin, national, serials }))
 }
 
-/// The fields that a message of a kind has, beside `v`.
-pub fn fields_of(kind: &str, is_second: bool) -> Option<&'static [&'static str]> {
-    Some(match kind {
-        "answer" => &["asker", "found", "gtin", "msg", "q", "serial"],
-        "master" => &[
-            "common",
-            "form",
-            "gtin",
-            "markets",
-            "msg",
-            "name",
-            "pack_size",
-            "pack_type",
-            "scheme",
-            "strength",
-        ],
-        "query" => &["gtin", "msg", "serial"],
-        "recall" => &["at", "batch", "gtin", "msg"],
-        "repack" => &[
-            "after_batch",
-            "after_gtin",
-            "after_serials",
-            "at",
-            "before_batch",
-            "before_gtin",
-            "before_serials",
-            "msg",
-        ],
-        "status" => &["at", "gtin", "msg", "serial", "to", "user"],
-        "upload" if is_second => &["batch", "expiry", "gtin", "msg", "national", "serials"],
-        "upload" => &["batch", "expiry", "gtin", "msg", "serials"],
-        "withdraw" if is_second => &["at", "gtin", "msg"],
-        _ => return None,
-    })
+fn read_status(mut fields: Fields) -> Result<Message, Fault> {
+    let at = fields.moment("at")?;
+    let gtin = fields.gtin("gtin")?;
+    fields.pass("msg")?;
+    let serial = fields.code("serial")?;
+    let to = read_standing(&mut fields, "to")?;
+    let user = fields.free_text("user")?;
+    Ok(Message::Status(Status { at, pack: PackKey { gtin, serial }, to, user }))
 }
 
-/// Whether an object has these fields and no others, but for `v` where it is of version 2.
-pub fn has_just(object: &Object, fields: &[&str], is_second: bool) -> bool {
-    object.len() == fields.len() + usize::from(is_second)
-        && fields.iter().all(|field| object.contains_key(*field))
+fn read_recall(mut fields: Fields) -> Result<Message, Fault> {
+    let at = fields.moment("at")?;
+    let batch = fields.code("batch")?;
+    let gtin = fields.gtin("gtin")?;
+    Ok(Message::Recall { at, batch: BatchKey { gtin, batch } })
 }
 
-pub fn text_of<'a>(object: &'a Object, field: &str) -> Option<&'a str> {
-    object.get(field)?.as_str()
+fn read_repack(mut fields: Fields) -> Result<Message, Fault> {
+    let batch = fields.code("after_batch")?;
+    let gtin = fields.gtin("after_gtin")?;
+    let after = BatchKey { gtin, batch };
+    let after_serials = fields.list("after_serials", MOST_SERIALS, Code::read)?;
+    let at = fields.moment("at")?;
+    let batch = fields.code("before_batch")?;
+    let gtin = fields.gtin("before_gtin")?;
+    let before = BatchKey { gtin, batch };
+    let before_serials = fields.list("before_serials", MOST_SERIALS, Code::read)?;
+    Ok(Message::Repack(Box::new(Repack { after, after_serials, at, before, before_serials })))
 }
 
-pub fn gtin_of(object: &Object, field: &str) -> Option<Gtin> {
-    Gtin::read(text_of(object, field)?)
+fn read_query(mut fields: Fields) -> Result<Message, Fault> {
+    let gtin = fields.gtin("gtin")?;
+    fields.pass("msg")?;
+    let serial = fields.code("serial")?;
+    Ok(Message::Query(PackKey { gtin, serial }))
 }
 
-pub fn code_of(object: &Object, field: &str) -> Option<Code> {
-    Code::read(text_of(object, field)?)
-}
-
-pub fn number_of(object: &Object, field: &str) -> Option<u32> {
-    u32::try_from(object.get(field)?.as_u64()?).ok()
-}
-
-pub fn moment_of(object: &Object) -> Option<u64> {
-    object.get("at")?.as_u64().filter(|at| *at < 4_102_444_800)
-}
-
-pub fn codes_of(object: &Object, field: &str) -> Option<Vec<Code>> {
-    object
-        .get(field)?
-        .as_array()?
-        .iter()
-        .map(|code| Code::read(code.as_str()?))
-        .collect()
-}
-
-pub fn national_of(object: &Object) -> Option<Option<Code>> {
-    match object.get("national") {
-        None | Some(Value::Null) => Some(None),
-        Some(number) => Code::read(number.as_str()?).map(Some),
-    }
-}
-
-/// The markets of a list.
-pub fn markets_of(list: &Value) -> Option<Vec<Market>> {
-    let market = |text: &Value| {
-        Market::try_from(text.as_str()?.as_bytes())
-            .ok()
-            .filter(|bytes| bytes.iter().all(u8::is_ascii_uppercase))
+fn read_answer(mut fields: Fields, is_second: bool) -> Result<Message, Fault> {
+    let asker = fields.number("asker")?;
+    let found = match fields.value("found")? {
+        Value::Null => None,
+        value => Some(read_found(value, is_second).map_err(|_| Fault::WrongType("found"))?),
     };
-    list.as_array()?.iter().map(market).collect()
+    let gtin = fields.gtin("gtin")?;
+    fields.pass("msg")?;
+    let q = match fields.number("q")? {
+        0 => return Err(Fault::WrongType("q")),
+        number => number,
+    };
+    let serial = fields.code("serial")?;
+    Ok(Message::Answer(Box::new(Answer { asker, found, pack: PackKey { gtin, serial }, q })))
 }
 
-/// A message that a party submits; none where the value is no such message.
-pub fn message_of(value: &Value) -> Option<Message> {
-    let object = value.as_object()?;
-    let is_second = object.contains_key("v");
-    let kind = text_of(object, "msg")?;
-    if !has_just(object, fields_of(kind, is_second)?, is_second) {
-        return None;
-    }
-    Some(match kind {
-        "master" => master_of(object)?,
-        "upload" => Message::Upload {
-            gtin: gtin_of(object, "gtin")?,
-            batch: code_of(object, "batch")?,
-            expiry: Expiry::read(text_of(object, "expiry")?)?,
-            national: national_of(object)?,
-            serials: codes_of(object, "serials")?,
-        },
-        "status" => Message::Status {
-            key: (gtin_of(object, "gtin")?, code_of(object, "serial")?),
-            to: Standing::read(text_of(object, "to")?)?,
-            user: text_of(object, "user")?.to_string(),
-            at: moment_of(object)?,
-        },
-        "recall" => Message::Recall {
-            key: (gtin_of(object, "gtin")?, code_of(object, "batch")?),
-            at: moment_of(object)?,
-        },
-        "repack" => Message::Repack {
-            before: (
-                gtin_of(object, "before_gtin")?,
-                code_of(object, "before_batch")?,
-            ),
-            before_serials: codes_of(object, "before_serials")?,
-            after: (
-                gtin_of(object, "after_gtin")?,
-                code_of(object, "after_batch")?,
-            ),
-            after_serials: codes_of(object, "after_serials")?,
-            at: moment_of(object)?,
-        },
-        "withdraw" => Message::Withdraw {
-            gtin: gtin_of(object, "gtin")?,
-            at: moment_of(object)?,
-        },
-        _ => return None,
-    })
+fn read_found(value: Value, is_second: bool) -> Result<Found, Fault> {
+    let names: &[&str] = if is_second { &SECOND_FOUND } else { &FOUND };
+    let mut fields = Fields::of(object_in(value)?, names)?;
+    let batch = fields.code("batch")?;
+    let expiry = fields.expiry("expiry")?;
+    let national = if is_second { fields.code_or_null("national")? } else { None };
+    let recalled = fields.truth("recalled")?;
+    let standing = read_standing(&mut fields, "standing")?;
+    let withdrawn = is_second && fields.truth("withdrawn")?;
+    Ok(Found { batch, expiry, national, recalled, standing, withdrawn })
 }
 
-fn master_of(object: &Object) -> Option<Message> {
-    let text = |field: &str| text_of(object, field).map(str::to_string);
-    Some(Message::Master {
-        gtin: gtin_of(object, "gtin")?,
-        texts: [
-            text("common")?,
-            text("form")?,
-            text("name")?,
-            text("pack_size")?,
-            text("pack_type")?,
-            text("scheme")?,
-            text("strength")?,
-        ],
-        markets: markets_of(object.get("markets")?)?,
-    })
+fn read_withdrawal(mut fields: Fields) -> Result<Message, Fault> {
+    let at = fields.moment("at")?;
+    let gtin = fields.gtin("gtin")?;
+    Ok(Message::Withdrawal { at, gtin })
+}
+
+fn read_standing(fields: &mut Fields, name: &'static str) -> Result<Standing, Fault> {
+    Standing::read(&fields.text(name)?).ok_or(Fault::WrongType(name))
 }

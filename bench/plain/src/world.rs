@@ -1,441 +1,272 @@
-//! The system: the hub, its links, and the repositories.
+//! The whole system: what the parties submit, the hub, the links and the repositories.
 
-use crate::message::{
-    code_of, gtin_of, markets_of, message_of, number_of, text_of, BatchKey, Code, Expiry, Gtin,
-    Market, Message, Object, PackKey, Party,
-};
-use crate::repository::{Effect, Item, Joint, Repository, Verdict};
-use serde_json::{json, Value};
-use std::collections::{HashMap, VecDeque};
+use crate::hub::Hub;
+use crate::inquiries::{Joint, Verdict};
+use crate::link::{Arrival, Item, Link};
+use crate::message::{Answer, Message};
+use crate::party::{Party, PartySet, MOST_PARTIES};
+use crate::repository::{Effect, Repository};
+use crate::request::{LinkKey, Opening, Step};
+use crate::values::PackKey;
+use rustc_hash::FxHashSet;
+use std::collections::VecDeque;
 use std::rc::Rc;
 
-/// Why a line was not done, by its number.
-type Answer = Result<Value, Value>;
+/// Why an opening or a step is refused.
+pub enum Refusal {
+    NoParty,
+    TooManyParties,
+    MarketTwice,
+    Window,
+    Wire,
+    Uplink,
+    Submissions,
+    NotOpen,
+    AlreadyOpen,
+    NoSuchParty,
+    NotSubmitted,
+    UplinkFull,
+    SubmissionsFull,
+    NothingWaits,
+    LinkFull(Party),
+    WireFull,
+    WireEmpty,
+    NotRelayed,
+    NotKept,
+    AllRelayed,
+    Closed,
+    AnswerBusy,
+}
 
+/// What comes of an opening or a step that is not refused.
+pub enum Reply {
+    Opened(usize),
+    Submitted(u32),
+    Verdict(Verdict),
+    Asked(u32),
+    Joint(Joint),
+    Routed { k: u32, reach: PartySet },
+    Relayed(u32),
+    /// A frame was applied; a query was answered by the party's message of this number.
+    Applied { number: u32, effect: Effect, answer: Option<u32> },
+    Old(u32),
+    Gap { number: u32, expected: u32 },
+    Repeated(u32),
+    Closed,
+    Lost(u32),
+}
+
+/// What a party submitted.
 #[derive(Default)]
-pub struct Session {
-    world: Option<World>,
+struct Submissions {
+    /// The messages that are not routed yet; the others are in the record.
+    waiting: VecDeque<Rc<Message>>,
+    count: u32,
 }
 
-#[derive(Default)]
-struct Link {
-    is_closed: bool,
-    /// The last items, as many as the window holds.
-    items: VecDeque<Item>,
-    total: u32,
-    sent: u32,
-    wire: VecDeque<(u32, Item)>,
-    accepted: u32,
-}
-
-#[allow(dead_code)]
-enum Entry {
-    Routed {
-        from: Party,
-        k: u32,
-        message: Rc<Message>,
-    },
-    Closed {
-        from: Party,
-        to: Party,
-    },
-}
-
-#[derive(Default)]
-struct Catalogue {
-    markets: Vec<Market>,
-    batches: Vec<(Code, Expiry)>,
-}
-
-struct World {
-    parties: Vec<Vec<Market>>,
-    window: u32,
+pub struct World {
     wire: usize,
     uplink: usize,
-    submissions_limit: usize,
-    submissions: Vec<Vec<Rc<Message>>>,
-    routed: Vec<u32>,
-    record: Vec<Entry>,
-    catalogues: HashMap<Gtin, Catalogue>,
-    batch_links: HashMap<BatchKey, Vec<BatchKey>>,
+    most_submissions: u32,
+    submissions: Vec<Submissions>,
+    hub: Hub,
+    /// The links, by their senders and then by their receivers.
     links: Vec<Link>,
     repositories: Vec<Repository>,
 }
 
-fn refused(code: &str) -> Value {
-    json!({ "refused": code })
-}
-
-fn verdict_value(verdict: Verdict) -> Value {
-    match verdict {
-        Verdict::Authentic => json!({ "verdict": "authentic" }),
-        Verdict::NotAuthentic { falsification } => {
-            json!({ "falsification": falsification, "verdict": "not authentic" })
-        }
-    }
-}
-
-impl Session {
-    /// The reply to a line.
-    pub fn answer(&mut self, line: &[u8]) -> String {
-        let value = match serde_json::from_slice(line) {
-            Ok(Value::Object(object)) => match self.answer_object(&object) {
-                Some(Ok(value) | Err(value)) => value,
-                None => refused("M5"),
-            },
-            _ => refused("M1"),
-        };
-        serde_json::to_string(&value).expect("a text")
-    }
-
-    /// The reply to an object; none where a field is not as it should be.
-    fn answer_object(&mut self, object: &Object) -> Option<Answer> {
-        let task = text_of(object, "do")?;
-        if task == "open" {
-            let world = World::open(object)?;
-            let count = world.parties.len();
-            if self.world.is_some() {
-                return Some(Err(refused("C2")));
-            }
-            self.world = Some(world);
-            return Some(Ok(json!({ "opened": count })));
-        }
-        let Some(world) = &mut self.world else {
-            return Some(Err(refused("C1")));
-        };
-        let from = || number_of(object, "from");
-        let to = || number_of(object, "to");
-        let party = || number_of(object, "party");
-        Some(match task {
-            "submit" => world.submit(from()?, message_of(object.get("message")?)?),
-            "route" => world.route(from()?),
-            "relay" => world.relay(from()?, to()?),
-            "apply" => world.apply(from()?, to()?),
-            "repeat" => world.repeat(from()?, to()?, number_of(object, "number")?),
-            "close" => world.close(from()?, to()?),
-            "lose" => world.lose(from()?, to()?),
-            "verify" => world.verify(
-                party()?,
-                (gtin_of(object, "gtin")?, code_of(object, "serial")?),
-            ),
-            "verdict" => world.verdict(party()?, number_of(object, "q")?),
-            _ => return None,
-        })
-    }
-}
-
 impl World {
-    fn open(object: &Object) -> Option<World> {
-        let parties: Vec<Vec<Market>> = object
-            .get("parties")?
-            .as_array()?
-            .iter()
-            .map(markets_of)
-            .collect::<Option<_>>()?;
-        let count = parties.len();
-        Some(World {
-            window: number_of(object, "window")?,
-            wire: number_of(object, "wire")? as usize,
-            uplink: number_of(object, "uplink")? as usize,
-            submissions_limit: number_of(object, "submissions")? as usize,
-            submissions: (0..count).map(|_| Vec::new()).collect(),
-            routed: vec![0; count],
-            record: Vec::new(),
-            catalogues: HashMap::new(),
-            batch_links: HashMap::new(),
+    pub fn open(opening: &Opening) -> Result<World, Refusal> {
+        let count = opening.parties.len();
+        check_opening(opening)?;
+        Ok(World {
+            wire: opening.wire as usize,
+            uplink: opening.uplink as usize,
+            most_submissions: opening.submissions,
+            submissions: (0..count).map(|_| Submissions::default()).collect(),
+            hub: Hub::new(&opening.parties, opening.window),
             links: (0..count * count).map(|_| Link::default()).collect(),
-            repositories: (0..count as u32).map(Repository::new).collect(),
-            parties,
+            repositories: (0..count).map(|party| Repository::new(party as Party)).collect(),
         })
     }
 
-    fn check(&self, party: Party) -> Result<usize, Value> {
-        if (party as usize) < self.parties.len() {
-            Ok(party as usize)
-        } else {
-            Err(refused("S1"))
-        }
-    }
-
-    /// The place of a link.
-    fn place(&self, from: Party, to: Party) -> Result<usize, Value> {
-        Ok(self.check(from)? * self.parties.len() + self.check(to)?)
-    }
-
-    /// The same, where its wire has room.
-    fn free_place(&self, from: Party, to: Party) -> Result<usize, Value> {
-        let place = self.place(from, to)?;
-        if self.links[place].wire.len() == self.wire {
-            Err(refused("S7"))
-        } else {
-            Ok(place)
-        }
-    }
-
-    /// S3 or S4, where a party cannot submit now.
-    fn fullness(&self, party: usize) -> Option<&'static str> {
-        let count = self.submissions[party].len();
-        if count - self.routed[party] as usize >= self.uplink {
-            Some("S3")
-        } else if count >= self.submissions_limit {
-            Some("S4")
-        } else {
-            None
-        }
-    }
-
-    fn put_submission(&mut self, party: usize, message: Message) -> Result<usize, Value> {
-        if let Some(code) = self.fullness(party) {
-            return Err(refused(code));
-        }
-        self.submissions[party].push(Rc::new(message));
-        Ok(self.submissions[party].len())
-    }
-
-    fn submit(&mut self, from: Party, message: Message) -> Answer {
-        let from = self.check(from)?;
-        let k = self.put_submission(from, message)?;
-        Ok(json!({ "submitted": k }))
-    }
-
-    fn verify(&mut self, party: Party, key: PackKey) -> Answer {
-        let party = self.check(party)?;
-        if let Some(verdict) = self.repositories[party].verify(&key) {
-            return Ok(verdict_value(verdict));
-        }
-        let q = self.put_submission(party, Message::Query { key })?;
-        Ok(json!({ "asked": q }))
-    }
-
-    fn verdict(&mut self, party: Party, q: u32) -> Answer {
-        let party = self.check(party)?;
-        Ok(match self.repositories[party].verdict(q) {
-            Joint::NotAsked => json!({ "verdict": "not asked" }),
-            Joint::Pending(left) => json!({ "left": left, "verdict": "pending" }),
-            Joint::Decided(verdict) => verdict_value(verdict),
-        })
-    }
-
-    fn markets(&self, gtin: &Gtin) -> &[Market] {
-        self.catalogues
-            .get(gtin)
-            .map_or(&[], |catalogue| &catalogue.markets)
-    }
-
-    /// The parties that a message is for, their links being open.
-    fn reach(&self, from: usize, message: &Message) -> Vec<Party> {
-        let (first, second): (&[Market], &[Market]) = match message {
-            Message::Master { gtin, markets, .. } => (self.markets(gtin), markets),
-            Message::Upload { gtin, .. } | Message::Withdraw { gtin, .. } => {
-                (self.markets(gtin), &[])
+    pub fn step(&mut self, step: Step) -> Result<Reply, Refusal> {
+        match step {
+            Step::Submit { from, message } => self.submit(from, message),
+            Step::Verify { party, pack } => self.verify(party, &pack),
+            Step::Verdict { party, q } => {
+                let party = self.party(party)?;
+                Ok(Reply::Joint(self.repositories[usize::from(party)].verdict(q)))
             }
-            Message::Status { key, .. } | Message::Query { key } => (self.markets(&key.0), &[]),
-            Message::Recall { key, .. } => (self.markets(&key.0), &[]),
-            Message::Repack { before, after, .. } => {
-                (self.markets(&before.0), self.markets(&after.0))
+            Step::Route { from } => self.route(from),
+            Step::Relay(link) => {
+                let wire = self.wire;
+                self.link(link)?.relay(wire).map(Reply::Relayed)
             }
-            Message::Answer { .. } => (&[], &[]),
-        };
-        let is_target = |to: usize| match message {
-            Message::Answer { asker, .. } => to == *asker as usize,
-            Message::Query { .. } if to == from => false,
-            _ => self.parties[to]
-                .iter()
-                .any(|market| first.contains(market) || second.contains(market)),
-        };
-        let is_open = |to: usize| !self.links[from * self.parties.len() + to].is_closed;
-        (0..self.parties.len())
-            .filter(|to| is_target(*to) && is_open(*to))
-            .map(|to| to as Party)
-            .collect()
+            Step::Apply(link) => self.apply(link),
+            Step::Repeat { link, number } => {
+                let wire = self.wire;
+                self.link(link)?.repeat(number, wire)?;
+                Ok(Reply::Repeated(number))
+            }
+            Step::Close(LinkKey { from, to }) => {
+                self.hub.close(self.party(from)?, self.party(to)?)?;
+                Ok(Reply::Closed)
+            }
+            Step::Lose(link) => self.link(link)?.pop().map(|(number, _)| Reply::Lost(number)),
+        }
     }
 
-    fn route(&mut self, from: Party) -> Answer {
-        let sender = self.check(from)?;
-        let k = self.routed[sender] + 1;
-        let Some(message) = self.submissions[sender].get(k as usize - 1).cloned() else {
-            return Err(refused("S5"));
-        };
-        let count = self.parties.len();
-        let reach: Rc<[Party]> = self.reach(sender, &message).into();
-        let has_receipt = !self.links[sender * count + sender].is_closed;
-        for to in 0..count {
-            let link = &self.links[sender * count + to];
-            let gain =
-                u32::from(to == sender && has_receipt) + u32::from(reach.contains(&(to as Party)));
-            if link.total - link.sent + gain > self.window {
-                return Err(json!({ "party": to, "refused": "S6" }));
-            }
+    /// The party of a number.
+    fn party(&self, number: u32) -> Result<Party, Refusal> {
+        if (number as usize) < self.repositories.len() {
+            Ok(number as Party)
+        } else {
+            Err(Refusal::NoSuchParty)
         }
-        self.record.push(Entry::Routed {
-            from,
-            k,
-            message: message.clone(),
+    }
+
+    fn link(&mut self, LinkKey { from, to }: LinkKey) -> Result<&mut Link, Refusal> {
+        let place = usize::from(self.party(from)?) * self.repositories.len() + usize::from(self.party(to)?);
+        Ok(&mut self.links[place])
+    }
+
+    /// Refuses where a party can submit nothing now.
+    fn check_room(&self, party: Party) -> Result<(), Refusal> {
+        let submissions = &self.submissions[usize::from(party)];
+        if submissions.waiting.len() == self.uplink {
+            Err(Refusal::UplinkFull)
+        } else if submissions.count == self.most_submissions {
+            Err(Refusal::SubmissionsFull)
+        } else {
+            Ok(())
+        }
+    }
+
+    /// Adds to what a party submitted: the number of the message.
+    fn add(&mut self, party: Party, message: Message) -> u32 {
+        let submissions = &mut self.submissions[usize::from(party)];
+        submissions.waiting.push_back(Rc::new(message));
+        submissions.count += 1;
+        submissions.count
+    }
+
+    fn submit(&mut self, from: u32, message: Message) -> Result<Reply, Refusal> {
+        let from = self.party(from)?;
+        if matches!(message, Message::Query(_) | Message::Answer(_)) {
+            return Err(Refusal::NotSubmitted);
+        }
+        self.check_room(from)?;
+        Ok(Reply::Submitted(self.add(from, message)))
+    }
+
+    fn verify(&mut self, party: u32, pack: &PackKey) -> Result<Reply, Refusal> {
+        let party = self.party(party)?;
+        if let Some(verdict) = self.repositories[usize::from(party)].verify(pack) {
+            return Ok(Reply::Verdict(verdict));
+        }
+        self.check_room(party)?;
+        Ok(Reply::Asked(self.add(party, Message::Query(*pack))))
+    }
+
+    fn route(&mut self, from: u32) -> Result<Reply, Refusal> {
+        let from = self.party(from)?;
+        let waiting = &mut self.submissions[usize::from(from)].waiting;
+        let message = waiting.front().ok_or(Refusal::NothingWaits)?;
+        let count = self.repositories.len();
+        let links = &mut self.links[usize::from(from) * count..][..count];
+        let (k, reach) = self.hub.route(from, message, links)?;
+        waiting.pop_front();
+        Ok(Reply::Routed { k, reach })
+    }
+
+    fn apply(&mut self, key: LinkKey) -> Result<Reply, Refusal> {
+        let link = self.link(key)?;
+        let (number, query) = match link.arrival()? {
+            Arrival::Next(number, item) => (number, query_of(item)),
+            Arrival::Old(number) => {
+                link.pop()?;
+                return Ok(Reply::Old(number));
+            }
+            Arrival::Gap { number, expected } => {
+                link.pop()?;
+                return Ok(Reply::Gap { number, expected });
+            }
+        };
+        let receiver = self.party(key.to)?;
+        if query.is_some() {
+            self.check_room(receiver).map_err(|_| Refusal::AnswerBusy)?;
+        }
+        let item = self.link(key)?.accept()?;
+        let answer = query.map(|(q, pack)| {
+            let found = self.repositories[usize::from(receiver)].found(&pack);
+            let answer = Answer { asker: key.from, found, pack, q };
+            self.add(receiver, Message::Answer(Box::new(answer)))
         });
-        self.note(&message);
-        let (stamp, window) = (self.record.len() as u32, self.window as usize);
-        if has_receipt {
-            let query = matches!(*message, Message::Query { .. });
-            self.links[sender * count + sender].push(
-                Item::Receipt {
-                    k,
-                    reach: reach.clone(),
-                    query,
-                },
-                window,
-            );
-        }
-        for to in reach.iter() {
-            self.links[sender * count + *to as usize].push(
-                Item::Carried {
-                    k,
-                    stamp,
-                    message: message.clone(),
-                },
-                window,
-            );
-        }
-        self.routed[sender] = k;
-        Ok(json!({ "reach": *reach, "routed": k }))
-    }
-
-    /// Notes a routed message in the tables of products and of batches.
-    fn note(&mut self, message: &Message) {
-        match message {
-            Message::Master { gtin, markets, .. } => self
-                .catalogues
-                .entry(*gtin)
-                .or_default()
-                .markets
-                .clone_from(markets),
-            Message::Upload {
-                gtin,
-                batch,
-                expiry,
-                ..
-            } => {
-                let batches = &mut self.catalogues.entry(*gtin).or_default().batches;
-                if !batches.contains(&(*batch, *expiry)) {
-                    batches.push((*batch, *expiry));
-                }
-            }
-            Message::Repack { before, after, .. } => {
-                let links = self.batch_links.entry(*before).or_default();
-                if !links.contains(after) {
-                    links.push(*after);
-                }
-            }
-            _ => (),
-        }
-    }
-
-    fn relay(&mut self, from: Party, to: Party) -> Answer {
-        let place = self.free_place(from, to)?;
-        let link = &mut self.links[place];
-        if link.sent == link.total {
-            return Err(refused("S11"));
-        }
-        link.sent += 1;
-        link.put_on_wire(link.sent);
-        Ok(json!({ "relayed": link.sent }))
-    }
-
-    fn repeat(&mut self, from: Party, to: Party, number: u32) -> Answer {
-        let place = self.free_place(from, to)?;
-        let window = self.window;
-        let link = &mut self.links[place];
-        if number == 0 || number > link.sent {
-            return Err(refused("S9"));
-        }
-        if number <= link.total.saturating_sub(window) {
-            return Err(refused("S10"));
-        }
-        link.put_on_wire(number);
-        Ok(json!({ "repeated": number }))
-    }
-
-    fn close(&mut self, from: Party, to: Party) -> Answer {
-        let place = self.place(from, to)?;
-        if self.links[place].is_closed {
-            return Err(refused("S12"));
-        }
-        self.links[place].is_closed = true;
-        self.record.push(Entry::Closed { from, to });
-        Ok(json!({ "closed": true }))
-    }
-
-    fn lose(&mut self, from: Party, to: Party) -> Answer {
-        let place = self.place(from, to)?;
-        match self.links[place].wire.pop_front() {
-            Some((number, _)) => Ok(json!({ "lost": number })),
-            None => Err(refused("S8")),
-        }
-    }
-
-    fn apply(&mut self, from: Party, to: Party) -> Answer {
-        let place = self.place(from, to)?;
-        let receiver = to as usize;
-        let link = &mut self.links[place];
-        let Some((number, item)) = link.wire.front() else {
-            return Err(refused("S8"));
-        };
-        let (number, next) = (*number, link.accepted + 1);
-        if number != next {
-            link.wire.pop_front();
-            return Ok(if number < next {
-                json!({ "old": number })
-            } else {
-                json!({ "expected": next, "gap": number })
-            });
-        }
-        let answer = match item {
-            Item::Carried { k, message, .. } => match &**message {
-                Message::Query { key } => Some((*k, *key)),
-                _ => None,
-            },
-            Item::Receipt { .. } => None,
-        };
-        if answer.is_some() && self.fullness(receiver).is_some() {
-            return Err(refused("S13"));
-        }
-        let link = &mut self.links[place];
-        let Some((_, item)) = link.wire.pop_front() else {
-            return Err(refused("S8"));
-        };
-        link.accepted = number;
-        let found = answer.map(|(q, key)| Message::Answer {
-            asker: from,
-            q,
-            found: self.repositories[receiver].found(&key),
-        });
-        let effect = self.repositories[receiver].apply(from, item);
-        let code = effect.code();
-        match (found, effect) {
-            (Some(message), _) => {
-                let k = self.put_submission(receiver, message)?;
-                Ok(json!({ "answer": k, "applied": number, "effect": code }))
-            }
-            (None, Effect::Uploaded { new, old }) => {
-                Ok(json!({ "applied": number, "effect": code, "new": new, "old": old }))
-            }
-            (None, Effect::Code(_)) => Ok(json!({ "applied": number, "effect": code })),
-        }
+        let effect = self.repositories[usize::from(receiver)].apply(key.from as Party, item);
+        Ok(Reply::Applied { number, effect, answer })
     }
 }
 
-impl Link {
-    fn push(&mut self, item: Item, window: usize) {
-        if self.items.len() == window {
-            self.items.pop_front();
-        }
-        self.items.push_back(item);
-        self.total += 1;
+/// The query that an item carries, with its number.
+fn query_of(item: &Item) -> Option<(u32, PackKey)> {
+    match item {
+        Item::Carried { k, message, .. } => match **message {
+            Message::Query(pack) => Some((*k, pack)),
+            _ => None,
+        },
+        Item::Receipt { .. } => None,
     }
+}
 
-    /// Puts the frame of a number on the wire; it is one of those that are kept.
-    fn put_on_wire(&mut self, number: u32) {
-        let behind = (self.total - number) as usize;
-        let item = self.items[self.items.len() - 1 - behind].clone();
-        self.wire.push_back((number, item));
+/// Refuses parties and limits that no system has.
+fn check_opening(opening: &Opening) -> Result<(), Refusal> {
+    let mut served = FxHashSet::default();
+    if opening.parties.is_empty() {
+        Err(Refusal::NoParty)
+    } else if opening.parties.len() > MOST_PARTIES {
+        Err(Refusal::TooManyParties)
+    } else if !opening.parties.iter().flatten().all(|market| served.insert(market)) {
+        Err(Refusal::MarketTwice)
+    } else if !(2..=256).contains(&opening.window) {
+        Err(Refusal::Window)
+    } else if !(1..=64).contains(&opening.wire) {
+        Err(Refusal::Wire)
+    } else if !(1..=64).contains(&opening.uplink) {
+        Err(Refusal::Uplink)
+    } else if !(1..=1_000_000).contains(&opening.submissions) {
+        Err(Refusal::Submissions)
+    } else {
+        Ok(())
+    }
+}
+
+impl Refusal {
+    /// Its number.
+    pub fn code(&self) -> &'static str {
+        match self {
+            Refusal::NoParty => "H1",
+            Refusal::TooManyParties => "H2",
+            Refusal::MarketTwice => "H3",
+            Refusal::Window => "O1",
+            Refusal::Wire => "O2",
+            Refusal::Uplink => "O3",
+            Refusal::Submissions => "O4",
+            Refusal::NotOpen => "C1",
+            Refusal::AlreadyOpen => "C2",
+            Refusal::NoSuchParty => "S1",
+            Refusal::NotSubmitted => "S2",
+            Refusal::UplinkFull => "S3",
+            Refusal::SubmissionsFull => "S4",
+            Refusal::NothingWaits => "S5",
+            Refusal::LinkFull(_) => "S6",
+            Refusal::WireFull => "S7",
+            Refusal::WireEmpty => "S8",
+            Refusal::NotRelayed => "S9",
+            Refusal::NotKept => "S10",
+            Refusal::AllRelayed => "S11",
+            Refusal::Closed => "S12",
+            Refusal::AnswerBusy => "S13",
+        }
     }
 }

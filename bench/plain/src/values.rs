@@ -1,0 +1,223 @@
+//! The values in messages: product codes, serial and batch numbers, dates, moments, markets and standings.
+
+use crate::fault::ValueFault;
+
+/// Seconds of a day.
+pub const DAY: u64 = 86_400;
+/// The first second of the year 2100.
+const END_OF_TIME: u64 = 4_102_444_800;
+/// The days from 0000-03-01 to 1970-01-01.
+const EPOCH: u32 = 719_468;
+const CODE_BYTES: usize = 20;
+
+/// A product code: the number that its 14 digits write.
+#[derive(Clone, Copy, PartialEq, Eq, PartialOrd, Ord, Hash)]
+pub struct Gtin(u64);
+
+/// A serial, batch or national number of 1 to 20 bytes, with zeros behind it.
+#[derive(Clone, Copy, PartialEq, Eq, PartialOrd, Ord, Hash)]
+pub struct Code([u8; CODE_BYTES]);
+
+/// A date: a year of this century, a month and a day.
+#[derive(Clone, Copy, PartialEq, Eq, Hash)]
+pub struct Expiry {
+    year: u8,
+    month: u8,
+    day: u8,
+}
+
+/// Two capital letters.
+pub type Market = [u8; 2];
+
+/// A pack, by its product code and its serial number.
+#[derive(Clone, Copy, PartialEq, Eq, PartialOrd, Ord, Hash)]
+pub struct PackKey {
+    pub gtin: Gtin,
+    pub serial: Code,
+}
+
+/// A batch, by its product code and its number.
+#[derive(Clone, Copy, PartialEq, Eq, PartialOrd, Ord, Hash)]
+pub struct BatchKey {
+    pub gtin: Gtin,
+    pub batch: Code,
+}
+
+#[derive(Clone, Copy, PartialEq, Eq)]
+pub enum Standing {
+    Active,
+    Supplied,
+    Exported,
+    Destruction,
+    Sample,
+    FreeSample,
+    Stolen,
+    Repackaged,
+}
+
+impl Gtin {
+    pub fn read(text: &str) -> Result<Gtin, ValueFault> {
+        let digits = text.as_bytes();
+        if !matches!(digits.len(), 8 | 12 | 13 | 14) {
+            return Err(ValueFault::GtinLength);
+        }
+        if !digits.iter().all(u8::is_ascii_digit) {
+            return Err(ValueFault::GtinDigit);
+        }
+        let (mut number, mut sum, mut weight) = (0, 0, if digits.len() % 2 == 0 { 3 } else { 1 });
+        for digit in digits {
+            let digit = u64::from(digit - b'0');
+            number = number * 10 + digit;
+            sum += digit * weight;
+            weight = 4 - weight;
+        }
+        if sum % 10 == 0 {
+            Ok(Gtin(number))
+        } else {
+            Err(ValueFault::GtinCheck)
+        }
+    }
+
+    /// Its 14 digits.
+    pub fn digits(self) -> [u8; 14] {
+        let (mut digits, mut number) = ([0; 14], self.0);
+        for digit in digits.iter_mut().rev() {
+            *digit = b'0' + (number % 10) as u8;
+            number /= 10;
+        }
+        digits
+    }
+}
+
+/// Whether each byte is one of the 82 characters of codes.
+const IS_CODE_CHARACTER: [bool; 256] = {
+    let characters = b"ABCDEFGHIJKLMNOPQRSTUVWXYZabcdefghijklmnopqrstuvwxyz0123456789!\"%&'()*+,-./:;<=>?_";
+    let (mut table, mut place) = ([false; 256], 0);
+    while place < characters.len() {
+        table[characters[place] as usize] = true;
+        place += 1;
+    }
+    table
+};
+
+impl Code {
+    /// It comes before each code.
+    pub const LEAST: Code = Code([0; CODE_BYTES]);
+
+    pub fn read(text: &str) -> Result<Code, ValueFault> {
+        let text = text.as_bytes();
+        if text.is_empty() {
+            return Err(ValueFault::EmptyCode);
+        }
+        if text.len() > CODE_BYTES {
+            return Err(ValueFault::LongCode);
+        }
+        let mut bytes = [0; CODE_BYTES];
+        for (place, byte) in text.iter().enumerate() {
+            if !IS_CODE_CHARACTER[usize::from(*byte)] {
+                return Err(ValueFault::CodeCharacter(place + 1));
+            }
+            bytes[place] = *byte;
+        }
+        Ok(Code(bytes))
+    }
+
+    /// Its characters.
+    pub fn text(&self) -> &[u8] {
+        let length = self.0.iter().position(|byte| *byte == 0);
+        &self.0[..length.unwrap_or(CODE_BYTES)]
+    }
+}
+
+impl Expiry {
+    pub fn read(text: &str) -> Result<Expiry, ValueFault> {
+        let digits: &[u8; 6] = text.as_bytes().try_into().map_err(|_| ValueFault::Expiry)?;
+        if !digits.iter().all(u8::is_ascii_digit) {
+            return Err(ValueFault::Expiry);
+        }
+        let two = |place: usize| (digits[place] - b'0') * 10 + digits[place + 1] - b'0';
+        let (year, month, day) = (two(0), two(2), two(4));
+        let last = match month {
+            2 if year % 4 == 0 => 29,
+            2 => 28,
+            4 | 6 | 9 | 11 => 30,
+            1..=12 => 31,
+            _ => return Err(ValueFault::Expiry),
+        };
+        match day {
+            0 => Ok(Expiry { year, month, day: last }),
+            _ if day <= last => Ok(Expiry { year, month, day }),
+            _ => Err(ValueFault::Expiry),
+        }
+    }
+
+    /// Its six digits, YYMMDD.
+    pub fn digits(self) -> [u8; 6] {
+        let Expiry { year, month, day } = self;
+        [year / 10, year % 10, month / 10, month % 10, day / 10, day % 10].map(|digit| b'0' + digit)
+    }
+
+    /// Whether it lies before the day of a moment.
+    pub fn is_before(self, at: u64) -> bool {
+        u64::from(self.day_number()) < at / DAY
+    }
+
+    /// The days from 1970-01-01 to the date.
+    fn day_number(self) -> u32 {
+        let (year, month, day) = (2000 + u32::from(self.year), u32::from(self.month), u32::from(self.day));
+        // The year is counted from March on, so that a leap day is its last.
+        let (year, month) = if month > 2 { (year, month - 3) } else { (year - 1, month + 9) };
+        year * 365 + year / 4 - year / 100 + year / 400 + (153 * month + 2) / 5 + day - 1 - EPOCH
+    }
+}
+
+/// Two capital letters.
+pub fn read_market(text: &str) -> Result<Market, ValueFault> {
+    match Market::try_from(text.as_bytes()) {
+        Ok(letters) if letters.iter().all(u8::is_ascii_uppercase) => Ok(letters),
+        _ => Err(ValueFault::Market),
+    }
+}
+
+/// Seconds since 1970, before the year 2100.
+pub fn read_moment(seconds: u64) -> Result<u64, ValueFault> {
+    if seconds < END_OF_TIME {
+        Ok(seconds)
+    } else {
+        Err(ValueFault::Moment)
+    }
+}
+
+impl Standing {
+    pub fn read(text: &str) -> Option<Standing> {
+        Some(match text {
+            "active" => Standing::Active,
+            "supplied" => Standing::Supplied,
+            "exported" => Standing::Exported,
+            "destruction" => Standing::Destruction,
+            "sample" => Standing::Sample,
+            "free_sample" => Standing::FreeSample,
+            "stolen" => Standing::Stolen,
+            "repackaged" => Standing::Repackaged,
+            _ => return None,
+        })
+    }
+
+    pub fn name(self) -> &'static str {
+        match self {
+            Standing::Active => "active",
+            Standing::Supplied => "supplied",
+            Standing::Exported => "exported",
+            Standing::Destruction => "destruction",
+            Standing::Sample => "sample",
+            Standing::FreeSample => "free_sample",
+            Standing::Stolen => "stolen",
+            Standing::Repackaged => "repackaged",
+        }
+    }
+
+    /// Whether it is never reverted.
+    pub fn is_for_ever(self) -> bool {
+        matches!(self, Standing::Destruction | Standing::Stolen | Standing::Repackaged)
+    }
+}

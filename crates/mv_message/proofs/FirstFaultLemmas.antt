@@ -27,6 +27,7 @@ use Rattle.mv_message.specs.Reading.{◌and_then◌, gtin_at, code_at, expiry_at
 use Rattle.mv_message.specs.Reads.{HasOnly}
 use Rattle.mv_message.specs.Versions.{version_at}
 use Rattle.mv_message.proofs.FormLemmas.{read_by_fields}
+use Rattle.mv_message.proofs.OrderLemmas.{rises, strictly_sorted}
 
 -- the fault of a reading, else that of the next, which is the same whatever the first gave
 behind : {A M : Type 0} (a : Result A MessageFault) (next : A → Result M MessageFault) (rest : Option MessageFault) → ((x : A) → result_err (next x) ≡ rest) → result_err (a and_then next) ≡ option_or (result_err a) rest
@@ -123,30 +124,6 @@ message_fault version forms.Withdraw d = withdraw_fault version d
 pub first_fault_is_given : (d : Data) (version : Version) (form : Form) → version_at d ≡ Ok version → form_at version d ≡ Ok form → HasOnly (names_of version form) d → result_err (read_message d) ≡ first_fault version d (fields_of version form)
 first_fault_is_given d version form of_version of_form known =
     ap result_err (read_by_fields d version form of_version of_form known) ∙ message_fault version form d
-
-is_less : (order : Ordering) → is_lt order ≡ true → order ≡ Less
-is_less Less h = refl
-is_less Equal h = cc
-is_less Greater h = cc
-
--- each of these is above x
-all_above : {X : Type 0} (cmp : X → X → Ordering) (x : X) (ys : List X) → list_all (λ y. is_lt (cmp x y)) ys ≡ true → AllByRecursion (λ y. cmp x y ≡ Less) ys
-all_above cmp x [] h = tt
-all_above cmp x (y ∷ ys) h =
-    let parts = and_parts (is_lt (cmp x y)) (list_all (λ y. is_lt (cmp x y)) ys) h in
-    (is_less (cmp x y) parts.0, all_above cmp x ys parts.1)
-
--- whether each is below all behind it
-rises : {X : Type 0} → (X → X → Ordering) → List X → Bool
-rises cmp [] = true
-rises cmp (x ∷ xs) = list_all (λ y. is_lt (cmp x y)) xs && rises cmp xs
-
-strictly_sorted : {X : Type 0} (cmp : X → X → Ordering) (xs : List X) → rises cmp xs ≡ true → IsStrictlySortedBy cmp xs
-unfolding rises IsStrictlySortedBy
-strictly_sorted cmp [] h = tt
-strictly_sorted cmp (x ∷ xs) h =
-    let parts = and_parts (list_all (λ y. is_lt (cmp x y)) xs) (rises cmp xs) h in
-    (all_above cmp x xs parts.0, strictly_sorted cmp xs parts.1)
 
 names_rise : (version : Version) (form : Form) → rises (slice_cmp nat_cmp) (names_of version form) ≡ true
 unfolding rises

@@ -1,6 +1,7 @@
 pub mod MembersLemmas
 pub mod ListLemmas
 pub mod ValueLemmas
+pub mod TokenLemmas
 pub mod ReadingLemmas
 pub mod NumberLemmas
 pub mod ChainLemmas
@@ -9,4 +10,6 @@ pub mod FoundLemmas
 pub mod SpelledLemmas
 pub mod ReadsLemmas
 pub mod LegalLemmas
+pub mod OrderLemmas
 pub mod FirstFaultLemmas
+pub mod KeyLemmas

@@ -10,6 +10,7 @@ use Rattle.mv_message.specs.declared.message.Message.{Message}
 use Rattle.mv_message.specs.declared.version.Version.{Version}
 use Rattle.mv_message.specs.FieldFaults.{first_fault}
 use Rattle.mv_message.specs.Forms.{fields_of, names_of, form_at}
+use Rattle.mv_message.specs.Keys.{KeysAscend}
 use Rattle.mv_message.specs.Legal.{IsLegal}
 use Rattle.mv_message.specs.Messages.{read_message, value_of}
 use Rattle.mv_message.specs.Reads.{Reads, HasOnly}
@@ -42,3 +43,7 @@ FirstFaultIsGiven =
 abbrev pub FieldsAreInOrder : Type 0
 FieldsAreInOrder =
     (version : Version) (form : Form) → IsStrictlySortedBy (slice_cmp nat_cmp) (names_of version form)
+
+-- the keys of each object in the value of a message ascend
+abbrev pub KeysOfValuesAscend : Type 0
+KeysOfValuesAscend = (message : Message) → KeysAscend (value_of message)

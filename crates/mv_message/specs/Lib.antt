@@ -3,6 +3,7 @@ pub mod Fields
 pub mod Standings
 pub mod Fault
 pub mod Members
+pub mod Keys
 pub mod Kinds
 pub mod Reading
 pub mod Numbers
@@ -13,6 +14,7 @@ pub mod Readers
 pub mod FieldFaults
 pub mod Values
 pub mod Messages
+pub mod Tokens
 pub mod Legal
 pub mod Reads
 pub mod Laws

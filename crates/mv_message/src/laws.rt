@@ -1,6 +1,6 @@
 //! Laws of the JSON form of messages, a sentence each; what they say holds of every value and message.
 
-ghost use Rattle.mv_message.specs.Laws.{ReadsBack, ReadsExactly, ReadIsLegal, ReadsOne, FirstFaultIsGiven, FieldsAreInOrder};
+ghost use Rattle.mv_message.specs.Laws.{ReadsBack, ReadsExactly, ReadIsLegal, ReadsOne, FirstFaultIsGiven, FieldsAreInOrder, KeysOfValuesAscend};
 
 /// Each legal message is read back from its value.
 #[tactic(auto, using(crate::proofs::LegalLemmas::reads_back))]
@@ -36,4 +36,9 @@ pub fn first_fault_is_given()
 #[tactic(auto, using(crate::proofs::FirstFaultLemmas::fields_are_in_order))]
 pub fn fields_are_in_order()
     ensures { FieldsAreInOrder }
+{}
+
+/// In the value of a message the keys of each object, that of `found` too, ascend in byte order, each once.
+pub fn keys_ascend()
+    ensures { KeysOfValuesAscend }
 {}

@@ -249,7 +249,7 @@ fn second_answer_value(
 }
 
 /// The version that says all of what was found.
-fn found_version(found: &Found) -> Version
+pub(crate) fn found_version(found: &Found) -> Version
     ensures { result ≡ found_version found.now }
 {
     match found {

@@ -1,0 +1,33 @@
+-- Lists that are sorted, by computing.
+use Rattle.std.proofs.Common.{◌≡◌, refl, true, ◌&&◌, Bool, List, [], ◌∷◌}
+use Rattle.std.specs.Ordering.{is_lt}
+use Rattle.std.specs.declared.cmp.Ordering.{Ordering}
+use Rattle.std.specs.declared.cmp.Ordering.TheVariants.{Less, Equal, Greater}
+use Rattle.std.specs.List.{list_all, AllByRecursion}
+use Rattle.std.specs.List.Sorted.{IsStrictlySortedBy}
+use Rattle.std.proofs.lemmas.Bool.{and_parts}
+
+is_less : (order : Ordering) → is_lt order ≡ true → order ≡ Less
+is_less Less h = refl
+is_less Equal h = cc
+is_less Greater h = cc
+
+-- each of these is above x
+all_above : {X : Type 0} (cmp : X → X → Ordering) (x : X) (ys : List X) → list_all (λ y. is_lt (cmp x y)) ys ≡ true → AllByRecursion (λ y. cmp x y ≡ Less) ys
+all_above cmp x [] h = tt
+all_above cmp x (y ∷ ys) h =
+    let parts = and_parts (is_lt (cmp x y)) (list_all (λ y. is_lt (cmp x y)) ys) h in
+    (is_less (cmp x y) parts.0, all_above cmp x ys parts.1)
+
+-- whether each is below all behind it
+unfoldable pub rises : {X : Type 0} → (X → X → Ordering) → List X → Bool
+rises cmp [] = true
+rises cmp (x ∷ xs) = list_all (λ y. is_lt (cmp x y)) xs && rises cmp xs
+
+-- what rises is sorted
+pub strictly_sorted : {X : Type 0} (cmp : X → X → Ordering) (xs : List X) → rises cmp xs ≡ true → IsStrictlySortedBy cmp xs
+unfolding rises IsStrictlySortedBy
+strictly_sorted cmp [] h = tt
+strictly_sorted cmp (x ∷ xs) h =
+    let parts = and_parts (list_all (λ y. is_lt (cmp x y)) xs) (rises cmp xs) h in
+    (all_above cmp x xs parts.0, strictly_sorted cmp xs parts.1)

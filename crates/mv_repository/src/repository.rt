@@ -112,12 +112,11 @@ impl Repository {
         self.ledger.verify(key)
     }
 
-    /// The verdict of all that were asked, on the query that was the `q`-th message of the repository's own party. The
-    /// log isn't searched.
+    /// The verdict of all that were asked, on the query that was the `q`-th message of the repository's own party.
     pub fn verdict(&self, q: u32) -> Joint
         ensures { result ≡ joint_verdict self.now.party self.now.log q }
     {
-        self.inquiries.verdict(q)
+        self.inquiries.verdict(self.ledger.log(), q)
     }
 
     /// Applies an item that came from a party: says what that did, at the item's own place in the order of stamps, and
@@ -135,9 +134,10 @@ impl Repository {
         ensures err { OnErr result (self.new ≡ self.old) }
     {
         let party = self.ledger.party();
+        let place = self.ledger.log().len();
         self.inquiries.reserve(party, sender, item)?;
         let done = self.ledger.apply(sender, item)?;
-        self.inquiries.note(party, sender, item);
+        self.inquiries.note(party, sender, item, place);
         Ok(done)
     }
 }

@@ -13,7 +13,7 @@ use Rattle.mv_repository.specs.declared.entry.LogEntry.{LogEntry}
 use Rattle.mv_repository.specs.declared.inquiries.Inquiries.{Inquiries}
 use Rattle.mv_repository.specs.declared.inquiries.Inquiry.{Inquiry}
 use Rattle.mv_repository.specs.declared.verdict.Joint.TheVariants.{Pending, Decided}
-use Rattle.mv_repository.specs.Verdict.{query_reach, asked_parties, finding_in, is_found_so, has_answered, has_finding, found_active, found_stopped, joint_verdict_when, joint_verdict, verdict_when}
+use Rattle.mv_repository.specs.Verdict.{query_reach, asked_parties, finding_in, is_found_so, has_answered, has_finding, found_active, found_explained, joint_verdict_when, joint_verdict, verdict_when}
 use Rattle.mv_repository.specs.Inquiries.{tells_of_query, inquiry_in, with_receipt, with_finding, has_reply, named_parties, parties_at, verdict_once_asked, known_verdict, is_receipt_of, receipt_place, inquiry_of, IsInquiriesOf}
 
 -- an item from a sender, as an entry
@@ -54,7 +54,7 @@ abbrev more_known : ℕ → ℕ → Item → ℕ → ℕ → Inquiry → Inquiry
 more_known party sender item place q inquiry = record {
   receipt = option_or inquiry.receipt (place_if (is_receipt_of party q (entry_of sender item)) place);
   active = inquiry.active || is_found_so found_active (finding_in party q item);
-  stopped = inquiry.stopped || is_found_so found_stopped (finding_in party q item);
+  explained = inquiry.explained || is_found_so found_explained (finding_in party q item);
 }
 
 inquiry-more : (party : ℕ) (log : List LogEntry) (sender : ℕ) (item : Item) (q : ℕ)
@@ -63,8 +63,8 @@ inquiry-more party log sender item q =
     let entry : LogEntry = entry_of sender item in
     let receipt = place-more party log sender item q in
     let active = any-more (λ e. is_found_so found_active (finding_in party q e.item)) log entry in
-    let stopped = any-more (λ e. is_found_so found_stopped (finding_in party q e.item)) log entry in
-    λ i. record { receipt = receipt i; active = active i; stopped = stopped i }
+    let explained = any-more (λ e. is_found_so found_explained (finding_in party q e.item)) log entry in
+    λ i. record { receipt = receipt i; active = active i; explained = explained i }
 
 replies-more : (party : ℕ) (log : List LogEntry) (sender : ℕ) (item : Item) (q other : ℕ)
     → has_answered party (with_entry log sender item) q other ≡ (has_answered party log q other || ((sender == other) && is_some (finding_in party q item)))
@@ -115,17 +115,17 @@ known_stays party log sender item known nothing is = record {
     same q inquiry a f = λ i. record {
       receipt = sym (ap (λ b. option_or inquiry.receipt (place_if b (length log))) a ∙ option_or_none inquiry.receipt) i;
       active = sym (ap (λ (o : Option Found). inquiry.active || is_found_so found_active o) f ∙ or-false inquiry.active) i;
-      stopped = sym (ap (λ (o : Option Found). inquiry.stopped || is_found_so found_stopped o) f ∙ or-false inquiry.stopped) i;
+      explained = sym (ap (λ (o : Option Found). inquiry.explained || is_found_so found_explained o) f ∙ or-false inquiry.explained) i;
     }
 
 -- what a receipt of a query adds
 receipt_step : (mine is_query same : Bool) (reach : List ℕ) (place : ℕ) (inquiry : Inquiry) → (is_query && mine) ≡ true
     → cond same (with_receipt place inquiry) inquiry
-    ≡ record { receipt = option_or inquiry.receipt (place_if (mine && is_some (cond (same && is_query) (Some reach) None)) place); active = inquiry.active || false; stopped = inquiry.stopped || false }
+    ≡ record { receipt = option_or inquiry.receipt (place_if (mine && is_some (cond (same && is_query) (Some reach) None)) place); active = inquiry.active || false; explained = inquiry.explained || false }
 receipt_step true true true reach place inquiry e =
-    λ i. record { receipt = option_or inquiry.receipt (Some place); active = sym (or-false inquiry.active) i; stopped = sym (or-false inquiry.stopped) i }
+    λ i. record { receipt = option_or inquiry.receipt (Some place); active = sym (or-false inquiry.active) i; explained = sym (or-false inquiry.explained) i }
 receipt_step true true false reach place inquiry e =
-    λ i. record { receipt = sym (option_or_none inquiry.receipt) i; active = sym (or-false inquiry.active) i; stopped = sym (or-false inquiry.stopped) i }
+    λ i. record { receipt = sym (option_or_none inquiry.receipt) i; active = sym (or-false inquiry.active) i; explained = sym (or-false inquiry.explained) i }
 receipt_step false true same reach place inquiry e = absurd (true≢false (sym e))
 receipt_step mine false same reach place inquiry e = absurd (true≢false (sym e))
 
@@ -146,16 +146,16 @@ receipt_noted party log sender k reach query place known known' told last inquir
 -- what an answer to a query adds
 finding_step : (mine same from : Bool) (place : ℕ) (found : Found) (inquiry : Inquiry) → mine ≡ true
     → cond same (with_finding found inquiry) inquiry
-    ≡ record { receipt = option_or inquiry.receipt (place_if (from && false) place); active = inquiry.active || is_found_so found_active (cond (mine && same) (Some found) None); stopped = inquiry.stopped || is_found_so found_stopped (cond (mine && same) (Some found) None) }
+    ≡ record { receipt = option_or inquiry.receipt (place_if (from && false) place); active = inquiry.active || is_found_so found_active (cond (mine && same) (Some found) None); explained = inquiry.explained || is_found_so found_explained (cond (mine && same) (Some found) None) }
 finding_step true true from place found inquiry e = λ i. record {
   receipt = sym (ap (λ b. option_or inquiry.receipt (place_if b place)) (no_reach from) ∙ option_or_none inquiry.receipt) i;
   active = inquiry.active || found_active found;
-  stopped = inquiry.stopped || found_stopped found;
+  explained = inquiry.explained || found_explained found;
 }
 finding_step true false from place found inquiry e = λ i. record {
   receipt = sym (ap (λ b. option_or inquiry.receipt (place_if b place)) (no_reach from) ∙ option_or_none inquiry.receipt) i;
   active = sym (or-false inquiry.active) i;
-  stopped = sym (or-false inquiry.stopped) i;
+  explained = sym (or-false inquiry.explained) i;
 }
 finding_step false same from place found inquiry e = absurd (true≢false (sym e))
 
@@ -218,5 +218,5 @@ verdict-known party log known q is =
     by (Some parties) =
         let left : (λ (other : ℕ). has_reply known q other) ≡ (λ (other : ℕ). has_answered party log q other) = λ i other. is.replies q other i in
         ap (λ (answered : ℕ → Bool). cond (length (filter (λ other. not (answered other)) parties) == 0)
-        (Decided (verdict_when (has_finding found_active party log q) (has_finding found_stopped party log q)))
+        (Decided (verdict_when (has_finding found_active party log q) (has_finding found_explained party log q)))
         (Pending (length (filter (λ other. not (answered other)) parties)))) left

@@ -14,7 +14,7 @@ use Rattle.mv_repository.specs.declared.verdict.Joint.{Joint}
 use Rattle.mv_repository.specs.declared.verdict.Joint.TheVariants.{NotAsked, Pending, Decided}
 use Rattle.mv_repository.specs.declared.inquiries.Inquiries.{Inquiries}
 use Rattle.mv_repository.specs.declared.inquiries.Inquiry.{Inquiry}
-use Rattle.mv_repository.specs.Verdict.{query_reach, has_answered, has_finding, found_active, found_stopped, verdict_when}
+use Rattle.mv_repository.specs.Verdict.{query_reach, has_answered, has_finding, found_active, found_explained, verdict_when}
 
 -- an item from a sender tells of a query of the party: it is the receipt of one, or an answer to one
 abbrev pub tells_of_query : ℕ → ℕ → Item → Bool
@@ -24,7 +24,7 @@ tells_of_query party sender _ = false
 
 -- nothing is known of a query
 abbrev pub no_inquiry : Inquiry
-no_inquiry = record { receipt = None; active = false; stopped = false }
+no_inquiry = record { receipt = None; active = false; explained = false }
 
 -- what is kept of a query, if only nothing
 abbrev pub inquiry_in : Inquiries → ℕ → Inquiry
@@ -42,7 +42,7 @@ with_receipt place inquiry = record inquiry { receipt = option_or inquiry.receip
 abbrev pub with_finding : Found → Inquiry → Inquiry
 with_finding found inquiry = record inquiry {
   active = inquiry.active || found_active found;
-  stopped = inquiry.stopped || found_stopped found;
+  explained = inquiry.explained || found_explained found;
 }
 
 -- the parties that a receipt names
@@ -59,7 +59,7 @@ abbrev pub verdict_once_asked : Inquiries → ℕ → Inquiry → Option (List �
 verdict_once_asked known q inquiry None = NotAsked
 verdict_once_asked known q inquiry (Some parties) =
     let left = length (filter (λ other. not (has_reply known q other)) parties) in
-    if left == 0 then Decided (verdict_when inquiry.active inquiry.stopped) else Pending left
+    if left == 0 then Decided (verdict_when inquiry.active inquiry.explained) else Pending left
 
 -- the verdict on a query, by what is kept of a log
 abbrev pub known_verdict : List LogEntry → Inquiries → ℕ → Joint
@@ -86,7 +86,7 @@ abbrev pub inquiry_of : ℕ → List LogEntry → ℕ → Inquiry
 inquiry_of party log q = record {
   receipt = receipt_place party log q;
   active = has_finding found_active party log q;
-  stopped = has_finding found_stopped party log q;
+  explained = has_finding found_explained party log q;
 }
 
 -- what is kept is what a log says of a party's queries, for each query and each other party

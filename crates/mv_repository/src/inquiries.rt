@@ -3,16 +3,18 @@
 //!
 //! It stands apart since no other table bears on it: it changes at receipts of queries and at answers alone.
 
-ghost use Rattle.std.specs.Prelude.{◌≡◌, ◌<◌, ◌≤◌, [], ◌∷◌, ◌++◌, ◌==◌, ◌&&◌, ◌||◌, if◌then◌else◌, ℕ, List, length, not, filter, OnOk};
+ghost use Rattle.std.specs.Prelude.{◌≡◌, ◌<◌, ◌≤◌, ◌==◌, ◌&&◌, ◌||◌, not, if◌then◌else◌, OnOk};
+ghost use Rattle.std.specs.Prelude.{ℕ, List, [], ◌∷◌, ◌++◌, length, filter};
 ghost use Rattle.std.specs.Option.{option_copied};
 ghost use Rattle.indexmap.specs.IndexMap.{spare as map_spare};
 ghost use Rattle.indexmap.specs.IndexSet.{spare as set_spare};
 ghost use Rattle.mv_repository.specs.declared.entry.LogEntry.{LogEntry as AnEntry};
-ghost use Rattle.mv_repository.specs.Verdict.{joint_verdict, found_active, found_stopped, verdict_when};
-ghost use Rattle.mv_repository.specs.Inquiries.{IsInquiriesOf, HasRoomFor, has_reply, inquiry_in, tells_of_query, with_receipt, with_finding, parties_at, known_verdict, verdict_once_asked};
+ghost use Rattle.mv_repository.specs.Verdict.{joint_verdict, found_active, found_explained, verdict_when};
+ghost use Rattle.mv_repository.specs.Inquiries.{IsInquiriesOf, HasRoomFor, has_reply, inquiry_in, tells_of_query};
+ghost use Rattle.mv_repository.specs.Inquiries.{with_receipt, with_finding, parties_at, known_verdict, verdict_once_asked};
 
 use crate::status::is_active;
-use crate::verdict::{is_stopped, verdict_when};
+use crate::verdict::{is_explained, verdict_when};
 use crate::{Joint, LogEntry, Verdict};
 use indexmap::{IndexMap, IndexSet};
 use mv_link::{Item, Reach};
@@ -26,8 +28,8 @@ struct Inquiry {
     receipt: Option<usize>,
     /// Whether an answer found the pack active.
     active: bool,
-    /// Whether an answer found the pack recalled, withdrawn, or to be destroyed.
-    stopped: bool,
+    /// Whether an answer found the pack recalled, withdrawn, or to be destroyed, which explains it.
+    explained: bool,
 }
 
 /// A party has answered a query.
@@ -133,7 +135,7 @@ impl Inquiries {
             None => Inquiry {
                 receipt: None,
                 active: false,
-                stopped: false,
+                explained: false,
             },
         }
     }
@@ -213,15 +215,15 @@ impl Inquiry {
         Inquiry {
             receipt: self.receipt,
             active: self.active || found_active(found),
-            stopped: self.stopped || found_stopped(found),
+            explained: self.explained || found_explained(found),
         }
     }
 
     /// What all answers to the query say.
     fn verdict(&self) -> Verdict
-        ensures { result ≡ verdict_when self.now.active self.now.stopped }
+        ensures { result ≡ verdict_when self.now.active self.now.explained }
     {
-        verdict_when(self.active, self.stopped)
+        verdict_when(self.active, self.explained)
     }
 }
 
@@ -258,9 +260,9 @@ fn found_active(found: &Found) -> bool
     }
 }
 
-/// Whether a pack was found recalled, withdrawn, or to be destroyed.
-fn found_stopped(found: &Found) -> bool
-    ensures { result ≡ found_stopped found.now }
+/// Whether a pack was found recalled, withdrawn, or to be destroyed, which explains it.
+fn found_explained(found: &Found) -> bool
+    ensures { result ≡ found_explained found.now }
 {
     match found {
         Found::Present {
@@ -268,7 +270,7 @@ fn found_stopped(found: &Found) -> bool
             recalled,
             withdrawn,
             ..
-        } => is_stopped(*recalled, *withdrawn, *standing),
+        } => is_explained(*recalled, *withdrawn, *standing),
         Found::Absent => false,
     }
 }

@@ -1,7 +1,8 @@
 //! What stops a batch for ever: for each batch the place in the log of its first recall by stamp, and for each product
 //! that of its first withdrawal.
 
-ghost use Rattle.std.specs.Prelude.{◌≡◌, ◌<◌, ◌++◌, ◌∷◌, ℕ, List, [], length, is_some, vec_len, vec_capacity, OnOk, OnErr, IfOk, if◌then◌else◌};
+ghost use Rattle.std.specs.Prelude.{◌≡◌, ◌<◌, if◌then◌else◌, is_some, vec_len, vec_capacity, OnOk, OnErr, IfOk};
+ghost use Rattle.std.specs.Prelude.{ℕ, List, [], ◌∷◌, ◌++◌, length};
 ghost use Rattle.std.specs.List.{IsDistinct};
 ghost use Rattle.std.specs.Map.{lookup, keys_of};
 ghost use Rattle.mv_pack.specs.declared.key.BatchKey.{BatchKey as ABatchKey};

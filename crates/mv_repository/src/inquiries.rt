@@ -10,7 +10,7 @@ ghost use Rattle.indexmap.specs.IndexMap.{spare as map_spare};
 ghost use Rattle.indexmap.specs.IndexSet.{spare as set_spare};
 ghost use Rattle.mv_repository.specs.declared.entry.LogEntry.{LogEntry as AnEntry};
 ghost use Rattle.mv_repository.specs.Verdict.{joint_verdict, found_active, found_explained, verdict_when};
-ghost use Rattle.mv_repository.specs.Inquiries.{IsInquiriesOf, HasRoomFor, has_reply, inquiry_in, tells_of_query};
+ghost use Rattle.mv_repository.specs.Inquiries.{IsInquiriesOf, HasRoomFor, has_reply, inquiry_in, no_inquiry, tells_of_query};
 ghost use Rattle.mv_repository.specs.Inquiries.{with_receipt, with_finding, parties_at, known_verdict, verdict_once_asked};
 
 use crate::status::is_active;
@@ -22,7 +22,7 @@ use mv_message::{Found, Message, Party};
 use std::alloc::{AllocError, Global};
 
 /// What is known of a query.
-#[derive(Clone, Copy, Debug)]
+#[derive(Debug, Drop)]
 struct Inquiry {
     /// The place in the log of the first receipt of it, once that has come.
     receipt: Option<usize>,
@@ -98,10 +98,10 @@ impl Inquiries {
             then with_receipt place (inquiry_in self.old q) else inquiry_in self.old q) }
         ensures replies { (q other : ℕ) → has_reply self.new q other ≡ has_reply self.old q other }
     {
-        let inquiry = self.inquiry(query).with_receipt(place);
-        let Ok(_) = self.inquiries.insert(query, inquiry) else {
+        let Ok(inquiry) = self.inquiries.entry(query) else {
             unreachable!();
         };
+        inquiry.or_insert(Inquiry::new()).note_receipt(place);
     }
 
     /// Notes an answer to a query.
@@ -113,10 +113,10 @@ impl Inquiries {
         ensures replies { (q other : ℕ) → has_reply self.new q other
             ≡ (((query == q) && (sender == other)) || has_reply self.old q other) }
     {
-        let inquiry = self.inquiry(query).with_finding(found);
-        let Ok(_) = self.inquiries.insert(query, inquiry) else {
+        let Ok(inquiry) = self.inquiries.entry(query) else {
             unreachable!();
         };
+        inquiry.or_insert(Inquiry::new()).note_finding(found);
         let Ok(_) = self.replies.insert(Reply {
             q: query,
             from: sender,
@@ -124,20 +124,6 @@ impl Inquiries {
         else {
             unreachable!();
         };
-    }
-
-    /// What is kept of a query, if only nothing.
-    fn inquiry(&self, q: u32) -> Inquiry
-        ensures { result ≡ inquiry_in self.now q }
-    {
-        match self.inquiries.get(&q) {
-            Some(inquiry) => *inquiry,
-            None => Inquiry {
-                receipt: None,
-                active: false,
-                explained: false,
-            },
-        }
     }
 
     /// The verdict on the query that was the `q`-th message of the party, which has this log. It takes no memory, and reads
@@ -198,25 +184,30 @@ impl Inquiries {
 }
 
 impl Inquiry {
-    /// The query once a receipt of it stands at a place of the log: the first one counts.
-    fn with_receipt(self, place: usize) -> Inquiry
-        ensures { result ≡ with_receipt place self }
+    /// Nothing is known of the query.
+    fn new() -> Inquiry
+        ensures { result ≡ no_inquiry }
     {
         Inquiry {
-            receipt: self.receipt.or(Some(place)),
-            ..self
+            receipt: None,
+            active: false,
+            explained: false,
         }
     }
 
-    /// The query once an answer to it has come.
-    fn with_finding(self, found: &Found) -> Inquiry
-        ensures { result ≡ with_finding found.now self }
+    /// Notes a receipt of the query, which stands at a place of the log: the first one counts.
+    fn note_receipt(&mut self, place: usize)
+        ensures { self.new ≡ with_receipt place self.old }
     {
-        Inquiry {
-            receipt: self.receipt,
-            active: self.active || found_active(found),
-            explained: self.explained || found_explained(found),
-        }
+        self.receipt = self.receipt.or(Some(place));
+    }
+
+    /// Notes an answer to the query.
+    fn note_finding(&mut self, found: &Found)
+        ensures { self.new ≡ with_finding found.now self.old }
+    {
+        self.active = self.active || found_active(found);
+        self.explained = self.explained || found_explained(found);
     }
 
     /// What all answers to the query say.

@@ -19,7 +19,7 @@ use crate::status::is_active;
 use crate::stops::Stops;
 use crate::track::{Track, copy_of};
 use crate::uploads::Uploads;
-use crate::verdict::{is_stopped, verdict_when};
+use crate::verdict::{is_explained, verdict_when};
 use crate::{Counts, Effect, Held, Local, LogEntry};
 use indexmap::IndexMap;
 use mv_link::Item;
@@ -121,28 +121,28 @@ impl Ledger {
         }
     }
 
-    /// The product that is known under a code. The log isn't searched.
+    /// The product that is known under a code.
     pub fn product(&self, gtin: &Gtin) -> Option<&Product>
         ensures { option_copied result ≡ product_of self.now.log gtin.now }
     {
         product_in(&self.last_master(gtin)?.item)
     }
 
-    /// What a pack is; none where no upload names it. The log isn't searched.
+    /// What a pack is; none where no upload names it.
     pub fn pack(&self, key: &PackKey) -> Option<&Held>
         ensures { option_copied result ≡ pack_state key.now self.now.log }
     {
         pack(&self.packs, key)
     }
 
-    /// Whether a batch is recalled. The log isn't searched.
+    /// Whether a batch is recalled.
     pub fn recalled(&self, batch: &BatchKey) -> bool
         ensures { result ≡ is_recalled batch.now self.now.log }
     {
         self.stops.has_recall(batch)
     }
 
-    /// Whether a product is withdrawn. The log isn't searched.
+    /// Whether a product is withdrawn.
     pub fn withdrawn(&self, gtin: &Gtin) -> bool
         ensures { result ≡ is_withdrawn gtin.now self.now.log }
     {
@@ -184,7 +184,7 @@ impl Ledger {
         }
     }
 
-    /// The verdict on a pack, where it is held. The log isn't searched.
+    /// The verdict on a pack, where it is held.
     pub fn verify(&self, key: &PackKey) -> Local
         ensures { result ≡ local_verdict key.now self.now.log }
     {
@@ -197,7 +197,7 @@ impl Ledger {
                 ..
             } => Local::Known(verdict_when(
                 is_active(standing),
-                is_stopped(recalled, withdrawn, standing),
+                is_explained(recalled, withdrawn, standing),
             )),
         }
     }

@@ -2,7 +2,7 @@
 use Rattle.std.proofs.Common.{◌≡◌, ℕ, ◌+◌, ◌-◌, ◌<◌, ◌≤◌, Bool, true, false, List, [], ◌∷◌, ◌++◌, length, cond, Some, None, Option, sym, refl, ap, ◌∙◌, subst, append_assoc, append-nil, arith, eqb, eqb-true, length-append}
 use Rattle.std.specs.Prelude.{All, not, ◌&&◌, ◌==◌, slice_get, nat_lt, nat_le, find}
 use Rattle.std.specs.List.{range_with_len}
-use Rattle.std.proofs.lemmas.List.Elements.{All-nil, All-cons, All-append, All-weaker, All-head, All-tail}
+use Rattle.std.proofs.lemmas.List.Elements.{All-nil, All-cons, All-append, All-weaker}
 use mathlib.Core.List.{IsPrefix}
 use Rattle.mv_pack.specs.declared.key.PackKey.{PackKey}
 use Rattle.mv_message.specs.declared.message.Message.{Message}
@@ -27,11 +27,13 @@ use Rattle.mv_machine.specs.declared.step.Step.TheVariants.{Submit, Verify, Rout
 use Rattle.mv_machine.specs.declared.reply.Reply.{Reply}
 use Rattle.mv_machine.specs.State.{State, is_party, are_parties, submissions_of, is_uplink_full, is_sender_full, sent_of, wire_of, log_of, items_on, applied_count, with_wire}
 use Rattle.mv_machine.specs.Steps.{submit, ask, verify_by, verify, verdict, with_applied, entry_from, is_answer_busy, next_entry, is_full, route_unless, route_front, route, relay, apply_next, apply_front, apply, is_unsent, is_gone, repeat, close, lose_front, lose, outcome}
-use Rattle.mv_machine.specs.Runs.{Allows, Runs}
+use Rattle.mv_machine.specs.Runs.{Meets, Allows, Runs}
 use Rattle.mv_machine.specs.Lawful.{AllFit, IsLawful}
+use Rattle.mv_machine.specs.Headline.{Follows}
 use Rattle.mv_machine.specs.Closing.{before_closing, AreAboutFirst, NothingRoutedLater, NothingSubmittedLater}
+use Rattle.mv_machine.proofs.PrefixLemmas.{All-front}
 use Rattle.mv_machine.proofs.BoundLemmas.{routed_count-few}
-use Rattle.mv_machine.proofs.LawfulLemmas.{choose, allowed-case}
+use Rattle.mv_machine.proofs.LawfulLemmas.{choose, meets-case, allowed-case}
 
 -- a link that is closed in a record is closed in what the record grows to
 pub is_open-append : (before after : List Entry) (from to : ℕ) → is_open (before ++ after) from to ≡ (is_open before from to && is_open after from to)
@@ -90,13 +92,8 @@ gained-about parties before sender k message from to count within =
     about false b c few = All-nil (λ i. number_of i ≤ count)
     about true b c few = All-append (λ i. number_of i ≤ count) _ _ (one b (Receipt k (reach parties before from message) (is_query message)) (few refl)) (one c (Carried k (length before + 1) message) (few refl))
 
-routed_count-push : (before after : List Entry) (party : ℕ) → routed_count (before ++ after) party ≡ routed_count before party + routed_count after party
+pub routed_count-push : (before after : List Entry) (party : ℕ) → routed_count (before ++ after) party ≡ routed_count before party + routed_count after party
 routed_count-push before after party = ap length (routed_from-append before after party) ∙ length-append (routed_from before party) (routed_from after party)
-
--- a front of a list
-All-front : {X : Type 0} (P : X → Type 0) (xs ys : List X) → All P (xs ++ ys) → All P xs
-All-front P [] ys all = All-nil P
-All-front P (x ∷ xs) ys all = All-cons P x xs (All-head P x (xs ++ ys) all) (All-front P xs ys (All-tail P x (xs ++ ys) all))
 
 -- what entries put on a link is about messages that were routed before its closing
 items-about : (parties : List (List (List ℕ))) (before entries : List Entry) (from to : ℕ) → AllFit before entries
@@ -176,149 +173,150 @@ before_closing-few (Closed sender receiver ∷ entries) from to party = by (eqb 
     by true rest = omega arith
     by false rest = rest
 
--- the record of one state goes on in another
-pub record Continues (old new : State) : Type 0 where
-  pub parties : new.parties ≡ old.parties
-  pub entries : IsPrefix old.entries new.entries
-
 -- where the record stays as it is
-goes_on : (old new : State) → new.parties ≡ old.parties → old.entries ≡ new.entries → Continues old new
-goes_on old new parties entries = record { parties = parties; entries = ([], append-nil old.entries ∙ entries) }
+follows : (old new : State) → new.parties ≡ old.parties → new.limits ≡ old.limits → old.entries ≡ new.entries → Follows old new
+follows old new parties limits entries = record { parties = parties; limits = limits; entries = ([], append-nil old.entries ∙ entries) }
 
-pub goes_on-same : (st : State) → Continues st st
-goes_on-same st = goes_on st st refl refl
+pub follows-same : (st : State) → Follows st st
+follows-same st = follows st st refl refl refl
 
-goes_on-entry : (st : State) (entry : Entry) → Continues st (record st { entries = st.entries ++ entry ∷ [] })
-goes_on-entry st entry = record { parties = refl; entries = (entry ∷ [], refl) }
+follows-entry : (st : State) (entry : Entry) → Follows st (record st { entries = st.entries ++ entry ∷ [] })
+follows-entry st entry = record { parties = refl; limits = refl; entries = (entry ∷ [], refl) }
 
 -- what each step leaves where there is memory goes on with the record
-submit-goes_on : (st : State) (from : ℕ) (message : Message) → Continues st (submit st from message).state
+submit-follows : (st : State) (from : ℕ) (message : Message) → Follows st (submit st from message).state
 unfolding submit
-submit-goes_on st from message =
-    choose (Continues st) (not (is_party st from)) _ _ (λ _. goes_on-same st) (λ _.
-    choose (Continues st) (is_query_or_answer message) _ _ (λ _. goes_on-same st) (λ _.
-    choose (Continues st) (is_uplink_full st from) _ _ (λ _. goes_on-same st) (λ _.
-    choose (Continues st) (is_sender_full st from) _ _ (λ _. goes_on-same st) (λ _. goes_on st _ refl refl))))
+submit-follows st from message =
+    choose (Follows st) (not (is_party st from)) _ _ (λ _. follows-same st) (λ _.
+    choose (Follows st) (is_query_or_answer message) _ _ (λ _. follows-same st) (λ _.
+    choose (Follows st) (is_uplink_full st from) _ _ (λ _. follows-same st) (λ _.
+    choose (Follows st) (is_sender_full st from) _ _ (λ _. follows-same st) (λ _. follows st _ refl refl refl))))
 
-pub ask-goes_on : (st : State) (party : ℕ) (key : PackKey) → Continues st (ask st party key).state
+ask-follows : (st : State) (party : ℕ) (key : PackKey) → Follows st (ask st party key).state
 unfolding ask
-ask-goes_on st party key =
-    choose (Continues st) (not (is_party st party)) _ _ (λ _. goes_on-same st) (λ _.
-    choose (Continues st) (is_uplink_full st party) _ _ (λ _. goes_on-same st) (λ _.
-    choose (Continues st) (is_sender_full st party) _ _ (λ _. goes_on-same st) (λ _. goes_on st _ refl refl)))
+ask-follows st party key =
+    choose (Follows st) (not (is_party st party)) _ _ (λ _. follows-same st) (λ _.
+    choose (Follows st) (is_uplink_full st party) _ _ (λ _. follows-same st) (λ _.
+    choose (Follows st) (is_sender_full st party) _ _ (λ _. follows-same st) (λ _. follows st _ refl refl refl)))
 
-verify-goes_on : (st : State) (party : ℕ) (key : PackKey) → Continues st (verify st party key).state
+verify-follows : (st : State) (party : ℕ) (key : PackKey) → Follows st (verify st party key).state
 unfolding verify
-verify-goes_on st party key = choose (Continues st) (not (is_party st party)) _ _ (λ _. goes_on-same st) (λ _. by (local_verdict key (log_of st party)))
+verify-follows st party key = choose (Follows st) (not (is_party st party)) _ _ (λ _. follows-same st) (λ _. by (local_verdict key (log_of st party)))
   where
-    by : (local : Local) → Continues st (verify_by st party key local).state
-    by (Known verdict) = goes_on-same st
-    by Absent = ask-goes_on st party key
+    by : (local : Local) → Follows st (verify_by st party key local).state
+    by (Known verdict) = follows-same st
+    by Absent = ask-follows st party key
 
-verdict-goes_on : (st : State) (party q : ℕ) → Continues st (verdict st party q).state
+verdict-follows : (st : State) (party q : ℕ) → Follows st (verdict st party q).state
 unfolding verdict
-verdict-goes_on st party q = choose (Continues st) (not (is_party st party)) _ _ (λ _. goes_on-same st) (λ _. goes_on-same st)
+verdict-follows st party q = choose (Follows st) (not (is_party st party)) _ _ (λ _. follows-same st) (λ _. follows-same st)
 
-route-goes_on : (st : State) (from : ℕ) → Continues st (route st from).state
+route-follows : (st : State) (from : ℕ) → Follows st (route st from).state
 unfolding route
-route-goes_on st from =
-    choose (Continues st) (not (is_party st from)) _ _ (λ _. goes_on-same st) (λ _. front (slice_get (submissions_of st from) (routed_count st.entries from)))
+route-follows st from =
+    choose (Follows st) (not (is_party st from)) _ _ (λ _. follows-same st) (λ _. front (slice_get (submissions_of st from) (routed_count st.entries from)))
   where
-    unless : (message : Message) (full : Option ℕ) → Continues st (route_unless st from message full).state
-    unless message (Some to) = goes_on-same st
-    unless message None = goes_on-entry st (next_entry st from message)
+    unless : (message : Message) (full : Option ℕ) → Follows st (route_unless st from message full).state
+    unless message (Some to) = follows-same st
+    unless message None = follows-entry st (next_entry st from message)
 
-    front : (message : Option Message) → Continues st (route_front st from message).state
-    front None = goes_on-same st
+    front : (message : Option Message) → Follows st (route_front st from message).state
+    front None = follows-same st
     front (Some message) = unless message (find (is_full st from message) (range_with_len 0 (length st.parties)))
 
-relay-goes_on : (st : State) (from to : ℕ) → Continues st (relay st from to).state
+relay-follows : (st : State) (from to : ℕ) → Follows st (relay st from to).state
 unfolding relay
-relay-goes_on st from to =
-    choose (Continues st) (not (are_parties st from to)) _ _ (λ _. goes_on-same st) (λ _.
-    choose (Continues st) (nat_le st.limits.wire (length (wire_of st from to))) _ _ (λ _. goes_on-same st) (λ _.
-    choose (Continues st) (sent_of st from to == length (items_on st from to)) _ _ (λ _. goes_on-same st) (λ _. goes_on st _ refl refl)))
+relay-follows st from to =
+    choose (Follows st) (not (are_parties st from to)) _ _ (λ _. follows-same st) (λ _.
+    choose (Follows st) (nat_le st.limits.wire (length (wire_of st from to))) _ _ (λ _. follows-same st) (λ _.
+    choose (Follows st) (sent_of st from to == length (items_on st from to)) _ _ (λ _. follows-same st) (λ _. follows st _ refl refl refl)))
 
-apply-goes_on : (st : State) (from to : ℕ) → Continues st (apply st from to).state
+apply-follows : (st : State) (from to : ℕ) → Follows st (apply st from to).state
 unfolding apply apply_front
-apply-goes_on st from to = choose (Continues st) (not (are_parties st from to)) _ _ (λ _. goes_on-same st) (λ _. front (wire_of st from to))
+apply-follows st from to = choose (Follows st) (not (are_parties st from to)) _ _ (λ _. follows-same st) (λ _. front (wire_of st from to))
   where
-    applied : (entry : LogEntry) (rest : List ℕ) (answer : Option Message) → Continues st (with_wire (with_applied st to entry answer) from to rest)
-    applied entry rest None = goes_on st _ refl refl
-    applied entry rest (Some answer) = goes_on st _ refl refl
+    applied : (entry : LogEntry) (rest : List ℕ) (answer : Option Message) → Follows st (with_wire (with_applied st to entry answer) from to rest)
+    applied entry rest None = follows st _ refl refl refl
+    applied entry rest (Some answer) = follows st _ refl refl refl
 
-    next : (number : ℕ) (rest : List ℕ) (item : Option Item) → Continues st (apply_next st from to number rest item).state
-    next number rest None = goes_on st _ refl refl
-    next number rest (Some item) = choose (Continues st) (is_answer_busy st to (answer_to (log_of st to) (entry_from from item))) _ _ (λ _. goes_on-same st) (λ _. applied (entry_from from item) rest (answer_to (log_of st to) (entry_from from item)))
+    next : (number : ℕ) (rest : List ℕ) (item : Option Item) → Follows st (apply_next st from to number rest item).state
+    next number rest None = follows st _ refl refl refl
+    next number rest (Some item) = choose (Follows st) (is_answer_busy st to (answer_to (log_of st to) (entry_from from item))) _ _ (λ _. follows-same st) (λ _. applied (entry_from from item) rest (answer_to (log_of st to) (entry_from from item)))
 
-    front : (wire : List ℕ) → Continues st (apply_front st from to wire).state
-    front [] = goes_on-same st
+    front : (wire : List ℕ) → Follows st (apply_front st from to wire).state
+    front [] = follows-same st
     front (number ∷ rest) =
-        choose (Continues st) (nat_le number (applied_count st from to)) _ _ (λ _. goes_on st _ refl refl) (λ _.
-        choose (Continues st) (nat_lt (applied_count st from to + 1) number) _ _ (λ _. goes_on st _ refl refl) (λ _.
+        choose (Follows st) (nat_le number (applied_count st from to)) _ _ (λ _. follows st _ refl refl refl) (λ _.
+        choose (Follows st) (nat_lt (applied_count st from to + 1) number) _ _ (λ _. follows st _ refl refl refl) (λ _.
         next number rest (slice_get (items_on st from to) (number - 1))))
 
-repeat-goes_on : (st : State) (from to number : ℕ) → Continues st (repeat st from to number).state
+repeat-follows : (st : State) (from to number : ℕ) → Follows st (repeat st from to number).state
 unfolding repeat
-repeat-goes_on st from to number =
-    choose (Continues st) (not (are_parties st from to)) _ _ (λ _. goes_on-same st) (λ _.
-    choose (Continues st) (nat_le st.limits.wire (length (wire_of st from to))) _ _ (λ _. goes_on-same st) (λ _.
-    choose (Continues st) (is_unsent st from to number) _ _ (λ _. goes_on-same st) (λ _.
-    choose (Continues st) (is_gone st from to number) _ _ (λ _. goes_on-same st) (λ _. goes_on st _ refl refl))))
+repeat-follows st from to number =
+    choose (Follows st) (not (are_parties st from to)) _ _ (λ _. follows-same st) (λ _.
+    choose (Follows st) (nat_le st.limits.wire (length (wire_of st from to))) _ _ (λ _. follows-same st) (λ _.
+    choose (Follows st) (is_unsent st from to number) _ _ (λ _. follows-same st) (λ _.
+    choose (Follows st) (is_gone st from to number) _ _ (λ _. follows-same st) (λ _. follows st _ refl refl refl))))
 
-close-goes_on : (st : State) (from to : ℕ) → Continues st (close st from to).state
+close-follows : (st : State) (from to : ℕ) → Follows st (close st from to).state
 unfolding close
-close-goes_on st from to =
-    choose (Continues st) (not (are_parties st from to)) _ _ (λ _. goes_on-same st) (λ _.
-    choose (Continues st) (not (is_open st.entries from to)) _ _ (λ _. goes_on-same st) (λ _. goes_on-entry st (Closed from to)))
+close-follows st from to =
+    choose (Follows st) (not (are_parties st from to)) _ _ (λ _. follows-same st) (λ _.
+    choose (Follows st) (not (is_open st.entries from to)) _ _ (λ _. follows-same st) (λ _. follows-entry st (Closed from to)))
 
-lose-goes_on : (st : State) (from to : ℕ) → Continues st (lose st from to).state
+lose-follows : (st : State) (from to : ℕ) → Follows st (lose st from to).state
 unfolding lose
-lose-goes_on st from to = choose (Continues st) (not (are_parties st from to)) _ _ (λ _. goes_on-same st) (λ _. front (wire_of st from to))
+lose-follows st from to = choose (Follows st) (not (are_parties st from to)) _ _ (λ _. follows-same st) (λ _. front (wire_of st from to))
   where
-    front : (wire : List ℕ) → Continues st (lose_front st from to wire).state
-    front [] = goes_on-same st
-    front (number ∷ rest) = goes_on st _ refl refl
+    front : (wire : List ℕ) → Follows st (lose_front st from to wire).state
+    front [] = follows-same st
+    front (number ∷ rest) = follows st _ refl refl refl
 
-outcome-goes_on : (st : State) (step : Step) → Continues st (outcome st step).state
-outcome-goes_on st (Submit from message) = submit-goes_on st from message
-outcome-goes_on st (Verify party key) = verify-goes_on st party key
-outcome-goes_on st (Route from) = route-goes_on st from
-outcome-goes_on st (Relay from to) = relay-goes_on st from to
-outcome-goes_on st (Apply from to) = apply-goes_on st from to
-outcome-goes_on st (Repeat from to number) = repeat-goes_on st from to number
-outcome-goes_on st (Close from to) = close-goes_on st from to
-outcome-goes_on st (Lose from to) = lose-goes_on st from to
-outcome-goes_on st (Verdict party q) = verdict-goes_on st party q
+outcome-follows : (st : State) (step : Step) → Follows st (outcome st step).state
+outcome-follows st (Submit from message) = submit-follows st from message
+outcome-follows st (Verify party key) = verify-follows st party key
+outcome-follows st (Route from) = route-follows st from
+outcome-follows st (Relay from to) = relay-follows st from to
+outcome-follows st (Apply from to) = apply-follows st from to
+outcome-follows st (Repeat from to number) = repeat-follows st from to number
+outcome-follows st (Close from to) = close-follows st from to
+outcome-follows st (Lose from to) = lose-follows st from to
+outcome-follows st (Verdict party q) = verdict-follows st party q
 
-goes_on-further : (first second third : State) → Continues first second → Continues second third → Continues first third
-goes_on-further first second third a b = record {
+-- a later state of a later one
+pub follows-further : (first second third : State) → Follows first second → Follows second third → Follows first third
+follows-further first second third a b = record {
   parties = b.parties ∙ a.parties;
+  limits = b.limits ∙ a.limits;
   entries = (a.entries.0 ++ b.entries.0, sym (append_assoc first.entries a.entries.0 b.entries.0) ∙ ap (λ l. l ++ b.entries.0) a.entries.1 ∙ b.entries.1);
 }
 
 -- so each step goes on with the record, want of memory included
-pub step-goes_on : (old : State) (step : Step) (reply : Reply) (new : State) → Allows old step reply new → Continues old new
-step-goes_on old step reply new allowed =
-    allowed-case (Continues old) old step reply new allowed (goes_on-same old) (outcome-goes_on old step)
+pub step-follows : (old : State) (step : Step) (reply : Reply) (new : State) → Allows old step reply new → Follows old new
+step-follows old step reply new allowed =
+    allowed-case (Follows old) old step reply new allowed (follows-same old) (outcome-follows old step)
+
+-- and so does each query that is asked
+pub asked-follows : (old : State) (party : ℕ) (key : PackKey) (reply : Reply) (new : State) → Meets old (ask old party key) reply new → Follows old new
+asked-follows old party key reply new met = meets-case (Follows old) old (ask old party key) reply new met (follows-same old) (ask-follows old party key)
 
 -- and so does each run
-pub run-goes_on : (old : State) (steps : List Step) (replies : List Reply) (new : State) → Runs old steps replies new → Continues old new
-run-goes_on old [] [] new run = subst (Continues old) (sym run) (goes_on-same old)
-run-goes_on old [] (reply ∷ replies) new run = absurd run
-run-goes_on old (step ∷ steps) [] new run = absurd run
-run-goes_on old (step ∷ steps) (reply ∷ replies) new run =
-    goes_on-further old run.0 new (step-goes_on old step reply run.0 run.1) (run-goes_on run.0 steps replies new run.2)
+pub run-follows : (old : State) (steps : List Step) (replies : List Reply) (new : State) → Runs old steps replies new → Follows old new
+run-follows old [] [] new run = subst (Follows old) (sym run) (follows-same old)
+run-follows old [] (reply ∷ replies) new run = absurd run
+run-follows old (step ∷ steps) [] new run = absurd run
+run-follows old (step ∷ steps) (reply ∷ replies) new run =
+    follows-further old run.0 new (step-follows old step reply run.0 run.1) (run-follows run.0 steps replies new run.2)
 
 -- where a link is closed in one state, nothing that was submitted since is applied over it in a later one
-pub nothing_submitted_later : (old new : State) → IsLawful old → IsLawful new → Continues old new → NothingSubmittedLater old new
-nothing_submitted_later old new old_lawful new_lawful goes_on from to from_is_party to_is_party shut =
+pub nothing_submitted_later : (old new : State) → IsLawful old → IsLawful new → Follows old new → NothingSubmittedLater old new
+nothing_submitted_later old new old_lawful new_lawful follows from to from_is_party to_is_party shut =
     let count = routed_count (before_closing old.entries from to) from in
     let same : before_closing new.entries from to ≡ before_closing old.entries from to =
-    ap (λ l. before_closing l from to) (sym goes_on.entries.1) ∙ before_closing-append old.entries goes_on.entries.0 from to shut in
+    ap (λ l. before_closing l from to) (sym follows.entries.1) ∙ before_closing-append old.entries follows.entries.0 from to shut in
     let routed : AreAboutFirst count (items_from (log_of new to) from) =
     subst (λ l. AreAboutFirst (routed_count l from) (items_from (log_of new to) from)) same
-    (nothing_routed_later new new_lawful from to (subst (λ p. from < length p) (sym goes_on.parties) from_is_party) (subst (λ p. to < length p) (sym goes_on.parties) to_is_party)) in
+    (nothing_routed_later new new_lawful from to (subst (λ p. from < length p) (sym follows.parties) from_is_party) (subst (λ p. to < length p) (sym follows.parties) to_is_party)) in
     let few = before_closing-few old.entries from to from in
     let submitted = routed_count-few old from old_lawful from_is_party in
     All-weaker (λ item. number_of item ≤ count) (λ item. number_of item ≤ length (submissions_of old from)) (λ item about. omega (arith, about, few, submitted)) (items_from (log_of new to) from) routed

@@ -4,3 +4,5 @@ pub mod LawfulLemmas
 pub mod BoundLemmas
 pub mod ClosingLemmas
 pub mod StampLemmas
+pub mod SubmittedLemmas
+pub mod HeadlineLemmas

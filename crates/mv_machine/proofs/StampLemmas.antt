@@ -20,6 +20,7 @@ use Rattle.mv_repository.proofs.SameAboutLemmas.{same_about}
 use Rattle.mv_machine.specs.State.{State, log_of}
 use Rattle.mv_machine.specs.Lawful.{AllFromParties, IsLawful}
 use Rattle.mv_machine.specs.Stamps.{IsStamped, StampsNameRoutings, StampsAreDistinct, RepositoriesAgree}
+use Rattle.mv_machine.proofs.PrefixLemmas.{slice_get-behind}
 
 -- each message among these items was routed from a party where its stamp says, and each stamp is greater than those before it
 -- and than a number
@@ -45,11 +46,6 @@ stamped-rest : (entries : List Entry) (from stamp : ℕ) (item : Item) (items : 
 stamped-rest entries from stamp (Receipt k reach query) items stamped = stamped
 stamped-rest entries from stamp (Carried k later message) items stamped = stamped-weaker entries from stamp later items (omega (arith, stamped.0)) stamped.2
 
--- the entry behind the first ones
-entry_behind : (before : List Entry) (entry : Entry) (entries : List Entry) → slice_get (before ++ entry ∷ entries) (length before) ≡ Some entry
-entry_behind [] entry entries = refl
-entry_behind (first ∷ before) entry entries = entry_behind before entry entries
-
 -- what one entry puts on a link, in front of what later ones put on it
 gained-stamped : (parties : List (List (List ℕ))) (before : List Entry) (entry : Entry) (entries : List Entry) (from to : ℕ) (items : List Item)
     → AreStamped (before ++ entry ∷ entries) from (length before + 1) items
@@ -65,7 +61,7 @@ gained-stamped parties before (Routed sender k message) entries from to items la
 
     here : eqb sender from ≡ true → slice_get whole (length before + 1 - 1) ≡ Some (Routed from k message)
     here same =
-        ap (slice_get whole) (omega arith) ∙ entry_behind before (Routed sender k message) entries
+        ap (slice_get whole) (omega arith) ∙ slice_get-behind before (Routed sender k message) entries
         ∙ ap (λ party. Some (Routed party k message)) (eqb-true sender from same)
 
     none : AreStamped whole from (length before) items

@@ -1,13 +1,17 @@
 -- What every run of the list machine keeps.
-use Rattle.std.specs.Prelude.{◌≤◌, ℕ, List, length}
+use Rattle.std.specs.Prelude.{◌≡◌, ◌≤◌, ℕ, List, length, IsTrue}
+use Rattle.mv_pack.specs.declared.key.PackKey.{PackKey}
 use Rattle.mv_machine.specs.declared.step.Step.{Step}
 use Rattle.mv_machine.specs.declared.reply.Reply.{Reply}
 use Rattle.mv_machine.specs.Limits.{Bounds}
+use Rattle.mv_machine.specs.Replies.{changes_nothing}
 use Rattle.mv_machine.specs.State.{State, submissions_of, opening}
-use Rattle.mv_machine.specs.Runs.{Runs}
+use Rattle.mv_machine.specs.Steps.{ask}
+use Rattle.mv_machine.specs.Runs.{Meets, Allows, Runs}
 use Rattle.mv_machine.specs.Lawful.{IsLawful, IsWellFormed}
 use Rattle.mv_machine.specs.Closing.{NothingRoutedLater, NothingSubmittedLater}
 use Rattle.mv_machine.specs.Stamps.{StampsNameRoutings, StampsAreDistinct, RepositoriesAgree}
+use Rattle.mv_machine.specs.Headline.{Follows, AppliedIsSubmitted, NumbersRise, HeadlineHolds}
 
 -- whatever the steps and whatever their order, a system that opened comes to lawful states alone
 abbrev pub RunsAreLawful : Type 0
@@ -35,3 +39,35 @@ LawfulStampsAreDistinct = (st : State) → IsLawful st → StampsNameRoutings st
 -- in a lawful state two repositories that have the same messages about a pack agree on it
 abbrev pub LawfulRepositoriesAgree : Type 0
 LawfulRepositoriesAgree = (st : State) → IsLawful st → RepositoriesAgree st
+
+-- in a lawful state nothing was applied over a link that was routed after its closing
+abbrev pub LawfulClosingsHold : Type 0
+LawfulClosingsHold = (st : State) → IsLawful st → NothingRoutedLater st
+
+-- in a lawful state, what was applied is what its sender submitted, under the numbers of the items, which rise on each link
+abbrev pub LawfulItemsAreSubmitted : Type 0
+LawfulItemsAreSubmitted = (st : State) → IsLawful st → AppliedIsSubmitted st × NumbersRise st
+
+-- a state that follows one that follows a third follows that
+abbrev pub FollowsIsTransitive : Type 0
+FollowsIsTransitive = (first second third : State) → Follows first second → Follows second third → Follows first third
+
+-- of two lawful states, of which one follows the other, the headline holds; its clause on closed links too
+abbrev pub LawfulStatesKeepHeadline : Type 0
+LawfulStatesKeepHeadline = (old new : State) → IsLawful old → IsWellFormed new → IsLawful new → Follows old new → HeadlineHolds old new
+
+-- the headline from a first state to a second, and from that to a third, is the headline from the first to the third
+abbrev pub HeadlinesJoin : Type 0
+HeadlinesJoin = (first second third : State) → HeadlineHolds first second → HeadlineHolds second third → HeadlineHolds first third
+
+-- each step leads to a later state, and so does each query that is asked
+abbrev pub StepsFollow : Type 0
+StepsFollow = ((old : State) (step : Step) (reply : Reply) (new : State) → Allows old step reply new → Follows old new)
+    × ((old : State) (party : ℕ) (key : PackKey) (reply : Reply) (new : State) → Meets old (ask old party key) reply new → Follows old new)
+
+-- behind a refusal nothing has changed, nor behind a verdict
+abbrev pub RefusalsChangeNothing : Type 0
+RefusalsChangeNothing =
+    ((old : State) (step : Step) (reply : Reply) (new : State) → Allows old step reply new → IsTrue (changes_nothing reply) → new ≡ old)
+    × ((old : State) (party : ℕ) (key : PackKey) (reply : Reply) (new : State)
+    → Meets old (ask old party key) reply new → IsTrue (changes_nothing reply) → new ≡ old)

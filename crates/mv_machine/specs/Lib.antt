@@ -6,4 +6,5 @@ pub mod Runs
 pub mod Lawful
 pub mod Closing
 pub mod Stamps
+pub mod Headline
 pub mod Laws

@@ -38,6 +38,13 @@ takes_memory (Lost number) = false
 takes_memory (Joint joint) = false
 takes_memory (Refused refusal) = false
 
+-- a reply behind which nothing has changed: a refusal, the verdict of the party's own repository, and that of all
+abbrev pub changes_nothing : Reply → Bool
+changes_nothing (Known verdict) = true
+changes_nothing (Joint joint) = true
+changes_nothing (Refused refusal) = true
+changes_nothing _ = false
+
 -- a refusal for want of memory
 abbrev pub is_memory : Refusal → Bool
 is_memory Memory = true

@@ -1,6 +1,8 @@
 //! Laws of the list machine, over the definitions alone.
 
 ghost use Rattle.mv_machine.specs.Laws.{RunsAreLawful, ClosedLinksStayClosed, StampsFit, LawfulStampsAreDistinct, LawfulRepositoriesAgree};
+ghost use Rattle.mv_machine.specs.Laws.{LawfulClosingsHold, LawfulItemsAreSubmitted, FollowsIsTransitive, LawfulStatesKeepHeadline};
+ghost use Rattle.mv_machine.specs.Laws.{HeadlinesJoin, StepsFollow, RefusalsChangeNothing};
 
 /// Whatever the steps and whatever their order: what each repository applied from each sender is a prefix of what the record
 /// put on their link, in order and each once, and what was routed is a prefix of what its sender submitted.
@@ -28,4 +30,42 @@ pub fn stamps_are_distinct()
 /// came: on its state, the recall of its batch, the withdrawal of its product, and the verdict.
 pub fn repositories_agree()
     ensures { LawfulRepositoriesAgree }
+{}
+
+/// In every lawful state, nothing was applied over a link that was routed after its closing.
+pub fn closings_hold()
+    ensures { LawfulClosingsHold }
+{}
+
+/// In every lawful state, item `k` in the log of a repository from a sender is the `k`-th message that the sender submitted; the
+/// repository was a target of it, over an open link, when it was routed; and the numbers rise along each link.
+pub fn items_are_submitted()
+    ensures { LawfulItemsAreSubmitted }
+{}
+
+/// A state that follows one that follows a third follows that.
+pub fn follows_is_transitive()
+    ensures { FollowsIsTransitive }
+{}
+
+/// Of two lawful states, of which one follows the other, the headline holds: what was applied was submitted, in order and each
+/// once; over a link that was closed in the first nothing is applied in the second that was submitted since; and repositories
+/// with the same messages about a pack agree on it.
+pub fn lawful_states_keep_headline()
+    ensures { LawfulStatesKeepHeadline }
+{}
+
+/// The headline holds over two calls, one after the other, where it holds over each.
+pub fn headlines_join()
+    ensures { HeadlinesJoin }
+{}
+
+/// Each step, and each query that is asked, leads to a later state.
+pub fn steps_follow()
+    ensures { StepsFollow }
+{}
+
+/// A step or a query that is refused has changed nothing, nor has one that is answered by a verdict.
+pub fn refusals_change_nothing()
+    ensures { RefusalsChangeNothing }
 {}

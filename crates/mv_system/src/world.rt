@@ -1,16 +1,12 @@
 //! The system, one step at a time and in whole runs.
 
-ghost use Rattle.std.specs.Prelude.{◌≡◌, ◌<◌, ◌≤◌, ℕ, List, length, IfOk, OnErr, IsTrue};
-ghost use mathlib.Core.List.{IsPrefix};
-ghost use Rattle.mv_hub.specs.Record.{routed_from};
-ghost use Rattle.mv_repository.specs.Log.{items_from};
-ghost use Rattle.mv_repository.specs.Query.{answers_of};
-ghost use Rattle.mv_machine.specs.State.{opening, is_party, submissions_of, log_of, items_on};
+ghost use Rattle.std.specs.Prelude.{◌≡◌, IfOk, OnErr, IsTrue};
+ghost use Rattle.mv_machine.specs.State.{opening, is_party, submissions_of, log_of};
 ghost use Rattle.mv_machine.specs.Steps.{ask};
+ghost use Rattle.mv_machine.specs.Replies.{changes_nothing};
 ghost use Rattle.mv_machine.specs.Runs.{Meets, Allows, Runs};
-ghost use Rattle.mv_machine.specs.Lawful.{answers_in, IsLawful, IsWellFormed};
-ghost use Rattle.mv_machine.specs.Closing.{NothingRoutedLater, NothingSubmittedLater};
-ghost use Rattle.mv_machine.specs.Stamps.{RepositoriesAgree};
+ghost use Rattle.mv_machine.specs.Lawful.{IsLawful, IsWellFormed};
+ghost use Rattle.mv_machine.specs.Headline.{HeadlineHolds};
 ghost use Rattle.mv_system.specs.Wire.{new_wire};
 
 use crate::opening::{new_repositories, no_submissions};
@@ -103,9 +99,11 @@ impl World {
         self.submissions[party as usize].as_slice()
     }
 
-    /// The hub's record, the oldest entry first.
+    /// The hub's record, the oldest entry first. Whoever looks at it knows that the state is lawful, as every state of a system is.
     pub fn record(&self) -> &[Entry]
-        ensures { result.now ≡ self.now.entries }
+        ensures entries { result.now ≡ self.now.entries }
+        ensures well_formed { IsWellFormed self.now }
+        ensures lawful { IsLawful self.now }
     {
         self.hub.record()
     }
@@ -137,20 +135,19 @@ impl World {
         &self.hub
     }
 
-    /// Takes one step, and answers as the list machine does. A refused step has changed nothing.
+    /// Takes one step, and answers as the list machine does. A step that is refused has changed nothing, nor has one that is
+    /// answered by a verdict.
     ///
-    /// After each step there holds what holds after each run: see [`World::run`].
+    /// After each step the headline holds, whatever the system was before: see [`World::run`].
     pub fn step(&mut self, step: &Step) -> Reply
         ensures allowed { Allows self.old step.now result self.new }
-        ensures closed { NothingSubmittedLater self.old self.new }
-        ensures closing { NothingRoutedLater self.new }
-        ensures agreed { RepositoriesAgree self.new }
-        ensures well_formed { IsWellFormed self.new }
-        ensures lawful { IsLawful self.new }
+        ensures unchanged { IsTrue (changes_nothing result) → self.new ≡ self.old }
+        ensures headline { HeadlineHolds self.old self.new }
     {
-        self.check_lawful();
+        // The state was lawful, and is: its record is looked at for that alone.
+        let _ = self.record();
         let reply = self.take_step(step);
-        self.check_lawful();
+        let _ = self.record();
         reply
     }
 
@@ -161,42 +158,30 @@ impl World {
     /// is full; S4, it has submitted as many messages as it may; S14, memory was refused.
     pub fn ask(&mut self, party: Party, key: &PackKey) -> Reply
         ensures asked { Meets self.old (ask self.old party key.now) result self.new }
-        ensures closed { NothingSubmittedLater self.old self.new }
-        ensures closing { NothingRoutedLater self.new }
-        ensures agreed { RepositoriesAgree self.new }
-        ensures well_formed { IsWellFormed self.new }
-        ensures lawful { IsLawful self.new }
+        ensures unchanged { IsTrue (changes_nothing result) → self.new ≡ self.old }
+        ensures headline { HeadlineHolds self.old self.new }
     {
-        self.check_lawful();
+        let _ = self.record();
         let reply = self.take_query(party, key);
-        self.check_lawful();
+        let _ = self.record();
         reply
     }
 
     /// Takes steps in order. Refused for want of memory, it has taken none.
     ///
-    /// Whatever the steps and whatever their order: what each repository applied from each sender is a prefix of what the
-    /// record put on their link for the markets that it serves, in order and each once, and what was routed from a sender is
-    /// a prefix of what it submitted. The answers that a party submitted are those that the log of its repository calls for, in
-    /// order. Where a link was closed before these steps, nothing is applied over it that was submitted
-    /// during them; and over no link is anything applied that was routed after its closing. Two repositories that applied the
-    /// same messages about a pack, in whatever order these came, agree on it.
+    /// Whatever the steps and whatever their order, the headline holds: what each repository applied from each sender is a prefix
+    /// of what the record put on their link for the markets that it serves, in order and each once, and what was routed from a
+    /// sender is a prefix of what it submitted. So item `k` from a sender is the `k`-th message that the sender submitted. The
+    /// answers that a party submitted are those that the log of its repository calls for, in order. Where a link was closed before
+    /// these steps, nothing is applied over it that was submitted during them; and over no link is anything applied that was
+    /// routed after its closing. Two repositories that applied the same messages about a pack, in whatever order these came, agree
+    /// on it.
     pub fn run(&mut self, steps: &[Step]) -> Result<Vec<Reply>, AllocError>
         ensures run { IfOk result (λ replies. Runs self.old steps.now replies.items self.new) }
-        ensures applied { (from to : ℕ) → from < length self.new.parties → to < length self.new.parties
-            → IsPrefix (items_from (log_of self.new to) from) (items_on self.new from to) }
-        ensures routed { (party : ℕ) → party < length self.new.parties
-            → IsPrefix (routed_from self.new.entries party) (submissions_of self.new party) }
-        ensures answered { (party : ℕ) → party < length self.new.parties
-            → answers_in (submissions_of self.new party) ≡ answers_of (log_of self.new party) }
-        ensures closed { NothingSubmittedLater self.old self.new }
-        ensures closing { NothingRoutedLater self.new }
-        ensures agreed { RepositoriesAgree self.new }
-        ensures well_formed { IsWellFormed self.new }
-        ensures lawful { IsLawful self.new }
+        ensures headline { HeadlineHolds self.old self.new }
         ensures err { OnErr result (self.new ≡ self.old) }
     {
-        self.check_lawful();
+        let _ = self.record();
         let mut replies = Vec::new(self.alloc);
         replies.reserve(steps.len())?;
         for step in steps {

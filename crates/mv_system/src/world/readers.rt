@@ -8,9 +8,6 @@ ghost use Rattle.mv_repository.specs.Verdict.{local_verdict, joint_verdict};
 ghost use Rattle.mv_machine.specs.Steps.{refused, apply, next_item, next_answer, is_answer_busy};
 ghost use Rattle.mv_machine.specs.declared.reply.Refusal.TheVariants.{AnswerBusy};
 ghost use Rattle.mv_machine.specs.State.{is_uplink_full, is_sender_full, log_of, is_party, are_parties, submissions_of, waiting_of, wire_of, applied_count};
-ghost use Rattle.mv_machine.specs.Lawful.{IsLawful, IsWellFormed};
-ghost use Rattle.mv_machine.specs.Closing.{NothingRoutedLater};
-ghost use Rattle.mv_machine.specs.Stamps.{RepositoriesAgree};
 ghost use Rattle.mv_system.specs.Wire.{numbers_of};
 ghost use Rattle.mv_system.specs.World.{IsAnswerable};
 
@@ -169,17 +166,6 @@ impl World {
         ensures few { result < 4294967295 }
     {
         self.accepted.at(from, to).count()
-    }
-
-    /// What holds of every system. It does nothing: by looking at a field it opens the invariant, so that steps, queries and
-    /// runs can promise what follows from that.
-    pub(super) fn check_lawful(&self)
-        ensures well_formed { IsWellFormed self.now }
-        ensures lawful { IsLawful self.now }
-        ensures closing { NothingRoutedLater self.now }
-        ensures agreed { RepositoriesAgree self.now }
-    {
-        let _ = &self.limits;
     }
 }
 

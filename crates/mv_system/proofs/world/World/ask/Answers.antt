@@ -1,12 +1,15 @@
 -- The record is as it was.
-use Rattle.mv_machine.proofs.LawfulLemmas.{meets-case}
-use Rattle.mv_machine.proofs.ClosingLemmas.{Continues, goes_on-same, ask-goes_on, nothing_submitted_later}
-use Rattle.mv_machine.specs.Steps.{ask}
+use Rattle.mv_machine.proofs.ClosingLemmas.{asked-follows}
+use Rattle.mv_machine.proofs.HeadlineLemmas.{headline, asked-unchanged}
 use Rattle.mv_system.proofs.world.World.ask.Goals as goal
 
-pub returns-clause-closed : goal.returns-clause-closed
-returns-clause-closed c =
+pub returns-clause-unchanged : goal.returns-clause-unchanged
+returns-clause-unchanged c =
+    asked-unchanged c.args.self.now c.args.party c.args.key.now c.take_query-reply.result c.take_query-reply.new.self c.take_query-reply.ensures
+
+pub returns-clause-headline : goal.returns-clause-headline
+returns-clause-headline c =
     let old = c.args.self.now in
     let new = c.take_query-reply.new.self in
-    nothing_submitted_later old new c.check_lawful.ensures.lawful c.check_lawful-2.ensures.lawful
-    (meets-case (Continues old) old (ask old c.args.party c.args.key.now) c.take_query-reply.result new c.take_query-reply.ensures (goes_on-same old) (ask-goes_on old c.args.party c.args.key.now))
+    headline old new c.record.ensures.lawful c.record-2.ensures.well_formed c.record-2.ensures.lawful
+    (asked-follows old c.args.party c.args.key.now c.take_query-reply.result new c.take_query-reply.ensures)

@@ -1,14 +1,13 @@
 use Rattle.std.proofs.Common.{◌≡◌, ◌≤◌, length, take, vec_len}
 use Rattle.std.specs.Prelude.{vec_capacity}
 use Rattle.mv_machine.specs.Runs.{Runs}
-use Rattle.mv_machine.specs.Lawful.{IsLawful, IsWellFormed}
+use Rattle.mv_machine.specs.Headline.{HeadlineHolds}
 use Rattle.mv_system.proofs.world.World.run.Given as goal
 
 abbrev pub invariant-loop-step : goal.invariant-loop-step
 invariant-loop-step l = record {
   ran : Runs l.fn.self (take l.step-index l.steps) l.replies.items l.self;
-  well_formed : IsWellFormed l.self;
-  lawful : IsLawful l.self;
+  headline : HeadlineHolds l.fn.self l.self;
   room : length l.steps ≤ vec_capacity l.replies;
   count : vec_len l.replies ≡ l.step-index;
 }

@@ -8,7 +8,11 @@ use serde_json::{Map, Value};
 pub type Object = Map<String, Value>;
 
 /// The fields of an object that are still to be taken. All of them are expected ones.
-pub struct Fields(IntoIter);
+pub struct Fields {
+    fields: IntoIter,
+    /// Whether the object has all that it may have.
+    is_complete: bool,
+}
 
 /// The object that bytes are.
 pub fn object_of(line: &[u8]) -> Result<Object, Fault> {
@@ -35,18 +39,19 @@ pub fn kind_of<'a>(object: &'a Object, name: &'static str) -> Result<&'a str, Fa
 impl Fields {
     /// The fields of an object that may have those of these names, which stand in byte order.
     pub fn of(object: Object, names: &[&str]) -> Result<Fields, Fault> {
-        if object.len() != names.len() || !object.keys().eq(names) {
+        let is_complete = object.len() == names.len() && object.keys().eq(names);
+        if !is_complete {
             if let Some(unknown) = object.keys().find(|key| !names.contains(&key.as_str())) {
                 return Err(Fault::Unknown(unknown.clone()));
             }
         }
-        Ok(Fields(object.into_iter()))
+        Ok(Fields { fields: object.into_iter(), is_complete })
     }
 
     /// The next field, which must have this name.
     pub fn value(&mut self, name: &'static str) -> Result<Value, Fault> {
-        match self.0.next() {
-            Some((key, value)) if key == name => Ok(value),
+        match self.fields.next() {
+            Some((key, value)) if self.is_complete || key == name => Ok(value),
             _ => Err(Fault::Missing(name)),
         }
     }

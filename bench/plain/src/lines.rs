@@ -68,30 +68,26 @@ pub fn answer_all(
 impl<A: FnMut(&[u8], &mut Vec<u8>)> Answering<A> {
     /// Answers the lines that end in a block; the first may have begun in an earlier one.
     fn take_block(&mut self, block: &[u8], begun: &mut Vec<u8>) -> Result<(), Fault> {
-        for part in block.split_inclusive(|byte| *byte == b'\n') {
-            if self.lines == MOST_LINES {
-                return Err(Fault::TooManyLines);
-            }
-            let Some(end) = part.strip_suffix(b"\n") else {
-                return self.begin(part, begun);
-            };
-            if begun.is_empty() {
-                self.take_line(end)?;
-            } else {
-                self.begin(end, begun)?;
-                self.take_line(begun)?;
-                begun.clear();
-            }
+        let mut start = 0;
+        for end in memchr::memchr_iter(b'\n', block) {
+            self.take_end(&block[start..end], begun)?;
+            start = end + 1;
+        }
+        if start < block.len() {
+            self.check_count()?;
+            begin(&block[start..], begun)?;
         }
         Ok(())
     }
 
-    /// Keeps a part of a line, which ends later.
-    fn begin(&mut self, part: &[u8], begun: &mut Vec<u8>) -> Result<(), Fault> {
-        begun.extend_from_slice(part);
-        if begun.len() > MOST_BYTES {
-            return Err(Fault::LongLine);
+    /// Answers a line by its end, or its last part.
+    fn take_end(&mut self, end: &[u8], begun: &mut Vec<u8>) -> Result<(), Fault> {
+        if begun.is_empty() {
+            return self.take_line(end);
         }
+        begin(end, begun)?;
+        self.take_line(begun)?;
+        begun.clear();
         Ok(())
     }
 
@@ -104,6 +100,7 @@ impl<A: FnMut(&[u8], &mut Vec<u8>)> Answering<A> {
     }
 
     fn take_line(&mut self, line: &[u8]) -> Result<(), Fault> {
+        self.check_count()?;
         if line.len() > MOST_BYTES {
             return Err(Fault::LongLine);
         }
@@ -115,4 +112,21 @@ impl<A: FnMut(&[u8], &mut Vec<u8>)> Answering<A> {
         }
         Ok(())
     }
+
+    /// Refuses a line more than a run may have.
+    fn check_count(&self) -> Result<(), Fault> {
+        if self.lines == MOST_LINES {
+            return Err(Fault::TooManyLines);
+        }
+        Ok(())
+    }
+}
+
+/// Keeps a part of a line, which ends later.
+fn begin(part: &[u8], begun: &mut Vec<u8>) -> Result<(), Fault> {
+    begun.extend_from_slice(part);
+    if begun.len() > MOST_BYTES {
+        return Err(Fault::LongLine);
+    }
+    Ok(())
 }

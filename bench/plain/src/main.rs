@@ -9,6 +9,7 @@ mod lines;
 mod link;
 mod log;
 mod message;
+mod own;
 mod packs;
 mod party;
 mod repository;

@@ -3,6 +3,7 @@
 use crate::fault::{Fault, ValueFault};
 use crate::message::{Answer, Found, Master, Message, Repack, Status, Upload};
 use crate::values::{Code, Gtin};
+use std::slice;
 
 /// Writes the parts of a text one behind the other. The names of fields are given with their quotes and marks.
 pub struct Text<'a>(pub &'a mut Vec<u8>);
@@ -36,12 +37,14 @@ impl Text<'_> {
 
     /// A code, in quotes. Of its characters the quote alone has another spelling.
     fn code(&mut self, code: &Code) -> &mut Self {
+        let text = code.text();
         self.0.push(b'"');
-        for byte in code.text() {
-            if *byte == b'"' {
-                self.0.push(b'\\');
+        if text.contains(&b'"') {
+            for byte in text {
+                self.0.extend_from_slice(if *byte == b'"' { b"\\\"" } else { slice::from_ref(byte) });
             }
-            self.0.push(*byte);
+        } else {
+            self.0.extend_from_slice(text);
         }
         self.0.push(b'"');
         self

@@ -1,6 +1,7 @@
 //! The values in messages: product codes, serial and batch numbers, dates, moments, markets and standings.
 
 use crate::fault::ValueFault;
+use std::hash::{Hash, Hasher};
 
 /// Seconds of a day.
 pub const DAY: u64 = 86_400;
@@ -15,7 +16,7 @@ const CODE_BYTES: usize = 20;
 pub struct Gtin(u64);
 
 /// A serial, batch or national number of 1 to 20 bytes, with zeros behind it.
-#[derive(Clone, Copy, PartialEq, Eq, PartialOrd, Ord, Hash)]
+#[derive(Clone, Copy, PartialEq, Eq, PartialOrd, Ord)]
 pub struct Code([u8; CODE_BYTES]);
 
 /// A date: a year of this century, a month and a day.
@@ -89,16 +90,10 @@ impl Gtin {
     }
 }
 
-/// Whether each byte is one of the 82 characters of codes.
-const IS_CODE_CHARACTER: [bool; 256] = {
-    let characters = b"ABCDEFGHIJKLMNOPQRSTUVWXYZabcdefghijklmnopqrstuvwxyz0123456789!\"%&'()*+,-./:;<=>?_";
-    let (mut table, mut place) = ([false; 256], 0);
-    while place < characters.len() {
-        table[characters[place] as usize] = true;
-        place += 1;
-    }
-    table
-};
+/// Whether a byte is one of the 82 characters of codes.
+fn is_code_character(byte: u8) -> bool {
+    byte.is_ascii_alphanumeric() | matches!(byte, b'!' | b'"' | b'%'..=b'?' | b'_')
+}
 
 impl Code {
     /// It comes before each code.
@@ -113,19 +108,27 @@ impl Code {
             return Err(ValueFault::LongCode);
         }
         let mut bytes = [0; CODE_BYTES];
-        for (place, byte) in text.iter().enumerate() {
-            if !IS_CODE_CHARACTER[usize::from(*byte)] {
-                return Err(ValueFault::CodeCharacter(place + 1));
-            }
-            bytes[place] = *byte;
+        bytes[..text.len()].copy_from_slice(text);
+        // All bytes are looked at, without a branch for each; those behind the text are no characters of codes.
+        let legal: u8 = bytes.iter().map(|byte| u8::from(is_code_character(*byte))).sum();
+        if usize::from(legal) == text.len() {
+            return Ok(Code(bytes));
         }
-        Ok(Code(bytes))
+        let place = text.iter().take_while(|byte| is_code_character(**byte)).count();
+        Err(ValueFault::CodeCharacter(place + 1))
     }
 
     /// Its characters.
     pub fn text(&self) -> &[u8] {
-        let length = self.0.iter().position(|byte| *byte == 0);
-        &self.0[..length.unwrap_or(CODE_BYTES)]
+        let length: u8 = self.0.iter().map(|byte| u8::from(*byte != 0)).sum();
+        &self.0[..usize::from(length)]
+    }
+}
+
+impl Hash for Code {
+    /// All codes have as many bytes, so these alone are hashed.
+    fn hash<H: Hasher>(&self, state: &mut H) {
+        state.write(&self.0);
     }
 }
 

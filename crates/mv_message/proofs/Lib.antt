@@ -13,3 +13,4 @@ pub mod LegalLemmas
 pub mod OrderLemmas
 pub mod FirstFaultLemmas
 pub mod KeyLemmas
+pub mod CanonLemmas

@@ -1,11 +1,10 @@
 -- The values of messages.
-use Rattle.std.proofs.Common.{◌≡◌, ◌∙◌, ◌||◌, ◌≤◌, ℕ, suc, sym, subst, arith, true, false, List, [], ◌∷◌, ap, refl}
+use Rattle.std.proofs.Common.{◌≡◌, ◌≤◌, ℕ, suc, sym, subst, arith, true, List, [], ◌∷◌, ap, refl}
 use Rattle.std.specs.Prelude.{IsUtf8, max, Some, None}
 use Rattle.std.specs.Str.{is_utf8}
 use Rattle.std.proofs.lemmas.Str.{IsUtf8-from_is_utf8, is_utf8-from_IsUtf8}
 use Rattle.serde_json.specs.Data.{depth, items_depth, members_depth}
 use Rattle.serde_json.specs.Read.{max_depth}
-use Rattle.serde_json.specs.Written.{has_float, items_have_float, members_have_float}
 use Rattle.mv_message.specs.Messages.{value_of}
 use Rattle.mv_message.specs.Values.{strings, version_members, found_version, found_value}
 use Rattle.mv_message.specs.declared.found.Found.{Found}
@@ -14,35 +13,6 @@ use Rattle.mv_message.specs.declared.version.Version.{Version}
 use Rattle.mv_message.specs.declared.version.Version.TheVariants.{One, Two}
 use Rattle.mv_message.specs.declared.message.Message.{Message}
 use Rattle.mv_message.specs.declared.message.Message.TheVariants as messages
-
-no_float_in : (texts : List (List ℕ)) → items_have_float (strings texts) ≡ false
-no_float_in [] = refl
-no_float_in (text ∷ texts) = no_float_in texts
-
--- the value of what was found has no float
-found_no_float : (version : Version) (f : Found) → has_float (found_value version f) ≡ false
-found_no_float version Absent = refl
-found_no_float One (Present batch expiry national standing recalled withdrawn) = refl
-found_no_float Two (Present batch expiry None standing recalled withdrawn) = refl
-found_no_float Two (Present batch expiry (Some number) standing recalled withdrawn) = refl
-
-answer_no_float : (version : Version) (f : Found) → (has_float (found_value version f) || members_have_float (version_members version)) ≡ false
-answer_no_float One f = ap (λ b. b || false) (found_no_float One f)
-answer_no_float Two f = ap (λ b. b || false) (found_no_float Two f)
-
--- the value of a message has no float
-pub no_float : (m : Message) → has_float (value_of m) ≡ false
-no_float (messages.Master gtin product) = ap (λ b. b || false) (no_float_in product.markets)
-no_float (messages.Upload gtin batch expiry None serials) = ap (λ b. b || false) (no_float_in serials)
-no_float (messages.Upload gtin batch expiry (Some national) serials) = ap (λ b. b || false) (no_float_in serials)
-no_float (messages.Status key to user at) = refl
-no_float (messages.Recall key at) = refl
-no_float (messages.Repack before before_serials after after_serials at) =
-    ap (λ b. b || (items_have_float (strings before_serials) || false)) (no_float_in after_serials)
-    ∙ ap (λ b. b || false) (no_float_in before_serials)
-no_float (messages.Withdraw gtin at) = refl
-no_float (messages.Query key) = refl
-no_float (messages.Answer asker q key found) = answer_no_float (found_version found) found
 
 items_flat : (texts : List (List ℕ)) → items_depth (strings texts) ≡ 0
 items_flat [] = refl

@@ -44,7 +44,6 @@ impl Message {
 
     /// The canonical text of the message: its value with no blanks, the keys in byte order. The only refusal is M9, for
     /// want of memory.
-    #[tactic(auto, using(crate::proofs::ValueLemmas::no_float, crate::proofs::ValueLemmas::value_depth))]
     pub fn text(&self, alloc: Global) -> Result<String, MessageFault>
         ensures text { IfOk result (λ text. string_bytes text ≡ compact_text (value_of self.now)) }
         // Of a legal message it is read back as that message.
@@ -52,6 +51,11 @@ impl Message {
             (λ text. IsLegal self.now → read_bytes (string_bytes text) ≡ Ok self.now) }
         ensures memory { IfErr result (λ fault. fault ≡ MessageFault.Memory) }
     {
-        Ok(self.to_value(alloc)?.to_string(alloc)?)
+        let mut bytes = Vec::new(alloc);
+        self.write_text(alloc, &mut bytes)?;
+        let Ok(text) = String::from_utf8(bytes) else {
+            unreachable!();
+        };
+        Ok(text)
     }
 }

@@ -1,16 +1,13 @@
-use Rattle.std.proofs.Common.{◌∙◌, ◌≤◌, sym, ap, subst}
-use Rattle.std.specs.Prelude.{Some}
+use Rattle.std.proofs.Common.{◌∙◌, ◌++◌, ap}
 use Rattle.std.proofs.lemmas.Str.{IsUtf8-string_bytes}
-use Rattle.serde_json.specs.Data.{Data, depth}
-use Rattle.serde_json.specs.Read.{max_depth}
-use Rattle.mv_message.proofs.ValueLemmas.{value_depth}
-use Rattle.mv_message.proofs.LegalLemmas.{text_reads_back}
+use Rattle.serde_json.specs.Written.{compact_text}
+use Rattle.mv_message.specs.Messages.{value_of}
+use Rattle.mv_message.proofs.CanonLemmas.{canonical_reads_back}
 use Rattle.mv_message.proofs.message.Message.text.Goals as goal
 
--- the text is that of the message's value, which is not too deep to be read
+-- the text stands behind nothing
 pub returns-clause-reads_back : goal.returns-clause-reads_back
 returns-clause-reads_back c =
-    let value = c.in_ok-to_value.ensures.value in
-    let shallow = subst (λ (d : Data). depth d ≤ max_depth) (sym value) (value_depth c.args.self.now) in
-    text_reads_back c.args.self.now _ (IsUtf8-string_bytes c.in_ok-to_string.field-0)
-    (c.in_ok-to_string.ensures.reads_back shallow ∙ ap (λ d. Some d) value)
+    let message = c.args.self.now in
+    let bytes = c.in_ok-write_text.ensures.text ∙ ap (λ front. front ++ compact_text (value_of message)) c.new-bytes.ensures.items in
+    canonical_reads_back message _ (IsUtf8-string_bytes c.in-Ok.text) (ap (λ v. v.items) c.in-Ok.ensures.ok ∙ bytes)

@@ -19,7 +19,7 @@ use Rattle.mv_repository.specs.declared.entry.LogEntry.{LogEntry}
 use Rattle.mv_repository.specs.declared.held.Held.{Held}
 use Rattle.mv_repository.specs.Keys.{is_same_text, is_same_pack, is_same_batch, pack_key}
 use Rattle.mv_repository.specs.Order.{Placed, passes, put_in, ordered_after, ordered}
-use Rattle.mv_repository.specs.Copy.{is_master, last_master, IsCopyOf, place_of as master_place}
+use Rattle.mv_repository.specs.Masters.{is_master, last_master, AreMastersOf}
 use Rattle.mv_repository.specs.PackState.{has_pack, is_recall_of, pack_state, held_of}
 use Rattle.mv_repository.specs.Counts.{mastered_in, uploaded_in, recalled_in, mastered_products, uploaded_packs, recalled_batches, is_held_active}
 use Rattle.mv_repository.specs.Stops.{StopTables, AreStopsOf, place_of, first_stops}
@@ -114,10 +114,10 @@ some-map : {A B : Type 0} → (f : A → B) (o : Option A) → is_some (option_m
 some-map f None = refl
 some-map f (Some x) = refl
 
-pub count-products : (log : List LogEntry) (masters : List (List ℕ × ℕ)) → IsDistinct is_same_text (keys_of masters) → IsCopyOf log masters → length masters ≡ distinct_count is_same_text (mastered_products log)
-count-products log masters distinct copy =
+pub count-products : (log : List LogEntry) (masters : List (List ℕ × ℕ)) → IsDistinct is_same_text (keys_of masters) → AreMastersOf log masters → length masters ≡ distinct_count is_same_text (mastered_products log)
+count-products log masters distinct places =
     counted-once nat_list_eq_equiv masters (mastered_products log) distinct
-    (λ gtin. ap is_some (copy gtin) ∙ some-map master_place (last_master gtin (ordered log)) ∙ master-found gtin (ordered log) ∙ any-ordered (is_master gtin) log
+    (λ gtin. ap is_some (places gtin) ∙ some-map place_of (last_master gtin (ordered log)) ∙ master-found gtin (ordered log) ∙ any-ordered (is_master gtin) log
     ∙ sym (any-flat (is_same_text gtin) mastered_in (is_master gtin) (mastered-is gtin) log))
 
 pack-equiv : IsEquivalence is_same_pack

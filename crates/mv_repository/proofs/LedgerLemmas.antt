@@ -7,13 +7,13 @@ use Rattle.mv_pack.specs.declared.key.BatchKey.{BatchKey}
 use Rattle.mv_repository.specs.declared.entry.LogEntry.{LogEntry}
 use Rattle.mv_repository.specs.Keys.{is_same_text, is_same_pack, batch_key}
 use Rattle.mv_repository.specs.Order.{Placed}
-use Rattle.mv_repository.specs.Copy.{IsCopyOf}
+use Rattle.mv_repository.specs.Masters.{AreMastersOf}
 use Rattle.mv_repository.specs.Stops.{StopTables, AreStopsOf, place_of}
 use Rattle.mv_repository.specs.Track.{Kept, kept_in, with_status, with_upload, refreshed, AreTracksOf}
 use Rattle.mv_repository.specs.PackState.{has_pack}
 use Rattle.mv_repository.specs.Uploads.{UploadPlaces, KeepsUploads, HasUpload, uploaded_batch, is_named_at}
 use Rattle.mv_repository.specs.Tables.{Bears, IsKept, stamp_of}
-use Rattle.mv_repository.proofs.ProductLemmas.{copy-noted}
+use Rattle.mv_repository.proofs.ProductLemmas.{masters-noted}
 use Rattle.mv_repository.proofs.TableLemmas.{longer, tracks-stay, tracks-status, tracks-upload, tracks-refreshed, stops-stay}
 use Rattle.mv_repository.proofs.LatestLemmas.{latest-longer}
 use Rattle.mv_repository.proofs.ElsewhereLemmas.{BearsNot, track-elsewhere}
@@ -37,7 +37,7 @@ kept-same log masters packs packs' tables index n kept same =
 pub kept-noted : (log : List LogEntry) (entry : LogEntry) (masters : List (List ℕ × ℕ)) (packs : List (PackKey × Kept)) (tables : StopTables) (index : UploadPlaces) (n m : ℕ) → IsKept log masters packs tables index n
     → Bears entry.item (λ gtin. false) (λ pack. false) (λ pack. false) (λ batch. false) (λ gtin. false) → m ≡ max n (stamp_of entry.item) → IsKept (longer log entry) masters packs tables index m
 kept-noted log entry masters packs tables index n m kept bears l = record {
-  masters = copy-noted log masters entry kept.masters bears.master;
+  masters = masters-noted log masters entry kept.masters bears.master;
   tracks = tracks-stay log entry packs bears.upload bears.status (bears.recall, bears.withdrawal) kept.tracks;
   stops = stops-stay log entry tables (bears.recall, bears.withdrawal) kept.stops;
   uploads = finds-stay log entry index kept.uploads bears.upload;
@@ -46,9 +46,9 @@ kept-noted log entry masters packs tables index n m kept bears l = record {
 
 pub kept-master : (log : List LogEntry) (entry : LogEntry) (masters masters' : List (List ℕ × ℕ)) (packs : List (PackKey × Kept)) (tables : StopTables) (index : UploadPlaces) (n m : ℕ) (code : List ℕ) → IsKept log masters packs tables index n
     → Bears entry.item (is_same_text code) (λ pack. false) (λ pack. false) (λ batch. false) (λ gtin. false) → m ≡ max n (stamp_of entry.item)
-    → IsCopyOf (longer log entry) masters' → IsKept (longer log entry) masters' packs tables index m
-kept-master log entry masters masters' packs tables index n m code kept bears l copy = record {
-  masters = copy;
+    → AreMastersOf (longer log entry) masters' → IsKept (longer log entry) masters' packs tables index m
+kept-master log entry masters masters' packs tables index n m code kept bears l places = record {
+  masters = places;
   tracks = tracks-stay log entry packs bears.upload bears.status (bears.recall, bears.withdrawal) kept.tracks;
   stops = stops-stay log entry tables (bears.recall, bears.withdrawal) kept.stops;
   uploads = finds-stay log entry index kept.uploads bears.upload;
@@ -60,7 +60,7 @@ pub kept-status : (log : List LogEntry) (entry : LogEntry) (masters : List (List
     → ((pack : PackKey) → kept_in pack packs' ≡ cond (is_same_pack key pack) (with_status (longer log entry) tables key (length log) (kept_in key packs)) (kept_in pack packs))
     → IsKept (longer log entry) masters packs' tables index m
 kept-status log entry masters packs packs' tables index n m key kept bears l looks = record {
-  masters = copy-noted log masters entry kept.masters bears.master;
+  masters = masters-noted log masters entry kept.masters bears.master;
   tracks = tracks-status log entry packs packs' tables key kept.tracks kept.stops bears.upload bears.status (bears.recall, bears.withdrawal) looks;
   stops = stops-stay log entry tables (bears.recall, bears.withdrawal) kept.stops;
   uploads = finds-stay log entry index kept.uploads bears.upload;
@@ -79,7 +79,7 @@ pub kept-upload : (log : List LogEntry) (entry : LogEntry) (masters : List (List
     → KeepsUploads index index' → HasUpload index' (batch_key gtin batch) (length log) → uploaded_batch entry.item ≡ batch
     → IsKept (longer log entry) masters packs' tables index' m
 kept-upload log entry masters packs packs' tables index index' n m gtin batch serials kept bears l looks keeps added names = record {
-  masters = copy-noted log masters entry kept.masters bears.master;
+  masters = masters-noted log masters entry kept.masters bears.master;
   tracks = tracks-upload log entry packs packs' tables (has_pack gtin serials) kept.tracks kept.stops bears.upload bears.status (bears.recall, bears.withdrawal) looks;
   stops = stops-stay log entry tables (bears.recall, bears.withdrawal) kept.stops;
   uploads = finds-upload log entry index index' gtin batch serials kept.uploads keeps added bears.upload names;
@@ -93,7 +93,7 @@ pub kept-refreshed : (log : List LogEntry) (entry : LogEntry) (masters : List (L
     → ((pack : PackKey) → kept_in pack packs' ≡ cond (is_named_at (longer log entry) places pack) (refreshed (longer log entry) tables' pack (kept_in pack packs)) (kept_in pack packs))
     → IsKept (longer log entry) masters packs' tables' index m
 kept-refreshed log entry masters packs packs' tables tables' index n m recalls withdrawals places kept bears l stops other looks = record {
-  masters = copy-noted log masters entry kept.masters bears.master;
+  masters = masters-noted log masters entry kept.masters bears.master;
   tracks = tracks-refreshed log entry packs packs' tables' places kept.tracks stops bears.upload bears.status (λ pack e. track-elsewhere log entry pack (bears.upload pack) (bears.status pack) (other pack e)) looks;
   stops = stops;
   uploads = finds-stay log entry index kept.uploads bears.upload;
@@ -105,7 +105,7 @@ pub kept-stopped : (log : List LogEntry) (entry : LogEntry) (masters : List (Lis
     → Bears entry.item (λ gtin. false) (λ pack. false) (λ pack. false) recalls withdrawals → m ≡ max n (stamp_of entry.item) → AreStopsOf (longer log entry) tables'
     → AreTracksOf (longer log entry) packs → IsKept (longer log entry) masters packs tables' index m
 kept-stopped log entry masters packs tables tables' index n m recalls withdrawals kept bears l stops tracks = record {
-  masters = copy-noted log masters entry kept.masters bears.master;
+  masters = masters-noted log masters entry kept.masters bears.master;
   tracks = tracks;
   stops = stops;
   uploads = finds-stay log entry index kept.uploads bears.upload;

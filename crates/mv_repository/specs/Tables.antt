@@ -7,7 +7,7 @@ use Rattle.mv_link.specs.declared.item.Item.{Item}
 use Rattle.mv_link.specs.declared.item.Item.TheVariants.{Receipt, Carried}
 use Rattle.mv_repository.specs.declared.entry.LogEntry.{LogEntry}
 use Rattle.mv_repository.specs.PackState.{is_recall_of, is_withdrawal_of}
-use Rattle.mv_repository.specs.Copy.{is_master, IsCopyOf}
+use Rattle.mv_repository.specs.Masters.{is_master, AreMastersOf}
 use Rattle.mv_repository.specs.Stops.{StopTables, AreStopsOf}
 use Rattle.mv_repository.specs.Track.{Kept, is_upload_of, is_status_of, AreTracksOf}
 use Rattle.mv_repository.specs.Uploads.{UploadPlaces, FindsUploads}
@@ -40,7 +40,7 @@ greatest_stamp (entry ∷ log) = max (stamp_of entry.item) (greatest_stamp log)
 -- the tables are those of a log, and the latest is the greatest stamp in it
 pub record IsKept (log : List LogEntry) (master_places : List (List ℕ × ℕ)) (packs : List (PackKey × Kept))
     (tables : StopTables) (index : UploadPlaces) (latest : ℕ) : Type 0 where
-  pub masters : IsCopyOf log master_places
+  pub masters : AreMastersOf log master_places
   pub tracks : AreTracksOf log packs
   pub stops : AreStopsOf log tables
   pub uploads : FindsUploads log index

@@ -5,7 +5,7 @@ ghost use Rattle.std.specs.Prelude.{◌≡◌, ◌<◌, ℕ, max, List, Bool, fa
 ghost use Rattle.std.specs.Option.{option_copied, option_map};
 ghost use Rattle.mv_repository.specs.Order.{ordered};
 ghost use Rattle.mv_repository.specs.Keys.{is_same_text, is_same_pack, is_same_batch};
-ghost use Rattle.mv_repository.specs.Copy.{is_master, product_in, last_master, entry_of, is_late};
+ghost use Rattle.mv_repository.specs.Masters.{is_master, product_in, last_master, entry_of, is_late};
 ghost use Rattle.mv_repository.specs.PackState.{has_pack};
 ghost use Rattle.mv_repository.specs.Effect.{lasting_effect};
 ghost use Rattle.mv_repository.specs.Tables.{Bears, IsUploadOf, stamp_of};

@@ -5,6 +5,7 @@ use crate::values::{read_moment, Code, Expiry, Gtin};
 use serde_json::map::IntoIter;
 use serde_json::{Map, Value};
 
+/// A JSON object.
 pub type Object = Map<String, Value>;
 
 /// The fields of an object that are still to be taken. All of them are expected ones.
@@ -61,6 +62,7 @@ impl Fields {
         self.value(name).map(drop)
     }
 
+    /// A text.
     pub fn text(&mut self, name: &'static str) -> Result<String, Fault> {
         match self.value(name)? {
             Value::String(text) => Ok(text),
@@ -79,18 +81,21 @@ impl Fields {
     }
 
     /// A text that a reader takes.
-    fn read<T>(&mut self, name: &'static str, reader: fn(&str) -> Result<T, ValueFault>) -> Result<T, Fault> {
+    fn read<T>(&mut self, name: &'static str, reader: impl Fn(&str) -> Result<T, ValueFault>) -> Result<T, Fault> {
         reader(&self.text(name)?).map_err(|fault| Fault::WrongValue(name, fault))
     }
 
+    /// A product code.
     pub fn gtin(&mut self, name: &'static str) -> Result<Gtin, Fault> {
         self.read(name, Gtin::read)
     }
 
+    /// A serial or batch number.
     pub fn code(&mut self, name: &'static str) -> Result<Code, Fault> {
         self.read(name, Code::read)
     }
 
+    /// A date.
     pub fn expiry(&mut self, name: &'static str) -> Result<Expiry, Fault> {
         self.read(name, Expiry::read)
     }
@@ -109,7 +114,7 @@ impl Fields {
         &mut self,
         name: &'static str,
         most: usize,
-        reader: fn(&str) -> Result<T, ValueFault>,
+        reader: impl Fn(&str) -> Result<T, ValueFault>,
     ) -> Result<Box<[T]>, Fault> {
         let Value::Array(members) = self.value(name)? else {
             return Err(Fault::WrongType(name));
@@ -137,10 +142,12 @@ impl Fields {
         u32::try_from(self.whole(name)?).map_err(|_| Fault::WrongType(name))
     }
 
+    /// Seconds since 1970.
     pub fn moment(&mut self, name: &'static str) -> Result<u64, Fault> {
         read_moment(self.whole(name)?).map_err(|fault| Fault::WrongValue(name, fault))
     }
 
+    /// True or false.
     pub fn truth(&mut self, name: &'static str) -> Result<bool, Fault> {
         self.value(name)?.as_bool().ok_or(Fault::WrongType(name))
     }

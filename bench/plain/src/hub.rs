@@ -26,6 +26,7 @@ struct Product {
     batches: FxHashMap<(Code, Expiry), u32>,
 }
 
+/// The hub, but for the links that it puts messages on.
 pub struct Hub {
     window: u32,
     serving: FxHashMap<Market, Party>,

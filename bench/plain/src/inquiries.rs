@@ -54,10 +54,12 @@ fn is_stopped(found: &Found) -> bool {
 }
 
 impl Inquiries {
+    /// Notes that a query was routed, and whom it reached.
     pub fn note_receipt(&mut self, q: u32, reach: PartySet) {
         self.0.entry(q).or_default().asked.get_or_insert(reach);
     }
 
+    /// Notes an answer.
     pub fn note_answer(&mut self, q: u32, sender: Party, found: Option<&Found>) {
         let inquiry = self.0.entry(q).or_default();
         inquiry.answered.insert(sender);
@@ -67,6 +69,7 @@ impl Inquiries {
         }
     }
 
+    /// The verdict by the answers that are here.
     pub fn verdict(&self, q: u32) -> Joint {
         let Some(inquiry) = self.0.get(&q) else {
             return Joint::NotAsked;

@@ -49,11 +49,7 @@ pub fn answer_all(
             Err(_) => return Err(Fault::Read),
         };
         let is_end = block.is_empty();
-        let taken = if is_end {
-            answering.take_last(&begun)
-        } else {
-            answering.take_block(block, &mut begun)
-        };
+        let taken = if is_end { answering.take_last(&begun) } else { answering.take_block(block, &mut begun) };
         let size = block.len();
         input.consume(size);
         output.write_all(&answering.replies).and_then(|()| output.flush()).map_err(|_| Fault::Write)?;

@@ -15,6 +15,7 @@ pub enum Item {
     Carried { k: u32, stamp: u32, message: Rc<Message> },
 }
 
+/// One link: the sending end, the wire, and how many frames the receiving end has accepted.
 #[derive(Default)]
 pub struct Link {
     /// The last items that were put on it, as many as the window holds.
@@ -39,6 +40,7 @@ impl Link {
         self.pushed - self.relayed + count <= window
     }
 
+    /// Puts an item on the link; where the window is full the oldest is kept no longer.
     pub fn push(&mut self, item: Item, window: u32) {
         if self.items.len() == window as usize {
             self.items.pop_front();

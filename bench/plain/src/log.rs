@@ -7,6 +7,7 @@ use crate::party::Party;
 /// A place in a log.
 pub type Place = u32;
 
+/// An item that was applied, and who sent it.
 pub struct LogEntry {
     pub sender: Party,
     pub item: Item,
@@ -17,11 +18,13 @@ pub struct LogEntry {
 pub struct Log(Vec<LogEntry>);
 
 impl Log {
+    /// Adds an entry: its place.
     pub fn push(&mut self, sender: Party, item: Item) -> Place {
         self.0.push(LogEntry { sender, item });
         self.0.len() as Place - 1
     }
 
+    /// The entry at a place.
     pub fn entry(&self, place: Place) -> &LogEntry {
         &self.0[place as usize]
     }

@@ -65,6 +65,7 @@ pub struct Answer {
     pub q: u32,
 }
 
+/// A message of one of the eight kinds.
 pub enum Message {
     Master(Box<Master>),
     Upload(Upload),
@@ -111,24 +112,14 @@ impl Message {
     }
 }
 
-const MASTER: [&str; 11] = [
-    "common", "form", "gtin", "markets", "msg", "name", "pack_size", "pack_type", "scheme", "strength", "v",
-];
+const MASTER: [&str; 11] =
+    ["common", "form", "gtin", "markets", "msg", "name", "pack_size", "pack_type", "scheme", "strength", "v"];
 const UPLOAD: [&str; 5] = ["batch", "expiry", "gtin", "msg", "serials"];
 const SECOND_UPLOAD: [&str; 7] = ["batch", "expiry", "gtin", "msg", "national", "serials", "v"];
 const STATUS: [&str; 7] = ["at", "gtin", "msg", "serial", "to", "user", "v"];
 const RECALL: [&str; 5] = ["at", "batch", "gtin", "msg", "v"];
-const REPACK: [&str; 9] = [
-    "after_batch",
-    "after_gtin",
-    "after_serials",
-    "at",
-    "before_batch",
-    "before_gtin",
-    "before_serials",
-    "msg",
-    "v",
-];
+const REPACK: [&str; 9] =
+    ["after_batch", "after_gtin", "after_serials", "at", "before_batch", "before_gtin", "before_serials", "msg", "v"];
 const QUERY: [&str; 4] = ["gtin", "msg", "serial", "v"];
 const ANSWER: [&str; 7] = ["asker", "found", "gtin", "msg", "q", "serial", "v"];
 const WITHDRAWAL: [&str; 4] = ["at", "gtin", "msg", "v"];

@@ -15,6 +15,7 @@ enum Kept {
     Own(u32),
 }
 
+/// All packs that an upload or a status names.
 #[derive(Default)]
 pub struct Packs {
     /// The packs of each product, by their serial numbers.

@@ -3,6 +3,7 @@
 /// A party, by its number, which is below 64.
 pub type Party = u8;
 
+/// A system has so many parties at most.
 pub const MOST_PARTIES: usize = 64;
 
 /// A set of parties, with a bit for each.
@@ -15,22 +16,27 @@ impl PartySet {
         (0..count as Party).collect()
     }
 
+    /// Puts a party in.
     pub fn insert(&mut self, party: Party) {
         self.0 |= 1 << party;
     }
 
+    /// Takes a party out.
     pub fn remove(&mut self, party: Party) {
         self.0 &= !(1 << party);
     }
 
+    /// Whether a party is in it.
     pub fn contains(self, party: Party) -> bool {
         self.0 & 1 << party != 0
     }
 
+    /// Whether no party is in it.
     pub fn is_empty(self) -> bool {
         self.0 == 0
     }
 
+    /// How many parties are in it.
     pub fn len(self) -> u32 {
         self.0.count_ones()
     }

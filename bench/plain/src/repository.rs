@@ -20,6 +20,7 @@ pub enum Effect {
     Uploaded { new: usize, old: usize },
 }
 
+/// A repository of a party.
 pub struct Repository {
     party: Party,
     log: Log,
@@ -33,6 +34,7 @@ pub struct Repository {
 }
 
 impl Repository {
+    /// A repository that has applied nothing.
     pub fn new(party: Party) -> Repository {
         Repository {
             party,

@@ -35,6 +35,7 @@ pub enum Step {
     Lose(LinkKey),
 }
 
+/// What a line asks.
 pub enum Request {
     Open(Opening),
     Step(Step),

@@ -22,18 +22,22 @@ impl Stops {
         add(&mut self.withdrawals, gtin, stamp)
     }
 
+    /// Whether a batch is recalled.
     pub fn is_recalled(&self, batch: &BatchKey) -> bool {
         self.recalls.contains_key(batch)
     }
 
+    /// Whether a product is withdrawn.
     pub fn is_withdrawn(&self, gtin: Gtin) -> bool {
         self.withdrawals.contains_key(&gtin)
     }
 
+    /// Whether a recall of a batch has a smaller stamp.
     pub fn is_recalled_before(&self, batch: &BatchKey, stamp: u32) -> bool {
         self.recalls.get(batch).is_some_and(|first| *first < stamp)
     }
 
+    /// Whether a withdrawal of a product has a smaller stamp.
     pub fn is_withdrawn_before(&self, gtin: Gtin, stamp: u32) -> bool {
         self.withdrawals.get(&gtin).is_some_and(|first| *first < stamp)
     }

@@ -15,11 +15,13 @@ impl Text<'_> {
         self
     }
 
+    /// A number in decimal.
     pub fn number(&mut self, number: impl itoa::Integer) -> &mut Self {
         self.0.extend_from_slice(itoa::Buffer::new().format(number).as_bytes());
         self
     }
 
+    /// True or false.
     pub fn truth(&mut self, is_true: bool) -> &mut Self {
         self.put(if is_true { "true" } else { "false" })
     }
@@ -30,6 +32,7 @@ impl Text<'_> {
         self
     }
 
+    /// The 14 digits of a product code.
     fn gtin(&mut self, gtin: Gtin) -> &mut Self {
         self.0.extend_from_slice(&gtin.digits());
         self
@@ -39,7 +42,7 @@ impl Text<'_> {
     fn code(&mut self, code: &Code) -> &mut Self {
         let text = code.text();
         self.0.push(b'"');
-        if text.contains(&b'"') {
+        if code.has_quote() {
             for byte in text {
                 self.0.extend_from_slice(if *byte == b'"' { b"\\\"" } else { slice::from_ref(byte) });
             }
@@ -50,6 +53,7 @@ impl Text<'_> {
         self
     }
 
+    /// A code, or null for none.
     fn code_or_null(&mut self, code: Option<&Code>) -> &mut Self {
         match code {
             Some(code) => self.code(code),
@@ -57,6 +61,7 @@ impl Text<'_> {
         }
     }
 
+    /// A list of codes.
     fn codes(&mut self, codes: &[Code]) -> &mut Self {
         for (place, code) in codes.iter().enumerate() {
             self.0.push(if place == 0 { b'[' } else { b',' });

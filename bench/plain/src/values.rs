@@ -10,6 +10,8 @@ const END_OF_TIME: u64 = 4_102_444_800;
 /// The days from 0000-03-01 to 1970-01-01.
 const EPOCH: u32 = 719_468;
 const CODE_BYTES: usize = 20;
+/// So many bytes of a code are looked at without a branch for each; those behind its text are no characters of codes.
+const LOOKED_AT: usize = 32;
 
 /// A product code: the number that its 14 digits write.
 #[derive(Clone, Copy, PartialEq, Eq, PartialOrd, Ord, Hash)]
@@ -44,6 +46,7 @@ pub struct BatchKey {
     pub batch: Code,
 }
 
+/// How a pack stands.
 #[derive(Clone, Copy, PartialEq, Eq)]
 pub enum Standing {
     Active,
@@ -57,6 +60,7 @@ pub enum Standing {
 }
 
 impl Gtin {
+    /// The product code that a text of 8, 12, 13 or 14 digits writes.
     pub fn read(text: &str) -> Result<Gtin, ValueFault> {
         let digits = text.as_bytes();
         if !matches!(digits.len(), 8 | 12 | 13 | 14) {
@@ -65,7 +69,7 @@ impl Gtin {
         if !digits.iter().all(u8::is_ascii_digit) {
             return Err(ValueFault::GtinDigit);
         }
-        let (mut number, mut sum, mut weight) = (0, 0, if digits.len() % 2 == 0 { 3 } else { 1 });
+        let (mut number, mut sum, mut weight) = (0, 0, if digits.len().is_multiple_of(2) { 3 } else { 1 });
         for digit in digits {
             let digit = u64::from(digit - b'0');
             number = number * 10 + digit;
@@ -92,13 +96,14 @@ impl Gtin {
 
 /// Whether a byte is one of the 82 characters of codes.
 fn is_code_character(byte: u8) -> bool {
-    byte.is_ascii_alphanumeric() | matches!(byte, b'!' | b'"' | b'%'..=b'?' | b'_')
+    byte.is_ascii_alphabetic() | matches!(byte, b'!' | b'"' | b'%'..=b'?' | b'_')
 }
 
 impl Code {
     /// It comes before each code.
     pub const LEAST: Code = Code([0; CODE_BYTES]);
 
+    /// The code that a text is.
     pub fn read(text: &str) -> Result<Code, ValueFault> {
         let text = text.as_bytes();
         if text.is_empty() {
@@ -107,21 +112,27 @@ impl Code {
         if text.len() > CODE_BYTES {
             return Err(ValueFault::LongCode);
         }
-        let mut bytes = [0; CODE_BYTES];
+        let mut bytes = [0; LOOKED_AT];
         bytes[..text.len()].copy_from_slice(text);
-        // All bytes are looked at, without a branch for each; those behind the text are no characters of codes.
         let legal: u8 = bytes.iter().map(|byte| u8::from(is_code_character(*byte))).sum();
-        if usize::from(legal) == text.len() {
-            return Ok(Code(bytes));
+        if usize::from(legal) < text.len() {
+            let place = text.iter().take_while(|byte| is_code_character(**byte)).count();
+            return Err(ValueFault::CodeCharacter(place + 1));
         }
-        let place = text.iter().take_while(|byte| is_code_character(**byte)).count();
-        Err(ValueFault::CodeCharacter(place + 1))
+        let mut code = Code::LEAST;
+        code.0.copy_from_slice(&bytes[..CODE_BYTES]);
+        Ok(code)
     }
 
     /// Its characters.
     pub fn text(&self) -> &[u8] {
-        let length: u8 = self.0.iter().map(|byte| u8::from(*byte != 0)).sum();
-        &self.0[..usize::from(length)]
+        let last = self.0.iter().rposition(|byte| *byte != 0);
+        &self.0[..last.map_or(0, |last| last + 1)]
+    }
+
+    /// Whether a quote is among them, the one that JSON spells otherwise.
+    pub fn has_quote(&self) -> bool {
+        self.0.iter().fold(false, |has, byte| has | (*byte == b'"'))
     }
 }
 
@@ -133,6 +144,7 @@ impl Hash for Code {
 }
 
 impl Expiry {
+    /// The date that six digits YYMMDD write, the day 00 being the last of the month.
     pub fn read(text: &str) -> Result<Expiry, ValueFault> {
         let digits: &[u8; 6] = text.as_bytes().try_into().map_err(|_| ValueFault::Expiry)?;
         if !digits.iter().all(u8::is_ascii_digit) {
@@ -192,6 +204,7 @@ pub fn read_moment(seconds: u64) -> Result<u64, ValueFault> {
 }
 
 impl Standing {
+    /// The standing of a name.
     pub fn read(text: &str) -> Option<Standing> {
         Some(match text {
             "active" => Standing::Active,
@@ -206,6 +219,7 @@ impl Standing {
         })
     }
 
+    /// Its name.
     pub fn name(self) -> &'static str {
         match self {
             Standing::Active => "active",

@@ -45,12 +45,22 @@ pub enum Reply {
     Verdict(Verdict),
     Asked(u32),
     Joint(Joint),
-    Routed { k: u32, reach: PartySet },
+    Routed {
+        k: u32,
+        reach: PartySet,
+    },
     Relayed(u32),
     /// A frame was applied; a query was answered by the party's message of this number.
-    Applied { number: u32, effect: Effect, answer: Option<u32> },
+    Applied {
+        number: u32,
+        effect: Effect,
+        answer: Option<u32>,
+    },
     Old(u32),
-    Gap { number: u32, expected: u32 },
+    Gap {
+        number: u32,
+        expected: u32,
+    },
     Repeated(u32),
     Closed,
     Lost(u32),
@@ -64,6 +74,7 @@ struct Submissions {
     count: u32,
 }
 
+/// The system: one process plays the hub, the links and all parties.
 pub struct World {
     wire: usize,
     uplink: usize,
@@ -76,6 +87,7 @@ pub struct World {
 }
 
 impl World {
+    /// Opens a system.
     pub fn open(opening: &Opening) -> Result<World, Refusal> {
         let count = opening.parties.len();
         check_opening(opening)?;
@@ -90,6 +102,7 @@ impl World {
         })
     }
 
+    /// Takes a step.
     pub fn step(&mut self, step: Step) -> Result<Reply, Refusal> {
         match step {
             Step::Submit { from, message } => self.submit(from, message),

@@ -3,7 +3,8 @@ pub mod InputLemmas
 pub mod OutputLemmas
 pub mod RepliesLemmas
 pub mod ListLemmas
-pub mod ReplyLineLemmas
+pub mod WritingLemmas
+pub mod KeyOrderLemmas
 pub mod ServedLemmas
 pub mod CanonLemmas
 pub mod CommandLemmas

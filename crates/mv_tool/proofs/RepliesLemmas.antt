@@ -1,5 +1,5 @@
 -- Lemmas on replies to lines that come in parts.
-use Rattle.std.proofs.Common.{◌≡◌, ℕ, List, [], ◌∷◌, ◌++◌, ◌≢◌, refl, length, arith, sym, ap, subst, append-nil}
+use Rattle.std.proofs.Common.{◌≡◌, ℕ, List, [], ◌∷◌, ◌++◌, ◌≢◌, refl, length, arith, sym, ap, subst, append-nil, append_assoc, ◌∙◌}
 use Rattle.std.specs.Prelude.{cond}
 use Rattle.std.proofs.lemmas.Grind.{flat_map-append}
 use Rattle.std.specs.Io.BufRead.{strip_last}
@@ -53,8 +53,11 @@ module _ {S : Type 0} (Reply : S → List ℕ → List ℕ → S → Type 0) whe
   one_line (x ∷ xs) some = refl
 
   -- another piece adds the reply to its line
-  pub reply_added : (kept items piece line text pushed : List ℕ) (a b : S) → line ≡ strip_last 13 piece → line ≢ [] → Reply a line text b
-      → pushed ≡ text ++ 10 ∷ [] → items ≡ kept ++ pushed
+  pub reply_added : (kept written items piece line : List ℕ) (a b : S) → line ≡ strip_last 13 piece → line ≢ []
+      → (text : List ℕ) × (written ≡ kept ++ text) × Reply a line text b → items ≡ written ++ 10 ∷ []
       → (out : List ℕ) × (items ≡ kept ++ out) × IsReplies Reply a (lines_of (piece ∷ [])) out b
-  reply_added kept items piece line text pushed a b stripped some reply ended grown =
-      (pushed, grown, rw (← stripped, one_line line some, ended) (IsReplies-one a b line text reply))
+  reply_added kept written items piece line a b stripped some (text, grown, reply) ended = (
+    text ++ 10 ∷ [],
+    ended ∙ ap (λ l. l ++ 10 ∷ []) grown ∙ append_assoc kept text (10 ∷ []),
+    rw (← stripped, one_line line some) (IsReplies-one a b line text reply),
+  )

@@ -7,6 +7,8 @@ pub mod Reading
 pub mod Kinds
 pub mod Requests
 pub mod ReplyLines
+pub mod Writing
+pub mod KeyOrder
 pub mod Openings
 pub mod Sessions
 pub mod Canon

@@ -1,7 +1,8 @@
 //! What the engine asks of that which answers the lines.
 
-ghost use Rattle.std.specs.Prelude.{◌≡◌, IfOk, string_bytes};
+ghost use Rattle.std.specs.Prelude.{◌≡◌, IfOk, IfErr};
 ghost use Rattle.mv_tool.specs.Replies.{ReplyRule};
+ghost use Rattle.mv_tool.specs.Served.{Readied};
 
 use std::alloc::AllocError;
 
@@ -10,7 +11,10 @@ pub(crate) trait Answering {
     /// Which replies are right.
     ghost replies: { ReplyRule Self };
 
-    /// The reply's text to a line that isn't empty.
-    fn answer(&mut self, line: &[u8]) -> Result<String, AllocError>
-        ensures { IfOk result (λ text. replies self.old line.now (string_bytes text) self.new) };
+    /// Writes the reply's text to a line that isn't empty behind what the buffer holds. Where memory is refused the buffer
+    /// is as it was.
+    fn answer(&mut self, line: &[u8], out: &mut Vec<u8>) -> Result<(), AllocError>
+        ensures ok { IfOk result (λ _. Readied out.old.items out.new.items (λ text.
+            replies self.old line.now text self.new)) }
+        ensures err { IfErr result (λ _. out.new.items ≡ out.old.items) };
 }

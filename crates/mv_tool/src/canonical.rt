@@ -8,7 +8,7 @@ ghost use Rattle.mv_tool.specs.Served.{Served, Ended};
 use crate::ServeFault;
 use crate::answering::Answering;
 use crate::engine::answer_lines;
-use crate::reply_line::message_fault_text;
+use crate::reply_line::append;
 use mv_message::{Message, MessageFault};
 use std::alloc::{AllocError, Global};
 use std::io::{Read, Write};
@@ -31,14 +31,11 @@ impl Model for Canonizer {
 impl Answering for Canonizer {
     ghost replies = { IsCanon };
 
-    fn answer(&mut self, line: &[u8]) -> Result<String, AllocError> {
+    fn answer(&mut self, line: &[u8], out: &mut Vec<u8>) -> Result<(), AllocError> {
         match Message::read(self.alloc, line) {
-            Ok(message) => match message.text(self.alloc) {
-                Ok(text) => Ok(text),
-                Err(_) => Err(AllocError),
-            },
+            Ok(message) => message.write_text(self.alloc, out),
             Err(MessageFault::Memory) => Err(AllocError),
-            Err(fault) => message_fault_text(self.alloc, &fault),
+            Err(fault) => append(self.alloc, out, &fault),
         }
     }
 }

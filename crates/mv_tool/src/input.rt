@@ -154,9 +154,12 @@ impl Input {
         if line.is_empty() {
             return Ok(());
         }
-        let mut text = answering.answer(line)?;
-        text.push('\n')?;
-        self.replies.extend_from_slice(text.as_bytes())?;
+        let kept = self.replies.len();
+        answering.answer(line, &mut self.replies)?;
+        if self.replies.push(b'\n').is_err() {
+            self.replies.truncate(kept);
+            return Err(ServeFault::Memory);
+        }
         Ok(())
     }
 

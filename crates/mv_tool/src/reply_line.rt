@@ -1,235 +1,339 @@
-//! The texts of replies: each is the canonical text of one JSON object.
+//! The replies, each written as the canonical text of one JSON object.
 
-ghost use Rattle.std.specs.Prelude.{◌≡◌, None, Some, IfOk, map, string_bytes};
-ghost use Rattle.serde_json.specs.View.{view};
+ghost use Rattle.std.specs.Prelude.{◌≡◌, IfOk, string_bytes};
+ghost use Rattle.serde_json.specs.Data.{Data};
 ghost use Rattle.serde_json.specs.Written.{compact_text};
-ghost use Rattle.mv_tool.specs.ReplyLines.{whole, refused, refused_field, refused_pack, message_fault_value, line_fault_value, refusal_value, opened_value, verdict_value, joint_value, reply_value};
+ghost use Rattle.mv_tool.specs.Writing.{Appended, Adds};
+ghost use Rattle.mv_tool.specs.ReplyLines.{refused, refused_field, refused_pack, message_fault_value, line_fault_value, refusal_value, opened_value, verdict_value, joint_value, reply_value};
 
 use crate::LineFault;
+use crate::members::{Member, write_object};
+use json::Writer;
 use mv_machine::{Refusal, Reply};
-use mv_message::{MessageFault, Party};
+use mv_message::MessageFault;
 use mv_pack::PackFault;
 use mv_repository::{Effect, Joint, Verdict};
-use serde_json::{Value, json};
 use std::alloc::{AllocError, Global};
+use std::mem;
+
+/// What answers a line. It is written as one JSON object.
+pub(crate) trait ReplyLine {
+    /// The value of the object.
+    ghost value: { Self → Data };
+
+    /// Writes the object.
+    fn write(&self, writer: &mut Writer) -> Result<(), AllocError>
+        ensures before { writer.new.before ≡ writer.old.before }
+        ensures added { Adds result writer.old writer.new (value self.now) };
+}
+
+/// Writes the canonical text of a reply behind what the buffer holds. Where memory is refused the buffer is as it was.
+pub(crate) fn append<T: ReplyLine>(
+    alloc: Global,
+    out: &mut Vec<u8>,
+    reply: &T,
+) -> Result<(), AllocError>
+    ensures { Appended result out.old.items out.new.items (T.value reply.now) }
+{
+    let kept = out.len();
+    let mut writer = Writer::new(mem::replace(out, Vec::new(alloc)));
+    let written = reply.write(&mut writer);
+    *out = writer.into_inner();
+    if written.is_err() {
+        out.truncate(kept);
+    }
+    written
+}
 
 /// The text of the reply to a step.
-#[tactic(auto, using(crate::proofs::ReplyLineLemmas::reply_no_float))]
 pub fn reply_text(alloc: Global, reply: &Reply) -> Result<String, AllocError>
     ensures { IfOk result (λ text. string_bytes text ≡ compact_text (reply_value reply.now)) }
 {
-    reply_to_value(alloc, reply)?.to_string(alloc)
+    let mut writer = Writer::new(Vec::new(alloc));
+    reply.write(&mut writer)?;
+    Ok(unsafe { String::from_utf8_unchecked(writer.into_inner()) })
 }
 
-/// The text of the refusal of a line that asks nothing.
-#[tactic(auto, using(crate::proofs::ReplyLineLemmas::line_fault_no_float))]
-pub(crate) fn line_fault_text(alloc: Global, fault: &LineFault) -> Result<String, AllocError>
-    ensures { IfOk result (λ text. string_bytes text ≡ compact_text (line_fault_value fault.now)) }
-{
-    line_fault_to_value(alloc, fault)?.to_string(alloc)
-}
+/// The reply to a step.
+impl ReplyLine for Reply {
+    ghost value = { reply_value };
 
-/// The text of the refusal of a message.
-#[tactic(auto, using(crate::proofs::ReplyLineLemmas::message_fault_no_float))]
-pub(crate) fn message_fault_text(alloc: Global, fault: &MessageFault) -> Result<String, AllocError>
-    ensures { IfOk result (λ text. string_bytes text ≡ compact_text (message_fault_value fault.now)) }
-{
-    message_fault_to_value(alloc, fault)?.to_string(alloc)
-}
-
-/// The text of the reply to an opening with so many parties.
-pub(crate) fn opened_text(alloc: Global, count: u32) -> Result<String, AllocError>
-    ensures { IfOk result (λ text. string_bytes text ≡ compact_text (opened_value count)) }
-{
-    opened_to_value(alloc, count)?.to_string(alloc)
-}
-
-/// The text of a refusal by its number.
-pub(crate) fn refused_text(alloc: Global, code: &str) -> Result<String, AllocError>
-    ensures { IfOk result (λ text. string_bytes text ≡ compact_text (refused code.now)) }
-{
-    refused(alloc, code)?.to_string(alloc)
-}
-
-/// The value of the reply to a step.
-fn reply_to_value(alloc: Global, reply: &Reply) -> Result<Value, AllocError>
-    ensures { IfOk result (λ value. view value ≡ reply_value reply.now) }
-{
-    match reply {
-        Reply::Submitted { k } => json!(in alloc; { "submitted": *k }),
-        Reply::Routed { k, reach } => {
-            let reach = party_values(alloc, reach.as_slice())?;
-            json!(in alloc; { "reach": reach, "routed": *k })
+    fn write(&self, writer: &mut Writer) -> Result<(), AllocError> {
+        match self {
+            Reply::Submitted { k } => write_object(
+                writer,
+                &[Member::Number("submitted", u64::from(*k))],
+            ),
+            Reply::Routed { k, reach } => write_object(
+                writer,
+                &[
+                    Member::Parties("reach", reach.as_slice()),
+                    Member::Number("routed", u64::from(*k)),
+                ],
+            ),
+            Reply::Relayed { number } => write_object(
+                writer,
+                &[Member::Number("relayed", u64::from(*number))],
+            ),
+            Reply::Known(verdict) => write_verdict(writer, *verdict),
+            Reply::Asked { q } => write_object(writer, &[Member::Number("asked", u64::from(*q))]),
+            Reply::Applied {
+                number,
+                effect,
+                answer: None,
+            } => write_applied(writer, *number, *effect),
+            Reply::Applied {
+                number,
+                effect,
+                answer: Some(answer),
+            } => write_answered(writer, *number, *effect, *answer),
+            Reply::Old { number } => write_object(
+                writer,
+                &[Member::Number("old", u64::from(*number))],
+            ),
+            Reply::Gap { number, expected } => write_object(
+                writer,
+                &[
+                    Member::Number("expected", u64::from(*expected)),
+                    Member::Number("gap", u64::from(*number)),
+                ],
+            ),
+            Reply::Repeated { number } => write_object(
+                writer,
+                &[Member::Number("repeated", u64::from(*number))],
+            ),
+            Reply::Closed => write_object(writer, &[Member::Flag("closed", true)]),
+            Reply::Lost { number } => write_object(
+                writer,
+                &[Member::Number("lost", u64::from(*number))],
+            ),
+            Reply::Joint(verdict) => write_joint(writer, *verdict),
+            Reply::Refused(refusal) => write_refusal(writer, *refusal),
         }
-        Reply::Relayed { number } => json!(in alloc; { "relayed": *number }),
-        Reply::Known(verdict) => verdict_to_value(alloc, *verdict),
-        Reply::Asked { q } => json!(in alloc; { "asked": *q }),
-        Reply::Applied {
-            number,
-            effect,
-            answer: None,
-        } => applied_to_value(alloc, *number, *effect),
-        Reply::Applied {
-            number,
-            effect,
-            answer: Some(answer),
-        } => answered_to_value(alloc, *number, *effect, *answer),
-        Reply::Old { number } => json!(in alloc; { "old": *number }),
-        Reply::Gap { number, expected } => {
-            json!(in alloc; { "expected": *expected, "gap": *number })
-        }
-        Reply::Repeated { number } => json!(in alloc; { "repeated": *number }),
-        Reply::Closed => json!(in alloc; { "closed": true }),
-        Reply::Lost { number } => json!(in alloc; { "lost": *number }),
-        Reply::Joint(verdict) => joint_to_value(alloc, *verdict),
-        Reply::Refused(refusal) => refusal_to_value(alloc, *refusal),
     }
 }
 
-/// The value of a reply that a frame was applied.
-fn applied_to_value(alloc: Global, number: u32, effect: Effect) -> Result<Value, AllocError>
-    ensures { IfOk result (λ value. view value ≡ reply_value (Reply.Applied number effect None)) }
+/// The refusal of a line that asks nothing.
+impl ReplyLine for LineFault {
+    ghost value = { line_fault_value };
+
+    fn write(&self, writer: &mut Writer) -> Result<(), AllocError> {
+        match self {
+            LineFault::NotJson => write_refused(writer, "M1"),
+            LineFault::NotObject => write_refused(writer, "M2"),
+            LineFault::Missing(field) => write_refused_field(writer, field.as_str(), "M3"),
+            LineFault::Unknown(key) => write_refused_field(writer, key.as_str(), "M4"),
+            LineFault::Kind(field) => write_refused_field(writer, field.as_str(), "M5"),
+            LineFault::Pack(field, fault) => write_refused_pack(writer, *fault, field.as_str()),
+            LineFault::Message(fault) => fault.write(writer),
+            LineFault::Memory => write_refused(writer, "M9"),
+        }
+    }
+}
+
+/// The refusal of a message.
+impl ReplyLine for MessageFault {
+    ghost value = { message_fault_value };
+
+    fn write(&self, writer: &mut Writer) -> Result<(), AllocError> {
+        let code = self.code();
+        match self {
+            MessageFault::Missing(field) => write_refused_field(writer, field.as_str(), code),
+            MessageFault::Unknown(key) => write_refused_field(writer, key.as_str(), code),
+            MessageFault::Kind(field) => write_refused_field(writer, field.as_str(), code),
+            MessageFault::Pack(field, fault) => write_refused_pack(writer, *fault, field.as_str()),
+            MessageFault::Count(field) => write_refused_field(writer, field.as_str(), code),
+            MessageFault::TextLength(field) => write_refused_field(writer, field.as_str(), code),
+            MessageFault::NotJson => write_refused(writer, code),
+            MessageFault::NotObject => write_refused(writer, code),
+            MessageFault::Memory => write_refused(writer, code),
+        }
+    }
+}
+
+/// The reply to an opening with so many parties.
+#[derive(Clone, Copy, Drop)]
+pub(crate) struct Opened {
+    pub(crate) count: u32,
+}
+
+impl ReplyLine for Opened {
+    ghost value = { λ opened. opened_value opened.count };
+
+    fn write(&self, writer: &mut Writer) -> Result<(), AllocError> {
+        write_object(writer, &[Member::Number("opened", u64::from(self.count))])
+    }
+}
+
+/// A refusal by its number.
+#[derive(Clone, Copy, Drop)]
+pub(crate) struct Refused {
+    pub(crate) code: &'static str,
+}
+
+impl ReplyLine for Refused {
+    ghost value = { λ refusal. refused refusal.code.now };
+
+    fn write(&self, writer: &mut Writer) -> Result<(), AllocError> {
+        write_refused(writer, self.code)
+    }
+}
+
+/// Writes the reply that a frame was applied.
+fn write_applied(writer: &mut Writer, number: u32, effect: Effect) -> Result<(), AllocError>
+    ensures before { writer.new.before ≡ writer.old.before }
+    ensures added { Adds result writer.old writer.new (reply_value (Reply.Applied number effect None)) }
 {
     let code = effect.code();
     match effect {
-        Effect::Uploaded { new, old } => {
-            json!(in alloc; { "applied": number, "effect": code, "new": new, "old": old })
-        }
-        _ => json!(in alloc; { "applied": number, "effect": code }),
+        Effect::Uploaded { new, old } => write_object(
+            writer,
+            &[
+                Member::Number("applied", u64::from(number)),
+                Member::Text("effect", code),
+                Member::Number("new", new),
+                Member::Number("old", old),
+            ],
+        ),
+        _ => write_object(
+            writer,
+            &[
+                Member::Number("applied", u64::from(number)),
+                Member::Text("effect", code),
+            ],
+        ),
     }
 }
 
-/// The value of a reply that a frame was applied, and called for an answer.
-fn answered_to_value(
-    alloc: Global,
+/// Writes the reply that a frame was applied, and called for an answer.
+fn write_answered(
+    writer: &mut Writer,
     number: u32,
     effect: Effect,
     answer: u32,
-) -> Result<Value, AllocError>
-    ensures { IfOk result (λ value.
-        view value ≡ reply_value (Reply.Applied number effect (Some answer))) }
+) -> Result<(), AllocError>
+    ensures before { writer.new.before ≡ writer.old.before }
+    ensures added { Adds result writer.old writer.new
+        (reply_value (Reply.Applied number effect (Some answer))) }
 {
     let code = effect.code();
     match effect {
-        Effect::Uploaded { new, old } => json!(in alloc; {
-            "answer": answer,
-            "applied": number,
-            "effect": code,
-            "new": new,
-            "old": old
-        }),
-        _ => json!(in alloc; { "answer": answer, "applied": number, "effect": code }),
+        Effect::Uploaded { new, old } => write_object(
+            writer,
+            &[
+                Member::Number("answer", u64::from(answer)),
+                Member::Number("applied", u64::from(number)),
+                Member::Text("effect", code),
+                Member::Number("new", new),
+                Member::Number("old", old),
+            ],
+        ),
+        _ => write_object(
+            writer,
+            &[
+                Member::Number("answer", u64::from(answer)),
+                Member::Number("applied", u64::from(number)),
+                Member::Text("effect", code),
+            ],
+        ),
     }
 }
 
-/// The value of a verdict on a pack.
-fn verdict_to_value(alloc: Global, verdict: Verdict) -> Result<Value, AllocError>
-    ensures { IfOk result (λ value. view value ≡ verdict_value verdict) }
+/// Writes a verdict on a pack.
+fn write_verdict(writer: &mut Writer, verdict: Verdict) -> Result<(), AllocError>
+    ensures before { writer.new.before ≡ writer.old.before }
+    ensures added { Adds result writer.old writer.new (verdict_value verdict) }
 {
     match verdict {
-        Verdict::Authentic => json!(in alloc; { "verdict": "authentic" }),
-        Verdict::NotAuthentic { falsification } => {
-            json!(in alloc; { "falsification": falsification, "verdict": "not authentic" })
-        }
+        Verdict::Authentic => write_object(writer, &[Member::Text("verdict", "authentic")]),
+        Verdict::NotAuthentic { falsification } => write_object(
+            writer,
+            &[
+                Member::Flag("falsification", falsification),
+                Member::Text("verdict", "not authentic"),
+            ],
+        ),
     }
 }
 
-/// The value of the verdict of all that were asked.
-fn joint_to_value(alloc: Global, verdict: Joint) -> Result<Value, AllocError>
-    ensures { IfOk result (λ value. view value ≡ joint_value verdict) }
+/// Writes the verdict of all that were asked.
+fn write_joint(writer: &mut Writer, verdict: Joint) -> Result<(), AllocError>
+    ensures before { writer.new.before ≡ writer.old.before }
+    ensures added { Adds result writer.old writer.new (joint_value verdict) }
 {
     match verdict {
-        Joint::NotAsked => json!(in alloc; { "verdict": "not asked" }),
-        Joint::Pending { left } => json!(in alloc; { "left": left, "verdict": "pending" }),
-        Joint::Decided(verdict) => verdict_to_value(alloc, verdict),
+        Joint::NotAsked => write_object(writer, &[Member::Text("verdict", "not asked")]),
+        Joint::Pending { left } => write_object(
+            writer,
+            &[
+                Member::Number("left", u64::from(left)),
+                Member::Text("verdict", "pending"),
+            ],
+        ),
+        Joint::Decided(verdict) => write_verdict(writer, verdict),
     }
 }
 
-/// The parties, as values.
-fn party_values(alloc: Global, parties: &[Party]) -> Result<Vec<Value>, AllocError>
-    ensures { IfOk result (λ values. map view values.items ≡ map whole parties.now) }
+/// Writes the refusal of a step.
+fn write_refusal(writer: &mut Writer, refusal: Refusal) -> Result<(), AllocError>
+    ensures before { writer.new.before ≡ writer.old.before }
+    ensures added { Adds result writer.old writer.new (refusal_value refusal) }
 {
-    let mut values = Vec::new(alloc);
-    for party in parties {
-        values.push(Value::from(*party))?;
-    }
-    Ok(values)
-}
-
-/// The value of the refusal of a step.
-fn refusal_to_value(alloc: Global, refusal: Refusal) -> Result<Value, AllocError>
-    ensures { IfOk result (λ value. view value ≡ refusal_value refusal) }
-{
+    let code = refusal.code();
     match refusal {
-        Refusal::Busy(party) => json!(in alloc; { "party": party, "refused": "S6" }),
-        _ => refused(alloc, refusal.code()),
+        Refusal::Busy(party) => write_object(
+            writer,
+            &[
+                Member::Number("party", u64::from(party)),
+                Member::Text("refused", code),
+            ],
+        ),
+        _ => write_refused(writer, code),
     }
 }
 
-/// The value of the refusal of a line that asks nothing.
-fn line_fault_to_value(alloc: Global, fault: &LineFault) -> Result<Value, AllocError>
-    ensures { IfOk result (λ value. view value ≡ line_fault_value fault.now) }
+/// Writes a refusal by its number.
+fn write_refused(writer: &mut Writer, code: &str) -> Result<(), AllocError>
+    ensures before { writer.new.before ≡ writer.old.before }
+    ensures added { Adds result writer.old writer.new (refused code.now) }
 {
-    match fault {
-        LineFault::NotJson => refused(alloc, "M1"),
-        LineFault::NotObject => refused(alloc, "M2"),
-        LineFault::Missing(field) => refused_field(alloc, field.as_str(), "M3"),
-        LineFault::Unknown(key) => refused_field(alloc, key.as_str(), "M4"),
-        LineFault::Kind(field) => refused_field(alloc, field.as_str(), "M5"),
-        LineFault::Pack(field, fault) => refused_pack(alloc, *fault, field.as_str()),
-        LineFault::Message(fault) => message_fault_to_value(alloc, fault),
-        LineFault::Memory => refused(alloc, "M9"),
-    }
+    write_object(writer, &[Member::Text("refused", code)])
 }
 
-/// The value of the refusal of a message.
-fn message_fault_to_value(alloc: Global, fault: &MessageFault) -> Result<Value, AllocError>
-    ensures { IfOk result (λ value. view value ≡ message_fault_value fault.now) }
+/// Writes a refusal that names a field.
+fn write_refused_field(writer: &mut Writer, field: &str, code: &str) -> Result<(), AllocError>
+    ensures before { writer.new.before ≡ writer.old.before }
+    ensures added { Adds result writer.old writer.new (refused_field field.now code.now) }
+{
+    write_object(
+        writer,
+        &[Member::Text("field", field), Member::Text("refused", code)],
+    )
+}
+
+/// Writes the refusal of a text that is no value (M6). That of P6 has the place of the character.
+fn write_refused_pack(writer: &mut Writer, fault: PackFault, field: &str) -> Result<(), AllocError>
+    ensures before { writer.new.before ≡ writer.old.before }
+    ensures added { Adds result writer.old writer.new (refused_pack fault field.now) }
 {
     let code = fault.code();
     match fault {
-        MessageFault::Missing(field) => refused_field(alloc, field.as_str(), code),
-        MessageFault::Unknown(key) => refused_field(alloc, key.as_str(), code),
-        MessageFault::Kind(field) => refused_field(alloc, field.as_str(), code),
-        MessageFault::Pack(field, fault) => refused_pack(alloc, *fault, field.as_str()),
-        MessageFault::Count(field) => refused_field(alloc, field.as_str(), code),
-        MessageFault::TextLength(field) => refused_field(alloc, field.as_str(), code),
-        MessageFault::NotJson => refused(alloc, code),
-        MessageFault::NotObject => refused(alloc, code),
-        MessageFault::Memory => refused(alloc, code),
-    }
-}
-
-/// The value of the reply to an opening.
-fn opened_to_value(alloc: Global, count: u32) -> Result<Value, AllocError>
-    ensures { IfOk result (λ value. view value ≡ opened_value count) }
-{
-    json!(in alloc; { "opened": count })
-}
-
-/// The value of a refusal by its number.
-fn refused(alloc: Global, code: &str) -> Result<Value, AllocError>
-    ensures { IfOk result (λ value. view value ≡ refused code.now) }
-{
-    json!(in alloc; { "refused": code })
-}
-
-/// The value of a refusal that names a field.
-fn refused_field(alloc: Global, field: &str, code: &str) -> Result<Value, AllocError>
-    ensures { IfOk result (λ value. view value ≡ refused_field field.now code.now) }
-{
-    json!(in alloc; { "field": field, "refused": code })
-}
-
-/// The value of the refusal of a text that is no value (M6). That of P6 has the place of the character.
-fn refused_pack(alloc: Global, fault: PackFault, field: &str) -> Result<Value, AllocError>
-    ensures { IfOk result (λ value. view value ≡ refused_pack fault field.now) }
-{
-    let code = fault.code();
-    match fault {
-        PackFault::Character(place) => {
-            json!(in alloc; { "fault": code, "field": field, "place": place, "refused": "M6" })
-        }
-        _ => json!(in alloc; { "fault": code, "field": field, "refused": "M6" }),
+        PackFault::Character(place) => write_object(
+            writer,
+            &[
+                Member::Text("fault", code),
+                Member::Text("field", field),
+                Member::Number("place", u64::from(place)),
+                Member::Text("refused", "M6"),
+            ],
+        ),
+        _ => write_object(
+            writer,
+            &[
+                Member::Text("fault", code),
+                Member::Text("field", field),
+                Member::Text("refused", "M6"),
+            ],
+        ),
     }
 }

@@ -1,13 +1,16 @@
 //! Answers the lines of a run of steps.
 
-ghost use Rattle.std.specs.Prelude.{◌≡◌, Ok, None, IfOk, string_bytes};
+ghost use Rattle.std.specs.Prelude.{◌≡◌, Ok, None, IfOk, IfErr};
 ghost use Rattle.mv_hub.specs.Parties.{parties_of};
 ghost use Rattle.mv_machine.specs.Limits.{limits_of};
-ghost use Rattle.mv_tool.specs.Openings.{Gives, of_parties, of_limits};
+ghost use Rattle.mv_tool.specs.Openings.{Gives, code_of, of_parties, of_limits};
+ghost use Rattle.mv_tool.specs.ReplyLines.{refused};
+ghost use Rattle.mv_tool.specs.Served.{Readied};
 ghost use Rattle.mv_tool.specs.Sessions.{IsOpenReply, IsStepReply, IsRequestReply, IsReply};
+ghost use Rattle.mv_tool.specs.Writing.{Appended};
 
 use crate::answering::Answering;
-use crate::reply_line::{line_fault_text, opened_text, refused_text, reply_text};
+use crate::reply_line::{Opened, Refused, append};
 use crate::{LineFault, MarketLists, OpenFault, Request};
 use mv_hub::{HubFault, Parties};
 use mv_machine::{Limits, Step};
@@ -33,11 +36,11 @@ impl Model for Session {
 impl Answering for Session {
     ghost replies = { IsReply };
 
-    fn answer(&mut self, line: &[u8]) -> Result<String, AllocError> {
+    fn answer(&mut self, line: &[u8], out: &mut Vec<u8>) -> Result<(), AllocError> {
         match Request::read(self.alloc, line) {
-            Ok(request) => self.answer_request(request),
+            Ok(request) => self.answer_request(request, out),
             Err(LineFault::Memory) => Err(AllocError),
-            Err(fault) => line_fault_text(self.alloc, &fault),
+            Err(fault) => append(self.alloc, out, &fault),
         }
     }
 }
@@ -50,9 +53,11 @@ impl Session {
         Session { alloc, world: None }
     }
 
-    /// The reply to what a line asks.
-    fn answer_request(&mut self, request: Request) -> Result<String, AllocError>
-        ensures { IfOk result (λ text. IsRequestReply self.old request (string_bytes text) self.new) }
+    /// Writes the reply to what a line asks.
+    fn answer_request(&mut self, request: Request, out: &mut Vec<u8>) -> Result<(), AllocError>
+        ensures ok { IfOk result (λ _. Readied out.old.items out.new.items (λ text.
+            IsRequestReply self.old request text self.new)) }
+        ensures err { IfErr result (λ _. out.new.items ≡ out.old.items) }
     {
         match request {
             Request::Open {
@@ -63,49 +68,60 @@ impl Session {
                 wire,
             } => {
                 let limits = limits_of(window, wire, uplink, submissions);
-                self.open(parties, limits)
+                self.open(parties, limits, out)
             }
-            Request::Step(step) => self.step(&step),
+            Request::Step(step) => self.step(&step, out),
         }
     }
 
-    /// The reply to a line that opens: C2, H1 to H3, O1 to O4, else the system opens.
+    /// Writes the reply to a line that opens: C2, H1 to H3, O1 to O4, else the system opens.
     fn open(
         &mut self,
         lists: MarketLists,
         limits: Result<Limits, OpenFault>,
-    ) -> Result<String, AllocError>
-        ensures { IfOk result (λ text.
-            IsOpenReply self.old (of_parties (parties_of lists)) limits (string_bytes text) self.new) }
+        out: &mut Vec<u8>,
+    ) -> Result<(), AllocError>
+        ensures ok { IfOk result (λ _. Readied out.old.items out.new.items (λ text.
+            IsOpenReply self.old (of_parties (parties_of lists)) limits text self.new)) }
+        ensures err { IfErr result (λ _. out.new.items ≡ out.old.items) }
     {
         if self.world.is_some() {
-            return refused_text(self.alloc, OpenFault::AlreadyOpen.code());
+            return self.refuse(OpenFault::AlreadyOpen, out);
         }
         let parties = match parties_of(self.alloc, lists) {
             Ok(parties) => parties,
             Err(OpenFault::Memory) => return Err(AllocError),
-            Err(fault) => return refused_text(self.alloc, fault.code()),
+            Err(fault) => return self.refuse(fault, out),
         };
         let limits = match limits {
             Ok(limits) => limits,
-            Err(fault) => return refused_text(self.alloc, fault.code()),
+            Err(fault) => return self.refuse(fault, out),
         };
         let count = parties.len();
         self.world = Some(World::open(self.alloc, parties, limits)?);
-        opened_text(self.alloc, count)
+        append(self.alloc, out, &Opened { count })
     }
 
-    /// The reply to a step: C1, else what the system answers.
-    fn step(&mut self, step: &Step) -> Result<String, AllocError>
-        ensures { IfOk result (λ text. IsStepReply self.old step.now (string_bytes text) self.new) }
+    /// Writes the reply to a step: C1, else what the system answers.
+    fn step(&mut self, step: &Step, out: &mut Vec<u8>) -> Result<(), AllocError>
+        ensures ok { IfOk result (λ _. Readied out.old.items out.new.items (λ text.
+            IsStepReply self.old step.now text self.new)) }
+        ensures err { IfErr result (λ _. out.new.items ≡ out.old.items) }
     {
         match &mut self.world {
-            None => refused_text(self.alloc, OpenFault::NotOpen.code()),
+            None => self.refuse(OpenFault::NotOpen, out),
             Some(world) => {
                 let reply = world.step(step);
-                reply_text(self.alloc, &reply)
+                append(self.alloc, out, &reply)
             }
         }
+    }
+
+    /// Writes the refusal of a line by what is open.
+    fn refuse(&self, fault: OpenFault, out: &mut Vec<u8>) -> Result<(), AllocError>
+        ensures { Appended result out.old.items out.new.items (refused (code_of fault)) }
+    {
+        append(self.alloc, out, &Refused { code: fault.code() })
     }
 }
 

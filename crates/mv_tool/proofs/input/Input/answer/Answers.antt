@@ -1,5 +1,4 @@
-use Rattle.std.proofs.Common.{rules, ◌≡◌, ◌≢◌, ◌∷◌, [], ◌++◌, length, sym, ◌∙◌}
-use Rattle.std.specs.Prelude.{string_bytes}
+use Rattle.std.proofs.Common.{rules, ◌≡◌, ◌≢◌, length, sym, ◌∙◌}
 use Rattle.std.specs.Io.BufRead.{strip_last}
 use Rattle.mv_tool.proofs.RepliesLemmas.{nothing_added, reply_added, length_zero, length_none}
 use Rattle.mv_tool.proofs.input.Input.answer.Goals as goal
@@ -18,5 +17,4 @@ returns-clause-ok g c =
     let line = c.without_return-line.result.now in
     let stripped : line ≡ strip_last 13 c.args.self.now.begun.items = search rules in
     let some : length line ≢ 0 = search rules in
-    let ended : c.as_bytes.result.now ≡ string_bytes c.in_ok-text.text ++ 10 ∷ [] = search rules in
-    reply_added g.S.Answering.replies c.args.self.now.replies.items _ c.args.self.now.begun.items line _ _ c.args.answering.now _ stripped (length_none line some) c.in_ok-text.ensures ended c.in_ok-extend_from_slice.ensures.items
+    reply_added g.S.Answering.replies c.args.self.now.replies.items _ _ c.args.self.now.begun.items line c.args.answering.now _ stripped (length_none line some) c.in_ok-answer.ensures.ok (search rules)

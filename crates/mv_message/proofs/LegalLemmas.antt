@@ -184,7 +184,8 @@ answer_spelled Two asker q key part found pack asks number spells = (
 )
 
 -- the value of a legal message spells it
-value_spells : (m : Message) → IsLegal m → Reads (value_of m) m
+-- the value of a legal message is a spelling of it
+pub value_spells : (m : Message) → IsLegal m → Reads (value_of m) m
 value_spells (messages.Master gtin product) h =
     let p = h.1 in (
       One,

@@ -13,4 +13,5 @@ pub mod LegalLemmas
 pub mod OrderLemmas
 pub mod FirstFaultLemmas
 pub mod KeyLemmas
+pub mod EqualityLemmas
 pub mod CanonLemmas

@@ -20,6 +20,10 @@ use Rattle.mv_message.specs.Versions.{version_at}
 abbrev pub ReadsBack : Type 0
 ReadsBack = (message : Message) → IsLegal message → read_message (value_of message) ≡ Ok message
 
+-- the value of a legal message is a spelling of it
+abbrev pub ValuesSpell : Type 0
+ValuesSpell = (message : Message) → IsLegal message → Reads (value_of message) message
+
 -- a value is read as a message exactly where it is a spelling of it
 abbrev pub ReadsExactly : Type 0
 ReadsExactly = (value : Data) (message : Message) → (read_message value ≡ Ok message) ↔ Reads value message

@@ -1,11 +1,19 @@
 //! Laws of the JSON form of messages, a sentence each; what they say holds of every value and message.
 
-ghost use Rattle.mv_message.specs.Laws.{ReadsBack, ReadsExactly, ReadIsLegal, ReadsOne, FirstFaultIsGiven, FieldsAreInOrder, KeysOfValuesAscend};
+ghost use Rattle.std.specs.Prelude.{◌≡◌, ◌↔◌, IsTrue};
+ghost use Rattle.mv_message.specs.Laws.{ReadsBack, ReadsExactly, ReadIsLegal, ReadsOne, FirstFaultIsGiven, FieldsAreInOrder, KeysOfValuesAscend, ValuesSpell};
+
+use crate::{Markets, Serials, Text};
 
 /// Each legal message is read back from its value.
 #[tactic(auto, using(crate::proofs::LegalLemmas::reads_back))]
 pub fn reads_back()
     ensures { ReadsBack }
+{}
+
+/// The value of a legal message is a spelling of it.
+pub fn values_spell()
+    ensures { ValuesSpell }
 {}
 
 /// A value is read as a message exactly where it is an object with that message's fields and no other, each a spelling
@@ -42,3 +50,26 @@ pub fn fields_are_in_order()
 pub fn keys_ascend()
     ensures { KeysOfValuesAscend }
 {}
+
+/// Texts are equal exactly where their bytes are.
+pub fn texts_are_equal(left: &Text, right: &Text) -> bool
+    ensures { IsTrue result ↔ (left.now ≡ right.now) }
+{
+    left == right
+}
+
+/// Lists of serial numbers are equal exactly where they hold the same numbers in the same order.
+#[tactic(auto, using(crate::proofs::EqualityLemmas::lists_decide))]
+pub fn serials_are_equal(left: &Serials, right: &Serials) -> bool
+    ensures { IsTrue result ↔ (left.now ≡ right.now) }
+{
+    left == right
+}
+
+/// Lists of markets are equal exactly where they hold the same markets in the same order.
+#[tactic(auto, using(crate::proofs::EqualityLemmas::lists_decide))]
+pub fn markets_are_equal(left: &Markets, right: &Markets) -> bool
+    ensures { IsTrue result ↔ (left.now ≡ right.now) }
+{
+    left == right
+}

@@ -28,6 +28,21 @@ const QUERY: &str = "{\"gtin\":\"9506000134352\",\"msg\":\"query\",\"serial\":\"
 const ANSWER: &str =
     "{\"asker\":2,\"found\":{\"batch\":\"B1\",\"expiry\":\"280229\",\"national\":null,\"recalled\":true,\"standing\":\"supplied\",\"withdrawn\":true},\"gtin\":\"09506000134352\",\"msg\":\"answer\",\"q\":1,\"serial\":\"S1\",\"v\":2}";
 
+/// An example of each message, as the document of the formats has them; each is its own canonical text.
+const CANONICAL: [&str; 11] = [
+    "{\"common\":\"paracetamol\",\"form\":\"tablet\",\"gtin\":\"09506000134352\",\"markets\":[\"FI\"],\"msg\":\"master\",\"name\":\"Examplin\",\"pack_size\":\"30\",\"pack_type\":\"blister\",\"scheme\":\"GTIN\",\"strength\":\"500 mg\"}",
+    "{\"batch\":\"B1\",\"expiry\":\"280229\",\"gtin\":\"09506000134352\",\"msg\":\"upload\",\"serials\":[\"S1\"]}",
+    "{\"batch\":\"B1\",\"expiry\":\"280229\",\"gtin\":\"09506000134352\",\"msg\":\"upload\",\"national\":\"123456\",\"serials\":[\"S1\"],\"v\":2}",
+    "{\"at\":1800000000,\"gtin\":\"09506000134352\",\"msg\":\"status\",\"serial\":\"S1\",\"to\":\"supplied\",\"user\":\"u1\"}",
+    "{\"at\":1800000010,\"batch\":\"B1\",\"gtin\":\"09506000134352\",\"msg\":\"recall\"}",
+    "{\"after_batch\":\"C1\",\"after_gtin\":\"04012345678901\",\"after_serials\":[\"X1\"],\"at\":1800000000,\"before_batch\":\"B1\",\"before_gtin\":\"09506000134352\",\"before_serials\":[\"S1\"],\"msg\":\"repack\"}",
+    "{\"gtin\":\"09506000134352\",\"msg\":\"query\",\"serial\":\"S1\"}",
+    "{\"asker\":2,\"found\":null,\"gtin\":\"09506000134352\",\"msg\":\"answer\",\"q\":1,\"serial\":\"S1\"}",
+    "{\"asker\":2,\"found\":{\"batch\":\"B1\",\"expiry\":\"280229\",\"recalled\":false,\"standing\":\"active\"},\"gtin\":\"09506000134352\",\"msg\":\"answer\",\"q\":1,\"serial\":\"S1\"}",
+    "{\"asker\":2,\"found\":{\"batch\":\"B1\",\"expiry\":\"280229\",\"national\":null,\"recalled\":false,\"standing\":\"active\",\"withdrawn\":true},\"gtin\":\"09506000134352\",\"msg\":\"answer\",\"q\":1,\"serial\":\"S1\",\"v\":2}",
+    "{\"at\":1800000000,\"gtin\":\"09506000134352\",\"msg\":\"withdraw\",\"v\":2}",
+];
+
 fn message(alloc: Global, text: &str) -> Option<Message> {
     Message::read(alloc, text.as_bytes()).ok()
 }
@@ -59,6 +74,24 @@ fn is_shared(alloc: Global, text: &str) -> Option<bool> {
 /// Whether what is shared of two messages is equal.
 fn are_shared_alike(alloc: Global, left: &str, right: &str) -> Option<bool> {
     Some(shared(alloc, left)? == shared(alloc, right)?)
+}
+
+/// What a buffer holds once the canonical text of a message came behind what it held.
+fn written_behind(alloc: Global, before: &str, text: &str) -> Option<String> {
+    let message = message(alloc, text)?;
+    let mut out = Vec::from_slice(alloc, before.as_bytes()).ok()?;
+    message.write_text(alloc, &mut out).ok()?;
+    String::from_utf8(out).ok()
+}
+
+fn is_written_behind(alloc: Global, before: &str, text: &str) -> Option<bool> {
+    let written = written_behind(alloc, before, text)?;
+    Some(written.as_str().strip_prefix(before) == Some(text))
+}
+
+fn is_own_text(alloc: Global, text: &str) -> Option<bool> {
+    let message = message(alloc, text)?;
+    Some(message.text(alloc).ok()?.as_str() == text)
 }
 
 fn pack_found() -> Option<Found> {
@@ -121,6 +154,23 @@ fn shares_a_message(rt: HostRuntime) {
     assert_eq!(rt; is_shared(rt.alloc(), RECALL), Some(true));
     assert_eq!(rt; are_shared_alike(rt.alloc(), QUERY, QUERY), Some(true));
     assert_eq!(rt; are_shared_alike(rt.alloc(), QUERY, RECALL), Some(false));
+}
+
+#[test]
+fn writes_canonical_texts(rt: HostRuntime) {
+    for text in CANONICAL {
+        assert_eq!(rt; is_own_text(rt.alloc(), text), Some(true), "at {text}");
+        assert_eq!(rt;
+            is_written_behind(rt.alloc(), "", text),
+            Some(true),
+            "at {text}"
+        );
+        assert_eq!(rt;
+            is_written_behind(rt.alloc(), "[1,\n", text),
+            Some(true),
+            "at {text}"
+        );
+    }
 }
 
 #[test]

@@ -8,7 +8,7 @@ use Rattle.mv_hub.specs.declared.entry.Entry.{Entry}
 use Rattle.mv_hub.specs.declared.entry.Entry.TheVariants.{Routed, Closed}
 use Rattle.mv_hub.specs.Record.{routed_from, routed_count, is_open}
 use Rattle.mv_machine.specs.State.{State, submissions_of}
-use Rattle.mv_machine.specs.Lawful.{AllFit, AllNameParties, IsLawful}
+use Rattle.mv_machine.specs.Lawful.{AllFit, AllNameParties, IsLawfulRecord, IsLawful}
 
 -- the sum of what a function gives for the numbers below another
 sum_below : ℕ → (ℕ → ℕ) → ℕ
@@ -142,19 +142,23 @@ cond-one false = omega arith
 -- what was routed from a party is no more than what it submitted
 pub routed_count-few : (st : State) (party : ℕ) → IsLawful st → party < length st.parties → routed_count st.entries party ≤ length (submissions_of st party)
 routed_count-few st party lawful is_party =
-    let order = lawful.routed_in_order party is_party in
+    let order = (lawful.of_link party party is_party is_party).routed in
     omega (arith, ap length order.1, length-append (routed_from st.entries party) order.0)
 
--- the record of 64 parties with a million submissions each is far from having 2 ^ 32 entries
-pub entries-few : (st : State) → IsLawful st → length st.parties ≤ 64 → ((party : ℕ) → length (submissions_of st party) ≤ 1000000) → length st.entries ≤ 64004096
+-- a record of 64 parties, from each of whom a million messages were routed at most, is far from having 2 ^ 32 entries
+pub record-few : (count : ℕ) (entries : List Entry) → IsLawfulRecord count entries → count ≤ 64
+    → ((party : ℕ) → party < count → routed_count entries party ≤ 1000000) → length entries ≤ 64004096
 unfolding entries_of
-entries-few st lawful parties_few short =
-    let n = length st.parties in
-    let own = sum_below-most n (1000000 + n * 1) (entries_of n st.entries) (λ party lt.
-    let routed = routed_count-few st party lawful lt in
-    let closed = sum_below-most n 1 (closed_count st.entries party) (λ to below.
-    let once = closed_count-few [] st.entries party to lawful.entries_fit in omega (arith, once, cond-one (is_open [] party to))) in
-    omega (arith, routed, short party, closed)) in
-    let all = length-entries n st.entries lawful.entries_name_parties in
-    let square = mul-le-mul_left n parties_few in
+record-few count entries lawful parties_few short =
+    let own = sum_below-most count (1000000 + count * 1) (entries_of count entries) (λ party lt.
+    let closed = sum_below-most count 1 (closed_count entries party) (λ to below.
+    let once = closed_count-few [] entries party to lawful.fit in omega (arith, once, cond-one (is_open [] party to))) in
+    omega (arith, short party lt, closed)) in
+    let all = length-entries count entries lawful.name_parties in
+    let square = mul-le-mul_left count parties_few in
     omega (arith, own, all, square)
+
+-- so is that of a state of so many parties that submitted a million messages each, at most
+pub entries-few : (st : State) → IsLawful st → length st.parties ≤ 64 → ((party : ℕ) → length (submissions_of st party) ≤ 1000000) → length st.entries ≤ 64004096
+entries-few st lawful parties_few short =
+    record-few (length st.parties) st.entries lawful.of_record parties_few (λ party lt. omega (arith, routed_count-few st party lawful lt, short party))

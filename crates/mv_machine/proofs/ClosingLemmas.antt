@@ -28,7 +28,7 @@ use Rattle.mv_machine.specs.declared.reply.Reply.{Reply}
 use Rattle.mv_machine.specs.State.{State, is_party, are_parties, submissions_of, is_uplink_full, is_sender_full, sent_of, wire_of, log_of, items_on, applied_count, with_wire}
 use Rattle.mv_machine.specs.Steps.{submit, ask, verify_by, verify, verdict, with_applied, entry_from, is_answer_busy, next_entry, is_full, route_unless, route_front, route, relay, apply_next, apply_front, apply, is_unsent, is_gone, repeat, close, lose_front, lose, outcome}
 use Rattle.mv_machine.specs.Runs.{Meets, Allows, Runs}
-use Rattle.mv_machine.specs.Lawful.{AllFit, IsLawful}
+use Rattle.mv_machine.specs.Lawful.{AllFit, IsLawfulRecord, IsLawfulLink, IsLawful}
 use Rattle.mv_machine.specs.Headline.{Follows}
 use Rattle.mv_machine.specs.Closing.{before_closing, AreAboutFirst, NothingRoutedLater, NothingSubmittedLater}
 use Rattle.mv_machine.proofs.PrefixLemmas.{All-front}
@@ -137,17 +137,22 @@ items-about parties before (Closed sender receiver ∷ entries) from to fit = by
         rw (items-shut parties (before ++ Closed sender receiver ∷ []) entries from to shut) (All-nil (λ i. number_of i ≤ routed_count before from + routed_count (cond (eqb sender from && eqb receiver to) [] (Closed sender receiver ∷ before_closing entries from to)) from))
 
 -- what was applied over a link is about messages that were routed before its closing
-pub nothing_routed_later : (st : State) → IsLawful st → NothingRoutedLater st
+pub link-closed : (count : ℕ) (parties : List (List (List ℕ))) (entries : List Entry) (from to : ℕ) (submissions : List Message) (log : List LogEntry)
+    → IsLawfulRecord count entries → IsLawfulLink parties entries from to submissions log
+    → AreAboutFirst (routed_count (before_closing entries from to) from) (items_from log from)
 unfolding link_items
-nothing_routed_later st lawful from to from_is_party to_is_party =
-    let applied = lawful.applied_in_order from to from_is_party to_is_party in
-    let count = routed_count (before_closing st.entries from to) from in
-    All-front (λ item. number_of item ≤ count) (items_from (log_of st to) from) applied.0
-    (subst (AreAboutFirst count) (sym applied.1)
-    (subst (λ n. AreAboutFirst n (items_on st from to)) none_before (items-about st.parties [] st.entries from to lawful.entries_fit)))
+link-closed count parties entries from to submissions log lawful link =
+    let first = routed_count (before_closing entries from to) from in
+    All-front (λ item. number_of item ≤ first) (items_from log from) link.applied.0
+    (subst (AreAboutFirst first) (sym link.applied.1)
+    (subst (λ n. AreAboutFirst n (link_items parties entries from to)) none_before (items-about parties [] entries from to lawful.fit)))
   where
-    none_before : routed_count [] from + routed_count (before_closing st.entries from to) from ≡ routed_count (before_closing st.entries from to) from
+    none_before : routed_count [] from + routed_count (before_closing entries from to) from ≡ routed_count (before_closing entries from to) from
     none_before = omega arith
+
+pub nothing_routed_later : (st : State) → IsLawful st → NothingRoutedLater st
+nothing_routed_later st lawful from to from_is_party to_is_party =
+    link-closed (length st.parties) st.parties st.entries from to (submissions_of st from) (log_of st to) lawful.of_record (lawful.of_link from to from_is_party to_is_party)
 
 -- once a link is closed, what stands before its closing stays
 before_closing-append : (entries more : List Entry) (from to : ℕ) → is_open entries from to ≡ false → before_closing (entries ++ more) from to ≡ before_closing entries from to

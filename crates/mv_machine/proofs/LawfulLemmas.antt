@@ -16,7 +16,7 @@ use Rattle.mv_hub.specs.declared.entry.Entry.{Entry}
 use Rattle.mv_hub.specs.declared.entry.Entry.TheVariants.{Closed}
 use Rattle.mv_hub.specs.Record.{routed_from, routed_count, is_open}
 use Rattle.mv_hub.specs.Links.{gained}
-use Rattle.mv_hub.proofs.RecordLemmas.{routed_from-append, link_items-push}
+use Rattle.mv_hub.proofs.RecordLemmas.{routed_from-append}
 use Rattle.mv_repository.specs.declared.entry.LogEntry.{LogEntry}
 use Rattle.mv_repository.specs.declared.verdict.Local.{Local}
 use Rattle.mv_repository.specs.declared.verdict.Local.TheVariants.{Known, Absent}
@@ -31,9 +31,10 @@ use Rattle.mv_machine.specs.Replies.{wants_memory}
 use Rattle.mv_machine.specs.State.{State, is_party, are_parties, submissions_of, is_uplink_full, is_sender_full, with_submission, sent_of, wire_of, log_of, items_on, applied_count, opening}
 use Rattle.mv_machine.specs.Steps.{Outcome, submit, ask, verify_by, verify, verdict, with_applied, entry_from, is_answer_busy, next_entry, is_full, route_unless, route_front, route, relay, apply_next, apply_front, apply, is_unsent, is_gone, repeat, close, lose_front, lose, outcome}
 use Rattle.mv_machine.specs.Runs.{Meets, Allows, Runs}
-use Rattle.mv_machine.specs.Lawful.{Fits, AllFit, NamesParties, AllNameParties, AllFromParties, answers_in, IsLawful, IsWellFormed}
-use Rattle.mv_machine.proofs.AnswerLemmas.{no_answer, answers_in-more, answers_in-applied}
+use Rattle.mv_machine.specs.Lawful.{Fits, NamesParties, answers_in, IsLawfulParty, IsLawfulLink, IsLawful, IsWellFormed}
+use Rattle.mv_machine.proofs.AnswerLemmas.{no_answer}
 use Rattle.mv_machine.proofs.PrefixLemmas.{prefix-grows, prefix-push}
+use Rattle.mv_machine.proofs.PartLemmas.{record-entered, party-submitted, party-applied, link-submitted, link-entered, link-applied}
 
 -- well formed and lawful
 pub record IsSound (st : State) : Type 0 where
@@ -56,12 +57,9 @@ under_way-sound st sent wires sent_square wires_square sound = record {
     wires_each = wires_square;
   };
   lawful = record {
-    entries_fit = sound.lawful.entries_fit;
-    entries_name_parties = sound.lawful.entries_name_parties;
-    routed_in_order = sound.lawful.routed_in_order;
-    applied_in_order = sound.lawful.applied_in_order;
-    answers_in_order = sound.lawful.answers_in_order;
-    senders_are_parties = sound.lawful.senders_are_parties;
+    of_record = sound.lawful.of_record;
+    of_party = sound.lawful.of_party;
+    of_link = sound.lawful.of_link;
   };
 }
 
@@ -86,29 +84,16 @@ submitted-sound st from message sound none = record {
     wires_each = sound.well_formed.wires_each;
   };
   lawful = record {
-    entries_fit = sound.lawful.entries_fit;
-    entries_name_parties = sound.lawful.entries_name_parties;
-    routed_in_order = put-each (λ party l. party < length st.parties → IsPrefix (routed_from st.entries party) l) st.submissions from (submissions_of st from ++ message ∷ []) []
-        (λ is_party. prefix-grows (routed_from st.entries from) (submissions_of st from) (message ∷ []) (sound.lawful.routed_in_order from is_party))
-        sound.lawful.routed_in_order;
-    applied_in_order = sound.lawful.applied_in_order;
-    answers_in_order = put-each (λ party l. party < length st.parties → answers_in l ≡ answers_of (log_of st party)) st.submissions from (submissions_of st from ++ message ∷ []) []
-        (λ is_party. answers_in-more (submissions_of st from) message none ∙ sound.lawful.answers_in_order from is_party)
-        sound.lawful.answers_in_order;
-    senders_are_parties = sound.lawful.senders_are_parties;
+    of_record = sound.lawful.of_record;
+    of_party = put-each (λ party l. party < length st.parties → IsLawfulParty (length st.parties) l (log_of st party)) st.submissions from (submissions_of st from ++ message ∷ []) []
+        (λ is_party. party-submitted (length st.parties) (submissions_of st from) (log_of st from) message (sound.lawful.of_party from is_party) none)
+        sound.lawful.of_party;
+    of_link = λ sender to is_sender is_receiver.
+        put-each (λ party l. party < length st.parties → IsLawfulLink st.parties st.entries party to l (log_of st to)) st.submissions from (submissions_of st from ++ message ∷ []) []
+        (λ is_party. link-submitted st.parties st.entries from to (submissions_of st from) (message ∷ []) (log_of st to) (sound.lawful.of_link from to is_party is_receiver))
+        (λ party is_party. sound.lawful.of_link party to is_party is_receiver) sender is_sender;
   };
 }
-
--- one more entry fits behind those that fit
-AllFit-push : (before entries : List Entry) (entry : Entry) → AllFit before entries → Fits (before ++ entries) entry → AllFit before (entries ++ entry ∷ [])
-AllFit-push before [] entry all fits = (subst (λ b. Fits b entry) (append-nil before) fits, tt)
-AllFit-push before (x ∷ entries) entry all fits =
-    (all.0, AllFit-push (before ++ x ∷ []) entries entry all.1 (subst (λ b. Fits b entry) (sym (append_assoc before (x ∷ []) entries)) fits))
-
--- one more entry names parties
-AllNameParties-push : (count : ℕ) (entries : List Entry) (entry : Entry) → AllNameParties count entries → NamesParties count entry → AllNameParties count (entries ++ entry ∷ [])
-AllNameParties-push count [] entry all names = (names, tt)
-AllNameParties-push count (x ∷ entries) entry all names = (all.0, AllNameParties-push count entries entry all.1 names)
 
 -- the record gained an entry: what was routed stays a prefix where the entry's own message is the next of its sender
 entered-sound : (st : State) (entry : Entry) → IsSound st → Fits st.entries entry → NamesParties (length st.parties) entry
@@ -122,15 +107,17 @@ entered-sound st entry sound fits names order = record {
     wires_each = sound.well_formed.wires_each;
   };
   lawful = record {
-    entries_fit = AllFit-push [] st.entries entry sound.lawful.entries_fit fits;
-    entries_name_parties = AllNameParties-push (length st.parties) st.entries entry sound.lawful.entries_name_parties names;
-    routed_in_order = λ party is_party. subst (λ l. IsPrefix l (submissions_of st party)) (sym (routed_from-append st.entries (entry ∷ []) party)) (order party is_party);
-    applied_in_order = λ from to from_is_party to_is_party. subst (λ l. IsPrefix (items_from (log_of st to) from) l) (sym (link_items-push st.parties st.entries entry from to))
-        (prefix-grows (items_from (log_of st to) from) (items_on st from to) (gained st.parties st.entries entry from to) (sound.lawful.applied_in_order from to from_is_party to_is_party));
-    answers_in_order = sound.lawful.answers_in_order;
-    senders_are_parties = sound.lawful.senders_are_parties;
+    of_record = record-entered (length st.parties) st.entries entry sound.lawful.of_record fits names;
+    of_party = sound.lawful.of_party;
+    of_link = λ from to from_is_party to_is_party.
+        link-entered st.parties st.entries entry from to (submissions_of st from) (log_of st to) (sound.lawful.of_link from to from_is_party to_is_party)
+        (subst (λ l. IsPrefix l (submissions_of st from)) (sym (routed_from-append st.entries (entry ∷ []) from)) (order from from_is_party));
   };
 }
+
+-- what was routed from a party is a prefix of what it submitted
+pub routed_order : (st : State) → IsLawful st → (party : ℕ) → party < length st.parties → IsPrefix (routed_from st.entries party) (submissions_of st party)
+routed_order st lawful party is_party = (lawful.of_link party party is_party is_party).routed
 
 -- the routed messages of a party with the next one of a sender
 routed_more : (st : State) (from party : ℕ) (message : Message) → slice_get (submissions_of st from) (routed_count st.entries from) ≡ Some message
@@ -147,55 +134,23 @@ pub routed-sound : (st : State) (from : ℕ) (message : Message) → IsSound st 
     → IsSound (record st { entries = st.entries ++ next_entry st from message ∷ [] })
 routed-sound st from message sound from_is_party next =
     entered-sound st (next_entry st from message) sound refl from_is_party
-    (λ party is_party. routed_more st from party message next (sound.lawful.routed_in_order party is_party) (eqb from party) refl)
+    (λ party is_party. routed_more st from party message next (routed_order st sound.lawful party is_party) (eqb from party) refl)
 
 -- the hub closed a link
 pub closed-sound : (st : State) (from to : ℕ) → IsSound st → from < length st.parties → to < length st.parties → is_open st.entries from to ≡ true
     → IsSound (record st { entries = st.entries ++ Closed from to ∷ [] })
 closed-sound st from to sound from_is_party to_is_party still_open =
     entered-sound st (Closed from to) sound still_open (from_is_party, to_is_party)
-    (λ party is_party. subst (λ l. IsPrefix l (submissions_of st party)) (sym (append-nil (routed_from st.entries party))) (sound.lawful.routed_in_order party is_party))
-
--- one more entry from a party
-AllFromParties-push : (count : ℕ) (log : List LogEntry) (entry : LogEntry) → AllFromParties count log → entry.sender < count → AllFromParties count (log ++ entry ∷ [])
-AllFromParties-push count [] entry all from_party = (from_party, tt)
-AllFromParties-push count (x ∷ log) entry all from_party = (all.0, AllFromParties-push count log entry all.1 from_party)
-
--- a choice of what goes first
-cond-append : {A : Type 0} (b : Bool) (x : A) (xs ys : List A) → cond b (x ∷ xs) xs ++ ys ≡ cond b (x ∷ (xs ++ ys)) (xs ++ ys)
-cond-append true x xs ys = refl
-cond-append false x xs ys = refl
-
--- the items of a party once an entry is last
-pub items_from-push : (log : List LogEntry) (entry : LogEntry) (party : ℕ) → items_from (log ++ entry ∷ []) party ≡ items_from log party ++ cond (eqb entry.sender party) (entry.item ∷ []) []
-items_from-push [] entry party = refl
-items_from-push (x ∷ log) entry party =
-    ap (λ l. cond (eqb x.sender party) (x.item ∷ l) l) (items_from-push log entry party)
-    ∙ sym (cond-append (eqb x.sender party) x.item (items_from log party) (cond (eqb entry.sender party) (entry.item ∷ []) []))
-
--- the items of a party with the next one of a sender
-applied_more : (from party : ℕ) (log : List LogEntry) (items : List Item) (item : Item) → IsPrefix (items_from log party) items
-    → (same : Bool) → eqb from party ≡ same → (from ≡ party → slice_get items (length (items_from log party)) ≡ Some item)
-    → IsPrefix (items_from log party ++ cond same (item ∷ []) []) items
-applied_more from party log items item prefix false e next = subst (λ l. IsPrefix l items) (sym (append-nil (items_from log party))) prefix
-applied_more from party log items item prefix true e next = prefix-push (items_from log party) items item prefix (next (eqb-true from party e))
-
-applied_order : (st : State) (from to party : ℕ) (item : Item) → slice_get (items_on st from to) (applied_count st from to) ≡ Some item
-    → IsPrefix (items_from (log_of st to) party) (items_on st party to)
-    → IsPrefix (items_from (log_of st to ++ record { sender = from; item = item } ∷ []) party) (items_on st party to)
-applied_order st from to party item next prefix =
-    subst (λ l. IsPrefix l (items_on st party to)) (sym (items_from-push (log_of st to) (record { sender = from; item = item }) party))
-    (applied_more from party (log_of st to) (items_on st party to) item prefix (eqb from party) refl
-    (λ same. subst (λ u. slice_get (items_on st u to) (applied_count st u to) ≡ Some item) same next))
+    (λ party is_party. subst (λ l. IsPrefix l (submissions_of st party)) (sym (append-nil (routed_from st.entries party))) (routed_order st sound.lawful party is_party))
 
 -- a repository applied the next item of a sender, and these are the submissions then
 logged-sound : (st : State) (from to : ℕ) (item : Item) (submissions : List (List Message)) → IsSound st → from < length st.parties
     → slice_get (items_on st from to) (applied_count st from to) ≡ Some item
     → length submissions ≡ length st.submissions
     → ((party : ℕ) → party < length st.parties → IsPrefix (routed_from st.entries party) (get_or submissions party []))
-    → ((party : ℕ) → party < length st.parties → answers_in (get_or submissions party []) ≡ answers_of (get_or (set st.logs to (log_of st to ++ entry_from from item ∷ [])) party []))
+    → ((party : ℕ) → party < length st.parties → IsLawfulParty (length st.parties) (get_or submissions party []) (get_or (set st.logs to (log_of st to ++ entry_from from item ∷ [])) party []))
     → IsSound (record st { submissions = submissions; logs = set st.logs to (log_of st to ++ entry_from from item ∷ []) })
-logged-sound st from to item submissions sound from_is_party next each routed answers = record {
+logged-sound st from to item submissions sound from_is_party next each routed parties = record {
   well_formed = record {
     submissions_each = each ∙ sound.well_formed.submissions_each;
     logs_each = length-set st.logs to (log_of st to ++ entry_from from item ∷ []) ∙ sound.well_formed.logs_each;
@@ -203,17 +158,15 @@ logged-sound st from to item submissions sound from_is_party next each routed an
     wires_each = sound.well_formed.wires_each;
   };
   lawful = record {
-    entries_fit = sound.lawful.entries_fit;
-    entries_name_parties = sound.lawful.entries_name_parties;
-    routed_in_order = routed;
-    applied_in_order = λ party receiver is_party receiver_is_party.
-        put-each (λ r l. r < length st.parties → IsPrefix (items_from l party) (items_on st party r)) st.logs to (log_of st to ++ entry_from from item ∷ []) []
-        (λ p. applied_order st from to party item next (sound.lawful.applied_in_order party to is_party p))
-        (λ r p. sound.lawful.applied_in_order party r is_party p) receiver receiver_is_party;
-    answers_in_order = answers;
-    senders_are_parties = put-each (λ r l. r < length st.parties → AllFromParties (length st.parties) l) st.logs to (log_of st to ++ entry_from from item ∷ []) []
-        (λ p. AllFromParties-push (length st.parties) (log_of st to) (entry_from from item) (sound.lawful.senders_are_parties to p) from_is_party)
-        sound.lawful.senders_are_parties;
+    of_record = sound.lawful.of_record;
+    of_party = parties;
+    of_link = λ sender receiver is_sender is_receiver. record {
+      routed = routed sender is_sender;
+      applied = (put-each (λ party l. party < length st.parties → IsLawfulLink st.parties st.entries sender party (submissions_of st sender) l) st.logs to (log_of st to ++ entry_from from item ∷ []) []
+          (λ is_party. link-applied st.parties st.entries sender to (submissions_of st sender) (log_of st to) (entry_from from item) (sound.lawful.of_link sender to is_sender is_party)
+          (λ same. subst (λ u. slice_get (items_on st u to) (applied_count st u to) ≡ Some item) same next))
+          (λ party is_party. sound.lawful.of_link sender party is_sender is_party) receiver is_receiver).applied;
+    };
   };
 }
 
@@ -222,16 +175,16 @@ pub applied-sound : (st : State) (from to : ℕ) (item : Item) (answer : Option 
     → slice_get (items_on st from to) (applied_count st from to) ≡ Some item → answer_to (log_of st to) (entry_from from item) ≡ answer
     → IsSound (with_applied st to (entry_from from item) answer)
 applied-sound st from to item None sound from_is_party to_is_party next called =
-    logged-sound st from to item st.submissions sound from_is_party next refl sound.lawful.routed_in_order
-    (put-each (λ party l. party < length st.parties → answers_in (submissions_of st party) ≡ answers_of l) st.logs to (log_of st to ++ entry_from from item ∷ []) []
-    (λ p. sym (ap answers_in (append-nil (submissions_of st to)))
-    ∙ sym (ap (λ o. answers_in (submissions_of st to ++ option_to_list o)) called)
-    ∙ answers_in-applied (submissions_of st to) (log_of st to) (entry_from from item) (sound.lawful.answers_in_order to p))
-    sound.lawful.answers_in_order)
+    logged-sound st from to item st.submissions sound from_is_party next refl (routed_order st sound.lawful)
+    (put-each (λ party l. party < length st.parties → IsLawfulParty (length st.parties) (submissions_of st party) l) st.logs to (log_of st to ++ entry_from from item ∷ []) []
+    (λ is_party. subst (λ l. IsLawfulParty (length st.parties) l (log_of st to ++ entry_from from item ∷ []))
+    (ap (λ o. submissions_of st to ++ option_to_list o) called ∙ append-nil (submissions_of st to))
+    (party-applied (length st.parties) (submissions_of st to) (log_of st to) (entry_from from item) (sound.lawful.of_party to is_party) from_is_party))
+    sound.lawful.of_party)
 applied-sound st from to item (Some answer) sound from_is_party to_is_party next called =
     logged-sound st from to item (set st.submissions to more) sound from_is_party next (length-set st.submissions to more)
     (put-each (λ party l. party < length st.parties → IsPrefix (routed_from st.entries party) l) st.submissions to more []
-    (λ p. prefix-grows (routed_from st.entries to) (submissions_of st to) (answer ∷ []) (sound.lawful.routed_in_order to p)) sound.lawful.routed_in_order)
+    (λ p. prefix-grows (routed_from st.entries to) (submissions_of st to) (answer ∷ []) (routed_order st sound.lawful to p)) (routed_order st sound.lawful))
     (λ party is_party. by party is_party (eqb to party) refl)
   where
     more : List Message
@@ -240,21 +193,20 @@ applied-sound st from to item (Some answer) sound from_is_party to_is_party next
     log : List LogEntry
     log = log_of st to ++ entry_from from item ∷ []
 
-    here : answers_in (submissions_of st to ++ answer ∷ []) ≡ answers_of (log_of st to ++ entry_from from item ∷ [])
+    here : IsLawfulParty (length st.parties) (submissions_of st to ++ answer ∷ []) (log_of st to ++ entry_from from item ∷ [])
     here =
-        sym (ap (λ o. answers_in (submissions_of st to ++ option_to_list o)) called)
-        ∙ answers_in-applied (submissions_of st to) (log_of st to) (entry_from from item) (sound.lawful.answers_in_order to to_is_party)
+        subst (λ o. IsLawfulParty (length st.parties) (submissions_of st to ++ option_to_list o) (log_of st to ++ entry_from from item ∷ [])) called
+        (party-applied (length st.parties) (submissions_of st to) (log_of st to) (entry_from from item) (sound.lawful.of_party to to_is_party) from_is_party)
 
     by : (party : ℕ) → party < length st.parties → (same : Bool) → eqb to party ≡ same
-        → answers_in (get_or (set st.submissions to (submissions_of st to ++ answer ∷ [])) party []) ≡ answers_of (get_or (set st.logs to (log_of st to ++ entry_from from item ∷ [])) party [])
+        → IsLawfulParty (length st.parties) (get_or (set st.submissions to (submissions_of st to ++ answer ∷ [])) party []) (get_or (set st.logs to (log_of st to ++ entry_from from item ∷ [])) party [])
     by party is_party true e =
-        subst (λ r. answers_in (get_or (set st.submissions to more) r []) ≡ answers_of (get_or (set st.logs to log) r [])) (eqb-true to party e)
-        (ap answers_in (get_or-set_same st.submissions to more [] (omega (arith, to_is_party, sound.well_formed.submissions_each)))
-        ∙ here ∙ sym (ap answers_of (get_or-set_same st.logs to log [] (omega (arith, to_is_party, sound.well_formed.logs_each)))))
+        subst (λ r. IsLawfulParty (length st.parties) (get_or (set st.submissions to more) r []) (get_or (set st.logs to log) r [])) (eqb-true to party e)
+        (subst (λ l. IsLawfulParty (length st.parties) l (get_or (set st.logs to log) to [])) (sym (get_or-set_same st.submissions to more [] (omega (arith, to_is_party, sound.well_formed.submissions_each))))
+        (subst (IsLawfulParty (length st.parties) more) (sym (get_or-set_same st.logs to log [] (omega (arith, to_is_party, sound.well_formed.logs_each)))) here))
     by party is_party false e =
-        ap answers_in (get_or-set_other st.submissions to party more [] (λ same. eqb-false to party e (sym same)))
-        ∙ sound.lawful.answers_in_order party is_party
-        ∙ sym (ap answers_of (get_or-set_other st.logs to party log [] (λ same. eqb-false to party e (sym same))))
+        subst (λ l. IsLawfulParty (length st.parties) l (get_or (set st.logs to log) party [])) (sym (get_or-set_other st.submissions to party more [] (λ same. eqb-false to party e (sym same))))
+        (subst (IsLawfulParty (length st.parties) (submissions_of st party)) (sym (get_or-set_other st.logs to party log [] (λ same. eqb-false to party e (sym same)))) (sound.lawful.of_party party is_party))
 
 submit-sound : (st : State) (from : ℕ) (message : Message) → IsSound st → IsSound (submit st from message).state
 unfolding submit
@@ -384,16 +336,15 @@ opening-sound parties limits = record {
     wires_each = square-replicate (length parties) [];
   };
   lawful = record {
-    entries_fit = tt;
-    entries_name_parties = tt;
-    routed_in_order = λ party is_party. (submissions_of (opening parties limits) party, refl);
-    applied_in_order = λ from to from_is_party to_is_party.
-        subst (λ l. IsPrefix (items_from l from) (items_on (opening parties limits) from to))
-        (sym (get_or-replicate (length parties) to [] [] to_is_party)) (items_on (opening parties limits) from to, refl);
-    answers_in_order = λ party is_party.
-        ap answers_in (get_or-replicate (length parties) party [] [] is_party) ∙ sym (ap answers_of (get_or-replicate (length parties) party [] [] is_party));
-    senders_are_parties = λ party is_party.
-        subst (λ l. AllFromParties (length parties) l) (sym (get_or-replicate (length parties) party [] [] is_party)) tt;
+    of_record = record { fit = tt; name_parties = tt };
+    of_party = λ party is_party.
+        subst (λ l. IsLawfulParty (length parties) l (log_of (opening parties limits) party)) (sym (get_or-replicate (length parties) party [] [] is_party))
+        (subst (IsLawfulParty (length parties) []) (sym (get_or-replicate (length parties) party [] [] is_party)) (record { answered = refl; from_parties = tt }));
+    of_link = λ from to from_is_party to_is_party. record {
+      routed = (submissions_of (opening parties limits) from, refl);
+      applied = subst (λ l. IsPrefix (items_from l from) (items_on (opening parties limits) from to))
+          (sym (get_or-replicate (length parties) to [] [] to_is_party)) (items_on (opening parties limits) from to, refl);
+    };
   };
 }
 

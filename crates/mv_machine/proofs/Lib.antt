@@ -1,8 +1,10 @@
 pub mod PrefixLemmas
 pub mod AnswerLemmas
+pub mod PartLemmas
 pub mod LawfulLemmas
 pub mod BoundLemmas
 pub mod ClosingLemmas
 pub mod StampLemmas
 pub mod SubmittedLemmas
 pub mod HeadlineLemmas
+pub mod LimitLemmas

@@ -170,17 +170,17 @@ log-distinct entries count (entry ∷ log) all stamped (suc first) (suc second) 
 log-stamped : (st : State) (party : ℕ) → IsLawful st → party < length st.parties → IsStampedLog st.entries (length st.parties) (log_of st party)
 unfolding link_items
 log-stamped st party lawful is_party sender sender_is_party =
-    let applied = lawful.applied_in_order sender party sender_is_party is_party in
+    let applied = (lawful.of_link sender party sender_is_party is_party).applied in
     stamped-front st.entries sender 0 (items_from (log_of st party) sender) applied.0
     (subst (AreStamped st.entries sender 0) (sym applied.1) (link-stamped st.parties [] st.entries sender party))
 
 pub stamps_named : (st : State) → IsLawful st → StampsNameRoutings st
 stamps_named st lawful = λ party is_party.
-    log-named st.entries (length st.parties) (log_of st party) (lawful.senders_are_parties party is_party) (log-stamped st party lawful is_party)
+    log-named st.entries (length st.parties) (log_of st party) (lawful.of_party party is_party).from_parties (log-stamped st party lawful is_party)
 
 pub stamps_distinct : (st : State) → IsLawful st → StampsAreDistinct st
 stamps_distinct st lawful = λ party is_party.
-    log-distinct st.entries (length st.parties) (log_of st party) (lawful.senders_are_parties party is_party) (log-stamped st party lawful is_party)
+    log-distinct st.entries (length st.parties) (log_of st party) (lawful.of_party party is_party).from_parties (log-stamped st party lawful is_party)
 
 pub repositories_agree : (st : State) → IsLawful st → RepositoriesAgree st
 repositories_agree st lawful = λ pack one other one_is_party other_is_party same.

@@ -111,8 +111,8 @@ numbered-at entries place from k message all at =
 routed_as : (st : State) (from k stamp : ℕ) (message : Message) → IsLawful st → from < length st.parties → 1 ≤ stamp
     → slice_get st.entries (stamp - 1) ≡ Some (Routed from k message) → IsRoutedAt st from k stamp message
 routed_as st from k stamp message lawful is_party least at =
-    let number = numbered-at st.entries (stamp - 1) from k message lawful.entries_fit at in
-    let order = lawful.routed_in_order from is_party in
+    let number = numbered-at st.entries (stamp - 1) from k message lawful.of_record.fit at in
+    let order = (lawful.of_link from from is_party is_party).routed in
     record {
       numbered = number.0;
       submitted = ap (λ l. slice_get l (k - 1)) (sym order.1) ∙ slice_get-append (routed_from st.entries from) order.0 (k - 1) message number.1;
@@ -129,7 +129,7 @@ items_submitted : (st : State) (from to : ℕ) → IsLawful st → from < length
     → All (IsOfSubmission st from to) (items_from (log_of st to) from)
 unfolding link_items
 items_submitted st from to lawful from_is_party to_is_party =
-    let applied = lawful.applied_in_order from to from_is_party to_is_party in
+    let applied = (lawful.of_link from to from_is_party to_is_party).applied in
     All-weaker (IsPutBy st.parties st.entries from to) (IsOfSubmission st from to) (λ item put. of_submission st from to item lawful from_is_party put) (items_from (log_of st to) from)
     (All-front (IsPutBy st.parties st.entries from to) (items_from (log_of st to) from) applied.0
     (subst (All (IsPutBy st.parties st.entries from to)) (sym applied.1) (link-put st.parties [] st.entries from to)))
@@ -153,7 +153,7 @@ each-entry P count (first ∷ log) parties items =
 
 pub applied_submitted : (st : State) → IsLawful st → AppliedIsSubmitted st
 applied_submitted st lawful party is_party =
-    each-entry (λ sender item. IsOfSubmission st sender party item) (length st.parties) (log_of st party) (lawful.senders_are_parties party is_party)
+    each-entry (λ sender item. IsOfSubmission st sender party item) (length st.parties) (log_of st party) (lawful.of_party party is_party).from_parties
     (λ sender lt. items_submitted st sender party lawful lt is_party)
 
 -- the numbers of the messages that items carry rise, from one number on, and so do those of receipts, from another
@@ -235,9 +235,9 @@ increasing least (x ∷ y ∷ xs) up (suc k) within =
 pub numbers_rise : (st : State) → IsLawful st → NumbersRise st
 unfolding link_items
 numbers_rise st lawful from to from_is_party to_is_party =
-    let applied = lawful.applied_in_order from to from_is_party to_is_party in
+    let applied = (lawful.of_link from to from_is_party to_is_party).applied in
     let rise : Rise 0 0 (items_from (log_of st to) from) =
-    rise-front 0 0 (items_from (log_of st to) from) applied.0 (subst (Rise 0 0) (sym applied.1) (link-rise st.parties [] st.entries from to lawful.entries_fit)) in (
+    rise-front 0 0 (items_from (log_of st to) from) applied.0 (subst (Rise 0 0) (sym applied.1) (link-rise st.parties [] st.entries from to lawful.of_record.fit)) in (
       increasing 0 (carried_numbers (items_from (log_of st to) from)) (rise-carried 0 0 (items_from (log_of st to) from) rise),
       increasing 0 (receipt_numbers (items_from (log_of st to) from)) (rise-receipts 0 0 (items_from (log_of st to) from) rise),
     )

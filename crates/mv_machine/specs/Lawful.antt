@@ -7,10 +7,11 @@ use Rattle.mv_pairs.specs.Pairs.{IsSquare}
 use Rattle.mv_hub.specs.declared.entry.Entry.{Entry}
 use Rattle.mv_hub.specs.declared.entry.Entry.TheVariants.{Routed, Closed}
 use Rattle.mv_hub.specs.Record.{routed_from, routed_count, is_open}
+use Rattle.mv_hub.specs.Links.{link_items}
 use Rattle.mv_repository.specs.declared.entry.LogEntry.{LogEntry}
 use Rattle.mv_repository.specs.Log.{items_from}
 use Rattle.mv_repository.specs.Query.{answers_of}
-use Rattle.mv_machine.specs.State.{State, submissions_of, log_of, items_on}
+use Rattle.mv_machine.specs.State.{State, submissions_of, log_of}
 
 -- an entry fits behind others: a routed message has the number that follows those of its sender, and only an open link is
 -- closed
@@ -44,19 +45,31 @@ answers_in [] = []
 answers_in (Answer asker q key found ∷ messages) = Answer asker q key found ∷ answers_in messages
 answers_in (message ∷ messages) = answers_in messages
 
--- The state is lawful: messages are numbered and links closed at most once; what was routed from a party is a prefix of what it
--- submitted; and what a repository applied from a party is a prefix of what the record puts on their link, in order and each
--- once; and the answers that a party submitted are those that the log of its repository calls for.
+-- A record is lawful, of so many parties: its messages are numbered and its links closed at most once, and it names parties
+-- alone.
+pub record IsLawfulRecord (count : ℕ) (entries : List Entry) : Type 0 where
+  pub fit : AllFit [] entries
+  pub name_parties : AllNameParties count entries
+
+-- A party is lawful, one of so many: the answers among what it submitted are those that the log of its repository calls for, and
+-- that log is of items from parties alone.
+pub record IsLawfulParty (count : ℕ) (submissions : List Message) (log : List LogEntry) : Type 0 where
+  pub answered : answers_in submissions ≡ answers_of log
+  pub from_parties : AllFromParties count log
+
+-- A link is lawful: what was routed from its sender is a prefix of what this submitted; and what its receiver applied from the
+-- sender is a prefix of what the record puts on the link, in order and each once.
+pub record IsLawfulLink (parties : List (List (List ℕ))) (entries : List Entry) (from to : ℕ) (submissions : List Message) (log : List LogEntry) : Type 0 where
+  pub routed : IsPrefix (routed_from entries from) submissions
+  pub applied : IsPrefix (items_from log from) (link_items parties entries from to)
+
+-- the state is lawful: its record is, each party is, and each link is
 pub record IsLawful (st : State) : Type 0 where
-  pub entries_fit : AllFit [] st.entries
-  pub entries_name_parties : AllNameParties (length st.parties) st.entries
-  pub routed_in_order : (party : ℕ) → party < length st.parties
-      → IsPrefix (routed_from st.entries party) (submissions_of st party)
-  pub applied_in_order : (from to : ℕ) → from < length st.parties → to < length st.parties
-      → IsPrefix (items_from (log_of st to) from) (items_on st from to)
-  pub answers_in_order : (party : ℕ) → party < length st.parties
-      → answers_in (submissions_of st party) ≡ answers_of (log_of st party)
-  pub senders_are_parties : (party : ℕ) → party < length st.parties → AllFromParties (length st.parties) (log_of st party)
+  pub of_record : IsLawfulRecord (length st.parties) st.entries
+  pub of_party : (party : ℕ) → party < length st.parties
+      → IsLawfulParty (length st.parties) (submissions_of st party) (log_of st party)
+  pub of_link : (from to : ℕ) → from < length st.parties → to < length st.parties
+      → IsLawfulLink st.parties st.entries from to (submissions_of st from) (log_of st to)
 
 -- there is a list for each party, and one for each link
 pub record IsWellFormed (st : State) : Type 0 where

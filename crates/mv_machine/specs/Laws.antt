@@ -12,6 +12,7 @@ use Rattle.mv_machine.specs.Lawful.{IsLawful, IsWellFormed}
 use Rattle.mv_machine.specs.Closing.{NothingRoutedLater, NothingSubmittedLater}
 use Rattle.mv_machine.specs.Stamps.{StampsNameRoutings, StampsAreDistinct, RepositoriesAgree}
 use Rattle.mv_machine.specs.Headline.{Follows, AppliedIsSubmitted, NumbersRise, HeadlineHolds}
+use Rattle.mv_machine.specs.Bounded.{KeepsLimits}
 
 -- whatever the steps and whatever their order, a system that opened comes to lawful states alone
 abbrev pub RunsAreLawful : Type 0
@@ -71,3 +72,8 @@ RefusalsChangeNothing =
     ((old : State) (step : Step) (reply : Reply) (new : State) → Allows old step reply new → IsTrue (changes_nothing reply) → new ≡ old)
     × ((old : State) (party : ℕ) (key : PackKey) (reply : Reply) (new : State)
     → Meets old (ask old party key) reply new → IsTrue (changes_nothing reply) → new ≡ old)
+
+-- whatever the steps and whatever their order, a system that opened keeps its limits
+abbrev pub LimitsAreKept : Type 0
+LimitsAreKept = (parties : List (List (List ℕ))) (limits : Bounds) (steps : List Step) (replies : List Reply) (new : State)
+    → Runs (opening parties limits) steps replies new → KeepsLimits new

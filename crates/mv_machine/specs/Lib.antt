@@ -7,4 +7,6 @@ pub mod Lawful
 pub mod Closing
 pub mod Stamps
 pub mod Headline
+pub mod Bounded
+pub mod PartLaws
 pub mod Laws

@@ -2,7 +2,7 @@
 
 ghost use Rattle.mv_machine.specs.Laws.{RunsAreLawful, ClosedLinksStayClosed, StampsFit, LawfulStampsAreDistinct, LawfulRepositoriesAgree};
 ghost use Rattle.mv_machine.specs.Laws.{LawfulClosingsHold, LawfulItemsAreSubmitted, FollowsIsTransitive, LawfulStatesKeepHeadline};
-ghost use Rattle.mv_machine.specs.Laws.{HeadlinesJoin, StepsFollow, RefusalsChangeNothing};
+ghost use Rattle.mv_machine.specs.Laws.{HeadlinesJoin, StepsFollow, RefusalsChangeNothing, LimitsAreKept};
 
 /// Whatever the steps and whatever their order: what each repository applied from each sender is a prefix of what the record
 /// put on their link, in order and each once, and what was routed is a prefix of what its sender submitted.
@@ -68,4 +68,10 @@ pub fn steps_follow()
 /// A step or a query that is refused has changed nothing, nor has one that is answered by a verdict.
 pub fn refusals_change_nothing()
     ensures { RefusalsChangeNothing }
+{}
+
+/// Whatever the steps and whatever their order: no party submits more than it may, nor waits for more than its uplink takes; no link
+/// has more under way than its wire takes, nor more waiting to be relayed than its window; and what is under way was relayed.
+pub fn limits_are_kept()
+    ensures { LimitsAreKept }
 {}

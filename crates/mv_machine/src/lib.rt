@@ -6,14 +6,19 @@
 
 mod laws;
 mod limits;
+mod part_laws;
 mod reply;
 mod step;
 
 pub use laws::{
     closed_links_stay_closed, closings_hold, follows_is_transitive, headlines_join,
-    items_are_submitted, lawful_states_keep_headline, refusals_change_nothing, repositories_agree,
+    items_are_submitted, lawful_states_keep_headline, limits_are_kept, refusals_change_nothing, repositories_agree,
     runs_are_lawful, stamps_are_distinct, stamps_fit, steps_follow,
 };
 pub use limits::{Limits, LimitsFault};
+pub use part_laws::{
+    links_stay_closed, links_stay_lawful, parties_stay_lawful, records_are_numbered,
+    records_are_short, records_stay_lawful,
+};
 pub use reply::{Refusal, Reply};
 pub use step::Step;

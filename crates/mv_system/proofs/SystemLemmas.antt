@@ -19,7 +19,9 @@ use Rattle.mv_repository.specs.Query.{answer_to}
 use Rattle.mv_repository.specs.Repository.{RepositoryState, new_repository, with_applied as repository_with}
 use Rattle.mv_machine.specs.State.{State, is_party, are_parties, submissions_of, is_uplink_full, is_sender_full, wire_of, log_of, applied_count, items_on as link_of}
 use Rattle.mv_machine.specs.Steps.{entry_from, next_item, next_answer, is_answer_busy, with_applied}
-use Rattle.mv_machine.proofs.LawfulLemmas.{IsSound, applied-sound, items_from-push}
+use Rattle.mv_machine.proofs.PartLemmas.{items_from-push}
+use Rattle.mv_machine.proofs.LawfulLemmas.{IsSound, applied-sound}
+use Rattle.mv_machine.proofs.PrefixLemmas.{slice_get-append}
 use Rattle.mv_machine.proofs.BoundLemmas.{routed_count-few, entries-few}
 use Rattle.mv_system.specs.Wire.{WireState, new_wire, numbers_of}
 use Rattle.mv_system.specs.World.{Parts, wire_at, repository_at, state_of, AllFramesOf, FitsWire, IsSystem, IsAnswerable}
@@ -91,11 +93,6 @@ pub AllFramesOf-push : (hub : HubState) (from to : ℕ) (frames : List Frame) (f
 AllFramesOf-push hub from to [] frame all one = (one, tt)
 AllFramesOf-push hub from to (first ∷ frames) frame all one = (all.0, AllFramesOf-push hub from to frames frame all.1 one)
 
-slice_get-append : {A : Type 0} (xs ys : List A) (i : ℕ) (x : A) → slice_get xs i ≡ Some x → slice_get (xs ++ ys) i ≡ Some x
-slice_get-append [] ys i x e = absurd (cc)
-slice_get-append (a ∷ xs) ys zero x e = e
-slice_get-append (a ∷ xs) ys (suc i) x e = slice_get-append xs ys i x e
-
 -- frames stay those of their links when the record gains an entry
 AllFramesOf-entry : (hub : HubState) (entry : Entry) (from to : ℕ) (frames : List Frame) → AllFramesOf hub from to frames → AllFramesOf (record hub { entries = hub.entries ++ entry ∷ [] }) from to frames
 AllFramesOf-entry hub entry from to [] all = tt
@@ -125,12 +122,9 @@ wire_kept p from to wire k frames fits =
         wires_each = square-map (length p.hub.parties) (λ w. numbers_of w.frames) (put p.wires from to wire) square;
       };
       lawful = record {
-        entries_fit = k.lawful.entries_fit;
-        entries_name_parties = k.lawful.entries_name_parties;
-        routed_in_order = k.lawful.routed_in_order;
-        applied_in_order = k.lawful.applied_in_order;
-        answers_in_order = k.lawful.answers_in_order;
-        senders_are_parties = k.lawful.senders_are_parties;
+        of_record = k.lawful.of_record;
+        of_party = k.lawful.of_party;
+        of_link = k.lawful.of_link;
       };
       parties_least = k.parties_least;
       parties_most = k.parties_most;
@@ -200,12 +194,9 @@ sent_kept p sent k square = record {
     wires_each = k.well_formed.wires_each;
   };
   lawful = record {
-    entries_fit = k.lawful.entries_fit;
-    entries_name_parties = k.lawful.entries_name_parties;
-    routed_in_order = k.lawful.routed_in_order;
-    applied_in_order = k.lawful.applied_in_order;
-    answers_in_order = k.lawful.answers_in_order;
-    senders_are_parties = k.lawful.senders_are_parties;
+    of_record = k.lawful.of_record;
+    of_party = k.lawful.of_party;
+    of_link = k.lawful.of_link;
   };
   parties_least = k.parties_least;
   parties_most = k.parties_most;
@@ -369,7 +360,7 @@ parties-places p st from to view both =
 -- what a repository applied of a sender is far from 2 ^ 32 items
 pub applied_count-few : (p : Parts) (from to : ℕ) → IsSystem p → ArePlaces p from to → applied_count (state_of p) from to ≤ 2000000
 applied_count-few p from to k places =
-    let order = k.lawful.applied_in_order from to places.from_party places.to_party in
+    let order = (k.lawful.of_link from to places.from_party places.to_party).applied in
     let items = link_items-few p.hub.parties p.hub.entries from to in
     let routed = routed_count-few (state_of p) from k.lawful places.from_party in
     omega (arith, ap length order.1, length-append (items_from (log_of (state_of p) to) from) order.0, items, routed, k.submissions_few from, k.bounds.submissions_most)

@@ -1,0 +1,292 @@
+-- Each step keeps the limits, and so does each run.
+use Rattle.std.proofs.Common.{◌≡◌, ℕ, ◌+◌, ◌-◌, ◌<◌, ◌≤◌, Bool, true, false, List, [], ◌∷◌, ◌++◌, length, drop, cond, eqb, Some, None, Option, sym, refl, ap, ◌∙◌, subst, arith, length-append, length-drop, ltb-true, eqb-true, get_or}
+use Rattle.std.specs.Prelude.{All, slice_get, not, ◌==◌, ◌||◌, nat_lt, nat_le, find, replicate}
+use Rattle.std.specs.List.{range_with_len}
+use Rattle.std.proofs.lemmas.Bool.{not-false, and_parts, leb-false, ltb-false, eqb-false}
+use Rattle.std.proofs.lemmas.List.{get_or-replicate}
+use Rattle.std.proofs.lemmas.List.Elements.{All-nil, All-cons, All-head, All-tail, All-append, All-weaker}
+use Rattle.mv_pack.specs.declared.key.PackKey.{PackKey}
+use Rattle.mv_message.specs.declared.message.Message.{Message}
+use Rattle.mv_message.specs.declared.message.Message.TheVariants.{Query}
+use Rattle.mv_message.specs.Kinds.{is_query_or_answer}
+use Rattle.mv_link.specs.declared.item.Item.{Item}
+use Rattle.mv_pairs.specs.Pairs.{cell, put, IsSquare}
+use Rattle.mv_pairs.proofs.PairsLemmas.{put-each, put-each_pair, cell-put_same}
+use Rattle.mv_hub.specs.declared.entry.Entry.{Entry}
+use Rattle.mv_hub.specs.declared.entry.Entry.TheVariants.{Routed, Closed}
+use Rattle.mv_hub.specs.Record.{routed_from, routed_count, is_open}
+use Rattle.mv_hub.specs.Links.{gained, link_items}
+use Rattle.mv_hub.proofs.RecordLemmas.{link_items-push, gained_other}
+use Rattle.mv_hub.proofs.NumberLemmas.{find-none_at}
+use Rattle.mv_repository.specs.declared.entry.LogEntry.{LogEntry}
+use Rattle.mv_repository.specs.declared.verdict.Local.{Local}
+use Rattle.mv_repository.specs.declared.verdict.Local.TheVariants.{Known, Absent}
+use Rattle.mv_repository.specs.Query.{answer_to}
+use Rattle.mv_repository.specs.Verdict.{local_verdict}
+use Rattle.mv_machine.specs.declared.step.Step.{Step}
+use Rattle.mv_machine.specs.declared.step.Step.TheVariants.{Submit, Verify, Route, Relay, Apply, Repeat, Close, Lose, Verdict}
+use Rattle.mv_machine.specs.declared.reply.Reply.{Reply}
+use Rattle.mv_machine.specs.Limits.{Bounds}
+use Rattle.mv_machine.specs.State.{State, is_party, are_parties, submissions_of, waiting_of, is_uplink_full, is_sender_full, with_submission, with_wire, sent_of, wire_of, log_of, items_on, applied_count, opening}
+use Rattle.mv_machine.specs.Steps.{submit, ask, verify_by, verify, verdict, with_applied, entry_from, is_answer_busy, next_entry, is_full, route_unless, route_front, route, relay, apply_next, apply_front, apply, is_unsent, is_gone, repeat, close, lose_front, lose, outcome}
+use Rattle.mv_machine.specs.Runs.{Allows, Runs}
+use Rattle.mv_machine.specs.Bounded.{KeepsLimits}
+use Rattle.mv_machine.proofs.LawfulLemmas.{IsSound, choose, allowed-case, step-sound, opening-sound}
+use Rattle.mv_machine.proofs.ClosingLemmas.{routed_count-push}
+
+-- the logs bear on no limit
+logged-keeps : (st : State) (logs : List (List LogEntry)) → KeepsLimits st → KeepsLimits (record st { logs = logs })
+logged-keeps st logs k = record { submitted = k.submitted; waiting = k.waiting; under_way = k.under_way; known = k.known; relayed = k.relayed; unsent = k.unsent }
+
+-- a party that may submitted one more message
+submitted-keeps : (st : State) (from : ℕ) (message : Message) → KeepsLimits st → is_uplink_full st from ≡ false → is_sender_full st from ≡ false
+    → KeepsLimits (with_submission st from message)
+submitted-keeps st from message k free room = record {
+  submitted = put-each (λ party l. party < length st.parties → length l ≤ st.limits.submissions) st.submissions from (submissions_of st from ++ message ∷ []) []
+      (λ is_party. omega (arith, k.submitted from is_party, eqb-false (length (submissions_of st from)) st.limits.submissions room, length-append (submissions_of st from) (message ∷ []))) k.submitted;
+  waiting = put-each (λ party l. party < length st.parties → length (drop (routed_count st.entries party) l) ≤ st.limits.uplink) st.submissions from (submissions_of st from ++ message ∷ []) []
+      (λ is_party. omega (arith, k.waiting from is_party, eqb-false (length (waiting_of st from)) st.limits.uplink free, length-append (submissions_of st from) (message ∷ []),
+      length-drop (routed_count st.entries from) (submissions_of st from), length-drop (routed_count st.entries from) (submissions_of st from ++ message ∷ []))) k.waiting;
+  under_way = k.under_way;
+  known = k.known;
+  relayed = k.relayed;
+  unsent = k.unsent;
+}
+
+-- other frames are under way on a link
+wired-keeps : (st : State) (from to : ℕ) (numbers : List ℕ) → KeepsLimits st
+    → (from < length st.parties → to < length st.parties → length numbers ≤ st.limits.wire)
+    → (from < length st.parties → to < length st.parties → All (λ number. (1 ≤ number) × (number ≤ sent_of st from to)) numbers)
+    → KeepsLimits (with_wire st from to numbers)
+wired-keeps st from to numbers k few known = record {
+  submitted = k.submitted;
+  waiting = k.waiting;
+  under_way = put-each_pair (λ i j w. i < length st.parties → j < length st.parties → length w ≤ st.limits.wire) st.wires from to numbers [] few k.under_way;
+  known = put-each_pair (λ i j w. i < length st.parties → j < length st.parties → All (λ number. (1 ≤ number) × (number ≤ sent_of st i j)) w) st.wires from to numbers [] known k.known;
+  relayed = k.relayed;
+  unsent = k.unsent;
+}
+
+-- the front of a wire is gone
+dropped-keeps : (st : State) (from to number : ℕ) (rest : List ℕ) → KeepsLimits st → wire_of st from to ≡ number ∷ rest → KeepsLimits (with_wire st from to rest)
+dropped-keeps st from to number rest k front =
+    wired-keeps st from to rest k
+    (λ a b. omega (arith, k.under_way from to a b, ap length front))
+    (λ a b. All-tail (λ n. (1 ≤ n) × (n ≤ sent_of st from to)) number rest (subst (All (λ n. (1 ≤ n) × (n ≤ sent_of st from to))) front (k.known from to a b)))
+
+-- one more frame is under way, which was relayed
+pushed-keeps : (st : State) (from to number : ℕ) → KeepsLimits st → nat_le st.limits.wire (length (wire_of st from to)) ≡ false → 1 ≤ number → number ≤ sent_of st from to
+    → KeepsLimits (with_wire st from to (wire_of st from to ++ number ∷ []))
+pushed-keeps st from to number k room least most =
+    wired-keeps st from to (wire_of st from to ++ number ∷ []) k
+    (λ a b. omega (arith, leb-false st.limits.wire (length (wire_of st from to)) room, length-append (wire_of st from to) (number ∷ [])))
+    (λ a b. All-append (λ n. (1 ≤ n) × (n ≤ sent_of st from to)) (wire_of st from to) (number ∷ []) (k.known from to a b)
+    (All-cons (λ n. (1 ≤ n) × (n ≤ sent_of st from to)) number [] (least, most) (All-nil (λ n. (1 ≤ n) × (n ≤ sent_of st from to)))))
+
+-- the next item of a link counts as relayed
+sent-keeps : (st : State) (from to : ℕ) → KeepsLimits st → (sent_of st from to == length (items_on st from to)) ≡ false
+    → KeepsLimits (record st { sent = put st.sent from to (sent_of st from to + 1) })
+sent-keeps st from to k some = record {
+  submitted = k.submitted;
+  waiting = k.waiting;
+  under_way = k.under_way;
+  known = λ i j a b. All-weaker (λ n. (1 ≤ n) × (n ≤ sent_of st i j)) (λ n. (1 ≤ n) × (n ≤ cell (put st.sent from to (sent_of st from to + 1)) i j 0))
+      (λ n bounds. (bounds.0, omega (arith, bounds.1, grown i j))) (wire_of st i j) (k.known i j a b);
+  relayed = put-each_pair (λ i j n. i < length st.parties → j < length st.parties → n ≤ length (items_on st i j)) st.sent from to (sent_of st from to + 1) 0
+      (λ a b. omega (arith, k.relayed from to a b, eqb-false (sent_of st from to) (length (items_on st from to)) some)) k.relayed;
+  unsent = put-each_pair (λ i j n. i < length st.parties → j < length st.parties → length (items_on st i j) - n ≤ st.limits.window) st.sent from to (sent_of st from to + 1) 0
+      (λ a b. omega (arith, k.unsent from to a b)) k.unsent;
+}
+  where
+    grown : (i j : ℕ) → cell st.sent i j 0 ≤ cell (put st.sent from to (cell st.sent from to 0 + 1)) i j 0
+    grown = put-each_pair (λ i j n. cell st.sent i j 0 ≤ n) st.sent from to (cell st.sent from to 0 + 1) 0 (omega arith) (λ i j. omega arith)
+
+-- the record gained an entry, where each link has room for what this puts on it
+entered-keeps : (st : State) (entry : Entry) → KeepsLimits st
+    → ((from to : ℕ) → from < length st.parties → to < length st.parties
+    → length (items_on st from to) - sent_of st from to + length (gained st.parties st.entries entry from to) ≤ st.limits.window)
+    → KeepsLimits (record st { entries = st.entries ++ entry ∷ [] })
+entered-keeps st entry k room = record {
+  submitted = k.submitted;
+  waiting = λ party is_party. omega (arith, k.waiting party is_party, routed_count-push st.entries (entry ∷ []) party,
+      length-drop (routed_count st.entries party) (submissions_of st party), length-drop (routed_count (st.entries ++ entry ∷ []) party) (submissions_of st party));
+  under_way = k.under_way;
+  known = k.known;
+  relayed = λ from to a b. omega (arith, k.relayed from to a b, longer from to);
+  unsent = λ from to a b. omega (arith, room from to a b, longer from to);
+}
+  where
+    longer : (from to : ℕ) → length (link_items st.parties (st.entries ++ entry ∷ []) from to) ≡ length (items_on st from to) + length (gained st.parties st.entries entry from to)
+    longer from to = ap length (link_items-push st.parties st.entries entry from to) ∙ length-append (items_on st from to) (gained st.parties st.entries entry from to)
+
+submit-keeps : (st : State) (from : ℕ) (message : Message) → KeepsLimits st → KeepsLimits (submit st from message).state
+unfolding submit
+submit-keeps st from message k =
+    choose KeepsLimits (not (is_party st from)) _ _ (λ _. k) (λ _.
+    choose KeepsLimits (is_query_or_answer message) _ _ (λ _. k) (λ _.
+    choose KeepsLimits (is_uplink_full st from) _ _ (λ _. k) (λ free.
+    choose KeepsLimits (is_sender_full st from) _ _ (λ _. k) (λ room. submitted-keeps st from message k free room))))
+
+ask-keeps : (st : State) (party : ℕ) (key : PackKey) → KeepsLimits st → KeepsLimits (ask st party key).state
+unfolding ask
+ask-keeps st party key k =
+    choose KeepsLimits (not (is_party st party)) _ _ (λ _. k) (λ _.
+    choose KeepsLimits (is_uplink_full st party) _ _ (λ _. k) (λ free.
+    choose KeepsLimits (is_sender_full st party) _ _ (λ _. k) (λ room. submitted-keeps st party (Query key) k free room)))
+
+verify-keeps : (st : State) (party : ℕ) (key : PackKey) → KeepsLimits st → KeepsLimits (verify st party key).state
+unfolding verify
+verify-keeps st party key k = choose KeepsLimits (not (is_party st party)) _ _ (λ _. k) (λ _. by (local_verdict key (log_of st party)))
+  where
+    by : (local : Local) → KeepsLimits (verify_by st party key local).state
+    by (Known verdict) = k
+    by Absent = ask-keeps st party key k
+
+-- what a routed message puts on the links from its sender fits, where none of them is full, and it puts nothing on others
+routed-room : (st : State) (from : ℕ) (message : Message) → KeepsLimits st → ((to : ℕ) → to < length st.parties → is_full st from message to ≡ false)
+    → (sender to : ℕ) → sender < length st.parties → to < length st.parties
+    → length (items_on st sender to) - sent_of st sender to + length (gained st.parties st.entries (next_entry st from message) sender to) ≤ st.limits.window
+unfolding is_full
+routed-room st from message k free sender to a b = by (eqb from sender) refl
+  where
+    by : (same : Bool) → eqb from sender ≡ same
+        → length (items_on st sender to) - sent_of st sender to + length (gained st.parties st.entries (next_entry st from message) sender to) ≤ st.limits.window
+    by true e =
+        subst (λ s. length (items_on st s to) - sent_of st s to + length (gained st.parties st.entries (next_entry st from message) s to) ≤ st.limits.window)
+        (eqb-true from sender e) (ltb-false st.limits.window _ (free to b))
+    by false e =
+        omega (arith, k.unsent sender to a b, ap length (gained_other st.parties st.entries from (routed_count st.entries from + 1) message sender to e))
+
+route-keeps : (st : State) (from : ℕ) → KeepsLimits st → KeepsLimits (route st from).state
+unfolding route
+route-keeps st from k = choose KeepsLimits (not (is_party st from)) _ _ (λ _. k) (λ _. front (slice_get (submissions_of st from) (routed_count st.entries from)))
+  where
+    unless : (message : Message) (full : Option ℕ) → find (is_full st from message) (range_with_len 0 (length st.parties)) ≡ full → KeepsLimits (route_unless st from message full).state
+    unless message (Some to) e = k
+    unless message None e =
+        entered-keeps st (next_entry st from message) k (routed-room st from message k (λ to lt. find-none_at (is_full st from message) to (length st.parties) lt e))
+
+    front : (message : Option Message) → KeepsLimits (route_front st from message).state
+    front None = k
+    front (Some message) = unless message (find (is_full st from message) (range_with_len 0 (length st.parties))) refl
+
+relay-keeps : (st : State) (from to : ℕ) → IsSquare (length st.parties) st.sent → KeepsLimits st → KeepsLimits (relay st from to).state
+unfolding relay
+relay-keeps st from to square k =
+    choose KeepsLimits (not (are_parties st from to)) _ _ (λ _. k) (λ parties.
+    choose KeepsLimits (nat_le st.limits.wire (length (wire_of st from to))) _ _ (λ _. k) (λ room.
+    choose KeepsLimits (sent_of st from to == length (items_on st from to)) _ _ (λ _. k) (λ some.
+    let both = and_parts (is_party st from) (is_party st to) (not-false (are_parties st from to) parties) in
+    let now : cell (put st.sent from to (sent_of st from to + 1)) from to 0 ≡ sent_of st from to + 1 =
+    cell-put_same (length st.parties) st.sent from to (sent_of st from to + 1) 0 square (ltb-true from (length st.parties) both.0) (ltb-true to (length st.parties) both.1) in
+    pushed-keeps (record st { sent = put st.sent from to (sent_of st from to + 1) }) from to (sent_of st from to + 1) (sent-keeps st from to k some) room (omega arith) (omega (arith, now)))))
+
+-- an entry was applied, and the answer that it calls for submitted
+applied-keeps : (st : State) (party : ℕ) (entry : LogEntry) (answer : Option Message) → KeepsLimits st → is_answer_busy st party answer ≡ false → KeepsLimits (with_applied st party entry answer)
+applied-keeps st party entry None k free = logged-keeps st _ k
+applied-keeps st party entry (Some answer) k free =
+    let neither = none (is_uplink_full st party) (is_sender_full st party) free in
+    logged-keeps (with_submission st party answer) _ (submitted-keeps st party answer k neither.0 neither.1)
+  where
+    none : (a b : Bool) → (a || b) ≡ false → (a ≡ false) × (b ≡ false)
+    none false false e = (refl, refl)
+    none false true e = absurd (cc)
+    none true b e = absurd (cc)
+
+apply-keeps : (st : State) (from to : ℕ) → KeepsLimits st → KeepsLimits (apply st from to).state
+unfolding apply apply_front
+apply-keeps st from to k = choose KeepsLimits (not (are_parties st from to)) _ _ (λ _. k) (λ _. front (wire_of st from to) refl)
+  where
+    next : (number : ℕ) (rest : List ℕ) (item : Option Item) → wire_of st from to ≡ number ∷ rest → KeepsLimits (apply_next st from to number rest item).state
+    next number rest None e = dropped-keeps st from to number rest k e
+    next number rest (Some item) e =
+        choose KeepsLimits (is_answer_busy st to (answer_to (log_of st to) (entry_from from item))) _ _ (λ _. k) (λ free.
+        after (answer_to (log_of st to) (entry_from from item)) free)
+      where
+        after : (answer : Option Message) → is_answer_busy st to answer ≡ false → KeepsLimits (with_wire (with_applied st to (entry_from from item) answer) from to rest)
+        after None free = dropped-keeps (with_applied st to (entry_from from item) None) from to number rest (applied-keeps st to (entry_from from item) None k free) e
+        after (Some answer) free = dropped-keeps (with_applied st to (entry_from from item) (Some answer)) from to number rest (applied-keeps st to (entry_from from item) (Some answer) k free) e
+
+    front : (wire : List ℕ) → wire_of st from to ≡ wire → KeepsLimits (apply_front st from to wire).state
+    front [] e = k
+    front (number ∷ rest) e =
+        choose KeepsLimits (nat_le number (applied_count st from to)) _ _ (λ _. dropped-keeps st from to number rest k e) (λ _.
+        choose KeepsLimits (nat_lt (applied_count st from to + 1) number) _ _ (λ _. dropped-keeps st from to number rest k e) (λ _.
+        next number rest (slice_get (items_on st from to) (number - 1)) e))
+
+repeat-keeps : (st : State) (from to number : ℕ) → KeepsLimits st → KeepsLimits (repeat st from to number).state
+unfolding repeat
+repeat-keeps st from to number k =
+    choose KeepsLimits (not (are_parties st from to)) _ _ (λ _. k) (λ _.
+    choose KeepsLimits (nat_le st.limits.wire (length (wire_of st from to))) _ _ (λ _. k) (λ room.
+    choose KeepsLimits (is_unsent st from to number) _ _ (λ _. k) (λ sent.
+    let both = none (number == 0) (nat_lt (sent_of st from to) number) sent in
+    choose KeepsLimits (is_gone st from to number) _ _ (λ _. k) (λ _.
+    pushed-keeps st from to number k room (omega (arith, eqb-false number 0 both.0)) (ltb-false (sent_of st from to) number both.1)))))
+  where
+    none : (a b : Bool) → (a || b) ≡ false → (a ≡ false) × (b ≡ false)
+    none false false e = (refl, refl)
+    none false true e = absurd (cc)
+    none true b e = absurd (cc)
+
+close-keeps : (st : State) (from to : ℕ) → KeepsLimits st → KeepsLimits (close st from to).state
+unfolding close gained
+close-keeps st from to k =
+    choose KeepsLimits (not (are_parties st from to)) _ _ (λ _. k) (λ _.
+    choose KeepsLimits (not (is_open st.entries from to)) _ _ (λ _. k) (λ _.
+    entered-keeps st (Closed from to) k (λ sender receiver a b. omega (arith, k.unsent sender receiver a b))))
+
+lose-keeps : (st : State) (from to : ℕ) → KeepsLimits st → KeepsLimits (lose st from to).state
+unfolding lose
+lose-keeps st from to k = choose KeepsLimits (not (are_parties st from to)) _ _ (λ _. k) (λ _. front (wire_of st from to) refl)
+  where
+    front : (wire : List ℕ) → wire_of st from to ≡ wire → KeepsLimits (lose_front st from to wire).state
+    front [] e = k
+    front (number ∷ rest) e = dropped-keeps st from to number rest k e
+
+verdict-keeps : (st : State) (party q : ℕ) → KeepsLimits st → KeepsLimits (verdict st party q).state
+unfolding verdict
+verdict-keeps st party q k = choose KeepsLimits (not (is_party st party)) _ _ (λ _. k) (λ _. k)
+
+outcome-keeps : (st : State) (step : Step) → IsSquare (length st.parties) st.sent → KeepsLimits st → KeepsLimits (outcome st step).state
+outcome-keeps st (Submit from message) square k = submit-keeps st from message k
+outcome-keeps st (Verify party key) square k = verify-keeps st party key k
+outcome-keeps st (Route from) square k = route-keeps st from k
+outcome-keeps st (Relay from to) square k = relay-keeps st from to square k
+outcome-keeps st (Apply from to) square k = apply-keeps st from to k
+outcome-keeps st (Repeat from to number) square k = repeat-keeps st from to number k
+outcome-keeps st (Close from to) square k = close-keeps st from to k
+outcome-keeps st (Lose from to) square k = lose-keeps st from to k
+outcome-keeps st (Verdict party q) square k = verdict-keeps st party q k
+
+run-keeps : (old : State) (steps : List Step) (replies : List Reply) (new : State) → IsSound old → KeepsLimits old → Runs old steps replies new → KeepsLimits new
+run-keeps old [] [] new sound k run = subst KeepsLimits (sym run) k
+run-keeps old [] (reply ∷ replies) new sound k run = absurd run
+run-keeps old (step ∷ steps) [] new sound k run = absurd run
+run-keeps old (step ∷ steps) (reply ∷ replies) new sound k run =
+    run-keeps run.0 steps replies new (step-sound old step reply run.0 run.1 sound)
+    (allowed-case KeepsLimits old step reply run.0 run.1 k (outcome-keeps old step sound.well_formed.sent_each k)) run.2
+
+opening-keeps : (parties : List (List (List ℕ))) (limits : Bounds) → KeepsLimits (opening parties limits)
+unfolding link_items
+opening-keeps parties limits = record {
+  submitted = λ party is_party. subst (λ (l : List Message). length l ≤ limits.submissions) (sym (get_or-replicate (length parties) party [] [] is_party)) (omega arith);
+  waiting = λ party is_party. subst (λ (l : List Message). length (drop 0 l) ≤ limits.uplink) (sym (get_or-replicate (length parties) party [] [] is_party)) (omega arith);
+  under_way = λ from to a b. subst (λ (w : List ℕ). length w ≤ limits.wire) (sym (none [] from to a b)) (omega arith);
+  known = λ from to a b. subst (All (λ n. (1 ≤ n) × (n ≤ sent_of (opening parties limits) from to))) (sym (none [] from to a b)) (All-nil (λ n. (1 ≤ n) × (n ≤ sent_of (opening parties limits) from to)));
+  relayed = λ from to a b. omega (arith, none {A = ℕ} 0 from to a b);
+  unsent = λ from to a b. few from to;
+}
+  where
+    none : {A : Type 0} (x : A) (from to : ℕ) → from < length parties → to < length parties
+        → cell (replicate (length parties) (replicate (length parties) x)) from to x ≡ x
+    none x from to a b =
+        ap (λ l. get_or l to x) (get_or-replicate (length parties) from (replicate (length parties) x) [] a) ∙ get_or-replicate (length parties) to x x b
+
+    few : (from to : ℕ) → length (items_on (opening parties limits) from to) - sent_of (opening parties limits) from to ≤ limits.window
+    few from to = omega arith
+
+-- every run from an opening
+pub limits_kept : (parties : List (List (List ℕ))) (limits : Bounds) (steps : List Step) (replies : List Reply) (new : State)
+    → Runs (opening parties limits) steps replies new → KeepsLimits new
+limits_kept parties limits steps replies new = run-keeps (opening parties limits) steps replies new (opening-sound parties limits) (opening-keeps parties limits)

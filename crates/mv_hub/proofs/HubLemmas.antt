@@ -1,11 +1,10 @@
 -- What the hub keeps, through a routing and a relay.
-use Rattle.std.proofs.Common.{◌≡◌, ℕ, ◌+◌, ◌-◌, ◌<◌, ◌≤◌, Bool, true, false, ◌&&◌, ◌||◌, not, List, [], ◌∷◌, ◌++◌, length, get_or, set, cond, Some, None, sym, refl, ap, ◌∙◌, subst, arith, ◌⊎◌, ◌≢◌, inl, inr, append-nil, eqb, zero-add, length-append, length-set, get_or-set_same, get_or-set_other}
+use Rattle.std.proofs.Common.{◌≡◌, ℕ, ◌+◌, ◌-◌, ◌<◌, ◌≤◌, Bool, true, false, ◌&&◌, ◌||◌, not, List, [], ◌∷◌, ◌++◌, length, get_or, set, cond, Some, None, sym, refl, ap, ◌∙◌, subst, arith, ◌⊎◌, ◌≢◌, inl, inr, append-nil, eqb, true≢false, ◌↔◌, length-append, length-set, get_or-set_same, get_or-set_other}
 use mir.Val.{bool_byte}
 use Rattle.std.specs.Prelude.{nat_lt, ◌==◌, replicate}
 use Rattle.std.specs.List.{All, list_any}
 use Rattle.std.proofs.lemmas.Bool.{cases_eq, eq-eqb, ne_eqb, lt-ltb, le-ltb, ltb-false}
 use Rattle.std.proofs.lemmas.List.{get_or-replicate, length-replicate}
-use Rattle.std.proofs.lemmas.List.FromFn.{get_or-map-range_with_len, length-map-range_with_len}
 use Rattle.mv_message.specs.declared.message.Message.{Message}
 use Rattle.mv_link.specs.declared.item.Item.{Item}
 use Rattle.mv_link.specs.declared.item.Item.TheVariants.{Receipt, Carried}
@@ -15,11 +14,14 @@ use Rattle.mv_pairs.proofs.PairsLemmas.{cell-map, put-map, cell-all, table-all, 
 use Rattle.mv_hub.specs.declared.entry.Entry.{Entry}
 use Rattle.mv_hub.specs.declared.entry.Entry.TheVariants.{Routed, Closed}
 use Rattle.mv_hub.specs.Record.{routed_from, routed_count, is_open}
-use Rattle.mv_hub.specs.Targets.{reach, is_reached, is_query}
+use Rattle.mv_message.specs.declared.message.Message.TheVariants.{Master, Upload, Status, Recall, Repack, Withdraw, Query, Answer}
+use Rattle.mv_hub.specs.Targets.{reach, is_reached, is_target, is_candidate, serves_product, is_query}
 use Rattle.mv_hub.specs.Links.{gained, link_items}
-use Rattle.mv_hub.specs.Hub.{HubState, new_hub, sent_of, items_on, next_items, gains_of, is_busy, busy_party, busy_fault, route_fault, with_relayed}
+use Rattle.mv_hub.specs.Hub.{HubState, new_hub, sent_of, items_on, next_items, is_busy, busy_party, busy_fault, route_fault, with_relayed}
 use Rattle.mv_hub.specs.declared.fault.RouteFault.TheVariants.{StrangerParty}
-use Rattle.mv_hub.specs.Kept.{link_at, sent_table, AreCounts, AreOpen, Carries, AreLinks, IsKept, Gains, GainsRow}
+use Rattle.mv_hub.specs.Kept.{link_at, sent_table, AreCounts, AreOpen, Carries, AreLinks, IsKept}
+use Rattle.mv_hub.specs.Gains.{Gains, GainsRow, IsRouting, gain_of, gain_count}
+use Rattle.mv_hub.proofs.LinksLemmas.{room-after}
 use Rattle.mv_hub.proofs.RecordLemmas.{routed_from-append, link_items-push, gained_other, gained-closed}
 use Rattle.mv_hub.proofs.NumberLemmas.{any-filter_range, find-none_at}
 
@@ -99,6 +101,50 @@ length-next_items hub from to message reached lt e =
     ap length (sym (next_items-are hub from to message reached _ _ lt e refl refl))
     ∙ length-choices ((to == from) && is_open hub.entries from from) (list_any (λ other. other == to) reached) _ _
 
+cond-and : {A : Type 0} (a b : Bool) (xs ys : List A) → cond a (cond b xs []) [] ≡ cond (a && b) xs []
+cond-and true b xs ys = refl
+cond-and false b xs ys = refl
+
+-- what a link gains is what the record will put on it
+pub next-gain : (hub : HubState) (from k stamp : ℕ) (reached : List ℕ) (message : Message) (receipt : List Item) (to : ℕ)
+    → IsRouting hub message from k stamp reached → to < length hub.parties
+    → receipt ≡ cond (is_open hub.entries from from) (Receipt k reached (is_query message) ∷ []) []
+    → gain_of from reached receipt (Carried k stamp message) to ≡ next_items hub from message to
+next-gain hub from k stamp reached message receipt to routing lt e =
+    next_items-are hub from to message reached (cond (to == from) receipt []) (cond (list_any (λ other. other == to) reached) (Carried k stamp message ∷ []) [])
+    lt routing.parties
+    (ap (λ r. cond (to == from) r []) e
+    ∙ cond-and (to == from) (is_open hub.entries from from) (Receipt k reached (is_query message) ∷ []) []
+    ∙ ap (λ n. cond ((to == from) && is_open hub.entries from from) (Receipt n reached (is_query message) ∷ []) []) routing.number)
+    (ap (λ n. cond (list_any (λ other. other == to) reached) (Carried n stamp message ∷ []) []) routing.number
+    ∙ ap (λ n. cond (list_any (λ other. other == to) reached) (Carried (routed_count hub.entries from + 1) n message ∷ []) []) routing.place)
+
+pub length-gain : (from : ℕ) (reached : List ℕ) (receipt : List Item) (item : Item) (to : ℕ)
+    → length (gain_of from reached receipt item to) ≡ gain_count from reached receipt to
+length-gain from reached receipt item to = by (to == from) (list_any (λ other. other == to) reached)
+  where
+    by : (a b : Bool) → length (cond a receipt [] ++ cond b (item ∷ []) []) ≡ cond a (length receipt) 0 + cond b 1 0
+    by true true = length-append receipt (item ∷ [])
+    by true false = length-append receipt []
+    by false true = refl
+    by false false = refl
+
+-- a link that is neither to a party that is reached nor to the sender gains nothing
+pub next-none : (hub : HubState) (from to : ℕ) (message : Message)
+    → (is_reached hub.parties hub.entries from message to || (to == from)) ≡ false → length (next_items hub from message to) ≡ 0
+unfolding gained
+next-none hub from to message e =
+    let parts = neither (is_reached hub.parties hub.entries from message to) (to == from) e in
+    rw (parts.0, parts.1) (few (eqb from from))
+  where
+    neither : (a b : Bool) → (a || b) ≡ false → (a ≡ false) × (b ≡ false)
+    neither true b e = absurd (cc)
+    neither false b e = (refl, e)
+
+    few : (b : Bool) → length {A = Item} (cond b [] []) ≡ 0
+    few true = refl
+    few false = refl
+
 -- a link is busy exactly where it has no room
 pub not_busy : (hub : HubState) (from to : ℕ) (message : Message) (link : Sending) (count : ℕ)
     → Carries hub.window (items_on hub from to) link → link.sent ≡ sent_of hub from to → count ≡ length (next_items hub from message to)
@@ -143,25 +189,72 @@ room hub from to message link carries sent free =
     neither true b e = absurd (cc)
     neither false b e = (refl, e)
 
+-- whether a link is busy, by whether it has room
+pub busy-is : (hub : HubState) (from to : ℕ) (message : Message) (link : Sending) (count : ℕ) (free : Bool)
+    → Carries hub.window (items_on hub from to) link → link.sent ≡ sent_of hub from to → count ≡ length (next_items hub from message to)
+    → (free ≡ true ↔ HasRoom link count) → not free ≡ is_busy hub from message to
+busy-is hub from to message link count true carries sent e room = sym (not_busy hub from to message link count carries sent e (room.0 refl))
+busy-is hub from to message link count false carries sent e room =
+    sym (busy hub from to message link count carries sent e (λ fits. true≢false (sym (room.1 fits))))
+
+-- a link to another party that is reached gains one item
+pub count-other : (hub : HubState) (from to : ℕ) (message : Message) (reached : List ℕ)
+    → to < length hub.parties → reached ≡ reach hub.parties hub.entries from message
+    → (is_reached hub.parties hub.entries from message to || (to == from)) ≡ true → to ≢ from
+    → 1 ≡ length (next_items hub from message to)
+count-other hub from to message reached lt e gains other =
+    let apart : (to == from) ≡ false = ne_eqb to from other in
+    let there : list_any (λ p. p == to) reached ≡ true =
+    has_party-reach hub.parties hub.entries from message reached to lt e
+    ∙ first (is_reached hub.parties hub.entries from message to) (to == from) gains apart in
+    sym (length-next_items hub from to message reached lt e
+    ∙ ap (λ b. bool_byte (b && is_open hub.entries from from) + bool_byte (list_any (λ p. p == to) reached)) apart
+    ∙ ap (λ b. bool_byte false + bool_byte b) there)
+  where
+    first : (a b : Bool) → (a || b) ≡ true → b ≡ false → a ≡ true
+    first true b e n = refl
+    first false b e n = sym n ∙ e
+
+-- the sender's own link gains its receipt, and the message where that reaches it
+pub count-own : (hub : HubState) (from to : ℕ) (message : Message) (reached : List ℕ)
+    → to < length hub.parties → reached ≡ reach hub.parties hub.entries from message → to ≡ from
+    → bool_byte (is_open hub.entries to to) + bool_byte (list_any (λ p. p == to) reached) ≡ length (next_items hub from message to)
+count-own hub from to message reached lt e same =
+    sym (length-next_items hub from to message reached lt e
+    ∙ ap (λ b. bool_byte (b && is_open hub.entries from from) + bool_byte (list_any (λ p. p == to) reached)) (eq-eqb to from same)
+    ∙ ap (λ p. bool_byte (is_open hub.entries p p) + bool_byte (list_any (λ q. q == to) reached)) (sym same))
+
+and-assoc : (a b c : Bool) → (a && (b && c)) ≡ ((a && b) && c)
+and-assoc true b c = refl
+and-assoc false b c = refl
+
+-- whom a message reaches, of those that it may be for
+pub reached-candidate : (parties : List (List (List ℕ))) (entries : List Entry) (from : ℕ) (message : Message) (to : ℕ)
+    → (is_candidate parties entries message to && (not (is_query message && (to == from)) && is_open entries from to))
+    ≡ is_reached parties entries from message to
+unfolding is_reached is_target
+reached-candidate parties entries from (Master gtin product) to = refl
+reached-candidate parties entries from (Upload gtin batch expiry national serials) to = refl
+reached-candidate parties entries from (Status key new user at) to = refl
+reached-candidate parties entries from (Recall key at) to = refl
+reached-candidate parties entries from (Repack before before_serials after after_serials at) to = refl
+reached-candidate parties entries from (Withdraw gtin at) to = refl
+reached-candidate parties entries from (Query key) to =
+    and-assoc (serves_product parties entries key.gtin to) (not (to == from)) (is_open entries from to)
+reached-candidate parties entries from (Answer asker q key found) to = refl
+
 -- how many items of a link were relayed
 pub sent-at : (links : List (List Sending)) (from to : ℕ) → cell (sent_table links) from to 0 ≡ (link_at links from to).sent
 sent-at links from to = cell-map (λ v. v.sent) links from to (new_sending 0)
 
 -- where no link is busy, each has room for its gain
-pub rooms : (parties : List (List (List ℕ))) (window : ℕ) (entries : List Entry) (links : List (List Sending)) (gains : List (List Item)) (from : ℕ) (message : Message)
+pub rooms : (parties : List (List (List ℕ))) (window : ℕ) (entries : List Entry) (links : List (List Sending)) (from : ℕ) (message : Message)
     → AreLinks parties window entries links → from < length parties → busy_party (view parties window entries links) from message ≡ None
-    → gains ≡ gains_of (view parties window entries links) from message
-    → (to : ℕ) → to < length gains → HasRoom (link_at links from to) (length (get_or gains to []))
+    → (to : ℕ) → to < length parties → HasRoom (link_at links from to) (length (next_items (view parties window entries links) from message to))
 unfolding busy_party
-rooms parties window entries links gains from message are is_from none e to lt =
-    let hub = view parties window entries links in
-    let count : length gains ≡ length parties = ap length e ∙ length-map-range_with_len (next_items hub from message) 0 (length parties) in
-    let is_to : to < length parties = omega arith in
-    let gain : get_or gains to [] ≡ next_items hub from message to =
-    ap (λ l. get_or l to []) e ∙ get_or-map-range_with_len (next_items hub from message) 0 (length parties) to to [] is_to (zero-add to) in
-    subst (λ l. HasRoom (link_at links from to) (length l)) (sym gain)
-    (room hub from to message (link_at links from to) (are.values from to is_from is_to) (sym (sent-at links from to))
-    (find-none_at (is_busy hub from message) to (length parties) is_to none))
+rooms parties window entries links from message are is_from none to is_to =
+    room (view parties window entries links) from to message (link_at links from to) (are.values from to is_from is_to) (sym (sent-at links from to))
+    (find-none_at (is_busy (view parties window entries links) from message) to (length parties) is_to none)
 
 -- the counts once a message was routed
 counts-routed : (n : ℕ) (entries : List Entry) (counts : List ℕ) (from : ℕ) (message : Message) → AreCounts n entries counts → from < n
@@ -185,29 +278,31 @@ counts-routed n entries counts from message are lt =
       ];
     }
 
-carries-gain : (window : ℕ) (items more : List Item) (old new : Sending) → Carries window items old → Gains more old new → Carries window (items ++ more) new
-carries-gain window items more old new carries gains = record { window = gains.window ∙ carries.window; ends = gains.ends items carries.ends }
+carries-gain : (window : ℕ) (items more : List Item) (old new : Sending) → Carries window items old → Gains more old new
+    → HasRoom old (length more) → Carries window (items ++ more) new
+carries-gain window items more old new carries gains room = record {
+  window = gains.window ∙ carries.window;
+  ends = gains.ends items carries.ends;
+  fits = room-after more old new 0 gains (omega (arith, room.0), omega (arith, room.1));
+}
 
 -- the links once each link from the sender gained what the record puts on it
-links-routed : (parties : List (List (List ℕ))) (window : ℕ) (entries : List Entry) (old new : List (List Sending)) (gains : List (List Item)) (from : ℕ) (message : Message)
-    → AreLinks parties window entries old → gains ≡ gains_of (view parties window entries old) from message → GainsRow from gains old new
+links-routed : (parties : List (List (List ℕ))) (window : ℕ) (entries : List Entry) (old new : List (List Sending)) (from : ℕ) (message : Message)
+    → AreLinks parties window entries old
+    → ((to : ℕ) → to < length parties → HasRoom (link_at old from to) (length (next_items (view parties window entries old) from message to)))
+    → GainsRow (length parties) from (next_items (view parties window entries old) from message) old new
     → AreLinks parties window (entries ++ Routed from (routed_count entries from + 1) message ∷ []) new
-links-routed parties window entries old new gains from message are e row =
-    let hub = view parties window entries old in
+links-routed parties window entries old new from message are free row =
     let entry = Routed from (routed_count entries from + 1) message in
-    let count : length gains ≡ length parties = ap length e ∙ length-map-range_with_len (next_items hub from message) 0 (length parties) in
     record {
-      square = subst (λ n. IsSquare n new) count row.square;
+      square = row.square;
       values = λ party to is_party is_to.
           subst (λ l. Carries window l (link_at new party to)) (sym (link_items-push parties entries entry party to))
           (elim (cases_eq party from) as (λ _. Carries window (link_items parties entries party to ++ gained parties entries entry party to) (link_at new party to)) [
             | inl same ↦
-                let gain : get_or gains to [] ≡ next_items hub from message to =
-                ap (λ l. get_or l to []) e ∙ get_or-map-range_with_len (next_items hub from message) 0 (length parties) to to [] is_to (zero-add to) in
                 let here : Carries window (link_items parties entries from to ++ gained parties entries entry from to) (link_at new from to) =
-                subst (λ l. Carries window (link_items parties entries from to ++ l) (link_at new from to)) gain
-                (carries-gain window (link_items parties entries from to) (get_or gains to []) (link_at old from to) (link_at new from to)
-                (are.values from to (subst (λ p. p < length parties) same is_party) is_to) (row.gained to (omega arith))) in
+                carries-gain window (link_items parties entries from to) (gained parties entries entry from to) (link_at old from to) (link_at new from to)
+                (are.values from to (subst (λ p. p < length parties) same is_party) is_to) (row.gained to is_to) (free to is_to) in
                 subst (λ p. Carries window (link_items parties entries p to ++ gained parties entries entry p to) (link_at new p to)) (sym same) here
             | inr other ↦
                 subst (Carries window (link_items parties entries party to ++ gained parties entries entry party to)) (sym (row.others party to other))
@@ -220,11 +315,12 @@ links-routed parties window entries old new gains from message are e row =
 
 -- all that the hub keeps, once a message was routed
 pub kept-routed : (parties : List (List (List ℕ))) (window : ℕ) (entries : List Entry) (counts : List ℕ)
-    (open_links : List (List Bool)) (old new : List (List Sending)) (gains : List (List Item)) (from : ℕ) (message : Message)
+    (open_links : List (List Bool)) (old new : List (List Sending)) (from : ℕ) (message : Message)
     → IsKept parties window entries counts open_links old → from < length parties
-    → gains ≡ gains_of (view parties window entries old) from message → GainsRow from gains old new
+    → busy_party (view parties window entries old) from message ≡ None
+    → GainsRow (length parties) from (next_items (view parties window entries old) from message) old new
     → IsKept parties window (entries ++ Routed from (routed_count entries from + 1) message ∷ []) (set counts from (routed_count entries from + 1)) open_links new
-kept-routed parties window entries counts open_links old new gains from message kept lt e row = record {
+kept-routed parties window entries counts open_links old new from message kept lt none row = record {
   some = kept.some;
   few = kept.few;
   wide = kept.wide;
@@ -234,7 +330,8 @@ kept-routed parties window entries counts open_links old new gains from message 
     square = kept.are_open.square;
     values = λ a b is_a is_b. kept.are_open.values a b is_a is_b ∙ sym (is_open-routed entries from (routed_count entries from + 1) message a b);
   };
-  are_links = links-routed parties window entries old new gains from message kept.are_links e row;
+  are_links = links-routed parties window entries old new from message kept.are_links
+      (rooms parties window entries old from message kept.are_links lt none) row;
 }
 
 -- the counts, the closed link and the links, once a link was closed
@@ -342,7 +439,7 @@ kept-new parties window open_links links some few wide narrow open_square all_op
     square = square;
     values = λ from to p q.
         let e = cell-all (λ v. v ≡ new_sending window) (length parties) links from to (new_sending 0) square fresh p q in
-        subst (Carries window []) (sym e) (record { window = refl; ends = record { front = []; whole = refl; count = refl } });
+        subst (Carries window []) (sym e) (record { window = refl; ends = record { front = []; whole = refl; count = refl }; fits = (omega arith, omega arith) });
   };
 }
 

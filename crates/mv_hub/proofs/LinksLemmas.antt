@@ -1,12 +1,17 @@
 -- Links that gain items.
-use Rattle.std.proofs.Common.{◌≡◌, ◌≢◌, ℕ, ◌+◌, ◌<◌, ◌≤◌, List, [], ◌∷◌, ◌++◌, length, get_or, take, ◌-◌, sym, refl, ap, ◌∙◌, subst, arith, ◌⊎◌, inl, inr}
-use Rattle.std.proofs.lemmas.Bool.{cases_eq}
-use Rattle.std.proofs.lemmas.List.{get_or-take, get_or-append_right, take-take, take_at, length_push}
+use Rattle.std.proofs.Common.{◌≡◌, ◌≢◌, ℕ, suc, ◌+◌, ◌-◌, ◌<◌, false, ◌||◌, List, [], ◌∷◌, ◌++◌, cond, length, get_or, take, drop, sym, refl, ap, ◌∙◌, subst, arith, inl, inr, append-nil, append_assoc, length-append, add-one, drop-cons, length-drop, ◌⊎◌}
+use Rattle.std.specs.Prelude.{◌==◌}
+use Rattle.std.specs.List.{list_any}
+use Rattle.std.specs.List.Sorted.{IsStrictlyIncreasing}
+use Rattle.std.proofs.lemmas.Bool.{cases_eq, eq-eqb, ne_eqb}
+use Rattle.std.proofs.lemmas.List.{get_or-take, get_or-drop, get_or-append_right, take-take, take_at, length_push}
+use Rattle.std.proofs.lemmas.List.Kept.{AllPairs-from_increasing}
 use Rattle.mv_link.specs.declared.item.Item.{Item}
-use Rattle.mv_link.specs.Sending.{Sending, new_sending}
+use Rattle.mv_link.specs.Sending.{Sending, HasRoom, EndsWithHeld, new_sending}
 use Rattle.mv_pairs.specs.Pairs.{put, IsSquare}
 use Rattle.mv_pairs.proofs.PairsLemmas.{cell-put_same, cell-put_other, square-put, put-map_same}
-use Rattle.mv_hub.specs.Kept.{Gains, GainsRow, link_at, sent_table}
+use Rattle.mv_hub.specs.Kept.{link_at}
+use Rattle.mv_hub.specs.Gains.{Gains, GainsRow}
 
 -- what was taken off the end of a front of a list stands behind what is left
 pub last-of_front : {A : Type 0} (whole old new : List A) (last d : A) → old ≡ take (length old) whole → old ≡ new ++ last ∷ []
@@ -20,53 +25,113 @@ last-of_front whole old new last d front popped =
       count,
     )
 
--- of the links from a party, those to this party and the parties above it gained their member of the list, and the others are as they were
-pub record RowFrom (from start : ℕ) (gains : List (List Item)) (old new : List (List Sending)) : Type 0 where
-  pub square : IsSquare (length gains) new
-  pub gained : (to : ℕ) → start ≤ to → to < length gains → Gains (get_or gains to []) (link_at old from to) (link_at new from to)
-  pub others : (party to : ℕ) → (party ≢ from) ⊎ (to < start) → link_at new party to ≡ link_at old party to
-  pub sent : sent_table new ≡ sent_table old
+-- a link that gains nothing, and one that gains twice
+pub gains-none : (link : Sending) → Gains [] link link
+gains-none link = record {
+  window = refl;
+  total = omega arith;
+  sent = refl;
+  ends = λ list ends. subst (EndsWithHeld link) (sym (append-nil list)) ends;
+}
 
--- no link has gained anything yet
-pub row-none : (from : ℕ) (gains : List (List Item)) (old : List (List Sending)) → IsSquare (length gains) old
-    → RowFrom from (length gains) gains old old
-row-none from gains old square = record {
+pub gains-then : (xs ys : List Item) (old mid new : Sending) → Gains xs old mid → Gains ys mid new → Gains (xs ++ ys) old new
+gains-then xs ys old mid new first second = record {
+  window = second.window ∙ first.window;
+  total = omega (arith, first.total, second.total, length-append xs ys);
+  sent = second.sent ∙ first.sent;
+  ends = λ list ends. subst (EndsWithHeld new) (append_assoc list xs ys) (second.ends (list ++ xs) (first.ends list ends));
+}
+
+-- room for more than it gained is left
+pub room-after : (xs : List Item) (old new : Sending) (count : ℕ) → Gains xs old new → HasRoom old (length xs + count) → HasRoom new count
+room-after xs old new count gains room =
+    (omega (arith, gains.total, gains.sent, gains.window, room.0), omega (arith, gains.total, room.1))
+
+-- no link has gained anything
+pub row-none : (n from : ℕ) (old : List (List Sending)) → IsSquare n old → GainsRow n from (λ to. []) old old
+row-none n from old square = record {
   square = square;
-  gained = λ to above below. absurd (omega arith);
-  others = λ party to _. refl;
+  gained = λ to below. gains-none (link_at old from to);
+  others = λ party to other. refl;
   sent = refl;
 }
 
--- one more link gains its member
-pub row-more : (from start : ℕ) (gains : List (List Item)) (old now : List (List Sending)) (link : Sending)
-    → RowFrom from (start + 1) gains old now → from < length gains → start < length gains
-    → Gains (get_or gains start []) (link_at now from start) link
-    → RowFrom from start gains old (put now from start link)
-row-more from start gains old now link row is_from is_start more = record {
-  square = square-put (length gains) now from start link row.square;
-  gained = λ to above below. elim (cases_eq to start) as (λ _. Gains (get_or gains to []) (link_at old from to) (link_at (put now from start link) from to)) [
-    | inl same ↦
-        let here = cell-put_same (length gains) now from start link (new_sending 0) row.square is_from is_start in
-        let first : Gains (get_or gains start []) (link_at old from start) (link_at (put now from start link) from start) =
-        subst (Gains (get_or gains start []) (link_at old from start)) (sym here)
-        (subst (λ v. Gains (get_or gains start []) v link) (row.others from start (inr (omega arith))) more) in
-        subst (λ t. Gains (get_or gains t []) (link_at old from t) (link_at (put now from start link) from t)) (sym same) first
-    | inr other ↦
-        subst (Gains (get_or gains to []) (link_at old from to)) (sym (cell-put_other now from start from to link (new_sending 0) (inr other)))
-        (row.gained to (omega (arith, other)) below)
-  ];
-  others = λ party to. elim [
-    | inl other ↦ cell-put_other now from start party to link (new_sending 0) (inl other) ∙ row.others party to (inl other)
-    | inr below ↦ cell-put_other now from start party to link (new_sending 0) (inr (λ e. absurd (omega (arith, e, below)))) ∙ row.others party to (inr (omega (arith, below)))
-  ];
-  sent = put-map_same (λ v. v.sent) now from start link (new_sending 0) more.sent ∙ row.sent;
+-- what is gained first, and then
+pub row-then : (n from : ℕ) (g h : ℕ → List Item) (old mid new : List (List Sending)) → GainsRow n from g old mid → GainsRow n from h mid new
+    → GainsRow n from (λ to. g to ++ h to) old new
+row-then n from g h old mid new first second = record {
+  square = second.square;
+  gained = λ to below. gains-then (g to) (h to) (link_at old from to) (link_at mid from to) (link_at new from to) (first.gained to below) (second.gained to below);
+  others = λ party to other. second.others party to other ∙ first.others party to other;
+  sent = second.sent ∙ first.sent;
 }
 
--- in the end each link has
-pub row-all : (from : ℕ) (gains : List (List Item)) (old new : List (List Sending)) → RowFrom from 0 gains old new → GainsRow from gains old new
-row-all from gains old new row = record {
+-- one link gains these items
+pub row-one : (n from to : ℕ) (items : List Item) (now : List (List Sending)) (link : Sending) → IsSquare n now → from < n → to < n
+    → Gains items (link_at now from to) link → GainsRow n from (λ other. cond (other == to) items []) now (put now from to link)
+row-one n from to items now link square is_from is_to gains = record {
+  square = square-put n now from to link square;
+  gained = λ other below. elim (cases_eq other to) as (λ _. Gains (cond (other == to) items []) (link_at now from other) (link_at (put now from to link) from other)) [
+    | inl same ↦
+        subst (λ t. Gains (cond (t == to) items []) (link_at now from t) (link_at (put now from to link) from t)) (sym same)
+        (subst (λ b. Gains (cond b items []) (link_at now from to) (link_at (put now from to link) from to)) (sym (eq-eqb to to refl))
+        (subst (Gains items (link_at now from to)) (sym (cell-put_same n now from to link (new_sending 0) square is_from is_to)) gains))
+    | inr apart ↦
+        subst (λ b. Gains (cond b items []) (link_at now from other) (link_at (put now from to link) from other)) (sym (ne_eqb other to apart))
+        (subst (Gains [] (link_at now from other)) (sym (cell-put_other now from to from other link (new_sending 0) (inr apart))) (gains-none (link_at now from other)))
+  ];
+  others = λ party other apart. cell-put_other now from to party other link (new_sending 0) (inl apart);
+  sent = put-map_same (λ v. v.sent) now from to link (new_sending 0) gains.sent;
+}
+
+-- the same, said in other words
+pub row-same : (n from : ℕ) (g h : ℕ → List Item) (old new : List (List Sending)) → ((to : ℕ) → to < n → g to ≡ h to) → GainsRow n from g old new
+    → GainsRow n from h old new
+row-same n from g h old new same row = record {
   square = row.square;
-  gained = λ to below. row.gained to (omega arith) below;
-  others = λ party to other. row.others party to (inl other);
+  gained = λ to below. subst (λ l. Gains l (link_at old from to) (link_at new from to)) (same to below) (row.gained to below);
+  others = row.others;
   sent = row.sent;
 }
+
+-- the item goes to each of these parties
+abbrev pub carried_to : List ℕ → Item → ℕ → List Item
+carried_to reached item to = cond (list_any (λ other. other == to) reached) (item ∷ []) []
+
+-- a number that is below all of a list is not in it
+none-above : (x : ℕ) (ys : List ℕ) → ((j : ℕ) → j < length ys → x < get_or ys j 0) → list_any (λ other. other == x) ys ≡ false
+none-above x [] above = refl
+none-above x (y ∷ ys) above =
+    ap (λ b. b || list_any (λ other. other == x) ys) (ne_eqb y x (λ e. absurd (omega (arith, e, above 0 (omega arith)))))
+    ∙ none-above x ys (λ j lt. above (suc j) (omega arith))
+
+-- in a list that ascends a member stands once
+once : (xs : List ℕ) (k : ℕ) → IsStrictlyIncreasing xs → k < length xs → list_any (λ other. other == get_or xs k 0) (drop (suc k) xs) ≡ false
+once xs k up lt = none-above (get_or xs k 0) (drop (suc k) xs) (λ j below.
+    let at = get_or-drop (suc k) xs j 0 in
+    let high = AllPairs-from_increasing xs up k (suc k + j) 0 (omega arith) (within j below) in
+    omega (arith, at, high))
+  where
+    within : (j : ℕ) → j < length (drop (suc k) xs) → suc k + j < length xs
+    within j below = omega (arith, length-drop (suc k) xs)
+
+-- one more party of a list gets the item, the last first
+pub carried-more : (reached : List ℕ) (k : ℕ) (item : Item) (to : ℕ) → IsStrictlyIncreasing reached → k < length reached
+    → carried_to (drop (k + 1) reached) item to ++ cond (to == get_or reached k 0) (item ∷ []) [] ≡ carried_to (drop k reached) item to
+carried-more reached k item to up lt =
+    let first = get_or reached k 0 in
+    let rest = drop (suc k) reached in
+    ap (λ n. carried_to (drop n reached) item to ++ cond (to == first) (item ∷ []) []) (add-one k)
+    ∙ by (cases_eq to first) ∙ ap (λ l. carried_to l item to) (sym (drop-cons reached k 0 lt))
+  where
+    by : (to ≡ get_or reached k 0) ⊎ (to ≢ get_or reached k 0)
+        → carried_to (drop (suc k) reached) item to ++ cond (to == get_or reached k 0) (item ∷ []) []
+        ≡ carried_to (get_or reached k 0 ∷ drop (suc k) reached) item to
+    by (inl same) =
+        let first = get_or reached k 0 in
+        let rest = drop (suc k) reached in
+        let none : list_any (λ other. other == to) rest ≡ false = ap (λ t. list_any (λ other. other == t) rest) same ∙ once reached k up lt in
+        rw (none, eq-eqb to first same, eq-eqb first to (sym same)) refl
+    by (inr apart) =
+        let first = get_or reached k 0 in
+        rw (ne_eqb to first apart, ne_eqb first to (λ e. apart (sym e))) (append-nil (carried_to (drop (suc k) reached) item to))

@@ -1,5 +1,5 @@
 -- What the hub is seen as. Neither links nor tables are part of it: they follow from the record.
-use Rattle.std.specs.Prelude.{ℕ, List, [], ◌∷◌, ◌++◌, ◌+◌, ◌-◌, length, map, Bool, ◌||◌, ◌&&◌, ◌==◌, not, nat_lt, nat_le, replicate, find, Option, Some, None, if◌then◌else◌}
+use Rattle.std.specs.Prelude.{ℕ, List, [], ◌∷◌, ◌++◌, ◌+◌, ◌-◌, length, Bool, ◌||◌, ◌&&◌, ◌==◌, not, nat_lt, nat_le, replicate, find, Option, Some, None, if◌then◌else◌}
 use Rattle.std.specs.List.{range_with_len}
 use Rattle.mv_message.specs.declared.message.Message.{Message}
 use Rattle.mv_link.specs.declared.item.Item.{Item}
@@ -13,6 +13,7 @@ use Rattle.mv_hub.specs.declared.fault.HubFault.TheVariants.{StrangerParty as St
 use Rattle.mv_hub.specs.Record.{routed_count, is_open}
 use Rattle.mv_hub.specs.Links.{gained, link_items}
 
+-- the state of the hub
 pub record HubState : Type 0 where
   pub parties : List (List (List ℕ))  -- the markets that each party serves, party 0 first
   pub window : ℕ  -- how many items each link keeps
@@ -43,10 +44,6 @@ next_entry hub from message = Routed from (routed_count hub.entries from + 1) me
 -- what the routing of a message would put on a link
 abbrev pub next_items : HubState → ℕ → Message → ℕ → List Item
 next_items hub from message to = gained hub.parties hub.entries (next_entry hub from message) from to
-
--- what the routing of a message would put on each link of its sender, the link to party 0 first
-abbrev pub gains_of : HubState → ℕ → Message → List (List Item)
-gains_of hub from message = map (next_items hub from message) (range_with_len 0 (length hub.parties))
 
 -- a link has no room for what the routing of a message would put on it: items not yet relayed are never more than the
 -- window, and their numbers have 32 bits

@@ -1,8 +1,8 @@
 -- What the hub keeps beside its record, and how that follows from the record.
-use Rattle.std.specs.Prelude.{◌≡◌, ◌≢◌, ◌<◌, ◌≤◌, ℕ, List, [], ◌++◌, length, map, Bool, true, slice_index_or}
+use Rattle.std.specs.Prelude.{◌≡◌, ◌<◌, ◌≤◌, ℕ, List, length, map, Bool, true, slice_index_or}
 use Rattle.mv_pack.specs.declared.key.BatchKey.{BatchKey}
 use Rattle.mv_link.specs.declared.item.Item.{Item}
-use Rattle.mv_link.specs.Sending.{Sending, EndsWithHeld, new_sending}
+use Rattle.mv_link.specs.Sending.{Sending, HasRoom, EndsWithHeld, new_sending}
 use Rattle.mv_pairs.specs.Pairs.{cell, IsSquare}
 use Rattle.mv_hub.specs.declared.entry.Entry.{Entry}
 use Rattle.mv_hub.specs.declared.catalogue.Catalogue.{Catalogue}
@@ -39,6 +39,7 @@ pub record AreOpen (parties : ℕ) (entries : List Entry) (open_links : List (Li
 pub record Carries (size : ℕ) (items : List Item) (link : Sending) : Type 0 where
   pub window : link.window ≡ size
   pub ends : EndsWithHeld link items
+  pub fits : HasRoom link 0
 
 -- on each link there was pushed what the record puts on it
 pub record AreLinks (parties : List (List (List ℕ))) (window : ℕ) (entries : List Entry) (links : List (List Sending)) : Type 0 where
@@ -56,16 +57,3 @@ pub record IsKept (parties : List (List (List ℕ))) (window : ℕ) (entries : L
   pub are_counts : AreCounts (length parties) entries counts
   pub are_open : AreOpen (length parties) entries open_links
   pub are_links : AreLinks parties window entries links
-
--- these items were pushed on a sending end, and nothing else changed
-pub record Gains (items : List Item) (old new : Sending) : Type 0 where
-  pub window : new.window ≡ old.window
-  pub sent : new.sent ≡ old.sent
-  pub ends : (list : List Item) → EndsWithHeld old list → EndsWithHeld new (list ++ items)
-
--- on each link from a party there was pushed its member of a list, the link to party 0 first, and no other link changed
-pub record GainsRow (from : ℕ) (gains : List (List Item)) (old new : List (List Sending)) : Type 0 where
-  pub square : IsSquare (length gains) new
-  pub gained : (to : ℕ) → to < length gains → Gains (slice_index_or gains to []) (link_at old from to) (link_at new from to)
-  pub others : (party to : ℕ) → party ≢ from → link_at new party to ≡ link_at old party to
-  pub sent : sent_table new ≡ sent_table old

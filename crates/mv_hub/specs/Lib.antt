@@ -1,5 +1,6 @@
 pub mod Record
 pub mod Parties
+pub mod PartySets
 pub mod Targets
 pub mod Links
 pub mod Listing
@@ -8,3 +9,4 @@ pub mod BatchLinks
 pub mod Fault
 pub mod Hub
 pub mod Kept
+pub mod Gains

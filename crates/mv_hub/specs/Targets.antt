@@ -1,5 +1,5 @@
 -- Whom a message is for, by the record that stands before it (Articles 33 to 35).
-use Rattle.std.specs.Prelude.{ℕ, List, [], length, Bool, true, false, ◌==◌, ◌&&◌, ◌||◌, not, filter}
+use Rattle.std.specs.Prelude.{ℕ, List, length, Bool, true, false, ◌==◌, ◌&&◌, ◌||◌, not, filter}
 use Rattle.std.specs.List.{range_with_len}
 use Rattle.mv_message.specs.declared.message.Message.{Message}
 use Rattle.mv_message.specs.declared.message.Message.TheVariants.{Master, Upload, Status, Recall, Repack, Withdraw, Query, Answer}
@@ -26,6 +26,11 @@ is_target parties entries from (Withdraw gtin at) party = serves_product parties
 is_target parties entries from (Query key) party = serves_product parties entries key.gtin party && not (party == from)
 is_target parties entries from (Answer asker q key found) party = party == asker
 
+-- a party may be a target of a message, whoever sends it: it is a target of it, or would be of a query that another sent
+abbrev pub is_candidate : List (List (List ℕ)) → List Entry → Message → ℕ → Bool
+is_candidate parties entries (Query key) party = serves_product parties entries key.gtin party
+is_candidate parties entries message party = is_target parties entries 0 message party
+
 -- a message from a party reaches another: it is a target, and the link between them is open
 unfoldable pub is_reached : List (List (List ℕ)) → List Entry → ℕ → Message → ℕ → Bool
 is_reached parties entries from message to = is_target parties entries from message to && is_open entries from to
@@ -38,15 +43,3 @@ reach parties entries from message = filter (is_reached parties entries from mes
 abbrev pub is_query : Message → Bool
 is_query (Query key) = true
 is_query message = false
-
--- the markets of the product of a message, and with them those that a master names, or those of the second product of a repack
-abbrev pub wanted_markets : List Entry → Message → List (List ℕ) × List (List ℕ)
-wanted_markets entries (Master gtin product) = (market_table entries gtin, product.markets)
-wanted_markets entries (Upload gtin batch expiry national serials) = (market_table entries gtin, [])
-wanted_markets entries (Status key to user at) = (market_table entries key.gtin, [])
-wanted_markets entries (Recall key at) = (market_table entries key.gtin, [])
-wanted_markets entries (Repack before before_serials after after_serials at) =
-    (market_table entries before.gtin, market_table entries after.gtin)
-wanted_markets entries (Withdraw gtin at) = (market_table entries gtin, [])
-wanted_markets entries (Query key) = (market_table entries key.gtin, [])
-wanted_markets entries (Answer asker q key found) = ([], [])

@@ -11,7 +11,7 @@ mod catalogue;
 mod catalogues;
 mod entry;
 mod fault;
-mod gain;
+mod gains;
 mod hub;
 mod parties;
 mod trail;

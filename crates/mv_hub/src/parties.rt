@@ -1,33 +1,47 @@
 //! The parties and the markets that each serves.
 
-ghost use Rattle.std.specs.Prelude.{◌≡◌, ◌<◌, ◌≤◌, ◌++◌, map, length, false, IfOk};
+ghost use Rattle.std.specs.Prelude.{◌≡◌, ◌<◌, ◌≤◌, ◌++◌, ◌==◌, ◌||◌, ℕ, Bool, List, map, length, true, false, Some, if◌then◌else◌, IfOk, OnOk};
+ghost use Rattle.std.specs.Map.{lookup};
 ghost use Rattle.mv_hub.specs.Fault.{Gives};
-ghost use Rattle.mv_hub.specs.Parties.{parties_of, serving, serves_one, served_by, has_market, has_twice, all_markets};
+ghost use Rattle.mv_hub.specs.Parties.{parties_of, serving, serves_one, served_by, is_same_market, has_market, has_twice, all_markets};
+ghost use Rattle.mv_hub.specs.PartySets.{FindsParties, those};
 
 use crate::HubFault;
 use arrayvec::ArrayVec;
+use indexmap::IndexMap;
 use mv_link::{PARTIES_LIMIT, Reach};
 use mv_message::{Markets, Party};
 use mv_pack::Market;
 use std::alloc::{AllocError, Global};
+use std::fmt;
 use std::marker::Model;
 
 /// The parties, 1 to 64 of them, and the markets that each serves. No market is served twice.
-#[derive(Debug, Drop)]
+#[derive(Drop)]
 pub struct Parties {
+    /// The markets of each party, party 0 first.
     lists: Vec<Markets>,
+    /// The party of each market that is served.
+    by_market: IndexMap<Market, Party>,
 }
 
 impl Model for Parties {
     ghost use Rattle.std.specs.Prelude.{ℕ, List, length, false, ◌≡◌, ◌≤◌};
     ghost use Rattle.mv_hub.specs.Parties.{all_markets, has_twice};
+    ghost use Rattle.mv_hub.specs.PartySets.{FindsParties};
 
     ghost Value = { List (List (List ℕ)) };
 
     ghost view = { λ p. p.lists.items };
 
     ghost invariant = { λ p. (1 ≤ length p.lists.items) × (length p.lists.items ≤ 64)
-        × (has_twice (all_markets p.lists.items) ≡ false) };
+        × (has_twice (all_markets p.lists.items) ≡ false) × FindsParties p.lists.items p.by_market.entries };
+}
+
+impl fmt::Debug for Parties {
+    fn fmt<W: fmt::Write>(&self, f: &mut fmt::Formatter<W>) -> fmt::Result {
+        fmt::Debug::fmt(&self.lists, f)
+    }
 }
 
 impl Parties {
@@ -50,7 +64,10 @@ impl Parties {
         let Ok(lists) = as_markets(alloc, lists) else {
             return Err(HubFault::Memory);
         };
-        Ok(Parties { lists })
+        let Ok(by_market) = by_market(alloc, lists.as_slice()) else {
+            return Err(HubFault::Memory);
+        };
+        Ok(Parties { lists, by_market })
     }
 
     /// How many parties there are.
@@ -62,12 +79,40 @@ impl Parties {
         self.lists.len() as u32
     }
 
-    /// Whether a party serves one of these markets.
-    pub(crate) fn serves(&self, party: Party, wanted: &[Market]) -> bool
-        requires { party < length self.now }
-        ensures { result ≡ serves_one (served_by self.now party) wanted.now }
+    /// The party that serves a market, if one does.
+    fn party_of(&self, market: &Market) -> Option<Party>
+        ensures serves { (party : ℕ) → result ≡ Some party
+            → (party < length self.now) × (has_market (served_by self.now party) market.now ≡ true) }
+        ensures all { (party : ℕ) → party < length self.now
+            → has_market (served_by self.now party) market.now ≡ true → result ≡ Some party }
     {
-        serves_one(self.lists[party as usize].as_slice(), wanted)
+        self.by_market.get(market).copied()
+    }
+
+    /// Puts a party among others, which ascend, unless it is there.
+    pub(crate) fn add(&self, found: &mut ArrayVec<Party, PARTIES_LIMIT>, party: Party)
+        requires party { party < length self.now }
+        requires ascending { (test : ℕ → Bool) × (found.old.items ≡ those test (length self.now)) }
+        ensures { (test : ℕ → Bool) → found.old.items ≡ those test (length self.now)
+            → found.new.items ≡ those (λ other. test other || (other == party)) (length self.now) }
+    {
+        let _ = &self.lists;
+        if let Err(place) = found.as_slice().binary_search(&party) {
+            found.insert(place, party);
+        }
+    }
+
+    /// Puts the parties that serve one of these markets among others, which ascend.
+    fn add_serving(&self, found: &mut ArrayVec<Party, PARTIES_LIMIT>, wanted: &[Market])
+        requires { (test : ℕ → Bool) × (found.old.items ≡ those test (length self.now)) }
+        ensures { (test : ℕ → Bool) → found.old.items ≡ those test (length self.now)
+            → found.new.items ≡ those (λ party. test party || serves_one (served_by self.now party) wanted.now) (length self.now) }
+    {
+        for market in wanted {
+            if let Some(party) = self.party_of(market) {
+                self.add(found, party);
+            }
+        }
     }
 
     /// The parties that serve one of these markets.
@@ -75,20 +120,60 @@ impl Parties {
         ensures { result ≡ serving self.now wanted.now }
     {
         let mut found: ArrayVec<Party, PARTIES_LIMIT> = ArrayVec::new();
-        for party in 0..self.len() {
-            if self.serves(party, wanted) {
-                found.push(party);
-            }
+        self.add_serving(&mut found, wanted);
+        Reach::new(found)
+    }
+
+    /// The parties that serve one of the first markets or one of the second.
+    pub(crate) fn serving_either(&self, first: &[Market], second: &[Market]) -> Reach
+        ensures { result ≡ those (λ party. serves_one (served_by self.now party) first.now
+            || serves_one (served_by self.now party) second.now) (length self.now) }
+    {
+        let mut found: ArrayVec<Party, PARTIES_LIMIT> = ArrayVec::new();
+        self.add_serving(&mut found, first);
+        self.add_serving(&mut found, second);
+        Reach::new(found)
+    }
+
+    /// The party alone, if there is such a party.
+    pub(crate) fn alone(&self, party: Party) -> Reach
+        ensures { result ≡ those (λ other. other == party) (length self.now) }
+    {
+        let mut found: ArrayVec<Party, PARTIES_LIMIT> = ArrayVec::new();
+        if party < self.len() {
+            found.push(party);
         }
         Reach::new(found)
     }
 }
 
-/// Whether who serves the first markets serves one of the others.
-fn serves_one(served: &[Market], wanted: &[Market]) -> bool
-    ensures { result ≡ serves_one served.now wanted.now }
+/// The party of each market in these lists, that of party 0 first.
+fn by_market(alloc: Global, lists: &[Markets]) -> Result<IndexMap<Market, Party>, AllocError>
+    requires few { length lists.now ≤ 64 }
+    requires once { has_twice (all_markets lists.now) ≡ false }
+    ensures { IfOk result (λ table. FindsParties lists.now table.entries) }
 {
-    served.iter().any(|market| wanted.contains(market))
+    let mut table = IndexMap::new(alloc);
+    for party in 0..lists.len() {
+        add_markets(&mut table, lists[party].as_slice(), party as Party)?;
+    }
+    Ok(table)
+}
+
+/// Notes a party as that of these markets.
+fn add_markets(
+    table: &mut IndexMap<Market, Party>,
+    markets: &[Market],
+    party: Party,
+) -> Result<(), AllocError>
+    ensures { OnOk result ((market : List ℕ) → lookup (is_same_market market) table.new.entries
+        ≡ (if has_market markets.now market then Some party
+        else lookup (is_same_market market) table.old.entries)) }
+{
+    for market in markets {
+        table.insert(*market, party)?;
+    }
+    Ok(())
 }
 
 /// Whether a market stands twice, in one list or in two. Since there are 676 markets alone, this ends by the 677th.

@@ -1,30 +1,51 @@
-use Rattle.std.proofs.Common.{◌≡◌, arith, refl, sym, ◌∙◌, ap, length}
-use Rattle.std.specs.Prelude.{find}
-use Rattle.std.specs.List.{range_with_len}
-use Rattle.mv_hub.specs.Hub.{busy_party, is_busy}
-use Rattle.mv_hub.proofs.NumberLemmas.{find-first, find-more}
-use Rattle.mv_hub.proofs.HubLemmas.{busy, not_busy}
+use Rattle.std.proofs.Common.{◌∙◌, ◌||◌, ℕ, Bool, length, take_all, ap, sym}
+use Rattle.std.specs.Prelude.{find, ◌==◌}
+use Rattle.mv_hub.specs.Targets.{is_reached}
+use Rattle.mv_hub.specs.Hub.{is_busy, busy_party}
+use Rattle.mv_hub.proofs.NumberLemmas.{those-below, find-those, find-next_none, find-next_some}
 use Rattle.mv_hub.proofs.hub.Hub.busy_party.Goals as goal
 
-pub loop-to-init : goal.loop-to-init
-loop-to-init c = λ message e. refl
+pub is_busy-requires-clause-to : goal.is_busy-requires-clause-to
+is_busy-requires-clause-to c =
+    let hub = c.args.self.now in
+    let from = c.args.routing.now.from in
+    let gains : ℕ → Bool = λ (to : ℕ). is_reached hub.parties hub.entries from c.args.routing.now.message.now to || (to == from) in
+    (those-below gains c.as_slice-to-items.result.now c.gaining-gaining.result (length hub.parties) c.loop-to.to-index
+    c.as_slice-to-items.ensures.value c.gaining-gaining.ensures.those c.loop-to-test.true).0
+
+pub is_busy-requires-clause-gains : goal.is_busy-requires-clause-gains
+is_busy-requires-clause-gains c =
+    let hub = c.args.self.now in
+    let from = c.args.routing.now.from in
+    let gains : ℕ → Bool = λ (to : ℕ). is_reached hub.parties hub.entries from c.args.routing.now.message.now to || (to == from) in
+    (those-below gains c.as_slice-to-items.result.now c.gaining-gaining.result (length hub.parties) c.loop-to.to-index
+    c.as_slice-to-items.ensures.value c.gaining-gaining.ensures.those c.loop-to-test.true).1
 
 pub loop-to-preserved : goal.loop-to-preserved
-loop-to-preserved c = λ message e.
-    find-more (is_busy c.args.self.now c.args.from message) c.loop-to.to (c.loop-to.invariant message e)
-    (not_busy c.args.self.now c.args.from c.loop-to.to message c.link.result.now c.gain_count-count.result
-    c.link.ensures.carries c.link.ensures.sent (c.gain_count-count.ensures message e) (c.room.ensures.0 c.if-not-room.false))
+loop-to-preserved c =
+    find-next_none (is_busy c.args.self.now c.args.routing.now.from c.args.routing.now.message.now) c.as_slice-to-items.result.now c.loop-to.to-index
+    c.loop-to-test.true c.loop-to.invariant (sym c.is_busy.ensures ∙ c.if-is_busy.false)
 
-pub returns-then-not-room : goal.returns-then-not-room
+-- no link that gains nothing is busy
+pub returns-then-is_busy : goal.returns-then-is_busy
 unfolding busy_party
-returns-then-not-room c = λ message e.
-    sym (find-first (is_busy c.args.self.now c.args.from message) c.loop-to.to (length c.args.self.now.parties) (omega (arith, c.len-to-end.ensures.value, ap length c.parties.ensures.value)) (c.loop-to.invariant message e)
-    (busy c.args.self.now c.args.from c.loop-to.to message c.link.result.now c.gain_count-count.result
-    c.link.ensures.carries c.link.ensures.sent (c.gain_count-count.ensures message e)
-    (λ room. let no = sym c.if-not-room.true ∙ c.room.ensures.1 room in absurd (cc))))
+returns-then-is_busy c =
+    let hub = c.args.self.now in
+    let from = c.args.routing.now.from in
+    let busy = is_busy hub from c.args.routing.now.message.now in
+    let gains : ℕ → Bool = λ (to : ℕ). is_reached hub.parties hub.entries from c.args.routing.now.message.now to || (to == from) in
+    sym (sym (find-those busy gains (length hub.parties) c.gaining-gaining.ensures.others)
+    ∙ ap (find busy) (sym (c.as_slice-to-items.ensures.value ∙ c.gaining-gaining.ensures.those))
+    ∙ find-next_some busy c.as_slice-to-items.result.now c.loop-to.to-index c.loop-to-test.true c.loop-to.invariant (sym c.is_busy.ensures ∙ c.if-is_busy.true))
 
 pub returns : goal.returns
 unfolding busy_party
-returns c = λ message e.
-    let all : c.loop-to.to ≡ length c.args.self.now.parties = omega (arith, c.len-to-end.ensures.value, ap length c.parties.ensures.value) in
-    sym (ap (λ n. find (is_busy c.args.self.now c.args.from message) (range_with_len 0 n)) (sym all) ∙ c.loop-to.invariant message e)
+returns c =
+    let hub = c.args.self.now in
+    let from = c.args.routing.now.from in
+    let busy = is_busy hub from c.args.routing.now.message.now in
+    let gains : ℕ → Bool = λ (to : ℕ). is_reached hub.parties hub.entries from c.args.routing.now.message.now to || (to == from) in
+    sym (sym (find-those busy gains (length hub.parties) c.gaining-gaining.ensures.others)
+    ∙ ap (find busy) (sym (c.as_slice-to-items.ensures.value ∙ c.gaining-gaining.ensures.those)
+    ∙ sym (take_all c.loop-to.to-index c.as_slice-to-items.result.now c.loop-to-test.false))
+    ∙ c.loop-to.invariant)

@@ -1,8 +1,13 @@
-use Rattle.std.proofs.Common.{refl}
-use Rattle.mv_hub.proofs.HubLemmas.{length-next_items}
+use Rattle.mv_hub.proofs.HubLemmas.{count-other, count-own}
 use Rattle.mv_hub.proofs.hub.Hub.gain_count.Goals as goal
 
+pub returns-then-to-routing : goal.returns-then-to-routing
+returns-then-to-routing c =
+    count-other c.args.self.now c.args.routing.now.from c.args.to c.args.routing.now.message.now c.args.routing.now.reached
+    c.requires.to c.requires.routing.parties c.requires.gains c.if-to-routing.true
+
 pub returns : goal.returns
-returns c = λ message e.
-    let count = length-next_items c.args.self.now c.args.from c.args.to message c.args.reached.now c.requires.to e in
-    rw (count, c.from.ensures, c.from-2.ensures, c.has_receipt.ensures, c.has_party.ensures) refl
+returns c =
+    rw (c.from.ensures, c.from-2.ensures, c.is_open.ensures, c.has_party.ensures)
+    (count-own c.args.self.now c.args.routing.now.from c.args.to c.args.routing.now.message.now c.args.routing.now.reached
+    c.requires.to c.requires.routing.parties c.if-to-routing.false)

@@ -1,57 +1,73 @@
-use Rattle.std.proofs.Common.{◌≡◌, ◌+◌, ◌∷◌, ◌++◌, [], ◌∙◌, sym, ap, subst, length, arith, set}
-use Rattle.std.proofs.lemmas.List.FromFn.{length-map-range_with_len}
-use Rattle.mv_pairs.specs.Pairs.{IsSquare}
+use Rattle.std.proofs.Common.{◌≡◌, ◌<◌, ◌+◌, ◌∷◌, ◌++◌, [], ◌∙◌, None, cond, replicate, sym, ap, subst, length, arith, set}
+use Rattle.std.specs.Option.{option_to_list}
+use Rattle.mv_link.specs.declared.item.Item.TheVariants.{Receipt, Carried}
+use Rattle.mv_link.specs.Sending.{HasRoom}
 use Rattle.mv_hub.specs.declared.entry.Entry.TheVariants.{Routed}
-use Rattle.mv_hub.specs.Record.{routed_count}
-use Rattle.mv_hub.specs.Hub.{HubState, gains_of, next_items, busy_party}
-use Rattle.mv_hub.specs.Kept.{IsKept}
-use Rattle.mv_hub.proofs.HubLemmas.{rooms, kept-routed}
+use Rattle.mv_hub.specs.Record.{routed_count, is_open}
+use Rattle.mv_hub.specs.Targets.{reach, is_reached, is_query}
+use Rattle.mv_hub.specs.Hub.{HubState, next_items, busy_party}
+use Rattle.mv_hub.specs.Kept.{IsKept, link_at}
+use Rattle.mv_hub.specs.Gains.{IsRouting, GainsRow, gain_of, gain_count}
+use Rattle.mv_hub.proofs.NumberLemmas.{those-below}
+use Rattle.mv_hub.proofs.LinksLemmas.{row-same}
+use Rattle.mv_hub.proofs.HubLemmas.{view, rooms, next-gain, length-gain, kept-routed}
 use Rattle.mv_hub.proofs.hub.Hub.put_routed.Goals as goal
 
--- there is a gain for each party
-gains-count : (hub : HubState) (from : _) (message : _) (gains : _) → gains ≡ gains_of hub from message → length gains ≡ length hub.parties
-gains-count hub from message gains e = ap length e ∙ length-map-range_with_len (next_items hub from message) 0 (length hub.parties)
-
-pub put_row-requires-clause-square : goal.put_row-requires-clause-square
-put_row-requires-clause-square c =
+pub put_gains-requires-clause-within : goal.put_gains-requires-clause-within
+unfolding reach
+put_gains-requires-clause-within c = λ place lt.
     let a = c.self.inside in
-    let count = gains-count c.args.self.now c.args.from c.args.message.now c.args.gains.items c.requires.gains in
-    let same : length a.parties ≡ length c.args.gains.items = ap (λ (h : HubState). length h.parties) c.self.view_is ∙ sym count in
-    subst (λ n. IsSquare n a.links) same c.self.invariant.are_links.square
-
-pub put_row-requires-clause-few : goal.put_row-requires-clause-few
-put_row-requires-clause-few c =
-    let count = gains-count c.args.self.now c.args.from c.args.message.now c.args.gains.items c.requires.gains in
-    omega (arith, ap (λ (h : HubState). length h.parties) c.self.view_is, c.self.invariant.few)
-
-pub put_row-requires-clause-from : goal.put_row-requires-clause-from
-put_row-requires-clause-from c =
-    let count = gains-count c.args.self.now c.args.from c.args.message.now c.args.gains.items c.requires.gains in
-    omega (arith, c.requires.from)
+    let hub = c.args.self.now in
+    let routing = c.args.routing.now in
+    let below = those-below (is_reached hub.parties hub.entries routing.from routing.message.now) c.as_slice.result.now routing.reached (length hub.parties) place
+    c.as_slice.ensures.value c.requires.routing.parties lt in
+    omega (arith, below.0, ap (λ (h : HubState). length h.parties) c.self.view_is, c.self.invariant.are_links.square.rows)
 
 -- no link is busy, so each has room
-pub put_row-requires-clause-room : goal.put_row-requires-clause-room
-put_row-requires-clause-room c =
+pub put_gains-requires-clause-room : goal.put_gains-requires-clause-room
+put_gains-requires-clause-room c = λ to lt.
     let a = c.self.inside in
+    let routing = c.args.routing.now in
+    let from = routing.from in
+    let message = routing.message.now in
+    let item = Carried routing.k routing.stamp message in
+    let hub = view a.parties a.window a.trail a.links in
     let back = sym c.self.view_is in
-    rooms a.parties a.window a.trail a.links c.args.gains.items c.args.from c.args.message.now c.self.invariant.are_links
-    (omega (arith, ap (λ (h : HubState). length h.parties) c.self.view_is, c.requires.from))
-    (subst (λ (h : HubState). busy_party h c.args.from c.args.message.now ≡ _) back c.requires.room)
-    (subst (λ (h : HubState). c.args.gains.items ≡ gains_of h c.args.from c.args.message.now) back c.requires.gains)
+    let known = subst (λ (h : HubState). IsRouting h message from routing.k routing.stamp routing.reached) back c.requires.routing in
+    let is_to : to < length a.parties = omega (arith, lt, c.self.invariant.are_links.square.rows) in
+    let count : length (next_items hub from message to) ≡ gain_count from c.as_slice.result.now (option_to_list c.args.gains.receipt) to =
+    ap length (sym (next-gain hub from routing.k routing.stamp routing.reached message (option_to_list c.args.gains.receipt) to known is_to
+    (subst (λ (h : HubState). option_to_list c.args.gains.receipt ≡ cond (is_open h.entries from from) (Receipt routing.k routing.reached (is_query message) ∷ []) []) back c.requires.receipt)))
+    ∙ length-gain from routing.reached (option_to_list c.args.gains.receipt) item to
+    ∙ ap (λ l. gain_count from l (option_to_list c.args.gains.receipt) to) (sym c.as_slice.ensures.value) in
+    subst (HasRoom (link_at a.links from to)) count
+    (rooms a.parties a.window a.trail a.links from message c.self.invariant.are_links known.party
+    (subst (λ (h : HubState). busy_party h from message ≡ None) back c.requires.room) to is_to)
 
 pub invariant_of-self-2 : goal.invariant_of-self-2
 invariant_of-self-2 c =
     let a = c.self.inside in
-    let from = c.args.from in
-    let message = c.args.message.now in
+    let routing = c.args.routing.now in
+    let from = routing.from in
+    let message = routing.message.now in
+    let item = Carried routing.k routing.stamp message in
+    let receipt = option_to_list c.args.gains.receipt in
+    let new = c.put_gains.new.links in
+    let hub = view a.parties a.window a.trail a.links in
     let back = sym c.self.view_is in
-    let count : c.routed_count-k.result + 1 ≡ routed_count a.trail from + 1 =
-    ap (λ n. n + 1) (c.routed_count-k.ensures.value ∙ ap (λ (h : HubState). routed_count h.entries from) back) in
+    let known = subst (λ (h : HubState). IsRouting h message from routing.k routing.stamp routing.reached) back c.requires.routing in
     let entries : c.push.new.self ≡ a.trail ++ Routed from (routed_count a.trail from + 1) message ∷ [] =
-    c.in_ok-push.ensures.ok ∙ ap (λ k. a.trail ++ Routed from k c.in_ok-message.message ∷ []) count
+    c.in_ok-push.ensures.ok ∙ ap (λ k. a.trail ++ Routed from k c.in_ok-message.message ∷ []) known.number
     ∙ ap (λ m. a.trail ++ Routed from (routed_count a.trail from + 1) m ∷ []) c.in_ok-message.ensures in
-    subst (λ l. IsKept a.parties a.window l (set a.counts.items from (c.routed_count-k.result + 1)) a.open_links c.put_row.new.links) (sym entries)
-    (subst (λ k. IsKept a.parties a.window (a.trail ++ Routed from (routed_count a.trail from + 1) message ∷ []) (set a.counts.items from k) a.open_links c.put_row.new.links) (sym count)
-    (kept-routed a.parties a.window a.trail a.counts.items a.open_links a.links c.put_row.new.links c.args.gains.items from message
-    c.self.invariant (omega (arith, ap (λ (h : HubState). length h.parties) c.self.view_is, c.requires.from))
-    (subst (λ (h : HubState). c.args.gains.items ≡ gains_of h from message) back c.requires.gains) c.put_row.ensures))
+    let gains : GainsRow (length a.parties) from (gain_of from routing.reached receipt item) a.links new =
+    subst (λ n. GainsRow n from (gain_of from routing.reached receipt item) a.links new) c.self.invariant.are_links.square.rows
+    (subst (λ l. GainsRow (length a.links) from (gain_of from l receipt item) a.links new) c.as_slice.ensures.value
+    (c.put_gains.ensures item (c.requires.carried ∙ ap (λ l. replicate (length l) item) (sym c.as_slice.ensures.value)))) in
+    let row : GainsRow (length a.parties) from (next_items hub from message) a.links new =
+    row-same (length a.parties) from (gain_of from routing.reached receipt item) (next_items hub from message) a.links new
+    (λ to lt. next-gain hub from routing.k routing.stamp routing.reached message receipt to known lt
+    (subst (λ (h : HubState). receipt ≡ cond (is_open h.entries from from) (Receipt routing.k routing.reached (is_query message) ∷ []) []) back c.requires.receipt)) gains in
+    subst (λ l. IsKept a.parties a.window l (set a.counts.items from routing.k) a.open_links new) (sym entries)
+    (subst (λ k. IsKept a.parties a.window (a.trail ++ Routed from (routed_count a.trail from + 1) message ∷ []) (set a.counts.items from k) a.open_links new) (sym known.number)
+    (kept-routed a.parties a.window a.trail a.counts.items a.open_links a.links new from message c.self.invariant known.party
+    (subst (λ (h : HubState). busy_party h from message ≡ None) back c.requires.room) row))

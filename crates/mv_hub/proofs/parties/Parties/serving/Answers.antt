@@ -1,15 +1,15 @@
-use Rattle.std.proofs.Common.{arith, subst, sym}
-use Rattle.std.specs.List.Sorted.{IsStrictlyIncreasing}
-use Rattle.std.proofs.lemmas.Grind.{common_steps}
+use Rattle.std.proofs.Common.{◌∙◌, ◌||◌, ℕ, false, length}
 use Rattle.mv_hub.specs.Parties.{serves_one, served_by}
-use Rattle.mv_hub.proofs.NumberLemmas.{filter-range_more, increasing-filter_range}
+use Rattle.mv_hub.proofs.NumberLemmas.{those-none, increasing-those}
 use Rattle.mv_hub.proofs.parties.Parties.serving.Goals as goal
 
-pub loop-party-preserved : goal.loop-party-preserved
-loop-party-preserved c =
-    let more = filter-range_more (λ party. serves_one (served_by c.args.self.now party) c.args.wanted.now) c.loop-party.party in
-    grind (arith, common_steps)
+pub add_serving-requires : goal.add_serving-requires
+add_serving-requires c = ((λ (party : ℕ). false), c.new-found.ensures ∙ those-none (length c.args.self.now))
 
 pub new-requires : goal.new-requires
-new-requires c = subst IsStrictlyIncreasing (sym c.loop-party.invariant.found)
-    (increasing-filter_range (λ party. serves_one (served_by c.args.self.now party) c.args.wanted.now) c.loop-party.party)
+new-requires c =
+    increasing-those c.add_serving.new.found.items (λ party. false || serves_one (served_by c.args.self.now party) c.args.wanted.now) (length c.args.self.now)
+    (c.add_serving.ensures (λ (party : ℕ). false) (c.new-found.ensures ∙ those-none (length c.args.self.now)))
+
+pub returns : goal.returns
+returns c = c.new.ensures ∙ c.add_serving.ensures (λ (party : ℕ). false) (c.new-found.ensures ∙ those-none (length c.args.self.now))

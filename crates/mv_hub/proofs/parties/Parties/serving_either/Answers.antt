@@ -1,0 +1,24 @@
+use Rattle.std.proofs.Common.{◌∙◌, ◌||◌, ℕ, Bool, false, length}
+use Rattle.mv_hub.specs.Parties.{serves_one, served_by}
+use Rattle.mv_hub.proofs.NumberLemmas.{those-none, increasing-those}
+use Rattle.mv_hub.proofs.parties.Parties.serving_either.Goals as goal
+
+pub add_serving-requires : goal.add_serving-requires
+add_serving-requires c = ((λ (party : ℕ). false), c.new-found.ensures ∙ those-none (length c.args.self.now))
+
+pub add_serving-requires-2 : goal.add_serving-requires-2
+add_serving-requires-2 c = (
+  (λ (party : ℕ). serves_one (served_by c.args.self.now party) c.args.first.now),
+  c.add_serving.ensures (λ (party : ℕ). false) (c.new-found.ensures ∙ those-none (length c.args.self.now)),
+)
+
+pub new-requires : goal.new-requires
+new-requires c =
+    let first : ℕ → Bool = λ (party : ℕ). serves_one (served_by c.args.self.now party) c.args.first.now in
+    increasing-those c.add_serving-2.new.found.items (λ party. first party || serves_one (served_by c.args.self.now party) c.args.second.now) (length c.args.self.now)
+    (c.add_serving-2.ensures first (c.add_serving.ensures (λ (party : ℕ). false) (c.new-found.ensures ∙ those-none (length c.args.self.now))))
+
+pub returns : goal.returns
+returns c =
+    let first : ℕ → Bool = λ (party : ℕ). serves_one (served_by c.args.self.now party) c.args.first.now in
+    c.new.ensures ∙ c.add_serving-2.ensures first (c.add_serving.ensures (λ (party : ℕ). false) (c.new-found.ensures ∙ those-none (length c.args.self.now)))

@@ -1,0 +1,42 @@
+-- What a routing puts on the links of its sender.
+use Rattle.std.specs.Prelude.{◌≡◌, ◌≢◌, ◌<◌, ◌+◌, ◌==◌, ◌++◌, ◌∷◌, [], ℕ, List, length, if◌then◌else◌}
+use Rattle.std.specs.List.{list_any}
+use Rattle.mv_message.specs.declared.message.Message.{Message}
+use Rattle.mv_link.specs.declared.item.Item.{Item}
+use Rattle.mv_link.specs.Sending.{Sending, EndsWithHeld}
+use Rattle.mv_pairs.specs.Pairs.{IsSquare}
+use Rattle.mv_hub.specs.Record.{routed_count}
+use Rattle.mv_hub.specs.Targets.{reach}
+use Rattle.mv_hub.specs.Hub.{HubState}
+use Rattle.mv_hub.specs.Kept.{link_at, sent_table}
+
+-- the number, the stamp and the reach of the next message of a party
+pub record IsRouting (hub : HubState) (message : Message) (from k stamp : ℕ) (reached : List ℕ) : Type 0 where
+  pub party : from < length hub.parties
+  pub number : k ≡ routed_count hub.entries from + 1
+  pub place : stamp ≡ length hub.entries + 1
+  pub parties : reached ≡ reach hub.parties hub.entries from message
+
+-- what a link to a party gains: on the sender's own a receipt, if there is one, and then the item, if the party is reached
+abbrev pub gain_of : ℕ → List ℕ → List Item → Item → ℕ → List Item
+gain_of from reached receipt item to =
+    (if to == from then receipt else []) ++ (if list_any (λ other. other == to) reached then item ∷ [] else [])
+
+-- and how many items
+abbrev pub gain_count : ℕ → List ℕ → List Item → ℕ → ℕ
+gain_count from reached receipt to =
+    (if to == from then length receipt else 0) + (if list_any (λ other. other == to) reached then 1 else 0)
+
+-- these items were pushed on a sending end, and nothing else changed
+pub record Gains (items : List Item) (old new : Sending) : Type 0 where
+  pub window : new.window ≡ old.window
+  pub total : new.total ≡ old.total + length items
+  pub sent : new.sent ≡ old.sent
+  pub ends : (list : List Item) → EndsWithHeld old list → EndsWithHeld new (list ++ items)
+
+-- on the link from one party to each of so many there was pushed what that gains, and no other link changed
+pub record GainsRow (count from : ℕ) (gains : ℕ → List Item) (old new : List (List Sending)) : Type 0 where
+  pub square : IsSquare count new
+  pub gained : (to : ℕ) → to < count → Gains (gains to) (link_at old from to) (link_at new from to)
+  pub others : (party to : ℕ) → party ≢ from → link_at new party to ≡ link_at old party to
+  pub sent : sent_table new ≡ sent_table old

@@ -1,0 +1,20 @@
+-- Sets of parties, and the table of the party that serves each market.
+use Rattle.std.specs.Prelude.{◌≡◌, ◌<◌, ℕ, List, length, Bool, true, Some, filter}
+use Rattle.std.specs.List.{range_with_len}
+use Rattle.std.specs.Map.{lookup}
+use Rattle.mv_hub.specs.Parties.{is_same_market, has_market, served_by}
+
+-- of the parties below a count those that pass a test, ascending
+abbrev pub those : (ℕ → Bool) → ℕ → List ℕ
+those test count = filter test (range_with_len 0 count)
+
+-- a table gives the party that serves a market, if one below a count does
+pub record FindsBelow (parties : List (List (List ℕ))) (count : ℕ) (table : List (List ℕ × ℕ)) : Type 0 where
+  pub serves : (market : List ℕ) (party : ℕ) → lookup (is_same_market market) table ≡ Some party
+      → (party < count) × (has_market (served_by parties party) market ≡ true)
+  pub all : (market : List ℕ) (party : ℕ) → party < count → has_market (served_by parties party) market ≡ true
+      → lookup (is_same_market market) table ≡ Some party
+
+-- a table gives the party that serves a market, if one does
+abbrev pub FindsParties : List (List (List ℕ)) → List (List ℕ × ℕ) → Type 0
+FindsParties parties table = FindsBelow parties (length parties) table

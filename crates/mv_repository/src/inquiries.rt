@@ -17,7 +17,7 @@ use crate::status::is_active;
 use crate::verdict::{is_explained, verdict_when};
 use crate::{Joint, LogEntry, Verdict};
 use indexmap::{IndexMap, IndexSet};
-use mv_link::{Item, Reach};
+use mv_link::{Item, SharedReach};
 use mv_message::{Found, Message, Party};
 use std::alloc::{AllocError, Global};
 
@@ -219,11 +219,11 @@ impl Inquiry {
 }
 
 /// The parties that the receipt at a place of a log names.
-fn parties_at(log: &[LogEntry], place: Option<usize>) -> Option<&Reach>
+fn parties_at(log: &[LogEntry], place: Option<usize>) -> Option<&SharedReach>
     ensures { option_copied result ≡ parties_at log.now place }
 {
     match &log.get(place?)?.item {
-        Item::Receipt { reach, .. } => Some(reach.get()),
+        Item::Receipt { reach, .. } => Some(reach),
         Item::Carried { .. } => None,
     }
 }

@@ -17,7 +17,7 @@ use crate::hub::Hub;
 use crate::hub::targets::is_query;
 use crate::{Entry, RouteFault};
 use arrayvec::ArrayVec;
-use mv_link::{Item, PARTIES_LIMIT, Reach};
+use mv_link::{Item, PARTIES_LIMIT, Reach, SharedReach};
 use mv_message::{Message, Party, Shared};
 use std::alloc::AllocError;
 
@@ -123,7 +123,7 @@ impl Hub {
         }
         Ok(Some(Item::Receipt {
             k: routing.k,
-            reach: Shared::new(self.alloc, routing.reached.copy())?,
+            reach: SharedReach::of(self.alloc, &routing.reached)?,
             query: is_query(routing.message.get()),
         }))
     }

@@ -1,5 +1,5 @@
 -- What `==` says of lists of texts.
-use Rattle.std.proofs.Common.{◌≡◌, List, ℕ, Bool, nat_eq, refl}
+use Rattle.std.proofs.Common.{◌≡◌, List, ℕ, nat_eq, refl}
 use Rattle.std.specs.Bool.{Decides}
 use Rattle.std.specs.Cmp.Lexicographic.{pointwise}
 use Rattle.std.proofs.lemmas.Slice.Eq.{slice_eq-Decides, bytes_eq-Decides}

@@ -1,10 +1,10 @@
 -- Each step keeps the limits, and so does each run.
-use Rattle.std.proofs.Common.{◌≡◌, ℕ, ◌+◌, ◌-◌, ◌<◌, ◌≤◌, Bool, true, false, List, [], ◌∷◌, ◌++◌, length, drop, cond, eqb, Some, None, Option, sym, refl, ap, ◌∙◌, subst, arith, length-append, length-drop, ltb-true, eqb-true, get_or}
+use Rattle.std.proofs.Common.{◌≡◌, ℕ, ◌+◌, ◌-◌, ◌<◌, ◌≤◌, Bool, true, false, List, [], ◌∷◌, ◌++◌, length, drop, eqb, Some, None, Option, sym, refl, ap, ◌∙◌, subst, arith, length-append, length-drop, ltb-true, eqb-true, get_or}
 use Rattle.std.specs.Prelude.{All, slice_get, not, ◌==◌, ◌||◌, nat_lt, nat_le, find, replicate}
 use Rattle.std.specs.List.{range_with_len}
 use Rattle.std.proofs.lemmas.Bool.{not-false, and_parts, leb-false, ltb-false, eqb-false}
 use Rattle.std.proofs.lemmas.List.{get_or-replicate}
-use Rattle.std.proofs.lemmas.List.Elements.{All-nil, All-cons, All-head, All-tail, All-append, All-weaker}
+use Rattle.std.proofs.lemmas.List.Elements.{All-nil, All-cons, All-tail, All-append, All-weaker}
 use Rattle.mv_pack.specs.declared.key.PackKey.{PackKey}
 use Rattle.mv_message.specs.declared.message.Message.{Message}
 use Rattle.mv_message.specs.declared.message.Message.TheVariants.{Query}
@@ -13,8 +13,8 @@ use Rattle.mv_link.specs.declared.item.Item.{Item}
 use Rattle.mv_pairs.specs.Pairs.{cell, put, IsSquare}
 use Rattle.mv_pairs.proofs.PairsLemmas.{put-each, put-each_pair, cell-put_same}
 use Rattle.mv_hub.specs.declared.entry.Entry.{Entry}
-use Rattle.mv_hub.specs.declared.entry.Entry.TheVariants.{Routed, Closed}
-use Rattle.mv_hub.specs.Record.{routed_from, routed_count, is_open}
+use Rattle.mv_hub.specs.declared.entry.Entry.TheVariants.{Closed}
+use Rattle.mv_hub.specs.Record.{routed_count, is_open}
 use Rattle.mv_hub.specs.Links.{gained, link_items}
 use Rattle.mv_hub.proofs.RecordLemmas.{link_items-push, gained_other}
 use Rattle.mv_hub.proofs.NumberLemmas.{find-none_at}
@@ -29,7 +29,7 @@ use Rattle.mv_machine.specs.declared.reply.Reply.{Reply}
 use Rattle.mv_machine.specs.Limits.{Bounds}
 use Rattle.mv_machine.specs.State.{State, is_party, are_parties, submissions_of, waiting_of, is_uplink_full, is_sender_full, with_submission, with_wire, sent_of, wire_of, log_of, items_on, applied_count, opening}
 use Rattle.mv_machine.specs.Steps.{submit, ask, verify_by, verify, verdict, with_applied, entry_from, is_answer_busy, next_entry, is_full, route_unless, route_front, route, relay, apply_next, apply_front, apply, is_unsent, is_gone, repeat, close, lose_front, lose, outcome}
-use Rattle.mv_machine.specs.Runs.{Allows, Runs}
+use Rattle.mv_machine.specs.Runs.{Runs}
 use Rattle.mv_machine.specs.Bounded.{KeepsLimits}
 use Rattle.mv_machine.proofs.LawfulLemmas.{IsSound, choose, allowed-case, step-sound, opening-sound}
 use Rattle.mv_machine.proofs.ClosingLemmas.{routed_count-push}
@@ -45,8 +45,14 @@ submitted-keeps st from message k free room = record {
   submitted = put-each (λ party l. party < length st.parties → length l ≤ st.limits.submissions) st.submissions from (submissions_of st from ++ message ∷ []) []
       (λ is_party. omega (arith, k.submitted from is_party, eqb-false (length (submissions_of st from)) st.limits.submissions room, length-append (submissions_of st from) (message ∷ []))) k.submitted;
   waiting = put-each (λ party l. party < length st.parties → length (drop (routed_count st.entries party) l) ≤ st.limits.uplink) st.submissions from (submissions_of st from ++ message ∷ []) []
-      (λ is_party. omega (arith, k.waiting from is_party, eqb-false (length (waiting_of st from)) st.limits.uplink free, length-append (submissions_of st from) (message ∷ []),
-      length-drop (routed_count st.entries from) (submissions_of st from), length-drop (routed_count st.entries from) (submissions_of st from ++ message ∷ []))) k.waiting;
+      (λ is_party. omega (
+        arith,
+        k.waiting from is_party,
+        eqb-false (length (waiting_of st from)) st.limits.uplink free,
+        length-append (submissions_of st from) (message ∷ []),
+        length-drop (routed_count st.entries from) (submissions_of st from),
+        length-drop (routed_count st.entries from) (submissions_of st from ++ message ∷ []),
+      )) k.waiting;
   under_way = k.under_way;
   known = k.known;
   relayed = k.relayed;
@@ -108,8 +114,13 @@ entered-keeps : (st : State) (entry : Entry) → KeepsLimits st
     → KeepsLimits (record st { entries = st.entries ++ entry ∷ [] })
 entered-keeps st entry k room = record {
   submitted = k.submitted;
-  waiting = λ party is_party. omega (arith, k.waiting party is_party, routed_count-push st.entries (entry ∷ []) party,
-      length-drop (routed_count st.entries party) (submissions_of st party), length-drop (routed_count (st.entries ++ entry ∷ []) party) (submissions_of st party));
+  waiting = λ party is_party. omega (
+    arith,
+    k.waiting party is_party,
+    routed_count-push st.entries (entry ∷ []) party,
+    length-drop (routed_count st.entries party) (submissions_of st party),
+    length-drop (routed_count (st.entries ++ entry ∷ []) party) (submissions_of st party),
+  );
   under_way = k.under_way;
   known = k.known;
   relayed = λ from to a b. omega (arith, k.relayed from to a b, longer from to);

@@ -8,3 +8,4 @@ pub mod KeyOrderLemmas
 pub mod ServedLemmas
 pub mod CanonLemmas
 pub mod CommandLemmas
+pub mod PlainLineLemmas

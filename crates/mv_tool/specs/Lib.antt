@@ -6,6 +6,7 @@ pub mod Fields
 pub mod Reading
 pub mod Kinds
 pub mod Requests
+pub mod PlainLines
 pub mod ReplyLines
 pub mod Writing
 pub mod KeyOrder

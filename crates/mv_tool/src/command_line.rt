@@ -12,7 +12,8 @@ ghost use Rattle.mv_tool.specs.Statuses.{status_code};
 ghost use Rattle.mv_tool.specs.declared.status.Status.{Status as AStatus};
 
 use crate::output::put_out;
-use crate::{ServeFault, Status, canon, serve};
+use crate::steps::serve_last;
+use crate::{ServeFault, Status, canon};
 use clap::{ArgMatches, Command, Error};
 use std::alloc::{AllocError, Global};
 use std::io::{Read, Write};
@@ -30,6 +31,9 @@ enum Task {
 ///
 /// What is read comes from `reader`, what is asked for goes to `writer`, help too, and what went wrong to `faults`. A
 /// write to `faults` that fails is passed over. The texts of help and of mistakes are their library's.
+///
+/// It is the last call of a program: what `steps` has open at its end is left to the end of the process, which gives the
+/// memory back. Whoever goes on calls `serve`.
 pub fn command<R: Read, W: Write, F: Write>(
     alloc: Global,
     words: Vec<String>,
@@ -76,7 +80,7 @@ fn run<R: Read, W: Write, F: Write>(
         → Keeps (W.contents writer.old) (W.contents writer.new) }
 {
     match task_of(alloc, words) {
-        Ok(Some(Task::Steps)) => status_of(serve(alloc, reader, writer), faults),
+        Ok(Some(Task::Steps)) => status_of(serve_last(alloc, reader, writer), faults),
         Ok(Some(Task::Canon)) => status_of(canon(alloc, reader, writer), faults),
         Ok(None) => Status::Refused,
         Err(error) => explain(alloc, &error, writer, faults),

@@ -58,7 +58,7 @@ impl LineKind {
 }
 
 /// The kind of that name.
-fn kind_called(name: &str) -> Option<LineKind>
+pub(crate) fn kind_called(name: &str) -> Option<LineKind>
     ensures { result ≡ kind_named name.now }
 {
     match name {

@@ -19,6 +19,7 @@ mod market_lists;
 mod members;
 mod open_fault;
 mod output;
+mod plain_line;
 mod reading;
 mod reply_line;
 mod request;

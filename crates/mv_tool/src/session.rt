@@ -4,24 +4,30 @@ ghost use Rattle.std.specs.Prelude.{◌≡◌, Ok, None, IfOk, IfErr};
 ghost use Rattle.mv_hub.specs.Parties.{parties_of};
 ghost use Rattle.mv_machine.specs.Limits.{limits_of};
 ghost use Rattle.mv_tool.specs.Openings.{Gives, code_of, of_parties, of_limits};
+ghost use Rattle.mv_tool.specs.Reading.{Gives as ReadGives};
 ghost use Rattle.mv_tool.specs.ReplyLines.{refused};
+ghost use Rattle.mv_tool.specs.Requests.{read_line};
 ghost use Rattle.mv_tool.specs.Served.{Readied};
 ghost use Rattle.mv_tool.specs.Sessions.{IsOpenReply, IsStepReply, IsRequestReply, IsReply};
 ghost use Rattle.mv_tool.specs.Writing.{Appended};
 
 use crate::answering::Answering;
+use crate::plain_line::plain_step;
 use crate::reply_line::{Opened, Refused, append};
 use crate::{LineFault, MarketLists, OpenFault, Request};
+use json::Scratch;
 use mv_hub::{HubFault, Parties};
 use mv_machine::{Limits, Step};
 use mv_system::World;
 use std::alloc::{AllocError, Global};
 use std::marker::Model;
 
-/// The system that is open, seen as the state of the list machine; none before an opening has succeeded.
+/// The system that is open, seen as the state of the list machine; none before an opening has succeeded. The memory in
+/// which lines are read is kept from line to line.
 #[derive(Drop)]
 pub(crate) struct Session {
     alloc: Global,
+    scratch: Scratch,
     world: Option<World>,
 }
 
@@ -37,7 +43,7 @@ impl Answering for Session {
     ghost replies = { IsReply };
 
     fn answer(&mut self, line: &[u8], out: &mut Vec<u8>) -> Result<(), AllocError> {
-        match Request::read(self.alloc, line) {
+        match self.read(line) {
             Ok(request) => self.answer_request(request, out),
             Err(LineFault::Memory) => Err(AllocError),
             Err(fault) => append(self.alloc, out, &fault),
@@ -50,7 +56,22 @@ impl Session {
     pub(crate) fn new(alloc: Global) -> Session
         ensures { result ≡ None }
     {
-        Session { alloc, world: None }
+        Session {
+            alloc,
+            scratch: Scratch::new(alloc),
+            world: None,
+        }
+    }
+
+    /// Reads a line, as `Request::read` does: a plain one by its tokens, any other by its value.
+    fn read(&mut self, line: &[u8]) -> Result<Request, LineFault>
+        ensures read { ReadGives result (read_line line.now) }
+        ensures kept { self.new ≡ self.old }
+    {
+        match plain_step(&mut self.scratch, line) {
+            Some(step) => Ok(Request::Step(step)),
+            None => Request::read(self.alloc, line),
+        }
     }
 
     /// Writes the reply to what a line asks.

@@ -10,6 +10,7 @@ use crate::engine::answer_lines;
 use crate::session::Session;
 use std::alloc::Global;
 use std::io::{Read, Write};
+use std::mem;
 
 /// Writes the reply to each line that is read, in order, each ended by a line feed, and nothing else. An empty line gets
 /// none.
@@ -31,4 +32,23 @@ pub fn serve<R: Read, W: Write>(
 {
     let mut session = Session::new(alloc);
     answer_lines(alloc, &mut session, reader, writer)
+}
+
+/// Does what `serve` does, as the last thing in a process: what is open at the end is not taken apart, since the process
+/// gives all its memory back at once.
+pub(crate) fn serve_last<R: Read, W: Write>(
+    alloc: Global,
+    reader: &mut R,
+    writer: &mut W,
+) -> Result<(), ServeFault>
+    ensures ok { OnOk result (IfSome (R.remaining reader.old) (λ bytes. (after : Open)
+        × Served IsReply None bytes after (W.contents writer.old) (W.contents writer.new))) }
+    ensures err { IfErr result (λ fault. (bytes : List ℕ)
+        × Consumes (R.remaining reader.old) (R.remaining reader.new) bytes
+        × Ended IsReply fault None bytes (W.contents writer.old) (W.contents writer.new)) }
+{
+    let mut session = Session::new(alloc);
+    let ended = answer_lines(alloc, &mut session, reader, writer);
+    mem::forget(session);
+    ended
 }

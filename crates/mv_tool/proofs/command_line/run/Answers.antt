@@ -3,7 +3,7 @@ use Rattle.mv_tool.proofs.command_line.run.Goals as goal
 
 -- steps were answered
 pub returns-in-Ok-Some-Steps-clause-steps : goal.returns-in-Ok-Some-Steps-clause-steps
-returns-in-Ok-Some-Steps-clause-steps g c asks = ran_lines _ _ _ _ _ _ c.serve.result _ c.status_of.ensures c.serve.ensures.ok c.serve.ensures.err
+returns-in-Ok-Some-Steps-clause-steps g c asks = ran_lines _ _ _ _ _ _ c.serve_last.result _ c.status_of.ensures c.serve_last.ensures.ok c.serve_last.ensures.err
 
 -- messages were answered
 pub returns-in-Ok-Some-Canon-clause-canon : goal.returns-in-Ok-Some-Canon-clause-canon

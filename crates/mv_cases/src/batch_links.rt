@@ -166,7 +166,9 @@ fn follows_linked_batches_round_a_ring(rt: HostRuntime) -> Result<(), Fail> {
 fn has_two_batches(catalogue: &Catalogue) -> bool {
     match catalogue.batches.as_slice() {
         [first, second] => {
-            catalogue.product.is_none() && first.0.as_str() == "B1" && second.0.as_str() == "B2"
+            catalogue.product.get().is_none()
+                && first.0.as_str() == "B1"
+                && second.0.as_str() == "B2"
         }
         _ => false,
     }

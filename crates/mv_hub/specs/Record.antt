@@ -23,6 +23,11 @@ routed_count entries party = length (routed_from entries party)
 abbrev pub is_same_gtin : List ℕ → List ℕ → Bool
 is_same_gtin = pointwise nat_eq
 
+-- the product that a message gives: that of a master
+abbrev pub product_of : Message → Option Product
+product_of (Master gtin product) = Some product
+product_of message = None
+
 -- the product that an entry gives under a code: that of a routed master of the code
 abbrev pub product_in : List ℕ → Entry → Option Product
 product_in gtin (Routed from k (Master named product)) = if is_same_gtin named gtin then Some product else None

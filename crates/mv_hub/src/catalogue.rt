@@ -2,10 +2,13 @@
 
 ghost use Rattle.std.specs.Prelude.{◌≡◌, ◌∷◌, ◌++◌, [], OnOk, OnErr};
 ghost use Rattle.std.specs.Cmp.{partial_equiv_from_equiv};
-ghost use Rattle.std.specs.Cmp.Lexicographic.{pointwise, lists_equiv};
+ghost use Rattle.std.specs.Cmp.Lexicographic.{pointwise, lists_equiv, options_equiv};
+ghost use Rattle.mv_message.specs.contracts.message.ProductEq.TheImpl.Laws.{laws-law};
+ghost use Rattle.std.specs.Option.{option_copied, option_eq};
+ghost use Rattle.mv_hub.specs.Record.{product_of};
 ghost use Rattle.mv_hub.specs.Listing.{is_same_listing, listing_equiv};
 
-use mv_message::Product;
+use mv_message::{Message, Product, Shared};
 use mv_pack::{Batch, Expiry};
 use std::alloc::AllocError;
 use std::marker::Model;
@@ -64,11 +67,73 @@ impl Eq for Pairs {
     ghost laws = { lists_equiv listing_equiv };
 }
 
+/// The product of a master, if there is one. It is lent from the master, which is kept once with all others that hold it.
+#[derive(Debug, Drop)]
+pub struct MasterProduct {
+    master: Option<Shared<Message>>,
+}
+
+impl Model for MasterProduct {
+    ghost use Rattle.std.specs.Prelude.{Option};
+    ghost use Rattle.std.specs.Option.{option_and_then};
+    ghost use Rattle.mv_message.specs.declared.message.Product.{Product as AProduct};
+    ghost use Rattle.mv_hub.specs.Record.{product_of};
+
+    ghost Value = { Option AProduct };
+
+    ghost view = { λ p. option_and_then product_of p.master };
+}
+
+impl MasterProduct {
+    ghost use Rattle.std.specs.Option.{option_and_then};
+
+    /// The product of a master. No other message has one.
+    pub fn new(master: Option<Shared<Message>>) -> MasterProduct
+        ensures { result ≡ option_and_then product_of master }
+    {
+        MasterProduct { master }
+    }
+
+    /// The product.
+    pub fn get(&self) -> Option<&Product>
+        ensures { option_copied result ≡ self.now }
+    {
+        match &self.master {
+            Some(master) => product_of(master),
+            None => None,
+        }
+    }
+}
+
+/// The product that a message gives.
+fn product_of(message: &Shared<Message>) -> Option<&Product>
+    ensures { option_copied result ≡ product_of message.now }
+{
+    match message.get() {
+        Message::Master { product, .. } => Some(product),
+        _ => None,
+    }
+}
+
+impl PartialEq for MasterProduct {
+    ghost eq = { option_eq ⟦<Product as PartialEq>⟧.eq };
+
+    ghost laws = { partial_equiv_from_equiv (options_equiv laws-law) };
+
+    fn eq(&self, other: &Self) -> bool {
+        self.get() == other.get()
+    }
+}
+
+impl Eq for MasterProduct {
+    ghost laws = { options_equiv laws-law };
+}
+
 /// What the hub knows of a product.
 #[derive(Debug, PartialEq, Eq, Drop)]
 pub struct Catalogue {
     /// The product of its last routed master, if there is one.
-    pub product: Option<Product>,
+    pub product: MasterProduct,
     /// The distinct pairs of batch and expiry of all its routed uploads, in the order of their first routing.
     pub batches: Pairs,
 }

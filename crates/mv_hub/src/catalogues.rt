@@ -2,12 +2,13 @@
 
 ghost use Rattle.std.specs.Prelude.{◌≡◌, ℕ, [], List, Option, Some, None, if◌then◌else◌, option_map, OnOk, OnErr, IfOk};
 ghost use Rattle.std.specs.Option.{option_copied};
-ghost use Rattle.mv_hub.specs.Record.{is_same_gtin};
+ghost use Rattle.mv_message.specs.declared.message.Product.{Product as AProduct};
+ghost use Rattle.mv_hub.specs.Record.{is_same_gtin, product_of};
 ghost use Rattle.mv_hub.specs.Catalogue.{with_product, with_listing};
 
-use crate::{Catalogue, Pairs};
+use crate::{Catalogue, MasterProduct, Pairs};
 use indexmap::{IndexMap, IndexSet};
-use mv_message::{Markets, Product};
+use mv_message::{Message, Shared};
 use mv_pack::{Batch, Expiry, Gtin};
 use std::alloc::{AllocError, Global};
 use std::marker::Model;
@@ -32,12 +33,12 @@ impl Model for Listed {
 
 impl Listed {
     /// What is known of a product that has a master and no batch.
-    fn of_product(alloc: Global, product: Product) -> Listed
-        ensures { result ≡ with_product None product }
+    fn of_product(alloc: Global, product: MasterProduct) -> Listed
+        ensures { (known : AProduct) → product ≡ Some known → result ≡ with_product None known }
     {
         Listed {
             catalogue: Catalogue {
-                product: Some(product),
+                product,
                 batches: Pairs::new(Vec::new(alloc)),
             },
             known: IndexSet::new(alloc),
@@ -50,7 +51,7 @@ impl Listed {
     {
         let mut listed = Listed {
             catalogue: Catalogue {
-                product: None,
+                product: MasterProduct::new(None),
                 batches: Pairs::new(Vec::new(alloc)),
             },
             known: IndexSet::new(alloc),
@@ -118,16 +119,21 @@ impl Catalogues {
     }
 
     /// A product has this master from now on. Where memory is refused nothing has changed.
-    pub(crate) fn set_product(&mut self, gtin: Gtin, product: &Product) -> Result<(), AllocError>
-        ensures ok { OnOk result ((other : List ℕ) → catalogue_in self.new other
+    pub(crate) fn set_master(
+        &mut self,
+        gtin: Gtin,
+        master: &Shared<Message>,
+    ) -> Result<(), AllocError>
+        ensures ok { OnOk result ((product : AProduct) → product_of master.now ≡ Some product
+            → (other : List ℕ) → catalogue_in self.new other
             ≡ (if is_same_gtin gtin other
-            then Some (with_product (catalogue_in self.old gtin) product.now)
+            then Some (with_product (catalogue_in self.old gtin) product)
             else catalogue_in self.old other)) }
         ensures err { OnErr result (self.new ≡ self.old) }
     {
-        let product = product.copy(self.alloc)?;
+        let product = MasterProduct::new(Some(master.share()?));
         if let Some(listed) = self.table.get_mut(&gtin) {
-            listed.catalogue.product = Some(product);
+            listed.catalogue.product = product;
             return Ok(());
         }
         self.table

@@ -16,7 +16,7 @@ mod hub;
 mod parties;
 mod trail;
 
-pub use catalogue::{Catalogue, Pairs};
+pub use catalogue::{Catalogue, MasterProduct, Pairs};
 pub use entry::Entry;
 pub use fault::{HubFault, RouteFault};
 pub use hub::Hub;

@@ -69,15 +69,9 @@ impl AuditTrail {
     pub(crate) fn markets(&self, gtin: &Gtin) -> Option<&[Market]>
         ensures { option_map (λ markets. markets.now) result ≡ last_markets self.now gtin.now }
     {
-        match self.catalogue(gtin) {
-            Some(
-                Catalogue {
-                    product: Some(product),
-                    ..
-                },
-            ) => Some(product.markets.as_slice()),
-            _ => None,
-        }
+        let catalogue = self.catalogue(gtin)?;
+        let product = catalogue.product.get()?;
+        Some(product.markets.as_slice())
     }
 
     /// The batches that are linked to a batch, ascending. Refused for want of memory.
@@ -129,7 +123,7 @@ fn note(
         return Ok(());
     };
     match message.get() {
-        Message::Master { gtin, product } => catalogues.set_product(*gtin, product)?,
+        Message::Master { gtin, .. } => catalogues.set_master(*gtin, message)?,
         Message::Upload {
             gtin,
             batch,

@@ -1,6 +1,6 @@
 //! The router: its record and stamps, the catalogue, the links between batches, and the refusals that the program cannot show.
 
-use mv_hub::{Catalogue, Entry, Hub, HubFault, Pairs, Parties, RouteFault};
+use mv_hub::{Catalogue, Entry, Hub, HubFault, MasterProduct, Pairs, Parties, RouteFault};
 use mv_link::{Frame, Item};
 use mv_message::{Message, Shared};
 use mv_pack::{Batch, BatchKey, Expiry, Gtin, Market};
@@ -322,7 +322,7 @@ fn closes_a_link_for_what_is_new(rt: HostRuntime) {
 
 /// Whether the product of a catalogue is for this market alone, and without a market whether there is none.
 fn is_for(catalogue: &Catalogue, market: &str) -> bool {
-    let Some(product) = &catalogue.product else {
+    let Some(product) = catalogue.product.get() else {
         return market.is_empty();
     };
     let markets = product.markets.as_slice();
@@ -395,7 +395,7 @@ fn catalogue_of(alloc: Global, number: &str) -> Option<Catalogue> {
     let mut list = Vec::with_capacity(alloc, 1).ok()?;
     list.push_reserved((batch, expiry));
     Some(Catalogue {
-        product: None,
+        product: MasterProduct::new(None),
         batches: Pairs::new(list),
     })
 }
@@ -411,6 +411,35 @@ fn are_equal(alloc: Global, first: &str, second: &str) -> Option<bool> {
 fn tells_catalogues_apart_by_their_batches(rt: HostRuntime) {
     assert!(rt; are_equal(rt.alloc(), "B1", "B1") == Some(true));
     assert!(rt; are_equal(rt.alloc(), "B1", "B2") == Some(false));
+}
+
+/// Whether markets are Finland alone.
+fn is_finland(markets: &[Market]) -> bool {
+    markets.len() == 1 && markets[0].as_str() == "FI"
+}
+
+/// Whether the message of a text gives a product that is for Finland alone.
+fn gives_finnish(alloc: Global, text: &str) -> bool {
+    let given = MasterProduct::new(message_of(alloc, text));
+    match given.get() {
+        Some(product) => is_finland(product.markets.as_slice()),
+        None => false,
+    }
+}
+
+/// Whether the products of two messages are equal.
+fn are_same(alloc: Global, first: &str, second: &str) -> bool {
+    MasterProduct::new(message_of(alloc, first)) == MasterProduct::new(message_of(alloc, second))
+}
+
+#[test]
+fn lends_the_product_of_a_master(rt: HostRuntime) {
+    assert!(rt; gives_finnish(rt.alloc(), FINNISH));
+    assert!(rt; !gives_finnish(rt.alloc(), SWEDISH));
+    assert!(rt; !gives_finnish(rt.alloc(), FIRST_BATCH));
+    assert!(rt; are_same(rt.alloc(), FINNISH, FINNISH));
+    assert!(rt; !are_same(rt.alloc(), FINNISH, SWEDISH));
+    assert!(rt; !are_same(rt.alloc(), FINNISH, FIRST_BATCH));
 }
 
 /// A batch of the product.

@@ -1,6 +1,7 @@
 use Rattle.std.proofs.Common.{◌∙◌, ◌++◌, ◌∷◌, [], refl, sym, ap, subst}
 use Rattle.mv_hub.specs.declared.entry.Entry.TheVariants.{Routed, Closed}
 use Rattle.mv_message.specs.declared.message.Message.TheVariants.{Master, Upload, Repack}
+use Rattle.mv_hub.specs.Record.{product_of}
 use Rattle.mv_hub.specs.Kept.{AreTables}
 use Rattle.mv_hub.proofs.TrailLemmas.{tables-quiet, tables-other, tables-product, tables-batch, tables-link}
 use Rattle.mv_hub.proofs.trail.note.Goals as goal
@@ -10,13 +11,13 @@ returns-in_default-clause-ok c = λ entries tables.
     subst (λ e. AreTables (entries ++ e ∷ []) c.args.catalogues.now c.args.batch_links.now) (sym c.in_default.is)
     (tables-quiet entries (Closed _ _) c.args.catalogues.now c.args.batch_links.now (λ g. refl) (λ g. refl) (λ b. refl) tables)
 
-pub returns-in_ok-set_product-in-Master-clause-ok : goal.returns-in_ok-set_product-in-Master-clause-ok
-returns-in_ok-set_product-in-Master-clause-ok c = λ entries tables.
+pub returns-in_ok-set_master-in-Master-clause-ok : goal.returns-in_ok-set_master-in-Master-clause-ok
+returns-in_ok-set_master-in-Master-clause-ok c = λ entries tables.
     let m = c.in-Master in
-    subst (λ e. AreTables (entries ++ e ∷ []) c.set_product.new.self c.args.batch_links.now)
+    subst (λ e. AreTables (entries ++ e ∷ []) c.set_master.new.self c.args.batch_links.now)
     (sym (c.in-Routed.is ∙ ap (Routed c.in-Routed.from c.in-Routed.k) (sym c.get.ensures ∙ m.is)))
-    (tables-product entries (Routed _ _ (Master m.gtin m.product)) c.args.catalogues.now c.set_product.new.self c.args.batch_links.now m.gtin m.product
-    (λ g. refl) (λ g. refl) (λ b. refl) c.in_ok-set_product-in-Master.ensures.ok tables)
+    (tables-product entries (Routed _ _ (Master m.gtin m.product)) c.args.catalogues.now c.set_master.new.self c.args.batch_links.now m.gtin m.product
+    (λ g. refl) (λ g. refl) (λ b. refl) (c.in_ok-set_master-in-Master.ensures.ok m.product (ap product_of (sym c.get.ensures ∙ m.is))) tables)
 
 pub returns-in_ok-add_batch-in-Upload-clause-ok : goal.returns-in_ok-add_batch-in-Upload-clause-ok
 returns-in_ok-add_batch-in-Upload-clause-ok c = λ entries tables.

@@ -1,7 +1,7 @@
 //! Messages: that copies equal what was copied, and that values are read back. Which lines are read, why others are not, and
 //! what is written is shown by the examples of `mvhub canon`.
 
-use mv_message::{Found, Markets, Message, Serials, Shared, Standing, Text};
+use mv_message::{Found, Markets, Message, Serials, Shared, Standing, Text, laws};
 use mv_pack::{Batch, Expiry, Market, Serial};
 use std::alloc::Global;
 
@@ -42,6 +42,9 @@ const CANONICAL: [&str; 11] = [
     "{\"asker\":2,\"found\":{\"batch\":\"B1\",\"expiry\":\"280229\",\"national\":null,\"recalled\":false,\"standing\":\"active\",\"withdrawn\":true},\"gtin\":\"09506000134352\",\"msg\":\"answer\",\"q\":1,\"serial\":\"S1\",\"v\":2}",
     "{\"at\":1800000000,\"gtin\":\"09506000134352\",\"msg\":\"withdraw\",\"v\":2}",
 ];
+
+/// A query for a pack that no other text here asks for.
+const OTHER_PACK: &str = "{\"gtin\":\"09506000134352\",\"msg\":\"query\",\"serial\":\"S9\"}";
 
 fn message(alloc: Global, text: &str) -> Option<Message> {
     Message::read(alloc, text.as_bytes()).ok()
@@ -111,9 +114,7 @@ fn is_pack_copied() -> Option<bool> {
 }
 
 fn are_serials_copied(alloc: Global) -> Option<bool> {
-    let first = Serial::read("S1").ok()?;
-    let second = Serial::read("S2").ok()?;
-    let serials = Serials::new(vec![in alloc; first, second].ok()?);
+    let serials = serials(alloc, "S1", "S2")?;
     let copy = serials.copy(alloc).ok()?;
     Some(serials == copy && copy.as_slice().len() == 2)
 }
@@ -129,6 +130,52 @@ fn is_text_copied(alloc: Global) -> Option<bool> {
     let text = Text::new(String::from_str(alloc, "500 mg").ok()?);
     let copy = text.copy(alloc).ok()?;
     Some(text == copy && copy.as_str() == "500 mg")
+}
+
+/// Whether two texts, two lists of serial numbers and two lists of markets that differ in one member are told apart, and
+/// equal ones are not.
+fn are_told_apart(alloc: Global) -> Option<bool> {
+    let strength = Text::new(String::from_str(alloc, "500 mg").ok()?);
+    let weaker = Text::new(String::from_str(alloc, "250 mg").ok()?);
+    let ordered = serials(alloc, "S1", "S2")?;
+    let turned = serials(alloc, "S2", "S1")?;
+    let finland = markets(alloc, "FI")?;
+    let sweden = markets(alloc, "SE")?;
+    Some(
+        laws::texts_are_equal(&strength, &strength)
+            && !laws::texts_are_equal(&strength, &weaker)
+            && laws::serials_are_equal(&ordered, &ordered)
+            && !laws::serials_are_equal(&ordered, &turned)
+            && laws::markets_are_equal(&finland, &finland)
+            && !laws::markets_are_equal(&finland, &sweden),
+    )
+}
+
+fn serials(alloc: Global, first: &str, second: &str) -> Option<Serials> {
+    let first = Serial::read(first).ok()?;
+    let second = Serial::read(second).ok()?;
+    Some(Serials::new(vec![in alloc; first, second].ok()?))
+}
+
+fn markets(alloc: Global, market: &str) -> Option<Markets> {
+    let market = Market::read(market).ok()?;
+    Some(Markets::new(vec![in alloc; market].ok()?))
+}
+
+fn differ(alloc: Global, left: &str, right: &str) -> Option<bool> {
+    Some(message(alloc, left)? != message(alloc, right)?)
+}
+
+#[test]
+fn tells_apart_what_differs(rt: HostRuntime) {
+    assert_eq!(rt; are_told_apart(rt.alloc()), Some(true));
+    for text in CANONICAL {
+        assert_eq!(rt;
+            differ(rt.alloc(), text, OTHER_PACK),
+            Some(true),
+            "at {text}"
+        );
+    }
 }
 
 #[test]

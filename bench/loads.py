@@ -392,6 +392,16 @@ def packs(uploads):
             late = 0
 
 
+def single_packs(uploads):
+    """Uploads of one pack each to one repository, 100 to a batch."""
+    yield from one_keeper()
+    yield from launched(1)
+    for number in range(uploads):
+        upload = upload_of(gtin_of(1), f"L{number // PACKS:07d}", 0)
+        yield from sent(MAKER, {**upload, "serials": [serial_of(number)]})
+        yield from taken(MAKER, KEEPER)
+
+
 def steps(masters, loses):
     """The opening, and six lines for each master, which goes to the market that it names and to its sender; eight or ten where frames are
     lost."""

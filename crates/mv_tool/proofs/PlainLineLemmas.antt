@@ -14,7 +14,7 @@ use Rattle.mv_tool.specs.Fields.{field_name}
 use Rattle.mv_tool.specs.Kinds.{kind_at, kind_named}
 use Rattle.mv_tool.specs.PlainLines.{IsWhole, HasNumber, AreLink, AreAsked, Asks, value_of, line_tokens, last}
 use Rattle.mv_tool.specs.Reading.{number_at}
-use Rattle.mv_tool.specs.Requests.{read_line, read_request, route_at, relay_at, apply_at, repeat_at, close_at, lose_at, verdict_at}
+use Rattle.mv_tool.specs.Requests.{read_line, read_request, route_at, link_at, relay_at, apply_at, repeat_at, close_at, lose_at, verdict_at}
 use Rattle.mv_tool.specs.declared.field.LineField.{LineField}
 use Rattle.mv_tool.specs.declared.field.LineField.TheVariants as fields
 use Rattle.mv_tool.specs.declared.kind.LineKind.TheVariants as kinds
@@ -86,12 +86,12 @@ route_request name m named hm = rw (named, lt-ltb _ _ hm)
 
 relay_request : (name : List ℕ) (m n : ℕ) → kind_named name ≡ Some kinds.Relay → m < 2 ^ 32 → n < 2 ^ 32
     → read_request (link_line name m n) ≡ Ok (Step (steps.Relay m n))
-unfolding read_request relay_at number_at kind_at
+unfolding read_request relay_at link_at number_at kind_at
 relay_request name m n named hm hn = rw (named, lt-ltb _ _ hm, lt-ltb _ _ hn)
 
 apply_request : (name : List ℕ) (m n : ℕ) → kind_named name ≡ Some kinds.Apply → m < 2 ^ 32 → n < 2 ^ 32
     → read_request (link_line name m n) ≡ Ok (Step (steps.Apply m n))
-unfolding read_request apply_at number_at kind_at
+unfolding read_request apply_at link_at number_at kind_at
 apply_request name m n named hm hn = rw (named, lt-ltb _ _ hm, lt-ltb _ _ hn)
 
 repeat_request : (name : List ℕ) (m n o : ℕ) → kind_named name ≡ Some kinds.Repeat → m < 2 ^ 32 → n < 2 ^ 32 → o < 2 ^ 32
@@ -101,12 +101,12 @@ repeat_request name m n o named hm hn ho = rw (named, lt-ltb _ _ hm, lt-ltb _ _ 
 
 close_request : (name : List ℕ) (m n : ℕ) → kind_named name ≡ Some kinds.Close → m < 2 ^ 32 → n < 2 ^ 32
     → read_request (link_line name m n) ≡ Ok (Step (steps.Close m n))
-unfolding read_request close_at number_at kind_at
+unfolding read_request close_at link_at number_at kind_at
 close_request name m n named hm hn = rw (named, lt-ltb _ _ hm, lt-ltb _ _ hn)
 
 lose_request : (name : List ℕ) (m n : ℕ) → kind_named name ≡ Some kinds.Lose → m < 2 ^ 32 → n < 2 ^ 32
     → read_request (link_line name m n) ≡ Ok (Step (steps.Lose m n))
-unfolding read_request lose_at number_at kind_at
+unfolding read_request lose_at link_at number_at kind_at
 lose_request name m n named hm hn = rw (named, lt-ltb _ _ hm, lt-ltb _ _ hn)
 
 verdict_request : (name : List ℕ) (m n : ℕ) → kind_named name ≡ Some kinds.Verdict → m < 2 ^ 32 → n < 2 ^ 32

@@ -37,19 +37,20 @@ submit_at value =
 unfoldable pub route_at : Data → Result Request LineFault
 route_at value = number_at fields.From value and_then λ from. Ok (Step (steps.Route from))
 
--- the relay that the fields of a line ask
-unfoldable pub relay_at : Data → Result Request LineFault
-relay_at value =
+-- the two parties of the link that the fields of a line name
+unfoldable pub link_at : Data → Result (ℕ × ℕ) LineFault
+link_at value =
     number_at fields.From value and_then λ from.
     number_at fields.To value and_then λ to.
-    Ok (Step (steps.Relay from to))
+    Ok (from, to)
+
+-- the relay that the fields of a line ask
+unfoldable pub relay_at : Data → Result Request LineFault
+relay_at value = link_at value and_then λ (from, to). Ok (Step (steps.Relay from to))
 
 -- the taking of a frame that the fields of a line ask
 unfoldable pub apply_at : Data → Result Request LineFault
-apply_at value =
-    number_at fields.From value and_then λ from.
-    number_at fields.To value and_then λ to.
-    Ok (Step (steps.Apply from to))
+apply_at value = link_at value and_then λ (from, to). Ok (Step (steps.Apply from to))
 
 -- the repetition of a frame that the fields of a line ask
 unfoldable pub repeat_at : Data → Result Request LineFault
@@ -61,17 +62,11 @@ repeat_at value =
 
 -- the closing of a link that the fields of a line ask
 unfoldable pub close_at : Data → Result Request LineFault
-close_at value =
-    number_at fields.From value and_then λ from.
-    number_at fields.To value and_then λ to.
-    Ok (Step (steps.Close from to))
+close_at value = link_at value and_then λ (from, to). Ok (Step (steps.Close from to))
 
 -- the loss of a frame that the fields of a line ask
 unfoldable pub lose_at : Data → Result Request LineFault
-lose_at value =
-    number_at fields.From value and_then λ from.
-    number_at fields.To value and_then λ to.
-    Ok (Step (steps.Lose from to))
+lose_at value = link_at value and_then λ (from, to). Ok (Step (steps.Lose from to))
 
 -- the verifying of a pack that the fields of a line ask
 unfoldable pub verify_at : Data → Result Request LineFault

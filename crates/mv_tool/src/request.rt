@@ -3,14 +3,14 @@
 ghost use Rattle.std.specs.Prelude.{◌≡◌};
 ghost use Rattle.serde_json.specs.View.{view};
 ghost use Rattle.mv_tool.specs.Reading.{Gives};
-ghost use Rattle.mv_tool.specs.Requests.{open_at, submit_at, route_at, relay_at, apply_at, repeat_at, close_at, lose_at, verify_at, verdict_at, request_at, read_request, read_line};
+ghost use Rattle.mv_tool.specs.Requests.{open_at, submit_at, route_at, link_at, relay_at, apply_at, repeat_at, close_at, lose_at, verify_at, verdict_at, request_at, read_request, read_line};
 
 use crate::kind::{LineKind, kind_of, known_kind};
 use crate::market_lists::market_lists_of;
 use crate::reading::{gtin_of, message_of, number_of, serial_of};
 use crate::{LineFault, LineField, MarketLists};
 use mv_machine::Step;
-use mv_message::Shared;
+use mv_message::{Party, Shared};
 use mv_pack::PackKey;
 use serde_json::Value;
 use std::alloc::Global;
@@ -128,8 +128,7 @@ impl Request {
     fn relay_of(value: &Value) -> Result<Request, LineFault>
         ensures { Gives result (relay_at (view value.now)) }
     {
-        let from = number_of(value, LineField::From)?;
-        let to = number_of(value, LineField::To)?;
+        let (from, to) = link_of(value)?;
         Ok(Request::Step(Step::Relay { from, to }))
     }
 
@@ -138,8 +137,7 @@ impl Request {
     fn apply_of(value: &Value) -> Result<Request, LineFault>
         ensures { Gives result (apply_at (view value.now)) }
     {
-        let from = number_of(value, LineField::From)?;
-        let to = number_of(value, LineField::To)?;
+        let (from, to) = link_of(value)?;
         Ok(Request::Step(Step::Apply { from, to }))
     }
 
@@ -159,8 +157,7 @@ impl Request {
     fn close_of(value: &Value) -> Result<Request, LineFault>
         ensures { Gives result (close_at (view value.now)) }
     {
-        let from = number_of(value, LineField::From)?;
-        let to = number_of(value, LineField::To)?;
+        let (from, to) = link_of(value)?;
         Ok(Request::Step(Step::Close { from, to }))
     }
 
@@ -169,8 +166,7 @@ impl Request {
     fn lose_of(value: &Value) -> Result<Request, LineFault>
         ensures { Gives result (lose_at (view value.now)) }
     {
-        let from = number_of(value, LineField::From)?;
-        let to = number_of(value, LineField::To)?;
+        let (from, to) = link_of(value)?;
         Ok(Request::Step(Step::Lose { from, to }))
     }
 
@@ -195,4 +191,14 @@ impl Request {
         let q = number_of(value, LineField::Q)?;
         Ok(Request::Step(Step::Verdict { party, q }))
     }
+}
+
+/// The two parties of the link that the fields of a line name.
+#[tactic(auto, unfolding(crate::specs::Requests::link_at))]
+fn link_of(value: &Value) -> Result<(Party, Party), LineFault>
+    ensures { result ≡ link_at (view value.now) }
+{
+    let from = number_of(value, LineField::From)?;
+    let to = number_of(value, LineField::To)?;
+    Ok((from, to))
 }

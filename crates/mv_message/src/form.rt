@@ -1,6 +1,6 @@
 //! The forms of messages, and the names of the fields of each.
 
-ghost use Rattle.std.specs.Prelude.{◌≡◌, map};
+ghost use Rattle.std.specs.Prelude.{◌≡◌, IfErr, IsErr, map};
 ghost use Rattle.serde_json.specs.View.{view, members_view};
 ghost use Rattle.mv_message.specs.Reading.{Gives};
 ghost use Rattle.mv_message.specs.Forms.{form_named, form_at, names_of, known_form_at};
@@ -114,7 +114,10 @@ pub(crate) fn known_form_at(
     version: Version,
     form: Form,
 ) -> Result<Form, MessageFault>
-    ensures { Gives result (known_form_at version form (members_view members.now.entries)) }
+    ensures gives { Gives result (known_form_at version form (members_view members.now.entries)) }
+    // Memory is asked for only to name another key.
+    ensures memory { IfErr result (λ fault. fault ≡ MessageFault.Memory
+        → IsErr (known_form_at version form (members_view members.now.entries))) }
 {
     match first_unknown(members, form.names(version)) {
         Some(key) => Err(MessageFault::Unknown(Text::new(String::from_str(alloc, key)?))),

@@ -1,6 +1,7 @@
 //! Reads the fields that are lists of texts, and writes such lists.
 
-ghost use Rattle.std.specs.Prelude.{◌≡◌, ◌≢◌, IfOk, IfErr, MatchResult, Ok, Err, map, is_some};
+ghost use Rattle.std.specs.Prelude.{◌≡◌, ◌≢◌, IfOk, IfErr, IsOk, MatchResult, Ok, Err, map, is_some};
+ghost use Rattle.mv_message.specs.Limits.{most_markets, most_serials};
 ghost use Rattle.std.specs.List.{list_all};
 ghost use Rattle.serde_json.specs.Data.{string};
 ghost use Rattle.serde_json.specs.Find.{as_str};
@@ -24,9 +25,11 @@ pub const MOST_SERIALS: usize = 100;
 /// The members of a field that is a list of 1 to `most` texts: M3, M5, M7.
 #[tactic(auto, using(crate::proofs::ListLemmas::all_are_texts, crate::proofs::ListLemmas::length_of_view), unfolding(crate::specs::Reading::texts_at))]
 fn texts_at(value: &Value, field: Field, most: usize) -> Result<&[Value], MessageFault>
-    ensures { MatchResult result
+    ensures gives { MatchResult result
         (λ list. texts_at most field (view value.now) ≡ Ok (items_view list.now))
         (λ fault. texts_at most field (view value.now) ≡ Err fault) }
+    // It takes no memory.
+    ensures no_memory { IfErr result (λ fault. fault ≢ MessageFault.Memory) }
 {
     let Some(list) = member_at(value, field)?.as_array() else {
         return Err(MessageFault::Kind(field));
@@ -55,7 +58,10 @@ pub(crate) fn markets_at(
     value: &Value,
     field: Field,
 ) -> Result<Markets, MessageFault>
-    ensures { Gives result (markets_at field (view value.now)) }
+    ensures gives { Gives result (markets_at field (view value.now)) }
+    // Memory is asked for only once the members are known to be texts, and neither too few nor too many.
+    ensures memory { IfErr result (λ fault. fault ≡ MessageFault.Memory
+        → IsOk (texts_at most_markets field (view value.now))) }
 {
     let list = texts_at(value, field, MOST_MARKETS)?;
     Ok(Markets::new(markets_in(alloc, list, field)?))
@@ -95,7 +101,10 @@ pub(crate) fn serials_at(
     value: &Value,
     field: Field,
 ) -> Result<Serials, MessageFault>
-    ensures { Gives result (serials_at field (view value.now)) }
+    ensures gives { Gives result (serials_at field (view value.now)) }
+    // Memory is asked for only once the members are known to be texts, and neither too few nor too many.
+    ensures memory { IfErr result (λ fault. fault ≡ MessageFault.Memory
+        → IsOk (texts_at most_serials field (view value.now))) }
 {
     let list = texts_at(value, field, MOST_SERIALS)?;
     Ok(Serials::new(serials_in(alloc, list, field)?))

@@ -1,6 +1,6 @@
 //! Reads the fields of a JSON object, one at a time, each with its own faults in their order.
 
-ghost use Rattle.std.specs.Prelude.{◌≡◌, MatchResult, Ok, Err};
+ghost use Rattle.std.specs.Prelude.{◌≡◌, ◌≢◌, IfErr, IsOk, MatchResult, Ok, Err};
 ghost use Rattle.serde_json.specs.View.{view};
 ghost use Rattle.mv_message.specs.Reading.{member_at, text_at, gtin_at, code_at, expiry_at, standing_at, free_text_at, national_of, national_at, is_null, Gives};
 ghost use Rattle.mv_message.specs.Standings.{standing_named};
@@ -15,9 +15,11 @@ pub const MOST_TEXT_BYTES: usize = 200;
 
 /// The value of a field, else M3.
 pub(crate) fn member_at(value: &Value, field: Field) -> Result<&Value, MessageFault>
-    ensures { MatchResult result
+    ensures gives { MatchResult result
         (λ member. member_at field (view value.now) ≡ Ok (view member.now))
         (λ fault. member_at field (view value.now) ≡ Err fault) }
+    // It takes no memory.
+    ensures no_memory { IfErr result (λ fault. fault ≢ MessageFault.Memory) }
 {
     match value.get(field.as_str()) {
         Some(member) => Ok(member),
@@ -136,7 +138,10 @@ fn standing_named(name: &str) -> Option<Standing>
 /// The free text of a field: M3, M5, M8.
 #[tactic(auto, unfolding(crate::specs::Reading::free_text_at))]
 pub(crate) fn free_text_at(alloc: Global, value: &Value, field: Field) -> Result<Text, MessageFault>
-    ensures { Gives result (free_text_at field (view value.now)) }
+    ensures gives { Gives result (free_text_at field (view value.now)) }
+    // Memory is asked for only once the text is known to be right.
+    ensures memory { IfErr result (λ fault. fault ≡ MessageFault.Memory
+        → IsOk (free_text_at field (view value.now))) }
 {
     let text = text_at(value, field)?;
     if text.is_empty() || text.len() > MOST_TEXT_BYTES {

@@ -63,22 +63,6 @@ fn is_read_back(alloc: Global, text: &str) -> Option<bool> {
     Some(again == message)
 }
 
-fn shared(alloc: Global, text: &str) -> Option<Shared<Message>> {
-    Shared::new(alloc, message(alloc, text)?).ok()
-}
-
-/// Whether one that shares a message with another equals it, and shows the message.
-fn is_shared(alloc: Global, text: &str) -> Option<bool> {
-    let first = shared(alloc, text)?;
-    let second = first.share().ok()?;
-    Some(first == second && *second.get() == message(alloc, text)?)
-}
-
-/// Whether what is shared of two messages is equal.
-fn are_shared_alike(alloc: Global, left: &str, right: &str) -> Option<bool> {
-    Some(shared(alloc, left)? == shared(alloc, right)?)
-}
-
 /// What a buffer holds once the canonical text of a message came behind what it held.
 fn written_behind(alloc: Global, before: &str, text: &str) -> Option<String> {
     let message = message(alloc, text)?;
@@ -95,6 +79,22 @@ fn is_written_behind(alloc: Global, before: &str, text: &str) -> Option<bool> {
 fn is_own_text(alloc: Global, text: &str) -> Option<bool> {
     let message = message(alloc, text)?;
     Some(message.text(alloc).ok()?.as_str() == text)
+}
+
+fn shared(alloc: Global, text: &str) -> Option<Shared<Message>> {
+    Shared::new(alloc, message(alloc, text)?).ok()
+}
+
+/// Whether one that shares a message with another equals it, and shows the message.
+fn is_shared(alloc: Global, text: &str) -> Option<bool> {
+    let first = shared(alloc, text)?;
+    let second = first.share().ok()?;
+    Some(first == second && *second.get() == message(alloc, text)?)
+}
+
+/// Whether what is shared of two messages is equal.
+fn are_shared_alike(alloc: Global, left: &str, right: &str) -> Option<bool> {
+    Some(shared(alloc, left)? == shared(alloc, right)?)
 }
 
 fn pack_found() -> Option<Found> {
@@ -197,13 +197,6 @@ fn reads_each_value_back(rt: HostRuntime) {
 }
 
 #[test]
-fn shares_a_message(rt: HostRuntime) {
-    assert_eq!(rt; is_shared(rt.alloc(), RECALL), Some(true));
-    assert_eq!(rt; are_shared_alike(rt.alloc(), QUERY, QUERY), Some(true));
-    assert_eq!(rt; are_shared_alike(rt.alloc(), QUERY, RECALL), Some(false));
-}
-
-#[test]
 fn writes_canonical_texts(rt: HostRuntime) {
     for text in CANONICAL {
         assert_eq!(rt; is_own_text(rt.alloc(), text), Some(true), "at {text}");
@@ -218,6 +211,13 @@ fn writes_canonical_texts(rt: HostRuntime) {
             "at {text}"
         );
     }
+}
+
+#[test]
+fn shares_a_message(rt: HostRuntime) {
+    assert_eq!(rt; is_shared(rt.alloc(), RECALL), Some(true));
+    assert_eq!(rt; are_shared_alike(rt.alloc(), QUERY, QUERY), Some(true));
+    assert_eq!(rt; are_shared_alike(rt.alloc(), QUERY, RECALL), Some(false));
 }
 
 #[test]

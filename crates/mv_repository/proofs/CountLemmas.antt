@@ -4,7 +4,7 @@ use Rattle.std.specs.Cmp.{IsEquivalence}
 use Rattle.std.specs.Cmp.Lexicographic.{nat_list_eq_equiv}
 use Rattle.std.specs.List.{list_any, flat_map, IsDistinct, count_by}
 use Rattle.std.specs.Map.{lookup, keys_of, set_value}
-use Rattle.mv_repository.specs.declared.packs.Tally.{Tally}
+use Rattle.mv_repository.specs.declared.tally.Tally.{Tally}
 use Rattle.std.specs.Option.{option_map, option_or, unwrap_or}
 use Rattle.std.specs.Set.{distinct_count, is_member}
 use Rattle.std.proofs.lemmas.List.Sums.{length-filter}

@@ -12,7 +12,6 @@ use Rattle.mv_repository.specs.PackState.{is_recall_of, is_withdrawal_of}
 use Rattle.mv_repository.specs.Copy.{is_master, IsCopyOf}
 use Rattle.mv_repository.specs.Stops.{StopTables, AreStopsOf}
 use Rattle.mv_repository.specs.Track.{Kept, is_upload_of, is_status_of, AreTracksOf}
-use Rattle.mv_repository.specs.Uploads.{UploadPlaces, FindsUploads}
 
 -- what an item bears on: the products, packs and batches of which it is a master, an upload, a status, a recall or a
 -- withdrawal
@@ -40,9 +39,8 @@ AllUpTo latest (first ∷ rest) = IsUpTo latest first.entry.item × AllUpTo late
 
 -- the tables are those of a log, and no stamp in it is greater than the latest
 pub record IsKept (log : List LogEntry) (master_places : List (List ℕ × ℕ)) (packs : List (PackKey × Kept))
-    (tables : StopTables) (index : UploadPlaces) (latest : ℕ) : Type 0 where
+    (tables : StopTables) (latest : ℕ) : Type 0 where
   pub masters : IsCopyOf log master_places
   pub tracks : AreTracksOf log packs
   pub stops : AreStopsOf log tables
-  pub uploads : FindsUploads log index
   pub upto : AllUpTo latest (ordered log)

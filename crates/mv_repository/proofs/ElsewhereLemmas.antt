@@ -1,5 +1,5 @@
 -- A recall changes no pack of another batch, and a withdrawal none of another product.
-use Rattle.std.proofs.Common.{◌≡◌, ℕ, List, [], ◌∷◌, refl, sym, ◌∙◌, ap, subst, get_or, Bool, true, false, cond, Option, Some, None, IfSome, find, fold, map}
+use Rattle.std.proofs.Common.{◌≡◌, ℕ, List, [], ◌∷◌, refl, sym, ◌∙◌, ap, subst, Bool, true, false, cond, ◌&&◌, Option, Some, None, is_some, true≢false, IfSome, find, fold, map}
 use Rattle.std.specs.Cmp.Lexicographic.{same_text}
 use Rattle.std.specs.Option.{option_map}
 use Rattle.mv_pack.specs.declared.key.PackKey.{PackKey}
@@ -8,20 +8,20 @@ use Rattle.mv_message.specs.declared.message.Message.TheVariants.{Upload, Status
 use Rattle.mv_link.specs.declared.item.Item.{Item}
 use Rattle.mv_link.specs.declared.item.Item.TheVariants.{Carried}
 use Rattle.mv_repository.specs.declared.entry.LogEntry.{LogEntry}
+use Rattle.mv_repository.specs.declared.held.Held.{Held}
 use Rattle.mv_repository.specs.declared.stops.BatchStanding.{BatchStanding}
 use Rattle.mv_repository.specs.Keys.{is_same_text, is_same_batch, batch_key}
 use Rattle.mv_repository.specs.Order.{Placed, stands_before, ordered}
 use Rattle.mv_repository.specs.Pack.{KnownPack, pack_after_status}
 use Rattle.mv_repository.specs.PackState.{is_recall_of, is_withdrawal_of, known_pack, held_of}
-use Rattle.mv_repository.specs.Stops.{FirstStops, first_stops, standing_at, place_of, no_entry, entry_at}
-use Rattle.mv_repository.specs.Track.{is_upload_of, is_status_of, first_upload, statuses_of, pack_made_by, pack_changed, pack_step, pack_grown, track_of}
-use Rattle.mv_repository.specs.Uploads.{UploadPlaces, places_in, has_place, uploaded_batch, is_named_at, FindsUploads}
-use Rattle.mv_repository.proofs.OrderLemmas.{ordered-ascends, ordered-stand, still-stand}
-use Rattle.mv_repository.proofs.StateLemmas.{known-grown, find-stand}
-use Rattle.mv_repository.proofs.KeptLemmas.{same_batch}
+use Rattle.mv_repository.specs.Packs.{is_held_in, is_of}
+use Rattle.mv_repository.specs.Stops.{FirstStops, first_stops, standing_at, place_of}
+use Rattle.mv_repository.specs.Track.{Kept, kept_in, AreTracksOf, is_upload_of, is_status_of, first_upload, statuses_of, pack_made_by, uploaded_batch, pack_changed, pack_step, pack_grown, track_of}
+use Rattle.mv_repository.proofs.OrderLemmas.{ordered-ascends}
+use Rattle.mv_repository.proofs.StateLemmas.{known-grown}
+use Rattle.mv_repository.proofs.KeptLemmas.{text-self}
 use Rattle.mv_repository.proofs.AgreementLemmas.{batch-status}
 use Rattle.mv_repository.proofs.TableLemmas.{longer, find-none, filter-none}
-use Rattle.mv_repository.proofs.UploadsLemmas.{named-by}
 
 -- an entry keeps the batch of a pack, and goes by the standing of that batch alone
 batch-changed : (standing : BatchKey → BatchStanding) (place sender : ℕ) (item : Item) (pack : PackKey) (held : KnownPack) → (pack_changed standing place sender item pack held).batch ≡ held.batch
@@ -101,62 +101,59 @@ find-passes f (y ∷ ys) = by (f y) refl (find-passes f ys)
     by true e r = e
     by false e r = r
 
--- what is known of the first upload of a pack: it names the pack, and stands in the log at its place
-abbrev IsFirst : List LogEntry → LogEntry → PackKey → Placed → Type 0
-IsFirst log entry pack x = (is_upload_of pack x.entry.item ≡ true) × ((get_or log x.place no_entry ≡ x.entry) × (get_or (longer log entry) x.place no_entry ≡ x.entry))
+-- an upload that names a pack makes it
+named-made : (pack : PackKey) (item : Item) → is_upload_of pack item ≡ true → is_some (pack_made_by item) ≡ true
+named-made pack (Carried k stamp (Upload gtin batch expiry national serials)) e = refl
+named-made pack _ e = e
 
-first-is : (log : List LogEntry) (entry : LogEntry) (pack : PackKey) → IfSome (first_upload pack (ordered log)) (IsFirst log entry pack)
-first-is log entry pack = by (first_upload pack (ordered log)) (find-passes f (ordered log)) (find-stand f log (ordered log) (ordered-stand log)) (find-stand f (longer log entry) (ordered log) (still-stand log entry))
+fold-batch : (stops : FirstStops) (pack : PackKey) (birth : Placed) (held : KnownPack) (own : List Placed) → (fold (pack_step stops pack birth) held own).batch ≡ held.batch
+fold-batch stops pack birth held [] = refl
+fold-batch stops pack birth held (y ∷ ys) = fold-batch stops pack birth (pack_step stops pack birth held y) ys ∙ batch-step stops pack birth held y
+
+-- a pack is of the batch that its first upload gives it
+grown-batch : (stops : FirstStops) (pack : PackKey) (birth : Placed) (own : List Placed) → is_upload_of pack birth.entry.item ≡ true
+    → is_held_in (uploaded_batch birth.entry.item) (option_map held_of (pack_grown stops pack (Some birth) own)) ≡ true
+grown-batch stops pack birth own e = by (pack_made_by birth.entry.item) (made-batch birth.entry.item) (named-made pack birth.entry.item e)
   where
-    f : Placed → Bool
-    f placed = is_upload_of pack placed.entry.item
+    by : (made : Option KnownPack) → IfSome made (λ held. held.batch ≡ uploaded_batch birth.entry.item) → is_some made ≡ true
+        → is_held_in (uploaded_batch birth.entry.item) (option_map held_of (option_map (λ held. fold (pack_step stops pack birth) held own) made)) ≡ true
+    by None h s = absurd (true≢false (sym s))
+    by (Some held) h s = ap (is_same_text (uploaded_batch birth.entry.item)) (fold-batch stops pack birth held own ∙ h) ∙ text-self (uploaded_batch birth.entry.item)
 
-    by : (o : Option Placed) → IfSome o (λ x. f x ≡ true) → IfSome o (λ x. get_or log x.place no_entry ≡ x.entry) → IfSome o (λ x. get_or (longer log entry) x.place no_entry ≡ x.entry) → IfSome o (IsFirst log entry pack)
-    by None a b c = tt
-    by (Some x) a b c = (a, (b, c))
+held-in : (key batch : List ℕ) (held : Option Held) → is_held_in batch held ≡ true → is_held_in key held ≡ is_same_text key batch
+held-in key batch None e = absurd (true≢false (sym e))
+held-in key batch (Some held) e = ap (is_same_text key) (sym (same_text batch held.batch (sym e)))
 
--- a recall bears on no pack but those that the uploads of its batch name
-pub recall-elsewhere : (log : List LogEntry) (entry : LogEntry) (index : UploadPlaces) (key : BatchKey) → FindsUploads log index
+-- a recall bears on no pack but those of its batch
+pub recall-elsewhere : (log : List LogEntry) (entry : LogEntry) (table : List (PackKey × Kept)) (key : BatchKey) → AreTracksOf log table
     → ((batch : BatchKey) → is_recall_of batch entry.item ≡ is_same_batch key batch) → ((gtin : List ℕ) → is_withdrawal_of gtin entry.item ≡ false)
-    → (pack : PackKey) → is_named_at (longer log entry) (places_in (is_same_batch key) index.batches) pack ≡ false → BearsNot log entry pack
-recall-elsewhere log entry index key finds recalls none pack other = by (first_upload pack (ordered log)) (first-is log entry pack)
+    → (pack : PackKey) → is_of key.gtin (Some key.batch) pack (kept_in pack table) ≡ false → BearsNot log entry pack
+recall-elsewhere log entry table key tracks recalls none pack other =
+    by (first_upload pack (ordered log)) (find-passes (λ placed. is_upload_of pack placed.entry.item) (ordered log))
+    (ap (λ (k : Kept). k.held) (tracks pack) ∙ ap (option_map held_of) (known-grown pack (ordered log) (ordered-ascends log)))
   where
-    by : (o : Option Placed) → IfSome o (IsFirst log entry pack)
+    by : (o : Option Placed) → IfSome o (λ x. is_upload_of pack x.entry.item ≡ true)
+        → (kept_in pack table).held ≡ option_map held_of (pack_grown (first_stops (ordered log)) pack o (statuses_of pack (ordered log)))
         → IfSome o (λ x. (is_recall_of (batch_key pack.gtin (uploaded_batch x.entry.item)) entry.item ≡ false) × (is_withdrawal_of pack.gtin entry.item ≡ false))
-    by None h = tt
-    by (Some x) h = (recalls batch ∙ apart (is_same_batch key batch) refl, none pack.gtin)
-      where
-        batch : BatchKey
-        batch = batch_key pack.gtin (uploaded_batch x.entry.item)
+    by None h s = tt
+    by (Some x) h s = (
+      recalls (batch_key pack.gtin (uploaded_batch x.entry.item))
+      ∙ ap (λ b. is_same_text key.gtin pack.gtin && b)
+      (sym (held-in key.batch (uploaded_batch x.entry.item) (kept_in pack table).held (ap (is_held_in (uploaded_batch x.entry.item)) s ∙ grown-batch (first_stops (ordered log)) pack x (statuses_of pack (ordered log)) h)))
+      ∙ other,
+      none pack.gtin,
+    )
 
-        there : is_upload_of pack (entry_at log x.place).entry.item ≡ true
-        there = ap (λ (e : LogEntry). is_upload_of pack e.item) h.1.0 ∙ h.0
-
-        apart : (b : Bool) → is_same_batch key batch ≡ b → b ≡ false
-        apart false e = refl
-        apart true e =
-            let same : batch_key pack.gtin (uploaded_batch (entry_at log x.place).entry.item) ≡ key = ap (λ (e : LogEntry). batch_key pack.gtin (uploaded_batch e.item)) h.1.0 ∙ sym (same_batch key batch e) in
-            sym (named-by (longer log entry) (places_in (is_same_batch key) index.batches) pack x.place
-            (subst (λ (b : BatchKey). has_place (places_in (is_same_batch b) index.batches) x.place ≡ true) same (finds pack x.place there).in_batch)
-            (ap (λ (e : LogEntry). is_upload_of pack e.item) h.1.1 ∙ h.0)) ∙ other
-
--- a withdrawal bears on no pack but those that the uploads of its product name
-pub withdrawal-elsewhere : (log : List LogEntry) (entry : LogEntry) (index : UploadPlaces) (key : List ℕ) → FindsUploads log index
+-- a withdrawal bears on no pack but those of its product
+pub withdrawal-elsewhere : (log : List LogEntry) (entry : LogEntry) (table : List (PackKey × Kept)) (key : List ℕ)
     → ((batch : BatchKey) → is_recall_of batch entry.item ≡ false) → ((gtin : List ℕ) → is_withdrawal_of gtin entry.item ≡ is_same_text key gtin)
-    → (pack : PackKey) → is_named_at (longer log entry) (places_in (is_same_text key) index.products) pack ≡ false → BearsNot log entry pack
-withdrawal-elsewhere log entry index key finds none withdrawals pack other = by (first_upload pack (ordered log)) (first-is log entry pack)
+    → (pack : PackKey) → is_of key None pack (kept_in pack table) ≡ false → BearsNot log entry pack
+withdrawal-elsewhere log entry table key none withdrawals pack other = by (first_upload pack (ordered log))
   where
-    by : (o : Option Placed) → IfSome o (IsFirst log entry pack)
-        → IfSome o (λ x. (is_recall_of (batch_key pack.gtin (uploaded_batch x.entry.item)) entry.item ≡ false) × (is_withdrawal_of pack.gtin entry.item ≡ false))
-    by None h = tt
-    by (Some x) h = (none (batch_key pack.gtin (uploaded_batch x.entry.item)), withdrawals pack.gtin ∙ apart (is_same_text key pack.gtin) refl)
-      where
-        there : is_upload_of pack (entry_at log x.place).entry.item ≡ true
-        there = ap (λ (e : LogEntry). is_upload_of pack e.item) h.1.0 ∙ h.0
+    alone : (b : Bool) → (b && true) ≡ false → b ≡ false
+    alone true e = e
+    alone false e = refl
 
-        apart : (b : Bool) → is_same_text key pack.gtin ≡ b → b ≡ false
-        apart false e = refl
-        apart true e =
-            sym (named-by (longer log entry) (places_in (is_same_text key) index.products) pack x.place
-            (subst (λ (g : List ℕ). has_place (places_in (is_same_text g) index.products) x.place ≡ true) (sym (same_text key pack.gtin (sym e))) (finds pack x.place there).in_product)
-            (ap (λ (e : LogEntry). is_upload_of pack e.item) h.1.1 ∙ h.0)) ∙ other
+    by : (o : Option Placed) → IfSome o (λ x. (is_recall_of (batch_key pack.gtin (uploaded_batch x.entry.item)) entry.item ≡ false) × (is_withdrawal_of pack.gtin entry.item ≡ false))
+    by None = tt
+    by (Some x) = (none (batch_key pack.gtin (uploaded_batch x.entry.item)), withdrawals pack.gtin ∙ alone (is_same_text key pack.gtin) other)

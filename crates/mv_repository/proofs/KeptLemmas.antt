@@ -15,7 +15,6 @@ use Rattle.mv_repository.specs.Order.{rank}
 use Rattle.mv_repository.specs.PackState.{has_pack}
 use Rattle.mv_repository.specs.Stops.{StopTables, entry_at, comes_first, earlier_place}
 use Rattle.mv_repository.specs.Track.{Kept, nothing_kept, kept_in, with_upload, worked_out, refreshed, IsTrack, AreTracks, is_upload_of}
-use Rattle.mv_repository.specs.Uploads.{is_named_at}
 
 both : (a b : Bool) → (a && b) ≡ true → (a ≡ true) × (b ≡ true)
 both true true e = (refl, refl)
@@ -55,24 +54,6 @@ batch-self a = λ i. text-self a.gtin i && text-self a.batch i
 pub none_from : (o : Option Kept) → is_some o ≡ false → o ≡ None
 none_from None e = refl
 none_from (Some x) e = absurd (true≢false e)
-
--- an entry with nothing kept says what no entry says
-pub ensure_same : (es es' : List (PackKey × Kept)) (key : PackKey) (v : Kept) → v ≡ nothing_kept → is_some (lookup (is_same_pack key) es) ≡ false
-    → ((p : PackKey) → lookup (is_same_pack p) es' ≡ cond (is_same_pack key p) (Some v) (lookup (is_same_pack p) es)) → (p : PackKey) → kept_in p es' ≡ kept_in p es
-ensure_same es es' key v empty none looks p =
-    ap (λ (o : Option Kept). unwrap_or o nothing_kept) (looks p)
-    ∙ ap (λ (w : Kept). unwrap_or (cond (is_same_pack key p) (Some w) (lookup (is_same_pack p) es)) nothing_kept) empty
-    ∙ by (is_same_pack key p) refl
-  where
-    by : (b : Bool) → is_same_pack key p ≡ b → unwrap_or (cond b (Some nothing_kept) (lookup (is_same_pack p) es)) nothing_kept ≡ unwrap_or (lookup (is_same_pack p) es) nothing_kept
-    by true e = sym (ap (λ (o : Option Kept). unwrap_or o nothing_kept) (ap (λ (q : PackKey). lookup (is_same_pack q) es) (sym (same_pack key p e)) ∙ none_from (lookup (is_same_pack key) es) none))
-    by false e = refl
-
-pub ensure_stays : (es es' : List (PackKey × Kept)) (key : PackKey) (v : Kept)
-    → ((p : PackKey) → lookup (is_same_pack p) es' ≡ cond (is_same_pack key p) (Some v) (lookup (is_same_pack p) es)) → (p : PackKey) → IsSome (lookup (is_same_pack p) es) → IsSome (lookup (is_same_pack p) es')
-ensure_stays es es' key v looks p h =
-    subst (λ (o : Option Kept). IsSome o) (sym (looks p))
-    (elim (is_same_pack key p) as (λ b. IsSome (cond b (Some v) (lookup (is_same_pack p) es))) [ true ↦ refl | false ↦ h ])
 
 -- a test of the key changes nothing where it chooses what the key has
 pub same_kept : (es : List (PackKey × Kept)) (key p : PackKey) → cond (is_same_pack key p) (kept_in key es) (kept_in p es) ≡ kept_in p es
@@ -146,7 +127,7 @@ done_at f packs key p = by (is_same_pack key p) refl
     by true e = ap (λ (q : PackKey). f q (kept_in q packs)) (same_pack key p e)
     by false e = refl
 
-serials_more : (f : PackKey → Kept → Kept) → ((p : PackKey) (k : Kept) → f p (f p k) ≡ f p k) → (first packs packs' : List (PackKey × Kept)) (gtin : List ℕ) (serials : List (List ℕ)) (i : ℕ) → i < length serials
+pub serials_more : (f : PackKey → Kept → Kept) → ((p : PackKey) (k : Kept) → f p (f p k) ≡ f p k) → (first packs packs' : List (PackKey × Kept)) (gtin : List ℕ) (serials : List (List ℕ)) (i : ℕ) → i < length serials
     → ((p : PackKey) → kept_in p packs ≡ cond (has_pack gtin (take i serials) p) (f p (kept_in p first)) (kept_in p first))
     → ((p : PackKey) → kept_in p packs' ≡ cond (is_same_pack (pack_key gtin (get_or serials i [])) p) (f (pack_key gtin (get_or serials i [])) (kept_in (pack_key gtin (get_or serials i [])) packs)) (kept_in p packs))
     → (p : PackKey) → kept_in p packs' ≡ cond (has_pack gtin (take (i + 1) serials) p) (f p (kept_in p first)) (kept_in p first)
@@ -163,10 +144,6 @@ pub looks_more : (log : List LogEntry) (tables : StopTables) (first packs packs'
 looks_more log tables first packs packs' gtin serials i new l old step =
     serials_more (λ p k. with_upload log tables p new k) (λ p k. twice log tables p new k) first packs packs' gtin serials i l old step
 
--- a pack that has an entry has one in a table of the same keys
-pub there_stays : (es es' : List (PackKey × Kept)) → keys_of es' ≡ keys_of es → (q : PackKey) → IsSome (lookup (is_same_pack q) es) → IsSome (lookup (is_same_pack q) es')
-there_stays es es' same q h = is_some-lookup (is_same_pack q) es' ∙ ap (list_any (is_same_pack q)) same ∙ sym (is_some-lookup (is_same_pack q) es) ∙ h
-
 -- what working packs out again changes
 
 pub refreshed_more : (log : List LogEntry) (tables : StopTables) (first packs packs' : List (PackKey × Kept)) (gtin : List ℕ) (serials : List (List ℕ)) (i : ℕ) → i < length serials
@@ -175,27 +152,3 @@ pub refreshed_more : (log : List LogEntry) (tables : StopTables) (first packs pa
     → (p : PackKey) → kept_in p packs' ≡ cond (has_pack gtin (take (i + 1) serials) p) (refreshed log tables p (kept_in p first)) (kept_in p first)
 refreshed_more log tables first packs packs' gtin serials i l old step =
     serials_more (λ p k. refreshed log tables p k) (λ p k. refl) first packs packs' gtin serials i l old step
-
--- the packs of one upload more
-pub refreshed_upload : (log : List LogEntry) (tables : StopTables) (first packs packs' : List (PackKey × Kept)) (places : List ℕ) (i place : ℕ) → i < length places → place ≡ get_or places i 0
-    → ((p : PackKey) → kept_in p packs ≡ cond (is_named_at log (take i places) p) (refreshed log tables p (kept_in p first)) (kept_in p first))
-    → ((p : PackKey) → kept_in p packs' ≡ cond (is_upload_of p (entry_at log place).entry.item) (refreshed log tables p (kept_in p packs)) (kept_in p packs))
-    → (p : PackKey) → kept_in p packs' ≡ cond (is_named_at log (take (i + 1) places) p) (refreshed log tables p (kept_in p first)) (kept_in p first)
-refreshed_upload log tables first packs packs' places i place l e old step p =
-    step p
-    ∙ done_more (refreshed log tables p) (is_named_at log (take i places) p) (is_upload_of p (entry_at log place).entry.item) (kept_in p first) (kept_in p packs) refl (old p)
-    ∙ ap (λ b. cond b (refreshed log tables p (kept_in p first)) (kept_in p first))
-    (ap (λ (n : ℕ). is_named_at log (take i places) p || is_upload_of p (entry_at log n).entry.item) e
-    ∙ sym (list_any_more (λ (n : ℕ). is_upload_of p (entry_at log n).entry.item) places i 0 l))
-
--- a pack of which nothing is kept
-pub refreshed_absent : (log : List LogEntry) (tables : StopTables) (packs : List (PackKey × Kept)) (key : PackKey) → is_some (lookup (is_same_pack key) packs) ≡ false
-    → (p : PackKey) → kept_in p packs ≡ cond (is_same_pack key p) (refreshed log tables key (kept_in key packs)) (kept_in p packs)
-refreshed_absent log tables packs key none p = by (is_same_pack key p) refl
-  where
-    nothing : kept_in key packs ≡ nothing_kept
-    nothing = ap (λ (o : Option Kept). unwrap_or o nothing_kept) (none_from (lookup (is_same_pack key) packs) none)
-
-    by : (b : Bool) → is_same_pack key p ≡ b → kept_in p packs ≡ cond b (refreshed log tables key (kept_in key packs)) (kept_in p packs)
-    by true e = ap (λ (q : PackKey). kept_in q packs) (sym (same_pack key p e)) ∙ nothing ∙ sym (ap (refreshed log tables key) nothing)
-    by false e = refl

@@ -8,7 +8,7 @@ pub mod PlaceLemmas
 pub mod LedgerLemmas
 pub mod StateLemmas
 pub mod TableLemmas
-pub mod UploadsLemmas
+pub mod PacksLemmas
 pub mod ElsewhereLemmas
 pub mod ProductLemmas
 pub mod InquiriesLemmas

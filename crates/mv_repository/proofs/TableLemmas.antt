@@ -13,7 +13,6 @@ use Rattle.mv_repository.specs.Order.{Placed, passes, put_in, ordered, StandsBef
 use Rattle.mv_repository.specs.PackState.{is_recall_of, is_withdrawal_of, held_of, known_pack, pack_state}
 use Rattle.mv_repository.specs.Stops.{StopTables, first_stops, stops_in, entry_at, place_of, no_entry, first_recall, first_withdrawal, AreStopsOf, earlier_place}
 use Rattle.mv_repository.specs.Track.{Kept, is_upload_of, is_status_of, first_upload, statuses_of, pack_grown, grown_at, put_place, worked_out, with_status, with_upload, refreshed, IsTrack, AreTracks, kept_in, track_of, AreTracksOf}
-use Rattle.mv_repository.specs.Uploads.{is_named_at}
 use Rattle.mv_repository.proofs.OrderLemmas.{placed_at, passes_behind, ordered-ascends, ordered-push, Stand, ordered-stand, still-stand}
 use Rattle.mv_repository.proofs.StateLemmas.{known-grown, grown-stands, map-stands, find-stand, find-stands}
 use Rattle.mv_repository.proofs.KeptLemmas.{same_pack, same_batch}
@@ -262,14 +261,14 @@ tracks-upload log entry table table' tables has tracks stops n s none looks pack
     by false h = tracks pack ∙ sym (untouched log entry pack (n pack ∙ h) (s pack) none)
 
 -- the table of packs, those named at these places worked out again after an entry that names none and changes no other
-pub tracks-refreshed : (log : List LogEntry) (entry : LogEntry) (table table' : List (PackKey × Kept)) (tables' : StopTables) (places : List ℕ) → AreTracksOf log table → AreStopsOf (longer log entry) tables'
+pub tracks-refreshed : (log : List LogEntry) (entry : LogEntry) (table table' : List (PackKey × Kept)) (tables' : StopTables) (bears_on : PackKey → Bool) → AreTracksOf log table → AreStopsOf (longer log entry) tables'
     → ((pack : PackKey) → is_upload_of pack entry.item ≡ false) → ((pack : PackKey) → is_status_of pack entry.item ≡ false)
-    → ((pack : PackKey) → is_named_at (longer log entry) places pack ≡ false → track_of pack (longer log entry) ≡ track_of pack log)
-    → ((pack : PackKey) → kept_in pack table' ≡ cond (is_named_at (longer log entry) places pack) (refreshed (longer log entry) tables' pack (kept_in pack table)) (kept_in pack table))
+    → ((pack : PackKey) → bears_on pack ≡ false → track_of pack (longer log entry) ≡ track_of pack log)
+    → ((pack : PackKey) → kept_in pack table' ≡ cond (bears_on pack) (refreshed (longer log entry) tables' pack (kept_in pack table)) (kept_in pack table))
     → AreTracksOf (longer log entry) table'
-tracks-refreshed log entry table table' tables' places tracks stops n s same looks pack = looks pack ∙ by (is_named_at (longer log entry) places pack) refl
+tracks-refreshed log entry table table' tables' bears_on tracks stops n s same looks pack = looks pack ∙ by (bears_on pack) refl
   where
-    by : (b : Bool) → is_named_at (longer log entry) places pack ≡ b → cond b (refreshed (longer log entry) tables' pack (kept_in pack table)) (kept_in pack table) ≡ track_of pack (longer log entry)
+    by : (b : Bool) → bears_on pack ≡ b → cond b (refreshed (longer log entry) tables' pack (kept_in pack table)) (kept_in pack table) ≡ track_of pack (longer log entry)
     by true e =
         anew (longer log entry) tables' pack (kept_in pack table).birth (kept_in pack table).places stops
         (ap (λ (k : Kept). k.birth) (tracks pack) ∙ ap (option_map place_of) (sym (find-none (λ placed. is_upload_of pack placed.entry.item) log entry (n pack))))

@@ -14,6 +14,7 @@ pub mod Repository
 pub mod Stops
 pub mod Masters
 pub mod Track
-pub mod Uploads
+pub mod Tracked
+pub mod Packs
 pub mod Inquiries
 pub mod Tables

@@ -10,7 +10,6 @@ use Rattle.mv_repository.specs.PackState.{is_recall_of, is_withdrawal_of}
 use Rattle.mv_repository.specs.Masters.{is_master, AreMastersOf}
 use Rattle.mv_repository.specs.Stops.{StopTables, AreStopsOf}
 use Rattle.mv_repository.specs.Track.{Kept, is_upload_of, is_status_of, AreTracksOf}
-use Rattle.mv_repository.specs.Uploads.{UploadPlaces, FindsUploads}
 
 -- what an item bears on: the products, packs and batches of which it is a master, an upload, a status, a recall or a
 -- withdrawal
@@ -39,9 +38,8 @@ greatest_stamp (entry ∷ log) = max (stamp_of entry.item) (greatest_stamp log)
 
 -- the tables are those of a log, and the latest is the greatest stamp in it
 pub record IsKept (log : List LogEntry) (master_places : List (List ℕ × ℕ)) (packs : List (PackKey × Kept))
-    (tables : StopTables) (index : UploadPlaces) (latest : ℕ) : Type 0 where
+    (tables : StopTables) (latest : ℕ) : Type 0 where
   pub masters : AreMastersOf log master_places
   pub tracks : AreTracksOf log packs
   pub stops : AreStopsOf log tables
-  pub uploads : FindsUploads log index
   pub greatest : latest ≡ greatest_stamp log

@@ -2,7 +2,7 @@
 use Rattle.std.specs.Prelude.{◌≡◌, ℕ, List, [], ◌∷◌, map, fold, filter, find, get_or, not, is_some, Bool, false, Option, Some, None, if◌then◌else◌}
 use Rattle.std.specs.List.{count_by}
 use Rattle.std.specs.Map.{lookup}
-use Rattle.mv_repository.specs.declared.packs.Tally.{Tally}
+use Rattle.mv_repository.specs.declared.tally.Tally.{Tally}
 use Rattle.std.specs.Option.{option_map, unwrap_or}
 use Rattle.mv_pack.specs.declared.key.PackKey.{PackKey}
 use Rattle.mv_pack.specs.declared.key.BatchKey.{BatchKey}
@@ -27,6 +27,11 @@ use Rattle.mv_repository.specs.Stops.{FirstStops, StopTables, no_entry, entry_at
 abbrev pub is_upload_of : PackKey → Item → Bool
 is_upload_of pack (Carried k stamp (Upload gtin batch expiry national serials)) = has_pack gtin serials pack
 is_upload_of pack _ = false
+
+-- the batch number that an upload gives its packs
+abbrev pub uploaded_batch : Item → List ℕ
+uploaded_batch (Carried k stamp (Upload gtin batch expiry national serials)) = batch
+uploaded_batch _ = []
 
 -- an item is a status of a pack
 abbrev pub is_status_of : PackKey → Item → Bool

@@ -1,5 +1,8 @@
 //! What a repository shows of a pack that it holds.
 
+ghost use Rattle.std.specs.Prelude.{◌≡◌};
+
+use crate::track::copy_of;
 use mv_message::{Party, Standing};
 use mv_pack::{Batch, Expiry, Moment, National};
 
@@ -19,6 +22,21 @@ pub struct Held {
     pub standing: Standing,
     /// What took it from active; none while it is active.
     pub change: Option<Change>,
+}
+
+impl Held {
+    /// The same once more.
+    pub(crate) fn copy(&self) -> Held
+        ensures { result ≡ self.now }
+    {
+        Held {
+            batch: self.batch.copy(),
+            expiry: self.expiry,
+            national: copy_of(&self.national),
+            standing: self.standing,
+            change: self.change,
+        }
+    }
 }
 
 /// What took a pack from active.

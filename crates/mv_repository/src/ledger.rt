@@ -9,22 +9,18 @@ ghost use Rattle.mv_repository.specs.Masters.{is_master, product_in, last_master
 ghost use Rattle.mv_repository.specs.PackState.{has_pack};
 ghost use Rattle.mv_repository.specs.Effect.{lasting_effect};
 ghost use Rattle.mv_repository.specs.Tables.{Bears, IsUploadOf, stamp_of};
-ghost use Rattle.mv_repository.specs.Uploads.{uploaded_batch};
 
 use crate::order::rank;
-use crate::packs::{
-    Tally, add_status, add_uploads, ensure, ensure_all, pack, refresh_uploads, retallied, tally_of,
-};
+use crate::packs::Packs;
 use crate::status::is_active;
 use crate::stops::Stops;
-use crate::track::{Track, copy_of};
-use crate::uploads::Uploads;
+use crate::track::copy_of;
 use crate::verdict::{is_explained, verdict_when};
 use crate::{Counts, Effect, Held, Local, LogEntry};
 use indexmap::IndexMap;
 use mv_link::Item;
 use mv_message::{Found, Message, Party, Product, Serials, Shared};
-use mv_pack::{Batch, BatchKey, Gtin, PackKey};
+use mv_pack::{BatchKey, Gtin, PackKey};
 use std::alloc::{AllocError, Global};
 use std::marker::Model;
 
@@ -37,14 +33,10 @@ pub(crate) struct Ledger {
     log: Vec<LogEntry>,
     /// For each product code with a master, the place in the log of the last one by stamp.
     masters: IndexMap<Gtin, usize>,
-    /// For each pack that an upload or a status names, what is kept of it.
-    packs: IndexMap<PackKey, Track>,
-    /// How many of them are held, and how many are active.
-    tally: Tally,
+    /// What is kept of each pack.
+    packs: Packs,
     /// The recalls and the withdrawals.
     stops: Stops,
-    /// Where the uploads of a batch, and those of a product, stand in the log.
-    uploads: Uploads,
     /// The greatest stamp in the log; 0 where there is none.
     latest: u32,
 }
@@ -52,15 +44,12 @@ pub(crate) struct Ledger {
 impl Model for Ledger {
     ghost use Rattle.mv_repository.specs.Repository.{RepositoryState};
     ghost use Rattle.mv_repository.specs.Tables.{IsKept};
-    ghost use Rattle.mv_repository.specs.Track.{IsTally};
 
     ghost Value = { RepositoryState };
 
     ghost view = { λ a. record { party = a.party; log = a.log.items } };
 
-    ghost invariant = { λ a.
-        IsKept a.log.items a.masters.entries a.packs.entries a.stops a.uploads a.latest
-        × IsTally a.packs.entries a.tally };
+    ghost invariant = { λ a. IsKept a.log.items a.masters.entries a.packs a.stops a.latest };
 }
 
 impl Ledger {
@@ -80,10 +69,8 @@ impl Ledger {
             party,
             log: Vec::new(alloc),
             masters: IndexMap::new(alloc),
-            packs: IndexMap::new(alloc),
-            tally: Tally { held: 0, active: 0 },
+            packs: Packs::new(alloc),
             stops: Stops::new(alloc),
-            uploads: Uploads::new(alloc),
             latest: 0,
         }
     }
@@ -132,7 +119,7 @@ impl Ledger {
     pub fn pack(&self, key: &PackKey) -> Option<&Held>
         ensures { option_copied result ≡ pack_state key.now self.now.log }
     {
-        pack(&self.packs, key)
+        self.packs.get(key)
     }
 
     /// Whether a batch is recalled.
@@ -153,12 +140,12 @@ impl Ledger {
     pub fn counts(&self) -> Counts
         ensures { result ≡ counts_of self.now.log }
     {
-        prove!(self.tally.held <= self.packs.len());
+        let tally = self.packs.tally();
         Counts {
             entries: self.log.len(),
             products: self.masters.len(),
-            packs: self.tally.held,
-            active: self.tally.active,
+            packs: tally.held,
+            active: tally.active,
             recalled: self.stops.recalled_count(),
         }
     }
@@ -257,11 +244,8 @@ impl Ledger {
                 Ok(Effect::Done)
             }
             Message::Upload {
-                gtin,
-                batch,
-                serials,
-                ..
-            } => self.apply_upload(sender, item, *gtin, batch, serials),
+                gtin, serials, ..
+            } => self.apply_upload(sender, item, *gtin, serials),
             Message::Status { key, .. } => self.apply_status(sender, item, key),
             Message::Recall { key, .. } => self.apply_recall(sender, item, *stamp, key),
             Message::Withdraw { gtin, .. } => self.apply_withdrawal(sender, item, *stamp, *gtin),
@@ -306,33 +290,18 @@ impl Ledger {
         sender: Party,
         item: &Item,
         gtin: Gtin,
-        batch: &Batch,
         serials: &Serials,
     ) -> Result<Effect, AllocError>
         requires bears { Bears item.now (λ gtin. false) (has_pack gtin serials.now) (λ pack. false) (λ batch. false) (λ gtin. false) }
         requires upload { IsUploadOf item.now gtin serials.now }
-        requires batch { uploaded_batch item.now ≡ batch.now }
         ensures ok { OnOk result (self.new ≡ with_applied self.old sender item.now) }
         ensures effect { IfOk result (λ effect. effect
             ≡ effect_of self.old.log (record { sender = sender; item = item.now })) }
         ensures err { OnErr result (self.new ≡ self.old) }
     {
         let entry = ready_entry(&mut self.log, sender, item)?;
-        ensure_all(&mut self.packs, self.alloc, gtin, serials.as_slice())?;
-        let new = self.log.len();
-        let batch = batch.copy();
-        self.uploads.add(BatchKey { gtin, batch }, new)?;
-        self.log.push_reserved(entry);
         let serials = serials.as_slice();
-        let count = add_uploads(
-            &mut self.packs,
-            self.log.as_slice(),
-            &self.stops,
-            &mut self.tally,
-            gtin,
-            serials,
-            new,
-        );
+        let count = self.packs.add_upload(&mut self.log, entry, &self.stops, gtin, serials)?;
         self.latest = latest_with(self.latest, item);
         Ok(Effect::Uploaded {
             new: count as u64,
@@ -354,11 +323,7 @@ impl Ledger {
         ensures err { OnErr result (self.new ≡ self.old) }
     {
         let entry = ready_entry(&mut self.log, sender, item)?;
-        ensure(&mut self.packs, self.alloc, key.copy())?;
-        let was = tally_of(&self.packs, key);
-        let effect = add_status(&mut self.packs, &mut self.log, entry, &self.stops, key)?;
-        let is = tally_of(&self.packs, key);
-        self.tally = retallied(&self.packs, self.tally, was, is);
+        let effect = self.packs.add_status(&mut self.log, entry, &self.stops, key)?;
         self.latest = latest_with(self.latest, item);
         Ok(effect)
     }
@@ -390,8 +355,8 @@ impl Ledger {
             return Ok(effect);
         }
         let log = self.log.as_slice();
-        let places = self.uploads.of_batch(batch);
-        refresh_uploads(&mut self.packs, log, &self.stops, &mut self.tally, places);
+        let number = Some(batch.batch.copy());
+        self.packs.refresh(log, &self.stops, &batch.gtin, &number);
         Ok(effect)
     }
 
@@ -422,8 +387,7 @@ impl Ledger {
             return Ok(effect);
         }
         let log = self.log.as_slice();
-        let places = self.uploads.of_product(&gtin);
-        refresh_uploads(&mut self.packs, log, &self.stops, &mut self.tally, places);
+        self.packs.refresh(log, &self.stops, &gtin, &None);
         Ok(effect)
     }
 }

@@ -16,10 +16,13 @@ mod order;
 mod packs;
 mod repository;
 mod sender;
+mod slot;
 mod status;
 mod stops;
+mod table;
+mod tally;
 mod track;
-mod uploads;
+mod tracked;
 mod verdict;
 
 pub use counts::Counts;

@@ -2,20 +2,21 @@
 //! what they make of it. This file knows no other pack.
 
 ghost use Rattle.std.specs.Prelude.{◌≡◌, ◌<◌, ◌≤◌, ◌∷◌, ◌++◌, [], ℕ, List, length, map, insert, take, vec_len, vec_capacity, OnOk, OnErr, IfOk, if◌then◌else◌};
-ghost use Rattle.std.specs.Option.{option_copied};
+ghost use Rattle.std.specs.Option.{option_copied, option_map};
 ghost use Rattle.mv_repository.specs.Order.{Ascends};
 ghost use Rattle.mv_repository.specs.Pack.{pack_after_status};
 ghost use Rattle.mv_repository.specs.PackState.{held_of};
 ghost use Rattle.mv_repository.specs.Stops.{entry_at, stops_in, comes_first};
-ghost use Rattle.mv_repository.specs.Track.{known_of, held_made_at, held_step, grown_at, put_place, nothing_kept, IsTrack, with_status, with_upload, refreshed, places_before, held_before, effect_when, newest_effect, is_made, is_active_kept};
+ghost use Rattle.mv_repository.specs.Track.{known_of, pack_made_by, held_made_at, held_step, grown_at, put_place, IsTrack, with_status, with_upload, refreshed, places_before, held_before, effect_when, newest_effect, is_made, is_active_kept};
 
 use crate::order::{comes_first, passes, stands_before};
 use crate::status::{change_effect, is_active};
 use crate::stops::{BatchStanding, Stops};
+use crate::tally::Share;
 use crate::{Change, Effect, Held, LogEntry};
 use mv_link::Item;
 use mv_message::{Message, Party, Standing};
-use mv_pack::{BatchKey, Moment, National, PackKey};
+use mv_pack::{Batch, BatchKey, Moment, National, PackKey};
 use std::alloc::{AllocError, Global};
 use std::marker::Model;
 
@@ -29,11 +30,11 @@ pub(crate) fn copy_of(national: &Option<National>) -> Option<National>
     }
 }
 
-/// The pack that the upload at a place of the log makes.
-fn made_at(log: &[LogEntry], place: usize) -> Option<Held>
-    ensures { result ≡ held_made_at log.now place }
+/// The pack that an item makes, where it is an upload.
+pub(crate) fn made_by(item: &Item) -> Option<Held>
+    ensures { result ≡ option_map held_of (pack_made_by item.now) }
 {
-    let Item::Carried { message, .. } = &log.get(place)?.item else {
+    let Item::Carried { message, .. } = item else {
         return None;
     };
     let Message::Upload {
@@ -52,6 +53,13 @@ fn made_at(log: &[LogEntry], place: usize) -> Option<Held>
         standing: Standing::Active,
         change: None,
     })
+}
+
+/// The pack that the upload at a place of the log makes.
+fn made_at(log: &[LogEntry], place: usize) -> Option<Held>
+    ensures { result ≡ held_made_at log.now place }
+{
+    made_by(&log.get(place)?.item)
 }
 
 /// A pack that is held, once a status comes that stands at a place of the log.
@@ -254,15 +262,28 @@ impl Model for Track {
 }
 
 impl Track {
-    /// Nothing is kept yet.
-    pub fn new(alloc: Global) -> Track
-        ensures { result ≡ nothing_kept }
+    ghost use Rattle.mv_repository.specs.Packs.{is_in};
+
+    /// A track of a pack that has one status, which is not worked in yet.
+    pub fn named(
+        alloc: Global,
+        birth: Option<usize>,
+        held: Option<Held>,
+        place: usize,
+    ) -> Result<Box<Track>, AllocError>
+        ensures { IfOk result (λ track. track.value
+            ≡ record { birth = birth; places = place ∷ []; held = held }) }
     {
-        Track {
-            birth: None,
-            places: Vec::new(alloc),
-            held: None,
-        }
+        let mut places = Vec::new(alloc);
+        places.push(place)?;
+        Ok(Box::new(
+            alloc,
+            Track {
+                birth,
+                places,
+                held,
+            },
+        )?)
     }
 
     /// What the pack is; none where no upload names it.
@@ -272,21 +293,51 @@ impl Track {
         self.held.as_ref()
     }
 
-    /// Whether an upload has made the pack.
-    pub fn is_made(&self) -> bool
-        ensures { result ≡ is_made self.now }
+    /// What the pack adds to the tally.
+    pub fn share(&self) -> Share
+        ensures held { result.held ≡ is_made self.now }
+        ensures active { result.active ≡ is_active_kept self.now }
     {
-        self.birth.is_some()
+        Share {
+            held: self.birth.is_some(),
+            active: match &self.held {
+                Some(held) => is_active(held.standing),
+                None => false,
+            },
+        }
     }
 
-    /// Whether the pack is held, and active.
-    pub fn is_active(&self) -> bool
-        ensures { result ≡ is_active_kept self.now }
+    /// Whether the pack is of a batch, where one is named.
+    pub fn is_in(&self, batch: &Option<Batch>) -> bool
+        ensures { result ≡ is_in batch.now self.now }
     {
+        let Some(batch) = batch else {
+            return true;
+        };
         match &self.held {
-            Some(held) => is_active(held.standing),
+            Some(held) => *batch == held.batch,
             None => false,
         }
+    }
+
+    /// Works in the first status, which is the newest entry; its effect where it stands.
+    pub fn begin(
+        &mut self,
+        log: &[LogEntry],
+        stops: &Stops,
+        pack: &PackKey,
+        new: usize,
+    ) -> Effect
+        requires alone { self.old.places ≡ new ∷ [] }
+        requires worked { self.old.held ≡ grown_at log.now stops.now pack.now self.old.birth [] }
+        ensures kept { self.new ≡ with_status log.now stops.now pack.now new
+            (record { birth = self.old.birth; places = []; held = self.old.held }) }
+        ensures effect { result ≡ newest_effect log.now stops.now pack.now new
+            (record { birth = self.old.birth; places = []; held = self.old.held }) }
+    {
+        let effect = newest_effect(log, stops, pack, self.birth, &[], &self.held, new, 0);
+        self.held = one_more(log, stops, pack, self.birth, self.held.take(), new);
+        effect
     }
 
     /// Writes a status of the pack into the log, adds it, and gives its effect where it stands. Where memory is refused

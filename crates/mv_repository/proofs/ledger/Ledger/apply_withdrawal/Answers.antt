@@ -1,13 +1,15 @@
 -- Where the withdrawal has the greatest stamp, or is not the first, no pack changes; else those are worked out again on which it can
 -- bear.
-use Rattle.std.proofs.Common.{◌≡◌, ◌≤◌, arith, false, true, sym, ◌∙◌}
+use Rattle.std.proofs.Common.{◌≡◌, ◌≤◌, arith, false, true, sym, ◌∙◌, None}
 use Rattle.mv_repository.specs.Keys.{is_same_text}
 use Rattle.mv_repository.specs.Stops.{AreStopsOf}
 use Rattle.mv_repository.specs.PackState.{is_withdrawal_of}
 use Rattle.mv_repository.specs.Effect.{effect_of}
 use Rattle.mv_repository.specs.Tables.{Bears, IsKept, stamp_of}
-use Rattle.mv_repository.specs.Uploads.{places_in}
-use Rattle.mv_repository.proofs.TableLemmas.{longer, stops-withdrawal}
+use Rattle.mv_repository.proofs.TableLemmas.{longer, is_track, stops-withdrawal}
+use Rattle.mv_repository.specs.Packs.{is_of}
+use Rattle.mv_repository.specs.Track.{kept_in}
+use Rattle.mv_repository.proofs.PacksLemmas.{settled-track}
 use Rattle.mv_repository.proofs.LatestLemmas.{tracks-last, tracks-later, withdrawal-later}
 use Rattle.mv_repository.proofs.KeptLemmas.{text-self}
 use Rattle.mv_repository.proofs.ElsewhereLemmas.{withdrawal-elsewhere}
@@ -19,60 +21,63 @@ pub invariant_of-self-then-self-stamp : goal.invariant_of-self-then-self-stamp
 invariant_of-self-then-self-stamp c =
     let log = c.ready_entry.new.log.items in
     let entry = c.in_ok-entry.entry in
-    let kept : IsKept log c.self.inside.masters.entries c.self.inside.packs.entries c.self.inside.stops c.self.inside.uploads c.self.inside.latest = rw c.ready_entry.ensures.items c.self.invariant.0 in
+    let kept : IsKept log c.self.inside.masters.entries c.self.inside.packs c.self.inside.stops c.self.inside.latest = rw c.ready_entry.ensures.items c.self.invariant in
     let bears : Bears entry.item (λ gtin. false) (λ pack. false) (λ pack. false) (λ batch. false) (is_same_text c.args.gtin) = rw c.in_ok-entry.ensures.entry c.requires.bears in
     let stops : AreStopsOf (longer log entry) c.add_withdrawal.new.self =
     stops-withdrawal log entry c.self.inside.stops c.add_withdrawal.new.self c.args.gtin kept.stops bears.withdrawal bears.recall c.in_ok-is_first.ensures.withdrawals c.add_withdrawal.ensures.recalls in
     let least : c.self.inside.latest ≤ c.args.stamp = omega arith in
     let stamp : stamp_of entry.item ≡ c.args.stamp = rw c.in_ok-entry.ensures.entry c.requires.stamp in
-    rw c.in_ok-is_first.ensures.log (
-      (kept-stopped log entry c.self.inside.masters.entries c.self.inside.packs.entries c.self.inside.stops c.add_withdrawal.new.self c.self.inside.uploads c.self.inside.latest c.args.stamp (λ batch. false) (is_same_text c.args.gtin) kept
+    rw c.in_ok-is_first.ensures.log 
+      (kept-stopped log entry c.self.inside.masters.entries c.self.inside.packs c.self.inside.stops c.add_withdrawal.new.self c.self.inside.latest c.args.stamp (λ batch. false) (is_same_text c.args.gtin) kept
           bears (omega (arith, least, stamp)) stops
-          (tracks-last log entry c.self.inside.packs.entries (omega (arith, least, stamp, kept.greatest)) bears.upload bears.status kept.tracks)),
-      c.self.invariant.1,
-    )
+          (tracks-last log entry c.self.inside.packs (omega (arith, least, stamp, kept.greatest)) bears.upload bears.status kept.tracks))
 
 pub invariant_of-self-then-not-is_first : goal.invariant_of-self-then-not-is_first
 invariant_of-self-then-not-is_first c =
     let log = c.ready_entry.new.log.items in
     let entry = c.in_ok-entry.entry in
-    let kept : IsKept log c.self.inside.masters.entries c.self.inside.packs.entries c.self.inside.stops c.self.inside.uploads c.self.inside.latest = rw c.ready_entry.ensures.items c.self.invariant.0 in
+    let kept : IsKept log c.self.inside.masters.entries c.self.inside.packs c.self.inside.stops c.self.inside.latest = rw c.ready_entry.ensures.items c.self.invariant in
     let bears : Bears entry.item (λ gtin. false) (λ pack. false) (λ pack. false) (λ batch. false) (is_same_text c.args.gtin) = rw c.in_ok-entry.ensures.entry c.requires.bears in
     let stops : AreStopsOf (longer log entry) c.add_withdrawal.new.self =
     stops-withdrawal log entry c.self.inside.stops c.add_withdrawal.new.self c.args.gtin kept.stops bears.withdrawal bears.recall c.in_ok-is_first.ensures.withdrawals c.add_withdrawal.ensures.recalls in
     let stamp : stamp_of entry.item ≡ c.args.stamp = rw c.in_ok-entry.ensures.entry c.requires.stamp in
-    rw c.in_ok-is_first.ensures.log (
-      (kept-stopped log entry c.self.inside.masters.entries c.self.inside.packs.entries c.self.inside.stops c.add_withdrawal.new.self c.self.inside.uploads c.self.inside.latest c.self.inside.latest (λ batch. false) (is_same_text c.args.gtin) kept
+    rw c.in_ok-is_first.ensures.log 
+      (kept-stopped log entry c.self.inside.masters.entries c.self.inside.packs c.self.inside.stops c.add_withdrawal.new.self c.self.inside.latest c.self.inside.latest (λ batch. false) (is_same_text c.args.gtin) kept
           bears (omega (arith, stamp)) stops
-          (tracks-later log entry c.self.inside.packs.entries
+          (tracks-later log entry c.self.inside.packs
           (withdrawal-later log entry c.self.inside.stops c.args.gtin kept.stops bears.withdrawal bears.recall (sym (c.in_ok-is_first.ensures.first) ∙ c.if-not-is_first.true))
-          bears.upload bears.status kept.tracks)),
-      c.self.invariant.1,
-    )
+          bears.upload bears.status kept.tracks))
 
 pub invariant_of-self-2 : goal.invariant_of-self-2
 invariant_of-self-2 c =
     let log = c.ready_entry.new.log.items in
     let entry = c.in_ok-entry.entry in
-    let kept : IsKept log c.self.inside.masters.entries c.self.inside.packs.entries c.self.inside.stops c.self.inside.uploads c.self.inside.latest = rw c.ready_entry.ensures.items c.self.invariant.0 in
+    let kept : IsKept log c.self.inside.masters.entries c.self.inside.packs c.self.inside.stops c.self.inside.latest = rw c.ready_entry.ensures.items c.self.invariant in
     let bears : Bears entry.item (λ gtin. false) (λ pack. false) (λ pack. false) (λ batch. false) (is_same_text c.args.gtin) = rw c.in_ok-entry.ensures.entry c.requires.bears in
     let stops : AreStopsOf (longer log entry) c.add_withdrawal.new.self =
     stops-withdrawal log entry c.self.inside.stops c.add_withdrawal.new.self c.args.gtin kept.stops bears.withdrawal bears.recall c.in_ok-is_first.ensures.withdrawals c.add_withdrawal.ensures.recalls in
     let stamp : stamp_of entry.item ≡ c.args.stamp = rw c.in_ok-entry.ensures.entry c.requires.stamp in
-    let places = places_in (is_same_text c.args.gtin) c.self.inside.uploads.products in
-    rw c.in_ok-is_first.ensures.log (
-      (kept-refreshed log entry c.self.inside.masters.entries c.self.inside.packs.entries c.refresh_uploads.new.packs.entries c.self.inside.stops c.add_withdrawal.new.self c.self.inside.uploads c.self.inside.latest c.self.inside.latest (λ batch. false) (is_same_text c.args.gtin) places kept
+    rw c.in_ok-is_first.ensures.log 
+      (kept-refreshed log entry c.self.inside.masters.entries c.self.inside.packs c.refresh.new.self c.self.inside.stops c.add_withdrawal.new.self c.self.inside.latest c.self.inside.latest (λ batch. false) (is_same_text c.args.gtin) (λ pack. is_of c.args.gtin None pack (kept_in pack c.self.inside.packs)) kept
           bears (omega (arith, stamp)) stops
-          (withdrawal-elsewhere log entry c.self.inside.uploads c.args.gtin kept.uploads bears.recall bears.withdrawal)
-          (rw (c.as_slice-log.ensures.value, c.in_ok-is_first.ensures.log, c.of_product-places.ensures) at c.refresh_uploads.ensures.kept)),
-      c.refresh_uploads.ensures.tally,
-    )
+          (withdrawal-elsewhere log entry c.self.inside.packs c.args.gtin bears.recall bears.withdrawal)
+          (rw (c.as_slice-log.ensures.value, c.in_ok-is_first.ensures.log) at c.refresh.ensures.kept))
+
+pub refresh-requires : goal.refresh-requires
+refresh-requires c =
+    let log = c.ready_entry.new.log.items in
+    let entry = c.in_ok-entry.entry in
+    let kept : IsKept log c.self.inside.masters.entries c.self.inside.packs c.self.inside.stops c.self.inside.latest = rw c.ready_entry.ensures.items c.self.invariant in
+    record {
+      settled = λ pack. rw (c.as_slice-log.ensures.value, c.in_ok-is_first.ensures.log)
+          (settled-track (longer log entry) c.add_withdrawal.new.self None c.self.inside.stops pack (kept_in pack c.self.inside.packs) (is_track log entry c.self.inside.packs c.self.inside.stops pack kept.tracks kept.stops));
+    }
 
 pub returns-then-self-stamp-clause-effect : goal.returns-then-self-stamp-clause-effect
 returns-then-self-stamp-clause-effect c =
     let log = c.ready_entry.new.log.items in
     let entry = c.in_ok-entry.entry in
-    let kept : IsKept log c.self.inside.masters.entries c.self.inside.packs.entries c.self.inside.stops c.self.inside.uploads c.self.inside.latest = rw c.ready_entry.ensures.items c.self.invariant.0 in
+    let kept : IsKept log c.self.inside.masters.entries c.self.inside.packs c.self.inside.stops c.self.inside.latest = rw c.ready_entry.ensures.items c.self.invariant in
     let is : is_withdrawal_of c.args.gtin entry.item ≡ true = rw c.in_ok-entry.ensures.entry (c.requires.bears.withdrawal c.args.gtin ∙ text-self c.args.gtin) in
     rw (← c.self.view_is)
     (c.lasting_effect-effect.ensures
@@ -83,7 +88,7 @@ pub returns-then-not-is_first-clause-effect : goal.returns-then-not-is_first-cla
 returns-then-not-is_first-clause-effect c =
     let log = c.ready_entry.new.log.items in
     let entry = c.in_ok-entry.entry in
-    let kept : IsKept log c.self.inside.masters.entries c.self.inside.packs.entries c.self.inside.stops c.self.inside.uploads c.self.inside.latest = rw c.ready_entry.ensures.items c.self.invariant.0 in
+    let kept : IsKept log c.self.inside.masters.entries c.self.inside.packs c.self.inside.stops c.self.inside.latest = rw c.ready_entry.ensures.items c.self.invariant in
     let is : is_withdrawal_of c.args.gtin entry.item ≡ true = rw c.in_ok-entry.ensures.entry (c.requires.bears.withdrawal c.args.gtin ∙ text-self c.args.gtin) in
     rw (← c.self.view_is)
     (c.lasting_effect-effect.ensures
@@ -94,7 +99,7 @@ pub returns-clause-effect : goal.returns-clause-effect
 returns-clause-effect c =
     let log = c.ready_entry.new.log.items in
     let entry = c.in_ok-entry.entry in
-    let kept : IsKept log c.self.inside.masters.entries c.self.inside.packs.entries c.self.inside.stops c.self.inside.uploads c.self.inside.latest = rw c.ready_entry.ensures.items c.self.invariant.0 in
+    let kept : IsKept log c.self.inside.masters.entries c.self.inside.packs c.self.inside.stops c.self.inside.latest = rw c.ready_entry.ensures.items c.self.invariant in
     let is : is_withdrawal_of c.args.gtin entry.item ≡ true = rw c.in_ok-entry.ensures.entry (c.requires.bears.withdrawal c.args.gtin ∙ text-self c.args.gtin) in
     rw (← c.self.view_is)
     (c.lasting_effect-effect.ensures

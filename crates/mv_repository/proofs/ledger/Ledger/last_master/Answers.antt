@@ -6,10 +6,10 @@ use Rattle.mv_repository.proofs.ledger.Ledger.last_master.Goals as goal
 
 pub index-requires : goal.index-requires
 index-requires c =
-    let found = found_at c.self.inside.log.items c.self.inside.masters.entries c.args.gtin.now c.in_ok-place.field-0.now c.self.invariant.0.masters (sym c.in_ok-place.ensures.value) in
+    let found = found_at c.self.inside.log.items c.self.inside.masters.entries c.args.gtin.now c.in_ok-place.field-0.now c.self.invariant.masters (sym c.in_ok-place.ensures.value) in
     omega (arith, found.1, c.self.inside.log.ok.0)
 
 pub returns : goal.returns
 returns c =
-    let found = found_at c.self.inside.log.items c.self.inside.masters.entries c.args.gtin.now c.in_ok-place.field-0.now c.self.invariant.0.masters (sym c.in_ok-place.ensures.value) in
+    let found = found_at c.self.inside.log.items c.self.inside.masters.entries c.args.gtin.now c.in_ok-place.field-0.now c.self.invariant.masters (sym c.in_ok-place.ensures.value) in
     rw (← c.self.view_is) (sym (found.0 ∙ slice_get_read c.self.inside.log.items _ _ _ refl found.1 c.index.ensures))

@@ -8,5 +8,5 @@ use Rattle.mv_repository.proofs.ledger.Ledger.recalled.Goals as goal
 pub returns : goal.returns
 returns c =
     rw (← c.self.view_is)
-    (c.has_recall.ensures ∙ ap is_some (c.self.invariant.0.stops.recalls c.args.batch.now)
+    (c.has_recall.ensures ∙ ap is_some (c.self.invariant.stops.recalls c.args.batch.now)
     ∙ found-any (λ placed. is_recall_of c.args.batch.now placed.entry.item) (ordered c.self.inside.log.items))

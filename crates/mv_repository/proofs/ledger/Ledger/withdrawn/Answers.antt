@@ -8,5 +8,5 @@ use Rattle.mv_repository.proofs.ledger.Ledger.withdrawn.Goals as goal
 pub returns : goal.returns
 returns c =
     rw (← c.self.view_is)
-    (c.has_withdrawal.ensures ∙ ap is_some (c.self.invariant.0.stops.withdrawals c.args.gtin.now)
+    (c.has_withdrawal.ensures ∙ ap is_some (c.self.invariant.stops.withdrawals c.args.gtin.now)
     ∙ found-any (λ placed. is_withdrawal_of c.args.gtin.now placed.entry.item) (ordered c.self.inside.log.items))

@@ -1,0 +1,32 @@
+-- What is kept of the pack has the status.
+use Rattle.std.proofs.Common.{◌≡◌, ap}
+use Rattle.mv_repository.specs.Packs.{kept_table}
+use Rattle.mv_repository.proofs.PacksLemmas.{on-err}
+use Rattle.mv_repository.proofs.packs.Packs.add_status.Goals as goal
+
+pub add_status-requires-clause-track : goal.add_status-requires-clause-track
+add_status-requires-clause-track c = rw c.as_slice-births.ensures.value (rw (← c.self.view_is) at c.requires.track)
+
+pub add_status-requires-clause-tally : goal.add_status-requires-clause-tally
+add_status-requires-clause-tally c = rw c.as_slice-births.ensures.value c.self.invariant.tally
+
+pub add_status-requires-clause-within : goal.add_status-requires-clause-within
+add_status-requires-clause-within c = rw c.as_slice-births.ensures.value c.self.invariant.within
+
+pub invariant_of-self : goal.invariant_of-self
+invariant_of-self c = record {
+  within = rw c.as_slice-births.ensures.value at c.add_status.ensures.within;
+  tracked = c.add_status.ensures.tracked;
+  tally = rw c.as_slice-births.ensures.value at c.add_status.ensures.tally;
+}
+
+pub returns-clause-kept : goal.returns-clause-kept
+returns-clause-kept c = rw (← c.self.view_is) (rw c.as_slice-births.ensures.value at c.add_status.ensures.kept)
+
+pub returns-clause-effect : goal.returns-clause-effect
+returns-clause-effect c = rw (← c.self.view_is) (rw c.as_slice-births.ensures.value at c.add_status.ensures.effect)
+
+pub returns-clause-err : goal.returns-clause-err
+returns-clause-err c =
+    rw (← c.self.view_is)
+    (on-err (λ (e : c.add_status.new.self.slots.entries ≡ c.self.inside.table.slots.entries). ap (kept_table c.self.inside.births.items) e) c.add_status.result c.add_status.ensures.err)

@@ -1,0 +1,104 @@
+-- The newest upload stands last among those that made packs, and nothing that stood before points at it.
+use Rattle.std.proofs.Common.{◌≡◌, ◌≤◌, ◌∙◌, ◌∷◌, ◌++◌, [], ℕ, List, ap, sym, subst, cond, rules, arith, length, length-append, Some, None}
+use Rattle.std.specs.Option.{option_map}
+use Rattle.mv_pack.specs.declared.key.PackKey.{PackKey}
+use Rattle.mv_repository.specs.declared.slot.Birth.{Birth}
+use Rattle.mv_repository.specs.PackState.{has_pack, held_of}
+use Rattle.mv_repository.specs.Packs.{kept_table, AreWithin, IsBorn, is_own_in}
+use Rattle.mv_repository.specs.Track.{Kept, kept_in, pack_made_by, IsTrack, IsTally, with_upload, made_count}
+use Rattle.mv_repository.proofs.PacksLemmas.{upload-made, newest-born, table-more, within-more}
+use Rattle.mv_repository.proofs.packs.Packs.add_upload.Goals as goal
+
+pub unreachable-requires : goal.unreachable-requires
+unreachable-requires c =
+    let none : option_map held_of (pack_made_by c.args.entry.item) ≡ None = search rules in
+    upload-made c.args.entry.item c.args.gtin c.args.serials.now c.requires.upload none
+
+pub add_uploads-count-requires-clause-born : goal.add_uploads-count-requires-clause-born
+add_uploads-count-requires-clause-born c =
+    let items = c.self.inside.births.items in
+    let slots = c.self.inside.table.slots.entries in
+    let birth : Birth = record { place = c.len-new.result; held = c.in-Some.held } in
+    let births_is : c.as_slice-births.result.now ≡ items ++ birth ∷ [] = search rules in
+    let slots_are : c.reserve-2.new.self.entries ≡ slots = search rules in
+    let log_is : c.as_slice.result.now ≡ c.args.log.now.items ++ c.args.entry ∷ [] = search rules in
+    let new_is : c.len-new.result ≡ length c.args.log.now.items = search rules in
+    let same : kept_table c.as_slice-births.result.now c.reserve-2.new.self.entries ≡ kept_table items slots = (λ i. kept_table (births_is i) (slots_are i)) ∙ table-more items birth slots c.self.invariant.within in
+    let at_is : c.len-at.result ≡ length items = search rules in
+    let made : Some c.in-Some.held ≡ option_map held_of (pack_made_by c.args.entry.item) = search rules in
+    rw (births_is, log_is, at_is)
+    (subst (λ (n : ℕ). IsBorn (items ++ birth ∷ []) (c.args.log.now.items ++ c.args.entry ∷ []) n (length items)) (sym new_is) (newest-born items birth c.args.log.now.items c.args.entry new_is made))
+
+pub add_uploads-count-requires-clause-tracks : goal.add_uploads-count-requires-clause-tracks
+add_uploads-count-requires-clause-tracks c pack =
+    let items = c.self.inside.births.items in
+    let slots = c.self.inside.table.slots.entries in
+    let birth : Birth = record { place = c.len-new.result; held = c.in-Some.held } in
+    let births_is : c.as_slice-births.result.now ≡ items ++ birth ∷ [] = search rules in
+    let slots_are : c.reserve-2.new.self.entries ≡ slots = search rules in
+    let log_is : c.as_slice.result.now ≡ c.args.log.now.items ++ c.args.entry ∷ [] = search rules in
+    let new_is : c.len-new.result ≡ length c.args.log.now.items = search rules in
+    let same : kept_table c.as_slice-births.result.now c.reserve-2.new.self.entries ≡ kept_table items slots = (λ i. kept_table (births_is i) (slots_are i)) ∙ table-more items birth slots c.self.invariant.within in
+    subst (λ (t : List (PackKey × Kept)). IsTrack c.as_slice.result.now c.args.stops.now pack (kept_in pack t)) (sym (same ∙ c.self.view_is)) (rw log_is (c.requires.tracks pack))
+
+pub add_uploads-count-requires-clause-tally : goal.add_uploads-count-requires-clause-tally
+add_uploads-count-requires-clause-tally c =
+    let items = c.self.inside.births.items in
+    let slots = c.self.inside.table.slots.entries in
+    let birth : Birth = record { place = c.len-new.result; held = c.in-Some.held } in
+    let births_is : c.as_slice-births.result.now ≡ items ++ birth ∷ [] = search rules in
+    let slots_are : c.reserve-2.new.self.entries ≡ slots = search rules in
+    let log_is : c.as_slice.result.now ≡ c.args.log.now.items ++ c.args.entry ∷ [] = search rules in
+    let new_is : c.len-new.result ≡ length c.args.log.now.items = search rules in
+    let same : kept_table c.as_slice-births.result.now c.reserve-2.new.self.entries ≡ kept_table items slots = (λ i. kept_table (births_is i) (slots_are i)) ∙ table-more items birth slots c.self.invariant.within in
+    subst (λ (t : List (PackKey × Kept)). IsTally t c.self.inside.table.tally) (sym same) c.self.invariant.tally
+
+pub add_uploads-count-requires-clause-within : goal.add_uploads-count-requires-clause-within
+add_uploads-count-requires-clause-within c =
+    let items = c.self.inside.births.items in
+    let slots = c.self.inside.table.slots.entries in
+    let birth : Birth = record { place = c.len-new.result; held = c.in-Some.held } in
+    let births_is : c.as_slice-births.result.now ≡ items ++ birth ∷ [] = search rules in
+    let slots_are : c.reserve-2.new.self.entries ≡ slots = search rules in
+    let log_is : c.as_slice.result.now ≡ c.args.log.now.items ++ c.args.entry ∷ [] = search rules in
+    let new_is : c.len-new.result ≡ length c.args.log.now.items = search rules in
+    let same : kept_table c.as_slice-births.result.now c.reserve-2.new.self.entries ≡ kept_table items slots = (λ i. kept_table (births_is i) (slots_are i)) ∙ table-more items birth slots c.self.invariant.within in
+    let more : length items ≤ length c.as_slice-births.result.now = omega (arith, ap length births_is, length-append items (birth ∷ [])) in
+    rw slots_are (within-more (length items) (length c.as_slice-births.result.now) slots more c.self.invariant.within)
+
+pub returns-clause-kept : goal.returns-clause-kept
+returns-clause-kept c pack =
+    let items = c.self.inside.births.items in
+    let slots = c.self.inside.table.slots.entries in
+    let birth : Birth = record { place = c.len-new.result; held = c.in-Some.held } in
+    let births_is : c.as_slice-births.result.now ≡ items ++ birth ∷ [] = search rules in
+    let slots_are : c.reserve-2.new.self.entries ≡ slots = search rules in
+    let log_is : c.as_slice.result.now ≡ c.args.log.now.items ++ c.args.entry ∷ [] = search rules in
+    let new_is : c.len-new.result ≡ length c.args.log.now.items = search rules in
+    let same : kept_table c.as_slice-births.result.now c.reserve-2.new.self.entries ≡ kept_table items slots = (λ i. kept_table (births_is i) (slots_are i)) ∙ table-more items birth slots c.self.invariant.within in
+    let seen = same ∙ c.self.view_is in
+    (λ i. kept_in pack (kept_table (sym c.as_slice-births.ensures.value i) c.add_uploads-count.new.self.slots.entries))
+    ∙ c.add_uploads-count.ensures.kept pack
+    ∙ (λ i. cond (has_pack c.args.gtin c.args.serials.now pack) (with_upload (log_is i) c.args.stops.now pack (new_is i) (kept_in pack (seen i))) (kept_in pack (seen i)))
+
+pub returns-clause-count : goal.returns-clause-count
+returns-clause-count c =
+    let items = c.self.inside.births.items in
+    let slots = c.self.inside.table.slots.entries in
+    let birth : Birth = record { place = c.len-new.result; held = c.in-Some.held } in
+    let births_is : c.as_slice-births.result.now ≡ items ++ birth ∷ [] = search rules in
+    let slots_are : c.reserve-2.new.self.entries ≡ slots = search rules in
+    let log_is : c.as_slice.result.now ≡ c.args.log.now.items ++ c.args.entry ∷ [] = search rules in
+    let new_is : c.len-new.result ≡ length c.args.log.now.items = search rules in
+    let same : kept_table c.as_slice-births.result.now c.reserve-2.new.self.entries ≡ kept_table items slots = (λ i. kept_table (births_is i) (slots_are i)) ∙ table-more items birth slots c.self.invariant.within in
+    let seen = same ∙ c.self.view_is in
+    c.add_uploads-count.ensures.count ∙ (λ i. made_count (log_is i) (new_is i) (seen i) c.args.gtin c.args.serials.now)
+
+pub invariant_of-self-2 : goal.invariant_of-self-2
+invariant_of-self-2 c =
+    let slots_are : c.reserve-2.new.self.entries ≡ c.self.inside.table.slots.entries = search rules in
+    record {
+      within = subst (λ (births : List Birth). AreWithin (length births) c.add_uploads-count.new.self.slots.entries) c.as_slice-births.ensures.value c.add_uploads-count.ensures.within;
+      tracked = λ pack h. c.self.invariant.tracked pack (sym (ap (is_own_in pack) slots_are) ∙ sym (c.add_uploads-count.ensures.own pack) ∙ h);
+      tally = subst (λ (births : List Birth). IsTally (kept_table births c.add_uploads-count.new.self.slots.entries) c.add_uploads-count.new.self.tally) c.as_slice-births.ensures.value c.add_uploads-count.ensures.tally;
+    }

@@ -1,0 +1,25 @@
+-- One serial number more.
+use Rattle.std.proofs.Common.{◌≡◌, ◌∙◌, [], get_or, take}
+use Rattle.std.proofs.lemmas.List.{get_or_default}
+use Rattle.mv_repository.specs.Keys.{pack_key}
+use Rattle.mv_repository.specs.PackState.{has_pack}
+use Rattle.mv_repository.specs.Packs.{kept_table}
+use Rattle.mv_repository.proofs.PacksLemmas.{settled-more, again-more}
+use Rattle.mv_repository.proofs.table.Table.refresh_all.Goals as goal
+
+pub refresh-requires-clause-settled : goal.refresh-requires-clause-settled
+refresh-requires-clause-settled c =
+    settled-more c.args.log.now c.args.stops.now c.args.batch.now (kept_table c.args.births.now c.args.self.now.slots.entries) (kept_table c.args.births.now c.loop-serial.self.slots.entries)
+    (has_pack c.args.gtin (take c.loop-serial.serial-index c.args.serials.now)) c.requires.settled c.loop-serial.invariant.looks (pack_key c.args.gtin c.copy-serial.result)
+
+pub loop-serial-preserved : goal.loop-serial-preserved
+loop-serial-preserved c =
+    let place = c.loop-serial.serial-index in
+    let serial : c.copy-serial.result ≡ get_or c.args.serials.now place [] = c.copy-serial.ensures ∙ c.serial-item.is ∙ get_or_default c.args.serials.now place _ [] c.loop-serial-test.true in
+    record {
+      looks = again-more c.args.log.now c.args.stops.now c.args.batch.now (kept_table c.args.births.now c.args.self.now.slots.entries) (kept_table c.args.births.now c.loop-serial.self.slots.entries) (kept_table c.args.births.now c.refresh.new.self.slots.entries)
+          c.args.gtin c.args.serials.now place c.loop-serial-test.true c.loop-serial.invariant.looks (rw serial at c.refresh.ensures.kept);
+      tally = c.refresh.ensures.tally;
+      within = c.refresh.ensures.within c.loop-serial.invariant.within;
+      own = λ pack. c.refresh.ensures.own pack ∙ c.loop-serial.invariant.own pack;
+    }

@@ -1,0 +1,102 @@
+-- The table of packs: a pack is as an upload made it until a status names it, and has a track of its own from then on.
+use Rattle.std.specs.Bool.{⊤}
+use Rattle.std.specs.Prelude.{◌≡◌, ◌<◌, ℕ, List, [], ◌∷◌, map, length, slice_get, Bool, true, false, ◌&&◌, Option, Some, None, is_some, if◌then◌else◌}
+use Rattle.std.specs.Map.{lookup, set_value}
+use Rattle.indexmap.specs.IndexMap.{insert_entry}
+use Rattle.std.specs.Option.{option_map, unwrap_or}
+use Rattle.mv_pack.specs.declared.key.PackKey.{PackKey}
+use Rattle.mv_repository.specs.declared.entry.LogEntry.{LogEntry}
+use Rattle.mv_repository.specs.declared.held.Held.{Held}
+use Rattle.mv_repository.specs.declared.slot.Birth.{Birth}
+use Rattle.mv_repository.specs.declared.slot.Slot.{Slot}
+use Rattle.mv_repository.specs.declared.slot.Slot.TheVariants.{Made, Own}
+use Rattle.mv_repository.specs.declared.tally.Tally.{Tally}
+use Rattle.mv_repository.specs.Keys.{is_same_text, is_same_pack}
+use Rattle.mv_repository.specs.Stops.{StopTables}
+use Rattle.mv_repository.specs.Tracked.{is_tracked}
+use Rattle.mv_repository.specs.Track.{Kept, nothing_kept, kept_in, held_made_at, refreshed, IsTally}
+
+-- what is kept of a pack that is as an upload made it
+abbrev pub kept_born : Birth → Kept
+kept_born birth = record { birth = Some birth.place; places = []; held = Some birth.held }
+
+-- what is kept of a pack, by what stands in the table
+abbrev pub kept_as : List Birth → Slot → Kept
+kept_as births (Made place) = unwrap_or (option_map kept_born (slice_get births place)) nothing_kept
+kept_as births (Own track) = track.value
+
+-- the table, with what is kept of each pack
+abbrev pub kept_table : List Birth → List (PackKey × Slot) → List (PackKey × Kept)
+kept_table births slots = map (λ entry. (entry.0, kept_as births entry.1)) slots
+
+-- what a slot points at is there
+abbrev pub IsWithin : ℕ → Slot → Type 0
+IsWithin count (Made place) = place < count
+IsWithin count (Own track) = ⊤
+
+abbrev pub AreWithin : ℕ → List (PackKey × Slot) → Type 0
+AreWithin count [] = ⊤
+AreWithin count (entry ∷ rest) = IsWithin count entry.1 × AreWithin count rest
+
+-- the newest entry, an upload, stands at a place among those that made packs
+pub record IsBorn (births : List Birth) (log : List LogEntry) (new at : ℕ) : Type 0 where
+  pub there : at < length births
+  pub kept : kept_as births (Made at) ≡ record { birth = Some new; places = []; held = held_made_at log new }
+
+-- a pack has a track of its own
+abbrev pub is_own : Slot → Bool
+is_own (Made place) = false
+is_own (Own track) = true
+
+abbrev pub is_own_in : PackKey → List (PackKey × Slot) → Bool
+is_own_in pack slots = unwrap_or (option_map is_own (lookup (is_same_pack pack) slots)) false
+
+-- each pack with a track of its own is found under its product
+abbrev pub FindsTracked : List (PackKey × Slot) → List (List ℕ × List (List ℕ)) → Type 0
+FindsTracked slots products = (pack : PackKey) → is_own_in pack slots ≡ true → is_tracked pack products ≡ true
+
+-- one slot was put in: the pack has what is kept by it
+pub record IsPut (births : List Birth) (old new : List (PackKey × Slot)) (key : PackKey) (kept : Kept) (own : Bool) : Type 0 where
+  pub slot : Slot
+  pub entries : new ≡ insert_entry is_same_pack old key slot
+  pub kept_is : kept_as births slot ≡ kept
+  pub within : AreWithin (length births) old → IsWithin (length births) slot
+  pub own_is : is_own slot ≡ own
+
+-- one slot was written, where there is one: the pack has what is kept by it, and a track of its own only if it had one
+pub record IsWrittenAnew (births : List Birth) (old new : List (PackKey × Slot)) (key : PackKey) (kept : Kept) : Type 0 where
+  pub slot : Slot
+  pub entries : new ≡ set_value (is_same_pack key) old slot
+  pub kept_is : is_some (lookup (is_same_pack key) old) ≡ true → kept_as births slot ≡ kept
+  pub within : is_some (lookup (is_same_pack key) old) ≡ true → AreWithin (length births) old → IsWithin (length births) slot
+  pub own_is : is_some (lookup (is_same_pack key) old) ≡ true → is_own slot ≡ is_own_in key old
+
+-- what stands in the parts of the table belongs together
+pub record IsTable (births : List Birth) (slots : List (PackKey × Slot)) (products : List (List ℕ × List (List ℕ))) (count : Tally) : Type 0 where
+  pub within : AreWithin (length births) slots
+  pub tracked : FindsTracked slots products
+  pub tally : IsTally (kept_table births slots) count
+
+-- a pack is of a batch, where one is named
+abbrev pub is_held_in : List ℕ → Option Held → Bool
+is_held_in batch None = false
+is_held_in batch (Some held) = is_same_text batch held.batch
+
+abbrev pub is_in : Option (List ℕ) → Kept → Bool
+is_in None kept = true
+is_in (Some batch) kept = is_held_in batch kept.held
+
+-- a pack is of a product, and of a batch where one is named
+abbrev pub is_of : List ℕ → Option (List ℕ) → PackKey → Kept → Bool
+is_of gtin batch pack kept = is_same_text gtin pack.gtin && is_in batch kept
+
+-- a pack of a batch worked out again
+abbrev pub refreshed_in : List LogEntry → StopTables → Option (List ℕ) → PackKey → Kept → Kept
+refreshed_in log tables batch pack kept = if is_in batch kept then refreshed log tables pack kept else kept
+
+-- working a pack out again that no status names changes nothing
+abbrev pub IsSettled : List LogEntry → StopTables → PackKey → Kept → Type 0
+IsSettled log tables pack kept = kept.places ≡ [] → refreshed log tables pack kept ≡ kept
+
+abbrev pub AreSettled : List LogEntry → StopTables → List (PackKey × Kept) → Type 0
+AreSettled log tables table = (pack : PackKey) → IsSettled log tables pack (kept_in pack table)

@@ -1,0 +1,214 @@
+//! What stands in the table of packs for one pack: it is as an upload made it until a status names it, and has a track of
+//! its own from then on. This file knows no other pack.
+
+ghost use Rattle.std.specs.Prelude.{◌≡◌, ◌<◌, ◌∷◌, ◌++◌, [], ℕ, length, vec_len, vec_capacity, OnOk, OnErr, IfOk, true, false, if◌then◌else◌};
+ghost use Rattle.std.specs.Option.{option_copied};
+ghost use Rattle.mv_repository.specs.Stops.{comes_first};
+ghost use Rattle.mv_repository.specs.Packs.{kept_as};
+ghost use Rattle.mv_repository.specs.Tracked.{is_tracked, KeepsTracked};
+ghost use Rattle.mv_repository.specs.declared.slot.Slot.TheVariants.{Made};
+ghost use Rattle.mv_repository.specs.Track.{grown_at, IsTrack, with_status, with_upload, newest_effect, is_made, is_active_kept};
+
+use crate::order::comes_first;
+use crate::stops::Stops;
+use crate::tally::Share;
+use crate::track::Track;
+use crate::tracked::Tracked;
+use crate::{Effect, Held, LogEntry};
+use mv_pack::{Batch, PackKey};
+use std::alloc::{AllocError, Global};
+
+/// An upload that made packs.
+#[derive(Drop)]
+pub(crate) struct Birth {
+    /// Its place in the log.
+    pub place: usize,
+    /// What each pack is that it made.
+    pub held: Held,
+}
+
+/// What stands in the table for a pack.
+#[derive(Drop)]
+pub(crate) enum Slot {
+    /// The pack is as an upload made it, which stands at this place among those that made packs.
+    Made(usize),
+    /// The pack has a track of its own, since a status names it.
+    Own(Box<Track>),
+}
+
+impl Slot {
+    ghost use Rattle.mv_repository.specs.Packs.{IsWithin, is_own, refreshed_in, IsSettled, IsBorn};
+
+    /// What the pack is; none where no upload names it.
+    pub fn held<'a>(&'a self, births: &'a [Birth]) -> Option<&'a Held>
+        ensures { option_copied result ≡ (kept_as births.now self.now).held }
+    {
+        match self {
+            Slot::Made(place) => Some(&births.get(*place)?.held),
+            Slot::Own(track) => track.held(),
+        }
+    }
+
+    /// What the pack adds to the tally.
+    pub fn share(&self, births: &[Birth]) -> Share
+        ensures held { result.held ≡ is_made (kept_as births.now self.now) }
+        ensures active { result.active ≡ is_active_kept (kept_as births.now self.now) }
+    {
+        match self {
+            Slot::Made(place) => match births.get(*place) {
+                Some(birth) => Share::of(&birth.held),
+                None => Share::NONE,
+            },
+            Slot::Own(track) => track.share(),
+        }
+    }
+
+    /// Adds the newest entry, an upload that names the pack; whether it is the first such by stamp. The upload stands at a
+    /// place among those that made packs.
+    pub fn add_upload(
+        &mut self,
+        births: &[Birth],
+        log: &[LogEntry],
+        stops: &Stops,
+        pack: &PackKey,
+        new: usize,
+        at: usize,
+    ) -> bool
+        requires born { IsBorn births.now log.now new at }
+        requires track { IsTrack log.now stops.now pack.now (kept_as births.now self.old) }
+        ensures kept { kept_as births.now self.new
+            ≡ with_upload log.now stops.now pack.now new (kept_as births.now self.old) }
+        ensures first { result ≡ comes_first log.now new (kept_as births.now self.old).birth }
+        ensures within { IsWithin (length births.now) self.old → IsWithin (length births.now) self.new }
+        ensures own { is_own self.new ≡ is_own self.old }
+    {
+        match self {
+            Slot::Made(place) => {
+                let birth = birth_at(births, *place);
+                let is_first = comes_first(log, new, birth);
+                if is_first {
+                    *place = at;
+                }
+                is_first
+            }
+            Slot::Own(track) => track.add_upload(log, stops, pack, new),
+        }
+    }
+
+    /// Writes a status of the pack into the log, adds it, and gives its effect where it stands. Where memory is refused
+    /// nothing has changed.
+    pub fn add_status(
+        &mut self,
+        alloc: Global,
+        births: &[Birth],
+        tracked: &mut Tracked,
+        log: &mut Vec<LogEntry>,
+        entry: LogEntry,
+        stops: &Stops,
+        pack: &PackKey,
+    ) -> Result<Effect, AllocError>
+        requires room { vec_len log.old < vec_capacity log.old }
+        requires track { IsTrack (log.old.items ++ entry ∷ []) stops.now pack.now (kept_as births.now self.old) }
+        ensures log { OnOk result (log.new.items ≡ log.old.items ++ entry ∷ []) }
+        ensures kept { OnOk result (kept_as births.now self.new
+            ≡ with_status (log.old.items ++ entry ∷ []) stops.now pack.now (length log.old.items)
+            (kept_as births.now self.old)) }
+        ensures effect { IfOk result (λ effect. effect
+            ≡ newest_effect (log.old.items ++ entry ∷ []) stops.now pack.now (length log.old.items)
+            (kept_as births.now self.old)) }
+        ensures own { OnOk result (is_own self.new ≡ true) }
+        ensures keeps { KeepsTracked tracked.old tracked.new }
+        ensures added { OnOk result (is_own self.old ≡ false → is_tracked pack.now tracked.new ≡ true) }
+        ensures log_err { OnErr result (log.new.items ≡ log.old.items) }
+        ensures err { OnErr result (self.new ≡ self.old) }
+    {
+        match self {
+            Slot::Made(place) => {
+                let birth = birth_at(births, *place);
+                let held = made_at(births, *place);
+                let started = start(alloc, tracked, log, entry, stops, pack, birth, held)?;
+                *self = Slot::Own(started.track);
+                Ok(started.effect)
+            }
+            Slot::Own(track) => track.add_status(log, entry, stops, pack),
+        }
+    }
+
+    /// Works the pack out again, where it is of a batch, if one is named. A pack that no status names stays as it is.
+    pub fn refresh(
+        &mut self,
+        births: &[Birth],
+        log: &[LogEntry],
+        stops: &Stops,
+        pack: &PackKey,
+        batch: &Option<Batch>,
+    )
+        requires settled { IsSettled log.now stops.now pack.now (kept_as births.now self.old) }
+        ensures kept { kept_as births.now self.new
+            ≡ refreshed_in log.now stops.now batch.now pack.now (kept_as births.now self.old) }
+        ensures within { IsWithin (length births.now) self.old → IsWithin (length births.now) self.new }
+        ensures own { is_own self.new ≡ is_own self.old }
+    {
+        if let Slot::Own(track) = self {
+            if track.is_in(batch) {
+                track.refresh(log, stops, pack);
+            }
+        }
+    }
+}
+
+/// The place in the log of an upload that made packs.
+fn birth_at(births: &[Birth], place: usize) -> Option<usize>
+    ensures { result ≡ (kept_as births.now (Made place)).birth }
+{
+    Some(births.get(place)?.place)
+}
+
+/// What each pack is that an upload made.
+fn made_at(births: &[Birth], place: usize) -> Option<Held>
+    ensures { result ≡ (kept_as births.now (Made place)).held }
+{
+    Some(births.get(place)?.held.copy())
+}
+
+/// A track that begins with its first status.
+#[derive(Drop)]
+pub(crate) struct Started {
+    /// The track.
+    pub track: Box<Track>,
+    /// The effect of the status, where it stands.
+    pub effect: Effect,
+}
+
+/// Writes the first status of a pack into the log, and begins its track. Where memory is refused nothing has changed.
+pub(crate) fn start(
+    alloc: Global,
+    tracked: &mut Tracked,
+    log: &mut Vec<LogEntry>,
+    entry: LogEntry,
+    stops: &Stops,
+    pack: &PackKey,
+    birth: Option<usize>,
+    held: Option<Held>,
+) -> Result<Started, AllocError>
+    requires room { vec_len log.old < vec_capacity log.old }
+    requires worked { held ≡ grown_at (log.old.items ++ entry ∷ []) stops.now pack.now birth [] }
+    ensures log { OnOk result (log.new.items ≡ log.old.items ++ entry ∷ []) }
+    ensures kept { IfOk result (λ started. started.track.value
+        ≡ with_status (log.old.items ++ entry ∷ []) stops.now pack.now (length log.old.items)
+        (record { birth = birth; places = []; held = held })) }
+    ensures effect { IfOk result (λ started. started.effect
+        ≡ newest_effect (log.old.items ++ entry ∷ []) stops.now pack.now (length log.old.items)
+        (record { birth = birth; places = []; held = held })) }
+    ensures keeps { KeepsTracked tracked.old tracked.new }
+    ensures added { OnOk result (is_tracked pack.now tracked.new ≡ true) }
+    ensures log_err { OnErr result (log.new.items ≡ log.old.items) }
+{
+    let new = log.len();
+    let mut track = Track::named(alloc, birth, held, new)?;
+    tracked.add(pack.gtin, pack.serial.copy())?;
+    // All room is got: nothing fails from here on.
+    log.push_reserved(entry);
+    let effect = track.begin(log.as_slice(), stops, pack, new);
+    Ok(Started { track, effect })
+}

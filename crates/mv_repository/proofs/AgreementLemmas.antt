@@ -22,7 +22,7 @@ use Rattle.mv_repository.specs.Order.{Placed, ordered}
 use Rattle.mv_repository.specs.Keys.{is_same_pack, batch_key}
 use Rattle.mv_repository.specs.Pack.{KnownChange, KnownPack, new_pack, change_effect, revert_effect, is_final, is_active, is_done, change_to, pack_after_status}
 use Rattle.mv_repository.specs.PackState.{has_pack, is_recall_of, is_withdrawal_of, batch_standing, pack_after_item, pack_after, known_pack_from, known_pack, held_of, is_withdrawn}
-use Rattle.mv_repository.specs.Verdict.{local_verdict, local_verdict_of, verdict_when, is_stopped}
+use Rattle.mv_repository.specs.Verdict.{local_verdict, local_verdict_of, verdict_when, is_explained}
 use Rattle.mv_repository.specs.Query.{found_when}
 use Rattle.mv_repository.specs.Agreement.{Sent, sent_in, sent_by, bears_on, batch_in, about, NamedChange, NamedPack, named_change, named_pack, named_state, is_batch_recalled, AgreeOn}
 
@@ -300,7 +300,7 @@ withdrawal-about pack log = withdrawn-about pack (batch_in pack log) (ordered lo
 -- the verdict goes by the state, the recall and the withdrawal
 abbrev verdict_by : Option NamedPack → Bool → Bool → Local
 verdict_by None recalled withdrawn = Absent
-verdict_by (Some held) recalled withdrawn = Known (verdict_when (is_active held.standing) (is_stopped recalled withdrawn held.standing))
+verdict_by (Some held) recalled withdrawn = Known (verdict_when (is_active held.standing) (is_explained recalled withdrawn held.standing))
 
 verdict-by : (pack : PackKey) (log : List LogEntry)
     → local_verdict pack log ≡ verdict_by (named_state pack log) (is_batch_recalled pack.gtin (batch_in pack log) log) (is_withdrawn pack.gtin log)

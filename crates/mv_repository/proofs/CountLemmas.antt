@@ -19,7 +19,7 @@ use Rattle.mv_repository.specs.declared.entry.LogEntry.{LogEntry}
 use Rattle.mv_repository.specs.declared.held.Held.{Held}
 use Rattle.mv_repository.specs.Keys.{is_same_text, is_same_pack, is_same_batch, pack_key}
 use Rattle.mv_repository.specs.Order.{Placed, passes, put_in, ordered_after, ordered}
-use Rattle.mv_repository.specs.Copy.{is_master, last_master, IsCopyOf, place_of as master_place}
+use Rattle.mv_repository.specs.Masters.{is_master, last_master, AreMastersOf}
 use Rattle.mv_repository.specs.PackState.{has_pack, is_recall_of, pack_state, held_of}
 use Rattle.mv_repository.specs.Counts.{mastered_in, uploaded_in, recalled_in, mastered_products, uploaded_packs, recalled_batches, is_held_active}
 use Rattle.mv_repository.specs.Stops.{StopTables, AreStopsOf, place_of, first_stops}
@@ -114,10 +114,10 @@ some-map : {A B : Type 0} → (f : A → B) (o : Option A) → is_some (option_m
 some-map f None = refl
 some-map f (Some x) = refl
 
-pub count-products : (log : List LogEntry) (masters : List (List ℕ × ℕ)) → IsDistinct is_same_text (keys_of masters) → IsCopyOf log masters → length masters ≡ distinct_count is_same_text (mastered_products log)
-count-products log masters distinct copy =
+pub count-products : (log : List LogEntry) (masters : List (List ℕ × ℕ)) → IsDistinct is_same_text (keys_of masters) → AreMastersOf log masters → length masters ≡ distinct_count is_same_text (mastered_products log)
+count-products log masters distinct places =
     counted-once nat_list_eq_equiv masters (mastered_products log) distinct
-    (λ gtin. ap is_some (copy gtin) ∙ some-map master_place (last_master gtin (ordered log)) ∙ master-found gtin (ordered log) ∙ any-ordered (is_master gtin) log
+    (λ gtin. ap is_some (places gtin) ∙ some-map place_of (last_master gtin (ordered log)) ∙ master-found gtin (ordered log) ∙ any-ordered (is_master gtin) log
     ∙ sym (any-flat (is_same_text gtin) mastered_in (is_master gtin) (mastered-is gtin) log))
 
 pack-equiv : IsEquivalence is_same_pack
@@ -176,62 +176,3 @@ count-active log es distinct tracks =
     counted-part is_active_kept es (filter (λ pack. is_held_active (pack_state pack log)) (uploaded_packs log)) distinct refl
     (λ pack. ap is_active_kept (tracks pack) ∙ active-made log pack
     ∙ sym (is_member-filter pack-equiv (λ q. is_held_active (pack_state q log)) pack (λ x e. ap (λ (q : PackKey). is_held_active (pack_state q log)) (same_pack pack x e)) (uploaded_packs log)))
-
-length-one : (b : Bool) (e : PackKey × Kept) (es : List (PackKey × Kept)) → length (cond b (e ∷ es) es) ≡ length es + one_if b
-length-one true e es = omega arith
-length-one false e es = omega arith
-
-filter-set : (test : Kept → Bool) (key : PackKey) (es : List (PackKey × Kept)) (w : Kept) → IsSome (lookup (is_same_pack key) es)
-    → length (filter (λ e. test e.1) (set_value (is_same_pack key) es w)) + one_if (test (kept_in key es)) ≡ length (filter (λ e. test e.1) es) + one_if (test w)
-filter-set test key [] w h = absurd (true≢false (sym h))
-filter-set test key (e ∷ es) w h = by (is_same_pack key e.0) h (filter-set test key es w)
-  where
-    part : List (PackKey × Kept) → List (PackKey × Kept)
-    part xs = filter (λ e. test e.1) xs
-
-    by : (b : Bool) → IsSome (cond b (Some e.1) (lookup (is_same_pack key) es))
-        → (IsSome (lookup (is_same_pack key) es) → length (part (set_value (is_same_pack key) es w)) + one_if (test (kept_in key es)) ≡ length (part es) + one_if (test w))
-        → length (part (cond b ((e.0, w) ∷ es) (e ∷ set_value (is_same_pack key) es w))) + one_if (test (unwrap_or (cond b (Some e.1) (lookup (is_same_pack key) es)) nothing_kept))
-        ≡ length (part (e ∷ es)) + one_if (test w)
-    by true h r = omega (arith, length-one (test w) (e.0, w) (part es), length-one (test e.1) e (part es))
-    by false h r = omega (arith, length-one (test e.1) e (part (set_value (is_same_pack key) es w)), length-one (test e.1) e (part es), r h)
-
--- one pack written anew
-pub count-set : (test : Kept → Bool) (key : PackKey) (es es' : List (PackKey × Kept)) (total was is : ℕ) → IsSome (lookup (is_same_pack key) es) → es' ≡ set_value (is_same_pack key) es (kept_in key es')
-    → total ≡ count_by (λ e. test e.1) es → was ≡ one_if (test (kept_in key es)) → is ≡ one_if (test (kept_in key es')) → count_by (λ e. test e.1) es' + was ≡ total + is
-count-set test key es es' total was is h set t w i =
-    let one = filter-set test key es (kept_in key es') h in
-    let after = ap (λ (xs : List (PackKey × Kept)). count_by (λ e. test e.1) xs) set ∙ sym (length-filter (λ e. test e.1) (set_value (is_same_pack key) es (kept_in key es'))) in
-    let before = t ∙ sym (length-filter (λ e. test e.1) es) in
-    (λ j. after j + w j) ∙ one ∙ sym (λ j. before j + i j)
-
-filter-push : (test : Kept → Bool) (key : PackKey) (es : List (PackKey × Kept)) → test nothing_kept ≡ false → filter (λ e. test e.1) (es ++ (key, nothing_kept) ∷ []) ≡ filter (λ e. test e.1) es
-filter-push test key [] h = ap (λ b. cond b ((key, nothing_kept) ∷ []) []) h
-filter-push test key (e ∷ es) h = ap (λ (xs : List (PackKey × Kept)). cond (test e.1) (e ∷ xs) xs) (filter-push test key es h)
-
-count-push : (test : Kept → Bool) (key : PackKey) (es : List (PackKey × Kept)) → test nothing_kept ≡ false → count_by (λ e. test e.1) (es ++ (key, nothing_kept) ∷ []) ≡ count_by (λ e. test e.1) es
-count-push test key es h = sym (length-filter (λ e. test e.1) (es ++ (key, nothing_kept) ∷ [])) ∙ ap length (filter-push test key es h) ∙ length-filter (λ e. test e.1) es
-
--- an entry with nothing kept counts for nothing
-pub count-inserted : (test : Kept → Bool) (key : PackKey) (es es' : List (PackKey × Kept)) (kept : Kept) → test nothing_kept ≡ false → kept ≡ nothing_kept → es' ≡ es ++ (key, kept) ∷ []
-    → count_by (λ e. test e.1) es' ≡ count_by (λ e. test e.1) es
-count-inserted test key es es' kept none nothing e =
-    ap (λ (xs : List (PackKey × Kept)). count_by (λ e. test e.1) xs) (e ∙ ap (λ (k : Kept). es ++ (key, k) ∷ []) nothing) ∙ count-push test key es none
-
-one-least : (b : Bool) → one_if b ≤ 1
-one-least true = omega arith
-one-least false = omega arith
-
-pub at-most-one : (n : ℕ) (b : Bool) → n ≡ one_if b → n ≤ 1
-at-most-one n b e = rw e (one-least b)
-
-same_sum : (m n k : ℕ) → m + k ≡ n + k → n ≡ m
-same_sum m n k e = omega (arith, e)
-
--- one pack written as it was
-pub tally-same : (key : PackKey) (es es' : List (PackKey × Kept)) (tally : Tally) → IsSome (lookup (is_same_pack key) es) → es' ≡ set_value (is_same_pack key) es (kept_in key es') → kept_in key es' ≡ kept_in key es
-    → IsTally es tally → IsTally es' tally
-tally-same key es es' tally h set same t = record {
-  held = same_sum _ _ (one_if (is_made (kept_in key es))) (count-set is_made key es es' tally.held _ _ h set t.held refl (ap (λ (k : Kept). one_if (is_made k)) (sym same)));
-  active = same_sum _ _ (one_if (is_active_kept (kept_in key es))) (count-set is_active_kept key es es' tally.active _ _ h set t.active refl (ap (λ (k : Kept). one_if (is_active_kept k)) (sym same)));
-}

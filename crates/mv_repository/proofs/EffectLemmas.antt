@@ -129,15 +129,15 @@ first-effect f log entry first e =
         (λ i. passes (record { place = length log; entry = newest-stands log entry i }) (record y { entry = s i }))
         ∙ elim (passes (newest log entry) y) as (λ b. b ≡ not (is_some (cond b None (Some y)))) [ true ↦ refl | false ↦ refl ]
 
-lasting : (b : Bool) → lasting_effect b ≡ cond (not b) effects.Done effects.Noted
-lasting true = refl
-lasting false = refl
+first-lasting : (b : Bool) → lasting_effect (not (not b)) ≡ lasting_effect b
+first-lasting true = refl
+first-lasting false = refl
 
 pub recall-effect : (log : List LogEntry) (entry : LogEntry) (tables : StopTables) (key : BatchKey) (first : Bool) → AreStopsOf log tables → is_recall_of key entry.item ≡ true
-    → first ≡ comes_first (longer log entry) (length log) (lookup (is_same_batch key) tables.recalls) → cond first effects.Done effects.Noted ≡ effect_of log entry
+    → first ≡ comes_first (longer log entry) (length log) (lookup (is_same_batch key) tables.recalls) → lasting_effect (not first) ≡ effect_of log entry
 recall-effect log entry tables key first stops e h =
-    ap (λ b. cond b effects.Done effects.Noted) (h ∙ first-effect (λ placed. is_recall_of key placed.entry.item) log entry (lookup (is_same_batch key) tables.recalls) (stops.recalls key))
-    ∙ sym (lasting (is_before (first_recall key (ordered log)) (newest log entry)))
+    ap (λ b. lasting_effect (not b)) (h ∙ first-effect (λ placed. is_recall_of key placed.entry.item) log entry (lookup (is_same_batch key) tables.recalls) (stops.recalls key))
+    ∙ first-lasting (is_before (first_recall key (ordered log)) (newest log entry))
     ∙ ap lasting_effect (sym (recalled-before key log entry))
     ∙ by entry.item e
   where
@@ -146,10 +146,10 @@ recall-effect log entry tables key first stops e h =
     by _ e = absurd (true≢false (sym e))
 
 pub withdrawal-effect : (log : List LogEntry) (entry : LogEntry) (tables : StopTables) (key : List ℕ) (first : Bool) → AreStopsOf log tables → is_withdrawal_of key entry.item ≡ true
-    → first ≡ comes_first (longer log entry) (length log) (lookup (is_same_text key) tables.withdrawals) → cond first effects.Done effects.Noted ≡ effect_of log entry
+    → first ≡ comes_first (longer log entry) (length log) (lookup (is_same_text key) tables.withdrawals) → lasting_effect (not first) ≡ effect_of log entry
 withdrawal-effect log entry tables key first stops e h =
-    ap (λ b. cond b effects.Done effects.Noted) (h ∙ first-effect (λ placed. is_withdrawal_of key placed.entry.item) log entry (lookup (is_same_text key) tables.withdrawals) (stops.withdrawals key))
-    ∙ sym (lasting (is_before (first_withdrawal key (ordered log)) (newest log entry)))
+    ap (λ b. lasting_effect (not b)) (h ∙ first-effect (λ placed. is_withdrawal_of key placed.entry.item) log entry (lookup (is_same_text key) tables.withdrawals) (stops.withdrawals key))
+    ∙ first-lasting (is_before (first_withdrawal key (ordered log)) (newest log entry))
     ∙ ap lasting_effect (sym (withdrawn-before key log entry))
     ∙ by entry.item e
   where

@@ -1,20 +1,20 @@
 -- What a ledger keeps after one more entry of its log.
-use Rattle.std.proofs.Common.{◌≡◌, ℕ, ◌≤◌, List, [], ◌∷◌, length, ◌∙◌, Bool, true, false, cond, ◌||◌, Some, is_some, refl, find}
+use Rattle.std.proofs.Common.{◌≡◌, ℕ, max, List, [], ◌∷◌, length, ◌∙◌, Bool, true, false, cond, ◌||◌, Some, is_some, refl, find}
 use Rattle.std.specs.List.{list_any}
 use Rattle.std.specs.Option.{option_map}
 use Rattle.mv_pack.specs.declared.key.PackKey.{PackKey}
 use Rattle.mv_pack.specs.declared.key.BatchKey.{BatchKey}
 use Rattle.mv_repository.specs.declared.entry.LogEntry.{LogEntry}
 use Rattle.mv_repository.specs.Keys.{is_same_text, is_same_pack, batch_key}
-use Rattle.mv_repository.specs.Order.{Placed, rank}
-use Rattle.mv_repository.specs.Copy.{IsCopyOf}
+use Rattle.mv_repository.specs.Order.{Placed}
+use Rattle.mv_repository.specs.Masters.{AreMastersOf}
 use Rattle.mv_repository.specs.Stops.{StopTables, AreStopsOf, place_of}
-use Rattle.mv_repository.specs.Track.{Kept, kept_in, with_status, with_upload, refreshed}
+use Rattle.mv_repository.specs.Track.{Kept, kept_in, with_status, with_upload, refreshed, AreTracksOf}
 use Rattle.mv_repository.specs.PackState.{has_pack}
-use Rattle.mv_repository.specs.Tables.{Bears, IsUpTo, IsKept}
-use Rattle.mv_repository.proofs.ProductLemmas.{copy-noted}
+use Rattle.mv_repository.specs.Tables.{Bears, IsKept, stamp_of}
+use Rattle.mv_repository.proofs.ProductLemmas.{masters-noted}
 use Rattle.mv_repository.proofs.TableLemmas.{longer, tracks-stay, tracks-status, tracks-upload, tracks-refreshed, stops-stay}
-use Rattle.mv_repository.proofs.LatestLemmas.{upto-longer, tracks-last}
+use Rattle.mv_repository.proofs.LatestLemmas.{latest-longer}
 use Rattle.mv_repository.proofs.ElsewhereLemmas.{BearsNot, track-elsewhere}
 
 -- one of a kind is there where a first one is found
@@ -27,66 +27,66 @@ found-any f (x ∷ xs) =
     ]
 
 pub kept-noted : (log : List LogEntry) (entry : LogEntry) (masters : List (List ℕ × ℕ)) (packs : List (PackKey × Kept)) (tables : StopTables) (n m : ℕ) → IsKept log masters packs tables n
-    → Bears entry.item (λ gtin. false) (λ pack. false) (λ pack. false) (λ batch. false) (λ gtin. false) → n ≤ m → IsUpTo m entry.item → IsKept (longer log entry) masters packs tables m
-kept-noted log entry masters packs tables n m kept bears l h = record {
-  masters = copy-noted log masters entry kept.masters bears.master;
+    → Bears entry.item (λ gtin. false) (λ pack. false) (λ pack. false) (λ batch. false) (λ gtin. false) → m ≡ max n (stamp_of entry.item) → IsKept (longer log entry) masters packs tables m
+kept-noted log entry masters packs tables n m kept bears l = record {
+  masters = masters-noted log masters entry kept.masters bears.master;
   tracks = tracks-stay log entry packs bears.upload bears.status (bears.recall, bears.withdrawal) kept.tracks;
   stops = stops-stay log entry tables (bears.recall, bears.withdrawal) kept.stops;
-  upto = upto-longer n m log entry l h kept.upto;
+  greatest = latest-longer n m log entry l kept.greatest;
 }
 
 pub kept-master : (log : List LogEntry) (entry : LogEntry) (masters masters' : List (List ℕ × ℕ)) (packs : List (PackKey × Kept)) (tables : StopTables) (n m : ℕ) (code : List ℕ) → IsKept log masters packs tables n
-    → Bears entry.item (is_same_text code) (λ pack. false) (λ pack. false) (λ batch. false) (λ gtin. false) → n ≤ m → IsUpTo m entry.item
-    → IsCopyOf (longer log entry) masters' → IsKept (longer log entry) masters' packs tables m
-kept-master log entry masters masters' packs tables n m code kept bears l h copy = record {
-  masters = copy;
+    → Bears entry.item (is_same_text code) (λ pack. false) (λ pack. false) (λ batch. false) (λ gtin. false) → m ≡ max n (stamp_of entry.item)
+    → AreMastersOf (longer log entry) masters' → IsKept (longer log entry) masters' packs tables m
+kept-master log entry masters masters' packs tables n m code kept bears l places = record {
+  masters = places;
   tracks = tracks-stay log entry packs bears.upload bears.status (bears.recall, bears.withdrawal) kept.tracks;
   stops = stops-stay log entry tables (bears.recall, bears.withdrawal) kept.stops;
-  upto = upto-longer n m log entry l h kept.upto;
+  greatest = latest-longer n m log entry l kept.greatest;
 }
 
 pub kept-status : (log : List LogEntry) (entry : LogEntry) (masters : List (List ℕ × ℕ)) (packs packs' : List (PackKey × Kept)) (tables : StopTables) (n m : ℕ) (key : PackKey) → IsKept log masters packs tables n
-    → Bears entry.item (λ gtin. false) (λ pack. false) (is_same_pack key) (λ batch. false) (λ gtin. false) → n ≤ m → IsUpTo m entry.item
+    → Bears entry.item (λ gtin. false) (λ pack. false) (is_same_pack key) (λ batch. false) (λ gtin. false) → m ≡ max n (stamp_of entry.item)
     → ((pack : PackKey) → kept_in pack packs' ≡ cond (is_same_pack key pack) (with_status (longer log entry) tables key (length log) (kept_in key packs)) (kept_in pack packs))
     → IsKept (longer log entry) masters packs' tables m
-kept-status log entry masters packs packs' tables n m key kept bears l h looks = record {
-  masters = copy-noted log masters entry kept.masters bears.master;
+kept-status log entry masters packs packs' tables n m key kept bears l looks = record {
+  masters = masters-noted log masters entry kept.masters bears.master;
   tracks = tracks-status log entry packs packs' tables key kept.tracks kept.stops bears.upload bears.status (bears.recall, bears.withdrawal) looks;
   stops = stops-stay log entry tables (bears.recall, bears.withdrawal) kept.stops;
-  upto = upto-longer n m log entry l h kept.upto;
+  greatest = latest-longer n m log entry l kept.greatest;
 }
 
 pub kept-upload : (log : List LogEntry) (entry : LogEntry) (masters : List (List ℕ × ℕ)) (packs packs' : List (PackKey × Kept)) (tables : StopTables) (n m : ℕ) (gtin : List ℕ) (serials : List (List ℕ)) → IsKept log masters packs tables n
-    → Bears entry.item (λ gtin. false) (has_pack gtin serials) (λ pack. false) (λ batch. false) (λ gtin. false) → n ≤ m → IsUpTo m entry.item
+    → Bears entry.item (λ gtin. false) (has_pack gtin serials) (λ pack. false) (λ batch. false) (λ gtin. false) → m ≡ max n (stamp_of entry.item)
     → ((pack : PackKey) → kept_in pack packs' ≡ cond (has_pack gtin serials pack) (with_upload (longer log entry) tables pack (length log) (kept_in pack packs)) (kept_in pack packs))
     → IsKept (longer log entry) masters packs' tables m
-kept-upload log entry masters packs packs' tables n m gtin serials kept bears l h looks = record {
-  masters = copy-noted log masters entry kept.masters bears.master;
+kept-upload log entry masters packs packs' tables n m gtin serials kept bears l looks = record {
+  masters = masters-noted log masters entry kept.masters bears.master;
   tracks = tracks-upload log entry packs packs' tables (has_pack gtin serials) kept.tracks kept.stops bears.upload bears.status (bears.recall, bears.withdrawal) looks;
   stops = stops-stay log entry tables (bears.recall, bears.withdrawal) kept.stops;
-  upto = upto-longer n m log entry l h kept.upto;
+  greatest = latest-longer n m log entry l kept.greatest;
 }
 
 -- after an entry that stops a batch or a product, where the packs that it can bear on are worked out again
 pub kept-refreshed : (log : List LogEntry) (entry : LogEntry) (masters : List (List ℕ × ℕ)) (packs packs' : List (PackKey × Kept)) (tables tables' : StopTables) (n m : ℕ) (recalls : BatchKey → Bool) (withdrawals : List ℕ → Bool) (bears_on : PackKey → Bool) → IsKept log masters packs tables n
-    → Bears entry.item (λ gtin. false) (λ pack. false) (λ pack. false) recalls withdrawals → n ≤ m → IsUpTo m entry.item → AreStopsOf (longer log entry) tables'
+    → Bears entry.item (λ gtin. false) (λ pack. false) (λ pack. false) recalls withdrawals → m ≡ max n (stamp_of entry.item) → AreStopsOf (longer log entry) tables'
     → ((pack : PackKey) → bears_on pack ≡ false → BearsNot log entry pack)
     → ((pack : PackKey) → kept_in pack packs' ≡ cond (bears_on pack) (refreshed (longer log entry) tables' pack (kept_in pack packs)) (kept_in pack packs))
     → IsKept (longer log entry) masters packs' tables' m
-kept-refreshed log entry masters packs packs' tables tables' n m recalls withdrawals bears_on kept bears l h stops other looks = record {
-  masters = copy-noted log masters entry kept.masters bears.master;
+kept-refreshed log entry masters packs packs' tables tables' n m recalls withdrawals bears_on kept bears l stops other looks = record {
+  masters = masters-noted log masters entry kept.masters bears.master;
   tracks = tracks-refreshed log entry packs packs' tables' bears_on kept.tracks stops bears.upload bears.status (λ pack e. track-elsewhere log entry pack (bears.upload pack) (bears.status pack) (other pack e)) looks;
   stops = stops;
-  upto = upto-longer n m log entry l h kept.upto;
+  greatest = latest-longer n m log entry l kept.greatest;
 }
 
--- and where its stamp is the greatest
-pub kept-latest : (log : List LogEntry) (entry : LogEntry) (masters : List (List ℕ × ℕ)) (packs : List (PackKey × Kept)) (tables tables' : StopTables) (n m : ℕ) (recalls : BatchKey → Bool) (withdrawals : List ℕ → Bool) → IsKept log masters packs tables n
-    → Bears entry.item (λ gtin. false) (λ pack. false) (λ pack. false) recalls withdrawals → n ≤ m → IsUpTo m entry.item → AreStopsOf (longer log entry) tables'
-    → n ≤ rank entry.item → IsKept (longer log entry) masters packs tables' m
-kept-latest log entry masters packs tables tables' n m recalls withdrawals kept bears l h stops r = record {
-  masters = copy-noted log masters entry kept.masters bears.master;
-  tracks = tracks-last log entry packs n kept.upto r bears.upload bears.status kept.tracks;
+-- and where it changes no pack
+pub kept-stopped : (log : List LogEntry) (entry : LogEntry) (masters : List (List ℕ × ℕ)) (packs : List (PackKey × Kept)) (tables tables' : StopTables) (n m : ℕ) (recalls : BatchKey → Bool) (withdrawals : List ℕ → Bool) → IsKept log masters packs tables n
+    → Bears entry.item (λ gtin. false) (λ pack. false) (λ pack. false) recalls withdrawals → m ≡ max n (stamp_of entry.item) → AreStopsOf (longer log entry) tables'
+    → AreTracksOf (longer log entry) packs → IsKept (longer log entry) masters packs tables' m
+kept-stopped log entry masters packs tables tables' n m recalls withdrawals kept bears l stops tracks = record {
+  masters = masters-noted log masters entry kept.masters bears.master;
+  tracks = tracks;
   stops = stops;
-  upto = upto-longer n m log entry l h kept.upto;
+  greatest = latest-longer n m log entry l kept.greatest;
 }

@@ -11,9 +11,10 @@ use Rattle.mv_link.specs.declared.item.Item.{Item}
 use Rattle.mv_link.specs.declared.item.Item.TheVariants.{Carried}
 use Rattle.mv_repository.specs.declared.entry.LogEntry.{LogEntry}
 use Rattle.mv_repository.specs.Order.{Placed, passes, put_in, ordered, StandsBeforeAll, Ascends, AreOf}
+use Rattle.mv_repository.specs.Stops.{place_of}
 use Rattle.mv_repository.specs.Keys.{is_same_text}
 use Rattle.mv_repository.specs.Product.{product_after, last_product_after, last_product}
-use Rattle.mv_repository.specs.Copy.{is_master, product_in, last_master, place_of, entry_of, is_late, IsCopyOf}
+use Rattle.mv_repository.specs.Masters.{is_master, product_in, last_master, entry_of, is_late, AreMastersOf}
 use Rattle.mv_repository.proofs.OrderLemmas.{placed_at, passes_behind, ordered-ascends, ordered-push, ordered-of}
 
 -- the last of x, which came last, and the last before
@@ -131,10 +132,10 @@ last_at log gtin (y ∷ ys) s = by (last_master gtin ys) (last_at log gtin ys s.
     by None p false = tt
 
 -- what the table finds is the last master
-pub found_at : (log : List LogEntry) (masters : List (List ℕ × ℕ)) (gtin : List ℕ) (place : ℕ) → IsCopyOf log masters
+pub found_at : (log : List LogEntry) (masters : List (List ℕ × ℕ)) (gtin : List ℕ) (place : ℕ) → AreMastersOf log masters
     → lookup (is_same_text gtin) masters ≡ Some place → (option_map entry_of (last_master gtin (ordered log)) ≡ slice_get log place) × (place < length log)
-found_at log masters gtin place copy e =
-    by (last_master gtin (ordered log)) (last_at log gtin (ordered log) (ordered-of log)) (sym (copy gtin) ∙ e)
+found_at log masters gtin place places e =
+    by (last_master gtin (ordered log)) (last_at log gtin (ordered log) (ordered-of log)) (sym (places gtin) ∙ e)
   where
     by : (o : Option Placed) → IfSome o (λ z. slice_get log z.place ≡ Some z.entry) → option_map place_of o ≡ Some place
         → (option_map entry_of o ≡ slice_get log place) × (place < length log)
@@ -152,18 +153,18 @@ last-push log entry gtin =
     ap (last_master gtin) (ordered-push log entry) ∙ last-put_in gtin (placed_at (length log) entry) (ordered log) (ordered-ascends log)
 
 -- an entry that is no master leaves the table as it should be
-pub copy-noted : (log : List LogEntry) (masters : List (List ℕ × ℕ)) (entry : LogEntry) → IsCopyOf log masters
-    → ((gtin : List ℕ) → is_master gtin entry.item ≡ false) → IsCopyOf (log ++ entry ∷ []) masters
-copy-noted log masters entry copy none gtin =
-    copy gtin
+pub masters-noted : (log : List LogEntry) (masters : List (List ℕ × ℕ)) (entry : LogEntry) → AreMastersOf log masters
+    → ((gtin : List ℕ) → is_master gtin entry.item ≡ false) → AreMastersOf (log ++ entry ∷ []) masters
+masters-noted log masters entry places none gtin =
+    places gtin
     ∙ ap (option_map place_of) (sym (last-push log entry gtin ∙ ap (λ b. cond b (later (placed_at (length log) entry) (last_master gtin (ordered log))) (last_master gtin (ordered log))) (none gtin)))
 
 -- so does a master that comes late
-pub copy-late : (log : List LogEntry) (masters : List (List ℕ × ℕ)) (entry : LogEntry) (named : List ℕ) → IsCopyOf log masters
+pub masters-late : (log : List LogEntry) (masters : List (List ℕ × ℕ)) (entry : LogEntry) (named : List ℕ) → AreMastersOf log masters
     → ((gtin : List ℕ) → is_master gtin entry.item ≡ is_same_text named gtin)
-    → is_late entry.item (last_master named (ordered log)) ≡ true → IsCopyOf (log ++ entry ∷ []) masters
-copy-late log masters entry named copy names late gtin =
-    copy gtin
+    → is_late entry.item (last_master named (ordered log)) ≡ true → AreMastersOf (log ++ entry ∷ []) masters
+masters-late log masters entry named places names late gtin =
+    places gtin
     ∙ ap (option_map place_of) (sym (last-push log entry gtin ∙ ap (λ b. cond b (later x (last_master gtin (ordered log))) (last_master gtin (ordered log))) (names gtin)
     ∙ by (is_same_text named gtin) refl))
   where
@@ -179,12 +180,12 @@ copy-late log masters entry named copy names late gtin =
     by false e = refl
 
 -- any other master takes the place of its code
-pub copy-latest : (log : List LogEntry) (masters masters' : List (List ℕ × ℕ)) (entry : LogEntry) (named : List ℕ) (place : ℕ) → IsCopyOf log masters
+pub masters-latest : (log : List LogEntry) (masters masters' : List (List ℕ × ℕ)) (entry : LogEntry) (named : List ℕ) (place : ℕ) → AreMastersOf log masters
     → ((gtin : List ℕ) → is_master gtin entry.item ≡ is_same_text named gtin)
     → is_late entry.item (last_master named (ordered log)) ≡ false
     → ((gtin : List ℕ) → lookup (is_same_text gtin) masters' ≡ cond (is_same_text named gtin) (Some place) (lookup (is_same_text gtin) masters))
-    → place ≡ length log → IsCopyOf (log ++ entry ∷ []) masters'
-copy-latest log masters masters' entry named place copy names late updates at gtin =
+    → place ≡ length log → AreMastersOf (log ++ entry ∷ []) masters'
+masters-latest log masters masters' entry named place places names late updates at gtin =
     updates gtin
     ∙ ap (λ n. cond (is_same_text named gtin) (Some n) (lookup (is_same_text gtin) masters)) at
     ∙ by (is_same_text named gtin) refl
@@ -200,4 +201,4 @@ copy-latest log masters masters' entry named place copy names late updates at gt
     by : (b : Bool) → is_same_text named gtin ≡ b
         → cond b (Some (length log)) (lookup (is_same_text gtin) masters) ≡ option_map place_of (cond b (later x (last_master gtin (ordered log))) (last_master gtin (ordered log)))
     by true e = ap (option_map place_of) (sym (goes (last_master gtin (ordered log)) (subst (λ g. is_late entry.item (last_master g (ordered log)) ≡ false) (same_text named gtin (sym e)) late)))
-    by false e = copy gtin
+    by false e = places gtin

@@ -11,8 +11,8 @@ pub mod Changes
 pub mod Agreement
 pub mod Counts
 pub mod Repository
-pub mod Copy
 pub mod Stops
+pub mod Masters
 pub mod Track
 pub mod Tracked
 pub mod Packs

@@ -1,5 +1,5 @@
--- A log in the order of the hub's stamps: carried entries by stamp, those of one stamp in the order of the log, and behind
--- them the receipts in the order of the log.
+-- A log in the order of the hub's stamps, which have 32 bits: carried entries by stamp, those of one stamp in the order of the
+-- log, and behind them the receipts in the order of the log.
 use Rattle.std.specs.Bool.{⊤}
 use Rattle.std.specs.Prelude.{◌≡◌, ℕ, List, [], ◌∷◌, ◌++◌, ◌+◌, ◌^◌, length, Bool, true, ◌||◌, ◌&&◌, ◌==◌, nat_lt, Some, slice_get, if◌then◌else◌}
 use Rattle.mv_link.specs.declared.item.Item.{Item}
@@ -15,7 +15,8 @@ pub record Placed : Type 0 where
 abbrev pub receipt_rank : ℕ
 receipt_rank = 2 ^ 32
 
--- where an item stands: by its stamp, and receipts behind every stamp
+-- Where an item stands: by its stamp, and receipts behind every stamp of 32 bits. Each item that a repository applies has
+-- such a stamp. A law over all logs speaks of greater numbers too, and there a receipt would stand before them.
 abbrev pub rank : Item → ℕ
 rank (Carried k stamp message) = stamp
 rank (Receipt k reach query) = receipt_rank

@@ -1,15 +1,13 @@
 -- The tables that a repository keeps of its log.
-use Rattle.std.specs.Bool.{⊤}
-use Rattle.std.specs.Prelude.{◌≡◌, ◌≤◌, ℕ, List, [], ◌∷◌, Bool}
+use Rattle.std.specs.Prelude.{◌≡◌, ℕ, max, List, [], ◌∷◌, Bool}
 use Rattle.mv_pack.specs.declared.key.PackKey.{PackKey}
 use Rattle.mv_pack.specs.declared.key.BatchKey.{BatchKey}
 use Rattle.mv_message.specs.declared.message.Message.TheVariants.{Upload}
 use Rattle.mv_link.specs.declared.item.Item.{Item}
 use Rattle.mv_link.specs.declared.item.Item.TheVariants.{Receipt, Carried}
 use Rattle.mv_repository.specs.declared.entry.LogEntry.{LogEntry}
-use Rattle.mv_repository.specs.Order.{Placed, ordered}
 use Rattle.mv_repository.specs.PackState.{is_recall_of, is_withdrawal_of}
-use Rattle.mv_repository.specs.Copy.{is_master, IsCopyOf}
+use Rattle.mv_repository.specs.Masters.{is_master, AreMastersOf}
 use Rattle.mv_repository.specs.Stops.{StopTables, AreStopsOf}
 use Rattle.mv_repository.specs.Track.{Kept, is_upload_of, is_status_of, AreTracksOf}
 
@@ -28,19 +26,20 @@ abbrev pub IsUploadOf : Item → List ℕ → List (List ℕ) → Type 0
 IsUploadOf (Carried k stamp (Upload named batch expiry national packs)) gtin serials = (gtin ≡ named) × (serials ≡ packs)
 IsUploadOf _ gtin serials = ⊥
 
--- no stamp is greater
-abbrev pub IsUpTo : ℕ → Item → Type 0
-IsUpTo latest (Carried k stamp message) = stamp ≤ latest
-IsUpTo latest (Receipt k reach query) = ⊤
+-- the stamp of an item; 0 for a receipt, which has none
+abbrev pub stamp_of : Item → ℕ
+stamp_of (Carried k stamp message) = stamp
+stamp_of (Receipt k reach query) = 0
 
-abbrev pub AllUpTo : ℕ → List Placed → Type 0
-AllUpTo latest [] = ⊤
-AllUpTo latest (first ∷ rest) = IsUpTo latest first.entry.item × AllUpTo latest rest
+-- the greatest stamp of a log; 0 where there is none
+abbrev pub greatest_stamp : List LogEntry → ℕ
+greatest_stamp [] = 0
+greatest_stamp (entry ∷ log) = max (stamp_of entry.item) (greatest_stamp log)
 
--- the tables are those of a log, and no stamp in it is greater than the latest
+-- the tables are those of a log, and the latest is the greatest stamp in it
 pub record IsKept (log : List LogEntry) (master_places : List (List ℕ × ℕ)) (packs : List (PackKey × Kept))
     (tables : StopTables) (latest : ℕ) : Type 0 where
-  pub masters : IsCopyOf log master_places
+  pub masters : AreMastersOf log master_places
   pub tracks : AreTracksOf log packs
   pub stops : AreStopsOf log tables
-  pub upto : AllUpTo latest (ordered log)
+  pub greatest : latest ≡ greatest_stamp log

@@ -26,31 +26,31 @@ abbrev pub is_for_destruction : Standing → Bool
 is_for_destruction standings.Destruction = true
 is_for_destruction _ = false
 
--- a pack is recalled, withdrawn, or to be destroyed: there is a reason other than falsification
-abbrev pub is_stopped : Bool → Bool → Standing → Bool
-is_stopped recalled withdrawn standing = recalled || withdrawn || is_for_destruction standing
+-- a pack is recalled, withdrawn, or to be destroyed: something other than a falsification explains it
+abbrev pub is_explained : Bool → Bool → Standing → Bool
+is_explained recalled withdrawn standing = recalled || withdrawn || is_for_destruction standing
 
 -- a pack was found active
 abbrev pub found_active : Found → Bool
 found_active founds.Absent = false
 found_active (founds.Present batch expiry national standing recalled withdrawn) = is_active standing
 
--- a pack was found stopped
-abbrev pub found_stopped : Found → Bool
-found_stopped founds.Absent = false
-found_stopped (founds.Present batch expiry national standing recalled withdrawn) = is_stopped recalled withdrawn standing
+-- a pack was found so that something other than a falsification explains it
+abbrev pub found_explained : Found → Bool
+found_explained founds.Absent = false
+found_explained (founds.Present batch expiry national standing recalled withdrawn) = is_explained recalled withdrawn standing
 
--- The verdict where a finding is active or not, and where one is stopped or not: authentic where one is active; else a
+-- The verdict where a finding is active or not, and where one is explained or not: authentic where one is active; else a
 -- falsification is suspected, unless there is another reason. An active pack is authentic also where it is recalled or
 -- withdrawn.
 abbrev pub verdict_when : Bool → Bool → Verdict
-verdict_when active stopped = if active then Authentic else NotAuthentic (not stopped)
+verdict_when active explained = if active then Authentic else NotAuthentic (not explained)
 
 -- the verdict on what one repository found
 abbrev pub local_verdict_of : Found → Local
 local_verdict_of founds.Absent = Absent
 local_verdict_of (founds.Present batch expiry national standing recalled withdrawn) =
-    Known (verdict_when (is_active standing) (is_stopped recalled withdrawn standing))
+    Known (verdict_when (is_active standing) (is_explained recalled withdrawn standing))
 
 -- the verdict of a log on a pack
 abbrev pub local_verdict : PackKey → List LogEntry → Local
@@ -93,7 +93,7 @@ joint_verdict_when party log q None = NotAsked
 joint_verdict_when party log q (Some parties) =
     let left = length (filter (λ other. not (has_answered party log q other)) parties) in
     if left == 0
-    then Decided (verdict_when (has_finding found_active party log q) (has_finding found_stopped party log q))
+    then Decided (verdict_when (has_finding found_active party log q) (has_finding found_explained party log q))
     else Pending left
 
 -- the verdict of all that were asked, on a party's query q, by its log

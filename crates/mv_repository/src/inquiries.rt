@@ -1,31 +1,35 @@
-//! The table of a repository's own queries: for each the parties that it reached, and what was answered so far.
+//! The table of a repository's own queries: for each the place in the log of its first receipt, which names the parties
+//! that it reached, and what was answered so far.
 //!
 //! It stands apart since no other table bears on it: it changes at receipts of queries and at answers alone.
 
-ghost use Rattle.std.specs.Prelude.{◌≡◌, ◌<◌, ◌≤◌, [], ◌∷◌, ◌++◌, ◌==◌, ◌&&◌, ◌||◌, if◌then◌else◌, ℕ, List, length, not, filter, OnOk};
+ghost use Rattle.std.specs.Prelude.{◌≡◌, ◌<◌, ◌≤◌, ◌==◌, ◌&&◌, ◌||◌, not, if◌then◌else◌, OnOk};
+ghost use Rattle.std.specs.Prelude.{ℕ, List, [], ◌∷◌, ◌++◌, length, filter};
+ghost use Rattle.std.specs.Option.{option_copied};
 ghost use Rattle.indexmap.specs.IndexMap.{spare as map_spare};
 ghost use Rattle.indexmap.specs.IndexSet.{spare as set_spare};
 ghost use Rattle.mv_repository.specs.declared.entry.LogEntry.{LogEntry as AnEntry};
-ghost use Rattle.mv_repository.specs.Verdict.{joint_verdict, found_active, found_stopped, verdict_when};
-ghost use Rattle.mv_repository.specs.Inquiries.{IsInquiriesOf, HasRoomFor, has_reply, inquiry_in, tells_of_query, with_receipt, with_finding, known_verdict, verdict_once_asked};
+ghost use Rattle.mv_repository.specs.Verdict.{joint_verdict, found_active, found_explained, verdict_when};
+ghost use Rattle.mv_repository.specs.Inquiries.{IsInquiriesOf, HasRoomFor, has_reply, inquiry_in, no_inquiry, tells_of_query};
+ghost use Rattle.mv_repository.specs.Inquiries.{with_receipt, with_finding, parties_at, known_verdict, verdict_once_asked};
 
 use crate::status::is_active;
-use crate::verdict::{is_stopped, verdict_when};
-use crate::{Joint, Verdict};
+use crate::verdict::{is_explained, verdict_when};
+use crate::{Joint, LogEntry, Verdict};
 use indexmap::{IndexMap, IndexSet};
 use mv_link::{Item, Reach};
-use mv_message::{Found, Message, Party, Shared};
+use mv_message::{Found, Message, Party};
 use std::alloc::{AllocError, Global};
 
 /// What is known of a query.
 #[derive(Debug, Drop)]
 struct Inquiry {
-    /// The parties that it reached, once the first receipt of it has come.
-    asked: Option<Reach>,
+    /// The place in the log of the first receipt of it, once that has come.
+    receipt: Option<usize>,
     /// Whether an answer found the pack active.
     active: bool,
-    /// Whether an answer found the pack recalled, withdrawn, or to be destroyed.
-    stopped: bool,
+    /// Whether an answer found the pack recalled, withdrawn, or to be destroyed, which explains it.
+    explained: bool,
 }
 
 /// A party has answered a query.
@@ -69,17 +73,17 @@ impl Inquiries {
         Ok(())
     }
 
-    /// Notes an item from a sender, which comes last in the log of the party.
-    pub fn note(&mut self, party: Party, sender: Party, item: &Item)
+    /// Notes an item from a sender, which comes last in the log of the party, at this place.
+    pub fn note(&mut self, party: Party, sender: Party, item: &Item, place: usize)
         requires room { HasRoomFor self.old party sender item.now }
-        ensures { (log : List AnEntry) → IsInquiriesOf party log self.old
+        ensures { (log : List AnEntry) → place ≡ length log → IsInquiriesOf party log self.old
             → IsInquiriesOf party (log ++ record { sender = sender; item = item.now } ∷ []) self.new }
     {
         if !tells_of_query(party, sender, item) {
             return;
         }
         match item {
-            Item::Receipt { k, reach, .. } => self.note_receipt(*k, reach),
+            Item::Receipt { k, .. } => self.note_receipt(*k, place),
             Item::Carried { message, .. } => match message.get() {
                 Message::Answer { q, found, .. } => self.note_answer(sender, *q, found),
                 _ => (),
@@ -87,17 +91,17 @@ impl Inquiries {
         }
     }
 
-    /// Notes the receipt of a query.
-    fn note_receipt(&mut self, query: u32, reach: &Shared<Reach>)
+    /// Notes the receipt of a query, which stands at a place of the log.
+    fn note_receipt(&mut self, query: u32, place: usize)
         requires { 0 < map_spare self.old.inquiries }
         ensures inquiries { (q : ℕ) → inquiry_in self.new q ≡ (if query == q
-            then with_receipt reach.now (inquiry_in self.old q) else inquiry_in self.old q) }
+            then with_receipt place (inquiry_in self.old q) else inquiry_in self.old q) }
         ensures replies { (q other : ℕ) → has_reply self.new q other ≡ has_reply self.old q other }
     {
-        let inquiry = self.inquiry(query).with_receipt(reach.get());
-        let Ok(_) = self.inquiries.insert(query, inquiry) else {
+        let Ok(inquiry) = self.inquiries.entry(query) else {
             unreachable!();
         };
+        inquiry.or_insert(Inquiry::new()).note_receipt(place);
     }
 
     /// Notes an answer to a query.
@@ -109,10 +113,10 @@ impl Inquiries {
         ensures replies { (q other : ℕ) → has_reply self.new q other
             ≡ (((query == q) && (sender == other)) || has_reply self.old q other) }
     {
-        let inquiry = self.inquiry(query).with_finding(found);
-        let Ok(_) = self.inquiries.insert(query, inquiry) else {
+        let Ok(inquiry) = self.inquiries.entry(query) else {
             unreachable!();
         };
+        inquiry.or_insert(Inquiry::new()).note_finding(found);
         let Ok(_) = self.replies.insert(Reply {
             q: query,
             from: sender,
@@ -122,43 +126,31 @@ impl Inquiries {
         };
     }
 
-    /// What is kept of a query, if only nothing.
-    fn inquiry(&self, q: u32) -> Inquiry
-        ensures { result ≡ inquiry_in self.now q }
+    /// The verdict on the query that was the `q`-th message of the party, which has this log. It takes no memory, and reads
+    /// the log at one place.
+    pub fn verdict(&self, log: &[LogEntry], q: u32) -> Joint
+        ensures { (party : ℕ) → IsInquiriesOf party log.now self.now
+            → result ≡ joint_verdict party log.now q }
     {
-        match self.inquiries.get(&q) {
-            Some(inquiry) => inquiry.copy(),
-            None => Inquiry {
-                asked: None,
-                active: false,
-                stopped: false,
-            },
-        }
+        self.known_verdict(log, q)
     }
 
-    /// The verdict on the query that was the `q`-th message of the party. It takes no memory, and no log is read.
-    pub fn verdict(&self, q: u32) -> Joint
-        ensures { (party : ℕ) (log : List AnEntry) → IsInquiriesOf party log self.now
-            → result ≡ joint_verdict party log q }
-    {
-        self.known_verdict(q)
-    }
-
-    /// The verdict on a query, by what is kept.
-    fn known_verdict(&self, q: u32) -> Joint
-        ensures { result ≡ known_verdict self.now q }
+    /// The verdict on a query, by what is kept of the log.
+    fn known_verdict(&self, log: &[LogEntry], q: u32) -> Joint
+        ensures { result ≡ known_verdict log.now self.now q }
     {
         match self.inquiries.get(&q) {
-            Some(inquiry) => self.verdict_on(q, inquiry),
+            Some(inquiry) => self.verdict_on(log, q, inquiry),
             None => Joint::NotAsked,
         }
     }
 
     /// The verdict on a query of which this is known.
-    fn verdict_on(&self, q: u32, inquiry: &Inquiry) -> Joint
-        ensures { result ≡ verdict_once_asked self.now q inquiry.now inquiry.now.asked }
+    fn verdict_on(&self, log: &[LogEntry], q: u32, inquiry: &Inquiry) -> Joint
+        ensures { result ≡ verdict_once_asked self.now q inquiry.now
+            (parties_at log.now inquiry.now.receipt) }
     {
-        let Some(asked) = &inquiry.asked else {
+        let Some(asked) = parties_at(log, inquiry.receipt) else {
             return Joint::NotAsked;
         };
         let left = self.left_count(q, asked.as_slice());
@@ -192,49 +184,47 @@ impl Inquiries {
 }
 
 impl Inquiry {
-    /// The same once more. It takes no memory.
-    fn copy(&self) -> Inquiry
-        ensures { result ≡ self.now }
+    /// Nothing is known of the query.
+    fn new() -> Inquiry
+        ensures { result ≡ no_inquiry }
     {
-        let asked = match &self.asked {
-            Some(reach) => Some(reach.copy()),
-            None => None,
-        };
         Inquiry {
-            asked,
-            active: self.active,
-            stopped: self.stopped,
+            receipt: None,
+            active: false,
+            explained: false,
         }
     }
 
-    /// The query once a receipt of it has come: the first one counts.
-    fn with_receipt(self, reach: &Reach) -> Inquiry
-        ensures { result ≡ with_receipt reach.now self }
+    /// Notes a receipt of the query, which stands at a place of the log: the first one counts.
+    fn note_receipt(&mut self, place: usize)
+        ensures { self.new ≡ with_receipt place self.old }
     {
-        let asked = self.asked.or(Some(reach.copy()));
-        Inquiry {
-            asked,
-            active: self.active,
-            stopped: self.stopped,
-        }
+        self.receipt = self.receipt.or(Some(place));
     }
 
-    /// The query once an answer to it has come.
-    fn with_finding(self, found: &Found) -> Inquiry
-        ensures { result ≡ with_finding found.now self }
+    /// Notes an answer to the query.
+    fn note_finding(&mut self, found: &Found)
+        ensures { self.new ≡ with_finding found.now self.old }
     {
-        Inquiry {
-            asked: self.asked,
-            active: self.active || found_active(found),
-            stopped: self.stopped || found_stopped(found),
-        }
+        self.active = self.active || found_active(found);
+        self.explained = self.explained || found_explained(found);
     }
 
     /// What all answers to the query say.
     fn verdict(&self) -> Verdict
-        ensures { result ≡ verdict_when self.now.active self.now.stopped }
+        ensures { result ≡ verdict_when self.now.active self.now.explained }
     {
-        verdict_when(self.active, self.stopped)
+        verdict_when(self.active, self.explained)
+    }
+}
+
+/// The parties that the receipt at a place of a log names.
+fn parties_at(log: &[LogEntry], place: Option<usize>) -> Option<&Reach>
+    ensures { option_copied result ≡ parties_at log.now place }
+{
+    match &log.get(place?)?.item {
+        Item::Receipt { reach, .. } => Some(reach.get()),
+        Item::Carried { .. } => None,
     }
 }
 
@@ -261,9 +251,9 @@ fn found_active(found: &Found) -> bool
     }
 }
 
-/// Whether a pack was found recalled, withdrawn, or to be destroyed.
-fn found_stopped(found: &Found) -> bool
-    ensures { result ≡ found_stopped found.now }
+/// Whether a pack was found recalled, withdrawn, or to be destroyed, which explains it.
+fn found_explained(found: &Found) -> bool
+    ensures { result ≡ found_explained found.now }
 {
     match found {
         Found::Present {
@@ -271,7 +261,7 @@ fn found_stopped(found: &Found) -> bool
             recalled,
             withdrawn,
             ..
-        } => is_stopped(*recalled, *withdrawn, *standing),
+        } => is_explained(*recalled, *withdrawn, *standing),
         Found::Absent => false,
     }
 }

@@ -1,4 +1,5 @@
-//! Laws over the definitions alone.
+//! Laws over the definitions alone. They hold of every log, also of one in which a stamp has more than 32 bits, as no item that a
+//! repository applies has; only that receipts stand behind all else needs stamps of 32 bits.
 
 ghost use Rattle.std.specs.Prelude.{◌≡◌, List};
 ghost use Rattle.mv_pack.specs.declared.key.PackKey.{PackKey as APackKey};

@@ -1,20 +1,21 @@
 //! The ledger of a repository: its party's log, and the tables that say what it means for products, packs and batches.
 //! It knows nothing of the queries that its own party asked.
 
-ghost use Rattle.std.specs.Prelude.{◌≡◌, ◌<◌, ◌≤◌, ℕ, List, Bool, false, OnOk, OnErr, IfOk, vec_len, vec_capacity, if◌then◌else◌};
+ghost use Rattle.std.specs.Prelude.{◌≡◌, ◌<◌, ℕ, max, List, Bool, false, OnOk, OnErr, IfOk, vec_len, vec_capacity};
 ghost use Rattle.std.specs.Option.{option_copied, option_map};
-ghost use Rattle.mv_repository.specs.Order.{rank, ordered};
+ghost use Rattle.mv_repository.specs.Order.{ordered};
 ghost use Rattle.mv_repository.specs.Keys.{is_same_text, is_same_pack, is_same_batch};
-ghost use Rattle.mv_repository.specs.Copy.{is_master, product_in, last_master, entry_of, is_late};
+ghost use Rattle.mv_repository.specs.Masters.{is_master, product_in, last_master, entry_of, is_late};
 ghost use Rattle.mv_repository.specs.PackState.{has_pack};
-ghost use Rattle.mv_repository.specs.Tables.{Bears, IsUploadOf, IsUpTo};
+ghost use Rattle.mv_repository.specs.Effect.{lasting_effect};
+ghost use Rattle.mv_repository.specs.Tables.{Bears, IsUploadOf, stamp_of};
 
 use crate::order::rank;
 use crate::packs::Packs;
 use crate::status::is_active;
 use crate::stops::Stops;
 use crate::track::copy_of;
-use crate::verdict::{is_stopped, verdict_when};
+use crate::verdict::{is_explained, verdict_when};
 use crate::{Counts, Effect, Held, Local, LogEntry};
 use indexmap::IndexMap;
 use mv_link::Item;
@@ -36,7 +37,7 @@ pub(crate) struct Ledger {
     packs: Packs,
     /// The recalls and the withdrawals.
     stops: Stops,
-    /// No stamp in the log is greater.
+    /// The greatest stamp in the log; 0 where there is none.
     latest: u32,
 }
 
@@ -107,28 +108,28 @@ impl Ledger {
         }
     }
 
-    /// The product that is known under a code. The log isn't searched.
+    /// The product that is known under a code.
     pub fn product(&self, gtin: &Gtin) -> Option<&Product>
         ensures { option_copied result ≡ product_of self.now.log gtin.now }
     {
         product_in(&self.last_master(gtin)?.item)
     }
 
-    /// What a pack is; none where no upload names it. The log isn't searched.
+    /// What a pack is; none where no upload names it.
     pub fn pack(&self, key: &PackKey) -> Option<&Held>
         ensures { option_copied result ≡ pack_state key.now self.now.log }
     {
         self.packs.get(key)
     }
 
-    /// Whether a batch is recalled. The log isn't searched.
+    /// Whether a batch is recalled.
     pub fn recalled(&self, batch: &BatchKey) -> bool
         ensures { result ≡ is_recalled batch.now self.now.log }
     {
         self.stops.has_recall(batch)
     }
 
-    /// Whether a product is withdrawn. The log isn't searched.
+    /// Whether a product is withdrawn.
     pub fn withdrawn(&self, gtin: &Gtin) -> bool
         ensures { result ≡ is_withdrawn gtin.now self.now.log }
     {
@@ -170,7 +171,7 @@ impl Ledger {
         }
     }
 
-    /// The verdict on a pack, where it is held. The log isn't searched.
+    /// The verdict on a pack, where it is held.
     pub fn verify(&self, key: &PackKey) -> Local
         ensures { result ≡ local_verdict key.now self.now.log }
     {
@@ -183,7 +184,7 @@ impl Ledger {
                 ..
             } => Local::Known(verdict_when(
                 is_active(standing),
-                is_stopped(recalled, withdrawn, standing),
+                is_explained(recalled, withdrawn, standing),
             )),
         }
     }
@@ -327,7 +328,8 @@ impl Ledger {
         Ok(effect)
     }
 
-    /// Applies a recall of a batch. One that comes late bears on packs of the batch that were worked out before.
+    /// Applies a recall of a batch. One that comes late, and is the first of the batch by stamp, bears on packs of the batch
+    /// that were worked out before; any other bears on none.
     fn apply_recall(
         &mut self,
         sender: Party,
@@ -335,7 +337,7 @@ impl Ledger {
         stamp: u32,
         batch: &BatchKey,
     ) -> Result<Effect, AllocError>
-        requires stamp { rank item.now ≡ stamp }
+        requires stamp { stamp_of item.now ≡ stamp }
         requires bears { Bears item.now (λ gtin. false) (λ pack. false) (λ pack. false) (is_same_batch batch.now) (λ gtin. false) }
         ensures ok { OnOk result (self.new ≡ with_applied self.old sender item.now) }
         ensures effect { IfOk result (λ effect. effect
@@ -343,10 +345,13 @@ impl Ledger {
         ensures err { OnErr result (self.new ≡ self.old) }
     {
         let entry = ready_entry(&mut self.log, sender, item)?;
-        let first = self.stops.add_recall(&mut self.log, entry, batch.copy())?;
-        let effect = lasting_effect(first);
+        let is_first = self.stops.add_recall(&mut self.log, entry, batch.copy())?;
+        let effect = lasting_effect(!is_first);
         if self.latest <= stamp {
             self.latest = stamp;
+            return Ok(effect);
+        }
+        if !is_first {
             return Ok(effect);
         }
         let log = self.log.as_slice();
@@ -355,7 +360,8 @@ impl Ledger {
         Ok(effect)
     }
 
-    /// Applies a withdrawal of a product. One that comes late bears on packs of the product that were worked out before.
+    /// Applies a withdrawal of a product. One that comes late, and is the first of the product by stamp, bears on packs of
+    /// the product that were worked out before; any other bears on none.
     fn apply_withdrawal(
         &mut self,
         sender: Party,
@@ -363,7 +369,7 @@ impl Ledger {
         stamp: u32,
         gtin: Gtin,
     ) -> Result<Effect, AllocError>
-        requires stamp { rank item.now ≡ stamp }
+        requires stamp { stamp_of item.now ≡ stamp }
         requires bears { Bears item.now (λ gtin. false) (λ pack. false) (λ pack. false) (λ batch. false) (is_same_text gtin) }
         ensures ok { OnOk result (self.new ≡ with_applied self.old sender item.now) }
         ensures effect { IfOk result (λ effect. effect
@@ -371,10 +377,13 @@ impl Ledger {
         ensures err { OnErr result (self.new ≡ self.old) }
     {
         let entry = ready_entry(&mut self.log, sender, item)?;
-        let first = self.stops.add_withdrawal(&mut self.log, entry, gtin)?;
-        let effect = lasting_effect(first);
+        let is_first = self.stops.add_withdrawal(&mut self.log, entry, gtin)?;
+        let effect = lasting_effect(!is_first);
         if self.latest <= stamp {
             self.latest = stamp;
+            return Ok(effect);
+        }
+        if !is_first {
             return Ok(effect);
         }
         let log = self.log.as_slice();
@@ -383,24 +392,23 @@ impl Ledger {
     }
 }
 
-/// The effect of a recall or a withdrawal, which is the first of its kind or not.
-fn lasting_effect(is_first: bool) -> Effect
-    ensures { result ≡ (if is_first then Effect.Done else Effect.Noted) }
+/// The effect of a recall or a withdrawal, where one held before or not.
+fn lasting_effect(held_before: bool) -> Effect
+    ensures { result ≡ lasting_effect held_before }
 {
-    if is_first {
-        Effect::Done
-    } else {
+    if held_before {
         Effect::Noted
+    } else {
+        Effect::Done
     }
 }
 
 /// The greatest stamp, once an item comes.
 fn latest_with(latest: u32, item: &Item) -> u32
-    ensures before { latest ≤ result }
-    ensures item { IsUpTo result item.now }
+    ensures { result ≡ max latest (stamp_of item.now) }
 {
     match item {
-        Item::Carried { stamp, .. } => { if latest < *stamp { *stamp } else { latest } }
+        Item::Carried { stamp, .. } => latest.max(*stamp),
         Item::Receipt { .. } => latest,
     }
 }

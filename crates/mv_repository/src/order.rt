@@ -12,7 +12,7 @@ use mv_link::Item;
 /// Where receipts stand: behind every stamp of 32 bits.
 const RECEIPT_RANK: u64 = 1 << 32;
 
-/// Where an item stands: by its stamp, and receipts behind every stamp.
+/// Where an item stands: by its stamp, and receipts behind every stamp, which has 32 bits.
 pub(crate) fn rank(item: &Item) -> u64
     ensures { result ≡ rank item.now }
 {

@@ -12,7 +12,7 @@ use mv_pack::{BatchKey, Gtin, PackKey};
 use std::alloc::{AllocError, Global};
 use std::marker::Model;
 
-/// A national repository, seen as its party and its log.
+/// A national repository, seen as its party and its log. No reader searches the log: each goes by tables.
 #[derive(Drop)]
 pub struct Repository {
     ledger: Ledger,
@@ -70,54 +70,53 @@ impl Repository {
         FromSender::new(self.log(), sender)
     }
 
-    /// The product that is known under a code: that of its master with the greatest stamp. The log isn't searched.
+    /// The product that is known under a code: that of its master with the greatest stamp.
     pub fn product(&self, gtin: &Gtin) -> Option<&Product>
         ensures { option_copied result ≡ product_of self.now.log gtin.now }
     {
         self.ledger.product(gtin)
     }
 
-    /// What a pack is; none where no upload names it. The log isn't searched.
+    /// What a pack is; none where no upload names it.
     pub fn pack(&self, key: &PackKey) -> Option<&Held>
         ensures { option_copied result ≡ pack_state key.now self.now.log }
     {
         self.ledger.pack(key)
     }
 
-    /// Whether a batch is recalled. The log isn't searched.
+    /// Whether a batch is recalled.
     pub fn recalled(&self, batch: &BatchKey) -> bool
         ensures { result ≡ is_recalled batch.now self.now.log }
     {
         self.ledger.recalled(batch)
     }
 
-    /// Whether a product is withdrawn. The log isn't searched.
+    /// Whether a product is withdrawn.
     pub fn withdrawn(&self, gtin: &Gtin) -> bool
         ensures { result ≡ is_withdrawn gtin.now self.now.log }
     {
         self.ledger.withdrawn(gtin)
     }
 
-    /// How much the repository has, each thing counted once. The log isn't searched.
+    /// How much the repository has, each thing counted once.
     pub fn counts(&self) -> Counts
         ensures { result ≡ counts_of self.now.log }
     {
         self.ledger.counts()
     }
 
-    /// The verdict on a pack, where it is held. The log isn't searched.
+    /// The verdict on a pack, where it is held.
     pub fn verify(&self, key: &PackKey) -> Local
         ensures { result ≡ local_verdict key.now self.now.log }
     {
         self.ledger.verify(key)
     }
 
-    /// The verdict of all that were asked, on the query that was the `q`-th message of the repository's own party. The
-    /// log isn't searched.
+    /// The verdict of all that were asked, on the query that was the `q`-th message of the repository's own party.
     pub fn verdict(&self, q: u32) -> Joint
         ensures { result ≡ joint_verdict self.now.party self.now.log q }
     {
-        self.inquiries.verdict(q)
+        self.inquiries.verdict(self.ledger.log(), q)
     }
 
     /// Applies an item that came from a party: says what that did, at the item's own place in the order of stamps, and
@@ -135,9 +134,10 @@ impl Repository {
         ensures err { OnErr result (self.new ≡ self.old) }
     {
         let party = self.ledger.party();
+        let place = self.ledger.log().len();
         self.inquiries.reserve(party, sender, item)?;
         let done = self.ledger.apply(sender, item)?;
-        self.inquiries.note(party, sender, item);
+        self.inquiries.note(party, sender, item, place);
         Ok(done)
     }
 }

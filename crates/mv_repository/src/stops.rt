@@ -1,7 +1,8 @@
 //! What stops a batch for ever: for each batch the place in the log of its first recall by stamp, and for each product
 //! that of its first withdrawal.
 
-ghost use Rattle.std.specs.Prelude.{◌≡◌, ◌<◌, ◌++◌, ◌∷◌, ℕ, List, [], length, is_some, vec_len, vec_capacity, OnOk, OnErr, IfOk, if◌then◌else◌};
+ghost use Rattle.std.specs.Prelude.{◌≡◌, ◌<◌, if◌then◌else◌, is_some, vec_len, vec_capacity, OnOk, OnErr, IfOk};
+ghost use Rattle.std.specs.Prelude.{ℕ, List, [], ◌∷◌, ◌++◌, length};
 ghost use Rattle.std.specs.List.{IsDistinct};
 ghost use Rattle.std.specs.Map.{lookup, keys_of};
 ghost use Rattle.mv_pack.specs.declared.key.BatchKey.{BatchKey as ABatchKey};
@@ -13,6 +14,7 @@ use crate::order::{comes_first, is_before};
 use indexmap::IndexMap;
 use mv_pack::{BatchKey, Gtin};
 use std::alloc::{AllocError, Global};
+use std::hash::Hash;
 use std::marker::Model;
 
 /// How a batch stands.
@@ -107,18 +109,7 @@ impl Stops {
         ensures log_err { OnErr result (log.new.items ≡ log.old.items) }
         ensures err { OnErr result (self.new ≡ self.old) }
     {
-        self.recalls.reserve(1)?;
-        // All room is got: nothing fails from here on.
-        let new = log.len();
-        log.push_reserved(entry);
-        let first = self.recalls.get(&batch).copied();
-        if !comes_first(log.as_slice(), new, first) {
-            return Ok(false);
-        }
-        let Ok(_) = self.recalls.insert(batch, new) else {
-            unreachable!();
-        };
-        Ok(true)
+        add_first(&mut self.recalls, log, entry, batch)
     }
 
     /// Writes a withdrawal of a product into the log, and adds it; whether it is the first of the product by stamp. Where
@@ -143,17 +134,40 @@ impl Stops {
         ensures log_err { OnErr result (log.new.items ≡ log.old.items) }
         ensures err { OnErr result (self.new ≡ self.old) }
     {
-        self.withdrawals.reserve(1)?;
-        // All room is got: nothing fails from here on.
-        let new = log.len();
-        log.push_reserved(entry);
-        let first = self.withdrawals.get(&gtin).copied();
-        if !comes_first(log.as_slice(), new, first) {
-            return Ok(false);
-        }
-        let Ok(_) = self.withdrawals.insert(gtin, new) else {
-            unreachable!();
-        };
-        Ok(true)
+        add_first(&mut self.withdrawals, log, entry, gtin)
     }
+}
+
+/// Writes an entry into the log, and its place into the table where it is the first under its key by stamp; whether it is.
+/// Where memory is refused nothing has changed.
+fn add_first<K: Eq + Hash + Drop>(
+    places: &mut IndexMap<K, usize>,
+    log: &mut Vec<LogEntry>,
+    entry: LogEntry,
+    key: K,
+) -> Result<bool, AllocError>
+    requires { vec_len log.old < vec_capacity log.old }
+    ensures log { OnOk result (log.new.items ≡ log.old.items ++ entry ∷ []) }
+    ensures first { IfOk result (λ first. first ≡ comes_first (log.old.items ++ entry ∷ [])
+        (length log.old.items) (lookup (K.eq key) places.old.entries)) }
+    ensures places { OnOk result ((other : K) → lookup (K.eq other) places.new.entries
+        ≡ (if K.eq key other
+        then earlier_place (log.old.items ++ entry ∷ []) (length log.old.items)
+        (lookup (K.eq key) places.old.entries)
+        else lookup (K.eq other) places.old.entries)) }
+    ensures log_err { OnErr result (log.new.items ≡ log.old.items) }
+    ensures err { OnErr result (places.new.entries ≡ places.old.entries) }
+{
+    places.reserve(1)?;
+    // All room is got: nothing fails from here on.
+    let new = log.len();
+    log.push_reserved(entry);
+    let first = places.get(&key).copied();
+    if !comes_first(log.as_slice(), new, first) {
+        return Ok(false);
+    }
+    let Ok(_) = places.insert(key, new) else {
+        unreachable!();
+    };
+    Ok(true)
 }

@@ -1,7 +1,7 @@
 //! Verdicts on packs: authentic or not.
 
 ghost use Rattle.std.specs.Prelude.{◌≡◌};
-ghost use Rattle.mv_repository.specs.Verdict.{is_for_destruction, is_stopped, verdict_when};
+ghost use Rattle.mv_repository.specs.Verdict.{is_for_destruction, is_explained, verdict_when};
 
 use mv_message::Standing;
 
@@ -44,22 +44,22 @@ fn is_for_destruction(standing: Standing) -> bool
     }
 }
 
-/// Whether a pack is stopped: recalled, withdrawn, or to be destroyed.
-pub(crate) fn is_stopped(recalled: bool, withdrawn: bool, standing: Standing) -> bool
-    ensures { result ≡ is_stopped recalled withdrawn standing }
+/// Whether something other than a falsification explains a pack: it is recalled, withdrawn, or to be destroyed.
+pub(crate) fn is_explained(recalled: bool, withdrawn: bool, standing: Standing) -> bool
+    ensures { result ≡ is_explained recalled withdrawn standing }
 {
     recalled || withdrawn || is_for_destruction(standing)
 }
 
-/// The verdict where a pack was found active or not, and stopped or not.
-pub(crate) fn verdict_when(active: bool, stopped: bool) -> Verdict
-    ensures { result ≡ verdict_when active stopped }
+/// The verdict where a pack was found active or not, and explained or not by something other than a falsification.
+pub(crate) fn verdict_when(active: bool, explained: bool) -> Verdict
+    ensures { result ≡ verdict_when active explained }
 {
     if active {
         Verdict::Authentic
     } else {
         Verdict::NotAuthentic {
-            falsification: !stopped,
+            falsification: !explained,
         }
     }
 }

@@ -4,4 +4,4 @@ use Rattle.mv_repository.proofs.inquiries.Inquiries.verdict.Goals as goal
 
 -- what is kept is what the log says
 pub returns : goal.returns
-returns c party log is = c.known_verdict.ensures ∙ verdict-known party log c.args.self.now c.args.q is
+returns c party is = c.known_verdict.ensures ∙ verdict-known party c.args.log.now c.args.self.now c.args.q is

@@ -1,11 +1,11 @@
 -- Where the master is late the table stays; else its place is the one that the table finds.
-use Rattle.std.proofs.Common.{◌≡◌, ◌∙◌, List, ℕ, sym, ap, rules, length, refl, arith, false, ◌≤◌}
+use Rattle.std.proofs.Common.{◌≡◌, ◌∙◌, List, ℕ, sym, ap, rules, length, refl, false, max}
 use Rattle.mv_repository.specs.declared.entry.LogEntry.{LogEntry}
-use Rattle.mv_repository.specs.Copy.{is_master, is_late, last_master, IsCopyOf}
+use Rattle.mv_repository.specs.Masters.{is_master, is_late, last_master, AreMastersOf}
 use Rattle.mv_repository.specs.Order.{ordered}
-use Rattle.mv_repository.specs.Tables.{Bears, IsKept, IsUpTo}
+use Rattle.mv_repository.specs.Tables.{Bears, IsKept, stamp_of}
 use Rattle.mv_repository.specs.Keys.{is_same_text}
-use Rattle.mv_repository.proofs.ProductLemmas.{copy-late, copy-latest}
+use Rattle.mv_repository.proofs.ProductLemmas.{masters-late, masters-latest}
 use Rattle.mv_repository.proofs.LedgerLemmas.{kept-master}
 use Rattle.mv_repository.proofs.ledger.Ledger.apply_master.Goals.{then-not-is_late+in_ok-insert, else-not-is_late}
 use Rattle.mv_repository.proofs.ledger.Ledger.apply_master.Goals as goal
@@ -13,7 +13,7 @@ use Rattle.mv_repository.proofs.ledger.Ledger.apply_master.Goals as goal
 pub invariant_of-self-3 : goal.invariant_of-self-3
 invariant_of-self-3 c =
     let log = c.ready_entry.new.log.items in
-    let copy : IsCopyOf log c.self.inside.masters.entries = rw c.ready_entry.ensures.items c.self.invariant.masters in
+    let places : AreMastersOf log c.self.inside.masters.entries = rw c.ready_entry.ensures.items c.self.invariant.masters in
     let names : (gtin : List ℕ) → is_master gtin c.in_ok-entry.entry.item ≡ is_same_text c.args.gtin gtin =
     λ gtin. ap (λ (e : LogEntry). is_master gtin e.item) c.in_ok-entry.ensures.entry ∙ c.requires.master gtin in
     let late : is_late c.in_ok-entry.entry.item (last_master c.args.gtin (ordered log)) ≡ c.is_late.result =
@@ -23,14 +23,14 @@ invariant_of-self-3 c =
     let bears : Bears c.in_ok-entry.entry.item (is_same_text c.args.gtin) (λ pack. false) (λ pack. false) (λ batch. false) (λ gtin. false) = rw c.in_ok-entry.ensures.entry c.requires in
     let latest : c.if-not-is_late.self-inside.latest ≡ c.self.inside.latest =
     elim c.if-not-is_late.branch [ then-not-is_late+in_ok-insert w ↦ rw w.self-inside-is refl | else-not-is_late w ↦ rw w.self-inside-is refl ] in
-    let before : c.self.inside.latest ≤ c.latest_with-self-inside.result = omega (arith, c.latest_with-self-inside.ensures.before, latest) in
-    let upto : IsUpTo c.latest_with-self-inside.result c.in_ok-entry.entry.item = rw c.in_ok-entry.ensures.entry c.latest_with-self-inside.ensures.item in
+    let stamp : c.latest_with-self-inside.result ≡ max c.self.inside.latest (stamp_of c.in_ok-entry.entry.item) =
+    rw (c.in_ok-entry.ensures.entry, ← latest) c.latest_with-self-inside.ensures in
     rw c.push_reserved.ensures.items
     (elim c.if-not-is_late.branch [
       | then-not-is_late+in_ok-insert w ↦ rw w.self-inside-is
-        (kept-master log c.in_ok-entry.entry c.self.inside.masters.entries _ c.self.inside.packs c.self.inside.stops c.self.inside.latest c.latest_with-self-inside.result c.args.gtin kept bears before upto
-            (copy-latest log c.self.inside.masters.entries _ c.in_ok-entry.entry c.args.gtin c.len-place.result copy names (late ∙ w.if-not-is_late.true) w.in_ok-insert.ensures.updates.0 place))
+        (kept-master log c.in_ok-entry.entry c.self.inside.masters.entries _ c.self.inside.packs c.self.inside.stops c.self.inside.latest c.latest_with-self-inside.result c.args.gtin kept bears stamp
+            (masters-latest log c.self.inside.masters.entries _ c.in_ok-entry.entry c.args.gtin c.len-place.result places names (late ∙ w.if-not-is_late.true) w.in_ok-insert.ensures.updates.0 place))
       | else-not-is_late w ↦ rw w.self-inside-is
-        (kept-master log c.in_ok-entry.entry c.self.inside.masters.entries _ c.self.inside.packs c.self.inside.stops c.self.inside.latest c.latest_with-self-inside.result c.args.gtin kept bears before upto
-            (copy-late log c.self.inside.masters.entries c.in_ok-entry.entry c.args.gtin copy names (late ∙ w.if-not-is_late.false)))
+        (kept-master log c.in_ok-entry.entry c.self.inside.masters.entries _ c.self.inside.packs c.self.inside.stops c.self.inside.latest c.latest_with-self-inside.result c.args.gtin kept bears stamp
+            (masters-late log c.self.inside.masters.entries c.in_ok-entry.entry c.args.gtin places names (late ∙ w.if-not-is_late.false)))
     ])

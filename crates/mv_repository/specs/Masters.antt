@@ -1,4 +1,4 @@
--- The table that finds a product in the log.
+-- The table that finds the last master of a product in the log.
 use Rattle.std.specs.Prelude.{◌≡◌, ℕ, List, [], ◌∷◌, Bool, false, nat_lt, Option, Some, None, if◌then◌else◌}
 use Rattle.std.specs.Map.{lookup}
 use Rattle.std.specs.Option.{option_map, option_or}
@@ -9,6 +9,7 @@ use Rattle.mv_link.specs.declared.item.Item.TheVariants.{Carried}
 use Rattle.mv_repository.specs.declared.entry.LogEntry.{LogEntry}
 use Rattle.mv_repository.specs.Order.{Placed, rank, ordered}
 use Rattle.mv_repository.specs.Keys.{is_same_text}
+use Rattle.mv_repository.specs.Stops.{place_of}
 
 -- an item is a master of a code
 abbrev pub is_master : List ℕ → Item → Bool
@@ -30,14 +31,10 @@ abbrev pub is_late : Item → Option Placed → Bool
 is_late item None = false
 is_late item (Some last) = nat_lt (rank item) (rank last.entry.item)
 
--- the place in the log of an entry, counted from 0
-abbrev pub place_of : Placed → ℕ
-place_of placed = placed.place
-
 -- the entry that stands there
 abbrev pub entry_of : Placed → LogEntry
 entry_of placed = placed.entry
 
 -- the table has, for each code, the place of its last master by stamp order, and nothing where there is none
-abbrev pub IsCopyOf : List LogEntry → List (List ℕ × ℕ) → Type 0
-IsCopyOf log masters = (gtin : List ℕ) → lookup (is_same_text gtin) masters ≡ option_map place_of (last_master gtin (ordered log))
+abbrev pub AreMastersOf : List LogEntry → List (List ℕ × ℕ) → Type 0
+AreMastersOf log masters = (gtin : List ℕ) → lookup (is_same_text gtin) masters ≡ option_map place_of (last_master gtin (ordered log))

@@ -1,10 +1,9 @@
 -- The counts of a log, by the tables.
-use Rattle.std.proofs.Common.{◌≡◌, ◌≤◌, ℕ, ◌+◌, List, [], ◌∷◌, ◌++◌, length, refl, sym, ◌∙◌, ap, arith, Bool, true, false, cond, ◌&&◌, ◌||◌, Option, Some, None, is_some, IsSome, true≢false, filter, map}
+use Rattle.std.proofs.Common.{◌≡◌, ℕ, ◌+◌, List, [], ◌∷◌, ◌++◌, length, refl, sym, ◌∙◌, ap, Bool, true, false, cond, ◌&&◌, ◌||◌, Option, Some, None, is_some, filter, map}
 use Rattle.std.specs.Cmp.{IsEquivalence}
 use Rattle.std.specs.Cmp.Lexicographic.{nat_list_eq_equiv}
 use Rattle.std.specs.List.{list_any, flat_map, IsDistinct, count_by}
-use Rattle.std.specs.Map.{lookup, keys_of, set_value}
-use Rattle.mv_repository.specs.declared.tally.Tally.{Tally}
+use Rattle.std.specs.Map.{lookup, keys_of}
 use Rattle.std.specs.Option.{option_map, option_or, unwrap_or}
 use Rattle.std.specs.Set.{distinct_count, is_member}
 use Rattle.std.proofs.lemmas.List.Sums.{length-filter}
@@ -23,7 +22,7 @@ use Rattle.mv_repository.specs.Masters.{is_master, last_master, AreMastersOf}
 use Rattle.mv_repository.specs.PackState.{has_pack, is_recall_of, pack_state, held_of}
 use Rattle.mv_repository.specs.Counts.{mastered_in, uploaded_in, recalled_in, mastered_products, uploaded_packs, recalled_batches, is_held_active}
 use Rattle.mv_repository.specs.Stops.{StopTables, AreStopsOf, place_of, first_stops}
-use Rattle.mv_repository.specs.Track.{Kept, is_upload_of, first_upload, statuses_of, pack_grown, nothing_kept, kept_in, AreTracksOf, is_made, is_active_kept, one_if, IsTally}
+use Rattle.mv_repository.specs.Track.{Kept, is_upload_of, first_upload, statuses_of, pack_grown, nothing_kept, kept_in, AreTracksOf, is_made, is_active_kept}
 use Rattle.mv_repository.proofs.OrderLemmas.{ordered-ascends}
 use Rattle.mv_repository.proofs.StateLemmas.{known-grown}
 use Rattle.mv_repository.proofs.KeptLemmas.{text-sym, text-self, pack-sym, pack-self, same_pack, same_batch}

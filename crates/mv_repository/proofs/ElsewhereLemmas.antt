@@ -138,9 +138,9 @@ recall-elsewhere log entry table key tracks recalls none pack other =
     by None h s = tt
     by (Some x) h s = (
       recalls (batch_key pack.gtin (uploaded_batch x.entry.item))
-      ∙ ap (λ b. is_same_text key.gtin pack.gtin && b)
-      (sym (held-in key.batch (uploaded_batch x.entry.item) (kept_in pack table).held (ap (is_held_in (uploaded_batch x.entry.item)) s ∙ grown-batch (first_stops (ordered log)) pack x (statuses_of pack (ordered log)) h)))
-      ∙ other,
+          ∙ ap (λ b. is_same_text key.gtin pack.gtin && b)
+          (sym (held-in key.batch (uploaded_batch x.entry.item) (kept_in pack table).held (ap (is_held_in (uploaded_batch x.entry.item)) s ∙ grown-batch (first_stops (ordered log)) pack x (statuses_of pack (ordered log)) h)))
+          ∙ other,
       none pack.gtin,
     )
 

@@ -1,11 +1,8 @@
 -- Lemmas on the table of packs.
-use Rattle.std.proofs.Common.{◌≡◌, ℕ, ◌+◌, ◌<◌, List, [], length, get_or, take, refl, sym, ◌∙◌, ap, arith, Bool, true, false, cond, ◌&&◌, ◌||◌, nat_lt, Option, Some, None, is_some, IsSome, true≢false, subst}
+use Rattle.std.proofs.Common.{◌≡◌, ℕ, ◌+◌, ◌<◌, List, [], length, get_or, take, refl, sym, ◌∙◌, ap, arith, Bool, true, false, cond, ◌&&◌, ◌||◌, nat_lt, Option, Some, true≢false, subst}
 use Rattle.std.proofs.lemmas.Bool.Decides.{nat_tests}
 use Rattle.std.specs.List.{list_any}
-use Rattle.std.specs.Map.{lookup, keys_of}
-use Rattle.std.specs.Option.{unwrap_or}
 use Rattle.std.specs.Cmp.Lexicographic.{same_text, nat_list_eq_equiv}
-use Rattle.std.proofs.lemmas.Map.Made.{is_some-lookup}
 use Rattle.std.proofs.lemmas.List.Folds.{list_any_more}
 use Rattle.mv_pack.specs.declared.key.PackKey.{PackKey}
 use Rattle.mv_pack.specs.declared.key.BatchKey.{BatchKey}
@@ -14,7 +11,7 @@ use Rattle.mv_repository.specs.Keys.{is_same_text, is_same_pack, is_same_batch, 
 use Rattle.mv_repository.specs.Order.{rank}
 use Rattle.mv_repository.specs.PackState.{has_pack}
 use Rattle.mv_repository.specs.Stops.{StopTables, entry_at, comes_first, earlier_place}
-use Rattle.mv_repository.specs.Track.{Kept, nothing_kept, kept_in, with_upload, worked_out, refreshed, IsTrack, AreTracks, is_upload_of}
+use Rattle.mv_repository.specs.Track.{Kept, kept_in, with_upload, worked_out, IsTrack, AreTracks}
 
 both : (a b : Bool) → (a && b) ≡ true → (a ≡ true) × (b ≡ true)
 both true true e = (refl, refl)
@@ -50,18 +47,6 @@ pack-self a = λ i. text-self a.gtin i && text-self a.serial i
 
 pub batch-self : (a : BatchKey) → is_same_batch a a ≡ true
 batch-self a = λ i. text-self a.gtin i && text-self a.batch i
-
-pub none_from : (o : Option Kept) → is_some o ≡ false → o ≡ None
-none_from None e = refl
-none_from (Some x) e = absurd (true≢false e)
-
--- a test of the key changes nothing where it chooses what the key has
-pub same_kept : (es : List (PackKey × Kept)) (key p : PackKey) → cond (is_same_pack key p) (kept_in key es) (kept_in p es) ≡ kept_in p es
-same_kept es key p = by (is_same_pack key p) refl
-  where
-    by : (b : Bool) → is_same_pack key p ≡ b → cond b (kept_in key es) (kept_in p es) ≡ kept_in p es
-    by true e = ap (λ (q : PackKey). kept_in q es) (same_pack key p e)
-    by false e = refl
 
 -- what an upload adds to what is kept of its packs
 
@@ -143,12 +128,3 @@ pub looks_more : (log : List LogEntry) (tables : StopTables) (first packs packs'
     → (p : PackKey) → kept_in p packs' ≡ cond (has_pack gtin (take (i + 1) serials) p) (with_upload log tables p new (kept_in p first)) (kept_in p first)
 looks_more log tables first packs packs' gtin serials i new l old step =
     serials_more (λ p k. with_upload log tables p new k) (λ p k. twice log tables p new k) first packs packs' gtin serials i l old step
-
--- what working packs out again changes
-
-pub refreshed_more : (log : List LogEntry) (tables : StopTables) (first packs packs' : List (PackKey × Kept)) (gtin : List ℕ) (serials : List (List ℕ)) (i : ℕ) → i < length serials
-    → ((p : PackKey) → kept_in p packs ≡ cond (has_pack gtin (take i serials) p) (refreshed log tables p (kept_in p first)) (kept_in p first))
-    → ((p : PackKey) → kept_in p packs' ≡ cond (is_same_pack (pack_key gtin (get_or serials i [])) p) (refreshed log tables (pack_key gtin (get_or serials i [])) (kept_in (pack_key gtin (get_or serials i [])) packs)) (kept_in p packs))
-    → (p : PackKey) → kept_in p packs' ≡ cond (has_pack gtin (take (i + 1) serials) p) (refreshed log tables p (kept_in p first)) (kept_in p first)
-refreshed_more log tables first packs packs' gtin serials i l old step =
-    serials_more (λ p k. refreshed log tables p k) (λ p k. refl) first packs packs' gtin serials i l old step

@@ -1,11 +1,11 @@
 -- What a ledger keeps after one more entry of its log.
-use Rattle.std.proofs.Common.{◌≡◌, ℕ, max, List, [], ◌∷◌, length, ◌∙◌, Bool, true, false, cond, ◌||◌, Some, is_some, refl, find}
+use Rattle.std.proofs.Common.{◌≡◌, ℕ, max, List, [], ◌∷◌, length, Bool, true, false, cond, ◌||◌, Some, is_some, refl, find}
 use Rattle.std.specs.List.{list_any}
 use Rattle.std.specs.Option.{option_map}
 use Rattle.mv_pack.specs.declared.key.PackKey.{PackKey}
 use Rattle.mv_pack.specs.declared.key.BatchKey.{BatchKey}
 use Rattle.mv_repository.specs.declared.entry.LogEntry.{LogEntry}
-use Rattle.mv_repository.specs.Keys.{is_same_text, is_same_pack, batch_key}
+use Rattle.mv_repository.specs.Keys.{is_same_text, is_same_pack}
 use Rattle.mv_repository.specs.Order.{Placed}
 use Rattle.mv_repository.specs.Masters.{AreMastersOf}
 use Rattle.mv_repository.specs.Stops.{StopTables, AreStopsOf, place_of}

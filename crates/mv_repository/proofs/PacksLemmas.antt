@@ -1,8 +1,7 @@
 -- Lemmas on the slots of the packs, and on what is kept of each pack by them.
-use Rattle.std.proofs.Common.{◌≡◌, ◌≤◌, ◌<◌, ℕ, zero, suc, ◌+◌, List, [], ◌∷◌, ◌++◌, length, map, filter, take, get_or, refl, sym, ◌∙◌, ap, subst, arith, Bool, true, false, cond, ◌&&◌, ◌||◌, Option, Some, None, is_some, true≢false, slice_get, length-append, Result, Ok, Err, OnOk, OnErr}
-use Rattle.std.specs.Bool.{⊤}
+use Rattle.std.proofs.Common.{◌≡◌, ◌≤◌, ◌<◌, ℕ, zero, suc, ◌+◌, List, [], ◌∷◌, ◌++◌, length, filter, take, get_or, refl, sym, ◌∙◌, ap, subst, arith, Bool, true, false, cond, ◌&&◌, ◌||◌, Option, Some, None, is_some, true≢false, slice_get, length-append, Result, Ok, Err, OnOk, OnErr}
 use Rattle.std.specs.List.{count_by, list_any}
-use Rattle.std.specs.Map.{lookup, keys_of, set_value}
+use Rattle.std.specs.Map.{lookup, set_value}
 use Rattle.std.specs.Option.{option_map, unwrap_or}
 use Rattle.std.proofs.lemmas.Option.{none-some}
 use Rattle.std.specs.Cmp.Lexicographic.{same_text}
@@ -379,8 +378,13 @@ filter-written test key (e ∷ es) v = by (is_same_pack key e.0) refl (filter-wr
     by true h r =
         omega (arith, length-one (test v) (e.0, v) (part es), length-one (test e.1) e (part es), ap (λ c. one_if (test (unwrap_or (cond c (Some v) (lookup (is_same_pack key) es)) nothing_kept))) h)
     by false h r =
-        omega (arith, length-one (test e.1) e (part (set_value (is_same_pack key) es v)), length-one (test e.1) e (part es), r,
-        ap (λ c. one_if (test (unwrap_or (cond c (Some e.1) (lookup (is_same_pack key) (set_value (is_same_pack key) es v))) nothing_kept))) h)
+        omega (
+          arith,
+          length-one (test e.1) e (part (set_value (is_same_pack key) es v)),
+          length-one (test e.1) e (part es),
+          r,
+          ap (λ c. one_if (test (unwrap_or (cond c (Some e.1) (lookup (is_same_pack key) (set_value (is_same_pack key) es v))) nothing_kept))) h,
+        )
 
 pub moves-written : (test : Kept → Bool) (es es' : List (PackKey × Kept)) (key : PackKey) (v : Kept) (was is : Bool) → es' ≡ set_value (is_same_pack key) es v
     → was ≡ test (kept_in key es) → is ≡ test (kept_in key es') → Moves test es es' was is

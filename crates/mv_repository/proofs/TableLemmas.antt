@@ -12,7 +12,7 @@ use Rattle.mv_repository.specs.Keys.{is_same_text, is_same_pack, is_same_batch}
 use Rattle.mv_repository.specs.Order.{Placed, passes, put_in, ordered, StandsBeforeAll, Ascends}
 use Rattle.mv_repository.specs.PackState.{is_recall_of, is_withdrawal_of, held_of, known_pack, pack_state}
 use Rattle.mv_repository.specs.Stops.{StopTables, first_stops, stops_in, entry_at, place_of, no_entry, first_recall, first_withdrawal, AreStopsOf, earlier_place}
-use Rattle.mv_repository.specs.Track.{Kept, is_upload_of, is_status_of, first_upload, statuses_of, pack_grown, grown_at, put_place, worked_out, with_status, with_upload, refreshed, IsTrack, AreTracks, kept_in, track_of, AreTracksOf}
+use Rattle.mv_repository.specs.Track.{Kept, is_upload_of, is_status_of, first_upload, statuses_of, pack_grown, grown_at, put_place, worked_out, with_status, with_upload, refreshed, IsTrack, kept_in, track_of, AreTracksOf}
 use Rattle.mv_repository.proofs.OrderLemmas.{placed_at, passes_behind, ordered-ascends, ordered-push, Stand, ordered-stand, still-stand}
 use Rattle.mv_repository.proofs.StateLemmas.{known-grown, grown-stands, map-stands, find-stand, find-stands}
 use Rattle.mv_repository.proofs.KeptLemmas.{same_pack, same_batch}
@@ -195,10 +195,6 @@ is_track log entry table tables pack tracks stops =
       worked = sym (worked-state (longer log entry) log tables pack stand stops);
     } in
     subst (IsTrack (longer log entry) tables pack) (sym (tracks pack)) track
-
-pub are_tracks : (log : List LogEntry) (entry : LogEntry) (table table' : List (PackKey × Kept)) (tables : StopTables) → AreTracksOf log table → AreStopsOf log tables
-    → ((pack : PackKey) → kept_in pack table' ≡ kept_in pack table) → AreTracks (longer log entry) tables table'
-are_tracks log entry table table' tables tracks stops same pack = subst (IsTrack (longer log entry) tables pack) (sym (same pack)) (is_track log entry table tables pack tracks stops)
 
 -- an entry that stops nothing leaves the tables of stops
 abbrev pub StopsNone : Item → Type 0

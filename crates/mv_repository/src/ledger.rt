@@ -243,9 +243,9 @@ impl Ledger {
                 self.apply_master(sender, item, *gtin)?;
                 Ok(Effect::Done)
             }
-            Message::Upload {
-                gtin, serials, ..
-            } => self.apply_upload(sender, item, *gtin, serials),
+            Message::Upload { gtin, serials, .. } => self.apply_upload(
+                sender, item, *gtin, serials,
+            ),
             Message::Status { key, .. } => self.apply_status(sender, item, key),
             Message::Recall { key, .. } => self.apply_recall(sender, item, *stamp, key),
             Message::Withdraw { gtin, .. } => self.apply_withdrawal(sender, item, *stamp, *gtin),
@@ -301,7 +301,9 @@ impl Ledger {
     {
         let entry = ready_entry(&mut self.log, sender, item)?;
         let serials = serials.as_slice();
-        let count = self.packs.add_upload(&mut self.log, entry, &self.stops, gtin, serials)?;
+        let count = self
+            .packs
+            .add_upload(&mut self.log, entry, &self.stops, gtin, serials)?;
         self.latest = latest_with(self.latest, item);
         Ok(Effect::Uploaded {
             new: count as u64,
@@ -323,7 +325,9 @@ impl Ledger {
         ensures err { OnErr result (self.new ≡ self.old) }
     {
         let entry = ready_entry(&mut self.log, sender, item)?;
-        let effect = self.packs.add_status(&mut self.log, entry, &self.stops, key)?;
+        let effect = self
+            .packs
+            .add_status(&mut self.log, entry, &self.stops, key)?;
         self.latest = latest_with(self.latest, item);
         Ok(effect)
     }

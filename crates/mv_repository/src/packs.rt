@@ -120,7 +120,9 @@ impl Packs {
         log.push_reserved(entry);
         self.births.push_reserved(Birth { place: new, held });
         let births = self.births.as_slice();
-        let count = self.table.add_uploads(births, log.as_slice(), stops, gtin, serials, new, at);
+        let count = self
+            .table
+            .add_uploads(births, log.as_slice(), stops, gtin, serials, new, at);
         Ok(count)
     }
 
@@ -148,7 +150,15 @@ impl Packs {
         ensures err { OnErr result (self.new ≡ self.old) }
     {
         let births = self.births.as_slice();
-        self.table.add_status(self.alloc, births, &mut self.tracked, log, entry, stops, key)
+        self.table.add_status(
+            self.alloc,
+            births,
+            &mut self.tracked,
+            log,
+            entry,
+            stops,
+            key,
+        )
     }
 
     /// Works out again the packs of a product, and of a batch where one is named. Only those are touched that a status
@@ -162,6 +172,7 @@ impl Packs {
     {
         let births = self.births.as_slice();
         let serials = self.tracked.of_product(gtin);
-        self.table.refresh_all(births, log, stops, *gtin, batch, serials);
+        self.table
+            .refresh_all(births, log, stops, *gtin, batch, serials);
     }
 }

@@ -135,7 +135,16 @@ impl Table {
         ensures err { OnErr result (self.new.slots.entries ≡ self.old.slots.entries) }
     {
         prove!(self.slots.len() <= usize::MAX / 2);
-        let noted = put_status(&mut self.slots, alloc, births, tracked, log, entry, stops, key)?;
+        let noted = put_status(
+            &mut self.slots,
+            alloc,
+            births,
+            tracked,
+            log,
+            entry,
+            stops,
+            key,
+        )?;
         let tally = self.tally.moved(noted.was, noted.is);
         self.tally = tally;
         Ok(noted.effect)

@@ -321,13 +321,7 @@ impl Track {
     }
 
     /// Works in the first status, which is the newest entry; its effect where it stands.
-    pub fn begin(
-        &mut self,
-        log: &[LogEntry],
-        stops: &Stops,
-        pack: &PackKey,
-        new: usize,
-    ) -> Effect
+    pub fn begin(&mut self, log: &[LogEntry], stops: &Stops, pack: &PackKey, new: usize) -> Effect
         requires alone { self.old.places ≡ new ∷ [] }
         requires worked { self.old.held ≡ grown_at log.now stops.now pack.now self.old.birth [] }
         ensures kept { self.new ≡ with_status log.now stops.now pack.now new

@@ -1,11 +1,10 @@
 -- What stands for the pack is worked out again; where nothing stands nothing is written.
-use Rattle.std.proofs.Common.{◌≡◌, ◌∙◌, ap, sym, subst, rules, Some, None, Option, is_some, true, false, true≢false}
+use Rattle.std.proofs.Common.{◌≡◌, ◌∙◌, ap, sym, subst, rules, Some, None, is_some, true≢false}
 use Rattle.std.specs.Map.{lookup}
-use Rattle.mv_repository.specs.declared.slot.Slot.{Slot}
 use Rattle.mv_repository.specs.declared.slot.Slot.TheVariants.{Made}
 use Rattle.mv_repository.specs.Keys.{is_same_pack}
-use Rattle.mv_repository.specs.Packs.{kept_as, kept_table, IsSettled, refreshed_in}
-use Rattle.mv_repository.specs.Track.{kept_in, is_made, is_active_kept}
+use Rattle.mv_repository.specs.Packs.{IsSettled, refreshed_in}
+use Rattle.mv_repository.specs.Track.{is_made, is_active_kept}
 use Rattle.mv_repository.proofs.PacksLemmas.{found-kept, absent-kept, found-own, written-absent, within-found, refreshed-nothing}
 use Rattle.mv_repository.proofs.table.put_refreshed.Goals as goal
 

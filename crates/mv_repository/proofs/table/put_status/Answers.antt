@@ -7,8 +7,8 @@ use Rattle.indexmap.specs.IndexMap.{IndexMap, insert_entry}
 use Rattle.mv_pack.specs.declared.key.PackKey.{PackKey}
 use Rattle.mv_repository.specs.declared.slot.Slot.{Slot}
 use Rattle.mv_repository.specs.Keys.{is_same_pack}
-use Rattle.mv_repository.specs.Packs.{kept_as, kept_table, IsWithin, is_own}
-use Rattle.mv_repository.specs.Track.{Kept, kept_in, IsTrack, with_status, newest_effect, is_made, is_active_kept}
+use Rattle.mv_repository.specs.Packs.{kept_as, is_own}
+use Rattle.mv_repository.specs.Track.{IsTrack, with_status, newest_effect, is_made, is_active_kept}
 use Rattle.mv_repository.proofs.PacksLemmas.{found-kept, absent-kept, found-own, inserted-same, own-within}
 use Rattle.mv_repository.proofs.table.put_status.Goals as goal
 

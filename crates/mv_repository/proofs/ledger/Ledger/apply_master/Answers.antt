@@ -28,9 +28,9 @@ invariant_of-self-3 c =
     rw c.push_reserved.ensures.items
     (elim c.if-not-is_late.branch [
       | then-not-is_late+in_ok-insert w ↦ rw w.self-inside-is
-        (kept-master log c.in_ok-entry.entry c.self.inside.masters.entries _ c.self.inside.packs c.self.inside.stops c.self.inside.latest c.latest_with-self-inside.result c.args.gtin kept bears stamp
-            (masters-latest log c.self.inside.masters.entries _ c.in_ok-entry.entry c.args.gtin c.len-place.result places names (late ∙ w.if-not-is_late.true) w.in_ok-insert.ensures.updates.0 place))
+          (kept-master log c.in_ok-entry.entry c.self.inside.masters.entries _ c.self.inside.packs c.self.inside.stops c.self.inside.latest c.latest_with-self-inside.result c.args.gtin kept bears stamp
+          (masters-latest log c.self.inside.masters.entries _ c.in_ok-entry.entry c.args.gtin c.len-place.result places names (late ∙ w.if-not-is_late.true) w.in_ok-insert.ensures.updates.0 place))
       | else-not-is_late w ↦ rw w.self-inside-is
-        (kept-master log c.in_ok-entry.entry c.self.inside.masters.entries _ c.self.inside.packs c.self.inside.stops c.self.inside.latest c.latest_with-self-inside.result c.args.gtin kept bears stamp
-            (masters-late log c.self.inside.masters.entries c.in_ok-entry.entry c.args.gtin places names (late ∙ w.if-not-is_late.false)))
+          (kept-master log c.in_ok-entry.entry c.self.inside.masters.entries _ c.self.inside.packs c.self.inside.stops c.self.inside.latest c.latest_with-self-inside.result c.args.gtin kept bears stamp
+          (masters-late log c.self.inside.masters.entries c.in_ok-entry.entry c.args.gtin places names (late ∙ w.if-not-is_late.false)))
     ])

@@ -27,10 +27,10 @@ invariant_of-self-then-self-stamp c =
     stops-recall log entry c.self.inside.stops c.add_recall.new.self c.args.batch.now kept.stops bears.recall bears.withdrawal (rw c.copy.ensures at c.in_ok-is_first.ensures.recalls) c.add_recall.ensures.withdrawals in
     let least : c.self.inside.latest ≤ c.args.stamp = omega arith in
     let stamp : stamp_of entry.item ≡ c.args.stamp = rw c.in_ok-entry.ensures.entry c.requires.stamp in
-    rw c.in_ok-is_first.ensures.log 
-      (kept-stopped log entry c.self.inside.masters.entries c.self.inside.packs c.self.inside.stops c.add_recall.new.self c.self.inside.latest c.args.stamp (is_same_batch c.args.batch.now) (λ gtin. false) kept
-          bears (omega (arith, least, stamp)) stops
-          (tracks-last log entry c.self.inside.packs (omega (arith, least, stamp, kept.greatest)) bears.upload bears.status kept.tracks))
+    rw c.in_ok-is_first.ensures.log
+    (kept-stopped log entry c.self.inside.masters.entries c.self.inside.packs c.self.inside.stops c.add_recall.new.self c.self.inside.latest c.args.stamp (is_same_batch c.args.batch.now) (λ gtin. false) kept
+    bears (omega (arith, least, stamp)) stops
+    (tracks-last log entry c.self.inside.packs (omega (arith, least, stamp, kept.greatest)) bears.upload bears.status kept.tracks))
 
 pub invariant_of-self-then-not-is_first : goal.invariant_of-self-then-not-is_first
 invariant_of-self-then-not-is_first c =
@@ -41,12 +41,12 @@ invariant_of-self-then-not-is_first c =
     let stops : AreStopsOf (longer log entry) c.add_recall.new.self =
     stops-recall log entry c.self.inside.stops c.add_recall.new.self c.args.batch.now kept.stops bears.recall bears.withdrawal (rw c.copy.ensures at c.in_ok-is_first.ensures.recalls) c.add_recall.ensures.withdrawals in
     let stamp : stamp_of entry.item ≡ c.args.stamp = rw c.in_ok-entry.ensures.entry c.requires.stamp in
-    rw c.in_ok-is_first.ensures.log 
-      (kept-stopped log entry c.self.inside.masters.entries c.self.inside.packs c.self.inside.stops c.add_recall.new.self c.self.inside.latest c.self.inside.latest (is_same_batch c.args.batch.now) (λ gtin. false) kept
-          bears (omega (arith, stamp)) stops
-          (tracks-later log entry c.self.inside.packs
-          (recall-later log entry c.self.inside.stops c.args.batch.now kept.stops bears.recall bears.withdrawal (sym (rw c.copy.ensures at c.in_ok-is_first.ensures.first) ∙ c.if-not-is_first.true))
-          bears.upload bears.status kept.tracks))
+    rw c.in_ok-is_first.ensures.log
+    (kept-stopped log entry c.self.inside.masters.entries c.self.inside.packs c.self.inside.stops c.add_recall.new.self c.self.inside.latest c.self.inside.latest (is_same_batch c.args.batch.now) (λ gtin. false) kept
+    bears (omega (arith, stamp)) stops
+    (tracks-later log entry c.self.inside.packs
+    (recall-later log entry c.self.inside.stops c.args.batch.now kept.stops bears.recall bears.withdrawal (sym (rw c.copy.ensures at c.in_ok-is_first.ensures.first) ∙ c.if-not-is_first.true))
+    bears.upload bears.status kept.tracks))
 
 pub invariant_of-self-2 : goal.invariant_of-self-2
 invariant_of-self-2 c =
@@ -57,11 +57,11 @@ invariant_of-self-2 c =
     let stops : AreStopsOf (longer log entry) c.add_recall.new.self =
     stops-recall log entry c.self.inside.stops c.add_recall.new.self c.args.batch.now kept.stops bears.recall bears.withdrawal (rw c.copy.ensures at c.in_ok-is_first.ensures.recalls) c.add_recall.ensures.withdrawals in
     let stamp : stamp_of entry.item ≡ c.args.stamp = rw c.in_ok-entry.ensures.entry c.requires.stamp in
-    rw c.in_ok-is_first.ensures.log 
-      (kept-refreshed log entry c.self.inside.masters.entries c.self.inside.packs c.refresh.new.self c.self.inside.stops c.add_recall.new.self c.self.inside.latest c.self.inside.latest (is_same_batch c.args.batch.now) (λ gtin. false) (λ pack. is_of c.args.batch.now.gtin (Some c.args.batch.now.batch) pack (kept_in pack c.self.inside.packs)) kept
-          bears (omega (arith, stamp)) stops
-          (recall-elsewhere log entry c.self.inside.packs c.args.batch.now kept.tracks bears.recall bears.withdrawal)
-          (rw (c.as_slice-log.ensures.value, c.in_ok-is_first.ensures.log, c.copy-2.ensures) at c.refresh.ensures.kept))
+    rw c.in_ok-is_first.ensures.log
+    (kept-refreshed log entry c.self.inside.masters.entries c.self.inside.packs c.refresh.new.self c.self.inside.stops c.add_recall.new.self c.self.inside.latest c.self.inside.latest (is_same_batch c.args.batch.now) (λ gtin. false) (λ pack. is_of c.args.batch.now.gtin (Some c.args.batch.now.batch) pack (kept_in pack c.self.inside.packs)) kept
+    bears (omega (arith, stamp)) stops
+    (recall-elsewhere log entry c.self.inside.packs c.args.batch.now kept.tracks bears.recall bears.withdrawal)
+    (rw (c.as_slice-log.ensures.value, c.in_ok-is_first.ensures.log, c.copy-2.ensures) at c.refresh.ensures.kept))
 
 pub refresh-requires : goal.refresh-requires
 refresh-requires c =

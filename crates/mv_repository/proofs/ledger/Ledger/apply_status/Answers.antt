@@ -21,8 +21,8 @@ invariant_of-self-2 c =
     let kept : IsKept log c.self.inside.masters.entries c.self.inside.packs c.self.inside.stops c.self.inside.latest = rw c.ready_entry.ensures.items c.self.invariant in
     rw c.in_ok-effect.ensures.log
     (kept-status log c.in_ok-entry.entry c.self.inside.masters.entries c.self.inside.packs c.add_status.new.self c.self.inside.stops c.self.inside.latest c.latest_with-self-inside.result c.args.key.now kept
-        (rw c.in_ok-entry.ensures.entry c.requires) (rw c.in_ok-entry.ensures.entry c.latest_with-self-inside.ensures)
-        c.in_ok-effect.ensures.kept)
+    (rw c.in_ok-entry.ensures.entry c.requires) (rw c.in_ok-entry.ensures.entry c.latest_with-self-inside.ensures)
+    c.in_ok-effect.ensures.kept)
 
 pub returns-clause-effect : goal.returns-clause-effect
 returns-clause-effect c =

@@ -1,5 +1,5 @@
 -- Each pack of the upload is worked out with it.
-use Rattle.std.proofs.Common.{◌≡◌, ◌∙◌, ◌-◌, ap, sym, ℕ, List, rules, length}
+use Rattle.std.proofs.Common.{◌≡◌, ◌∙◌, ◌-◌, ap, ℕ, List, rules, length}
 use Rattle.mv_repository.specs.declared.effect.Effect.TheVariants.{Uploaded}
 use Rattle.mv_repository.specs.Effect.{effect_of}
 use Rattle.mv_repository.specs.Tables.{IsKept, IsUploadOf}
@@ -26,8 +26,8 @@ invariant_of-self-2 c =
     let serials : c.as_slice-serials.result.now ≡ c.args.serials.now = search rules in
     rw c.in_ok-count.ensures.log
     (kept-upload log c.in_ok-entry.entry c.self.inside.masters.entries c.self.inside.packs c.add_upload.new.self c.self.inside.stops c.self.inside.latest c.latest_with-self-inside.result c.args.gtin c.args.serials.now kept
-        (rw c.in_ok-entry.ensures.entry c.requires.bears) (rw c.in_ok-entry.ensures.entry c.latest_with-self-inside.ensures)
-        (rw serials at c.in_ok-count.ensures.kept))
+    (rw c.in_ok-entry.ensures.entry c.requires.bears) (rw c.in_ok-entry.ensures.entry c.latest_with-self-inside.ensures)
+    (rw serials at c.in_ok-count.ensures.kept))
 
 pub returns-clause-effect : goal.returns-clause-effect
 returns-clause-effect c =

@@ -27,10 +27,10 @@ invariant_of-self-then-self-stamp c =
     stops-withdrawal log entry c.self.inside.stops c.add_withdrawal.new.self c.args.gtin kept.stops bears.withdrawal bears.recall c.in_ok-is_first.ensures.withdrawals c.add_withdrawal.ensures.recalls in
     let least : c.self.inside.latest ≤ c.args.stamp = omega arith in
     let stamp : stamp_of entry.item ≡ c.args.stamp = rw c.in_ok-entry.ensures.entry c.requires.stamp in
-    rw c.in_ok-is_first.ensures.log 
-      (kept-stopped log entry c.self.inside.masters.entries c.self.inside.packs c.self.inside.stops c.add_withdrawal.new.self c.self.inside.latest c.args.stamp (λ batch. false) (is_same_text c.args.gtin) kept
-          bears (omega (arith, least, stamp)) stops
-          (tracks-last log entry c.self.inside.packs (omega (arith, least, stamp, kept.greatest)) bears.upload bears.status kept.tracks))
+    rw c.in_ok-is_first.ensures.log
+    (kept-stopped log entry c.self.inside.masters.entries c.self.inside.packs c.self.inside.stops c.add_withdrawal.new.self c.self.inside.latest c.args.stamp (λ batch. false) (is_same_text c.args.gtin) kept
+    bears (omega (arith, least, stamp)) stops
+    (tracks-last log entry c.self.inside.packs (omega (arith, least, stamp, kept.greatest)) bears.upload bears.status kept.tracks))
 
 pub invariant_of-self-then-not-is_first : goal.invariant_of-self-then-not-is_first
 invariant_of-self-then-not-is_first c =
@@ -41,12 +41,12 @@ invariant_of-self-then-not-is_first c =
     let stops : AreStopsOf (longer log entry) c.add_withdrawal.new.self =
     stops-withdrawal log entry c.self.inside.stops c.add_withdrawal.new.self c.args.gtin kept.stops bears.withdrawal bears.recall c.in_ok-is_first.ensures.withdrawals c.add_withdrawal.ensures.recalls in
     let stamp : stamp_of entry.item ≡ c.args.stamp = rw c.in_ok-entry.ensures.entry c.requires.stamp in
-    rw c.in_ok-is_first.ensures.log 
-      (kept-stopped log entry c.self.inside.masters.entries c.self.inside.packs c.self.inside.stops c.add_withdrawal.new.self c.self.inside.latest c.self.inside.latest (λ batch. false) (is_same_text c.args.gtin) kept
-          bears (omega (arith, stamp)) stops
-          (tracks-later log entry c.self.inside.packs
-          (withdrawal-later log entry c.self.inside.stops c.args.gtin kept.stops bears.withdrawal bears.recall (sym (c.in_ok-is_first.ensures.first) ∙ c.if-not-is_first.true))
-          bears.upload bears.status kept.tracks))
+    rw c.in_ok-is_first.ensures.log
+    (kept-stopped log entry c.self.inside.masters.entries c.self.inside.packs c.self.inside.stops c.add_withdrawal.new.self c.self.inside.latest c.self.inside.latest (λ batch. false) (is_same_text c.args.gtin) kept
+    bears (omega (arith, stamp)) stops
+    (tracks-later log entry c.self.inside.packs
+    (withdrawal-later log entry c.self.inside.stops c.args.gtin kept.stops bears.withdrawal bears.recall (sym (c.in_ok-is_first.ensures.first) ∙ c.if-not-is_first.true))
+    bears.upload bears.status kept.tracks))
 
 pub invariant_of-self-2 : goal.invariant_of-self-2
 invariant_of-self-2 c =
@@ -57,11 +57,11 @@ invariant_of-self-2 c =
     let stops : AreStopsOf (longer log entry) c.add_withdrawal.new.self =
     stops-withdrawal log entry c.self.inside.stops c.add_withdrawal.new.self c.args.gtin kept.stops bears.withdrawal bears.recall c.in_ok-is_first.ensures.withdrawals c.add_withdrawal.ensures.recalls in
     let stamp : stamp_of entry.item ≡ c.args.stamp = rw c.in_ok-entry.ensures.entry c.requires.stamp in
-    rw c.in_ok-is_first.ensures.log 
-      (kept-refreshed log entry c.self.inside.masters.entries c.self.inside.packs c.refresh.new.self c.self.inside.stops c.add_withdrawal.new.self c.self.inside.latest c.self.inside.latest (λ batch. false) (is_same_text c.args.gtin) (λ pack. is_of c.args.gtin None pack (kept_in pack c.self.inside.packs)) kept
-          bears (omega (arith, stamp)) stops
-          (withdrawal-elsewhere log entry c.self.inside.packs c.args.gtin bears.recall bears.withdrawal)
-          (rw (c.as_slice-log.ensures.value, c.in_ok-is_first.ensures.log) at c.refresh.ensures.kept))
+    rw c.in_ok-is_first.ensures.log
+    (kept-refreshed log entry c.self.inside.masters.entries c.self.inside.packs c.refresh.new.self c.self.inside.stops c.add_withdrawal.new.self c.self.inside.latest c.self.inside.latest (λ batch. false) (is_same_text c.args.gtin) (λ pack. is_of c.args.gtin None pack (kept_in pack c.self.inside.packs)) kept
+    bears (omega (arith, stamp)) stops
+    (withdrawal-elsewhere log entry c.self.inside.packs c.args.gtin bears.recall bears.withdrawal)
+    (rw (c.as_slice-log.ensures.value, c.in_ok-is_first.ensures.log) at c.refresh.ensures.kept))
 
 pub refresh-requires : goal.refresh-requires
 refresh-requires c =

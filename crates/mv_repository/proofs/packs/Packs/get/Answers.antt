@@ -1,5 +1,5 @@
 -- What stands for the pack says what it is.
-use Rattle.std.proofs.Common.{◌≡◌, ◌∙◌, ap, sym}
+use Rattle.std.proofs.Common.{◌∙◌, ap, sym}
 use Rattle.std.specs.Option.{option_copied}
 use Rattle.mv_repository.specs.Packs.{kept_as}
 use Rattle.mv_repository.specs.Track.{Kept}

@@ -24,6 +24,6 @@ pub returns : goal.returns
 returns c =
     record {
       kept = rw (← c.self.view_is)
-    (again-all c.args.log.now c.args.stops.now c.args.batch.now c.self.inside.births.items c.self.inside.table.slots.entries (kept_table c.self.inside.births.items c.refresh_all.new.self.slots.entries) c.self.inside.tracked c.args.gtin.now
-        c.self.invariant.tracked (rw (← c.self.view_is) at c.requires.settled) (rw (c.as_slice-births.ensures.value, c.of_product-serials.ensures) at c.refresh_all.ensures.kept));
+          (again-all c.args.log.now c.args.stops.now c.args.batch.now c.self.inside.births.items c.self.inside.table.slots.entries (kept_table c.self.inside.births.items c.refresh_all.new.self.slots.entries) c.self.inside.tracked c.args.gtin.now
+          c.self.invariant.tracked (rw (← c.self.view_is) at c.requires.settled) (rw (c.as_slice-births.ensures.value, c.of_product-serials.ensures) at c.refresh_all.ensures.kept));
     }

@@ -1,5 +1,5 @@
 -- One slot is written anew, and its pack counts as it now stands.
-use Rattle.std.proofs.Common.{◌≡◌, ◌≤◌, ◌^◌, refl, arith}
+use Rattle.std.proofs.Common.{◌^◌, arith}
 use Rattle.mv_repository.specs.Track.{is_made, is_active_kept}
 use Rattle.mv_repository.specs.Packs.{kept_table}
 use Rattle.mv_repository.specs.Packs.{refreshed_in}

@@ -1,7 +1,6 @@
 -- The table has what it had, and the pack.
 use Rattle.std.proofs.Common.{◌≡◌, ◌∙◌, ap, rules, List, ℕ, Some, None, true}
 use Rattle.std.specs.Map.{lookup, set_value}
-use Rattle.indexmap.specs.IndexMap.{insert_entry}
 use Rattle.mv_repository.specs.Keys.{is_same_text}
 use Rattle.mv_repository.specs.Tracked.{has_serial}
 use Rattle.mv_repository.proofs.PacksLemmas.{serials-written, serials-inserted, serials-here, on-ok}
@@ -19,7 +18,7 @@ returns-in-Some-clause-added c =
     let wrote : (c.get_mut.follows.lender c.add.new.self).entries ≡ set_value (is_same_text c.args.gtin) c.self.inside.products.entries c.add.new.self = search rules in
     rw wrote
     (on-ok (λ (h : has_serial c.add.new.self c.args.serial ≡ true). ap (λ (l : List (List ℕ)). has_serial l c.args.serial) (serials-here (is_same_text c.args.gtin) c.self.inside.products.entries c.in-Some.list.now c.add.new.self found) ∙ h)
-        c.add.result c.add.ensures.added)
+    c.add.result c.add.ensures.added)
 
 pub returns-clause-keeps : goal.returns-clause-keeps
 returns-clause-keeps c pack h =

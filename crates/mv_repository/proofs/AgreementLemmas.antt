@@ -325,3 +325,39 @@ agree pack one other same =
       withdrawal = withdrawal;
       verdict = verdict-by pack one ∙ (λ i. verdict_by (state i) (recall i) (withdrawal i)) ∙ sym (verdict-by pack other);
     }
+
+-- the batch of the first upload that names a pack, among messages in the order of stamps
+abbrev first_in : PackKey → Message → Option (List ℕ) → Option (List ℕ)
+first_in pack (Upload gtin named expiry national serials) later = cond (has_pack gtin serials pack) (Some named) later
+first_in pack message later = later
+
+abbrev pub first_batch : PackKey → List Sent → Option (List ℕ)
+first_batch pack [] = None
+first_batch pack (sent ∷ rest) = first_in pack sent.message (first_batch pack rest)
+
+batch-from_none : (before xs : List Placed) (pack : PackKey) → option_map batch_of (known_pack_from before xs pack None) ≡ first_batch pack (sent_by xs)
+batch-from_none before [] pack = refl
+batch-from_none before (x ∷ xs) pack = by x.entry.item (batch-from_none (before ++ x ∷ []) xs pack)
+  where
+    upload : (k stamp : ℕ) (gtin named : List ℕ) (expiry : CivilDate) (national : Option (List ℕ)) (serials : List (List ℕ)) (b : Bool)
+        → option_map batch_of (known_pack_from (before ++ x ∷ []) xs pack None) ≡ first_batch pack (sent_by xs)
+        → option_map batch_of (known_pack_from (before ++ x ∷ []) xs pack (cond b (Some (new_pack named expiry national)) None)) ≡ cond b (Some named) (first_batch pack (sent_by xs))
+    upload k stamp gtin named expiry national serials true later = batch-from (before ++ x ∷ []) xs pack (Some (new_pack named expiry national)) named refl
+    upload k stamp gtin named expiry national serials false later = later
+
+    status : (b : Bool) (known : Option KnownPack) → known ≡ None → cond b known None ≡ None
+    status true known e = e
+    status false known e = refl
+
+    by : (item : Item) → option_map batch_of (known_pack_from (before ++ x ∷ []) xs pack None) ≡ first_batch pack (sent_by xs)
+        → option_map batch_of (known_pack_from (before ++ x ∷ []) xs pack (pack_after_item (batch_standing before) x.place x.entry.sender item pack None))
+        ≡ first_batch pack (sent_by (record { place = x.place; entry = record { sender = x.entry.sender; item = item } } ∷ xs))
+    by (Receipt k reach query) later = later
+    by (Carried k stamp (Upload gtin named expiry national serials)) later = upload k stamp gtin named expiry national serials (has_pack gtin serials pack) later
+    by (Carried k stamp (Status key to user at)) later =
+        ap (λ (known : Option KnownPack). option_map batch_of (known_pack_from (before ++ x ∷ []) xs pack known)) (status (is_same_pack key pack) None refl) ∙ later
+    by (Carried k stamp message) later = later
+
+-- a log gives a pack that batch
+pub batch-first : (pack : PackKey) (log : List LogEntry) → batch_in pack log ≡ first_batch pack (sent_by (ordered log))
+batch-first pack log = sym (batch-shown (known_pack pack (ordered log))) ∙ batch-from_none [] (ordered log) pack

@@ -1,5 +1,5 @@
 -- Two logs with distinct stamps that have the same messages about a pack have them in the same order.
-use Rattle.std.proofs.Common.{◌≡◌, ℕ, zero, suc, ◌<◌, List, [], ◌∷◌, length, get_or, refl, sym, ◌∙◌, ap, subst, arith, Bool, true, false, cond, ◌&&◌, ◌||◌, ◌==◌, nat_lt, Some, filter, true≢false, ◌⊎◌, inl, inr}
+use Rattle.std.proofs.Common.{◌≡◌, ℕ, zero, suc, ◌+◌, ◌<◌, List, [], ◌∷◌, length, get_or, refl, sym, ◌∙◌, ap, subst, arith, Bool, true, false, cond, ◌&&◌, ◌||◌, ◌==◌, nat_lt, Option, Some, filter, true≢false, ◌⊎◌, inl, inr}
 use Rattle.std.specs.Bool.{⊤}
 use Rattle.std.specs.List.{Contains}
 use Rattle.std.specs.Option.{option_and_then}
@@ -10,10 +10,11 @@ use Rattle.mv_message.specs.declared.message.Message.{Message}
 use Rattle.mv_link.specs.declared.item.Item.{Item}
 use Rattle.mv_link.specs.declared.item.Item.TheVariants.{Receipt, Carried}
 use Rattle.mv_repository.specs.declared.entry.LogEntry.{LogEntry}
-use Rattle.mv_repository.specs.Order.{Placed, ordered, stands_before, StandsBeforeAll, Ascends, AreOf}
-use Rattle.mv_repository.specs.Agreement.{Sent, sent_by, bears_on, batch_in, about, AgreeOn, stamp_in, stamp_at, HasDistinctStamps, HaveSameAbout}
+use Rattle.std.proofs.lemmas.Option.{slice_get_within, get_or_from_slice_get, slice_get-get_or}
+use Rattle.mv_repository.specs.Order.{Placed, ordered, ordered_after, put_in, passes, stands_before, StandsBeforeAll, Ascends, AreOf}
+use Rattle.mv_repository.specs.Agreement.{Sent, sent_in, sent_by, bears_on, batch_in, about, AgreeOn, stamp_in, stamp_at, HasDistinctStamps, HaveSameAbout, HaveSameEntries}
 use Rattle.mv_repository.proofs.OrderLemmas.{ordered-ascends, ordered-of}
-use Rattle.mv_repository.proofs.AgreementLemmas.{agree}
+use Rattle.mv_repository.proofs.AgreementLemmas.{agree, first_batch, batch-first}
 
 -- each stamp is greater
 abbrev AllAbove : ℕ → List Sent → Type 0
@@ -137,3 +138,99 @@ same_about pack one other distinct apart same =
     agree pack one other
     (same-order (about pack one) (about pack other) (about-increases pack one distinct) (about-increases pack other apart)
     (λ sent. (same sent).0) (λ sent. (same sent).1))
+
+-- the message that a placed entry carries, in front of others
+abbrev sent_of : Placed → Option Sent
+sent_of x = sent_in x.entry.sender x.entry.item
+
+sent-first : (x : Placed) (xs : List Placed) (sent : Sent) → sent_of x ≡ Some sent → Contains (sent_by (x ∷ xs)) sent
+sent-first x xs sent e = by x.entry.item e
+  where
+    by : (item : Item) → sent_in x.entry.sender item ≡ Some sent → Contains (sent_by (record { place = x.place; entry = record { sender = x.entry.sender; item = item } } ∷ xs)) sent
+    by (Receipt k reach query) e = absurd (cc)
+    by (Carried k stamp message) e =
+        let same : record { sender = x.entry.sender; stamp = stamp; message = message } ≡ sent = cc e in
+        subst (λ (s : Sent). Contains (s ∷ sent_by xs) sent) (sym same) (contains-here sent (sent_by xs))
+
+sent-later : (x : Placed) (xs : List Placed) (sent : Sent) → Contains (sent_by xs) sent → Contains (sent_by (x ∷ xs)) sent
+sent-later x xs sent c = by x.entry.item
+  where
+    by : (item : Item) → Contains (sent_by (record { place = x.place; entry = record { sender = x.entry.sender; item = item } } ∷ xs)) sent
+    by (Receipt k reach query) = c
+    by (Carried k stamp message) = contains-there sent (record { sender = x.entry.sender; stamp = stamp; message = message }) (sent_by xs) c
+
+sent-either : (x : Placed) (xs : List Placed) (sent : Sent) → Contains (sent_by (x ∷ xs)) sent → (sent_of x ≡ Some sent) ⊎ Contains (sent_by xs) sent
+sent-either x xs sent c = by x.entry.item c
+  where
+    by : (item : Item) → Contains (sent_by (record { place = x.place; entry = record { sender = x.entry.sender; item = item } } ∷ xs)) sent
+        → (sent_in x.entry.sender item ≡ Some sent) ⊎ Contains (sent_by xs) sent
+    by (Receipt k reach query) c = inr c
+    by (Carried k stamp message) c =
+        elim (contains-either sent (record { sender = x.entry.sender; stamp = stamp; message = message }) (sent_by xs) c)
+        as (λ _. (Some (record { sender = x.entry.sender; stamp = stamp; message = message }) ≡ Some sent) ⊎ Contains (sent_by xs) sent) [
+          | inl same ↦ inl (ap Some same)
+          | inr later ↦ inr later
+        ]
+
+-- an entry that is put in is there, and those that were there stay
+sent-put : (x : Placed) (xs : List Placed) (sent : Sent) → sent_of x ≡ Some sent → Contains (sent_by (put_in x xs)) sent
+sent-put x [] sent e = sent-first x [] sent e
+sent-put x (y ∷ ys) sent e = by (passes x y) (sent-put x ys sent e)
+  where
+    by : (b : Bool) → Contains (sent_by (put_in x ys)) sent → Contains (sent_by (cond b (x ∷ y ∷ ys) (y ∷ put_in x ys))) sent
+    by true later = sent-first x (y ∷ ys) sent e
+    by false later = sent-later y (put_in x ys) sent later
+
+sent-kept : (x : Placed) (xs : List Placed) (sent : Sent) → Contains (sent_by xs) sent → Contains (sent_by (put_in x xs)) sent
+sent-kept x [] sent c = absurd (contains-none sent c)
+sent-kept x (y ∷ ys) sent c = by (passes x y) (sent-either y ys sent c) (sent-kept x ys sent)
+  where
+    by : (b : Bool) → (sent_of y ≡ Some sent) ⊎ Contains (sent_by ys) sent → (Contains (sent_by ys) sent → Contains (sent_by (put_in x ys)) sent)
+        → Contains (sent_by (cond b (x ∷ y ∷ ys) (y ∷ put_in x ys))) sent
+    by true either kept = sent-later x (y ∷ ys) sent c
+    by false (inl first) kept = sent-first y (put_in x ys) sent first
+    by false (inr later) kept = sent-later y (put_in x ys) sent (kept later)
+
+sent-stays : (placed : List Placed) (place : ℕ) (log : List LogEntry) (sent : Sent) → Contains (sent_by placed) sent → Contains (sent_by (ordered_after placed place log)) sent
+sent-stays placed place [] sent c = c
+sent-stays placed place (entry ∷ log) sent c =
+    sent-stays (put_in (record { place = place; entry = entry }) placed) (place + 1) log sent (sent-kept (record { place = place; entry = entry }) placed sent c)
+
+-- each message of a log stands in its order
+sent-at : (placed : List Placed) (place : ℕ) (log : List LogEntry) (i : ℕ) (entry : LogEntry) (sent : Sent) → slice_get log i ≡ Some entry
+    → sent_in entry.sender entry.item ≡ Some sent → Contains (sent_by (ordered_after placed place log)) sent
+sent-at placed place [] i entry sent at e = absurd (cc)
+sent-at placed place (first ∷ log) zero entry sent at e =
+    let same : first ≡ entry = cc at in
+    sent-stays (put_in (record { place = place; entry = first }) placed) (place + 1) log sent
+    (sent-put (record { place = place; entry = first }) placed sent (ap (λ (x : LogEntry). sent_in x.sender x.item) same ∙ e))
+sent-at placed place (first ∷ log) (suc i) entry sent at e = sent-at (put_in (record { place = place; entry = first }) placed) (place + 1) log i entry sent at e
+
+-- and each message in that order is one of the log
+sent-from : (log : List LogEntry) (xs : List Placed) (sent : Sent) → AreOf log xs → Contains (sent_by xs) sent
+    → (i : ℕ) × (entry : LogEntry) × (slice_get log i ≡ Some entry) × (sent_in entry.sender entry.item ≡ Some sent)
+sent-from log [] sent of c = absurd (contains-none sent c)
+sent-from log (x ∷ xs) sent of c = by (sent-either x xs sent c) (sent-from log xs sent of.1)
+  where
+    by : (sent_of x ≡ Some sent) ⊎ Contains (sent_by xs) sent
+        → (Contains (sent_by xs) sent → (i : ℕ) × (entry : LogEntry) × (slice_get log i ≡ Some entry) × (sent_in entry.sender entry.item ≡ Some sent))
+        → (i : ℕ) × (entry : LogEntry) × (slice_get log i ≡ Some entry) × (sent_in entry.sender entry.item ≡ Some sent)
+    by (inl first) rest = (x.place, x.entry, of.0, first)
+    by (inr later) rest = rest later
+
+-- each entry of one log is in another: so each of its messages stands in the order of that
+sent-also : (one other : List LogEntry) (sent : Sent) → ((entry : LogEntry) → Contains one entry → Contains other entry)
+    → Contains (sent_by (ordered one)) sent → Contains (sent_by (ordered other)) sent
+sent-also one other sent also c =
+    let here = sent-from one (ordered one) sent (ordered-of one) c in
+    let there = also here.1 (here.0, slice_get_within one here.0 here.1 here.2, get_or_from_slice_get one here.0 here.1 here.1 here.2) in
+    sent-at [] 0 other there.0 here.1 sent (slice_get-get_or other there.0 here.1 there.1 ∙ ap Some there.2) here.3
+
+-- two logs with distinct stamps and the same entries agree on every pack
+pub same_entries : (pack : PackKey) (one other : List LogEntry) → HasDistinctStamps one → HasDistinctStamps other → HaveSameEntries one other → AgreeOn pack one other
+same_entries pack one other distinct apart same =
+    let sent : sent_by (ordered one) ≡ sent_by (ordered other) =
+    same-order (sent_by (ordered one)) (sent_by (ordered other)) (increases-by one (ordered one) distinct (ordered-ascends one) (ordered-of one)) (increases-by other (ordered other) apart (ordered-ascends other) (ordered-of other))
+    (λ s. sent-also one other s (λ entry. (same entry).0)) (λ s. sent-also other one s (λ entry. (same entry).1)) in
+    let batch : batch_in pack one ≡ batch_in pack other = batch-first pack one ∙ ap (first_batch pack) sent ∙ sym (batch-first pack other) in
+    agree pack one other (λ i. filter (λ s. bears_on pack (batch i) s.message) (sent i))

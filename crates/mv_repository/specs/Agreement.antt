@@ -111,3 +111,7 @@ HasDistinctStamps log = (first second stamp : ℕ) → stamp_at log first ≡ So
 -- two logs have the same messages about a pack, in whatever order these came
 abbrev pub HaveSameAbout : PackKey → List LogEntry → List LogEntry → Type 0
 HaveSameAbout pack one other = (sent : Sent) → Contains (about pack one) sent ↔ Contains (about pack other) sent
+
+-- two logs have the same entries, in whatever order and however often
+abbrev pub HaveSameEntries : List LogEntry → List LogEntry → Type 0
+HaveSameEntries one other = (entry : LogEntry) → Contains one entry ↔ Contains other entry

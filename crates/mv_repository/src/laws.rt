@@ -3,7 +3,7 @@
 ghost use Rattle.std.specs.Prelude.{◌≡◌, List};
 ghost use Rattle.mv_pack.specs.declared.key.PackKey.{PackKey as APackKey};
 ghost use Rattle.mv_repository.specs.declared.entry.LogEntry.{LogEntry as AnEntry};
-ghost use Rattle.mv_repository.specs.Agreement.{about, AgreeOn, HasDistinctStamps, HaveSameAbout};
+ghost use Rattle.mv_repository.specs.Agreement.{about, AgreeOn, HasDistinctStamps, HaveSameAbout, HaveSameEntries};
 ghost use Rattle.mv_repository.specs.Changes.{ChangeNamesStatus};
 ghost use Rattle.mv_repository.specs.Order.{OneMoreIsPutIn, IsOrderOf, ordered};
 ghost use Rattle.mv_repository.specs.PackState.{known_pack};
@@ -44,4 +44,11 @@ pub fn about_decides()
 pub fn same_messages_agree()
     ensures { (pack : APackKey) (one other : List AnEntry) → HasDistinctStamps one
         → HasDistinctStamps other → HaveSameAbout pack one other → AgreeOn pack one other }
+{}
+
+/// Two logs, in each of which no stamp stands twice, that have the same entries agree on every pack, in whatever order these
+/// came.
+pub fn same_entries_agree()
+    ensures { (pack : APackKey) (one other : List AnEntry) → HasDistinctStamps one
+        → HasDistinctStamps other → HaveSameEntries one other → AgreeOn pack one other }
 {}

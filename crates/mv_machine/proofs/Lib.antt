@@ -8,3 +8,4 @@ pub mod StampLemmas
 pub mod SubmittedLemmas
 pub mod HeadlineLemmas
 pub mod LimitLemmas
+pub mod SameRecordLemmas

@@ -1,11 +1,12 @@
 -- What every run of the list machine keeps.
-use Rattle.std.specs.Prelude.{◌≡◌, ◌≤◌, ℕ, List, length, IsTrue}
+use Rattle.std.specs.Prelude.{◌≡◌, ◌<◌, ◌≤◌, ℕ, List, length, IsTrue}
 use Rattle.mv_pack.specs.declared.key.PackKey.{PackKey}
+use Rattle.mv_repository.specs.Agreement.{AgreeOn}
 use Rattle.mv_machine.specs.declared.step.Step.{Step}
 use Rattle.mv_machine.specs.declared.reply.Reply.{Reply}
 use Rattle.mv_machine.specs.Limits.{Bounds}
 use Rattle.mv_machine.specs.Replies.{changes_nothing}
-use Rattle.mv_machine.specs.State.{State, submissions_of, opening}
+use Rattle.mv_machine.specs.State.{State, submissions_of, log_of, applied_count, opening}
 use Rattle.mv_machine.specs.Steps.{ask}
 use Rattle.mv_machine.specs.Runs.{Meets, Allows, Runs}
 use Rattle.mv_machine.specs.Lawful.{IsLawful, IsWellFormed}
@@ -77,3 +78,11 @@ RefusalsChangeNothing =
 abbrev pub LimitsAreKept : Type 0
 LimitsAreKept = (parties : List (List (List ℕ))) (limits : Bounds) (steps : List Step) (replies : List Reply) (new : State)
     → Runs (opening parties limits) steps replies new → KeepsLimits new
+
+-- Two lawful states have the same parties and the same record, whatever steps led to each: a party's repository that applied as
+-- many items of each sender in both says the same of every pack.
+abbrev pub RecordsDecide : Type 0
+RecordsDecide = (one other : State) → IsLawful one → IsLawful other → other.parties ≡ one.parties → other.entries ≡ one.entries
+    → (party : ℕ) → party < length one.parties
+    → ((from : ℕ) → from < length one.parties → applied_count other from party ≡ applied_count one from party)
+    → (pack : PackKey) → AgreeOn pack (log_of one party) (log_of other party)

@@ -2,7 +2,7 @@
 
 ghost use Rattle.mv_machine.specs.Laws.{RunsAreLawful, ClosedLinksStayClosed, StampsFit, LawfulStampsAreDistinct, LawfulRepositoriesAgree};
 ghost use Rattle.mv_machine.specs.Laws.{LawfulClosingsHold, LawfulItemsAreSubmitted, FollowsIsTransitive, LawfulStatesKeepHeadline};
-ghost use Rattle.mv_machine.specs.Laws.{HeadlinesJoin, StepsFollow, RefusalsChangeNothing, LimitsAreKept};
+ghost use Rattle.mv_machine.specs.Laws.{HeadlinesJoin, StepsFollow, RefusalsChangeNothing, LimitsAreKept, RecordsDecide};
 
 /// Whatever the steps and whatever their order: what each repository applied from each sender is a prefix of what the record
 /// put on their link, in order and each once, and what was routed is a prefix of what its sender submitted.
@@ -74,4 +74,10 @@ pub fn refusals_change_nothing()
 /// has more under way than its wire takes, nor more waiting to be relayed than its window; and what is under way was relayed.
 pub fn limits_are_kept()
     ensures { LimitsAreKept }
+{}
+
+/// Two runs that come to the same record: a repository that applied as many items of each sender in both says the same of every
+/// pack.
+pub fn records_decide()
+    ensures { RecordsDecide }
 {}

@@ -12,8 +12,9 @@ mod step;
 
 pub use laws::{
     closed_links_stay_closed, closings_hold, follows_is_transitive, headlines_join,
-    items_are_submitted, lawful_states_keep_headline, limits_are_kept, refusals_change_nothing,
-    repositories_agree, runs_are_lawful, stamps_are_distinct, stamps_fit, steps_follow,
+    items_are_submitted, lawful_states_keep_headline, limits_are_kept, records_decide,
+    refusals_change_nothing, repositories_agree, runs_are_lawful, stamps_are_distinct, stamps_fit,
+    steps_follow,
 };
 pub use limits::{Limits, LimitsFault};
 pub use part_laws::{

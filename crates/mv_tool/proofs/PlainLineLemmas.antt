@@ -1,5 +1,5 @@
 -- What a line that is plainly of a flat kind asks.
-use Rattle.std.proofs.Common.{◌≡◌, ℕ, ◌<◌, ◌^◌, List, [], ◌∷◌, Some, ap, ◌∙◌, lt-ltb}
+use Rattle.std.proofs.Common.{◌≡◌, ℕ, ◌<◌, ◌^◌, List, ◌∷◌, Some, ap, ◌∙◌, lt-ltb}
 use Rattle.std.specs.Prelude.{Option, None, IfSome, Ok, IsUtf8}
 use Rattle.json.specs.Json.{value, items, members}
 use Rattle.json.specs.Lex.{tokens}

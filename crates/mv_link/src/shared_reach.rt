@@ -1,8 +1,9 @@
 //! The reach of a message as its receipt keeps it.
 
-ghost use Rattle.std.specs.Prelude.{◌≡◌, nat_eq, IfOk};
+ghost use Rattle.std.specs.Prelude.{◌≡◌, ◌≤◌, length, nat_eq, IfOk};
 ghost use Rattle.std.specs.Cmp.{partial_equiv_from_equiv};
 ghost use Rattle.std.specs.Cmp.Lexicographic.{pointwise, nat_list_eq_equiv};
+ghost use Rattle.std.specs.List.Sorted.{IsStrictlyIncreasing};
 
 use crate::Reach;
 use mv_message::{Party, Shared};
@@ -17,11 +18,14 @@ pub struct SharedReach {
 }
 
 impl Model for SharedReach {
-    ghost use Rattle.std.specs.Prelude.{ℕ, List};
+    ghost use Rattle.std.specs.Prelude.{◌≤◌, length, ℕ, List};
+    ghost use Rattle.std.specs.List.Sorted.{IsStrictlyIncreasing};
 
     ghost Value = { List ℕ };
 
     ghost view = { λ reach. reach.parties.items };
+
+    ghost invariant = { λ reach. IsStrictlyIncreasing reach.parties.items × (length reach.parties.items ≤ 64) };
 }
 
 impl SharedReach {
@@ -44,9 +48,11 @@ impl SharedReach {
         })
     }
 
-    /// The parties, in the order of the reach.
+    /// The parties, ascending.
     pub fn as_slice(&self) -> &[Party]
-        ensures { result.now ≡ self.now }
+        ensures value { result.now ≡ self.now }
+        ensures ascending { IsStrictlyIncreasing result.now }
+        ensures few { length result.now ≤ 64 }
     {
         self.parties.get().as_slice()
     }

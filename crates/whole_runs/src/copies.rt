@@ -76,9 +76,7 @@ fn entry_value(alloc: Global, party: Party, place: usize, entry: &LogEntry) -> O
 /// An item: a receipt, or a message with its number and its stamp.
 fn item_value(alloc: Global, item: &Item) -> Option<Value> {
     match item {
-        Item::Receipt { k, reach, query } => {
-            receipt_value(alloc, *k, reach.as_slice(), *query)
-        }
+        Item::Receipt { k, reach, query } => { receipt_value(alloc, *k, reach.as_slice(), *query) }
         Item::Carried { k, stamp, message } => { carried_value(alloc, *k, *stamp, message.get()) }
     }
 }

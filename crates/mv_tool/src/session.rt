@@ -1,14 +1,15 @@
 //! Answers the lines of a run of steps.
 
-ghost use Rattle.std.specs.Prelude.{◌≡◌, Ok, None, IfOk, IfErr};
+ghost use Rattle.std.specs.Prelude.{◌≡◌, length, Ok, Some, None, IfOk, IfErr};
 ghost use Rattle.mv_hub.specs.Parties.{parties_of};
 ghost use Rattle.mv_machine.specs.Limits.{limits_of};
 ghost use Rattle.mv_tool.specs.Openings.{Gives, code_of, of_parties, of_limits};
 ghost use Rattle.mv_tool.specs.Reading.{Gives as ReadGives};
-ghost use Rattle.mv_tool.specs.ReplyLines.{refused};
+ghost use Rattle.mv_tool.specs.ReplyLines.{refused, opened_value};
 ghost use Rattle.mv_tool.specs.Requests.{read_line};
 ghost use Rattle.mv_tool.specs.Served.{Readied};
-ghost use Rattle.mv_tool.specs.Sessions.{IsOpenReply, IsStepReply, IsRequestReply, IsReply};
+ghost use Rattle.mv_machine.specs.State.{opening};
+ghost use Rattle.mv_tool.specs.Sessions.{IsAnswer, IsOpenReply, IsStepReply, IsRequestReply, IsReply};
 ghost use Rattle.mv_tool.specs.Writing.{Appended};
 
 use crate::answering::Answering;
@@ -118,9 +119,31 @@ impl Session {
             Ok(limits) => limits,
             Err(fault) => return self.refuse(fault, out),
         };
+        self.open_world(parties, limits, out)
+    }
+
+    /// Opens a system, and writes that it stands open.
+    fn open_world(
+        &mut self,
+        parties: Parties,
+        limits: Limits,
+        out: &mut Vec<u8>,
+    ) -> Result<(), AllocError>
+        ensures ok { IfOk result (λ _. Readied out.old.items out.new.items (λ text.
+            IsAnswer (opened_value (length parties)) (Some (opening parties limits)) text self.new)) }
+        ensures err { IfErr result (λ _. out.new.items ≡ out.old.items) }
+    {
         let count = parties.len();
-        self.world = Some(World::open(self.alloc, parties, limits)?);
+        let world = World::open(self.alloc, parties, limits)?;
+        self.stand_open(world);
         append(self.alloc, out, &Opened { count })
+    }
+
+    /// This system is open from here on.
+    fn stand_open(&mut self, world: World)
+        ensures { self.new ≡ Some world }
+    {
+        self.world = Some(world);
     }
 
     /// Writes the reply to a step: C1, else what the system answers.

@@ -8,9 +8,10 @@ use Rattle.std.proofs.lemmas.List.{get_or-replicate, length-replicate}
 use Rattle.mv_message.specs.declared.message.Message.{Message}
 use Rattle.mv_link.specs.declared.item.Item.{Item}
 use Rattle.mv_link.specs.declared.item.Item.TheVariants.{Receipt, Carried}
-use Rattle.mv_link.specs.Sending.{Sending, HasRoom, new_sending}
+use Rattle.mv_link.specs.declared.limits.TheConstants.{PARTIES_LIMIT, NUMBER_LIMIT}
+use Rattle.mv_link.specs.Sending.{Sending, IsWindow, HasRoom, new_sending}
 use Rattle.mv_pairs.specs.Pairs.{cell, put, IsSquare}
-use Rattle.mv_pairs.proofs.PairsLemmas.{cell-map, put-map, cell-all, table-all, cell-put_same, cell-put_other, square-put}
+use Rattle.mv_pairs.proofs.PairsLemmas.{cell-map, put-map, cell-all, table-all, cell-put_same, cell-put_other, square-put, put-read}
 use Rattle.mv_hub.specs.declared.entry.Entry.{Entry}
 use Rattle.mv_hub.specs.declared.entry.Entry.TheVariants.{Routed, Closed}
 use Rattle.mv_hub.specs.Record.{routed_from, routed_count, is_open}
@@ -154,8 +155,8 @@ not_busy hub from to message link count carries sent e room =
     let total = carries.ends.count in
     let window = carries.window in
     let first = le-ltb hub.window (length (items_on hub from to) - sent_of hub from to + length (next_items hub from message to)) (omega arith) in
-    let second = le-ltb 4294967295 (length (items_on hub from to) + length (next_items hub from message to)) (omega arith) in
-    ap (λ b. b || nat_lt 4294967295 (length (items_on hub from to) + length (next_items hub from message to))) first ∙ second
+    let second = le-ltb NUMBER_LIMIT (length (items_on hub from to) + length (next_items hub from message to)) (omega arith) in
+    ap (λ b. b || nat_lt NUMBER_LIMIT (length (items_on hub from to) + length (next_items hub from message to))) first ∙ second
 
 either : (a b : Bool) → (a ≡ false → b ≡ false → ⊥) → (a || b) ≡ true
 either true b neither = refl
@@ -170,7 +171,7 @@ busy hub from to message link count carries sent e full =
     let total = carries.ends.count in
     let window = carries.window in
     either (nat_lt hub.window (length (items_on hub from to) - sent_of hub from to + length (next_items hub from message to)))
-    (nat_lt 4294967295 (length (items_on hub from to) + length (next_items hub from message to)))
+    (nat_lt NUMBER_LIMIT (length (items_on hub from to) + length (next_items hub from message to)))
     (λ a b. full (omega (arith, ltb-false _ _ a), omega (arith, ltb-false _ _ b)))
 
 -- a link that is not busy has room
@@ -182,7 +183,7 @@ room hub from to message link carries sent free =
     let total = carries.ends.count in
     let window = carries.window in
     let parts = neither (nat_lt hub.window (length (items_on hub from to) - sent_of hub from to + length (next_items hub from message to)))
-    (nat_lt 4294967295 (length (items_on hub from to) + length (next_items hub from message to))) free in
+    (nat_lt NUMBER_LIMIT (length (items_on hub from to) + length (next_items hub from message to))) free in
     (omega (arith, ltb-false _ _ parts.0), omega (arith, ltb-false _ _ parts.1))
   where
     neither : (a b : Bool) → (a || b) ≡ false → (a ≡ false) × (b ≡ false)
@@ -323,8 +324,7 @@ pub kept-routed : (parties : List (List (List ℕ))) (window : ℕ) (entries : L
 kept-routed parties window entries counts open_links old new from message kept lt none row = record {
   some = kept.some;
   few = kept.few;
-  wide = kept.wide;
-  narrow = kept.narrow;
+  is_window = kept.is_window;
   are_counts = counts-routed (length parties) entries counts from message kept.are_counts lt;
   are_open = record {
     square = kept.are_open.square;
@@ -390,8 +390,7 @@ pub kept-closed : (parties : List (List (List ℕ))) (window : ℕ) (entries : L
 kept-closed parties window entries counts open_links links from to kept is_from is_to = record {
   some = kept.some;
   few = kept.few;
-  wide = kept.wide;
-  narrow = kept.narrow;
+  is_window = kept.is_window;
   are_counts = counts-closed (length parties) entries counts from to kept.are_counts;
   are_open = open-closed (length parties) entries open_links from to kept.are_open is_from is_to;
   are_links = links-closed parties window entries links from to kept.are_links;
@@ -402,37 +401,42 @@ pub record LinkFacts (hub : HubState) (from to : ℕ) (link : Sending) : Type 0 
   pub carries : Carries hub.window (items_on hub from to) link
   pub sent : link.sent ≡ sent_of hub from to
 
-pub link-facts : (parties : List (List (List ℕ))) (window : ℕ) (entries : List Entry) (links : List (List Sending)) (hub : HubState) (from to : ℕ) (link : Sending)
+pub link_facts : (parties : List (List (List ℕ))) (window : ℕ) (entries : List Entry) (links : List (List Sending)) (hub : HubState) (from to : ℕ) (link : Sending)
     → AreLinks parties window entries links → view parties window entries links ≡ hub → from < length hub.parties → to < length hub.parties
     → link_at links from to ≡ link → LinkFacts hub from to link
-link-facts parties window entries links hub from to link are seen is_from is_to at =
+link_facts parties window entries links hub from to link are seen is_from is_to at =
     subst (λ (h : HubState). from < length h.parties → to < length h.parties → LinkFacts h from to link) seen
     (λ p q. record {
       carries = subst (Carries window (link_items parties entries from to)) at (are.values from to p q);
       sent = ap (λ (v : Sending). v.sent) (sym at) ∙ sym (sent-at links from to);
     }) is_from is_to
 
+-- a link that is written as it was changes nothing
+pub view_put_back : (parties : List (List (List ℕ))) (window : ℕ) (entries : List Entry) (links : List (List Sending)) (from to : ℕ) (new old : Sending)
+    → cell links from to (new_sending 0) ≡ old → new ≡ old → view parties window entries (put links from to new) ≡ view parties window entries links
+view_put_back parties window entries links from to new old at same =
+    ap (view parties window entries) (put-read links from to new (new_sending 0) (same ∙ sym at))
+
 -- and what the hub is seen as, once an item was relayed
-pub view-relayed : (parties : List (List (List ℕ))) (window : ℕ) (entries : List Entry) (links : List (List Sending)) (hub : HubState) (from to : ℕ) (new : Sending)
+pub view_relayed : (parties : List (List (List ℕ))) (window : ℕ) (entries : List Entry) (links : List (List Sending)) (hub : HubState) (from to : ℕ) (new : Sending)
     → view parties window entries links ≡ hub → new.sent ≡ sent_of hub from to + 1
     → view parties window entries (put links from to new) ≡ with_relayed hub from to
-view-relayed parties window entries links hub from to new seen e =
+view_relayed parties window entries links hub from to new seen e =
     subst (λ (h : HubState). new.sent ≡ sent_of h from to + 1 → view parties window entries (put links from to new) ≡ with_relayed h from to) seen
     (λ e. ap {A = List (List ℕ)} {B = HubState} (λ l. record { parties = parties; window = window; entries = entries; sent = l })
     (put-map (λ v. v.sent) links from to new ∙ ap (put (sent_table links) from to) e)) e
 
 -- a hub where nothing has happened keeps what it should
 pub kept-new : (parties : List (List (List ℕ))) (window : ℕ) (open_links : List (List Bool)) (links : List (List Sending))
-    → 1 ≤ length parties → length parties ≤ 64 → 2 ≤ window → window ≤ 256
+    → 1 ≤ length parties → length parties ≤ PARTIES_LIMIT → IsWindow window
     → IsSquare (length parties) open_links → All (All (λ b. b ≡ true)) open_links
     → IsSquare (length parties) links → All (All (λ v. v ≡ new_sending window)) links
     → IsKept parties window [] (replicate (length parties) 0) open_links links
 unfolding link_items
-kept-new parties window open_links links some few wide narrow open_square all_open square fresh = record {
+kept-new parties window open_links links some few is_window open_square all_open square fresh = record {
   some = some;
   few = few;
-  wide = wide;
-  narrow = narrow;
+  is_window = is_window;
   are_counts = record { each = length-replicate (length parties) 0; values = λ party lt. get_or-replicate (length parties) party 0 0 lt };
   are_open = record { square = open_square; values = λ from to p q. cell-all (λ b. b ≡ true) (length parties) open_links from to true open_square all_open p q };
   are_links = record {
@@ -451,13 +455,13 @@ view-new parties window links square fresh =
     (table-all (λ (v : Sending). v.sent) 0 (length parties) links square (λ k d lt j e below. ap (λ (v : Sending). v.sent) (fresh k d lt j e below)))
 
 -- why a message of a stranger, and of a party, is not routed
-pub route_fault-stranger : (hub : HubState) (from : ℕ) (message : Message) → length hub.parties ≤ from → route_fault hub from message ≡ Some StrangerParty
+pub route_fault_of_stranger : (hub : HubState) (from : ℕ) (message : Message) → length hub.parties ≤ from → route_fault hub from message ≡ Some StrangerParty
 unfolding route_fault
-route_fault-stranger hub from message ge =
+route_fault_of_stranger hub from message ge =
     ap (λ b. cond b (busy_fault (busy_party hub from message)) (Some StrangerParty)) (le-ltb from (length hub.parties) ge)
 
-pub route_fault-party : (hub : HubState) (from : ℕ) (message : Message) → from < length hub.parties
+pub route_fault_of_party : (hub : HubState) (from : ℕ) (message : Message) → from < length hub.parties
     → route_fault hub from message ≡ busy_fault (busy_party hub from message)
 unfolding route_fault
-route_fault-party hub from message lt =
+route_fault_of_party hub from message lt =
     ap (λ b. cond b (busy_fault (busy_party hub from message)) (Some StrangerParty)) (lt-ltb from (length hub.parties) lt)

@@ -1,5 +1,7 @@
 -- The faults of the hub: their numbers, and what a call answers where memory may be wanting.
-use Rattle.std.specs.Prelude.{◌≡◌, ℕ, List, codes, IsOk, Option, Some, None, Result, Ok, Err}
+use Rattle.std.specs.Prelude.{◌≡◌, ℕ, List, codes, IsOk, Result, Ok, Err}
+use Rattle.mv_link.specs.declared.fault.LinkFault.{LinkFault}
+use Rattle.mv_link.specs.declared.fault.LinkFault.TheVariants as link
 use Rattle.mv_hub.specs.declared.fault.HubFault.{HubFault}
 use Rattle.mv_hub.specs.declared.fault.HubFault.TheVariants as hub
 use Rattle.mv_hub.specs.declared.fault.RouteFault.{RouteFault}
@@ -29,14 +31,9 @@ Gives (Ok value) expected = expected ≡ Ok value
 Gives (Err hub.Memory) expected = IsOk expected
 Gives (Err fault) expected = expected ≡ Err fault
 
--- a call is refused for this fault, the first that holds; where there is none it may want memory, and nothing else
-abbrev pub FailsBy : {A : Type 0} → Option HubFault → Result A HubFault → Type 0
-FailsBy fault (Ok value) = fault ≡ None
-FailsBy fault (Err hub.Memory) = fault ≡ None
-FailsBy fault (Err refused) = fault ≡ Some refused
-
--- the same of routing
-abbrev pub RouteFailsBy : {A : Type 0} → Option RouteFault → Result A RouteFault → Type 0
-RouteFailsBy fault (Ok value) = fault ≡ None
-RouteFailsBy fault (Err route.Memory) = fault ≡ None
-RouteFailsBy fault (Err refused) = fault ≡ Some refused
+-- the fault of a link, as the hub names it
+abbrev pub of_link : LinkFault → HubFault
+of_link link.Nothing = hub.Nothing
+of_link link.NotSent = hub.NotSent
+of_link link.Gone = hub.Gone
+of_link link.Memory = hub.Memory

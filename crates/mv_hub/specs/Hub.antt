@@ -1,19 +1,22 @@
 -- What the hub is seen as. Neither links nor tables are part of it: they follow from the record.
-use Rattle.std.specs.Prelude.{ℕ, List, [], ◌∷◌, ◌++◌, ◌+◌, ◌-◌, length, Bool, ◌||◌, ◌&&◌, ◌==◌, not, nat_lt, nat_le, replicate, find, Option, Some, None, if◌then◌else◌}
+use Rattle.std.specs.Prelude.{ℕ, List, [], ◌∷◌, ◌++◌, ◌+◌, ◌-◌, length, Bool, ◌||◌, ◌&&◌, not, nat_lt, replicate, find, option_map, Option, Some, None, if◌then◌else◌}
 use Rattle.std.specs.List.{range_with_len}
 use Rattle.mv_message.specs.declared.message.Message.{Message}
 use Rattle.mv_link.specs.declared.item.Item.{Item}
+use Rattle.mv_link.specs.declared.limits.TheConstants.{NUMBER_LIMIT}
+use Rattle.mv_link.specs.Sending.{relay_fault as link_relay_fault, again_fault}
 use Rattle.mv_pairs.specs.Pairs.{cell, put}
 use Rattle.mv_hub.specs.declared.entry.Entry.{Entry}
 use Rattle.mv_hub.specs.declared.entry.Entry.TheVariants.{Routed, Closed}
 use Rattle.mv_hub.specs.declared.fault.RouteFault.{RouteFault}
 use Rattle.mv_hub.specs.declared.fault.RouteFault.TheVariants.{StrangerParty, Busy}
 use Rattle.mv_hub.specs.declared.fault.HubFault.{HubFault}
-use Rattle.mv_hub.specs.declared.fault.HubFault.TheVariants.{StrangerParty as Stranger, AlreadyClosed, Nothing, NotSent, Gone}
+use Rattle.mv_hub.specs.declared.fault.HubFault.TheVariants.{StrangerParty as Stranger, AlreadyClosed}
 use Rattle.mv_hub.specs.Record.{routed_count, is_open}
+use Rattle.mv_hub.specs.Fault.{of_link}
 use Rattle.mv_hub.specs.Links.{gained, link_items}
 
--- the state of the hub
+-- the hub, as calls see it
 pub record HubState : Type 0 where
   pub parties : List (List (List ℕ))  -- the markets that each party serves, party 0 first
   pub window : ℕ  -- how many items each link keeps
@@ -50,7 +53,7 @@ next_items hub from message to = gained hub.parties hub.entries (next_entry hub 
 unfoldable pub is_busy : HubState → ℕ → Message → ℕ → Bool
 is_busy hub from message to =
     nat_lt hub.window (length (items_on hub from to) - sent_of hub from to + length (next_items hub from message to))
-    || nat_lt 4294967295 (length (items_on hub from to) + length (next_items hub from message to))
+    || nat_lt NUMBER_LIMIT (length (items_on hub from to) + length (next_items hub from message to))
 
 -- the least party whose link has no room for the routing of a message
 unfoldable pub busy_party : HubState → ℕ → Message → Option ℕ
@@ -66,26 +69,26 @@ unfoldable pub route_fault : HubState → ℕ → Message → Option RouteFault
 route_fault hub from message =
     if nat_lt from (length hub.parties) then busy_fault (busy_party hub from message) else Some StrangerParty
 
--- why a link gives no frame now, memory aside, the first reason that holds
+-- two parties of the hub
+abbrev pub are_parties : HubState → ℕ → ℕ → Bool
+are_parties hub from to = nat_lt from (length hub.parties) && nat_lt to (length hub.parties)
+
+-- why a link gives no frame now, memory aside, the first reason that holds: that of its sending end comes second
 abbrev pub relay_fault : HubState → ℕ → ℕ → Option HubFault
 relay_fault hub from to =
-    if not (nat_lt from (length hub.parties) && nat_lt to (length hub.parties)) then Some Stranger
-    else (if sent_of hub from to == length (items_on hub from to) then Some Nothing
-    else None)
+    if not (are_parties hub from to) then Some Stranger
+    else option_map of_link (link_relay_fault (length (items_on hub from to)) (sent_of hub from to))
 
--- why the frame of a number is not given again, memory aside, the first reason that holds: it was not relayed, or as many
--- items as the window holds were put on the link behind it
+-- why the frame of a number is not given again, memory aside, the first reason that holds
 abbrev pub repeat_fault : HubState → ℕ → ℕ → ℕ → Option HubFault
 repeat_fault hub from to number =
-    if not (nat_lt from (length hub.parties) && nat_lt to (length hub.parties)) then Some Stranger
-    else (if (number == 0) || nat_lt (sent_of hub from to) number then Some NotSent
-    else (if nat_le number (length (items_on hub from to) - hub.window) then Some Gone
-    else None))
+    if not (are_parties hub from to) then Some Stranger
+    else option_map of_link (again_fault hub.window (length (items_on hub from to)) (sent_of hub from to) number)
 
 -- why a link cannot be closed, memory aside, the first reason that holds
 abbrev pub close_fault : HubState → ℕ → ℕ → Option HubFault
 close_fault hub from to =
-    if not (nat_lt from (length hub.parties) && nat_lt to (length hub.parties)) then Some Stranger
+    if not (are_parties hub from to) then Some Stranger
     else (if not (is_open hub.entries from to) then Some AlreadyClosed
     else None)
 

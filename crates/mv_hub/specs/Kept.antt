@@ -2,7 +2,8 @@
 use Rattle.std.specs.Prelude.{◌≡◌, ◌<◌, ◌≤◌, ℕ, List, length, map, Bool, true, slice_index_or}
 use Rattle.mv_pack.specs.declared.key.BatchKey.{BatchKey}
 use Rattle.mv_link.specs.declared.item.Item.{Item}
-use Rattle.mv_link.specs.Sending.{Sending, HasRoom, EndsWithHeld, new_sending}
+use Rattle.mv_link.specs.declared.limits.TheConstants.{PARTIES_LIMIT}
+use Rattle.mv_link.specs.Sending.{Sending, IsWindow, HasRoom, EndsWithHeld, new_sending}
 use Rattle.mv_pairs.specs.Pairs.{cell, IsSquare}
 use Rattle.mv_hub.specs.declared.entry.Entry.{Entry}
 use Rattle.mv_hub.specs.declared.catalogue.Catalogue.{Catalogue}
@@ -51,9 +52,8 @@ pub record AreLinks (parties : List (List (List ℕ))) (window : ℕ) (entries :
 pub record IsKept (parties : List (List (List ℕ))) (window : ℕ) (entries : List Entry) (counts : List ℕ)
     (open_links : List (List Bool)) (links : List (List Sending)) : Type 0 where
   pub some : 1 ≤ length parties
-  pub few : length parties ≤ 64
-  pub wide : 2 ≤ window
-  pub narrow : window ≤ 256
+  pub few : length parties ≤ PARTIES_LIMIT
+  pub is_window : IsWindow window
   pub are_counts : AreCounts (length parties) entries counts
   pub are_open : AreOpen (length parties) entries open_links
   pub are_links : AreLinks parties window entries links

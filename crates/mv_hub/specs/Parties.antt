@@ -2,6 +2,7 @@
 use Rattle.std.specs.Prelude.{ℕ, List, [], ◌∷◌, ◌++◌, length, nat_eq, nat_lt, Bool, false, ◌==◌, ◌||◌, if◌then◌else◌, slice_index_or, filter, Result, Ok, Err}
 use Rattle.std.specs.List.{list_any, range_with_len}
 use Rattle.std.specs.Cmp.Lexicographic.{pointwise}
+use Rattle.mv_link.specs.declared.limits.TheConstants.{PARTIES_LIMIT}
 use Rattle.mv_hub.specs.declared.fault.HubFault.{HubFault}
 use Rattle.mv_hub.specs.declared.fault.HubFault.TheVariants.{NoParty, TooMany, ServedTwice}
 
@@ -39,6 +40,6 @@ all_markets (markets ∷ rest) = markets ++ all_markets rest
 abbrev pub parties_of : List (List (List ℕ)) → Result (List (List (List ℕ))) HubFault
 parties_of lists =
     if length lists == 0 then Err NoParty
-    else (if nat_lt 64 (length lists) then Err TooMany
+    else (if nat_lt PARTIES_LIMIT (length lists) then Err TooMany
     else (if has_twice (all_markets lists) then Err ServedTwice
     else Ok lists))

@@ -2,7 +2,9 @@
 
 ghost use Rattle.std.specs.Prelude.{◌≡◌};
 
+use mv_link::LinkFault;
 use mv_message::Party;
+use std::alloc::AllocError;
 
 /// Why parties cannot be made, why the hub gives no frame, or why it closes no link.
 #[derive(Clone, Copy, Debug, PartialEq, Eq)]
@@ -48,6 +50,33 @@ impl HubFault {
     }
 }
 
+impl From<LinkFault> for HubFault {
+    ghost use Rattle.std.specs.Prelude.{◌≡◌};
+    ghost use Rattle.mv_hub.specs.Fault.{of_link};
+
+    ghost from_gives = { λ fault own. own ≡ of_link fault };
+
+    fn from(fault: LinkFault) -> HubFault {
+        match fault {
+            LinkFault::Nothing => HubFault::Nothing,
+            LinkFault::NotSent => HubFault::NotSent,
+            LinkFault::Gone => HubFault::Gone,
+            LinkFault::Memory => HubFault::Memory,
+        }
+    }
+}
+
+impl From<AllocError> for HubFault {
+    ghost use Rattle.std.specs.Prelude.{◌≡◌};
+    ghost use Rattle.mv_hub.specs.declared.fault.HubFault.TheVariants.{Memory};
+
+    ghost from_gives = { λ _ fault. fault ≡ Memory };
+
+    fn from(_: AllocError) -> HubFault {
+        HubFault::Memory
+    }
+}
+
 /// Why the hub does not route a message.
 #[derive(Clone, Copy, Debug, PartialEq, Eq)]
 pub enum RouteFault {
@@ -71,5 +100,16 @@ impl RouteFault {
             RouteFault::Busy(_) => "H5",
             RouteFault::Memory => "H7",
         }
+    }
+}
+
+impl From<AllocError> for RouteFault {
+    ghost use Rattle.std.specs.Prelude.{◌≡◌};
+    ghost use Rattle.mv_hub.specs.declared.fault.RouteFault.TheVariants.{Memory};
+
+    ghost from_gives = { λ _ fault. fault ≡ Memory };
+
+    fn from(_: AllocError) -> RouteFault {
+        RouteFault::Memory
     }
 }

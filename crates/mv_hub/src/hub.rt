@@ -55,13 +55,13 @@ impl Model for Hub {
 }
 
 impl Hub {
-    ghost use Rattle.mv_link.specs.Sending.{new_sending};
+    ghost use Rattle.mv_link.specs.Sending.{IsWindow, new_sending};
+    ghost use Rattle.mv_link.specs.declared.limits.TheConstants.{PARTIES_LIMIT};
     ghost use Rattle.mv_hub.specs.Hub.{new_hub, sent_of, items_on};
 
     /// A hub where nothing has happened, whose links keep their last `window` items. Refused for want of memory.
     pub fn new(alloc: Global, parties: Parties, window: u32) -> Result<Hub, AllocError>
-        requires wide { 2 ≤ window }
-        requires narrow { window ≤ 256 }
+        requires { IsWindow window }
         ensures { IfOk result (λ hub. hub ≡ new_hub parties window) }
     {
         let count = parties.len();
@@ -77,7 +77,7 @@ impl Hub {
             alloc,
             count,
             || -> Result<Outgoing, AllocError>
-                requires { (2 ≤ window) × (window ≤ 256) }
+                requires { IsWindow window }
                 ensures { IfOk result (λ link. link ≡ new_sending window) }
             { Outgoing::new(alloc, window) },
         )?;
@@ -96,7 +96,7 @@ impl Hub {
     pub fn parties(&self) -> &Parties
         ensures value { result.now ≡ self.now.parties }
         ensures some { 1 ≤ length self.now.parties }
-        ensures few { length self.now.parties ≤ 64 }
+        ensures few { length self.now.parties ≤ PARTIES_LIMIT }
     {
         &self.parties
     }
@@ -158,8 +158,7 @@ impl Hub {
         ensures members { IfOk result (λ list. (other : ABatch)
             → Contains list.items other ↔ Contains (linked_to self.now.entries batch.now) other) }
     {
-        let list = self.trail.linked(batch)?;
-        Ok(list)
+        self.trail.linked(batch)
     }
 
     /// The batches that descend from a batch: those to which a chain of one or more links leads from it, ascending and each
@@ -169,7 +168,6 @@ impl Hub {
         ensures members { IfOk result (λ list. (other : ABatch)
             → Contains list.items other ↔ IsDescendant self.now.entries batch.now other) }
     {
-        let list = self.trail.descendants(batch)?;
-        Ok(list)
+        self.trail.descendants(batch)
     }
 }

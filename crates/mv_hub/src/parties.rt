@@ -27,6 +27,7 @@ pub struct Parties {
 
 impl Model for Parties {
     ghost use Rattle.std.specs.Prelude.{ℕ, List, length, false, ◌≡◌, ◌≤◌};
+    ghost use Rattle.mv_link.specs.declared.limits.TheConstants.{PARTIES_LIMIT};
     ghost use Rattle.mv_hub.specs.Parties.{all_markets, has_twice};
     ghost use Rattle.mv_hub.specs.PartySets.{FindsParties};
 
@@ -34,7 +35,7 @@ impl Model for Parties {
 
     ghost view = { λ p. p.lists.items };
 
-    ghost invariant = { λ p. (1 ≤ length p.lists.items) × (length p.lists.items ≤ 64)
+    ghost invariant = { λ p. (1 ≤ length p.lists.items) × (length p.lists.items ≤ PARTIES_LIMIT)
         × (has_twice (all_markets p.lists.items) ≡ false) × FindsParties p.lists.items p.by_market.entries };
 }
 
@@ -61,12 +62,8 @@ impl Parties {
         if has_market_twice(lists.as_slice()) {
             return Err(HubFault::ServedTwice);
         }
-        let Ok(lists) = as_markets(alloc, lists) else {
-            return Err(HubFault::Memory);
-        };
-        let Ok(by_market) = by_market(alloc, lists.as_slice()) else {
-            return Err(HubFault::Memory);
-        };
+        let lists = as_markets(alloc, lists)?;
+        let by_market = by_market(alloc, lists.as_slice())?;
         Ok(Parties { lists, by_market })
     }
 
@@ -74,7 +71,7 @@ impl Parties {
     pub fn len(&self) -> u32
         ensures value { result ≡ length self.now }
         ensures some { 1 ≤ length self.now }
-        ensures few { length self.now ≤ 64 }
+        ensures few { length self.now ≤ PARTIES_LIMIT }
     {
         self.lists.len() as u32
     }
@@ -149,7 +146,7 @@ impl Parties {
 
 /// The party of each market in these lists, that of party 0 first.
 fn by_market(alloc: Global, lists: &[Markets]) -> Result<IndexMap<Market, Party>, AllocError>
-    requires few { length lists.now ≤ 64 }
+    requires few { length lists.now ≤ PARTIES_LIMIT }
     requires once { has_twice (all_markets lists.now) ≡ false }
     ensures { IfOk result (λ table. FindsParties lists.now table.entries) }
 {

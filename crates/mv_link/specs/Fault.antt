@@ -1,5 +1,5 @@
--- The faults of links: their numbers, and what a call answers where memory may be wanting.
-use Rattle.std.specs.Prelude.{◌≡◌, ℕ, List, codes, Option, Some, None, Result, Ok, Err}
+-- The faults of links: their numbers, and how a call fails where memory may be wanting.
+use Rattle.std.specs.Prelude.{◌≡◌, ℕ, List, codes, unwrap_or, Option, None, Result, Ok, Err}
 use Rattle.mv_link.specs.declared.fault.LinkFault.{LinkFault}
 use Rattle.mv_link.specs.declared.fault.LinkFault.TheVariants.{Nothing, NotSent, Gone, Memory}
 
@@ -10,8 +10,8 @@ code_of NotSent = codes "L2"
 code_of Gone = codes "L3"
 code_of Memory = codes "L4"
 
--- a call is refused for this fault, the first that holds; where there is none it may want memory, and nothing else
-abbrev pub FailsBy : {A : Type 0} → Option LinkFault → Result A LinkFault → Type 0
-FailsBy fault (Ok value) = fault ≡ None
-FailsBy fault (Err Memory) = fault ≡ None
-FailsBy fault (Err refused) = fault ≡ Some refused
+-- A call that may meet a fault is refused for that fault, and for nothing else. Where it meets none it is done, or it is refused for
+-- want of memory, which this first fault names.
+abbrev pub FailsBy : {A F : Type 0} → F → Option F → Result A F → Type 0
+FailsBy memory fault (Ok value) = fault ≡ None
+FailsBy memory fault (Err refused) = refused ≡ unwrap_or fault memory

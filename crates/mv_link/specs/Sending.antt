@@ -4,7 +4,8 @@ use Rattle.circular_buffer.specs.Buffer.{keep_last}
 use Rattle.mv_link.specs.declared.item.Item.{Item}
 use Rattle.mv_link.specs.declared.item.Frame.{Frame}
 use Rattle.mv_link.specs.declared.fault.LinkFault.{LinkFault}
-use Rattle.mv_link.specs.declared.fault.LinkFault.TheVariants.{NotSent, Gone}
+use Rattle.mv_link.specs.declared.fault.LinkFault.TheVariants.{Nothing, NotSent, Gone}
+use Rattle.mv_link.specs.declared.limits.TheConstants.{WINDOW_LEAST, WINDOW_LIMIT, NUMBER_LIMIT}
 use Rattle.mv_link.specs.Frames.{IsFrameOf}
 
 -- the sending end of a link
@@ -26,22 +27,29 @@ with_item sending item = record sending { total = sending.total + 1; held = keep
 abbrev pub with_relayed : Sending → Sending
 with_relayed sending = record sending { sent = sending.sent + 1 }
 
--- why the frame of a number is not given again, memory aside, the first reason that holds: it was not relayed, or its item
--- was pushed out of the window
-abbrev pub again_fault : Sending → ℕ → Option LinkFault
-again_fault sending number =
-    if (number == 0) || nat_lt sending.sent number then Some NotSent
-    else (if nat_le number (sending.total - sending.window) then Some Gone
+-- why there is no next frame of a link on which so many items were pushed and so many of them relayed, memory aside: all were
+abbrev pub relay_fault : ℕ → ℕ → Option LinkFault
+relay_fault total sent = if sent == total then Some Nothing else None
+
+-- why the frame of a number is not given again, memory aside, the first reason that holds: it was not relayed, or as many items as
+-- the window holds were pushed behind it
+abbrev pub again_fault : ℕ → ℕ → ℕ → ℕ → Option LinkFault
+again_fault window total sent number =
+    if (number == 0) || nat_lt sent number then Some NotSent
+    else (if nat_le number (total - window) then Some Gone
     else None)
 
 -- so many more items fit: what is not yet relayed is never pushed out, and numbers have 32 bits
 abbrev pub HasRoom : Sending → ℕ → Type 0
-HasRoom sending count = ((sending.total - sending.sent) + count ≤ sending.window) × (sending.total + count ≤ 4294967295)
+HasRoom sending count = ((sending.total - sending.sent) + count ≤ sending.window) × (sending.total + count ≤ NUMBER_LIMIT)
+
+-- how many items a link may keep
+abbrev pub IsWindow : ℕ → Type 0
+IsWindow window = (WINDOW_LEAST ≤ window) × (window ≤ WINDOW_LIMIT)
 
 -- what every sending end keeps: the last items, those not yet relayed among them
 pub record IsSending (sending : Sending) : Type 0 where
-  pub wide : 2 ≤ sending.window
-  pub narrow : sending.window ≤ 256
+  pub window : IsWindow sending.window
   pub held : length sending.held ≡ min sending.window sending.total
   pub pushed : sending.sent ≤ sending.total
   pub waiting : sending.total - sending.sent ≤ sending.window

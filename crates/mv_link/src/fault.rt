@@ -2,6 +2,8 @@
 
 ghost use Rattle.std.specs.Prelude.{◌≡◌};
 
+use std::alloc::AllocError;
+
 /// Why a link gives no frame.
 #[derive(Clone, Copy, Debug, PartialEq, Eq)]
 pub enum LinkFault {
@@ -28,5 +30,16 @@ impl LinkFault {
             LinkFault::Gone => "L3",
             LinkFault::Memory => "L4",
         }
+    }
+}
+
+impl From<AllocError> for LinkFault {
+    ghost use Rattle.std.specs.Prelude.{◌≡◌};
+    ghost use Rattle.mv_link.specs.declared.fault.LinkFault.TheVariants.{Memory};
+
+    ghost from_gives = { λ _ fault. fault ≡ Memory };
+
+    fn from(_: AllocError) -> LinkFault {
+        LinkFault::Memory
     }
 }

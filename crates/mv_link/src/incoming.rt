@@ -1,6 +1,7 @@
 //! The end of a link that frames come to: it takes each item once and in order.
 
 ghost use Rattle.std.specs.Prelude.{◌≡◌, ◌+◌, ◌<◌, ◌≤◌};
+ghost use Rattle.mv_link.specs.declared.limits.TheConstants.{NUMBER_LIMIT};
 
 use crate::Frame;
 use std::marker::Model;
@@ -66,7 +67,7 @@ impl Incoming {
 
     /// Accepts the next frame.
     pub fn advance(&mut self)
-        requires { self.old < 4294967295 }
+        requires { self.old < NUMBER_LIMIT }
         ensures { self.new ≡ self.old + 1 }
     {
         self.count += 1;

@@ -25,32 +25,23 @@ pub enum Item {
 }
 
 impl Item {
-    /// An item of its own that equals this one. The only refusal is L4, for want of memory.
+    /// An item of its own that equals this one. It takes no memory: L4, the only refusal, is where so many hold the message, or
+    /// the reach, that they cannot be counted.
     pub fn copy(&self) -> Result<Item, LinkFault>
         ensures copy { IfOk result (λ item. item ≡ self.now) }
         ensures memory { IfErr result (λ fault. fault ≡ LinkFault.Memory) }
     {
         match self {
-            Item::Receipt { k, reach, query } => {
-                let Ok(reach) = reach.share() else {
-                    return Err(LinkFault::Memory);
-                };
-                Ok(Item::Receipt {
-                    k: *k,
-                    reach,
-                    query: *query,
-                })
-            }
-            Item::Carried { k, stamp, message } => {
-                let Ok(message) = message.share() else {
-                    return Err(LinkFault::Memory);
-                };
-                Ok(Item::Carried {
-                    k: *k,
-                    stamp: *stamp,
-                    message,
-                })
-            }
+            Item::Receipt { k, reach, query } => Ok(Item::Receipt {
+                k: *k,
+                reach: reach.share()?,
+                query: *query,
+            }),
+            Item::Carried { k, stamp, message } => Ok(Item::Carried {
+                k: *k,
+                stamp: *stamp,
+                message: message.share()?,
+            }),
         }
     }
 }
@@ -65,15 +56,14 @@ pub struct Frame {
 }
 
 impl Frame {
-    /// A frame of its own that equals this one. The only refusal is L4, for want of memory.
+    /// A frame of its own that equals this one. The only refusal is L4, as of its item.
     pub fn copy(&self) -> Result<Frame, LinkFault>
         ensures copy { IfOk result (λ frame. frame ≡ self.now) }
         ensures memory { IfErr result (λ fault. fault ≡ LinkFault.Memory) }
     {
-        let item = self.item.copy()?;
         Ok(Frame {
             number: self.number,
-            item,
+            item: self.item.copy()?,
         })
     }
 }

@@ -1,6 +1,6 @@
 //! The end of a link that items are pushed at. It keeps the last of them in a ring of the window's size.
 
-ghost use Rattle.std.specs.Prelude.{◌≡◌, ◌+◌, ◌-◌, ◌<◌, ◌≤◌, ◌↔◌, ◌⊎◌, List, [], ◌∷◌, ◌++◌, length, IsTrue, IsOk, OnOk, OnErr, IfOk, IfErr, IsErrOf};
+ghost use Rattle.std.specs.Prelude.{◌≡◌, ◌+◌, ◌-◌, ◌<◌, ◌≤◌, ◌↔◌, List, [], ◌∷◌, ◌++◌, length, IsTrue, IsOk, OnOk, OnErr, IfOk, IfErr};
 
 use crate::{Frame, Item, LinkFault};
 use circular_buffer::HeapCircularBuffer;
@@ -27,12 +27,12 @@ impl Model for Outgoing {
 
 impl Outgoing {
     ghost use Rattle.mv_link.specs.declared.item.Item.{Item as AnItem};
-    ghost use Rattle.mv_link.specs.Sending.{new_sending, with_item, with_relayed, HasRoom, EndsWithHeld, IsFrameOfAll, again_fault};
+    ghost use Rattle.mv_link.specs.Sending.{IsWindow, new_sending, with_item, with_relayed, HasRoom, EndsWithHeld, IsFrameOfAll, relay_fault, again_fault};
     ghost use Rattle.mv_link.specs.Fault.{FailsBy};
 
     /// A sending end with a window of 2 to 256 items. Refused for want of memory.
     pub fn new(alloc: Global, window: u32) -> Result<Outgoing, AllocError>
-        requires { (2 ≤ window) × (window ≤ 256) }
+        requires { IsWindow window }
         ensures { IfOk result (λ made. made ≡ new_sending window) }
     {
         let held = HeapCircularBuffer::with_capacity(alloc, window as usize)?;
@@ -89,21 +89,21 @@ impl Outgoing {
     {
         let behind = (self.total - number) as usize;
         let place = self.held.len() - 1 - behind;
-        let item = self.held.get(place).unwrap();
-        let item = item.copy()?;
+        let held = self.held.get(place).unwrap();
+        let item = held.copy()?;
         Ok(Frame { number, item })
     }
 
-    /// The next frame that was not relayed yet: L1 where there is none, L4 for want of memory.
+    /// The next frame that was not relayed yet.
+    ///
+    /// The first of these that holds is the fault: L1, every item has been relayed; L4, memory was refused.
     pub fn relay(&mut self) -> Result<Frame, LinkFault>
         ensures number { IfOk result (λ frame. frame.number ≡ self.old.sent + 1) }
         ensures frame { IfOk result (λ frame. IsFrameOfAll self.old frame) }
         ensures ok { OnOk result (self.new ≡ with_relayed self.old) }
         ensures waiting { OnOk result (self.old.sent < self.old.total) }
-        ensures nothing { IsErrOf result LinkFault.Nothing ↔ (self.old.sent ≡ self.old.total) }
-        ensures others { IfErr result (λ fault. (fault ≡ LinkFault.Nothing) ⊎ (fault ≡ LinkFault.Memory)) }
-        ensures memory { IsErrOf result LinkFault.Memory → self.old.sent < self.old.total }
         ensures err { OnErr result (self.new ≡ self.old) }
+        ensures fault { FailsBy LinkFault.Memory (relay_fault self.old.total self.old.sent) result }
     {
         if self.sent == self.total {
             return Err(LinkFault::Nothing);
@@ -121,7 +121,7 @@ impl Outgoing {
     pub fn again(&self, number: u32) -> Result<Frame, LinkFault>
         ensures number { IfOk result (λ frame. frame.number ≡ number) }
         ensures frame { IfOk result (λ frame. IsFrameOfAll self.now frame) }
-        ensures fault { FailsBy (again_fault self.now number) result }
+        ensures fault { FailsBy LinkFault.Memory (again_fault self.now.window self.now.total self.now.sent number) result }
     {
         if number == 0 || number > self.sent {
             return Err(LinkFault::NotSent);

@@ -3,12 +3,10 @@
 ghost use Rattle.std.specs.Prelude.{◌≡◌, ◌≤◌, length};
 ghost use Rattle.std.specs.List.Sorted.{IsStrictlyIncreasing};
 
+use crate::PARTIES_LIMIT;
 use arrayvec::ArrayVec;
 use mv_message::Party;
 use std::marker::Model;
-
-/// The most parties that a system has.
-pub const PARTIES_LIMIT: usize = 64;
 
 /// A set of parties, in ascending order. It takes no memory of its own.
 #[derive(Clone, Debug, PartialEq, Eq, Drop)]
@@ -42,7 +40,7 @@ impl Reach {
     pub fn as_slice(&self) -> &[Party]
         ensures value { result.now ≡ self.now }
         ensures ascending { IsStrictlyIncreasing result.now }
-        ensures few { length result.now ≤ 64 }
+        ensures few { length result.now ≤ PARTIES_LIMIT }
     {
         self.parties.as_slice()
     }

@@ -4,6 +4,7 @@ ghost use Rattle.std.specs.Prelude.{◌≡◌, ◌≤◌, length, nat_eq, IfOk};
 ghost use Rattle.std.specs.Cmp.{partial_equiv_from_equiv};
 ghost use Rattle.std.specs.Cmp.Lexicographic.{pointwise, nat_list_eq_equiv};
 ghost use Rattle.std.specs.List.Sorted.{IsStrictlyIncreasing};
+ghost use Rattle.mv_link.specs.declared.limits.TheConstants.{PARTIES_LIMIT};
 
 use crate::Reach;
 use mv_message::{Party, Shared};
@@ -20,12 +21,13 @@ pub struct SharedReach {
 impl Model for SharedReach {
     ghost use Rattle.std.specs.Prelude.{◌≤◌, length, ℕ, List};
     ghost use Rattle.std.specs.List.Sorted.{IsStrictlyIncreasing};
+    ghost use Rattle.mv_link.specs.declared.limits.TheConstants.{PARTIES_LIMIT};
 
     ghost Value = { List ℕ };
 
     ghost view = { λ reach. reach.parties.items };
 
-    ghost invariant = { λ reach. IsStrictlyIncreasing reach.parties.items × (length reach.parties.items ≤ 64) };
+    ghost invariant = { λ reach. IsStrictlyIncreasing reach.parties.items × (length reach.parties.items ≤ PARTIES_LIMIT) };
 }
 
 impl SharedReach {
@@ -52,7 +54,7 @@ impl SharedReach {
     pub fn as_slice(&self) -> &[Party]
         ensures value { result.now ≡ self.now }
         ensures ascending { IsStrictlyIncreasing result.now }
-        ensures few { length result.now ≤ 64 }
+        ensures few { length result.now ≤ PARTIES_LIMIT }
     {
         self.parties.get().as_slice()
     }

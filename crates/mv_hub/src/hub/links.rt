@@ -2,12 +2,12 @@
 
 ghost use Rattle.std.specs.Prelude.{◌≡◌, ◌+◌, ◌<◌, length, IfOk, OnOk, OnErr};
 ghost use Rattle.mv_link.specs.Frames.{IsFrameOf};
-ghost use Rattle.mv_hub.specs.Fault.{FailsBy};
+ghost use Rattle.mv_link.specs.Fault.{FailsBy};
 ghost use Rattle.mv_hub.specs.Hub.{sent_of, items_on, relay_fault, repeat_fault, close_fault, with_relayed, with_closed};
 
 use crate::hub::Hub;
 use crate::{Entry, HubFault};
-use mv_link::{Frame, LinkFault};
+use mv_link::Frame;
 use mv_message::Party;
 
 impl Hub {
@@ -24,25 +24,21 @@ impl Hub {
     ///
     /// The first of these that holds is the fault: H4, one of the parties is none; H8, every item of the link has been
     /// relayed; H7, memory was refused.
+
     pub fn relay(&mut self, from: Party, to: Party) -> Result<Frame, HubFault>
         ensures number { IfOk result (λ frame. frame.number ≡ sent_of self.old from to + 1) }
         ensures frame { IfOk result (λ frame. IsFrameOf (items_on self.old from to) frame) }
         ensures waiting { OnOk result (sent_of self.old from to < length (items_on self.old from to)) }
         ensures ok { OnOk result (self.new ≡ with_relayed self.old from to) }
         ensures err { OnErr result (self.new ≡ self.old) }
-        ensures fault { FailsBy (relay_fault self.old from to) result }
+        ensures fault { FailsBy HubFault.Memory (relay_fault self.old from to) result }
     {
         let count = self.parties().len();
         if from >= count || to >= count {
             return Err(HubFault::StrangerParty);
         }
         let link = self.links.at_mut(from, to);
-        let frame = match link.relay() {
-            Ok(frame) => frame,
-            Err(LinkFault::Nothing) => return Err(HubFault::Nothing),
-            Err(_) => return Err(HubFault::Memory),
-        };
-        Ok(frame)
+        Ok(link.relay()?)
     }
 
     /// The frame of this number of the link from one party to another once more, one that was relayed before. Nothing
@@ -54,18 +50,13 @@ impl Hub {
     pub fn repeat(&self, from: Party, to: Party, number: u32) -> Result<Frame, HubFault>
         ensures number { IfOk result (λ frame. frame.number ≡ number) }
         ensures frame { IfOk result (λ frame. IsFrameOf (items_on self.now from to) frame) }
-        ensures fault { FailsBy (repeat_fault self.now from to number) result }
+        ensures fault { FailsBy HubFault.Memory (repeat_fault self.now from to number) result }
     {
         let count = self.parties().len();
         if from >= count || to >= count {
             return Err(HubFault::StrangerParty);
         }
-        match self.link(from, to).again(number) {
-            Ok(frame) => Ok(frame),
-            Err(LinkFault::NotSent) => Err(HubFault::NotSent),
-            Err(LinkFault::Gone) => Err(HubFault::Gone),
-            Err(_) => Err(HubFault::Memory),
-        }
+        Ok(self.link(from, to).again(number)?)
     }
 
     /// Closes the link from one party to another, for ever: no message that is routed later is put on it. What was put on
@@ -76,7 +67,7 @@ impl Hub {
     pub fn close(&mut self, from: Party, to: Party) -> Result<(), HubFault>
         ensures ok { OnOk result (self.new ≡ with_closed self.old from to) }
         ensures err { OnErr result (self.new ≡ self.old) }
-        ensures fault { FailsBy (close_fault self.old from to) result }
+        ensures fault { FailsBy HubFault.Memory (close_fault self.old from to) result }
     {
         let count = self.parties().len();
         if from >= count || to >= count {
@@ -85,9 +76,7 @@ impl Hub {
         if !self.is_open(from, to) {
             return Err(HubFault::AlreadyClosed);
         }
-        let Ok(()) = self.trail.push(Entry::Closed { from, to }) else {
-            return Err(HubFault::Memory);
-        };
+        self.trail.push(Entry::Closed { from, to })?;
         *self.open_links.at_mut(from, to) = false;
         Ok(())
     }

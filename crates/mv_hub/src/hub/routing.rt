@@ -8,7 +8,8 @@ ghost use Rattle.mv_link.specs.declared.item.Item.TheVariants.{Receipt, Carried}
 ghost use Rattle.mv_hub.specs.Record.{routed_count, is_open};
 ghost use Rattle.mv_hub.specs.Targets.{reach, is_reached, is_query};
 ghost use Rattle.mv_hub.specs.PartySets.{those};
-ghost use Rattle.mv_hub.specs.Fault.{RouteFailsBy};
+ghost use Rattle.mv_link.specs.Fault.{FailsBy};
+ghost use Rattle.mv_link.specs.declared.limits.TheConstants.{NUMBER_LIMIT};
 ghost use Rattle.mv_hub.specs.Hub.{next_items, is_busy, busy_party, route_fault, with_routed};
 ghost use Rattle.mv_hub.specs.Gains.{IsRouting};
 
@@ -39,7 +40,7 @@ impl Hub {
     /// How the next message of a party is routed.
     fn routing<'a>(&self, from: Party, message: &'a Shared<Message>) -> Routing<'a>
         requires from { from < length self.now.parties }
-        requires few { length self.now.entries < 4294967295 }
+        requires few { length self.now.entries < NUMBER_LIMIT }
         ensures from { result.from ≡ from }
         ensures message { result.message.now ≡ message.now }
         ensures routing { IsRouting self.now result.message.now result.from result.k result.stamp result.reached }
@@ -163,7 +164,7 @@ impl Hub {
     /// Puts the message into the record and the tables, and the gains of its routing on the links.
     fn put_routed(&mut self, routing: &Routing<'_>, gains: Gains) -> Result<(), AllocError>
         requires routing { IsRouting self.old routing.now.message.now routing.now.from routing.now.k routing.now.stamp routing.now.reached }
-        requires few { length self.old.entries < 4294967295 }
+        requires few { length self.old.entries < NUMBER_LIMIT }
         requires room { busy_party self.old routing.now.from routing.now.message.now ≡ None }
         requires receipt { option_to_list gains.receipt
             ≡ (if is_open self.old.entries routing.now.from routing.now.from
@@ -189,18 +190,19 @@ impl Hub {
     ///
     /// The first of these that holds is the fault: H4, there is no such party; H5, a link has no room for what it would
     /// gain, the least such; H7, memory was refused.
+    #[tactic(auto, using(crate::proofs::HubLemmas::route_fault_of_stranger, crate::proofs::HubLemmas::route_fault_of_party))]
     pub fn route(
         &mut self,
         from: Party,
         message: &Shared<Message>,
     ) -> Result<(u32, Reach), RouteFault>
-        requires { length self.old.entries < 4294967295 }
+        requires { length self.old.entries < NUMBER_LIMIT }
         ensures number { IfOk result (λ routed. routed.0 ≡ routed_count self.old.entries from + 1) }
         ensures reach { IfOk result (λ routed.
             routed.1 ≡ reach self.old.parties self.old.entries from message.now) }
         ensures ok { OnOk result (self.new ≡ with_routed self.old from message.now) }
         ensures err { OnErr result (self.new ≡ self.old) }
-        ensures fault { RouteFailsBy (route_fault self.old from message.now) result }
+        ensures fault { FailsBy RouteFault.Memory (route_fault self.old from message.now) result }
     {
         if from >= self.parties().len() {
             return Err(RouteFault::StrangerParty);
@@ -209,12 +211,8 @@ impl Hub {
         if let Some(to) = self.busy_party(&routing) {
             return Err(RouteFault::Busy(to));
         }
-        let Ok(gains) = self.gains(&routing) else {
-            return Err(RouteFault::Memory);
-        };
-        let Ok(()) = self.put_routed(&routing, gains) else {
-            return Err(RouteFault::Memory);
-        };
+        let gains = self.gains(&routing)?;
+        self.put_routed(&routing, gains)?;
         Ok((routing.k, routing.reached))
     }
 }

@@ -11,6 +11,6 @@ invariant_of-self-2 c =
     let count : c.len-count.result ≡ length a.parties =
     c.len-count.ensures.value ∙ ap length c.parties.ensures.value ∙ ap (λ (h : HubState). length h.parties) (sym c.self.view_is) in
     subst (λ l. IsKept a.parties a.window l a.counts.items (put a.open_links c.args.from c.args.to _) a.links)
-    (sym c.in-Ok.ensures.ok)
+    (sym c.in_ok-push.ensures.ok)
     (kept-closed a.parties a.window a.trail a.counts.items a.open_links a.links c.args.from c.args.to c.self.invariant
     (omega (arith, count, c.if-from-count.false)) (omega (arith, count, c.if-to-count.false)))

@@ -5,7 +5,7 @@ use Rattle.mv_hub.specs.Hub.{HubState}
 use Rattle.mv_hub.specs.Kept.{link_at}
 use Rattle.mv_hub.specs.PartySets.{those}
 use Rattle.mv_hub.proofs.NumberLemmas.{increasing-those}
-use Rattle.mv_hub.proofs.HubLemmas.{LinkFacts, link-facts, not_busy, next-none}
+use Rattle.mv_hub.proofs.HubLemmas.{LinkFacts, link_facts, not_busy, next-none}
 use Rattle.mv_hub.proofs.hub.Hub.gaining.Goals as goal
 
 pub add-requires-clause-ascending : goal.add-requires-clause-ascending
@@ -46,5 +46,5 @@ returns-clause-others c = λ to below none.
     let from = c.args.routing.now.from in
     let link = link_at a.links from to in
     let facts : LinkFacts hub from to link =
-    link-facts a.parties a.window a.trail a.links hub from to link c.self.invariant.are_links c.self.view_is c.requires.party below refl in
+    link_facts a.parties a.window a.trail a.links hub from to link c.self.invariant.are_links c.self.view_is c.requires.party below refl in
     not_busy hub from to c.args.routing.now.message.now link 0 facts.carries facts.sent (sym (next-none hub from to c.args.routing.now.message.now none)) facts.carries.fits

@@ -229,20 +229,29 @@ and-assoc : (a b c : Bool) → (a && (b && c)) ≡ ((a && b) && c)
 and-assoc true b c = refl
 and-assoc false b c = refl
 
--- whom a message reaches, of those that it may be for
-pub reached-candidate : (parties : List (List (List ℕ))) (entries : List Entry) (from : ℕ) (message : Message) (to : ℕ)
+-- whom a message is for, of those that it may be for
+target-candidate : (parties : List (List (List ℕ))) (entries : List Entry) (from : ℕ) (message : Message) (to : ℕ)
+    → (is_candidate parties entries message to && (not (is_query message && (to == from)) && is_open entries from to))
+    ≡ (is_target parties entries from message to && is_open entries from to)
+unfolding is_target
+target-candidate parties entries from (Master gtin product) to = refl
+target-candidate parties entries from (Upload gtin batch expiry national serials) to = refl
+target-candidate parties entries from (Status key new user at) to = refl
+target-candidate parties entries from (Recall key at) to = refl
+target-candidate parties entries from (Repack before before_serials after after_serials at) to = refl
+target-candidate parties entries from (Withdraw gtin at) to = refl
+target-candidate parties entries from (Query key) to =
+    and-assoc (serves_product parties entries key.gtin to) (not (to == from)) (is_open entries from to)
+target-candidate parties entries from (Answer asker q key found) to = refl
+
+-- and so whom it reaches
+pub reached-candidate : (parties : List (List (List ℕ))) (entries : List Entry) (from : ℕ) (message : Message) (to : ℕ) → to < length parties
     → (is_candidate parties entries message to && (not (is_query message && (to == from)) && is_open entries from to))
     ≡ is_reached parties entries from message to
-unfolding is_reached is_target
-reached-candidate parties entries from (Master gtin product) to = refl
-reached-candidate parties entries from (Upload gtin batch expiry national serials) to = refl
-reached-candidate parties entries from (Status key new user at) to = refl
-reached-candidate parties entries from (Recall key at) to = refl
-reached-candidate parties entries from (Repack before before_serials after after_serials at) to = refl
-reached-candidate parties entries from (Withdraw gtin at) to = refl
-reached-candidate parties entries from (Query key) to =
-    and-assoc (serves_product parties entries key.gtin to) (not (to == from)) (is_open entries from to)
-reached-candidate parties entries from (Answer asker q key found) to = refl
+unfolding is_reached
+reached-candidate parties entries from message to lt =
+    target-candidate parties entries from message to
+    ∙ sym (ap (λ b. b && is_target parties entries from message to && is_open entries from to) (lt-ltb to (length parties) lt))
 
 -- how many items of a link were relayed
 pub sent-at : (links : List (List Sending)) (from to : ℕ) → cell (sent_table links) from to 0 ≡ (link_at links from to).sent

@@ -1,5 +1,5 @@
 -- Whom a message is for, by the record that stands before it (Articles 33 to 35).
-use Rattle.std.specs.Prelude.{ℕ, List, length, Bool, true, false, ◌==◌, ◌&&◌, ◌||◌, not, filter}
+use Rattle.std.specs.Prelude.{ℕ, List, length, nat_lt, Bool, true, false, ◌==◌, ◌&&◌, ◌||◌, not, filter}
 use Rattle.std.specs.List.{range_with_len}
 use Rattle.mv_message.specs.declared.message.Message.{Message}
 use Rattle.mv_message.specs.declared.message.Message.TheVariants.{Master, Upload, Status, Recall, Repack, Withdraw, Query, Answer}
@@ -31,9 +31,10 @@ abbrev pub is_candidate : List (List (List ℕ)) → List Entry → Message → 
 is_candidate parties entries (Query key) party = serves_product parties entries key.gtin party
 is_candidate parties entries message party = is_target parties entries 0 message party
 
--- a message from a party reaches another: it is a target, and the link between them is open
+-- a message from a party reaches another: that is one of the parties and a target, and the link between them is open
 unfoldable pub is_reached : List (List (List ℕ)) → List Entry → ℕ → Message → ℕ → Bool
-is_reached parties entries from message to = is_target parties entries from message to && is_open entries from to
+is_reached parties entries from message to =
+    nat_lt to (length parties) && is_target parties entries from message to && is_open entries from to
 
 -- the parties that a message from a party reaches, ascending
 unfoldable pub reach : List (List (List ℕ)) → List Entry → ℕ → Message → List ℕ

@@ -58,8 +58,9 @@ gained-shut : (parties : List (List (List ℕ))) (before : List Entry) (entry : 
 unfolding gained is_reached
 gained-shut parties before (Closed sender receiver) from to shut = refl
 gained-shut parties before (Routed sender k message) from to shut =
-    none (eqb sender from) (eqb to from && is_open before from from) (is_target parties before from message to && is_open before from to) _ _
-    (no_receipt (eqb to from) refl) (ap (λ b. is_target parties before from message to && b) shut ∙ never (is_target parties before from message to))
+    none (eqb sender from) (eqb to from && is_open before from from) (nat_lt to (length parties) && is_target parties before from message to && is_open before from to) _ _
+    (no_receipt (eqb to from) refl) (ap (λ b. nat_lt to (length parties) && is_target parties before from message to && b) shut
+    ∙ never (nat_lt to (length parties) && is_target parties before from message to))
   where
     no_receipt : (b : Bool) → eqb to from ≡ b → (b && is_open before from from) ≡ false
     no_receipt false e = refl

@@ -57,4 +57,4 @@ returns c =
     ∙ filter-those candidate q (length hub.parties)
     ∙ those-agree (λ x. candidate x && q x) (is_reached hub.parties hub.entries c.args.from c.args.message.now) (length hub.parties)
     (λ x lt. ap (λ b. candidate x && (not (b && (x == c.args.from)) && is_open hub.entries c.args.from x)) c.is_query-asks.ensures
-    ∙ reached-candidate hub.parties hub.entries c.args.from c.args.message.now x)
+    ∙ reached-candidate hub.parties hub.entries c.args.from c.args.message.now x lt)

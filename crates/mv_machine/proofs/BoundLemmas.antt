@@ -7,6 +7,9 @@ use Rattle.std.proofs.lemmas.Bool.{eqb-false, eq-eqb, and_parts}
 use Rattle.mv_hub.specs.declared.entry.Entry.{Entry}
 use Rattle.mv_hub.specs.declared.entry.Entry.TheVariants.{Routed, Closed}
 use Rattle.mv_hub.specs.Record.{routed_from, routed_count, is_open}
+use Rattle.mv_link.specs.declared.limits.TheConstants.{PARTIES_LIMIT}
+use Rattle.mv_machine.specs.declared.limits.TheConstants.{SUBMISSIONS_LIMIT}
+use Rattle.mv_machine.specs.Limits.{most_entries}
 use Rattle.mv_machine.specs.State.{State, submissions_of}
 use Rattle.mv_machine.specs.Lawful.{AllFit, AllNameParties, IsLawfulRecord, IsLawful}
 
@@ -145,12 +148,12 @@ routed_count-few st party lawful is_party =
     let order = (lawful.of_link party party is_party is_party).routed in
     omega (arith, ap length order.1, length-append (routed_from st.entries party) order.0)
 
--- a record of 64 parties, from each of whom a million messages were routed at most, is far from having 2 ^ 32 entries
-pub record-few : (count : ℕ) (entries : List Entry) → IsLawfulRecord count entries → count ≤ 64
-    → ((party : ℕ) → party < count → routed_count entries party ≤ 1000000) → length entries ≤ 64004096
+-- a record of so many parties, from each of whom so many messages were routed at most, is far from having 2 ^ 32 entries
+pub record-few : (count : ℕ) (entries : List Entry) → IsLawfulRecord count entries → count ≤ PARTIES_LIMIT
+    → ((party : ℕ) → party < count → routed_count entries party ≤ SUBMISSIONS_LIMIT) → length entries ≤ most_entries
 unfolding entries_of
 record-few count entries lawful parties_few short =
-    let own = sum_below-most count (1000000 + count * 1) (entries_of count entries) (λ party lt.
+    let own = sum_below-most count (SUBMISSIONS_LIMIT + count * 1) (entries_of count entries) (λ party lt.
     let closed = sum_below-most count 1 (closed_count entries party) (λ to below.
     let once = closed_count-few [] entries party to lawful.fit in omega (arith, once, cond-one (is_open [] party to))) in
     omega (arith, short party lt, closed)) in
@@ -158,7 +161,7 @@ record-few count entries lawful parties_few short =
     let square = mul-le-mul_left count parties_few in
     omega (arith, own, all, square)
 
--- so is that of a state of so many parties that submitted a million messages each, at most
-pub entries-few : (st : State) → IsLawful st → length st.parties ≤ 64 → ((party : ℕ) → length (submissions_of st party) ≤ 1000000) → length st.entries ≤ 64004096
+-- so is that of a state of so many parties that submitted so many messages each, at most
+pub entries-few : (st : State) → IsLawful st → length st.parties ≤ PARTIES_LIMIT → ((party : ℕ) → length (submissions_of st party) ≤ SUBMISSIONS_LIMIT) → length st.entries ≤ most_entries
 entries-few st lawful parties_few short =
     record-few (length st.parties) st.entries lawful.of_record parties_few (λ party lt. omega (arith, routed_count-few st party lawful lt, short party))

@@ -4,7 +4,9 @@ use Rattle.mv_pack.specs.declared.key.PackKey.{PackKey}
 use Rattle.mv_repository.specs.Agreement.{AgreeOn}
 use Rattle.mv_machine.specs.declared.step.Step.{Step}
 use Rattle.mv_machine.specs.declared.reply.Reply.{Reply}
-use Rattle.mv_machine.specs.Limits.{Bounds}
+use Rattle.mv_link.specs.declared.limits.TheConstants.{PARTIES_LIMIT}
+use Rattle.mv_machine.specs.declared.limits.TheConstants.{SUBMISSIONS_LIMIT}
+use Rattle.mv_machine.specs.Limits.{Bounds, most_entries}
 use Rattle.mv_machine.specs.Replies.{changes_nothing}
 use Rattle.mv_machine.specs.State.{State, submissions_of, log_of, applied_count, opening}
 use Rattle.mv_machine.specs.Steps.{ask}
@@ -27,11 +29,11 @@ ClosedLinksStayClosed = (parties : List (List (List ℕ))) (limits : Bounds) (fi
     (between new : State) → Runs (opening parties limits) first first_replies between → Runs between second second_replies new
     → NothingSubmittedLater between new × NothingRoutedLater new
 
--- In a lawful state of 64 parties that submitted a million messages each, at most, the record has far fewer than 2 ^ 32 entries:
--- every stamp has 32 bits. A party is routed a million times at most, and each of its links is closed once at most.
+-- In a lawful state of no more parties than there may be, none of which submitted more messages than it may, the record has far fewer
+-- than 2 ^ 32 entries: every stamp has 32 bits. No party is routed more often than it submitted, and no link is closed twice.
 abbrev pub StampsFit : Type 0
-StampsFit = (st : State) → IsLawful st → length st.parties ≤ 64
-    → ((party : ℕ) → length (submissions_of st party) ≤ 1000000) → length st.entries ≤ 64004096
+StampsFit = (st : State) → IsLawful st → length st.parties ≤ PARTIES_LIMIT
+    → ((party : ℕ) → length (submissions_of st party) ≤ SUBMISSIONS_LIMIT) → length st.entries ≤ most_entries
 
 -- in a lawful state each stamp of a log is the place of the record where its message was routed, and in no log does one stand
 -- twice

@@ -1,5 +1,8 @@
 -- The limits of a system.
-use Rattle.std.specs.Prelude.{ℕ, ◌≤◌, ◌&&◌, not, Bool, List, codes, nat_le, if◌then◌else◌, Result, Ok, Err}
+use Rattle.std.specs.Prelude.{ℕ, ◌+◌, ◌*◌, ◌≤◌, ◌&&◌, not, Bool, List, codes, nat_le, if◌then◌else◌, Result, Ok, Err}
+use Rattle.mv_link.specs.declared.limits.TheConstants.{PARTIES_LIMIT, WINDOW_LEAST, WINDOW_LIMIT}
+use Rattle.mv_link.specs.Sending.{IsWindow}
+use Rattle.mv_machine.specs.declared.limits.TheConstants.{WIRE_LIMIT, UPLINK_LIMIT, SUBMISSIONS_LIMIT}
 use Rattle.mv_machine.specs.declared.limits.LimitsFault.{LimitsFault}
 use Rattle.mv_machine.specs.declared.limits.LimitsFault.TheVariants.{Window, Wire, Uplink, Submissions}
 
@@ -12,14 +15,17 @@ pub record Bounds : Type 0 where
 
 -- the limits that a system may have
 pub record AreBounds (bounds : Bounds) : Type 0 where
-  pub window_least : 2 ≤ bounds.window
-  pub window_most : bounds.window ≤ 256
+  pub is_window : IsWindow bounds.window
   pub wire_least : 1 ≤ bounds.wire
-  pub wire_most : bounds.wire ≤ 64
+  pub wire_most : bounds.wire ≤ WIRE_LIMIT
   pub uplink_least : 1 ≤ bounds.uplink
-  pub uplink_most : bounds.uplink ≤ 64
+  pub uplink_most : bounds.uplink ≤ UPLINK_LIMIT
   pub submissions_least : 1 ≤ bounds.submissions
-  pub submissions_most : bounds.submissions ≤ 1000000
+  pub submissions_most : bounds.submissions ≤ SUBMISSIONS_LIMIT
+
+-- the most entries that a record has: each party is routed as often as it may submit, and each of its links is closed once
+abbrev pub most_entries : ℕ
+most_entries = PARTIES_LIMIT * SUBMISSIONS_LIMIT + PARTIES_LIMIT * PARTIES_LIMIT
 
 -- a number lies between two others
 abbrev pub is_between : ℕ → ℕ → ℕ → Bool
@@ -28,10 +34,10 @@ is_between least most number = nat_le least number && nat_le number most
 -- the limits of these numbers, or the first that is out of its range
 abbrev pub limits_of : ℕ → ℕ → ℕ → ℕ → Result Bounds LimitsFault
 limits_of window wire uplink submissions =
-    if not (is_between 2 256 window) then Err Window
-    else (if not (is_between 1 64 wire) then Err Wire
-    else (if not (is_between 1 64 uplink) then Err Uplink
-    else (if not (is_between 1 1000000 submissions) then Err Submissions
+    if not (is_between WINDOW_LEAST WINDOW_LIMIT window) then Err Window
+    else (if not (is_between 1 WIRE_LIMIT wire) then Err Wire
+    else (if not (is_between 1 UPLINK_LIMIT uplink) then Err Uplink
+    else (if not (is_between 1 SUBMISSIONS_LIMIT submissions) then Err Submissions
     else Ok (record { window = window; wire = wire; uplink = uplink; submissions = submissions }))))
 
 -- the number of a fault

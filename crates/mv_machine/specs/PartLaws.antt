@@ -9,6 +9,9 @@ use Rattle.mv_hub.specs.Links.{link_items}
 use Rattle.mv_repository.specs.declared.entry.LogEntry.{LogEntry}
 use Rattle.mv_repository.specs.Log.{items_from}
 use Rattle.mv_repository.specs.Query.{answer_to}
+use Rattle.mv_link.specs.declared.limits.TheConstants.{PARTIES_LIMIT}
+use Rattle.mv_machine.specs.declared.limits.TheConstants.{SUBMISSIONS_LIMIT}
+use Rattle.mv_machine.specs.Limits.{most_entries}
 use Rattle.mv_machine.specs.Lawful.{Fits, NamesParties, answers_in, IsLawfulRecord, IsLawfulParty, IsLawfulLink}
 use Rattle.mv_machine.specs.Closing.{before_closing, AreAboutFirst}
 
@@ -22,11 +25,11 @@ abbrev pub RecordsAreNumbered : Type 0
 RecordsAreNumbered = (count : ℕ) (entries : List Entry) (place from k : ℕ) (message : Message) → IsLawfulRecord count entries
     → slice_get entries place ≡ Some (Routed from k message) → (1 ≤ k) × (slice_get (routed_from entries from) (k - 1) ≡ Some message)
 
--- A lawful record of 64 parties, from each of whom a million messages were routed, at most, has far fewer than 2 ^ 32 entries: each
--- of their links is closed once at most.
+-- A lawful record of no more parties than there may be, from none of whom more messages were routed than it may submit, has far fewer
+-- than 2 ^ 32 entries: each of their links is closed once at most.
 abbrev pub RecordsAreShort : Type 0
-RecordsAreShort = (count : ℕ) (entries : List Entry) → IsLawfulRecord count entries → count ≤ 64
-    → ((party : ℕ) → party < count → routed_count entries party ≤ 1000000) → length entries ≤ 64004096
+RecordsAreShort = (count : ℕ) (entries : List Entry) → IsLawfulRecord count entries → count ≤ PARTIES_LIMIT
+    → ((party : ℕ) → party < count → routed_count entries party ≤ SUBMISSIONS_LIMIT) → length entries ≤ most_entries
 
 -- A party stays lawful where it submits a message that is no answer; and where its repository applies an entry from a party, and
 -- it submits the answer that this calls for, if it does.

@@ -16,7 +16,7 @@ pub use laws::{
     refusals_change_nothing, repositories_agree, runs_are_lawful, stamps_are_distinct, stamps_fit,
     steps_follow,
 };
-pub use limits::{Limits, LimitsFault};
+pub use limits::{Limits, LimitsFault, SUBMISSIONS_LIMIT, UPLINK_LIMIT, WIRE_LIMIT};
 pub use part_laws::{
     links_stay_closed, links_stay_lawful, parties_stay_lawful, records_are_numbered,
     records_are_short, records_stay_lawful,

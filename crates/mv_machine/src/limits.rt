@@ -3,7 +3,17 @@
 ghost use Rattle.std.specs.Prelude.{◌≡◌};
 ghost use Rattle.mv_machine.specs.Limits.{is_between};
 
+use mv_link::{WINDOW_LEAST, WINDOW_LIMIT};
 use std::marker::Model;
+
+/// The most frames that are under way on each link.
+pub const WIRE_LIMIT: u32 = 64;
+
+/// The most messages of each party that are under way to the hub.
+pub const UPLINK_LIMIT: u32 = 64;
+
+/// The most messages that each party submits.
+pub const SUBMISSIONS_LIMIT: u32 = 1_000_000;
 
 /// How much a system holds at most.
 #[derive(Clone, Copy, Debug, PartialEq, Eq)]
@@ -35,16 +45,16 @@ impl Limits {
     pub fn of(window: u32, wire: u32, uplink: u32, submissions: u32) -> Result<Limits, LimitsFault>
         ensures { result ≡ limits_of window wire uplink submissions }
     {
-        if !is_between(2, 256, window) {
+        if !is_between(WINDOW_LEAST, WINDOW_LIMIT, window) {
             return Err(LimitsFault::Window);
         }
-        if !is_between(1, 64, wire) {
+        if !is_between(1, WIRE_LIMIT, wire) {
             return Err(LimitsFault::Wire);
         }
-        if !is_between(1, 64, uplink) {
+        if !is_between(1, UPLINK_LIMIT, uplink) {
             return Err(LimitsFault::Uplink);
         }
-        if !is_between(1, 1_000_000, submissions) {
+        if !is_between(1, SUBMISSIONS_LIMIT, submissions) {
             return Err(LimitsFault::Submissions);
         }
         Ok(Limits {

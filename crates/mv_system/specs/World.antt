@@ -1,12 +1,11 @@
 -- What the system is seen as, the state of the list machine, and what it keeps beside that.
-use Rattle.std.specs.Prelude.{◌≡◌, ◌<◌, ◌≤◌, ◌==◌, ℕ, List, [], ◌∷◌, length, map, slice_index_or, IsTrue, Bool, true, false, Option, Some, Result, Ok, Err}
+use Rattle.std.specs.Prelude.{◌≡◌, All, ◌<◌, ◌≤◌, ◌==◌, ℕ, List, [], ◌∷◌, length, map, slice_index_or, IsTrue, Bool, true, false, Option, Some, Result, Ok, Err}
 use Rattle.mv_message.specs.declared.message.Message.{Message}
 use Rattle.mv_link.specs.declared.item.Frame.{Frame}
 use Rattle.mv_link.specs.Frames.{IsFrameOf}
+use Rattle.mv_link.specs.declared.limits.TheConstants.{PARTIES_LIMIT}
 use Rattle.mv_pairs.specs.Pairs.{cell, IsSquare}
 use Rattle.mv_hub.specs.Hub.{HubState, items_on}
-use Rattle.mv_hub.specs.declared.fault.HubFault.{HubFault}
-use Rattle.mv_hub.specs.declared.fault.HubFault.TheVariants as hub
 use Rattle.mv_hub.specs.declared.fault.RouteFault.{RouteFault}
 use Rattle.mv_hub.specs.declared.fault.RouteFault.TheVariants.{StrangerParty, Busy, Memory}
 use Rattle.mv_link.specs.declared.item.Item.{Item}
@@ -62,10 +61,9 @@ state_of p = record {
   logs = map (λ r. r.log) p.repositories;
 }
 
--- each frame is one of its link
-abbrev pub AllFramesOf : HubState → ℕ → ℕ → List Frame → Type 0
-AllFramesOf hub from to [] = Unit {0}
-AllFramesOf hub from to (frame ∷ frames) = IsFrameOf (items_on hub from to) frame × AllFramesOf hub from to frames
+-- the hub, as the lists of the list machine show it
+abbrev pub hub_of : State → HubState
+hub_of st = record { parties = st.parties; window = st.limits.window; entries = st.entries; sent = st.sent }
 
 -- a wire of this size holds no more than that
 pub record FitsWire (limit : ℕ) (wire : WireState) : Type 0 where
@@ -77,40 +75,18 @@ pub record IsSystem (p : Parts) : Type 0 where
   pub well_formed : IsWellFormed (state_of p)
   pub lawful : IsLawful (state_of p)
   pub parties_least : 1 ≤ length p.hub.parties
-  pub parties_most : length p.hub.parties ≤ 64
+  pub parties_most : length p.hub.parties ≤ PARTIES_LIMIT
   pub window : p.hub.window ≡ p.limits.window
   pub bounds : AreBounds p.limits
   pub submissions_few : (party : ℕ) → length (slice_index_or p.submissions party []) ≤ p.limits.submissions
   pub wires_square : IsSquare (length p.hub.parties) p.wires
   pub wires_fit : (from to : ℕ) → from < length p.hub.parties → to < length p.hub.parties
       → FitsWire p.limits.wire (wire_at p.wires from to)
-  pub frames : (from to : ℕ) → AllFramesOf p.hub from to (wire_at p.wires from to).frames
+  pub frames : (from to : ℕ) → All (IsFrameOf (items_on p.hub from to)) (wire_at p.wires from to).frames
   pub accepted_square : IsSquare (length p.hub.parties) p.accepted
   pub accepted : (from to : ℕ) → from < length p.hub.parties → to < length p.hub.parties
       → cell p.accepted from to 0 ≡ applied_count (state_of p) from to
   pub owners : (party : ℕ) → party < length p.hub.parties → (repository_at p.repositories party).party ≡ party
-
--- why the hub gives no next frame of a link, of whose items so many were relayed
-abbrev pub RelayFails : {A : Type 0} → ℕ → ℕ → Result A HubFault → Type 0
-RelayFails sent total (Ok value) = (sent == total) ≡ false
-RelayFails sent total (Err hub.Nothing) = (sent == total) ≡ true
-RelayFails sent total (Err hub.Memory) = (sent == total) ≡ false
-RelayFails sent total (Err _) = ⊥
-
--- why the hub does not give a frame again, where it is told whether no such frame was relayed, and whether it is gone
-abbrev pub RepeatFails : {A : Type 0} → Bool → Bool → Result A HubFault → Type 0
-RepeatFails unsent gone (Ok value) = (unsent ≡ false) × (gone ≡ false)
-RepeatFails unsent gone (Err hub.NotSent) = unsent ≡ true
-RepeatFails unsent gone (Err hub.Gone) = (unsent ≡ false) × (gone ≡ true)
-RepeatFails unsent gone (Err hub.Memory) = (unsent ≡ false) × (gone ≡ false)
-RepeatFails unsent gone (Err _) = ⊥
-
--- why the hub does not close a link, which is open or not
-abbrev pub CloseFails : {A : Type 0} → Bool → Result A HubFault → Type 0
-CloseFails still_open (Ok value) = still_open ≡ true
-CloseFails still_open (Err hub.AlreadyClosed) = still_open ≡ false
-CloseFails still_open (Err hub.Memory) = still_open ≡ true
-CloseFails still_open (Err _) = ⊥
 
 -- the party whose repository applies the next item of a link can submit the answer that this calls for, if it does
 abbrev pub IsAnswerable : State → ℕ → ℕ → Type 0

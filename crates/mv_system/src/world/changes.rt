@@ -3,14 +3,16 @@
 ghost use Rattle.std.specs.Prelude.{◌≡◌, ◌<◌, ◌+◌, ◌∷◌, [], ◌++◌, ℕ, length, IfOk, IfErr, IsSome, Some, None, OnOk, OnErr, IsTrue, slice_get, slice_set, drop};
 ghost use Rattle.mv_pairs.specs.Pairs.{put};
 ghost use Rattle.mv_link.specs.Frames.{IsFrameOf};
+ghost use Rattle.mv_link.specs.Fault.{FailsBy};
+ghost use Rattle.mv_hub.specs.Hub.{relay_fault, repeat_fault, close_fault};
 ghost use Rattle.mv_hub.specs.declared.entry.Entry.TheVariants.{Closed};
-ghost use Rattle.mv_hub.specs.Record.{routed_count, is_open};
+ghost use Rattle.mv_hub.specs.Record.{routed_count};
 ghost use Rattle.mv_machine.specs.State.{is_party, are_parties, submissions_of, waiting_of, sent_of, wire_of, log_of, items_on, applied_count, with_wire};
-ghost use Rattle.mv_machine.specs.Steps.{route, apply, is_unsent, is_gone, next_item};
+ghost use Rattle.mv_machine.specs.Steps.{route, apply, next_item};
 ghost use Rattle.mv_machine.specs.Replies.{takes_memory};
 ghost use Rattle.mv_machine.specs.Lawful.{answers_in};
 ghost use Rattle.mv_machine.specs.declared.reply.Reply.TheVariants.{Routed, Applied};
-ghost use Rattle.mv_system.specs.World.{RouteRefuses, RelayFails, RepeatFails, CloseFails, IsAnswerable, Logs};
+ghost use Rattle.mv_system.specs.World.{RouteRefuses, IsAnswerable, Logs, hub_of};
 
 use crate::world::World;
 use mv_hub::{HubFault, RouteFault};
@@ -64,7 +66,7 @@ impl World {
           sent = put self.old.sent from to (sent_of self.old from to + 1);
         }) }
         ensures err { OnErr result (self.new ≡ self.old) }
-        ensures fault { RelayFails (sent_of self.old from to) (length (items_on self.old from to)) result }
+        ensures fault { FailsBy HubFault.Memory (relay_fault (hub_of self.old) from to) result }
     {
         self.hub.relay(from, to)
     }
@@ -90,7 +92,7 @@ impl World {
           wires = put self.old.wires from to (wire_of self.old from to ++ (sent_of self.old from to + 1) ∷ []);
         }) }
         ensures err { OnErr result (self.new ≡ self.old) }
-        ensures fault { RelayFails (sent_of self.old from to) (length (items_on self.old from to)) result }
+        ensures fault { FailsBy HubFault.Memory (relay_fault (hub_of self.old) from to) result }
     {
         let frame = self.next_frame(from, to)?;
         let number = frame.number;
@@ -103,8 +105,7 @@ impl World {
         requires { IsTrue (are_parties self.now from to) }
         ensures number { IfOk result (λ frame. frame.number ≡ number) }
         ensures frame { IfOk result (λ frame. IsFrameOf (items_on self.now from to) frame) }
-        ensures fault { RepeatFails (is_unsent self.now from to number)
-            (is_gone self.now from to number) result }
+        ensures fault { FailsBy HubFault.Memory (repeat_fault (hub_of self.now) from to number) result }
     {
         self.hub.repeat(from, to, number)
     }
@@ -121,8 +122,7 @@ impl World {
         ensures ok { OnOk result
             (self.new ≡ with_wire self.old from to (wire_of self.old from to ++ number ∷ [])) }
         ensures err { OnErr result (self.new ≡ self.old) }
-        ensures fault { RepeatFails (is_unsent self.old from to number)
-            (is_gone self.old from to number) result }
+        ensures fault { FailsBy HubFault.Memory (repeat_fault (hub_of self.old) from to number) result }
     {
         let frame = self.frame_again(from, to, number)?;
         self.push_frame(from, to, frame);
@@ -136,7 +136,7 @@ impl World {
           entries = self.old.entries ++ Closed from to ∷ [];
         }) }
         ensures err { OnErr result (self.new ≡ self.old) }
-        ensures fault { CloseFails (is_open self.old.entries from to) result }
+        ensures fault { FailsBy HubFault.Memory (close_fault (hub_of self.old) from to) result }
     {
         self.hub.close(from, to)
     }

@@ -5,6 +5,7 @@ use Rattle.std.proofs.lemmas.List.{take-append-drop}
 use Rattle.std.proofs.lemmas.List.Elements.{All-tail}
 use Rattle.std.proofs.lemmas.Bool.{eqb-true, eq-eqb, ne_eqb}
 use Rattle.std.proofs.lemmas.Option.{slice_get_within, get_or_from_slice_get}
+use Rattle.circular_buffer.proofs.Places.{slice_get-append_left}
 use Rattle.mv_link.specs.declared.item.Item.{Item}
 use Rattle.mv_link.specs.declared.item.Frame.{Frame}
 use Rattle.mv_link.specs.Frames.{IsFrameOf, accepted_after, accepted, OneMoreFrame}
@@ -20,6 +21,11 @@ pushed sending list item e =
       whole = ap (λ l. l ++ item ∷ []) e.whole ∙ append_assoc e.front sending.held (item ∷ []) ∙ ap (λ l. e.front ++ l) (sym (take-append-drop cut more)) ∙ sym (append_assoc e.front (take cut more) (drop cut more));
       count = rw length-append (omega (arith, e.count));
     }
+
+-- a frame of a list is one of a longer list
+pub of_longer : (list more : List Item) (frame : Frame) → IsFrameOf list frame → IsFrameOf (list ++ more) frame
+of_longer list more frame of =
+    (of.0, slice_get-append_left list more (frame.number - 1) (slice_get_within list (frame.number - 1) frame.item of.1) ∙ of.1)
 
 -- the member at a place stands first in what is left from there on
 member_first : (list : List Item) (place : ℕ) (item : Item) → slice_get list place ≡ Some item → drop place list ≡ item ∷ drop (place + 1) list

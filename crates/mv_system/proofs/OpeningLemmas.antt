@@ -3,18 +3,20 @@ use Rattle.std.proofs.Common.{◌≡◌, ℕ, zero, suc, ◌+◌, ◌<◌, ◌�
 use Rattle.std.specs.Prelude.{replicate}
 use Rattle.std.specs.List.{range_with_len, All}
 use Rattle.std.proofs.lemmas.List.{get_or-replicate}
-use Rattle.std.proofs.lemmas.List.Elements.{All-replicate}
+use Rattle.std.proofs.lemmas.List.Elements.{All-replicate, All-nil}
 use Rattle.mv_message.specs.declared.message.Message.{Message}
 use Rattle.mv_pairs.specs.Pairs.{IsSquare}
 use Rattle.mv_pairs.proofs.PairsLemmas.{table-all, cell-all, cell-any, read-any}
-use Rattle.mv_hub.specs.Hub.{new_hub}
+use Rattle.mv_hub.specs.Hub.{new_hub, items_on}
 use Rattle.mv_repository.specs.declared.entry.LogEntry.{LogEntry}
 use Rattle.mv_repository.specs.Repository.{RepositoryState, new_repository}
 use Rattle.mv_machine.specs.Limits.{Bounds, AreBounds}
 use Rattle.mv_machine.specs.State.{State, opening, applied_count}
 use Rattle.mv_machine.proofs.LawfulLemmas.{IsSound, opening-sound}
 use Rattle.mv_system.specs.Wire.{WireState, new_wire, numbers_of}
-use Rattle.mv_system.specs.World.{Parts, parts_of, state_of, AllFramesOf, FitsWire, IsSystem}
+use Rattle.mv_link.specs.declared.limits.TheConstants.{PARTIES_LIMIT}
+use Rattle.mv_link.specs.Frames.{IsFrameOf}
+use Rattle.mv_system.specs.World.{Parts, parts_of, state_of, FitsWire, IsSystem}
 
 -- the parts that a system opens with
 abbrev opening_parts : List (List (List ℕ)) → Bounds → List (List WireState) → List (List ℕ) → Parts
@@ -47,7 +49,7 @@ opening_is parties limits wires accepted square empty =
     ∙ ap {A = List (List LogEntry)} {B = State} (λ l. record (opening parties limits) { logs = l }) (logs_none 0 (length parties))
 
 pub opening_kept : (parties : List (List (List ℕ))) (limits : Bounds) (wires : List (List WireState)) (accepted : List (List ℕ))
-    → 1 ≤ length parties → length parties ≤ 64 → AreBounds limits
+    → 1 ≤ length parties → length parties ≤ PARTIES_LIMIT → AreBounds limits
     → IsSquare (length parties) wires → All (All (λ w. w ≡ new_wire limits.wire)) wires
     → IsSquare (length parties) accepted → All (All (λ n. n ≡ 0)) accepted
     → IsSystem (opening_parts parties limits wires accepted)
@@ -66,8 +68,10 @@ opening_kept parties limits wires accepted some few bounds square empty counts n
       wires_fit = λ from to from_lt to_lt.
           subst (FitsWire limits.wire) (sym (cell-all (λ w. w ≡ new_wire limits.wire) (length parties) wires from to (new_wire 0) square empty from_lt to_lt))
           (record { size = refl; within = omega arith });
-      frames = λ from to. cell-any (λ (w : WireState). AllFramesOf (new_hub parties limits.window) from to w.frames) wires from to (new_wire 0)
-          (λ k d lt j e below. subst (λ (w : WireState). AllFramesOf (new_hub parties limits.window) from to w.frames) (sym (empty k d lt j e below)) tt) tt;
+      frames = λ from to.
+          let of = IsFrameOf (items_on (new_hub parties limits.window) from to) in
+          cell-any (λ (w : WireState). All of w.frames) wires from to (new_wire 0)
+          (λ k d lt j e below. subst (λ (w : WireState). All of w.frames) (sym (empty k d lt j e below)) (All-nil of)) (All-nil of);
       accepted_square = counts;
       accepted = λ from to from_lt to_lt.
           cell-all (λ n. n ≡ 0) (length parties) accepted from to 0 counts none from_lt to_lt

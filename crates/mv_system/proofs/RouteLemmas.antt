@@ -1,17 +1,17 @@
 -- The hub's routing against the row of the list machine.
 use Rattle.std.proofs.Common.{◌≡◌, ℕ, ◌+◌, ◌-◌, ◌<◌, Bool, true, false, List, [], ◌∷◌, length, cond, Some, None, Option, Ok, Err, sym, refl, ap, ◌∙◌, subst, arith}
-use Rattle.std.specs.Prelude.{slice_get, IsTrue, find, nat_lt, not, ◌==◌, ◌||◌, ◌&&◌, Result, IfOk, IfErr, OnOk, OnErr}
+use Rattle.std.specs.Prelude.{slice_get, IsTrue, find, nat_lt, not, ◌||◌, ◌&&◌, unwrap_or, Result, IfOk, IfErr, OnOk, OnErr}
 use Rattle.std.specs.List.{range_with_len}
 use Rattle.std.proofs.lemmas.Bool.{le-ltb, lt-ltb}
 use Rattle.mv_message.specs.declared.message.Message.{Message}
-use Rattle.mv_hub.specs.declared.fault.HubFault.{HubFault}
 use Rattle.mv_hub.specs.declared.fault.HubFault.TheVariants as hub
 use Rattle.mv_hub.specs.declared.fault.RouteFault.{RouteFault}
-use Rattle.mv_hub.specs.declared.fault.RouteFault.TheVariants.{StrangerParty, Busy, Memory}
+use Rattle.mv_hub.specs.declared.fault.RouteFault.TheVariants.{StrangerParty, Memory}
 use Rattle.mv_hub.specs.Record.{routed_count, is_open}
-use Rattle.mv_hub.specs.Fault.{FailsBy, RouteFailsBy}
+use Rattle.mv_link.specs.Fault.{FailsBy}
+use Rattle.mv_link.specs.declared.limits.TheConstants.{NUMBER_LIMIT}
 use Rattle.mv_hub.specs.Targets.{reach}
-use Rattle.mv_hub.specs.Hub.{HubState, with_routed, sent_of, items_on, next_items, is_busy, busy_party, busy_fault, route_fault, relay_fault, close_fault}
+use Rattle.mv_hub.specs.Hub.{HubState, with_routed, sent_of, items_on, next_items, is_busy, busy_party, busy_fault, route_fault, close_fault}
 use Rattle.mv_hub.proofs.RecordLemmas.{link_items-few, gained-few}
 use Rattle.mv_machine.specs.declared.reply.Reply.TheVariants.{Routed}
 use Rattle.mv_machine.specs.declared.reply.Refusal.TheVariants.{Party}
@@ -19,7 +19,7 @@ use Rattle.mv_machine.specs.Replies.{takes_memory}
 use Rattle.mv_machine.specs.State.{State, is_party, submissions_of}
 use Rattle.mv_machine.specs.Steps.{Outcome, refused, is_full, route_unless, route_front, route}
 use Rattle.mv_machine.proofs.BoundLemmas.{routed_count-few}
-use Rattle.mv_system.specs.World.{Parts, state_of, IsSystem, RelayFails, RouteRefuses}
+use Rattle.mv_system.specs.World.{Parts, state_of, IsSystem, RouteRefuses}
 
 -- the row of a party with a message that waits
 pub route_waiting : (st : State) (from : ℕ) (message : Message) → is_party st from ≡ true → slice_get (submissions_of st from) (routed_count st.entries from) ≡ Some message
@@ -44,7 +44,7 @@ busy_is_full p from to message k from_lt =
     let items = link_items-few p.hub.parties p.hub.entries from to in
     let more = gained-few p.hub.parties p.hub.entries from (routed_count p.hub.entries from + 1) message from to in
     let routed = routed_count-few (state_of p) from k.lawful from_lt in
-    let numbers : nat_lt 4294967295 (length (items_on p.hub from to) + length (next_items p.hub from message to)) ≡ false =
+    let numbers : nat_lt NUMBER_LIMIT (length (items_on p.hub from to) + length (next_items p.hub from message to)) ≡ false =
     le-ltb _ _ (omega (arith, items, more, routed, k.submissions_few from, k.bounds.submissions_most)) in
     ap (λ b. nat_lt p.hub.window (length (items_on p.hub from to) - sent_of p.hub from to + length (next_items p.hub from message to)) || b) numbers
     ∙ or-false _
@@ -61,35 +61,23 @@ pub route_fault-party : (h : HubState) (from : ℕ) (message : Message) → nat_
 unfolding route_fault
 route_fault-party h from message party = ap (λ b. cond b (busy_fault (busy_party h from message)) (Some StrangerParty)) party
 
+-- where the hub routed, no link was full
 not_busy : (full : Option ℕ) → busy_fault full ≡ None → full ≡ None
 not_busy None e = refl
 not_busy (Some to) e = absurd (cc)
 
-busy_with : (full : Option ℕ) (to : ℕ) → busy_fault full ≡ Some (Busy to) → full ≡ Some to
-busy_with None to e = absurd (cc)
-busy_with (Some other) to e = cc
-
-stranger_never : (full : Option ℕ) → busy_fault full ≡ Some StrangerParty → ⊥
-stranger_never None e = absurd (cc)
-stranger_never (Some to) e = absurd (cc)
-
--- where the hub routed, no link was full
-pub routed_full : {A : Type 0} (full : Option ℕ) (value : A) → RouteFailsBy (busy_fault full) (Ok value) → full ≡ None
-routed_full full value fails = not_busy full fails
-
 -- the hub's refusal is the row's
-pub refuses : (A : Type 0) (st : State) (from : ℕ) (message : Message) (full : Option ℕ) (fault : RouteFault)
-    → route st from ≡ route_unless st from message full → RouteFailsBy {A = A} (busy_fault full) (Err fault) → RouteRefuses st from fault st
-refuses A st from message full StrangerParty row fails = stranger_never full fails
-refuses A st from message full (Busy to) row fails = (row ∙ ap (route_unless st from message) (busy_with full to fails), refl)
-refuses A st from message full Memory row fails =
-    (subst (λ (x : Outcome). IsTrue (takes_memory x.reply)) (sym (row ∙ ap (route_unless st from message) (not_busy full fails))) refl, refl)
+refuses : (st : State) (from : ℕ) (message : Message) (full : Option ℕ) (fault : RouteFault)
+    → route st from ≡ route_unless st from message full → fault ≡ unwrap_or (busy_fault full) Memory → RouteRefuses st from fault st
+refuses st from message None fault row e =
+    subst (λ f. RouteRefuses st from f st) (sym e) (subst (λ (x : Outcome). IsTrue (takes_memory x.reply)) (sym row) refl, refl)
+refuses st from message (Some to) fault row e = subst (λ f. RouteRefuses st from f st) (sym e) (row, refl)
 
 -- the hub routes the message that waits as the row does
 pub routes : (p : Parts) (from : ℕ) (message : Message) (new : HubState) (result : Result (ℕ × List ℕ) RouteFault) → IsSystem p → from < length p.hub.parties
     → slice_get (submissions_of (state_of p) from) (routed_count p.hub.entries from) ≡ Some message
     → IfOk result (λ routed. routed.0 ≡ routed_count p.hub.entries from + 1) → IfOk result (λ routed. routed.1 ≡ reach p.hub.parties p.hub.entries from message)
-    → OnOk result (new ≡ with_routed p.hub from message) → RouteFailsBy (route_fault p.hub from message) result
+    → OnOk result (new ≡ with_routed p.hub from message) → FailsBy Memory (route_fault p.hub from message) result
     → IfOk result (λ routed. route (state_of p) from ≡ record { reply = Routed routed.0 routed.1; state = state_of (record p { hub = new }) })
 routes p from message new (Err fault) k place next number reached ok fails = tt
 routes p from message new (Ok routed) k place next number reached ok fails =
@@ -97,7 +85,7 @@ routes p from message new (Ok routed) k place next number reached ok fails =
     let party : is_party (state_of p) from ≡ true = lt-ltb from (length p.hub.parties) place in
     let free : full ≡ None =
     sym (busy_party_is_full p from message k place)
-    ∙ routed_full (busy_party p.hub from message) routed (subst (λ f. RouteFailsBy f (Ok routed)) (route_fault-party p.hub from message party) fails) in
+    ∙ not_busy (busy_party p.hub from message) (sym (route_fault-party p.hub from message party) ∙ fails) in
     route_waiting (state_of p) from message party next ∙ ap (route_unless (state_of p) from message) free
     ∙ ap {A = ℕ} {B = Outcome} (λ k. record { reply = Routed k (reach p.hub.parties p.hub.entries from message); state = state_of (record p { hub = with_routed p.hub from message }) }) (sym number)
     ∙ ap {A = List ℕ} {B = Outcome} (λ l. record { reply = Routed routed.0 l; state = state_of (record p { hub = with_routed p.hub from message }) }) (sym reached)
@@ -106,42 +94,15 @@ routes p from message new (Ok routed) k place next number reached ok fails =
 -- the hub refuses the message that waits as the row does
 pub route_refused : (p : Parts) (from : ℕ) (message : Message) (new : HubState) (result : Result (ℕ × List ℕ) RouteFault) → IsSystem p → from < length p.hub.parties
     → slice_get (submissions_of (state_of p) from) (routed_count p.hub.entries from) ≡ Some message
-    → OnErr result (new ≡ p.hub) → RouteFailsBy (route_fault p.hub from message) result
+    → OnErr result (new ≡ p.hub) → FailsBy Memory (route_fault p.hub from message) result
     → IfErr result (λ fault. RouteRefuses (state_of p) from fault (state_of (record p { hub = new })))
 route_refused p from message new (Ok routed) k place next err fails = tt
 route_refused p from message new (Err fault) k place next err fails =
     let party : is_party (state_of p) from ≡ true = lt-ltb from (length p.hub.parties) place in
     let row = route_waiting (state_of p) from message party next ∙ ap (route_unless (state_of p) from message) (sym (busy_party_is_full p from message k place)) in
     subst (λ (h : HubState). RouteRefuses (state_of p) from fault (state_of (record p { hub = h }))) (sym err)
-    (refuses ℕ (state_of p) from message (busy_party p.hub from message) fault row
-    (subst (λ f. RouteFailsBy {A = ℕ} f (Err fault)) (route_fault-party p.hub from message party) fails))
-
-none_where : (b : Bool) → cond b (Some hub.Nothing) None ≡ None → b ≡ false
-none_where false e = refl
-none_where true e = absurd (cc)
-
-nothing_where : (b : Bool) (fault : HubFault) → cond b (Some hub.Nothing) None ≡ Some fault → (b ≡ true) × (fault ≡ hub.Nothing)
-nothing_where false fault e = absurd (cc)
-nothing_where true fault e = (refl, cc)
-
-relay_told : {A : Type 0} (sent total : ℕ) (result : Result A HubFault) → FailsBy (cond (sent == total) (Some hub.Nothing) None) result → RelayFails sent total result
-relay_told sent total (Ok value) fails = none_where (sent == total) fails
-relay_told sent total (Err hub.Memory) fails = none_where (sent == total) fails
-relay_told sent total (Err hub.Nothing) fails = (nothing_where (sent == total) hub.Nothing fails).0
-relay_told sent total (Err hub.NoParty) fails = let no = (nothing_where (sent == total) hub.NoParty fails).1 in cc
-relay_told sent total (Err hub.TooMany) fails = let no = (nothing_where (sent == total) hub.TooMany fails).1 in cc
-relay_told sent total (Err hub.ServedTwice) fails = let no = (nothing_where (sent == total) hub.ServedTwice fails).1 in cc
-relay_told sent total (Err hub.AlreadyClosed) fails = let no = (nothing_where (sent == total) hub.AlreadyClosed fails).1 in cc
-relay_told sent total (Err hub.NotSent) fails = let no = (nothing_where (sent == total) hub.NotSent fails).1 in cc
-relay_told sent total (Err hub.Gone) fails = let no = (nothing_where (sent == total) hub.Gone fails).1 in cc
-relay_told sent total (Err hub.StrangerParty) fails = let no = (nothing_where (sent == total) hub.StrangerParty fails).1 in cc
-
--- the hub's refusal of a frame, between parties
-pub relay_fails : {A : Type 0} (h : HubState) (from to : ℕ) (result : Result A HubFault) → (nat_lt from (length h.parties) && nat_lt to (length h.parties)) ≡ true
-    → FailsBy (relay_fault h from to) result → RelayFails (sent_of h from to) (length (items_on h from to)) result
-relay_fails h from to result parties fails =
-    relay_told (sent_of h from to) (length (items_on h from to)) result
-    (subst (λ b. FailsBy (cond (not b) (Some hub.StrangerParty) (cond (sent_of h from to == length (items_on h from to)) (Some hub.Nothing) None)) result) parties fails)
+    (refuses (state_of p) from message (busy_party p.hub from message) fault row
+    (fails ∙ ap (λ f. unwrap_or f Memory) (route_fault-party p.hub from message party)))
 
 -- where the hub closed a link, it was open
 pub close_told : (h : HubState) (from to : ℕ) → close_fault h from to ≡ None → is_open h.entries from to ≡ true

@@ -1,8 +1,10 @@
 -- What the parts of the system say of the list machine's lists, and what each change of a part keeps.
-use Rattle.std.proofs.Common.{◌≡◌, ℕ, zero, suc, ◌+◌, ◌-◌, ◌<◌, ◌≤◌, Bool, true, false, List, [], ◌∷◌, ◌++◌, length, get_or, set, cond, map, drop, Some, sym, refl, ap, ◌∙◌, subst, arith, length-append, eqb, eqb-true, ltb-true, add-zero, append-nil, inl, inr, get_or-set_same, get_or-set_other}
-use Rattle.std.specs.Prelude.{slice_get, option_map, option_to_list, IsTrue, nat_lt, ◌&&◌, ◌||◌, None, Option, Result, Ok, Err, OnOk, OnErr}
+use Rattle.std.proofs.Common.{◌≡◌, ℕ, zero, suc, ◌+◌, ◌*◌, ◌<◌, ◌≤◌, Bool, true, false, List, [], ◌∷◌, ◌++◌, length, get_or, set, cond, map, Some, sym, refl, ap, ◌∙◌, subst, arith, length-append, eqb, eqb-true, ltb-true, add-zero, append-nil, inl, inr, get_or-set_same, get_or-set_other}
+use Rattle.std.specs.Prelude.{All, slice_get, option_map, option_to_list, IsTrue, nat_lt, ◌&&◌, ◌||◌, None, Option, Result, Ok, Err, OnOk, OnErr}
 use Rattle.std.proofs.lemmas.Bool.{and_parts, eqb-false}
 use Rattle.std.proofs.lemmas.List.{set-get_or}
+use Rattle.std.proofs.lemmas.List.Elements.{All-weaker, All-get_or}
+use Rattle.std.proofs.lemmas.Option.{slice_get_within, get_or_from_slice_get}
 use Rattle.mv_message.specs.declared.message.Message.{Message}
 use Rattle.mv_link.specs.declared.item.Item.{Item}
 use Rattle.mv_link.specs.declared.item.Frame.{Frame}
@@ -12,6 +14,9 @@ use Rattle.mv_pairs.proofs.PairsLemmas.{put-each, put-each_pair, square-put, squ
 use Rattle.mv_hub.specs.declared.entry.Entry.{Entry}
 use Rattle.mv_hub.specs.Record.{routed_count}
 use Rattle.mv_hub.specs.Hub.{HubState, items_on}
+use Rattle.mv_link.specs.declared.limits.TheConstants.{NUMBER_LIMIT}
+use Rattle.mv_link.proofs.LinkLemmas.{of_longer}
+use Rattle.mv_machine.specs.declared.limits.TheConstants.{SUBMISSIONS_LIMIT}
 use Rattle.mv_hub.proofs.RecordLemmas.{link_items-push, link_items-few}
 use Rattle.mv_repository.specs.declared.entry.LogEntry.{LogEntry}
 use Rattle.mv_repository.specs.Log.{items_from}
@@ -21,10 +26,9 @@ use Rattle.mv_machine.specs.State.{State, is_party, are_parties, submissions_of,
 use Rattle.mv_machine.specs.Steps.{entry_from, next_item, next_answer, is_answer_busy, with_applied}
 use Rattle.mv_machine.proofs.PartLemmas.{items_from-push}
 use Rattle.mv_machine.proofs.LawfulLemmas.{IsSound, applied-sound}
-use Rattle.mv_machine.proofs.PrefixLemmas.{slice_get-append}
 use Rattle.mv_machine.proofs.BoundLemmas.{routed_count-few, entries-few}
 use Rattle.mv_system.specs.Wire.{WireState, new_wire, numbers_of}
-use Rattle.mv_system.specs.World.{Parts, wire_at, repository_at, state_of, AllFramesOf, FitsWire, IsSystem, IsAnswerable}
+use Rattle.mv_system.specs.World.{Parts, wire_at, repository_at, state_of, FitsWire, IsSystem, IsAnswerable}
 use Rattle.mv_system.proofs.WireLemmas.{length-numbers_of, numbers_of-front}
 
 pub sound_of : (p : Parts) → IsSystem p → IsSound (state_of p)
@@ -55,7 +59,7 @@ pub record LinkFacts (p : Parts) (st : State) (from to : ℕ) (wire : WireState)
   pub len : length wire.frames ≡ length (wire_of st from to)
   pub limits : st.limits ≡ p.limits
   pub linked : link_of st from to ≡ items_on p.hub from to
-  pub frames : AllFramesOf p.hub from to wire.frames
+  pub frames : All (IsFrameOf (items_on p.hub from to)) wire.frames
   pub fits : FitsWire p.limits.wire wire
 
 pub link_facts : (p : Parts) (st : State) (from to : ℕ) (wire : WireState)
@@ -73,7 +77,7 @@ link_facts p st from to wire k view both at =
       len = sym (length-numbers_of wire.frames) ∙ ap length seen;
       limits = refl;
       linked = refl;
-      frames = subst (λ (v : WireState). AllFramesOf p.hub from to v.frames) at (k.frames from to);
+      frames = subst (λ (v : WireState). All (IsFrameOf (items_on p.hub from to)) v.frames) at (k.frames from to);
       fits = subst (FitsWire p.limits.wire) at (k.wires_fit from to from_party to_party);
     }) both
 
@@ -85,32 +89,8 @@ wire_view p st from to wire numbers view e =
     (ap {A = List (List (List ℕ))} {B = State} (λ l. record (state_of p) { wires = l })
     (put-map (λ w. numbers_of w.frames) p.wires from to wire ∙ ap (put (map (map (λ w. numbers_of w.frames)) p.wires) from to) e))
 
-pub AllFramesOf-drop : (hub : HubState) (from to : ℕ) (frames : List Frame) → AllFramesOf hub from to frames → AllFramesOf hub from to (drop 1 frames)
-AllFramesOf-drop hub from to [] all = tt
-AllFramesOf-drop hub from to (frame ∷ frames) all = all.1
-
-pub AllFramesOf-push : (hub : HubState) (from to : ℕ) (frames : List Frame) (frame : Frame) → AllFramesOf hub from to frames → IsFrameOf (items_on hub from to) frame → AllFramesOf hub from to (frames ++ frame ∷ [])
-AllFramesOf-push hub from to [] frame all one = (one, tt)
-AllFramesOf-push hub from to (first ∷ frames) frame all one = (all.0, AllFramesOf-push hub from to frames frame all.1 one)
-
--- frames stay those of their links when the record gains an entry
-AllFramesOf-entry : (hub : HubState) (entry : Entry) (from to : ℕ) (frames : List Frame) → AllFramesOf hub from to frames → AllFramesOf (record hub { entries = hub.entries ++ entry ∷ [] }) from to frames
-AllFramesOf-entry hub entry from to [] all = tt
-AllFramesOf-entry hub entry from to (frame ∷ frames) all = (
-  (all.0.0, ap (λ l. slice_get l (frame.number - 1)) (link_items-push hub.parties hub.entries entry from to) ∙ slice_get-append _ _ (frame.number - 1) frame.item all.0.1),
-  AllFramesOf-entry hub entry from to frames all.1,
-)
-
-AllFramesOf-sent : (hub : HubState) (sent : List (List ℕ)) (from to : ℕ) (frames : List Frame) → AllFramesOf hub from to frames → AllFramesOf (record hub { sent = sent }) from to frames
-AllFramesOf-sent hub sent from to [] all = tt
-AllFramesOf-sent hub sent from to (frame ∷ frames) all = (all.0, AllFramesOf-sent hub sent from to frames all.1)
-
-pub AllFramesOf-front : (hub : HubState) (from to : ℕ) (frames : List Frame) (frame : Frame) → AllFramesOf hub from to frames → slice_get frames 0 ≡ Some frame → IsFrameOf (items_on hub from to) frame
-AllFramesOf-front hub from to [] frame all e = absurd (cc)
-AllFramesOf-front hub from to (first ∷ frames) frame all e = let same : first ≡ frame = cc in subst (λ (x : Frame). IsFrameOf (items_on hub from to) x) same all.0
-
 -- the system with one wire written
-pub wire_kept : (p : Parts) (from to : ℕ) (wire : WireState) → IsSystem p → AllFramesOf p.hub from to wire.frames → FitsWire p.limits.wire wire
+pub wire_kept : (p : Parts) (from to : ℕ) (wire : WireState) → IsSystem p → All (IsFrameOf (items_on p.hub from to)) wire.frames → FitsWire p.limits.wire wire
     → IsSystem (record p { wires = put p.wires from to wire })
 wire_kept p from to wire k frames fits =
     let square = square-put (length p.hub.parties) p.wires from to wire k.wires_square in
@@ -133,7 +113,7 @@ wire_kept p from to wire k frames fits =
       submissions_few = k.submissions_few;
       wires_square = square;
       wires_fit = put-each_pair (λ i j w. i < length p.hub.parties → j < length p.hub.parties → FitsWire p.limits.wire w) p.wires from to wire (new_wire 0) (λ _ _. fits) k.wires_fit;
-      frames = put-each_pair (λ i j w. AllFramesOf p.hub i j w.frames) p.wires from to wire (new_wire 0) frames k.frames;
+      frames = put-each_pair (λ i j w. All (IsFrameOf (items_on p.hub i j)) w.frames) p.wires from to wire (new_wire 0) frames k.frames;
       accepted_square = k.accepted_square;
       accepted = k.accepted;
       owners = k.owners;
@@ -171,7 +151,8 @@ entered_kept p entry k sound = record {
   submissions_few = k.submissions_few;
   wires_square = k.wires_square;
   wires_fit = k.wires_fit;
-  frames = λ from to. AllFramesOf-entry p.hub entry from to _ (k.frames from to);
+  frames = λ from to. All-weaker (IsFrameOf (items_on p.hub from to)) _
+      (λ frame of. subst (λ l. IsFrameOf l frame) (sym (link_items-push p.hub.parties p.hub.entries entry from to)) (of_longer _ _ frame of)) _ (k.frames from to);
   accepted_square = k.accepted_square;
   accepted = k.accepted;
   owners = k.owners;
@@ -205,7 +186,7 @@ sent_kept p sent k square = record {
   submissions_few = k.submissions_few;
   wires_square = k.wires_square;
   wires_fit = k.wires_fit;
-  frames = λ from to. AllFramesOf-sent p.hub sent from to _ (k.frames from to);
+  frames = k.frames;
   accepted_square = k.accepted_square;
   accepted = k.accepted;
   owners = k.owners;
@@ -340,7 +321,9 @@ pub front_item : (p : Parts) (st : State) (from to : ℕ) (wire : WireState) (fr
 front_item p st from to wire frame facts front next =
     let x : Some frame.number ≡ slice_get (wire_of st from to) 0 = sym (ap (λ l. slice_get l 0) (sym facts.seen) ∙ numbers_of-front wire.frames ∙ ap (option_map (λ f. f.number)) front) in
     let number : frame.number ≡ applied_count st from to + 1 = cc in
-    ap (λ l. slice_get l (applied_count st from to)) facts.linked ∙ ap (slice_get (items_on p.hub from to)) (omega (arith, number)) ∙ (AllFramesOf-front p.hub from to wire.frames frame facts.frames front).1
+    let of = All-get_or (IsFrameOf (items_on p.hub from to)) wire.frames 0 frame (slice_get_within wire.frames 0 frame front) facts.frames in
+    ap (λ l. slice_get l (applied_count st from to)) facts.linked ∙ ap (slice_get (items_on p.hub from to)) (omega (arith, number))
+    ∙ (subst (IsFrameOf (items_on p.hub from to)) (get_or_from_slice_get wire.frames 0 frame frame front) of).1
 
 -- a party of the list machine has its place among the parts
 pub party-place : (p : Parts) (st : State) (party : ℕ) → state_of p ≡ st → IsTrue (is_party st party) → party < length p.hub.parties
@@ -358,7 +341,7 @@ parties-places p st from to view both =
     record { from_party = ltb-true from (length p.hub.parties) parts.0; to_party = ltb-true to (length p.hub.parties) parts.1 }) both
 
 -- what a repository applied of a sender is far from 2 ^ 32 items
-pub applied_count-few : (p : Parts) (from to : ℕ) → IsSystem p → ArePlaces p from to → applied_count (state_of p) from to ≤ 2000000
+pub applied_count-few : (p : Parts) (from to : ℕ) → IsSystem p → ArePlaces p from to → applied_count (state_of p) from to ≤ 2 * SUBMISSIONS_LIMIT
 applied_count-few p from to k places =
     let order = (k.lawful.of_link from to places.from_party places.to_party).applied in
     let items = link_items-few p.hub.parties p.hub.entries from to in
@@ -370,7 +353,7 @@ pub waiting-count : (p : Parts) (party : ℕ) → IsSystem p → party < length 
 waiting-count p party k lt = routed_count-few (state_of p) party k.lawful lt
 
 -- the record is short enough for one more entry
-pub entries-short : (p : Parts) → IsSystem p → length p.hub.entries < 4294967295
+pub entries-short : (p : Parts) → IsSystem p → length p.hub.entries < NUMBER_LIMIT
 entries-short p k =
     let few = entries-few (state_of p) k.lawful k.parties_most (λ party. omega (arith, k.submissions_few party, k.bounds.submissions_most)) in omega (arith, few)
 

@@ -1,7 +1,6 @@
 -- What the system is seen as, the state of the list machine, and what it keeps beside that.
-use Rattle.std.specs.Prelude.{◌≡◌, All, ◌<◌, ◌≤◌, ◌==◌, ℕ, List, [], ◌∷◌, length, map, slice_index_or, IsTrue, Bool, true, false, Option, Some, Result, Ok, Err}
+use Rattle.std.specs.Prelude.{◌≡◌, All, ◌<◌, ◌≤◌, ℕ, List, [], length, map, slice_index_or, IsTrue, false, Option, Some}
 use Rattle.mv_message.specs.declared.message.Message.{Message}
-use Rattle.mv_link.specs.declared.item.Frame.{Frame}
 use Rattle.mv_link.specs.Frames.{IsFrameOf}
 use Rattle.mv_link.specs.declared.limits.TheConstants.{PARTIES_LIMIT}
 use Rattle.mv_pairs.specs.Pairs.{cell, IsSquare}

@@ -5,6 +5,7 @@ ghost use Rattle.std.specs.Option.{option_copied};
 ghost use Rattle.mv_repository.specs.Effect.{effect_of};
 ghost use Rattle.mv_repository.specs.Query.{answer_to};
 ghost use Rattle.mv_repository.specs.Repository.{with_applied};
+ghost use Rattle.mv_machine.specs.declared.limits.TheConstants.{SUBMISSIONS_LIMIT};
 ghost use Rattle.mv_machine.specs.Steps.{answer_number, entry_from};
 
 use mv_link::Item;
@@ -76,7 +77,7 @@ impl Submissions {
         from: Party,
         item: &Item,
     ) -> Result<(Effect, Option<u32>), AllocError>
-        requires { length self.old ≤ 1000000 }
+        requires { length self.old ≤ SUBMISSIONS_LIMIT }
         ensures effect { IfOk result (λ applied.
             applied.0 ≡ effect_of repository.old.log (entry_from from item.now)) }
         ensures number { IfOk result (λ applied. applied.1

@@ -1,6 +1,8 @@
 //! What the steps ask of the system, in the words of the list machine.
 
 ghost use Rattle.std.specs.Prelude.{◌≡◌, ◌<◌, ◌≤◌, ◌+◌, ℕ, List, length, nat_le, IsTrue, IsSome, false, slice_get, Some, is_some};
+ghost use Rattle.mv_link.specs.declared.limits.TheConstants.{NUMBER_LIMIT};
+ghost use Rattle.mv_machine.specs.declared.limits.TheConstants.{SUBMISSIONS_LIMIT};
 ghost use Rattle.mv_machine.specs.Limits.{AreBounds};
 ghost use Rattle.mv_repository.specs.declared.entry.LogEntry.{LogEntry as ALogEntry};
 ghost use Rattle.mv_repository.specs.Query.{answer_after};
@@ -40,7 +42,7 @@ impl World {
         requires { IsTrue (is_party self.now from) }
         ensures value { result ≡ length (submissions_of self.now from) }
         ensures few { result ≤ self.now.limits.submissions }
-        ensures most { result ≤ 1000000 }
+        ensures most { result ≤ SUBMISSIONS_LIMIT }
     {
         self.submissions[from as usize].len()
     }
@@ -163,7 +165,7 @@ impl World {
     pub(super) fn applied_count(&self, from: Party, to: Party) -> u32
         requires { IsTrue (are_parties self.now from to) }
         ensures value { result ≡ applied_count self.now from to }
-        ensures few { result < 4294967295 }
+        ensures few { result < NUMBER_LIMIT }
     {
         self.accepted.at(from, to).count()
     }

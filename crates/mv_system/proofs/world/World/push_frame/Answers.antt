@@ -1,10 +1,13 @@
 use Rattle.std.proofs.Common.{[], ◌∷◌, ◌++◌, arith, sym, ap, subst, ◌∙◌, length-append}
 use Rattle.mv_link.specs.Frames.{IsFrameOf}
 use Rattle.mv_machine.specs.State.{State, items_on}
+use Rattle.std.specs.List.{All}
+use Rattle.std.proofs.lemmas.List.Elements.{All-push}
+use Rattle.mv_hub.specs.Hub.{items_on as items_of_hub}
 use Rattle.mv_system.specs.Wire.{WireState, new_wire, numbers_of}
-use Rattle.mv_system.specs.World.{parts_of, AllFramesOf, FitsWire}
+use Rattle.mv_system.specs.World.{parts_of, FitsWire}
 use Rattle.mv_system.proofs.WireLemmas.{numbers_of-push}
-use Rattle.mv_system.proofs.SystemLemmas.{link_facts, wire_kept, wire_view, AllFramesOf-push}
+use Rattle.mv_system.proofs.SystemLemmas.{link_facts, wire_kept, wire_view}
 use Rattle.mv_system.proofs.world.World.push_frame.Goals as goal
 
 pub push-requires : goal.push-requires
@@ -22,8 +25,9 @@ invariant_of-self c =
     let frame = c.args.frame in
     let facts = link_facts p c.args.self.now c.args.from c.args.to wire c.self.invariant c.self.view_is c.requires.parties (c.at_mut-wire.ensures.value (new_wire 0)) in
     let of_link = subst (λ (t : State). IsFrameOf (items_on t c.args.from c.args.to) frame) (sym c.self.view_is) c.requires.frame in
+    let of = IsFrameOf (items_of_hub a.hub c.args.from c.args.to) in
     wire_kept p c.args.from c.args.to c.push.new.self c.self.invariant
-    (subst (λ (w : WireState). AllFramesOf a.hub c.args.from c.args.to w.frames) (sym c.push.ensures) (AllFramesOf-push a.hub c.args.from c.args.to wire.frames frame facts.frames of_link))
+    (subst (λ (w : WireState). All of w.frames) (sym c.push.ensures) (All-push of wire.frames frame facts.frames of_link))
     (subst (FitsWire a.limits.wire) (sym c.push.ensures)
     (record { size = facts.fits.size; within = omega (arith, facts.len, c.requires.room, ap (λ l. l.wire) facts.limits, length-append wire.frames (frame ∷ [])) }))
 

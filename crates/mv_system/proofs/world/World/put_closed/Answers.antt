@@ -1,6 +1,7 @@
 -- A closing fits the record, since the link was open.
 use Rattle.mv_hub.specs.declared.entry.Entry.TheVariants.{Closed}
-use Rattle.mv_hub.specs.Fault.{FailsBy}
+use Rattle.mv_link.specs.Fault.{FailsBy}
+use Rattle.mv_hub.specs.declared.fault.HubFault.TheVariants.{Memory}
 use Rattle.mv_hub.specs.Hub.{close_fault, with_closed}
 use Rattle.mv_machine.proofs.LawfulLemmas.{closed-sound}
 use Rattle.mv_system.specs.World.{parts_of, state_of}
@@ -15,7 +16,7 @@ invariant_of-self c =
     let from = c.args.from in
     let to = c.args.to in
     let places = parties-places p c.args.self.now from to c.self.view_is c.requires in
-    hub_kept (FailsBy (close_fault a.hub from to)) p c.close.new.self (with_closed a.hub from to) c.close.result
+    hub_kept (FailsBy Memory (close_fault a.hub from to)) p c.close.new.self (with_closed a.hub from to) c.close.result
     c.close.ensures.ok c.close.ensures.err c.close.ensures.fault c.self.invariant
     (λ _ told. entered_kept p (Closed from to) c.self.invariant
     (closed-sound (state_of p) from to (sound_of p c.self.invariant) places.from_party places.to_party (close_told a.hub from to told)))

@@ -16,12 +16,13 @@ use Rattle.mv_hub.specs.declared.entry.Entry.{Entry}
 use Rattle.mv_hub.specs.declared.entry.Entry.TheVariants.{Routed, Closed}
 use Rattle.mv_hub.specs.Record.{routed_from, routed_count, is_open}
 use Rattle.mv_message.specs.declared.message.Message.TheVariants.{Master, Upload, Status, Recall, Repack, Withdraw, Query, Answer}
+use Rattle.mv_hub.specs.declared.hub.routing.Routing.{Routing}
 use Rattle.mv_hub.specs.Targets.{reach, is_reached, is_target, is_candidate, serves_product, is_query}
 use Rattle.mv_hub.specs.Links.{gained, link_items}
 use Rattle.mv_hub.specs.Hub.{HubState, new_hub, sent_of, items_on, next_items, is_busy, busy_party, busy_fault, route_fault, with_relayed}
 use Rattle.mv_hub.specs.declared.fault.RouteFault.TheVariants.{StrangerParty}
 use Rattle.mv_hub.specs.Kept.{link_at, sent_table, AreCounts, AreOpen, Carries, AreLinks, IsKept}
-use Rattle.mv_hub.specs.Gains.{Gains, GainsRow, IsRouting, gain_of, gain_count}
+use Rattle.mv_hub.specs.Gains.{Gains, GainsRow, IsRouting, receipt_of, carried_by, gain_of, gain_count}
 use Rattle.mv_hub.proofs.LinksLemmas.{room-after}
 use Rattle.mv_hub.proofs.RecordLemmas.{routed_from-append, link_items-push, gained_other, gained-closed}
 use Rattle.mv_hub.proofs.NumberLemmas.{any-filter_range, find-none_at}
@@ -107,18 +108,18 @@ cond-and true b xs ys = refl
 cond-and false b xs ys = refl
 
 -- what a link gains is what the record will put on it
-pub next-gain : (hub : HubState) (from k stamp : ℕ) (reached : List ℕ) (message : Message) (receipt : List Item) (to : ℕ)
-    → IsRouting hub message from k stamp reached → to < length hub.parties
-    → receipt ≡ cond (is_open hub.entries from from) (Receipt k reached (is_query message) ∷ []) []
-    → gain_of from reached receipt (Carried k stamp message) to ≡ next_items hub from message to
-next-gain hub from k stamp reached message receipt to routing lt e =
-    next_items-are hub from to message reached (cond (to == from) receipt []) (cond (list_any (λ other. other == to) reached) (Carried k stamp message ∷ []) [])
-    lt routing.parties
+pub next-gain : (hub : HubState) (routing : Routing) (receipt : List Item) (to : ℕ)
+    → IsRouting hub routing → to < length hub.parties → receipt ≡ receipt_of hub routing
+    → gain_of routing.from routing.reached receipt (carried_by routing) to ≡ next_items hub routing.from routing.message.now to
+next-gain hub routing receipt to is lt e =
+    let from = routing.from in
+    let here = list_any (λ other. other == to) routing.reached in
+    next_items-are hub from to routing.message.now routing.reached (cond (to == from) receipt []) (cond here (carried_by routing ∷ []) []) lt is.parties
     (ap (λ r. cond (to == from) r []) e
-    ∙ cond-and (to == from) (is_open hub.entries from from) (Receipt k reached (is_query message) ∷ []) []
-    ∙ ap (λ n. cond ((to == from) && is_open hub.entries from from) (Receipt n reached (is_query message) ∷ []) []) routing.number)
-    (ap (λ n. cond (list_any (λ other. other == to) reached) (Carried n stamp message ∷ []) []) routing.number
-    ∙ ap (λ n. cond (list_any (λ other. other == to) reached) (Carried (routed_count hub.entries from + 1) n message ∷ []) []) routing.place)
+    ∙ cond-and (to == from) (is_open hub.entries from from) (Receipt routing.k routing.reached (is_query routing.message.now) ∷ []) []
+    ∙ ap (λ n. cond ((to == from) && is_open hub.entries from from) (Receipt n routing.reached (is_query routing.message.now) ∷ []) []) is.number)
+    (ap (λ n. cond here (Carried n routing.stamp routing.message.now ∷ []) []) is.number
+    ∙ ap (λ n. cond here (Carried (routed_count hub.entries from + 1) n routing.message.now ∷ []) []) is.place)
 
 pub length-gain : (from : ℕ) (reached : List ℕ) (receipt : List Item) (item : Item) (to : ℕ)
     → length (gain_of from reached receipt item to) ≡ gain_count from reached receipt to

@@ -1,17 +1,16 @@
 //! How a message is routed. Only the links that gain something are looked at: those to the parties that it reaches, and that
 //! of its sender to itself.
 
-ghost use Rattle.std.specs.Prelude.{◌≡◌, ◌+◌, ◌<◌, ◌∷◌, ◌==◌, ◌||◌, [], ℕ, length, replicate, true, false, IfOk, OnOk, OnErr, None, if◌then◌else◌};
+ghost use Rattle.std.specs.Prelude.{◌≡◌, ◌+◌, ◌<◌, ◌==◌, ℕ, length, replicate, true, false, IfOk, OnOk, OnErr, None};
 ghost use Rattle.std.specs.Option.{option_to_list};
 ghost use Rattle.std.specs.List.{list_any};
-ghost use Rattle.mv_link.specs.declared.item.Item.TheVariants.{Receipt, Carried};
-ghost use Rattle.mv_hub.specs.Record.{routed_count, is_open};
-ghost use Rattle.mv_hub.specs.Targets.{reach, is_reached, is_query};
+ghost use Rattle.mv_hub.specs.Record.{routed_count};
+ghost use Rattle.mv_hub.specs.Targets.{reach, is_query};
 ghost use Rattle.mv_hub.specs.PartySets.{those};
 ghost use Rattle.mv_link.specs.Fault.{FailsBy};
 ghost use Rattle.mv_link.specs.declared.limits.TheConstants.{NUMBER_LIMIT};
 ghost use Rattle.mv_hub.specs.Hub.{next_items, is_busy, busy_party, route_fault, with_routed};
-ghost use Rattle.mv_hub.specs.Gains.{IsRouting};
+ghost use Rattle.mv_hub.specs.Gains.{IsRouting, is_gaining, receipt_of, carried_by};
 
 use crate::gains::{Gains, put_gains};
 use crate::hub::Hub;
@@ -43,7 +42,7 @@ impl Hub {
         requires few { length self.now.entries < NUMBER_LIMIT }
         ensures from { result.from ≡ from }
         ensures message { result.message.now ≡ message.now }
-        ensures routing { IsRouting self.now result.message.now result.from result.k result.stamp result.reached }
+        ensures routing { IsRouting self.now result }
     {
         Routing {
             from,
@@ -56,11 +55,9 @@ impl Hub {
 
     /// The parties whose links gain something: those that the message reaches, and its sender.
     fn gaining(&self, routing: &Routing<'_>) -> Reach
-        requires { IsRouting self.now routing.now.message.now routing.now.from routing.now.k routing.now.stamp routing.now.reached }
-        ensures those { result ≡ those (λ to. is_reached self.now.parties self.now.entries routing.now.from routing.now.message.now to
-            || (to == routing.now.from)) (length self.now.parties) }
-        ensures others { (to : ℕ) → to < length self.now.parties
-            → (is_reached self.now.parties self.now.entries routing.now.from routing.now.message.now to || (to == routing.now.from)) ≡ false
+        requires { IsRouting self.now routing.now }
+        ensures those { result ≡ those (is_gaining self.now routing.now) (length self.now.parties) }
+        ensures others { (to : ℕ) → to < length self.now.parties → is_gaining self.now routing.now to ≡ false
             → is_busy self.now routing.now.from routing.now.message.now to ≡ false }
     {
         let mut found: ArrayVec<Party, PARTIES_LIMIT> = ArrayVec::new();
@@ -73,10 +70,9 @@ impl Hub {
 
     /// How many items the routing puts on a link that gains something.
     fn gain_count(&self, routing: &Routing<'_>, to: Party) -> u32
-        requires routing { IsRouting self.now routing.now.message.now routing.now.from routing.now.k routing.now.stamp routing.now.reached }
+        requires routing { IsRouting self.now routing.now }
         requires to { to < length self.now.parties }
-        requires gains { (is_reached self.now.parties self.now.entries routing.now.from routing.now.message.now to
-            || (to == routing.now.from)) ≡ true }
+        requires gains { is_gaining self.now routing.now to ≡ true }
         ensures { result ≡ length (next_items self.now routing.now.from routing.now.message.now to) }
     {
         if to != routing.from {
@@ -87,10 +83,9 @@ impl Hub {
 
     /// Whether a link that gains something has no room for it.
     fn is_busy(&self, routing: &Routing<'_>, to: Party) -> bool
-        requires routing { IsRouting self.now routing.now.message.now routing.now.from routing.now.k routing.now.stamp routing.now.reached }
+        requires routing { IsRouting self.now routing.now }
         requires to { to < length self.now.parties }
-        requires gains { (is_reached self.now.parties self.now.entries routing.now.from routing.now.message.now to
-            || (to == routing.now.from)) ≡ true }
+        requires gains { is_gaining self.now routing.now to ≡ true }
         ensures { result ≡ is_busy self.now routing.now.from routing.now.message.now to }
     {
         let count = self.gain_count(routing, to);
@@ -99,7 +94,7 @@ impl Hub {
 
     /// The least party whose link has no room for what the routing puts on it.
     fn busy_party(&self, routing: &Routing<'_>) -> Option<Party>
-        requires { IsRouting self.now routing.now.message.now routing.now.from routing.now.k routing.now.stamp routing.now.reached }
+        requires { IsRouting self.now routing.now }
         ensures { result ≡ busy_party self.now routing.now.from routing.now.message.now }
     {
         let gaining = self.gaining(routing);
@@ -114,10 +109,7 @@ impl Hub {
     /// The receipt of the routing, unless the link of its sender to itself is closed.
     fn receipt(&self, routing: &Routing<'_>) -> Result<Option<Item>, AllocError>
         requires { routing.now.from < length self.now.parties }
-        ensures { IfOk result (λ receipt. option_to_list receipt
-            ≡ (if is_open self.now.entries routing.now.from routing.now.from
-            then Receipt routing.now.k routing.now.reached (is_query routing.now.message.now) ∷ []
-            else [])) }
+        ensures { IfOk result (λ receipt. option_to_list receipt ≡ receipt_of self.now routing.now) }
     {
         if !self.is_open(routing.from, routing.from) {
             return Ok(None);
@@ -131,8 +123,7 @@ impl Hub {
 
     /// The message for each party that it reaches.
     fn carried(&self, routing: &Routing<'_>) -> Result<Vec<Item>, AllocError>
-        ensures { IfOk result (λ carried. carried.items
-            ≡ replicate (length routing.now.reached) (Carried routing.now.k routing.now.stamp routing.now.message.now)) }
+        ensures { IfOk result (λ carried. carried.items ≡ replicate (length routing.now.reached) (carried_by routing.now)) }
     {
         let count = routing.reached.as_slice().len();
         let mut carried = Vec::with_capacity(self.alloc, count)?;
@@ -149,12 +140,8 @@ impl Hub {
     /// What the routing puts on the links of its sender.
     fn gains(&self, routing: &Routing<'_>) -> Result<Gains, AllocError>
         requires { routing.now.from < length self.now.parties }
-        ensures receipt { IfOk result (λ gains. option_to_list gains.receipt
-            ≡ (if is_open self.now.entries routing.now.from routing.now.from
-            then Receipt routing.now.k routing.now.reached (is_query routing.now.message.now) ∷ []
-            else [])) }
-        ensures carried { IfOk result (λ gains. gains.carried.items
-            ≡ replicate (length routing.now.reached) (Carried routing.now.k routing.now.stamp routing.now.message.now)) }
+        ensures receipt { IfOk result (λ gains. option_to_list gains.receipt ≡ receipt_of self.now routing.now) }
+        ensures carried { IfOk result (λ gains. gains.carried.items ≡ replicate (length routing.now.reached) (carried_by routing.now)) }
     {
         let receipt = self.receipt(routing)?;
         let carried = self.carried(routing)?;
@@ -163,15 +150,11 @@ impl Hub {
 
     /// Puts the message into the record and the tables, and the gains of its routing on the links.
     fn put_routed(&mut self, routing: &Routing<'_>, gains: Gains) -> Result<(), AllocError>
-        requires routing { IsRouting self.old routing.now.message.now routing.now.from routing.now.k routing.now.stamp routing.now.reached }
+        requires routing { IsRouting self.old routing.now }
         requires few { length self.old.entries < NUMBER_LIMIT }
         requires room { busy_party self.old routing.now.from routing.now.message.now ≡ None }
-        requires receipt { option_to_list gains.receipt
-            ≡ (if is_open self.old.entries routing.now.from routing.now.from
-            then Receipt routing.now.k routing.now.reached (is_query routing.now.message.now) ∷ []
-            else []) }
-        requires carried { gains.carried.items
-            ≡ replicate (length routing.now.reached) (Carried routing.now.k routing.now.stamp routing.now.message.now) }
+        requires receipt { option_to_list gains.receipt ≡ receipt_of self.old routing.now }
+        requires carried { gains.carried.items ≡ replicate (length routing.now.reached) (carried_by routing.now) }
         ensures ok { OnOk result (self.new ≡ with_routed self.old routing.now.from routing.now.message.now) }
         ensures err { OnErr result (self.new ≡ self.old) }
     {

@@ -4,6 +4,7 @@ use Rattle.mv_hub.specs.Targets.{reach, is_reached}
 use Rattle.mv_hub.specs.Hub.{HubState}
 use Rattle.mv_hub.specs.Kept.{link_at}
 use Rattle.mv_hub.specs.PartySets.{those}
+use Rattle.mv_hub.specs.Gains.{is_gaining}
 use Rattle.mv_hub.proofs.NumberLemmas.{increasing-those}
 use Rattle.mv_hub.proofs.HubLemmas.{LinkFacts, link_facts, not_busy, next-none}
 use Rattle.mv_hub.proofs.hub.Hub.gaining.Goals as goal
@@ -37,7 +38,7 @@ returns-clause-those c =
     c.new.ensures
     ∙ c.add.ensures test (c.loop-to.invariant ∙ take_all c.loop-to.to-index c.as_slice-to-items.result.now c.loop-to-test.false ∙ c.as_slice-to-items.ensures.value ∙ c.requires.parties
     ∙ ap (λ (h : HubState). those test (length h.parties)) (sym c.self.view_is))
-    ∙ ap (λ (h : HubState). those (λ to. test to || (to == from)) (length h.parties)) c.self.view_is
+    ∙ ap (λ (h : HubState). those (is_gaining hub c.args.routing.now) (length h.parties)) c.self.view_is
 
 pub returns-clause-others : goal.returns-clause-others
 returns-clause-others c = λ to below none.

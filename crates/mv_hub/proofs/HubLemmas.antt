@@ -465,13 +465,13 @@ view-new parties window links square fresh =
     (table-all (λ (v : Sending). v.sent) 0 (length parties) links square (λ k d lt j e below. ap (λ (v : Sending). v.sent) (fresh k d lt j e below)))
 
 -- why a message of a stranger, and of a party, is not routed
-pub route_fault_of_stranger : (hub : HubState) (from : ℕ) (message : Message) → length hub.parties ≤ from → route_fault hub from message ≡ Some StrangerParty
+pub stranger_is_not_routed : (hub : HubState) (from : ℕ) (message : Message) → length hub.parties ≤ from → route_fault hub from message ≡ Some StrangerParty
 unfolding route_fault
-route_fault_of_stranger hub from message ge =
+stranger_is_not_routed hub from message ge =
     ap (λ b. cond b (busy_fault (busy_party hub from message)) (Some StrangerParty)) (le-ltb from (length hub.parties) ge)
 
-pub route_fault_of_party : (hub : HubState) (from : ℕ) (message : Message) → from < length hub.parties
+pub party_is_routed : (hub : HubState) (from : ℕ) (message : Message) → from < length hub.parties
     → route_fault hub from message ≡ busy_fault (busy_party hub from message)
 unfolding route_fault
-route_fault_of_party hub from message lt =
+party_is_routed hub from message lt =
     ap (λ b. cond b (busy_fault (busy_party hub from message)) (Some StrangerParty)) (lt-ltb from (length hub.parties) lt)

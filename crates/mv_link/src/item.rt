@@ -25,8 +25,8 @@ pub enum Item {
 }
 
 impl Item {
-    /// An item of its own that equals this one. It takes no memory: L4, the only refusal, is where so many hold the message, or
-    /// the reach, that they cannot be counted.
+    /// An item of its own that equals this one. It takes no memory: L4, the only refusal, is where so many hold the
+    /// message, or the reach, that they cannot be counted.
     pub fn copy(&self) -> Result<Item, LinkFault>
         ensures copy { IfOk result (λ item. item ≡ self.now) }
         ensures memory { IfErr result (λ fault. fault ≡ LinkFault.Memory) }

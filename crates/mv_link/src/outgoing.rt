@@ -27,7 +27,8 @@ impl Model for Outgoing {
 
 impl Outgoing {
     ghost use Rattle.mv_link.specs.declared.item.Item.{Item as AnItem};
-    ghost use Rattle.mv_link.specs.Sending.{IsWindow, new_sending, with_item, with_relayed, HasRoom, EndsWithHeld, IsFrameOfAll, relay_fault, again_fault};
+    ghost use Rattle.mv_link.specs.Sending.{IsWindow, new_sending, with_item, with_relayed, HasRoom, EndsWithHeld};
+    ghost use Rattle.mv_link.specs.Sending.{IsFrameOfAll, relay_fault, again_fault};
     ghost use Rattle.mv_link.specs.Fault.{FailsBy};
 
     /// A sending end with a window of 2 to 256 items. Refused for want of memory.
@@ -116,12 +117,13 @@ impl Outgoing {
 
     /// The frame of this number once more, one that was relayed before. Nothing changes.
     ///
-    /// The first of these that holds is the fault: L2, no frame of this number was relayed; L3, it is kept no longer, since
-    /// as many items as the window holds were pushed behind it; L4, memory was refused.
+    /// The first of these that holds is the fault: L2, no frame of this number was relayed; L3, it is kept no longer,
+    /// since as many items as the window holds were pushed behind it; L4, memory was refused.
     pub fn again(&self, number: u32) -> Result<Frame, LinkFault>
         ensures number { IfOk result (λ frame. frame.number ≡ number) }
         ensures frame { IfOk result (λ frame. IsFrameOfAll self.now frame) }
-        ensures fault { FailsBy LinkFault.Memory (again_fault self.now.window self.now.total self.now.sent number) result }
+        ensures fault { FailsBy LinkFault.Memory
+            (again_fault self.now.window self.now.total self.now.sent number) result }
     {
         if number == 0 || number > self.sent {
             return Err(LinkFault::NotSent);

@@ -44,9 +44,9 @@ impl Hub {
     /// The frame of this number of the link from one party to another once more, one that was relayed before. Nothing
     /// changes.
     ///
-    /// The first of these that holds is the fault: H4, one of the parties is none; H9, no frame of this number was relayed;
-    /// H10, it is kept no longer, since as many items as the window holds were put on the link behind it; H7, memory was
-    /// refused.
+    /// The first of these that holds is the fault: H4, one of the parties is none; H9, no frame of this number was
+    /// relayed; H10, it is kept no longer, since as many items as the window holds were put on the link behind it; H7,
+    /// memory was refused.
     pub fn repeat(&self, from: Party, to: Party, number: u32) -> Result<Frame, HubFault>
         ensures number { IfOk result (λ frame. frame.number ≡ number) }
         ensures frame { IfOk result (λ frame. IsFrameOf (items_on self.now from to) frame) }

@@ -1,5 +1,5 @@
-//! How a message is routed. Only the links that gain something are looked at: those to the parties that it reaches, and that
-//! of its sender to itself.
+//! How a message is routed. Only the links that gain something are looked at: those to the parties that it reaches, and
+//! that of its sender to itself.
 
 ghost use Rattle.std.specs.Prelude.{◌≡◌, ◌+◌, ◌<◌, ◌==◌, ℕ, length, replicate, true, false, IfOk, OnOk, OnErr, None};
 ghost use Rattle.std.specs.Option.{option_to_list};
@@ -123,7 +123,8 @@ impl Hub {
 
     /// The message for each party that it reaches.
     fn carried(&self, routing: &Routing<'_>) -> Result<Vec<Item>, AllocError>
-        ensures { IfOk result (λ carried. carried.items ≡ replicate (length routing.now.reached) (carried_by routing.now)) }
+        ensures { IfOk result (λ carried.
+            carried.items ≡ replicate (length routing.now.reached) (carried_by routing.now)) }
     {
         let count = routing.reached.as_slice().len();
         let mut carried = Vec::with_capacity(self.alloc, count)?;
@@ -141,7 +142,8 @@ impl Hub {
     fn gains(&self, routing: &Routing<'_>) -> Result<Gains, AllocError>
         requires { routing.now.from < length self.now.parties }
         ensures receipt { IfOk result (λ gains. option_to_list gains.receipt ≡ receipt_of self.now routing.now) }
-        ensures carried { IfOk result (λ gains. gains.carried.items ≡ replicate (length routing.now.reached) (carried_by routing.now)) }
+        ensures carried { IfOk result (λ gains.
+            gains.carried.items ≡ replicate (length routing.now.reached) (carried_by routing.now)) }
     {
         let receipt = self.receipt(routing)?;
         let carried = self.carried(routing)?;
@@ -167,13 +169,13 @@ impl Hub {
         Ok(())
     }
 
-    /// Routes the next message of a party: it goes into the record, a receipt of it onto the party's link to itself, and
-    /// the message onto the link to each party that it reaches, under its place in the record as stamp. Answers its number
-    /// among the messages of the party, from one, and whom it reaches.
+    /// Routes the next message of a party: it goes into the record, a receipt of it onto the party's link to itself,
+    /// and the message onto the link to each party that it reaches, under its place in the record as stamp. Answers its
+    /// number among the messages of the party, from one, and whom it reaches.
     ///
     /// The first of these that holds is the fault: H4, there is no such party; H5, a link has no room for what it would
     /// gain, the least such; H7, memory was refused.
-    #[tactic(auto, using(crate::proofs::HubLemmas::route_fault_of_stranger, crate::proofs::HubLemmas::route_fault_of_party))]
+    #[tactic(auto, using(crate::proofs::HubLemmas::stranger_is_not_routed, crate::proofs::HubLemmas::party_is_routed))]
     pub fn route(
         &mut self,
         from: Party,

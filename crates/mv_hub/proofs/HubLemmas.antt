@@ -3,7 +3,8 @@ use Rattle.std.proofs.Common.{◌≡◌, ℕ, ◌+◌, ◌-◌, ◌<◌, ◌≤�
 use mir.Val.{bool_byte}
 use Rattle.std.specs.Prelude.{nat_lt, ◌==◌, replicate}
 use Rattle.std.specs.List.{All, list_any}
-use Rattle.std.proofs.lemmas.Bool.{cases_eq, eq-eqb, ne_eqb, lt-ltb, le-ltb, ltb-false}
+use Rattle.std.proofs.Math.Bool.{and_assoc, and-false}
+use Rattle.std.proofs.lemmas.Bool.{or_parts, cases_eq, eq-eqb, ne_eqb, lt-ltb, le-ltb, ltb-false}
 use Rattle.std.proofs.lemmas.List.{get_or-replicate, length-replicate}
 use Rattle.mv_message.specs.declared.message.Message.{Message}
 use Rattle.mv_link.specs.declared.item.Item.{Item}
@@ -136,13 +137,9 @@ pub next-none : (hub : HubState) (from to : ℕ) (message : Message)
     → (is_reached hub.parties hub.entries from message to || (to == from)) ≡ false → length (next_items hub from message to) ≡ 0
 unfolding gained
 next-none hub from to message e =
-    let parts = neither (is_reached hub.parties hub.entries from message to) (to == from) e in
+    let parts = or_parts (is_reached hub.parties hub.entries from message to) (to == from) e in
     rw (parts.0, parts.1) (few (eqb from from))
   where
-    neither : (a b : Bool) → (a || b) ≡ false → (a ≡ false) × (b ≡ false)
-    neither true b e = absurd (cc)
-    neither false b e = (refl, e)
-
     few : (b : Bool) → length {A = Item} (cond b [] []) ≡ 0
     few true = refl
     few false = refl
@@ -183,14 +180,9 @@ unfolding is_busy
 room hub from to message link carries sent free =
     let total = carries.ends.count in
     let window = carries.window in
-    let parts = neither (nat_lt hub.window (length (items_on hub from to) - sent_of hub from to + length (next_items hub from message to)))
+    let parts = or_parts (nat_lt hub.window (length (items_on hub from to) - sent_of hub from to + length (next_items hub from message to)))
     (nat_lt NUMBER_LIMIT (length (items_on hub from to) + length (next_items hub from message to))) free in
     (omega (arith, ltb-false _ _ parts.0), omega (arith, ltb-false _ _ parts.1))
-  where
-    neither : (a b : Bool) → (a || b) ≡ false → (a ≡ false) × (b ≡ false)
-    neither true b e = absurd (cc)
-    neither false b e = (refl, e)
-
 -- whether a link is busy, by whether it has room
 pub busy-is : (hub : HubState) (from to : ℕ) (message : Message) (link : Sending) (count : ℕ) (free : Bool)
     → Carries hub.window (items_on hub from to) link → link.sent ≡ sent_of hub from to → count ≡ length (next_items hub from message to)
@@ -226,10 +218,6 @@ count-own hub from to message reached lt e same =
     ∙ ap (λ b. bool_byte (b && is_open hub.entries from from) + bool_byte (list_any (λ p. p == to) reached)) (eq-eqb to from same)
     ∙ ap (λ p. bool_byte (is_open hub.entries p p) + bool_byte (list_any (λ q. q == to) reached)) (sym same))
 
-and-assoc : (a b c : Bool) → (a && (b && c)) ≡ ((a && b) && c)
-and-assoc true b c = refl
-and-assoc false b c = refl
-
 -- whom a message is for, of those that it may be for
 target-candidate : (parties : List (List (List ℕ))) (entries : List Entry) (from : ℕ) (message : Message) (to : ℕ)
     → (is_candidate parties entries message to && (not (is_query message && (to == from)) && is_open entries from to))
@@ -242,7 +230,7 @@ target-candidate parties entries from (Recall key at) to = refl
 target-candidate parties entries from (Repack before before_serials after after_serials at) to = refl
 target-candidate parties entries from (Withdraw gtin at) to = refl
 target-candidate parties entries from (Query key) to =
-    and-assoc (serves_product parties entries key.gtin to) (not (to == from)) (is_open entries from to)
+    sym (and_assoc (serves_product parties entries key.gtin to) (not (to == from)) (is_open entries from to))
 target-candidate parties entries from (Answer asker q key found) to = refl
 
 -- and so whom it reaches
@@ -364,10 +352,6 @@ open-closed n entries open_links from to are is_from is_to = record {
     elsewhere a b is_a is_b other e =
         cell-put_other open_links from to a b false true other ∙ are.values a b is_a is_b
         ∙ sym (is_open-closed entries from to a b ∙ ap (λ t. not t && is_open entries a b) e)
-
-    and-false : (x : Bool) → (x && false) ≡ false
-    and-false true = refl
-    and-false false = refl
 
     at : (a b : ℕ) → a < n → b < n → (a ≡ from) ⊎ (a ≢ from) → (b ≡ to) ⊎ (b ≢ to)
         → cell (put open_links from to false) a b true ≡ is_open (entries ++ Closed from to ∷ []) a b

@@ -3,9 +3,10 @@ use Rattle.std.proofs.Common.{◌≡◌, ℕ, ◌+◌, ◌<◌, Bool, true, fals
 use Rattle.std.specs.Cmp.Lexicographic.{nat_list_eq_equiv}
 use Rattle.std.proofs.lemmas.List.{take_more, take-append-drop, map-append, append-nil}
 use Rattle.std.proofs.lemmas.List.Folds.{list_any-append}
-use Rattle.std.proofs.lemmas.Bool.{cases_eq, eq-eqb, ne_eqb}
+use Rattle.std.proofs.lemmas.Bool.{or_parts, cases_eq, eq-eqb, ne_eqb}
 use Rattle.std.specs.Prelude.{◌==◌}
 use Rattle.std.specs.Map.{lookup}
+use Rattle.std.proofs.Math.Bool.{or_assoc, or-false}
 use Rattle.mv_hub.specs.Parties.{is_same_market, has_market, has_twice, all_markets, serves_one, served_by}
 use Rattle.mv_hub.specs.PartySets.{those, FindsBelow}
 use Rattle.mv_hub.proofs.NumberLemmas.{those-agree}
@@ -16,19 +17,11 @@ pub all_markets-append : (xs ys : List (List (List ℕ))) → all_markets (xs ++
 all_markets-append [] ys = refl
 all_markets-append (x ∷ xs) ys = ap (λ l. x ++ l) (all_markets-append xs ys) ∙ sym (append_assoc x (all_markets xs) (all_markets ys))
 
-or-assoc : (a b c : Bool) → (a || b || c) ≡ ((a || b) || c)
-or-assoc true b c = refl
-or-assoc false b c = refl
-
 or-regroup : (a b c d : Bool) → ((a || b) || (c || d)) ≡ ((a || c) || (b || d))
 or-regroup true b c d = refl
 or-regroup false true true d = refl
 or-regroup false true false d = refl
 or-regroup false false c d = refl
-
-or-false : (a : Bool) → (a || false) ≡ a
-or-false true = refl
-or-false false = refl
 
 -- one more market stands twice if it stood in the list, or one did twice
 pub has_twice-push : (xs : List (List ℕ)) (market : List ℕ)
@@ -110,13 +103,9 @@ market-same = text-same
 apart : (xs ys : List (List ℕ)) (market : List ℕ) → has_twice (xs ++ ys) ≡ false → has_market xs market ≡ true → has_market ys market ≡ true → ⊥
 apart [] ys market once first second = true≢false (sym first)
 apart (x ∷ xs) ys market once first second =
-    by (is_same_market x market) refl first (neither (has_market (xs ++ ys) x) (has_twice (xs ++ ys)) once)
+    by (is_same_market x market) refl first (or_parts (has_market (xs ++ ys) x) (has_twice (xs ++ ys)) once)
     (λ none h. apart xs ys market none h second)
   where
-    neither : (a b : Bool) → (a || b) ≡ false → (a ≡ false) × (b ≡ false)
-    neither true b e = absurd (cc)
-    neither false b e = (refl, e)
-
     or-true : (a b : Bool) → b ≡ true → (a || b) ≡ true
     or-true true b e = refl
     or-true false b e = e
@@ -216,10 +205,6 @@ serves_one-none : (served : List (List ℕ)) → serves_one served [] ≡ false
 serves_one-none [] = refl
 serves_one-none (s ∷ served) = serves_one-none served
 
-or-right : (a b c : Bool) → ((a || b) || c) ≡ (a || (b || c))
-or-right true b c = refl
-or-right false b c = refl
-
 -- the parties that pass a test or serve one of the first wanted markets: of none of them
 pub serving-none : (parties : List (List (List ℕ))) (test : ℕ → Bool) (n : ℕ)
     → those test n ≡ those (λ party. test party || serves_one (served_by parties party) []) n
@@ -237,7 +222,7 @@ pub serving-more : (parties : List (List (List ℕ))) (test : ℕ → Bool) (wan
 serving-more parties test wanted i market n found lt at serves all =
     those-agree _ _ n (λ x below.
     ap (λ b. (test x || serves_one (served_by parties x) (take i wanted)) || b) (agrees x below)
-    ∙ or-right (test x) (serves_one (served_by parties x) (take i wanted)) (has_market (served_by parties x) market)
+    ∙ or_assoc (test x) (serves_one (served_by parties x) (take i wanted)) (has_market (served_by parties x) market)
     ∙ ap (λ b. test x || b) (sym (ap (serves_one (served_by parties x)) front ∙ serves_one-push (served_by parties x) (take i wanted) market)))
   where
     front : take (i + 1) wanted ≡ take i wanted ++ market ∷ []

@@ -183,6 +183,7 @@ room hub from to message link carries sent free =
     let parts = or_parts (nat_lt hub.window (length (items_on hub from to) - sent_of hub from to + length (next_items hub from message to)))
     (nat_lt NUMBER_LIMIT (length (items_on hub from to) + length (next_items hub from message to))) free in
     (omega (arith, ltb-false _ _ parts.0), omega (arith, ltb-false _ _ parts.1))
+
 -- whether a link is busy, by whether it has room
 pub busy-is : (hub : HubState) (from to : ℕ) (message : Message) (link : Sending) (count : ℕ) (free : Bool)
     → Carries hub.window (items_on hub from to) link → link.sent ≡ sent_of hub from to → count ≡ length (next_items hub from message to)

@@ -10,8 +10,11 @@ use std::marker::Model;
 /// The sending end of one link. Its items are numbered from 1 in the order in which they were pushed.
 #[derive(Drop)]
 pub struct Outgoing {
+    /// The last items that were pushed, as many as the window holds.
     held: HeapCircularBuffer<Item>,
+    /// How many items were pushed.
     total: u32,
+    /// How many of them were relayed.
     sent: u32,
 }
 

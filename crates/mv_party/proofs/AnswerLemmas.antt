@@ -8,7 +8,7 @@ use Rattle.mv_link.specs.declared.item.Item.{Item}
 use Rattle.mv_link.specs.declared.item.Item.TheVariants.{Receipt, Carried}
 use Rattle.mv_repository.specs.declared.entry.LogEntry.{LogEntry}
 use Rattle.mv_repository.specs.Query.{answer_after, answer_to, with_answer, answers_from, answers_of}
-use Rattle.mv_machine.specs.Lawful.{answers_in}
+use Rattle.mv_party.specs.Site.{answers_in}
 
 pub answers_in-append : (xs ys : List Message) → answers_in (xs ++ ys) ≡ answers_in xs ++ answers_in ys
 answers_in-append [] ys = refl

@@ -88,7 +88,7 @@ answer-free full site answer free = by full (is_full site) free
     by false false free = refl
 
 -- and then there is room for it
-answer-room : (full : Bool) (site : SiteState) (answer : Option Message) → length site.submissions ≤ site.limit → answer_fault full site answer ≡ None
+pub answer-room : (full : Bool) (site : SiteState) (answer : Option Message) → length site.submissions ≤ site.limit → answer_fault full site answer ≡ None
     → length (site.submissions ++ option_to_list answer) ≤ site.limit
 answer-room full site None few free = omega (arith, few, length-append site.submissions [])
 answer-room full site (Some answer) few free =

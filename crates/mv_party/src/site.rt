@@ -1,12 +1,12 @@
 //! One party of a system.
 
-ghost use Rattle.std.specs.Prelude.{◌≡◌, ◌<◌, ◌≤◌, ◌+◌, ◌∷◌, [], ◌++◌, List, ℕ, length, replicate, vec_capacity, option_to_list, IfOk, OnOk, OnErr, IsErrOf, is_some, false};
+ghost use Rattle.std.specs.Prelude.{◌≡◌, ◌<◌, ◌≤◌, ◌+◌, ◌∷◌, [], ◌++◌, List, ℕ, length, replicate, slice_get, vec_capacity, option_to_list, IfOk, OnOk, OnErr, IsErrOf, is_some, false};
+ghost use Rattle.std.specs.Option.{option_copied};
 ghost use Rattle.mv_message.specs.Kinds.{is_query_or_answer};
 ghost use Rattle.mv_message.specs.declared.message.Message.TheVariants.{Query};
 ghost use Rattle.mv_link.specs.declared.incoming.Look.TheVariants.{Next};
 ghost use Rattle.mv_repository.specs.declared.entry.LogEntry.{LogEntry as ALogEntry};
 ghost use Rattle.mv_repository.specs.Query.{answer_after};
-ghost use Rattle.mv_repository.specs.Verdict.{joint_verdict};
 ghost use Rattle.mv_party.specs.Site.{new_site, is_full, with_submission, with_applied, count_from, answer_number, answers_in, IsLawfulParty};
 ghost use Rattle.mv_party.specs.Calls.{FailsBy, unless_fault, submit_fault, ask_fault, look_at, answer_fault, apply_fault, taken_by, with_taken};
 
@@ -14,7 +14,7 @@ use crate::{SiteFault, Taken};
 use mv_link::{Frame, Incoming, Item, Look};
 use mv_message::{Message, Party, Shared};
 use mv_pack::PackKey;
-use mv_repository::{Joint, Repository};
+use mv_repository::Repository;
 use std::alloc::{AllocError, Global};
 use std::marker::Model;
 
@@ -63,6 +63,13 @@ impl Site {
         ensures lawful { IsLawfulParty self.now.parties self.now.submissions self.now.log }
     {
         self.submissions.as_slice()
+    }
+
+    /// Its submission at a place, counted from 0.
+    pub fn submission(&self, place: usize) -> Option<&Shared<Message>>
+        ensures { option_copied result ≡ slice_get self.now.submissions place }
+    {
+        self.submissions.get(place)
     }
 
     /// Its repository.
@@ -126,13 +133,6 @@ impl Site {
         let query = Shared::new(self.alloc, Message::Query { key: key.copy() })?;
         let q = self.put(&query)?;
         Ok(q)
-    }
-
-    /// The verdict of all repositories that were asked, on the query that was its `q`-th message.
-    pub fn verdict(&self, q: u32) -> Joint
-        ensures { result ≡ joint_verdict self.now.party self.now.log q }
-    {
-        self.repository.verdict(q)
     }
 
     /// Takes a frame from a party: where it is the next, its item is applied, and the answer that this calls for is submitted,

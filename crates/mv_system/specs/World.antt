@@ -1,5 +1,6 @@
 -- What the system is seen as, the state of the list machine, and what it keeps beside that.
-use Rattle.std.specs.Prelude.{◌≡◌, ◌<◌, ◌≤◌, ◌==◌, ℕ, List, [], ◌∷◌, length, map, slice_index_or, IsTrue, Bool, true, false, Option, Some, Result, Ok, Err}
+use Rattle.std.specs.Prelude.{◌≡◌, ◌<◌, ◌≤◌, ◌+◌, ◌-◌, ◌==◌, ℕ, List, [], ◌∷◌, length, map, slice_index_or, slice_get, IsTrue, Bool, true, false, Option, Some, Result, Ok, Err, IfOk, OnOk, OnErr, IsErrOf}
+use Rattle.mv_message.specs.declared.message.Message.{Message}
 use Rattle.mv_link.specs.declared.item.Frame.{Frame}
 use Rattle.mv_link.specs.Frames.{IsFrameOf}
 use Rattle.mv_pairs.specs.Pairs.{cell, IsSquare}
@@ -14,14 +15,14 @@ use Rattle.mv_party.specs.declared.fault.SiteFault.{SiteFault}
 use Rattle.mv_party.specs.declared.fault.SiteFault.TheVariants.{Memory as SiteMemory}
 use Rattle.mv_party.specs.declared.taken.Taken.{Taken}
 use Rattle.mv_party.specs.declared.taken.Taken.TheVariants.{Applied, Old, Gap}
-use Rattle.mv_party.specs.Site.{SiteState, new_site}
+use Rattle.mv_party.specs.Site.{SiteState, new_site, with_submission}
 use Rattle.mv_party.specs.Calls.{FailsBy, look_at, apply_fault, taken_by, with_taken}
 use Rattle.mv_machine.specs.declared.reply.Reply.{Reply}
 use Rattle.mv_machine.specs.declared.reply.Reply.TheVariants as reply
 use Rattle.mv_machine.specs.declared.reply.Refusal.TheVariants.{Busy as BusyLink}
 use Rattle.mv_machine.specs.Limits.{Bounds, AreBounds}
 use Rattle.mv_machine.specs.Replies.{takes_memory}
-use Rattle.mv_machine.specs.State.{State, is_uplink_full, wire_of, items_on as items_on_link, applied_count, site_of, with_site}
+use Rattle.mv_machine.specs.State.{State, submissions_of, is_uplink_full, wire_of, items_on as items_on_link, applied_count, site_of, with_site}
 use Rattle.mv_machine.specs.Steps.{refused, route}
 use Rattle.mv_machine.specs.Lawful.{IsLawful, IsWellFormed}
 use Rattle.mv_system.specs.Wire.{WireState, new_wire, numbers_of}
@@ -110,13 +111,20 @@ CloseFails still_open (Err hub.AlreadyClosed) = still_open ≡ false
 CloseFails still_open (Err hub.Memory) = still_open ≡ true
 CloseFails still_open (Err _) = ⊥
 
+-- A party submitted a message, and was told its number, or it refused to for this fault or for want of memory.
+pub record Submits (old : State) (party : ℕ) (message : Message) (refused_for : Option SiteFault) (result : Result ℕ SiteFault) (new : State) : Type 0 where
+  pub number : IfOk result (λ k. k ≡ length (submissions_of old party) + 1)
+  pub ok : OnOk result (new ≡ with_site old (with_submission (site_of old party) message))
+  pub err : OnErr result (new ≡ old)
+  pub fault : FailsBy refused_for result
+
 -- A party took the frame in front of a wire, which stays there, or refused it: the frame has this number, and bears this item.
-pub record TakesFront (old : State) (from to : ℕ) (result : Result (ℕ × Taken) SiteFault) (new : State) : Type 0 where
+pub record TakesFront (old : State) (from to : ℕ) (result : Result Taken SiteFault) (new : State) : Type 0 where
   pub number : ℕ
   pub item : Item
   pub front : slice_get (wire_of old from to) 0 ≡ Some number
   pub member : slice_get (items_on_link old from to) (number - 1) ≡ Some item
-  pub answered : IfOk result (λ taken. taken ≡ (number, taken_by (site_of old to) from item (look_at (applied_count old from to) number)))
+  pub answered : IfOk result (λ taken. taken ≡ taken_by (site_of old to) from item (look_at (applied_count old from to) number))
   pub ok : OnOk result (new ≡ with_site old (with_taken (site_of old to) from item (look_at (applied_count old from to) number)))
   pub err : OnErr result (new ≡ old)
   pub fault : FailsBy (apply_fault (is_uplink_full old to) (site_of old to) from item (look_at (applied_count old from to) number)) result

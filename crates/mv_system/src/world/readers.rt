@@ -1,21 +1,15 @@
 //! What the steps ask of the system, in the words of the list machine.
 
-ghost use Rattle.std.specs.Prelude.{◌≡◌, ◌<◌, ◌≤◌, ◌+◌, ℕ, List, length, nat_le, IsTrue, IsSome, false, slice_get, Some, is_some};
+ghost use Rattle.std.specs.Prelude.{◌≡◌, length, nat_le, IsTrue, slice_get};
 ghost use Rattle.mv_machine.specs.Limits.{AreBounds};
-ghost use Rattle.mv_repository.specs.declared.entry.LogEntry.{LogEntry as ALogEntry};
-ghost use Rattle.mv_repository.specs.Query.{answer_after};
 ghost use Rattle.mv_repository.specs.Verdict.{local_verdict, joint_verdict};
-ghost use Rattle.mv_machine.specs.Steps.{refused, apply, next_item, next_answer, is_answer_busy};
-ghost use Rattle.mv_machine.specs.declared.reply.Refusal.TheVariants.{AnswerBusy};
-ghost use Rattle.mv_machine.specs.State.{is_uplink_full, is_sender_full, log_of, is_party, are_parties, submissions_of, waiting_of, wire_of, applied_count};
+ghost use Rattle.mv_machine.specs.State.{is_uplink_full, log_of, is_party, are_parties, waiting_of, wire_of};
 ghost use Rattle.mv_system.specs.Wire.{numbers_of};
-ghost use Rattle.mv_system.specs.World.{IsAnswerable};
 
 use crate::wire::Wire;
 use crate::world::World;
-use mv_link::Item;
 use mv_machine::Limits;
-use mv_message::{Message, Party};
+use mv_message::Party;
 use mv_pack::PackKey;
 use mv_repository::{Joint, Local};
 
@@ -65,7 +59,7 @@ impl World {
         requires { IsTrue (is_party self.now party) }
         ensures { result ≡ joint_verdict party (log_of self.now party) q }
     {
-        self.sites[party as usize].verdict(q)
+        self.repository(party).verdict(q)
     }
 
     /// The wire of a link.

@@ -11,7 +11,7 @@ use Rattle.mv_party.specs.declared.fault.SiteFault.{SiteFault}
 use Rattle.mv_party.specs.declared.fault.SiteFault.TheVariants.{NotYours, UplinkFull, SenderFull, AnswerBusy, Memory}
 use Rattle.mv_party.specs.declared.taken.Taken.{Taken}
 use Rattle.mv_party.specs.declared.taken.Taken.TheVariants.{Applied, Old, Gap}
-use Rattle.mv_party.specs.Site.{SiteState, entry_from, count_from, answer_number, is_full, with_applied}
+use Rattle.mv_party.specs.Site.{SiteState, entry_from, answer_number, is_full, with_applied}
 
 -- a call is refused for this fault, the first that holds; where there is none it may want memory, and nothing else
 abbrev pub FailsBy : {A : Type 0} → Option SiteFault → Result A SiteFault → Type 0

@@ -80,7 +80,8 @@ impl Site {
         &self.repository
     }
 
-    /// Whether it can submit a message now, memory aside.
+    /// Whether it can submit a message now, memory aside. The first of these that holds is the fault: the message is a query
+    /// or an answer; its uplink is full; it submitted as many messages as it may.
     pub fn check(&self, message: &Message, uplink_full: bool) -> Result<(), SiteFault>
         ensures value { result ≡ unless_fault (submit_fault uplink_full self.now message.now) }
         ensures own { OnOk result (answers_in (message.now ∷ []) ≡ []) }
@@ -92,7 +93,7 @@ impl Site {
         self.check_room(uplink_full)
     }
 
-    /// Whether it can submit anything now, memory aside.
+    /// Whether it can submit anything now, memory aside: its uplink is not full, and it may submit more.
     pub fn check_room(&self, uplink_full: bool) -> Result<(), SiteFault>
         ensures value { result ≡ unless_fault (ask_fault uplink_full self.now) }
         ensures room { OnOk result (length self.now.submissions < self.now.limit) }
@@ -106,12 +107,9 @@ impl Site {
         Ok(())
     }
 
-    /// Submits a message that is neither a query nor an answer, and answers its number among the submissions.
-    pub fn submit(
-        &mut self,
-        message: &Shared<Message>,
-        uplink_full: bool,
-    ) -> Result<u32, SiteFault>
+    /// Submits a message, and answers its number among the submissions. Refused by [`Site::check`] or for want of memory,
+    /// nothing has changed.
+    pub fn submit(&mut self, message: &Shared<Message>, uplink_full: bool) -> Result<u32, SiteFault>
         ensures number { IfOk result (λ k. k ≡ length self.old.submissions + 1) }
         ensures ok { OnOk result (self.new ≡ with_submission self.old message.now) }
         ensures err { OnErr result (self.new ≡ self.old) }
@@ -122,7 +120,8 @@ impl Site {
         Ok(k)
     }
 
-    /// Submits a query of a pack, and answers its number among the submissions.
+    /// Submits a query of a pack, and answers its number among the submissions. Refused by [`Site::check_room`] or for want of
+    /// memory, nothing has changed.
     pub fn ask(&mut self, key: &PackKey, uplink_full: bool) -> Result<u32, SiteFault>
         ensures number { IfOk result (λ q. q ≡ length self.old.submissions + 1) }
         ensures ok { OnOk result (self.new ≡ with_submission self.old (Query key.now)) }
@@ -136,7 +135,8 @@ impl Site {
     }
 
     /// Takes a frame from a party: where it is the next, its item is applied, and the answer that this calls for is submitted,
-    /// both or neither; where it is old, or behind a gap, nothing changes.
+    /// both or neither; where it is old, or behind a gap, nothing changes. Only the next is refused: where it calls for an
+    /// answer that the party cannot submit now, or for want of memory.
     pub fn apply(
         &mut self,
         sender: Party,

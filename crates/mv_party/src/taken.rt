@@ -6,10 +6,7 @@ use mv_repository::Effect;
 #[derive(Clone, Copy, Debug, PartialEq, Eq)]
 pub enum Taken {
     /// Its item was applied to this effect, and the answer that it calls for is the party's submission of this number.
-    Applied {
-        effect: Effect,
-        answer: Option<u32>,
-    },
+    Applied { effect: Effect, answer: Option<u32> },
     /// Its item was applied before.
     Old,
     /// Frames before it are missing; the next is `expected`.

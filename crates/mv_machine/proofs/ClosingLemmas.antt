@@ -1,6 +1,6 @@
 -- Nothing that is routed after the closing of a link goes over it, and the record only grows.
 use Rattle.std.proofs.Common.{◌≡◌, ℕ, ◌+◌, ◌-◌, ◌<◌, ◌≤◌, Bool, true, false, List, [], ◌∷◌, ◌++◌, length, cond, Some, None, Option, sym, refl, ap, ◌∙◌, subst, append_assoc, append-nil, arith, eqb, eqb-true, length-append}
-use Rattle.std.specs.Prelude.{not, ◌&&◌, ◌==◌, slice_get, nat_lt, nat_le, find}
+use Rattle.std.specs.Prelude.{not, ◌&&◌, ◌==◌, slice_get, nat_le, find}
 use Rattle.std.specs.List.{range_with_len}
 use Rattle.std.proofs.lemmas.List.Elements.{All-nil, All-cons, All-append, All-weaker}
 use Rattle.mv_pack.specs.declared.key.PackKey.{PackKey}
@@ -25,7 +25,7 @@ use Rattle.mv_party.specs.Calls.{ask_fault, submit_fault, look_at, apply_fault}
 use Rattle.mv_machine.specs.declared.step.Step.{Step}
 use Rattle.mv_machine.specs.declared.step.Step.TheVariants.{Submit, Verify, Route, Relay, Apply, Repeat, Close, Lose, Verdict}
 use Rattle.mv_machine.specs.declared.reply.Reply.{Reply}
-use Rattle.mv_machine.specs.State.{State, is_party, are_parties, submissions_of, is_uplink_full, site_of, sent_of, wire_of, log_of, items_on, applied_count, with_wire}
+use Rattle.mv_machine.specs.State.{State, is_party, are_parties, submissions_of, is_uplink_full, site_of, sent_of, wire_of, log_of, items_on, applied_count}
 use Rattle.mv_machine.specs.Steps.{submit, ask, verify_by, verify, verdict, next_entry, is_full, route_unless, route_front, route, relay, apply_next, apply_by, apply_front, apply, is_unsent, is_gone, repeat, close, lose_front, lose, outcome}
 use Rattle.mv_machine.specs.Runs.{Meets, Allows, Runs}
 use Rattle.mv_machine.specs.Lawful.{AllFit, IsLawfulRecord, IsLawfulLink, IsLawful}

@@ -1,6 +1,6 @@
 -- The headline follows from two lawful states of which one follows the other; and a refusal changes nothing.
-use Rattle.std.proofs.Common.{◌≡◌, ℕ, ◌+◌, ◌-◌, Bool, true, false, List, [], ◌∷◌, length, cond, Some, None, Option, sym, refl, ◌∙◌, subst, true≢false}
-use Rattle.std.specs.Prelude.{slice_get, not, ◌==◌, nat_lt, nat_le, find, MatchBool, IsTrue}
+use Rattle.std.proofs.Common.{◌≡◌, ℕ, ◌-◌, Bool, true, false, List, [], ◌∷◌, length, cond, Some, None, Option, sym, refl, ◌∙◌, subst, true≢false}
+use Rattle.std.specs.Prelude.{slice_get, not, ◌==◌, nat_le, find, MatchBool, IsTrue}
 use Rattle.std.specs.List.{range_with_len}
 use Rattle.mv_pack.specs.declared.key.PackKey.{PackKey}
 use Rattle.mv_message.specs.declared.message.Message.{Message}

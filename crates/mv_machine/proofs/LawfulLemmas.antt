@@ -1,8 +1,8 @@
 -- Each step keeps a state well formed and lawful, and so does each run.
-use Rattle.std.proofs.Common.{◌≡◌, ℕ, ◌+◌, ◌-◌, ◌<◌, Bool, true, false, List, [], ◌∷◌, ◌++◌, length, set, cond, Some, None, Option, sym, refl, ap, ◌∙◌, subst, append-nil, arith, length-set, eqb, eqb-true, ltb-true, get_or, get_or-set_same, get_or-set_other}
-use Rattle.std.specs.Prelude.{slice_get, not, ◌==◌, nat_lt, nat_le, find, MatchBool, option_to_list}
+use Rattle.std.proofs.Common.{◌≡◌, ℕ, ◌-◌, ◌<◌, Bool, true, false, List, [], ◌∷◌, ◌++◌, length, set, cond, Some, None, Option, sym, refl, ap, ◌∙◌, subst, append-nil, arith, length-set, eqb, eqb-true, ltb-true, get_or, get_or-set_same, get_or-set_other}
+use Rattle.std.specs.Prelude.{slice_get, not, ◌==◌, nat_le, find, MatchBool, option_to_list}
 use Rattle.std.specs.List.{range_with_len}
-use Rattle.std.proofs.lemmas.Bool.{not-false, and_parts, leb-false, ltb-false, eqb-false}
+use Rattle.std.proofs.lemmas.Bool.{not-false, and_parts, eqb-false}
 use Rattle.std.proofs.lemmas.List.{get_or-replicate, length-replicate}
 use mathlib.Core.List.{IsPrefix}
 use Rattle.mv_pack.specs.declared.key.PackKey.{PackKey}

@@ -8,7 +8,7 @@ use Rattle.mv_hub.specs.declared.entry.Entry.{Entry}
 use Rattle.mv_hub.specs.declared.entry.Entry.TheVariants.{Routed, Closed}
 use Rattle.mv_hub.specs.Record.{routed_from, routed_count, is_open}
 use Rattle.mv_link.specs.declared.limits.TheConstants.{PARTIES_LIMIT}
-use Rattle.mv_machine.specs.declared.limits.TheConstants.{SUBMISSIONS_LIMIT}
+use Rattle.mv_party.specs.declared.limits.TheConstants.{SUBMISSIONS_LIMIT}
 use Rattle.mv_machine.specs.Limits.{most_entries}
 use Rattle.mv_machine.specs.State.{State, submissions_of}
 use Rattle.mv_machine.specs.Lawful.{AllFit, AllNameParties, IsLawfulRecord, IsLawful}

@@ -1,12 +1,13 @@
 -- Nothing that is routed after the closing of a link goes over it, and the record only grows.
 use Rattle.std.proofs.Common.{◌≡◌, ℕ, ◌+◌, ◌-◌, ◌<◌, ◌≤◌, Bool, true, false, List, [], ◌∷◌, ◌++◌, length, cond, Some, None, Option, sym, refl, ap, ◌∙◌, subst, append_assoc, append-nil, arith, eqb, eqb-true, length-append}
-use Rattle.std.specs.Prelude.{not, ◌&&◌, ◌==◌, slice_get, nat_lt, nat_le, find}
+use Rattle.std.specs.Prelude.{not, ◌&&◌, ◌==◌, slice_get, nat_le, find}
 use Rattle.std.specs.List.{range_with_len}
 use Rattle.std.proofs.lemmas.List.Elements.{All-nil, All-cons, All-append, All-weaker}
 use Rattle.mv_pack.specs.declared.key.PackKey.{PackKey}
 use Rattle.mv_message.specs.declared.message.Message.{Message}
-use Rattle.mv_message.specs.Kinds.{is_query_or_answer}
 use Rattle.mv_link.specs.declared.item.Item.{Item}
+use Rattle.mv_link.specs.declared.incoming.Look.{Look}
+use Rattle.mv_link.specs.declared.incoming.Look.TheVariants as look
 use Rattle.mv_link.specs.declared.item.Item.TheVariants.{Receipt, Carried}
 use Rattle.mv_link.specs.Frames.{number_of}
 use Rattle.mv_hub.specs.declared.entry.Entry.{Entry}
@@ -19,20 +20,20 @@ use Rattle.mv_repository.specs.declared.entry.LogEntry.{LogEntry}
 use Rattle.mv_repository.specs.declared.verdict.Local.{Local}
 use Rattle.mv_repository.specs.declared.verdict.Local.TheVariants.{Known, Absent}
 use Rattle.mv_repository.specs.Log.{items_from}
-use Rattle.mv_repository.specs.Query.{answer_to}
 use Rattle.mv_repository.specs.Verdict.{local_verdict}
+use Rattle.mv_party.specs.Calls.{ask_fault, submit_fault, look_at, apply_fault}
 use Rattle.mv_machine.specs.declared.step.Step.{Step}
 use Rattle.mv_machine.specs.declared.step.Step.TheVariants.{Submit, Verify, Route, Relay, Apply, Repeat, Close, Lose, Verdict}
 use Rattle.mv_machine.specs.declared.reply.Reply.{Reply}
-use Rattle.mv_machine.specs.State.{State, is_party, are_parties, submissions_of, is_uplink_full, is_sender_full, sent_of, wire_of, log_of, items_on, applied_count, with_wire}
-use Rattle.mv_machine.specs.Steps.{submit, ask, verify_by, verify, verdict, with_applied, entry_from, is_answer_busy, next_entry, is_full, route_unless, route_front, route, relay, apply_next, apply_front, apply, is_unsent, is_gone, repeat, close, lose_front, lose, outcome}
+use Rattle.mv_machine.specs.State.{State, is_party, are_parties, submissions_of, is_uplink_full, site_of, sent_of, wire_of, log_of, items_on, applied_count}
+use Rattle.mv_machine.specs.Steps.{submit, ask, verify_by, verify, verdict, next_entry, is_full, route_unless, route_front, route, relay, apply_next, apply_by, apply_front, apply, is_unsent, is_gone, repeat, close, lose_front, lose, outcome}
 use Rattle.mv_machine.specs.Runs.{Meets, Allows, Runs}
 use Rattle.mv_machine.specs.Lawful.{AllFit, IsLawfulRecord, IsLawfulLink, IsLawful}
 use Rattle.mv_machine.specs.Headline.{Follows}
 use Rattle.mv_machine.specs.Closing.{before_closing, AreAboutFirst, NothingRoutedLater, NothingSubmittedLater}
 use Rattle.mv_machine.proofs.PrefixLemmas.{All-front}
 use Rattle.mv_machine.proofs.BoundLemmas.{routed_count-few}
-use Rattle.mv_machine.proofs.LawfulLemmas.{choose, meets-case, allowed-case}
+use Rattle.mv_machine.proofs.LawfulLemmas.{choose, choose_unless, meets-case, allowed-case}
 
 -- a link that is closed in a record is closed in what the record grows to
 pub is_open-append : (before after : List Entry) (from to : ℕ) → is_open (before ++ after) from to ≡ (is_open before from to && is_open after from to)
@@ -193,16 +194,13 @@ submit-follows : (st : State) (from : ℕ) (message : Message) → Follows st (s
 unfolding submit
 submit-follows st from message =
     choose (Follows st) (not (is_party st from)) _ _ (λ _. follows-same st) (λ _.
-    choose (Follows st) (is_query_or_answer message) _ _ (λ _. follows-same st) (λ _.
-    choose (Follows st) (is_uplink_full st from) _ _ (λ _. follows-same st) (λ _.
-    choose (Follows st) (is_sender_full st from) _ _ (λ _. follows-same st) (λ _. follows st _ refl refl refl))))
+    choose_unless (Follows st) (submit_fault (is_uplink_full st from) (site_of st from) message) st _ (follows-same st) (λ _. follows st _ refl refl refl))
 
 ask-follows : (st : State) (party : ℕ) (key : PackKey) → Follows st (ask st party key).state
 unfolding ask
 ask-follows st party key =
     choose (Follows st) (not (is_party st party)) _ _ (λ _. follows-same st) (λ _.
-    choose (Follows st) (is_uplink_full st party) _ _ (λ _. follows-same st) (λ _.
-    choose (Follows st) (is_sender_full st party) _ _ (λ _. follows-same st) (λ _. follows st _ refl refl refl)))
+    choose_unless (Follows st) (ask_fault (is_uplink_full st party) (site_of st party)) st _ (follows-same st) (λ _. follows st _ refl refl refl))
 
 verify-follows : (st : State) (party : ℕ) (key : PackKey) → Follows st (verify st party key).state
 unfolding verify
@@ -237,23 +235,22 @@ relay-follows st from to =
     choose (Follows st) (sent_of st from to == length (items_on st from to)) _ _ (λ _. follows-same st) (λ _. follows st _ refl refl refl)))
 
 apply-follows : (st : State) (from to : ℕ) → Follows st (apply st from to).state
-unfolding apply apply_front
+unfolding apply
 apply-follows st from to = choose (Follows st) (not (are_parties st from to)) _ _ (λ _. follows-same st) (λ _. front (wire_of st from to))
   where
-    applied : (entry : LogEntry) (rest : List ℕ) (answer : Option Message) → Follows st (with_wire (with_applied st to entry answer) from to rest)
-    applied entry rest None = follows st _ refl refl refl
-    applied entry rest (Some answer) = follows st _ refl refl refl
-
     next : (number : ℕ) (rest : List ℕ) (item : Option Item) → Follows st (apply_next st from to number rest item).state
     next number rest None = follows st _ refl refl refl
-    next number rest (Some item) = choose (Follows st) (is_answer_busy st to (answer_to (log_of st to) (entry_from from item))) _ _ (λ _. follows-same st) (λ _. applied (entry_from from item) rest (answer_to (log_of st to) (entry_from from item)))
+    next number rest (Some item) =
+        choose_unless (Follows st) (apply_fault (is_uplink_full st to) (site_of st to) from item look.Next) st _ (follows-same st) (λ _. follows st _ refl refl refl)
+
+    by : (number : ℕ) (rest : List ℕ) (stands : Look) → Follows st (apply_by st from to number rest stands).state
+    by number rest look.Old = follows st _ refl refl refl
+    by number rest (look.Gap expected) = follows st _ refl refl refl
+    by number rest look.Next = next number rest (slice_get (items_on st from to) (number - 1))
 
     front : (wire : List ℕ) → Follows st (apply_front st from to wire).state
     front [] = follows-same st
-    front (number ∷ rest) =
-        choose (Follows st) (nat_le number (applied_count st from to)) _ _ (λ _. follows st _ refl refl refl) (λ _.
-        choose (Follows st) (nat_lt (applied_count st from to + 1) number) _ _ (λ _. follows st _ refl refl refl) (λ _.
-        next number rest (slice_get (items_on st from to) (number - 1))))
+    front (number ∷ rest) = by number rest (look_at (applied_count st from to) number)
 
 repeat-follows : (st : State) (from to number : ℕ) → Follows st (repeat st from to number).state
 unfolding repeat

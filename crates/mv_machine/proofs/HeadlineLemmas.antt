@@ -1,22 +1,24 @@
 -- The headline follows from two lawful states of which one follows the other; and a refusal changes nothing.
-use Rattle.std.proofs.Common.{◌≡◌, ℕ, ◌+◌, ◌-◌, Bool, true, false, List, [], ◌∷◌, length, cond, Some, None, Option, sym, refl, ◌∙◌, subst, true≢false}
-use Rattle.std.specs.Prelude.{slice_get, not, ◌==◌, nat_lt, nat_le, find, MatchBool, IsTrue}
+use Rattle.std.proofs.Common.{◌≡◌, ℕ, ◌-◌, Bool, true, false, List, [], ◌∷◌, length, cond, Some, None, Option, sym, refl, ◌∙◌, subst, true≢false}
+use Rattle.std.specs.Prelude.{slice_get, not, ◌==◌, nat_le, find, MatchBool, IsTrue}
 use Rattle.std.specs.List.{range_with_len}
 use Rattle.mv_pack.specs.declared.key.PackKey.{PackKey}
 use Rattle.mv_message.specs.declared.message.Message.{Message}
-use Rattle.mv_message.specs.Kinds.{is_query_or_answer}
 use Rattle.mv_link.specs.declared.item.Item.{Item}
+use Rattle.mv_link.specs.declared.incoming.Look.{Look}
+use Rattle.mv_link.specs.declared.incoming.Look.TheVariants as look
 use Rattle.mv_hub.specs.Record.{routed_count, is_open}
 use Rattle.mv_repository.specs.declared.verdict.Local.{Local}
 use Rattle.mv_repository.specs.declared.verdict.Local.TheVariants.{Known, Absent}
-use Rattle.mv_repository.specs.Query.{answer_to}
 use Rattle.mv_repository.specs.Verdict.{local_verdict}
+use Rattle.mv_party.specs.declared.fault.SiteFault.{SiteFault}
+use Rattle.mv_party.specs.Calls.{ask_fault, submit_fault, look_at, apply_fault}
 use Rattle.mv_machine.specs.declared.step.Step.{Step}
 use Rattle.mv_machine.specs.declared.step.Step.TheVariants.{Submit, Verify, Route, Relay, Apply, Repeat, Close, Lose, Verdict}
 use Rattle.mv_machine.specs.declared.reply.Reply.{Reply}
 use Rattle.mv_machine.specs.Replies.{changes_nothing, takes_memory, wants_memory}
-use Rattle.mv_machine.specs.State.{State, is_party, are_parties, submissions_of, is_uplink_full, is_sender_full, sent_of, wire_of, log_of, items_on, applied_count}
-use Rattle.mv_machine.specs.Steps.{Outcome, submit, ask, verify_by, verify, verdict, entry_from, is_answer_busy, is_full, route_unless, route_front, route, relay, apply_next, apply_front, apply, is_unsent, is_gone, repeat, close, lose_front, lose, outcome}
+use Rattle.mv_machine.specs.State.{State, is_party, are_parties, submissions_of, is_uplink_full, site_of, sent_of, wire_of, log_of, items_on, applied_count}
+use Rattle.mv_machine.specs.Steps.{Outcome, unless, submit, ask, verify_by, verify, verdict, is_full, route_unless, route_front, route, relay, apply_next, apply_by, apply_front, apply, is_unsent, is_gone, repeat, close, lose_front, lose, outcome}
 use Rattle.mv_machine.specs.Runs.{Meets, Allows}
 use Rattle.mv_machine.specs.Lawful.{IsLawful, IsWellFormed}
 use Rattle.mv_machine.specs.Headline.{Follows, HeadlineHolds}
@@ -56,20 +58,21 @@ either P false x y p q = q
 no_such : {P : Type 0} → false ≡ true → P
 no_such said = absurd (true≢false (sym said))
 
+unless-unchanged : (fault : Option SiteFault) (st : State) (done : Outcome) → IsUnchanged st done → IsUnchanged st (unless fault st done)
+unless-unchanged None st done there = there
+unless-unchanged (Some fault) st done there = λ _. refl
+
 submit-unchanged : (st : State) (from : ℕ) (message : Message) → IsUnchanged st (submit st from message)
 unfolding submit
 submit-unchanged st from message =
     either (IsUnchanged st) (not (is_party st from)) _ _ (λ _. refl)
-    (either (IsUnchanged st) (is_query_or_answer message) _ _ (λ _. refl)
-    (either (IsUnchanged st) (is_uplink_full st from) _ _ (λ _. refl)
-    (either (IsUnchanged st) (is_sender_full st from) _ _ (λ _. refl) no_such)))
+    (unless-unchanged (submit_fault (is_uplink_full st from) (site_of st from) message) st _ no_such)
 
 ask-unchanged : (st : State) (party : ℕ) (key : PackKey) → IsUnchanged st (ask st party key)
 unfolding ask
 ask-unchanged st party key =
     either (IsUnchanged st) (not (is_party st party)) _ _ (λ _. refl)
-    (either (IsUnchanged st) (is_uplink_full st party) _ _ (λ _. refl)
-    (either (IsUnchanged st) (is_sender_full st party) _ _ (λ _. refl) no_such))
+    (unless-unchanged (ask_fault (is_uplink_full st party) (site_of st party)) st _ no_such)
 
 verify-unchanged : (st : State) (party : ℕ) (key : PackKey) → IsUnchanged st (verify st party key)
 unfolding verify
@@ -99,20 +102,21 @@ relay-unchanged st from to =
     (either (IsUnchanged st) (sent_of st from to == length (items_on st from to)) _ _ (λ _. refl) no_such))
 
 apply-unchanged : (st : State) (from to : ℕ) → IsUnchanged st (apply st from to)
-unfolding apply apply_front
+unfolding apply
 apply-unchanged st from to = either (IsUnchanged st) (not (are_parties st from to)) _ _ (λ _. refl) (front (wire_of st from to))
   where
     next : (number : ℕ) (rest : List ℕ) (item : Option Item) → IsUnchanged st (apply_next st from to number rest item)
     next number rest None = no_such
-    next number rest (Some item) =
-        either (IsUnchanged st) (is_answer_busy st to (answer_to (log_of st to) (entry_from from item))) _ _ (λ _. refl) no_such
+    next number rest (Some item) = unless-unchanged (apply_fault (is_uplink_full st to) (site_of st to) from item look.Next) st _ no_such
+
+    by : (number : ℕ) (rest : List ℕ) (stands : Look) → IsUnchanged st (apply_by st from to number rest stands)
+    by number rest look.Old = no_such
+    by number rest (look.Gap expected) = no_such
+    by number rest look.Next = next number rest (slice_get (items_on st from to) (number - 1))
 
     front : (wire : List ℕ) → IsUnchanged st (apply_front st from to wire)
     front [] = λ _. refl
-    front (number ∷ rest) =
-        either (IsUnchanged st) (nat_le number (applied_count st from to)) _ _ no_such
-        (either (IsUnchanged st) (nat_lt (applied_count st from to + 1) number) _ _ no_such
-        (next number rest (slice_get (items_on st from to) (number - 1))))
+    front (number ∷ rest) = by number rest (look_at (applied_count st from to) number)
 
 repeat-unchanged : (st : State) (from to number : ℕ) → IsUnchanged st (repeat st from to number)
 unfolding repeat

@@ -1,39 +1,43 @@
 -- Each step keeps a state well formed and lawful, and so does each run.
-use Rattle.std.proofs.Common.{◌≡◌, ℕ, ◌+◌, ◌-◌, ◌<◌, Bool, true, false, List, [], ◌∷◌, ◌++◌, length, set, cond, Some, None, Option, sym, refl, ap, ◌∙◌, subst, append-nil, arith, length-set, eqb, eqb-true, ltb-true, get_or, get_or-set_same, get_or-set_other}
-use Rattle.std.specs.Prelude.{slice_get, not, ◌==◌, nat_lt, nat_le, find, MatchBool, option_to_list}
+use Rattle.std.proofs.Common.{◌≡◌, ℕ, ◌-◌, ◌<◌, Bool, true, false, List, [], ◌∷◌, ◌++◌, length, set, cond, Some, None, Option, sym, refl, ap, ◌∙◌, subst, append-nil, arith, length-set, eqb, eqb-true, ltb-true, get_or, get_or-set_same, get_or-set_other}
+use Rattle.std.specs.Prelude.{slice_get, not, ◌==◌, nat_le, find, MatchBool, option_to_list}
 use Rattle.std.specs.List.{range_with_len}
-use Rattle.std.proofs.lemmas.Bool.{not-false, and_parts, leb-false, ltb-false, eqb-false}
+use Rattle.std.proofs.lemmas.Bool.{not-false, and_parts, eqb-false}
 use Rattle.std.proofs.lemmas.List.{get_or-replicate, length-replicate}
 use mathlib.Core.List.{IsPrefix}
 use Rattle.mv_pack.specs.declared.key.PackKey.{PackKey}
 use Rattle.mv_message.specs.declared.message.Message.{Message}
 use Rattle.mv_message.specs.declared.message.Message.TheVariants.{Query}
-use Rattle.mv_message.specs.Kinds.{is_query_or_answer}
 use Rattle.mv_link.specs.declared.item.Item.{Item}
+use Rattle.mv_link.specs.declared.incoming.Look.{Look}
+use Rattle.mv_link.specs.declared.incoming.Look.TheVariants as look
 use Rattle.mv_pairs.specs.Pairs.{put, IsSquare}
 use Rattle.mv_pairs.proofs.PairsLemmas.{put-each, square-put, square-replicate}
 use Rattle.mv_hub.specs.declared.entry.Entry.{Entry}
 use Rattle.mv_hub.specs.declared.entry.Entry.TheVariants.{Closed}
 use Rattle.mv_hub.specs.Record.{routed_from, routed_count, is_open}
 use Rattle.mv_hub.proofs.RecordLemmas.{routed_from-append}
-use Rattle.mv_repository.specs.declared.entry.LogEntry.{LogEntry}
 use Rattle.mv_repository.specs.declared.verdict.Local.{Local}
 use Rattle.mv_repository.specs.declared.verdict.Local.TheVariants.{Known, Absent}
 use Rattle.mv_repository.specs.Log.{items_from}
 use Rattle.mv_repository.specs.Query.{answer_to}
 use Rattle.mv_repository.specs.Verdict.{local_verdict}
+use Rattle.mv_party.specs.declared.fault.SiteFault.{SiteFault}
+use Rattle.mv_party.specs.Site.{SiteState, entry_from, with_submission, with_applied, answers_in, IsLawfulParty}
+use Rattle.mv_party.specs.Calls.{ask_fault, submit_fault, look_at, apply_fault}
+use Rattle.mv_party.proofs.AnswerLemmas.{no_answer}
+use Rattle.mv_party.proofs.SiteLemmas.{party-submitted, party-applied, submit-free, next-number}
 use Rattle.mv_machine.specs.declared.step.Step.{Step}
 use Rattle.mv_machine.specs.declared.step.Step.TheVariants.{Submit, Verify, Route, Relay, Apply, Repeat, Close, Lose, Verdict}
 use Rattle.mv_machine.specs.declared.reply.Reply.{Reply}
 use Rattle.mv_machine.specs.Limits.{Bounds}
 use Rattle.mv_machine.specs.Replies.{wants_memory}
-use Rattle.mv_machine.specs.State.{State, is_party, are_parties, submissions_of, is_uplink_full, is_sender_full, with_submission, sent_of, wire_of, log_of, items_on, applied_count, opening}
-use Rattle.mv_machine.specs.Steps.{Outcome, submit, ask, verify_by, verify, verdict, with_applied, entry_from, is_answer_busy, next_entry, is_full, route_unless, route_front, route, relay, apply_next, apply_front, apply, is_unsent, is_gone, repeat, close, lose_front, lose, outcome}
+use Rattle.mv_machine.specs.State.{State, is_party, are_parties, submissions_of, is_uplink_full, site_of, with_site, sent_of, wire_of, log_of, items_on, applied_count, opening}
+use Rattle.mv_machine.specs.Steps.{Outcome, unless, submit, ask, verify_by, verify, verdict, next_entry, is_full, route_unless, route_front, route, relay, next_item, apply_next, apply_by, apply_front, apply, is_unsent, is_gone, repeat, close, lose_front, lose, outcome}
 use Rattle.mv_machine.specs.Runs.{Meets, Allows, Runs}
-use Rattle.mv_machine.specs.Lawful.{Fits, NamesParties, answers_in, IsLawfulParty, IsLawfulLink, IsLawful, IsWellFormed}
-use Rattle.mv_machine.proofs.AnswerLemmas.{no_answer}
+use Rattle.mv_machine.specs.Lawful.{Fits, NamesParties, IsLawful, IsWellFormed}
 use Rattle.mv_machine.proofs.PrefixLemmas.{prefix-grows, prefix-push}
-use Rattle.mv_machine.proofs.PartLemmas.{record-entered, party-submitted, party-applied, link-submitted, link-entered, link-applied}
+use Rattle.mv_machine.proofs.PartLemmas.{record-entered, link-entered, link-applied}
 
 -- well formed and lawful
 pub record IsSound (st : State) : Type 0 where
@@ -72,27 +76,60 @@ with_sent-sound st from to number sound =
     under_way-sound st (put st.sent from to number) st.wires
     (square-put (length st.parties) st.sent from to number sound.well_formed.sent_each) sound.well_formed.wires_each sound
 
--- a party submitted one more message
-pub submitted-sound : (st : State) (from : ℕ) (message : Message) → IsSound st → answers_in (message ∷ []) ≡ []
-    → IsSound (with_submission st from message)
-submitted-sound st from message sound none = record {
+-- one party's part is another: it is lawful, what was routed from it is still a prefix of what it submitted, and what it applied from
+-- each sender one of their link
+pub site-sound : (st : State) (site : SiteState) → IsSound st
+    → (site.party < length st.parties → IsLawfulParty (length st.parties) site.submissions site.log)
+    → (site.party < length st.parties → IsPrefix (routed_from st.entries site.party) site.submissions)
+    → ((sender : ℕ) → sender < length st.parties → site.party < length st.parties → IsPrefix (items_from site.log sender) (items_on st sender site.party))
+    → IsSound (with_site st site)
+site-sound st site sound lawful routed applied = record {
   well_formed = record {
-    submissions_each = length-set st.submissions from (submissions_of st from ++ message ∷ []) ∙ sound.well_formed.submissions_each;
-    logs_each = sound.well_formed.logs_each;
+    submissions_each = length-set st.submissions site.party site.submissions ∙ sound.well_formed.submissions_each;
+    logs_each = length-set st.logs site.party site.log ∙ sound.well_formed.logs_each;
     sent_each = sound.well_formed.sent_each;
     wires_each = sound.well_formed.wires_each;
   };
   lawful = record {
     of_record = sound.lawful.of_record;
-    of_party = put-each (λ party l. party < length st.parties → IsLawfulParty (length st.parties) l (log_of st party)) st.submissions from (submissions_of st from ++ message ∷ []) []
-        (λ is_party. party-submitted (length st.parties) (submissions_of st from) (log_of st from) message (sound.lawful.of_party from is_party) none)
-        sound.lawful.of_party;
-    of_link = λ sender to is_sender is_receiver.
-        put-each (λ party l. party < length st.parties → IsLawfulLink st.parties st.entries party to l (log_of st to)) st.submissions from (submissions_of st from ++ message ∷ []) []
-        (λ is_party. link-submitted st.parties st.entries from to (submissions_of st from) (message ∷ []) (log_of st to) (sound.lawful.of_link from to is_party is_receiver))
-        (λ party is_party. sound.lawful.of_link party to is_party is_receiver) sender is_sender;
+    of_party = λ party is_party. by party is_party (eqb site.party party) refl;
+    of_link = λ from to from_is_party to_is_party. record {
+      routed = put-each (λ party l. party < length st.parties → IsPrefix (routed_from st.entries party) l) st.submissions site.party site.submissions []
+          routed (λ party is_party. (sound.lawful.of_link party party is_party is_party).routed) from from_is_party;
+      applied = put-each (λ party l. party < length st.parties → IsPrefix (items_from l from) (items_on st from party)) st.logs site.party site.log []
+          (applied from from_is_party) (λ party is_party. (sound.lawful.of_link from party from_is_party is_party).applied) to to_is_party;
+    };
   };
 }
+  where
+    by : (party : ℕ) → party < length st.parties → (same : Bool) → eqb site.party party ≡ same
+        → IsLawfulParty (length st.parties) (get_or (set st.submissions site.party site.submissions) party []) (get_or (set st.logs site.party site.log) party [])
+    by party is_party true e =
+        subst (λ p. p < length st.parties → IsLawfulParty (length st.parties) (get_or (set st.submissions site.party site.submissions) p []) (get_or (set st.logs site.party site.log) p [])) (eqb-true site.party party e)
+        (λ is_party. subst (λ l. IsLawfulParty (length st.parties) l (get_or (set st.logs site.party site.log) site.party [])) (sym (get_or-set_same st.submissions site.party site.submissions [] (omega (arith, is_party, sound.well_formed.submissions_each))))
+        (subst (IsLawfulParty (length st.parties) site.submissions) (sym (get_or-set_same st.logs site.party site.log [] (omega (arith, is_party, sound.well_formed.logs_each)))) (lawful is_party))) is_party
+    by party is_party false e =
+        subst (λ l. IsLawfulParty (length st.parties) l (get_or (set st.logs site.party site.log) party [])) (sym (get_or-set_other st.submissions site.party party site.submissions [] (λ same. eqb-false site.party party e (sym same))))
+        (subst (IsLawfulParty (length st.parties) (submissions_of st party)) (sym (get_or-set_other st.logs site.party party site.log [] (λ same. eqb-false site.party party e (sym same)))) (sound.lawful.of_party party is_party))
+
+-- a party submitted one more message
+pub submitted-sound : (st : State) (from : ℕ) (message : Message) → IsSound st → answers_in (message ∷ []) ≡ []
+    → IsSound (with_site st (with_submission (site_of st from) message))
+submitted-sound st from message sound none =
+    site-sound st (with_submission (site_of st from) message) sound
+    (λ is_party. party-submitted (length st.parties) (submissions_of st from) (log_of st from) message (sound.lawful.of_party from is_party) none)
+    (λ is_party. prefix-grows (routed_from st.entries from) (submissions_of st from) (message ∷ []) (sound.lawful.of_link from from is_party is_party).routed)
+    (λ sender is_sender is_party. (sound.lawful.of_link sender from is_sender is_party).applied)
+
+-- a repository applied the next item of a sender, and its party submitted the answer that it calls for
+pub applied-sound : (st : State) (from to : ℕ) (item : Item) → IsSound st → from < length st.parties
+    → next_item st from to ≡ Some item → IsSound (with_site st (with_applied (site_of st to) from item))
+applied-sound st from to item sound from_is_party next =
+    site-sound st (with_applied (site_of st to) from item) sound
+    (λ is_party. party-applied (length st.parties) (submissions_of st to) (log_of st to) (entry_from from item) (sound.lawful.of_party to is_party) from_is_party)
+    (λ is_party. prefix-grows (routed_from st.entries to) (submissions_of st to) (option_to_list (answer_to (log_of st to) (entry_from from item))) (sound.lawful.of_link to to is_party is_party).routed)
+    (λ sender is_sender is_party. (link-applied st.parties st.entries sender to (submissions_of st sender) (log_of st to) (entry_from from item) (sound.lawful.of_link sender to is_sender is_party)
+    (λ same. subst (λ u. next_item st u to ≡ Some item) same next)).applied)
 
 -- the record gained an entry: what was routed stays a prefix where the entry's own message is the next of its sender
 entered-sound : (st : State) (entry : Entry) → IsSound st → Fits st.entries entry → NamesParties (length st.parties) entry
@@ -142,85 +179,23 @@ closed-sound st from to sound from_is_party to_is_party still_open =
     entered-sound st (Closed from to) sound still_open (from_is_party, to_is_party)
     (λ party is_party. subst (λ l. IsPrefix l (submissions_of st party)) (sym (append-nil (routed_from st.entries party))) (routed_order st sound.lawful party is_party))
 
--- a repository applied the next item of a sender, and these are the submissions then
-logged-sound : (st : State) (from to : ℕ) (item : Item) (submissions : List (List Message)) → IsSound st → from < length st.parties
-    → slice_get (items_on st from to) (applied_count st from to) ≡ Some item
-    → length submissions ≡ length st.submissions
-    → ((party : ℕ) → party < length st.parties → IsPrefix (routed_from st.entries party) (get_or submissions party []))
-    → ((party : ℕ) → party < length st.parties → IsLawfulParty (length st.parties) (get_or submissions party []) (get_or (set st.logs to (log_of st to ++ entry_from from item ∷ [])) party []))
-    → IsSound (record st { submissions = submissions; logs = set st.logs to (log_of st to ++ entry_from from item ∷ []) })
-logged-sound st from to item submissions sound from_is_party next each routed parties = record {
-  well_formed = record {
-    submissions_each = each ∙ sound.well_formed.submissions_each;
-    logs_each = length-set st.logs to (log_of st to ++ entry_from from item ∷ []) ∙ sound.well_formed.logs_each;
-    sent_each = sound.well_formed.sent_each;
-    wires_each = sound.well_formed.wires_each;
-  };
-  lawful = record {
-    of_record = sound.lawful.of_record;
-    of_party = parties;
-    of_link = λ sender receiver is_sender is_receiver. record {
-      routed = routed sender is_sender;
-      applied = (put-each (λ party l. party < length st.parties → IsLawfulLink st.parties st.entries sender party (submissions_of st sender) l) st.logs to (log_of st to ++ entry_from from item ∷ []) []
-          (λ is_party. link-applied st.parties st.entries sender to (submissions_of st sender) (log_of st to) (entry_from from item) (sound.lawful.of_link sender to is_sender is_party)
-          (λ same. subst (λ u. slice_get (items_on st u to) (applied_count st u to) ≡ Some item) same next))
-          (λ party is_party. sound.lawful.of_link sender party is_sender is_party) receiver is_receiver).applied;
-    };
-  };
-}
-
--- a repository applied the next item of a sender, and its party submitted the answer that it calls for
-pub applied-sound : (st : State) (from to : ℕ) (item : Item) (answer : Option Message) → IsSound st → from < length st.parties → to < length st.parties
-    → slice_get (items_on st from to) (applied_count st from to) ≡ Some item → answer_to (log_of st to) (entry_from from item) ≡ answer
-    → IsSound (with_applied st to (entry_from from item) answer)
-applied-sound st from to item None sound from_is_party to_is_party next called =
-    logged-sound st from to item st.submissions sound from_is_party next refl (routed_order st sound.lawful)
-    (put-each (λ party l. party < length st.parties → IsLawfulParty (length st.parties) (submissions_of st party) l) st.logs to (log_of st to ++ entry_from from item ∷ []) []
-    (λ is_party. subst (λ l. IsLawfulParty (length st.parties) l (log_of st to ++ entry_from from item ∷ []))
-    (ap (λ o. submissions_of st to ++ option_to_list o) called ∙ append-nil (submissions_of st to))
-    (party-applied (length st.parties) (submissions_of st to) (log_of st to) (entry_from from item) (sound.lawful.of_party to is_party) from_is_party))
-    sound.lawful.of_party)
-applied-sound st from to item (Some answer) sound from_is_party to_is_party next called =
-    logged-sound st from to item (set st.submissions to more) sound from_is_party next (length-set st.submissions to more)
-    (put-each (λ party l. party < length st.parties → IsPrefix (routed_from st.entries party) l) st.submissions to more []
-    (λ p. prefix-grows (routed_from st.entries to) (submissions_of st to) (answer ∷ []) (routed_order st sound.lawful to p)) (routed_order st sound.lawful))
-    (λ party is_party. by party is_party (eqb to party) refl)
-  where
-    more : List Message
-    more = submissions_of st to ++ answer ∷ []
-
-    log : List LogEntry
-    log = log_of st to ++ entry_from from item ∷ []
-
-    here : IsLawfulParty (length st.parties) (submissions_of st to ++ answer ∷ []) (log_of st to ++ entry_from from item ∷ [])
-    here =
-        subst (λ o. IsLawfulParty (length st.parties) (submissions_of st to ++ option_to_list o) (log_of st to ++ entry_from from item ∷ [])) called
-        (party-applied (length st.parties) (submissions_of st to) (log_of st to) (entry_from from item) (sound.lawful.of_party to to_is_party) from_is_party)
-
-    by : (party : ℕ) → party < length st.parties → (same : Bool) → eqb to party ≡ same
-        → IsLawfulParty (length st.parties) (get_or (set st.submissions to (submissions_of st to ++ answer ∷ [])) party []) (get_or (set st.logs to (log_of st to ++ entry_from from item ∷ [])) party [])
-    by party is_party true e =
-        subst (λ r. IsLawfulParty (length st.parties) (get_or (set st.submissions to more) r []) (get_or (set st.logs to log) r [])) (eqb-true to party e)
-        (subst (λ l. IsLawfulParty (length st.parties) l (get_or (set st.logs to log) to [])) (sym (get_or-set_same st.submissions to more [] (omega (arith, to_is_party, sound.well_formed.submissions_each))))
-        (subst (IsLawfulParty (length st.parties) more) (sym (get_or-set_same st.logs to log [] (omega (arith, to_is_party, sound.well_formed.logs_each)))) here))
-    by party is_party false e =
-        subst (λ l. IsLawfulParty (length st.parties) l (get_or (set st.logs to log) party [])) (sym (get_or-set_other st.submissions to party more [] (λ same. eqb-false to party e (sym same))))
-        (subst (IsLawfulParty (length st.parties) (submissions_of st party)) (sym (get_or-set_other st.logs to party log [] (λ same. eqb-false to party e (sym same)))) (sound.lawful.of_party party is_party))
+-- what holds where a party refuses, and where it does not, holds of what the call leaves
+pub choose_unless : (P : State → Type 0) (fault : Option SiteFault) (st : State) (done : Outcome) → P st → (fault ≡ None → P done.state) → P (unless fault st done).state
+choose_unless P None st done here there = there refl
+choose_unless P (Some fault) st done here there = here
 
 submit-sound : (st : State) (from : ℕ) (message : Message) → IsSound st → IsSound (submit st from message).state
 unfolding submit
 submit-sound st from message sound =
     choose IsSound (not (is_party st from)) _ _ (λ _. sound) (λ _.
-    choose IsSound (is_query_or_answer message) _ _ (λ _. sound) (λ taken.
-    choose IsSound (is_uplink_full st from) _ _ (λ _. sound) (λ _.
-    choose IsSound (is_sender_full st from) _ _ (λ _. sound) (λ _. submitted-sound st from message sound (no_answer message taken)))))
+    choose_unless IsSound (submit_fault (is_uplink_full st from) (site_of st from) message) st _ sound (λ free.
+    submitted-sound st from message sound (no_answer message (submit-free (is_uplink_full st from) (site_of st from) message free).0)))
 
 ask-sound : (st : State) (party : ℕ) (key : PackKey) → IsSound st → IsSound (ask st party key).state
 unfolding ask
 ask-sound st party key sound =
     choose IsSound (not (is_party st party)) _ _ (λ _. sound) (λ _.
-    choose IsSound (is_uplink_full st party) _ _ (λ _. sound) (λ _.
-    choose IsSound (is_sender_full st party) _ _ (λ _. sound) (λ _. submitted-sound st party (Query key) sound refl)))
+    choose_unless IsSound (ask_fault (is_uplink_full st party) (site_of st party)) st _ sound (λ _. submitted-sound st party (Query key) sound refl))
 
 verify_by-sound : (st : State) (party : ℕ) (key : PackKey) (local : Local) → IsSound st → IsSound (verify_by st party key local).state
 verify_by-sound st party key (Known verdict) sound = sound
@@ -261,32 +236,31 @@ relay-sound st from to sound =
     choose IsSound (sent_of st from to == length (items_on st from to)) _ _ (λ _. sound) (λ _.
     under_way-sound st _ _ (square-put _ st.sent from to _ sound.well_formed.sent_each) (square-put _ st.wires from to _ sound.well_formed.wires_each) sound)))
 
-apply_next-sound : (st : State) (from to number : ℕ) (rest : List ℕ) (item : Option Item) → IsSound st → from < length st.parties → to < length st.parties
-    → slice_get (items_on st from to) (applied_count st from to) ≡ item → IsSound (apply_next st from to number rest item).state
-apply_next-sound st from to number rest None sound from_is_party to_is_party next = with_wire-sound st from to rest sound
-apply_next-sound st from to number rest (Some item) sound from_is_party to_is_party next =
-    choose IsSound (is_answer_busy st to answer) _ _ (λ _. sound) (λ _.
-    with_wire-sound (with_applied st to (entry_from from item) answer) from to rest (applied-sound st from to item answer sound from_is_party to_is_party next refl))
-  where
-    answer : Option Message
-    answer = answer_to (log_of st to) (entry_from from item)
+apply_next-sound : (st : State) (from to number : ℕ) (rest : List ℕ) (item : Option Item) → IsSound st → from < length st.parties
+    → next_item st from to ≡ item → IsSound (apply_next st from to number rest item).state
+apply_next-sound st from to number rest None sound from_is_party next = with_wire-sound st from to rest sound
+apply_next-sound st from to number rest (Some item) sound from_is_party next =
+    choose_unless IsSound (apply_fault (is_uplink_full st to) (site_of st to) from item look.Next) st _ sound (λ _.
+    with_wire-sound (with_site st (with_applied (site_of st to) from item)) from to rest (applied-sound st from to item sound from_is_party next))
 
-apply_front-sound : (st : State) (from to : ℕ) (wire : List ℕ) → IsSound st → from < length st.parties → to < length st.parties → IsSound (apply_front st from to wire).state
-unfolding apply_front
-apply_front-sound st from to [] sound from_is_party to_is_party = sound
-apply_front-sound st from to (number ∷ rest) sound from_is_party to_is_party =
-    choose IsSound (nat_le number (applied_count st from to)) _ _ (λ _. with_wire-sound st from to rest sound) (λ above.
-    choose IsSound (nat_lt (applied_count st from to + 1) number) _ _ (λ _. with_wire-sound st from to rest sound) (λ below.
-    let next : applied_count st from to ≡ number - 1 =
-    omega (arith, leb-false number (applied_count st from to) above, ltb-false (applied_count st from to + 1) number below) in
-    apply_next-sound st from to number rest (slice_get (items_on st from to) (number - 1)) sound from_is_party to_is_party (ap (slice_get (items_on st from to)) next)))
+apply_by-sound : (st : State) (from to number : ℕ) (rest : List ℕ) (stands : Look) → look_at (applied_count st from to) number ≡ stands → IsSound st → from < length st.parties
+    → IsSound (apply_by st from to number rest stands).state
+apply_by-sound st from to number rest look.Old stands sound from_is_party = with_wire-sound st from to rest sound
+apply_by-sound st from to number rest (look.Gap expected) stands sound from_is_party = with_wire-sound st from to rest sound
+apply_by-sound st from to number rest look.Next stands sound from_is_party =
+    apply_next-sound st from to number rest (slice_get (items_on st from to) (number - 1)) sound from_is_party
+    (ap (slice_get (items_on st from to)) (omega (arith, next-number (applied_count st from to) number stands)))
 
 apply-sound : (st : State) (from to : ℕ) → IsSound st → IsSound (apply st from to).state
 unfolding apply
 apply-sound st from to sound =
     choose IsSound (not (are_parties st from to)) _ _ (λ _. sound) (λ parties.
     let both = and_parts (is_party st from) (is_party st to) (not-false (are_parties st from to) parties) in
-    apply_front-sound st from to (wire_of st from to) sound (ltb-true from (length st.parties) both.0) (ltb-true to (length st.parties) both.1))
+    front (wire_of st from to) (ltb-true from (length st.parties) both.0))
+  where
+    front : (wire : List ℕ) → from < length st.parties → IsSound (apply_front st from to wire).state
+    front [] from_is_party = sound
+    front (number ∷ rest) from_is_party = apply_by-sound st from to number rest (look_at (applied_count st from to) number) refl sound from_is_party
 
 repeat-sound : (st : State) (from to number : ℕ) → IsSound st → IsSound (repeat st from to number).state
 unfolding repeat

@@ -1,5 +1,4 @@
 pub mod PrefixLemmas
-pub mod AnswerLemmas
 pub mod PartLemmas
 pub mod LawfulLemmas
 pub mod BoundLemmas

@@ -1,6 +1,6 @@
 -- Each step keeps the limits, and so does each run.
-use Rattle.std.proofs.Common.{◌≡◌, ℕ, ◌+◌, ◌-◌, ◌<◌, ◌≤◌, Bool, true, false, List, [], ◌∷◌, ◌++◌, length, drop, eqb, Some, None, Option, sym, refl, ap, ◌∙◌, subst, arith, length-append, length-drop, ltb-true, eqb-true, get_or}
-use Rattle.std.specs.Prelude.{All, slice_get, not, ◌==◌, ◌||◌, nat_lt, nat_le, find, replicate}
+use Rattle.std.proofs.Common.{◌≡◌, ℕ, ◌+◌, ◌-◌, ◌<◌, ◌≤◌, Bool, true, false, List, [], ◌∷◌, ◌++◌, length, drop, eqb, Some, None, Option, sym, refl, ap, ◌∙◌, subst, arith, length-append, append-nil, length-drop, ltb-true, eqb-true, get_or}
+use Rattle.std.specs.Prelude.{All, option_to_list, slice_get, not, ◌==◌, ◌||◌, nat_lt, nat_le, find, replicate}
 use Rattle.std.specs.List.{range_with_len}
 use Rattle.std.proofs.lemmas.Bool.{not-false, and_parts, leb-false, ltb-false, eqb-false}
 use Rattle.std.proofs.lemmas.List.{get_or-replicate}
@@ -8,8 +8,9 @@ use Rattle.std.proofs.lemmas.List.Elements.{All-nil, All-cons, All-tail, All-app
 use Rattle.mv_pack.specs.declared.key.PackKey.{PackKey}
 use Rattle.mv_message.specs.declared.message.Message.{Message}
 use Rattle.mv_message.specs.declared.message.Message.TheVariants.{Query}
-use Rattle.mv_message.specs.Kinds.{is_query_or_answer}
 use Rattle.mv_link.specs.declared.item.Item.{Item}
+use Rattle.mv_link.specs.declared.incoming.Look.{Look}
+use Rattle.mv_link.specs.declared.incoming.Look.TheVariants as look
 use Rattle.mv_pairs.specs.Pairs.{cell, put, IsSquare}
 use Rattle.mv_pairs.proofs.PairsLemmas.{put-each, put-each_pair, cell-put_same}
 use Rattle.mv_hub.specs.declared.entry.Entry.{Entry}
@@ -23,41 +24,49 @@ use Rattle.mv_repository.specs.declared.verdict.Local.{Local}
 use Rattle.mv_repository.specs.declared.verdict.Local.TheVariants.{Known, Absent}
 use Rattle.mv_repository.specs.Query.{answer_to}
 use Rattle.mv_repository.specs.Verdict.{local_verdict}
+use Rattle.mv_party.specs.Site.{SiteState, entry_from, with_submission, with_applied}
+use Rattle.mv_party.specs.Calls.{ask_fault, submit_fault, answer_fault, look_at, apply_fault}
+use Rattle.mv_party.proofs.SiteLemmas.{ask-free, submit-free, answer-free}
 use Rattle.mv_machine.specs.declared.step.Step.{Step}
 use Rattle.mv_machine.specs.declared.step.Step.TheVariants.{Submit, Verify, Route, Relay, Apply, Repeat, Close, Lose, Verdict}
 use Rattle.mv_machine.specs.declared.reply.Reply.{Reply}
 use Rattle.mv_machine.specs.Limits.{Bounds}
-use Rattle.mv_machine.specs.State.{State, is_party, are_parties, submissions_of, waiting_of, is_uplink_full, is_sender_full, with_submission, with_wire, sent_of, wire_of, log_of, items_on, applied_count, opening}
-use Rattle.mv_machine.specs.Steps.{submit, ask, verify_by, verify, verdict, with_applied, entry_from, is_answer_busy, next_entry, is_full, route_unless, route_front, route, relay, apply_next, apply_front, apply, is_unsent, is_gone, repeat, close, lose_front, lose, outcome}
+use Rattle.mv_machine.specs.State.{State, is_party, are_parties, submissions_of, waiting_of, is_uplink_full, site_of, with_site, with_wire, sent_of, wire_of, log_of, items_on, applied_count, opening}
+use Rattle.mv_machine.specs.Steps.{submit, ask, verify_by, verify, verdict, next_entry, is_full, route_unless, route_front, route, relay, apply_next, apply_by, apply_front, apply, is_unsent, is_gone, repeat, close, lose_front, lose, outcome}
 use Rattle.mv_machine.specs.Runs.{Runs}
 use Rattle.mv_machine.specs.Bounded.{KeepsLimits}
-use Rattle.mv_machine.proofs.LawfulLemmas.{IsSound, choose, allowed-case, step-sound, opening-sound}
+use Rattle.mv_machine.proofs.LawfulLemmas.{IsSound, choose, choose_unless, allowed-case, step-sound, opening-sound}
 use Rattle.mv_machine.proofs.ClosingLemmas.{routed_count-push}
 
--- the logs bear on no limit
-logged-keeps : (st : State) (logs : List (List LogEntry)) → KeepsLimits st → KeepsLimits (record st { logs = logs })
-logged-keeps st logs k = record { submitted = k.submitted; waiting = k.waiting; under_way = k.under_way; known = k.known; relayed = k.relayed; unsent = k.unsent }
-
--- a party that may submitted one more message
-submitted-keeps : (st : State) (from : ℕ) (message : Message) → KeepsLimits st → is_uplink_full st from ≡ false → is_sender_full st from ≡ false
-    → KeepsLimits (with_submission st from message)
-submitted-keeps st from message k free room = record {
-  submitted = put-each (λ party l. party < length st.parties → length l ≤ st.limits.submissions) st.submissions from (submissions_of st from ++ message ∷ []) []
-      (λ is_party. omega (arith, k.submitted from is_party, eqb-false (length (submissions_of st from)) st.limits.submissions room, length-append (submissions_of st from) (message ∷ []))) k.submitted;
-  waiting = put-each (λ party l. party < length st.parties → length (drop (routed_count st.entries party) l) ≤ st.limits.uplink) st.submissions from (submissions_of st from ++ message ∷ []) []
-      (λ is_party. omega (
-        arith,
-        k.waiting from is_party,
-        eqb-false (length (waiting_of st from)) st.limits.uplink free,
-        length-append (submissions_of st from) (message ∷ []),
-        length-drop (routed_count st.entries from) (submissions_of st from),
-        length-drop (routed_count st.entries from) (submissions_of st from ++ message ∷ []),
-      )) k.waiting;
+-- a party's part is another, in which it submitted more, for which it has room
+site-keeps : (st : State) (site : SiteState) → KeepsLimits st
+    → (site.party < length st.parties → length site.submissions ≤ st.limits.submissions)
+    → (site.party < length st.parties → length (drop (routed_count st.entries site.party) site.submissions) ≤ st.limits.uplink)
+    → KeepsLimits (with_site st site)
+site-keeps st site k few room = record {
+  submitted = put-each (λ party l. party < length st.parties → length l ≤ st.limits.submissions) st.submissions site.party site.submissions [] few k.submitted;
+  waiting = put-each (λ party l. party < length st.parties → length (drop (routed_count st.entries party) l) ≤ st.limits.uplink) st.submissions site.party site.submissions [] room k.waiting;
   under_way = k.under_way;
   known = k.known;
   relayed = k.relayed;
   unsent = k.unsent;
 }
+
+-- a party that may submitted one more message, whatever its log is then
+submitted-keeps : (st : State) (from : ℕ) (message : Message) (log : List LogEntry) → KeepsLimits st → ask_fault (is_uplink_full st from) (site_of st from) ≡ None
+    → KeepsLimits (with_site st (record (with_submission (site_of st from) message) { log = log }))
+submitted-keeps st from message log k free =
+    let room = ask-free (is_uplink_full st from) (site_of st from) free in
+    site-keeps st (record (with_submission (site_of st from) message) { log = log }) k
+    (λ is_party. omega (arith, k.submitted from is_party, room.1, length-append (submissions_of st from) (message ∷ [])))
+    (λ is_party. omega (
+      arith,
+      k.waiting from is_party,
+      eqb-false (length (waiting_of st from)) st.limits.uplink room.0,
+      length-append (submissions_of st from) (message ∷ []),
+      length-drop (routed_count st.entries from) (submissions_of st from),
+      length-drop (routed_count st.entries from) (submissions_of st from ++ message ∷ []),
+    ))
 
 -- other frames are under way on a link
 wired-keeps : (st : State) (from to : ℕ) (numbers : List ℕ) → KeepsLimits st
@@ -134,16 +143,14 @@ submit-keeps : (st : State) (from : ℕ) (message : Message) → KeepsLimits st 
 unfolding submit
 submit-keeps st from message k =
     choose KeepsLimits (not (is_party st from)) _ _ (λ _. k) (λ _.
-    choose KeepsLimits (is_query_or_answer message) _ _ (λ _. k) (λ _.
-    choose KeepsLimits (is_uplink_full st from) _ _ (λ _. k) (λ free.
-    choose KeepsLimits (is_sender_full st from) _ _ (λ _. k) (λ room. submitted-keeps st from message k free room))))
+    choose_unless KeepsLimits (submit_fault (is_uplink_full st from) (site_of st from) message) st _ k (λ free.
+    submitted-keeps st from message (log_of st from) k (submit-free (is_uplink_full st from) (site_of st from) message free).1))
 
 ask-keeps : (st : State) (party : ℕ) (key : PackKey) → KeepsLimits st → KeepsLimits (ask st party key).state
 unfolding ask
 ask-keeps st party key k =
     choose KeepsLimits (not (is_party st party)) _ _ (λ _. k) (λ _.
-    choose KeepsLimits (is_uplink_full st party) _ _ (λ _. k) (λ free.
-    choose KeepsLimits (is_sender_full st party) _ _ (λ _. k) (λ room. submitted-keeps st party (Query key) k free room)))
+    choose_unless KeepsLimits (ask_fault (is_uplink_full st party) (site_of st party)) st _ k (submitted-keeps st party (Query key) (log_of st party) k))
 
 verify-keeps : (st : State) (party : ℕ) (key : PackKey) → KeepsLimits st → KeepsLimits (verify st party key).state
 unfolding verify
@@ -192,38 +199,39 @@ relay-keeps st from to square k =
     cell-put_same (length st.parties) st.sent from to (sent_of st from to + 1) 0 square (ltb-true from (length st.parties) both.0) (ltb-true to (length st.parties) both.1) in
     pushed-keeps (record st { sent = put st.sent from to (sent_of st from to + 1) }) from to (sent_of st from to + 1) (sent-keeps st from to k some) room (omega arith) (omega (arith, now)))))
 
--- an entry was applied, and the answer that it calls for submitted
-applied-keeps : (st : State) (party : ℕ) (entry : LogEntry) (answer : Option Message) → KeepsLimits st → is_answer_busy st party answer ≡ false → KeepsLimits (with_applied st party entry answer)
-applied-keeps st party entry None k free = logged-keeps st _ k
-applied-keeps st party entry (Some answer) k free =
-    let neither = none (is_uplink_full st party) (is_sender_full st party) free in
-    logged-keeps (with_submission st party answer) _ (submitted-keeps st party answer k neither.0 neither.1)
+-- an item was applied, and the answer that it calls for submitted
+applied-keeps : (st : State) (from to : ℕ) (item : Item) → KeepsLimits st → apply_fault (is_uplink_full st to) (site_of st to) from item look.Next ≡ None
+    → KeepsLimits (with_site st (with_applied (site_of st to) from item))
+applied-keeps st from to item k free = by (answer_to (log_of st to) (entry_from from item)) refl free
   where
-    none : (a b : Bool) → (a || b) ≡ false → (a ≡ false) × (b ≡ false)
-    none false false e = (refl, refl)
-    none false true e = absurd (cc)
-    none true b e = absurd (cc)
+    log : List LogEntry
+    log = log_of st to ++ entry_from from item ∷ []
+
+    by : (answer : Option Message) → answer_to (log_of st to) (entry_from from item) ≡ answer → answer_fault (is_uplink_full st to) (site_of st to) answer ≡ None
+        → KeepsLimits (with_site st (record (site_of st to) { submissions = submissions_of st to ++ option_to_list answer; log = log }))
+    by None called free =
+        subst (λ l. KeepsLimits (with_site st (record (site_of st to) { submissions = l; log = log }))) (sym (append-nil (submissions_of st to)))
+        (site-keeps st (record (site_of st to) { log = log }) k (k.submitted to) (k.waiting to))
+    by (Some answer) called free = submitted-keeps st to answer log k (answer-free (is_uplink_full st to) (site_of st to) answer free)
 
 apply-keeps : (st : State) (from to : ℕ) → KeepsLimits st → KeepsLimits (apply st from to).state
-unfolding apply apply_front
+unfolding apply
 apply-keeps st from to k = choose KeepsLimits (not (are_parties st from to)) _ _ (λ _. k) (λ _. front (wire_of st from to) refl)
   where
     next : (number : ℕ) (rest : List ℕ) (item : Option Item) → wire_of st from to ≡ number ∷ rest → KeepsLimits (apply_next st from to number rest item).state
     next number rest None e = dropped-keeps st from to number rest k e
     next number rest (Some item) e =
-        choose KeepsLimits (is_answer_busy st to (answer_to (log_of st to) (entry_from from item))) _ _ (λ _. k) (λ free.
-        after (answer_to (log_of st to) (entry_from from item)) free)
-      where
-        after : (answer : Option Message) → is_answer_busy st to answer ≡ false → KeepsLimits (with_wire (with_applied st to (entry_from from item) answer) from to rest)
-        after None free = dropped-keeps (with_applied st to (entry_from from item) None) from to number rest (applied-keeps st to (entry_from from item) None k free) e
-        after (Some answer) free = dropped-keeps (with_applied st to (entry_from from item) (Some answer)) from to number rest (applied-keeps st to (entry_from from item) (Some answer) k free) e
+        choose_unless KeepsLimits (apply_fault (is_uplink_full st to) (site_of st to) from item look.Next) st _ k (λ free.
+        dropped-keeps (with_site st (with_applied (site_of st to) from item)) from to number rest (applied-keeps st from to item k free) e)
+
+    by : (number : ℕ) (rest : List ℕ) (stands : Look) → wire_of st from to ≡ number ∷ rest → KeepsLimits (apply_by st from to number rest stands).state
+    by number rest look.Old e = dropped-keeps st from to number rest k e
+    by number rest (look.Gap expected) e = dropped-keeps st from to number rest k e
+    by number rest look.Next e = next number rest (slice_get (items_on st from to) (number - 1)) e
 
     front : (wire : List ℕ) → wire_of st from to ≡ wire → KeepsLimits (apply_front st from to wire).state
     front [] e = k
-    front (number ∷ rest) e =
-        choose KeepsLimits (nat_le number (applied_count st from to)) _ _ (λ _. dropped-keeps st from to number rest k e) (λ _.
-        choose KeepsLimits (nat_lt (applied_count st from to + 1) number) _ _ (λ _. dropped-keeps st from to number rest k e) (λ _.
-        next number rest (slice_get (items_on st from to) (number - 1)) e))
+    front (number ∷ rest) e = by number rest (look_at (applied_count st from to) number) e
 
 repeat-keeps : (st : State) (from to number : ℕ) → KeepsLimits st → KeepsLimits (repeat st from to number).state
 unfolding repeat

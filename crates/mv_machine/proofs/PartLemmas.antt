@@ -1,6 +1,6 @@
--- A record, a party and a link stay lawful with one more entry, submission or item.
-use Rattle.std.proofs.Common.{◌≡◌, ℕ, ◌<◌, Bool, true, false, List, [], ◌∷◌, ◌++◌, length, cond, eqb, eqb-true, Some, sym, refl, ap, ◌∙◌, subst, append_assoc, append-nil}
-use Rattle.std.specs.Prelude.{slice_get, option_to_list}
+-- A record and a link stay lawful with one more entry, submission or item.
+use Rattle.std.proofs.Common.{◌≡◌, ℕ, Bool, true, false, List, [], ◌∷◌, ◌++◌, length, cond, eqb, eqb-true, Some, sym, refl, subst, append_assoc, append-nil}
+use Rattle.std.specs.Prelude.{slice_get}
 use mathlib.Core.List.{IsPrefix}
 use Rattle.mv_message.specs.declared.message.Message.{Message}
 use Rattle.mv_link.specs.declared.item.Item.{Item}
@@ -10,9 +10,8 @@ use Rattle.mv_hub.specs.Links.{gained, link_items}
 use Rattle.mv_hub.proofs.RecordLemmas.{link_items-push}
 use Rattle.mv_repository.specs.declared.entry.LogEntry.{LogEntry}
 use Rattle.mv_repository.specs.Log.{items_from}
-use Rattle.mv_repository.specs.Query.{answer_to}
-use Rattle.mv_machine.specs.Lawful.{Fits, AllFit, NamesParties, AllNameParties, AllFromParties, answers_in, IsLawfulRecord, IsLawfulParty, IsLawfulLink}
-use Rattle.mv_machine.proofs.AnswerLemmas.{answers_in-more, answers_in-applied}
+use Rattle.mv_party.proofs.SiteLemmas.{items_from-push}
+use Rattle.mv_machine.specs.Lawful.{Fits, AllFit, NamesParties, AllNameParties, IsLawfulRecord, IsLawfulLink}
 use Rattle.mv_machine.proofs.PrefixLemmas.{prefix-grows, prefix-push}
 
 -- one more entry fits behind those that fit
@@ -34,27 +33,6 @@ record-entered count entries entry lawful fits names = record {
   name_parties = AllNameParties-push count entries entry lawful.name_parties names;
 }
 
--- a party submitted a message that is no answer
-pub party-submitted : (count : ℕ) (submissions : List Message) (log : List LogEntry) (message : Message) → IsLawfulParty count submissions log
-    → answers_in (message ∷ []) ≡ [] → IsLawfulParty count (submissions ++ message ∷ []) log
-party-submitted count submissions log message lawful none = record {
-  answered = answers_in-more submissions message none ∙ lawful.answered;
-  from_parties = lawful.from_parties;
-}
-
--- one more entry from a party
-AllFromParties-push : (count : ℕ) (log : List LogEntry) (entry : LogEntry) → AllFromParties count log → entry.sender < count → AllFromParties count (log ++ entry ∷ [])
-AllFromParties-push count [] entry all from_party = (from_party, tt)
-AllFromParties-push count (x ∷ log) entry all from_party = (all.0, AllFromParties-push count log entry all.1 from_party)
-
--- its repository applied an entry, and it submitted the answer that this calls for, if it does
-pub party-applied : (count : ℕ) (submissions : List Message) (log : List LogEntry) (entry : LogEntry) → IsLawfulParty count submissions log
-    → entry.sender < count → IsLawfulParty count (submissions ++ option_to_list (answer_to log entry)) (log ++ entry ∷ [])
-party-applied count submissions log entry lawful from_party = record {
-  answered = answers_in-applied submissions log entry lawful.answered;
-  from_parties = AllFromParties-push count log entry lawful.from_parties from_party;
-}
-
 -- the sender of a link submitted more
 pub link-submitted : (parties : List (List (List ℕ))) (entries : List Entry) (from to : ℕ) (submissions more : List Message) (log : List LogEntry)
     → IsLawfulLink parties entries from to submissions log → IsLawfulLink parties entries from to (submissions ++ more) log
@@ -72,18 +50,6 @@ link-entered parties entries entry from to submissions log lawful order = record
   applied = subst (IsPrefix (items_from log from)) (sym (link_items-push parties entries entry from to))
       (prefix-grows (items_from log from) (link_items parties entries from to) (gained parties entries entry from to) lawful.applied);
 }
-
--- a choice of what goes first
-cond-append : {A : Type 0} (b : Bool) (x : A) (xs ys : List A) → cond b (x ∷ xs) xs ++ ys ≡ cond b (x ∷ (xs ++ ys)) (xs ++ ys)
-cond-append true x xs ys = refl
-cond-append false x xs ys = refl
-
--- the items of a party once an entry is last
-pub items_from-push : (log : List LogEntry) (entry : LogEntry) (party : ℕ) → items_from (log ++ entry ∷ []) party ≡ items_from log party ++ cond (eqb entry.sender party) (entry.item ∷ []) []
-items_from-push [] entry party = refl
-items_from-push (x ∷ log) entry party =
-    ap (λ l. cond (eqb x.sender party) (x.item ∷ l) l) (items_from-push log entry party)
-    ∙ sym (cond-append (eqb x.sender party) x.item (items_from log party) (cond (eqb entry.sender party) (entry.item ∷ []) []))
 
 -- the items of a party with the next one of a sender
 applied_more : (from party : ℕ) (log : List LogEntry) (items : List Item) (item : Item) → IsPrefix (items_from log party) items

@@ -13,7 +13,8 @@ use Rattle.mv_repository.specs.Log.{items_from}
 use Rattle.mv_repository.specs.Agreement.{AgreeOn}
 use Rattle.mv_repository.proofs.SameAboutLemmas.{same_entries}
 use Rattle.mv_machine.specs.State.{State, log_of, items_on, applied_count}
-use Rattle.mv_machine.specs.Lawful.{AllFromParties, IsLawful}
+use Rattle.mv_party.specs.Site.{AllFromParties}
+use Rattle.mv_machine.specs.Lawful.{IsLawful}
 use Rattle.mv_machine.proofs.StampLemmas.{stamps_distinct}
 
 -- two prefixes of a list that are as long are the same

@@ -18,7 +18,8 @@ use Rattle.mv_repository.specs.Log.{items_from}
 use Rattle.mv_repository.specs.Agreement.{stamp_in, stamp_at}
 use Rattle.mv_repository.proofs.SameAboutLemmas.{same_about}
 use Rattle.mv_machine.specs.State.{State, log_of}
-use Rattle.mv_machine.specs.Lawful.{AllFromParties, IsLawful}
+use Rattle.mv_party.specs.Site.{AllFromParties}
+use Rattle.mv_machine.specs.Lawful.{IsLawful}
 use Rattle.mv_machine.specs.Stamps.{IsStamped, StampsNameRoutings, StampsAreDistinct, RepositoriesAgree}
 use Rattle.mv_machine.proofs.PrefixLemmas.{slice_get-behind}
 

@@ -16,8 +16,9 @@ use Rattle.mv_hub.specs.Targets.{is_reached, reach, is_query}
 use Rattle.mv_hub.specs.Links.{gained, link_items_after, link_items}
 use Rattle.mv_repository.specs.declared.entry.LogEntry.{LogEntry}
 use Rattle.mv_repository.specs.Log.{items_from}
+use Rattle.mv_party.specs.Site.{AllFromParties}
 use Rattle.mv_machine.specs.State.{State, log_of}
-use Rattle.mv_machine.specs.Lawful.{Fits, AllFit, AllFromParties, IsLawful}
+use Rattle.mv_machine.specs.Lawful.{Fits, AllFit, IsLawful}
 use Rattle.mv_machine.specs.Headline.{IsRoutedAt, IsOfSubmission, AppliedIsSubmitted, carried_numbers, receipt_numbers, NumbersRise}
 use Rattle.mv_machine.proofs.PrefixLemmas.{slice_get-append, take-front, slice_get-behind, All-front}
 use Rattle.mv_machine.proofs.ClosingLemmas.{routed_count-push}

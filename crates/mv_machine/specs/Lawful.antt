@@ -2,7 +2,6 @@
 use Rattle.std.specs.Prelude.{◌≡◌, ◌<◌, ◌+◌, ℕ, List, [], ◌∷◌, ◌++◌, length, true}
 use mathlib.Core.List.{IsPrefix}
 use Rattle.mv_message.specs.declared.message.Message.{Message}
-use Rattle.mv_message.specs.declared.message.Message.TheVariants.{Answer}
 use Rattle.mv_pairs.specs.Pairs.{IsSquare}
 use Rattle.mv_hub.specs.declared.entry.Entry.{Entry}
 use Rattle.mv_hub.specs.declared.entry.Entry.TheVariants.{Routed, Closed}
@@ -10,7 +9,7 @@ use Rattle.mv_hub.specs.Record.{routed_from, routed_count, is_open}
 use Rattle.mv_hub.specs.Links.{link_items}
 use Rattle.mv_repository.specs.declared.entry.LogEntry.{LogEntry}
 use Rattle.mv_repository.specs.Log.{items_from}
-use Rattle.mv_repository.specs.Query.{answers_of}
+use Rattle.mv_party.specs.Site.{IsLawfulParty}
 use Rattle.mv_machine.specs.State.{State, submissions_of, log_of}
 
 -- an entry fits behind others: a routed message has the number that follows those of its sender, and only an open link is
@@ -34,28 +33,11 @@ abbrev pub AllNameParties : ℕ → List Entry → Type 0
 AllNameParties count [] = Unit {0}
 AllNameParties count (entry ∷ entries) = NamesParties count entry × AllNameParties count entries
 
--- each entry of a log names a party as its sender
-abbrev pub AllFromParties : ℕ → List LogEntry → Type 0
-AllFromParties count [] = Unit {0}
-AllFromParties count (entry ∷ log) = (entry.sender < count) × AllFromParties count log
-
--- the answers among messages, in order
-abbrev pub answers_in : List Message → List Message
-answers_in [] = []
-answers_in (Answer asker q key found ∷ messages) = Answer asker q key found ∷ answers_in messages
-answers_in (message ∷ messages) = answers_in messages
-
 -- A record is lawful, of so many parties: its messages are numbered and its links closed at most once, and it names parties
 -- alone.
 pub record IsLawfulRecord (count : ℕ) (entries : List Entry) : Type 0 where
   pub fit : AllFit [] entries
   pub name_parties : AllNameParties count entries
-
--- A party is lawful, one of so many: the answers among what it submitted are those that the log of its repository calls for, and
--- that log is of items from parties alone.
-pub record IsLawfulParty (count : ℕ) (submissions : List Message) (log : List LogEntry) : Type 0 where
-  pub answered : answers_in submissions ≡ answers_of log
-  pub from_parties : AllFromParties count log
 
 -- A link is lawful: what was routed from its sender is a prefix of what this submitted; and what its receiver applied from the
 -- sender is a prefix of what the record puts on the link, in order and each once.

@@ -5,7 +5,7 @@ use Rattle.mv_repository.specs.Agreement.{AgreeOn}
 use Rattle.mv_machine.specs.declared.step.Step.{Step}
 use Rattle.mv_machine.specs.declared.reply.Reply.{Reply}
 use Rattle.mv_link.specs.declared.limits.TheConstants.{PARTIES_LIMIT}
-use Rattle.mv_machine.specs.declared.limits.TheConstants.{SUBMISSIONS_LIMIT}
+use Rattle.mv_party.specs.declared.limits.TheConstants.{SUBMISSIONS_LIMIT}
 use Rattle.mv_machine.specs.Limits.{Bounds, most_entries}
 use Rattle.mv_machine.specs.Replies.{changes_nothing}
 use Rattle.mv_machine.specs.State.{State, submissions_of, log_of, applied_count, opening}

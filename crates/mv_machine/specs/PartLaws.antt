@@ -1,5 +1,5 @@
--- Laws that need no whole state: of a record, of one party, and of one link.
-use Rattle.std.specs.Prelude.{◌≡◌, ◌<◌, ◌≤◌, ◌-◌, ℕ, List, [], ◌∷◌, ◌++◌, length, Some, slice_get, option_to_list}
+-- Laws that need no whole state: of a record, and of one link.
+use Rattle.std.specs.Prelude.{◌≡◌, ◌<◌, ◌≤◌, ◌-◌, ℕ, List, [], ◌∷◌, ◌++◌, length, Some, slice_get}
 use mathlib.Core.List.{IsPrefix}
 use Rattle.mv_message.specs.declared.message.Message.{Message}
 use Rattle.mv_hub.specs.declared.entry.Entry.{Entry}
@@ -8,11 +8,10 @@ use Rattle.mv_hub.specs.Record.{routed_from, routed_count}
 use Rattle.mv_hub.specs.Links.{link_items}
 use Rattle.mv_repository.specs.declared.entry.LogEntry.{LogEntry}
 use Rattle.mv_repository.specs.Log.{items_from}
-use Rattle.mv_repository.specs.Query.{answer_to}
 use Rattle.mv_link.specs.declared.limits.TheConstants.{PARTIES_LIMIT}
-use Rattle.mv_machine.specs.declared.limits.TheConstants.{SUBMISSIONS_LIMIT}
+use Rattle.mv_party.specs.declared.limits.TheConstants.{SUBMISSIONS_LIMIT}
 use Rattle.mv_machine.specs.Limits.{most_entries}
-use Rattle.mv_machine.specs.Lawful.{Fits, NamesParties, answers_in, IsLawfulRecord, IsLawfulParty, IsLawfulLink}
+use Rattle.mv_machine.specs.Lawful.{Fits, NamesParties, IsLawfulRecord, IsLawfulLink}
 use Rattle.mv_machine.specs.Closing.{before_closing, AreAboutFirst}
 
 -- one more entry that fits, and names parties alone, keeps a record lawful
@@ -30,15 +29,6 @@ RecordsAreNumbered = (count : ℕ) (entries : List Entry) (place from k : ℕ) (
 abbrev pub RecordsAreShort : Type 0
 RecordsAreShort = (count : ℕ) (entries : List Entry) → IsLawfulRecord count entries → count ≤ PARTIES_LIMIT
     → ((party : ℕ) → party < count → routed_count entries party ≤ SUBMISSIONS_LIMIT) → length entries ≤ most_entries
-
--- A party stays lawful where it submits a message that is no answer; and where its repository applies an entry from a party, and
--- it submits the answer that this calls for, if it does.
-abbrev pub PartiesStayLawful : Type 0
-PartiesStayLawful =
-    ((count : ℕ) (submissions : List Message) (log : List LogEntry) (message : Message) → IsLawfulParty count submissions log
-    → answers_in (message ∷ []) ≡ [] → IsLawfulParty count (submissions ++ message ∷ []) log)
-    × ((count : ℕ) (submissions : List Message) (log : List LogEntry) (entry : LogEntry) → IsLawfulParty count submissions log
-    → entry.sender < count → IsLawfulParty count (submissions ++ option_to_list (answer_to log entry)) (log ++ entry ∷ []))
 
 -- A link stays lawful where its sender submits more; where the record gains an entry, and what it routed from the sender is still
 -- a prefix of what this submitted; and where its receiver applies an entry, which is the next of the link if it is from its sender.

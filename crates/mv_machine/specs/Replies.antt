@@ -1,5 +1,7 @@
--- The numbers by which replies name refusals, and where want of memory may stand in place of a reply.
+-- The numbers by which replies name refusals, which faults of a party they answer, and where want of memory may stand in place of a reply.
 use Rattle.std.specs.Prelude.{ℕ, List, codes, Bool, true, false}
+use Rattle.mv_party.specs.declared.fault.SiteFault.{SiteFault}
+use Rattle.mv_party.specs.declared.fault.SiteFault.TheVariants as fault
 use Rattle.mv_machine.specs.declared.reply.Reply.{Reply}
 use Rattle.mv_machine.specs.declared.reply.Reply.TheVariants.{Submitted, Known, Asked, Routed, Relayed, Applied, Old, Gap, Repeated, Closed, Lost, Joint, Refused}
 use Rattle.mv_machine.specs.declared.reply.Refusal.{Refusal}
@@ -21,6 +23,14 @@ code_of Nothing = codes "S11"
 code_of AlreadyClosed = codes "S12"
 code_of AnswerBusy = codes "S13"
 code_of Memory = codes "S14"
+
+-- the refusal that a party's fault is answered by
+abbrev pub refusal_of : SiteFault → Refusal
+refusal_of fault.NotYours = NotYours
+refusal_of fault.UplinkFull = UplinkFull
+refusal_of fault.SenderFull = SenderFull
+refusal_of fault.AnswerBusy = AnswerBusy
+refusal_of fault.Memory = Memory
 
 -- a reply that want of memory may stand in place of: the step takes memory
 abbrev pub takes_memory : Reply → Bool

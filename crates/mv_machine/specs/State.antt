@@ -1,5 +1,5 @@
 -- The state of the list machine: the whole system as plain lists.
-use Rattle.std.specs.Prelude.{◌&&◌, ◌==◌, ℕ, List, [], ◌∷◌, ◌++◌, length, drop, Bool, slice_index_or, nat_lt, replicate, slice_set}
+use Rattle.std.specs.Prelude.{◌&&◌, ◌==◌, ℕ, List, [], length, drop, Bool, slice_index_or, nat_lt, replicate, slice_set}
 use Rattle.mv_message.specs.declared.message.Message.{Message}
 use Rattle.mv_link.specs.declared.item.Item.{Item}
 use Rattle.mv_pairs.specs.Pairs.{cell, put}
@@ -7,7 +7,7 @@ use Rattle.mv_hub.specs.declared.entry.Entry.{Entry}
 use Rattle.mv_hub.specs.Record.{routed_count}
 use Rattle.mv_hub.specs.Links.{link_items}
 use Rattle.mv_repository.specs.declared.entry.LogEntry.{LogEntry}
-use Rattle.mv_repository.specs.Log.{items_from}
+use Rattle.mv_party.specs.Site.{SiteState, count_from}
 use Rattle.mv_machine.specs.Limits.{Bounds}
 
 pub record State : Type 0 where
@@ -39,10 +39,6 @@ waiting_of st party = drop (routed_count st.entries party) (submissions_of st pa
 abbrev pub is_uplink_full : State → ℕ → Bool
 is_uplink_full st party = length (waiting_of st party) == st.limits.uplink
 
--- a party submitted as many messages as it may
-abbrev pub is_sender_full : State → ℕ → Bool
-is_sender_full st party = length (submissions_of st party) == st.limits.submissions
-
 -- how many frames of a link were relayed
 abbrev pub sent_of : State → ℕ → ℕ → ℕ
 sent_of st from to = cell st.sent from to 0
@@ -61,12 +57,24 @@ items_on st from to = link_items st.parties st.entries from to
 
 -- how many items of a sender a repository applied
 abbrev pub applied_count : State → ℕ → ℕ → ℕ
-applied_count st from to = length (items_from (log_of st to) from)
+applied_count st from to = count_from (log_of st to) from
 
--- the state once a party submitted one more message
-abbrev pub with_submission : State → ℕ → Message → State
-with_submission st party message =
-    record st { submissions = slice_set st.submissions party (submissions_of st party ++ message ∷ []) }
+-- a party's part of the state
+abbrev pub site_of : State → ℕ → SiteState
+site_of st party = record {
+  party = party;
+  parties = length st.parties;
+  limit = st.limits.submissions;
+  submissions = submissions_of st party;
+  log = log_of st party;
+}
+
+-- the state with another part of that party
+abbrev pub with_site : State → SiteState → State
+with_site st site = record st {
+  submissions = slice_set st.submissions site.party site.submissions;
+  logs = slice_set st.logs site.party site.log;
+}
 
 -- the state with other frames under way on a link
 abbrev pub with_wire : State → ℕ → ℕ → List ℕ → State

@@ -1,30 +1,34 @@
 -- What each step answers and leaves where there is memory: a row for each kind of step, its refusals in their order.
-use Rattle.std.specs.Prelude.{◌==◌, ◌||◌, ◌+◌, ◌-◌, ℕ, List, [], ◌∷◌, ◌++◌, length, not, Bool, false, if◌then◌else◌, slice_set, slice_get, Option, Some, None, nat_lt, nat_le, find}
+use Rattle.std.specs.Prelude.{◌==◌, ◌||◌, ◌+◌, ◌-◌, ℕ, List, [], ◌∷◌, ◌++◌, length, not, Bool, if◌then◌else◌, slice_get, Option, Some, None, nat_lt, nat_le, find}
 use Rattle.std.specs.List.{range_with_len}
 use Rattle.mv_message.specs.declared.message.Message.{Message}
 use Rattle.mv_message.specs.declared.message.Message.TheVariants.{Query}
-use Rattle.mv_message.specs.Kinds.{is_query_or_answer}
 use Rattle.mv_pack.specs.declared.key.PackKey.{PackKey}
 use Rattle.mv_link.specs.declared.item.Item.{Item}
+use Rattle.mv_link.specs.declared.incoming.Look.{Look}
+use Rattle.mv_link.specs.declared.incoming.Look.TheVariants as look
 use Rattle.mv_pairs.specs.Pairs.{put}
 use Rattle.mv_hub.specs.declared.entry.Entry.{Entry}
 use Rattle.mv_hub.specs.declared.entry.Entry.TheVariants.{Routed as RoutedEntry, Closed as ClosedEntry}
 use Rattle.mv_hub.specs.Record.{routed_count, is_open}
 use Rattle.mv_hub.specs.Targets.{reach}
 use Rattle.mv_hub.specs.Links.{gained}
-use Rattle.mv_repository.specs.declared.entry.LogEntry.{LogEntry}
 use Rattle.mv_repository.specs.declared.verdict.Local.{Local}
 use Rattle.mv_repository.specs.declared.verdict.Local.TheVariants.{Known as KnownPack, Absent}
 use Rattle.mv_repository.specs.Effect.{effect_of}
 use Rattle.mv_repository.specs.Query.{answer_to}
 use Rattle.mv_repository.specs.Verdict.{local_verdict, joint_verdict}
+use Rattle.mv_party.specs.declared.fault.SiteFault.{SiteFault}
+use Rattle.mv_party.specs.Site.{entry_from, answer_number, with_submission, with_applied}
+use Rattle.mv_party.specs.Calls.{ask_fault, submit_fault, look_at, apply_fault}
 use Rattle.mv_machine.specs.declared.step.Step.{Step}
 use Rattle.mv_machine.specs.declared.step.Step.TheVariants.{Submit, Verify, Route, Relay, Apply, Repeat, Close, Lose, Verdict}
 use Rattle.mv_machine.specs.declared.reply.Reply.{Reply}
 use Rattle.mv_machine.specs.declared.reply.Reply.TheVariants.{Submitted, Known, Asked, Routed, Relayed, Applied, Old, Gap, Repeated, Closed, Lost, Joint as JointVerdict, Refused}
 use Rattle.mv_machine.specs.declared.reply.Refusal.{Refusal}
-use Rattle.mv_machine.specs.declared.reply.Refusal.TheVariants.{Party, NotYours, UplinkFull, SenderFull, UplinkEmpty, Busy, WireFull, WireEmpty, NotSent, Gone, Nothing, AlreadyClosed, AnswerBusy}
-use Rattle.mv_machine.specs.State.{State, is_party, are_parties, submissions_of, is_uplink_full, is_sender_full, sent_of, wire_of, log_of, items_on, applied_count, with_submission, with_wire}
+use Rattle.mv_machine.specs.declared.reply.Refusal.TheVariants.{Party, UplinkEmpty, Busy, WireFull, WireEmpty, NotSent, Gone, Nothing, AlreadyClosed}
+use Rattle.mv_machine.specs.Replies.{refusal_of}
+use Rattle.mv_machine.specs.State.{State, is_party, are_parties, submissions_of, is_uplink_full, sent_of, wire_of, log_of, items_on, applied_count, site_of, with_site, with_wire}
 
 -- a reply and the state that the step leaves
 pub record Outcome : Type 0 where
@@ -35,22 +39,28 @@ pub record Outcome : Type 0 where
 abbrev pub refused : Refusal → State → Outcome
 refused refusal st = record { reply = Refused refusal; state = st }
 
+-- what a party does, unless it refuses that for a fault
+abbrev pub unless : Option SiteFault → State → Outcome → Outcome
+unless (Some fault) st done = refused (refusal_of fault) st
+unless None st done = done
+
 -- a party submits a message: it is the last of the party's submissions. Queries and answers are submitted by the system itself
 unfoldable pub submit : State → ℕ → Message → Outcome
 submit st from message =
     if not (is_party st from) then refused Party st
-    else (if is_query_or_answer message then refused NotYours st
-    else (if is_uplink_full st from then refused UplinkFull st
-    else (if is_sender_full st from then refused SenderFull st
-    else record { reply = Submitted (length (submissions_of st from) + 1); state = with_submission st from message })))
+    else unless (submit_fault (is_uplink_full st from) (site_of st from) message) st (record {
+      reply = Submitted (length (submissions_of st from) + 1);
+      state = with_site st (with_submission (site_of st from) message);
+    })
 
 -- a party asks the other repositories about a pack: the query is the last of its submissions
 unfoldable pub ask : State → ℕ → PackKey → Outcome
 ask st party key =
     if not (is_party st party) then refused Party st
-    else (if is_uplink_full st party then refused UplinkFull st
-    else (if is_sender_full st party then refused SenderFull st
-    else record { reply = Asked (length (submissions_of st party) + 1); state = with_submission st party (Query key) }))
+    else unless (ask_fault (is_uplink_full st party) (site_of st party)) st (record {
+      reply = Asked (length (submissions_of st party) + 1);
+      state = with_site st (with_submission (site_of st party) (Query key));
+    })
 
 -- a party verifies a pack, on which its own repository has this verdict: where it has none, the others are asked
 abbrev pub verify_by : State → ℕ → PackKey → Local → Outcome
@@ -108,62 +118,29 @@ relay st from to =
       };
     }))
 
--- the answer that an entry calls for is the last of the submissions of the party whose repository applies it
-abbrev pub with_answer : State → ℕ → Option Message → State
-with_answer st party None = st
-with_answer st party (Some answer) = with_submission st party answer
-
--- the number of that answer behind these submissions
-abbrev pub answer_number : List Message → Option Message → Option ℕ
-answer_number submissions None = None
-answer_number submissions (Some answer) = Some (length submissions + 1)
-
--- an answer is called for, and the party can submit nothing now
-abbrev pub is_answer_busy : State → ℕ → Option Message → Bool
-is_answer_busy st party None = false
-is_answer_busy st party (Some answer) = is_uplink_full st party || is_sender_full st party
-
--- a repository applied an entry, which called for this answer
-abbrev pub with_applied : State → ℕ → LogEntry → Option Message → State
-with_applied st party entry answer =
-    record (with_answer st party answer) { logs = slice_set st.logs party (log_of st party ++ entry ∷ []) }
-
--- a repository applies an entry, which calls for this answer: both happen, or neither
-abbrev pub apply_entry : State → ℕ → ℕ → ℕ → List ℕ → LogEntry → Option Message → Outcome
-apply_entry st from to number rest entry answer =
-    if is_answer_busy st to answer then refused AnswerBusy st
-    else record {
-      reply = Applied number (effect_of (log_of st to) entry) (answer_number (submissions_of st to) answer);
-      state = with_wire (with_applied st to entry answer) from to rest;
-    }
-
--- an item as it stands in the log of who applies it
-abbrev pub entry_from : ℕ → Item → LogEntry
-entry_from sender item = record { sender = sender; item = item }
-
--- the item that a repository is to apply next from a sender, and the answer that this calls for
+-- the item that a repository is to apply next from a sender
 abbrev pub next_item : State → ℕ → ℕ → Option Item
 next_item st from to = slice_get (items_on st from to) (applied_count st from to)
 
-abbrev pub next_answer : State → ℕ → ℕ → Option Item → Option Message
-next_answer st from to (Some item) = answer_to (log_of st to) (entry_from from item)
-next_answer st from to None = None
-
--- a repository applies the member of the link that the next frame bears. A link always has it; a frame of no member would
--- be dropped, as one behind a gap is
+-- a repository applies the member of the link that the next frame bears, and its party submits the answer that this calls for, if
+-- it does: both, or neither. A link always has that member; a frame of no member would be dropped, as one behind a gap is
 abbrev pub apply_next : State → ℕ → ℕ → ℕ → List ℕ → Option Item → Outcome
-apply_next st from to number rest (Some item) =
-    apply_entry st from to number rest (entry_from from item) (answer_to (log_of st to) (entry_from from item))
+apply_next st from to number rest (Some item) = unless (apply_fault (is_uplink_full st to) (site_of st to) from item look.Next) st (record {
+  reply = Applied number (effect_of (log_of st to) (entry_from from item)) (answer_number (submissions_of st to) (answer_to (log_of st to) (entry_from from item)));
+  state = with_wire (with_site st (with_applied (site_of st to) from item)) from to rest;
+})
 apply_next st from to number rest None = record { reply = Gap number number; state = with_wire st from to rest }
 
--- the frame in front of a wire is taken: it is old, it is behind a gap, or it is the next
-unfoldable pub apply_front : State → ℕ → ℕ → List ℕ → Outcome
+-- a frame is taken that stands so: it is old, it is behind a gap, or it is the next
+abbrev pub apply_by : State → ℕ → ℕ → ℕ → List ℕ → Look → Outcome
+apply_by st from to number rest look.Old = record { reply = Old number; state = with_wire st from to rest }
+apply_by st from to number rest (look.Gap expected) = record { reply = Gap number expected; state = with_wire st from to rest }
+apply_by st from to number rest look.Next = apply_next st from to number rest (slice_get (items_on st from to) (number - 1))
+
+-- the frame in front of a wire is taken
+abbrev pub apply_front : State → ℕ → ℕ → List ℕ → Outcome
 apply_front st from to [] = refused WireEmpty st
-apply_front st from to (number ∷ rest) =
-    if nat_le number (applied_count st from to) then record { reply = Old number; state = with_wire st from to rest }
-    else (if nat_lt (applied_count st from to + 1) number
-    then record { reply = Gap number (applied_count st from to + 1); state = with_wire st from to rest }
-    else apply_next st from to number rest (slice_get (items_on st from to) (number - 1)))
+apply_front st from to (number ∷ rest) = apply_by st from to number rest (look_at (applied_count st from to) number)
 
 -- a repository takes the front frame of a link
 unfoldable pub apply : State → ℕ → ℕ → Outcome

@@ -1,7 +1,8 @@
 //! The list machine: the whole system as plain lists, with a row for each step, and its laws.
 //!
 //! To be believed, and hardly any code: the system is proved to answer as this machine does, and the laws say what every run
-//! of the machine keeps. It stands on the definitions of the hub and of the repository.
+//! of the machine keeps. It stands on the definitions of the hub, and of a party with its
+//! repository.
 #![tactic(auto)]
 
 mod laws;
@@ -16,10 +17,10 @@ pub use laws::{
     refusals_change_nothing, repositories_agree, runs_are_lawful, stamps_are_distinct, stamps_fit,
     steps_follow,
 };
-pub use limits::{Limits, LimitsFault, SUBMISSIONS_LIMIT, UPLINK_LIMIT, WIRE_LIMIT};
+pub use limits::{Limits, LimitsFault, UPLINK_LIMIT, WIRE_LIMIT};
 pub use part_laws::{
-    links_stay_closed, links_stay_lawful, parties_stay_lawful, records_are_numbered,
-    records_are_short, records_stay_lawful,
+    links_stay_closed, links_stay_lawful, records_are_numbered, records_are_short,
+    records_stay_lawful,
 };
 pub use reply::{Refusal, Reply};
 pub use step::Step;

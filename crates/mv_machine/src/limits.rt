@@ -4,6 +4,7 @@ ghost use Rattle.std.specs.Prelude.{◌≡◌};
 ghost use Rattle.mv_machine.specs.Limits.{is_between};
 
 use mv_link::{WINDOW_LEAST, WINDOW_LIMIT};
+use mv_party::SUBMISSIONS_LIMIT;
 use std::marker::Model;
 
 /// The most frames that are under way on each link.
@@ -11,9 +12,6 @@ pub const WIRE_LIMIT: u32 = 64;
 
 /// The most messages of each party that are under way to the hub.
 pub const UPLINK_LIMIT: u32 = 64;
-
-/// The most messages that each party submits.
-pub const SUBMISSIONS_LIMIT: u32 = 1_000_000;
 
 /// How much a system holds at most.
 #[derive(Clone, Copy, Debug, PartialEq, Eq)]

@@ -1,7 +1,7 @@
-//! Laws that need no whole state: of a record, of one party, and of one link.
+//! Laws that need no whole state: of a record, and of one link.
 
 ghost use Rattle.mv_machine.specs.PartLaws.{RecordsStayLawful, RecordsAreNumbered, RecordsAreShort};
-ghost use Rattle.mv_machine.specs.PartLaws.{PartiesStayLawful, LinksStayLawful, LinksStayClosed};
+ghost use Rattle.mv_machine.specs.PartLaws.{LinksStayLawful, LinksStayClosed};
 
 /// One more entry that fits a record, and names parties alone, keeps it lawful.
 pub fn records_stay_lawful()
@@ -16,11 +16,6 @@ pub fn records_are_numbered()
 /// A lawful record never grows so long that a stamp of 32 bits would not name its entries.
 pub fn records_are_short()
     ensures { RecordsAreShort }
-{}
-
-/// A party stays lawful with one more submission that is no answer, and with one more entry and the answer that this calls for.
-pub fn parties_stay_lawful()
-    ensures { PartiesStayLawful }
 {}
 
 /// A link stays lawful with more submissions of its sender, with one more entry in the record, and with its next item applied.

@@ -4,6 +4,7 @@ ghost use Rattle.std.specs.Prelude.{◌≡◌};
 
 use mv_link::Reach;
 use mv_message::Party;
+use mv_party::SiteFault;
 use mv_repository::{Effect, Joint, Verdict};
 
 /// What a step is answered.
@@ -115,6 +116,23 @@ impl Refusal {
             Refusal::AlreadyClosed => "S12",
             Refusal::AnswerBusy => "S13",
             Refusal::Memory => "S14",
+        }
+    }
+}
+
+impl From<SiteFault> for Refusal {
+    ghost use Rattle.std.specs.Prelude.{◌≡◌};
+    ghost use Rattle.mv_machine.specs.Replies.{refusal_of};
+
+    ghost from_gives = { λ fault refusal. refusal ≡ refusal_of fault };
+
+    fn from(fault: SiteFault) -> Refusal {
+        match fault {
+            SiteFault::NotYours => Refusal::NotYours,
+            SiteFault::UplinkFull => Refusal::UplinkFull,
+            SiteFault::SenderFull => Refusal::SenderFull,
+            SiteFault::AnswerBusy => Refusal::AnswerBusy,
+            SiteFault::Memory => Refusal::Memory,
         }
     }
 }

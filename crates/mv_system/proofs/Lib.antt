@@ -1,5 +1,4 @@
 pub mod WireLemmas
-pub mod ApplyLemmas
 pub mod SystemLemmas
 pub mod RouteLemmas
 pub mod OpeningLemmas

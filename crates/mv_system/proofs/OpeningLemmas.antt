@@ -2,26 +2,28 @@
 use Rattle.std.proofs.Common.{◌≡◌, ℕ, zero, suc, ◌+◌, ◌<◌, ◌≤◌, List, [], ◌∷◌, ◌++◌, length, get_or, map, add-zero, add-one, zero-add, sym, refl, ap, ◌∙◌, subst, arith}
 use Rattle.std.specs.Prelude.{replicate}
 use Rattle.std.specs.List.{range_with_len, All}
-use Rattle.std.proofs.lemmas.List.{get_or-replicate}
-use Rattle.std.proofs.lemmas.List.Elements.{All-replicate, All-nil}
+use Rattle.std.proofs.lemmas.List.Elements.{All-nil}
 use Rattle.mv_message.specs.declared.message.Message.{Message}
 use Rattle.mv_pairs.specs.Pairs.{IsSquare}
-use Rattle.mv_pairs.proofs.PairsLemmas.{table-all, cell-all, cell-any, read-any}
-use Rattle.mv_hub.specs.Hub.{new_hub, items_on}
+use Rattle.mv_pairs.proofs.PairsLemmas.{table-all, cell-all, cell-any}
+use Rattle.mv_hub.specs.Hub.{HubState, new_hub, items_on}
 use Rattle.mv_repository.specs.declared.entry.LogEntry.{LogEntry}
-use Rattle.mv_repository.specs.Repository.{RepositoryState, new_repository}
+use Rattle.mv_party.specs.Site.{SiteState, new_site}
 use Rattle.mv_machine.specs.Limits.{Bounds, AreBounds}
-use Rattle.mv_machine.specs.State.{State, opening, applied_count}
+use Rattle.mv_machine.specs.State.{State, opening}
 use Rattle.mv_machine.proofs.LawfulLemmas.{IsSound, opening-sound}
 use Rattle.mv_system.specs.Wire.{WireState, new_wire, numbers_of}
 use Rattle.mv_link.specs.declared.limits.TheConstants.{PARTIES_LIMIT}
 use Rattle.mv_link.specs.Frames.{IsFrameOf}
-use Rattle.mv_system.specs.World.{Parts, parts_of, state_of, FitsWire, IsSystem}
+use Rattle.mv_system.specs.World.{Parts, parts_of, state_of, FitsWire, IsSiteAt, IsSystem}
+
+-- the parties that a system opens with
+abbrev pub opening_sites : ℕ → ℕ → List SiteState
+opening_sites parties limit = map (λ party. new_site party parties limit) (range_with_len 0 parties)
 
 -- the parts that a system opens with
-abbrev opening_parts : List (List (List ℕ)) → Bounds → List (List WireState) → List (List ℕ) → Parts
-opening_parts parties limits wires accepted =
-    parts_of limits (new_hub parties limits.window) (replicate (length parties) []) wires accepted (map new_repository (range_with_len 0 (length parties)))
+abbrev opening_parts : List (List (List ℕ)) → Bounds → List (List WireState) → Parts
+opening_parts parties limits wires = parts_of limits (new_hub parties limits.window) (opening_sites (length parties) limits.submissions) wires
 
 map-range_suc : {A : Type 0} (f : ℕ → A) (start n : ℕ) → map f (range_with_len start (suc n)) ≡ map f (range_with_len start n) ++ f (start + n) ∷ []
 map-range_suc f start zero = rw add-zero refl
@@ -31,30 +33,32 @@ map-range_suc f start (suc n) = ap (λ l. f start ∷ l) (map-range_suc f (start
 pub map-range_push : {A : Type 0} (f : ℕ → A) (n : ℕ) → map f (range_with_len 0 (n + 1)) ≡ map f (range_with_len 0 n) ++ f n ∷ []
 map-range_push f n = ap (λ k. map f (range_with_len 0 k)) (add-one n) ∙ map-range_suc f 0 n ∙ ap (λ k. map f (range_with_len 0 n) ++ f k ∷ []) (zero-add n)
 
-logs_none : (start n : ℕ) → map (λ (r : RepositoryState). r.log) (map new_repository (range_with_len start n)) ≡ replicate n []
-logs_none start zero = refl
-logs_none start (suc n) = ap (λ l. [] ∷ l) (logs_none (start + 1) n)
+-- the numbers in a row, through a function, and what each is
+map-same : {A B : Type 0} (f : ℕ → A) (g : A → B) (b : B) (start n : ℕ) → ((i : ℕ) → g (f i) ≡ b) → map g (map f (range_with_len start n)) ≡ replicate n b
+map-same f g b start zero same = refl
+map-same f g b start (suc n) same = ap (λ x. x ∷ map g (map f (range_with_len (start + 1) n))) (same start) ∙ ap (λ l. b ∷ l) (map-same f g b (start + 1) n same)
 
-owner-at : (start n i : ℕ) → i < n → (get_or (map new_repository (range_with_len start n)) i (new_repository 0)).party ≡ start + i
-owner-at start zero i lt = absurd (omega arith)
-owner-at start (suc n) zero lt = omega arith
-owner-at start (suc n) (suc i) lt = owner-at (start + 1) n i (omega arith) ∙ omega arith
+map-range_at : {A : Type 0} (f : ℕ → A) (d : A) (start n i : ℕ) → i < n → get_or (map f (range_with_len start n)) i d ≡ f (start + i)
+map-range_at f d start zero i lt = absurd (omega arith)
+map-range_at f d start (suc n) zero lt = ap f (omega arith)
+map-range_at f d start (suc n) (suc i) lt = map-range_at f d (start + 1) n i (omega arith) ∙ ap f (omega arith)
 
-pub opening_is : (parties : List (List (List ℕ))) (limits : Bounds) (wires : List (List WireState)) (accepted : List (List ℕ))
-    → IsSquare (length parties) wires → All (All (λ w. w ≡ new_wire limits.wire)) wires
-    → state_of (opening_parts parties limits wires accepted) ≡ opening parties limits
-opening_is parties limits wires accepted square empty =
-    ap {A = List (List (List ℕ))} {B = State} (λ l. record (opening parties limits) { wires = l; logs = map (λ (r : RepositoryState). r.log) (map new_repository (range_with_len 0 (length parties))) })
+opening_is : (parties : List (List (List ℕ))) (limits : Bounds) (wires : List (List WireState))
+    → IsSquare (length parties) wires → All (All (λ w. w ≡ new_wire limits.wire)) wires → state_of (opening_parts parties limits wires) ≡ opening parties limits
+opening_is parties limits wires square empty =
+    let make = λ (party : ℕ). new_site party (length parties) limits.submissions in
+    ap {A = List (List (List ℕ))} {B = State} (λ l. record (state_of (opening_parts parties limits wires)) { wires = l })
     (table-all (λ w. numbers_of w.frames) [] (length parties) wires square (λ k d lt j e below. ap (λ (w : WireState). numbers_of w.frames) (empty k d lt j e below)))
-    ∙ ap {A = List (List LogEntry)} {B = State} (λ l. record (opening parties limits) { logs = l }) (logs_none 0 (length parties))
+    ∙ ap {A = List (List LogEntry)} {B = State} (λ l. record (opening parties limits) { submissions = map (λ (site : SiteState). site.submissions) (opening_sites (length parties) limits.submissions); logs = l })
+    (map-same make (λ (site : SiteState). site.log) [] 0 (length parties) (λ _. refl))
+    ∙ ap {A = List (List Message)} {B = State} (λ l. record (opening parties limits) { submissions = l })
+    (map-same make (λ (site : SiteState). site.submissions) [] 0 (length parties) (λ _. refl))
 
-pub opening_kept : (parties : List (List (List ℕ))) (limits : Bounds) (wires : List (List WireState)) (accepted : List (List ℕ))
+opening_kept : (parties : List (List (List ℕ))) (limits : Bounds) (wires : List (List WireState))
     → 1 ≤ length parties → length parties ≤ PARTIES_LIMIT → AreBounds limits
-    → IsSquare (length parties) wires → All (All (λ w. w ≡ new_wire limits.wire)) wires
-    → IsSquare (length parties) accepted → All (All (λ n. n ≡ 0)) accepted
-    → IsSystem (opening_parts parties limits wires accepted)
-opening_kept parties limits wires accepted some few bounds square empty counts none =
-    let sound : IsSound (state_of (opening_parts parties limits wires accepted)) = subst IsSound (sym (opening_is parties limits wires accepted square empty)) (opening-sound parties limits) in
+    → IsSquare (length parties) wires → All (All (λ w. w ≡ new_wire limits.wire)) wires → IsSystem (opening_parts parties limits wires)
+opening_kept parties limits wires some few bounds square empty =
+    let sound : IsSound (state_of (opening_parts parties limits wires)) = subst IsSound (sym (opening_is parties limits wires square empty)) (opening-sound parties limits) in
     record {
       well_formed = sound.well_formed;
       lawful = sound.lawful;
@@ -62,8 +66,9 @@ opening_kept parties limits wires accepted some few bounds square empty counts n
       parties_most = few;
       window = refl;
       bounds = bounds;
-      submissions_few = λ party. read-any (λ l. length l ≤ limits.submissions) (replicate (length parties) []) party []
-          (All-replicate (λ (l : List Message). length l ≤ limits.submissions) (length parties) [] (omega arith)) (omega arith);
+      sites = λ party lt. subst (IsSiteAt limits (length parties) party)
+          (sym (map-range_at (λ party. new_site party (length parties) limits.submissions) (new_site 0 0 0) 0 (length parties) party lt ∙ ap (λ n. new_site n (length parties) limits.submissions) (zero-add party)))
+          (record { party_is = refl; parties_are = refl; limit_is = refl; few = omega arith });
       wires_square = square;
       wires_fit = λ from to from_lt to_lt.
           subst (FitsWire limits.wire) (sym (cell-all (λ w. w ≡ new_wire limits.wire) (length parties) wires from to (new_wire 0) square empty from_lt to_lt))
@@ -72,10 +77,23 @@ opening_kept parties limits wires accepted some few bounds square empty counts n
           let of = IsFrameOf (items_on (new_hub parties limits.window) from to) in
           cell-any (λ (w : WireState). All of w.frames) wires from to (new_wire 0)
           (λ k d lt j e below. subst (λ (w : WireState). All of w.frames) (sym (empty k d lt j e below)) (All-nil of)) (All-nil of);
-      accepted_square = counts;
-      accepted = λ from to from_lt to_lt.
-          cell-all (λ n. n ≡ 0) (length parties) accepted from to 0 counts none from_lt to_lt
-          ∙ sym (ap (λ (st : State). applied_count st from to) (opening_is parties limits wires accepted square empty)
-          ∙ ap (λ l. length (Rattle.mv_repository.specs.Log.items_from l from)) (get_or-replicate (length parties) to [] [] to_lt));
-      owners = λ party lt. owner-at 0 (length parties) party lt ∙ omega arith;
     }
+
+-- what opens of these parts is the opening, and keeps what the system keeps
+pub record Opens (parties : List (List (List ℕ))) (limits : Bounds) (p : Parts) : Type 0 where
+  pub kept : IsSystem p
+  pub is : state_of p ≡ opening parties limits
+
+pub opens : (parties : List (List (List ℕ))) (limits : Bounds) (hub : HubState) (sites : List SiteState) (wires : List (List WireState)) (n size limit : ℕ)
+    → n ≡ length parties → size ≡ limits.wire → limit ≡ limits.submissions → hub ≡ new_hub parties limits.window → sites ≡ opening_sites n limit
+    → 1 ≤ length parties → length parties ≤ PARTIES_LIMIT → AreBounds limits → IsSquare n wires → All (All (λ w. w ≡ new_wire size)) wires → Opens parties limits (parts_of limits hub sites wires)
+opens parties limits hub sites wires n size limit count wire most hub_is sites_are some few bounds square empty =
+    let square : IsSquare (length parties) wires = subst (λ k. IsSquare k wires) count square in
+    let empty : All (All (λ w. w ≡ new_wire limits.wire)) wires = subst (λ k. All (All (λ w. w ≡ new_wire k)) wires) wire empty in
+    let sites_are : sites ≡ opening_sites (length parties) limits.submissions =
+    sites_are ∙ ap {B = List SiteState} (λ k. opening_sites k limit) count ∙ ap {B = List SiteState} (opening_sites (length parties)) most in
+    subst (λ h. Opens parties limits (parts_of limits h sites wires)) (sym hub_is)
+    (subst (λ l. Opens parties limits (parts_of limits (new_hub parties limits.window) l wires)) (sym sites_are) (record {
+      kept = opening_kept parties limits wires some few bounds square empty;
+      is = opening_is parties limits wires square empty;
+    }))

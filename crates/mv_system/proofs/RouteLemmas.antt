@@ -20,6 +20,7 @@ use Rattle.mv_machine.specs.State.{State, is_party, submissions_of}
 use Rattle.mv_machine.specs.Steps.{Outcome, refused, is_full, route_unless, route_front, route}
 use Rattle.mv_machine.proofs.BoundLemmas.{routed_count-few}
 use Rattle.mv_system.specs.World.{Parts, state_of, IsSystem, RouteRefuses}
+use Rattle.mv_system.proofs.SystemLemmas.{submissions-few}
 
 -- the row of a party with a message that waits
 pub route_waiting : (st : State) (from : ℕ) (message : Message) → is_party st from ≡ true → slice_get (submissions_of st from) (routed_count st.entries from) ≡ Some message
@@ -45,7 +46,7 @@ busy_is_full p from to message k from_lt =
     let more = gained-few p.hub.parties p.hub.entries from (routed_count p.hub.entries from + 1) message from to in
     let routed = routed_count-few (state_of p) from k.lawful from_lt in
     let numbers : nat_lt NUMBER_LIMIT (length (items_on p.hub from to) + length (next_items p.hub from message to)) ≡ false =
-    le-ltb _ _ (omega (arith, items, more, routed, k.submissions_few from, k.bounds.submissions_most)) in
+    le-ltb _ _ (omega (arith, items, more, routed, submissions-few p from k from_lt, k.bounds.submissions_most)) in
     ap (λ b. nat_lt p.hub.window (length (items_on p.hub from to) - sent_of p.hub from to + length (next_items p.hub from message to)) || b) numbers
     ∙ or-false _
     ∙ ap (λ w. nat_lt w (length (items_on p.hub from to) - sent_of p.hub from to + length (next_items p.hub from message to))) k.window

@@ -1,34 +1,40 @@
 -- What the parts of the system say of the list machine's lists, and what each change of a part keeps.
-use Rattle.std.proofs.Common.{◌≡◌, ℕ, zero, suc, ◌+◌, ◌*◌, ◌<◌, ◌≤◌, Bool, true, false, List, [], ◌∷◌, ◌++◌, length, get_or, set, cond, map, Some, sym, refl, ap, ◌∙◌, subst, arith, length-append, eqb, eqb-true, ltb-true, add-zero, append-nil, inl, inr, get_or-set_same, get_or-set_other}
-use Rattle.std.specs.Prelude.{All, slice_get, option_map, option_to_list, IsTrue, nat_lt, ◌&&◌, ◌||◌, None, Option, Result, Ok, Err, OnOk, OnErr}
-use Rattle.std.proofs.lemmas.Bool.{and_parts, eqb-false}
-use Rattle.std.proofs.lemmas.List.{set-get_or}
+use Rattle.std.proofs.Common.{◌≡◌, ℕ, zero, suc, ◌+◌, ◌-◌, ◌<◌, ◌≤◌, Bool, List, [], ◌∷◌, ◌++◌, length, get_or, set, map, drop, Some, sym, refl, ap, ◌∙◌, subst, arith, length-append, ltb-true}
+use Rattle.std.specs.Prelude.{All, slice_get, option_map, IsTrue, nat_lt, None, Option, Result, Ok, Err, IfOk, OnOk, OnErr, IsErrOf}
+use Rattle.std.proofs.lemmas.Bool.{and_parts}
+use Rattle.std.proofs.lemmas.List.{set-get_or, get_or_read, length-map}
 use Rattle.std.proofs.lemmas.List.Elements.{All-weaker, All-get_or}
 use Rattle.std.proofs.lemmas.Option.{slice_get_within, get_or_from_slice_get}
 use Rattle.mv_message.specs.declared.message.Message.{Message}
 use Rattle.mv_link.specs.declared.item.Item.{Item}
 use Rattle.mv_link.specs.declared.item.Frame.{Frame}
+use Rattle.mv_link.specs.declared.incoming.Look.{Look}
+use Rattle.mv_link.specs.declared.incoming.Look.TheVariants as look
 use Rattle.mv_link.specs.Frames.{IsFrameOf}
 use Rattle.mv_pairs.specs.Pairs.{cell, put, IsSquare}
-use Rattle.mv_pairs.proofs.PairsLemmas.{put-each, put-each_pair, square-put, square-map, cell-map, put-map, cell-put_same, cell-put_other}
+use Rattle.mv_pairs.proofs.PairsLemmas.{put-each, put-each_pair, square-put, square-map, cell-map, put-map}
 use Rattle.mv_hub.specs.declared.entry.Entry.{Entry}
 use Rattle.mv_hub.specs.Record.{routed_count}
 use Rattle.mv_hub.specs.Hub.{HubState, items_on}
 use Rattle.mv_link.specs.declared.limits.TheConstants.{NUMBER_LIMIT}
 use Rattle.mv_link.proofs.LinkLemmas.{of_longer}
-use Rattle.mv_machine.specs.declared.limits.TheConstants.{SUBMISSIONS_LIMIT}
-use Rattle.mv_hub.proofs.RecordLemmas.{link_items-push, link_items-few}
+use Rattle.mv_party.specs.declared.limits.TheConstants.{SUBMISSIONS_LIMIT}
+use Rattle.mv_hub.proofs.RecordLemmas.{link_items-push}
 use Rattle.mv_repository.specs.declared.entry.LogEntry.{LogEntry}
-use Rattle.mv_repository.specs.Log.{items_from}
 use Rattle.mv_repository.specs.Query.{answer_to}
-use Rattle.mv_repository.specs.Repository.{RepositoryState, new_repository, with_applied as repository_with}
-use Rattle.mv_machine.specs.State.{State, is_party, are_parties, submissions_of, is_uplink_full, is_sender_full, wire_of, log_of, applied_count, items_on as link_of}
-use Rattle.mv_machine.specs.Steps.{entry_from, next_item, next_answer, is_answer_busy, with_applied}
-use Rattle.mv_machine.proofs.PartLemmas.{items_from-push}
-use Rattle.mv_machine.proofs.LawfulLemmas.{IsSound, applied-sound}
-use Rattle.mv_machine.proofs.BoundLemmas.{routed_count-few, entries-few}
+use Rattle.mv_party.specs.declared.fault.SiteFault.{SiteFault}
+use Rattle.mv_party.specs.declared.fault.SiteFault.TheVariants.{Memory}
+use Rattle.mv_party.specs.declared.taken.Taken.{Taken}
+use Rattle.mv_party.specs.Site.{SiteState, new_site, entry_from, count_from, with_submission, with_applied, answers_in}
+use Rattle.mv_party.specs.Calls.{FailsBy, ask_fault, look_at, apply_fault, taken_by, with_taken}
+use Rattle.mv_party.proofs.SiteLemmas.{ask-free, answer-room, next-number}
+use Rattle.mv_machine.specs.State.{State, is_party, are_parties, submissions_of, is_uplink_full, wire_of, log_of, items_on as link_of, site_of, with_site}
+use Rattle.mv_machine.specs.Steps.{next_item}
+use Rattle.mv_machine.proofs.LawfulLemmas.{IsSound, submitted-sound, applied-sound}
+use Rattle.mv_machine.proofs.PrefixLemmas.{slice_get-append}
+use Rattle.mv_machine.proofs.BoundLemmas.{routed_count-few, record-few}
 use Rattle.mv_system.specs.Wire.{WireState, new_wire, numbers_of}
-use Rattle.mv_system.specs.World.{Parts, wire_at, repository_at, state_of, FitsWire, IsSystem, IsAnswerable}
+use Rattle.mv_system.specs.World.{Parts, wire_at, site_at, state_of, FitsWire, IsSiteAt, IsSystem, Submits, TakesFront}
 use Rattle.mv_system.proofs.WireLemmas.{length-numbers_of, numbers_of-front}
 
 pub sound_of : (p : Parts) → IsSystem p → IsSound (state_of p)
@@ -48,8 +54,51 @@ map-set f (x ∷ xs) (suc i) v = ap (λ l. f x ∷ l) (map-set f xs i v)
 pub wires-at : (wires : List (List WireState)) (from to : ℕ) → cell (map (map (λ w. numbers_of w.frames)) wires) from to [] ≡ numbers_of (wire_at wires from to).frames
 wires-at wires from to = cell-map (λ w. numbers_of w.frames) wires from to (new_wire 0)
 
-pub logs-at : (repositories : List RepositoryState) (party : ℕ) → get_or (map (λ r. r.log) repositories) party [] ≡ (repository_at repositories party).log
-logs-at repositories party = get_or-map_any (λ (r : RepositoryState). r.log) repositories party (new_repository 0)
+-- a party of the list machine has its place among the parts
+pub party-place : (p : Parts) (st : State) (party : ℕ) → state_of p ≡ st → IsTrue (is_party st party) → party < length p.hub.parties
+party-place p st party view is = subst (λ (t : State). IsTrue (is_party t party) → party < length p.hub.parties) view (ltb-true party (length p.hub.parties)) is
+
+-- what a party submitted and applied is what its part of the system says
+submissions-at : (p : Parts) (party : ℕ) → submissions_of (state_of p) party ≡ (site_at p.sites party).submissions
+submissions-at p party = get_or-map_any (λ (site : SiteState). site.submissions) p.sites party (new_site 0 0 0)
+
+logs-at : (p : Parts) (party : ℕ) → log_of (state_of p) party ≡ (site_at p.sites party).log
+logs-at p party = get_or-map_any (λ (site : SiteState). site.log) p.sites party (new_site 0 0 0)
+
+same_site : (a b : SiteState) → a.party ≡ b.party → a.parties ≡ b.parties → a.limit ≡ b.limit → a.submissions ≡ b.submissions → a.log ≡ b.log → a ≡ b
+same_site a b party parties limit submissions log =
+    ap {B = SiteState} (λ x. record a { party = x }) party ∙ ap {B = SiteState} (λ x. record a { party = b.party; parties = x }) parties
+    ∙ ap {B = SiteState} (λ x. record b { limit = x; submissions = a.submissions; log = a.log }) limit
+    ∙ ap {B = SiteState} (λ x. record b { submissions = x; log = a.log }) submissions ∙ ap {B = SiteState} (λ x. record b { log = x }) log
+
+-- a party of the system is the part that the list machine sees
+site_is : (p : Parts) (party : ℕ) (site : SiteState) → IsSystem p → party < length p.hub.parties → site ≡ site_at p.sites party → site ≡ site_of (state_of p) party
+site_is p party site k lt at =
+    let fits = k.sites party lt in
+    at ∙ same_site (site_at p.sites party) (site_of (state_of p) party) fits.party_is fits.parties_are fits.limit_is (sym (submissions-at p party)) (sym (logs-at p party))
+
+-- what is known of a party
+pub record SiteFacts (p : Parts) (st : State) (party : ℕ) (site : SiteState) : Type 0 where
+  pub place : party < length p.hub.parties
+  pub at : site ≡ site_at p.sites party
+  pub here : site ≡ site_of (state_of p) party
+  pub is : site ≡ site_of st party
+  pub few : length site.submissions ≤ site.limit
+
+pub site_facts : (p : Parts) (st : State) (party : ℕ) (site : SiteState)
+    → IsSystem p → state_of p ≡ st → party < length p.hub.parties → site ≡ get_or p.sites party site → SiteFacts p st party site
+site_facts p st party site k view lt read =
+    let each = length-map p.sites (λ (site : SiteState). site.submissions) in
+    let at : site ≡ site_at p.sites party = get_or_read p.sites party site (omega (arith, lt, each, k.well_formed.submissions_each)) read (new_site 0 0 0) in
+    let here = site_is p party site k lt at in
+    let fits = k.sites party lt in
+    record {
+      place = lt;
+      at = at;
+      here = here;
+      is = here ∙ ap (λ (t : State). site_of t party) view;
+      few = omega (arith, ap (λ (s : SiteState). length s.submissions) at, ap (λ (s : SiteState). s.limit) at, fits.few, fits.limit_is);
+    }
 
 -- what is known of the link between two parties
 pub record LinkFacts (p : Parts) (st : State) (from to : ℕ) (wire : WireState) : Type 0 where
@@ -110,33 +159,11 @@ wire_kept p from to wire k frames fits =
       parties_most = k.parties_most;
       window = k.window;
       bounds = k.bounds;
-      submissions_few = k.submissions_few;
+      sites = k.sites;
       wires_square = square;
       wires_fit = put-each_pair (λ i j w. i < length p.hub.parties → j < length p.hub.parties → FitsWire p.limits.wire w) p.wires from to wire (new_wire 0) (λ _ _. fits) k.wires_fit;
       frames = put-each_pair (λ i j w. All (IsFrameOf (items_on p.hub i j)) w.frames) p.wires from to wire (new_wire 0) frames k.frames;
-      accepted_square = k.accepted_square;
-      accepted = k.accepted;
-      owners = k.owners;
     }
-
--- the system with other submissions of one party
-pub submissions_kept : (p : Parts) (from : ℕ) (messages : List Message) → IsSystem p → IsSound (state_of (record p { submissions = set p.submissions from messages }))
-    → length messages ≤ p.limits.submissions → IsSystem (record p { submissions = set p.submissions from messages })
-submissions_kept p from messages k sound few = record {
-  well_formed = sound.well_formed;
-  lawful = sound.lawful;
-  parties_least = k.parties_least;
-  parties_most = k.parties_most;
-  window = k.window;
-  bounds = k.bounds;
-  submissions_few = put-each (λ party l. length l ≤ p.limits.submissions) p.submissions from messages [] few k.submissions_few;
-  wires_square = k.wires_square;
-  wires_fit = k.wires_fit;
-  frames = k.frames;
-  accepted_square = k.accepted_square;
-  accepted = k.accepted;
-  owners = k.owners;
-}
 
 -- the system with one more entry in the record
 pub entered_kept : (p : Parts) (entry : Entry) → IsSystem p → IsSound (state_of (record p { hub = record p.hub { entries = p.hub.entries ++ entry ∷ [] } }))
@@ -148,14 +175,11 @@ entered_kept p entry k sound = record {
   parties_most = k.parties_most;
   window = k.window;
   bounds = k.bounds;
-  submissions_few = k.submissions_few;
+  sites = k.sites;
   wires_square = k.wires_square;
   wires_fit = k.wires_fit;
   frames = λ from to. All-weaker (IsFrameOf (items_on p.hub from to)) _
       (λ frame of. subst (λ l. IsFrameOf l frame) (sym (link_items-push p.hub.parties p.hub.entries entry from to)) (of_longer _ _ frame of)) _ (k.frames from to);
-  accepted_square = k.accepted_square;
-  accepted = k.accepted;
-  owners = k.owners;
 }
 
 -- the hub answered a call, and is as the call leaves it: the parts keep what they keep where they do so of a success
@@ -183,153 +207,151 @@ sent_kept p sent k square = record {
   parties_most = k.parties_most;
   window = k.window;
   bounds = k.bounds;
-  submissions_few = k.submissions_few;
+  sites = k.sites;
   wires_square = k.wires_square;
   wires_fit = k.wires_fit;
   frames = k.frames;
-  accepted_square = k.accepted_square;
-  accepted = k.accepted;
-  owners = k.owners;
 }
 
--- what the parties submitted, once one of them submitted an answer, if there is one
-pub submissions_after : State → ℕ → Option Message → List (List Message)
-submissions_after st party answer = set st.submissions party (submissions_of st party ++ option_to_list answer)
+-- one party changed: what the list machine sees
+site_view : (p : Parts) (st : State) (site : SiteState) → state_of p ≡ st → state_of (record p { sites = set p.sites site.party site }) ≡ with_site st site
+site_view p st site view =
+    subst (λ (t : State). state_of (record p { sites = set p.sites site.party site }) ≡ with_site t site) view
+    (ap {A = List (List Message)} {B = State} (λ l. record (state_of p) { submissions = l; logs = map (λ (site : SiteState). site.log) (set p.sites site.party site) })
+    (map-set (λ (site : SiteState). site.submissions) p.sites site.party site)
+    ∙ ap {A = List (List LogEntry)} {B = State} (λ l. record (state_of p) { submissions = set (map (λ (site : SiteState). site.submissions) p.sites) site.party site.submissions; logs = l })
+    (map-set (λ (site : SiteState). site.log) p.sites site.party site))
 
-pub with_applied_is : (st : State) (party : ℕ) (entry : LogEntry) (answer : Option Message)
-    → with_applied st party entry answer ≡ record st { submissions = submissions_after st party answer; logs = set st.logs party (log_of st party ++ entry ∷ []) }
-unfolding submissions_after
-with_applied_is st party entry (Some answer) = refl
-with_applied_is st party entry None =
-    ap {A = List (List Message)} {B = State} (λ l. record st { submissions = l; logs = set st.logs party (log_of st party ++ entry ∷ []) })
-    (sym (ap (set st.submissions party) (append-nil (submissions_of st party)) ∙ set-get_or st.submissions party []))
+-- a party that has changed in nothing
+site_same : (p : Parts) (st : State) (party : ℕ) (site new : SiteState) → SiteFacts p st party site → new ≡ site → set p.sites party new ≡ p.sites
+site_same p st party site new facts same = ap (set p.sites party) (same ∙ facts.at) ∙ set-get_or p.sites party (new_site 0 0 0)
 
--- a repository applied an item from a sender, and its party submitted the answer, if there is one
-pub log_view : (p : Parts) (st : State) (from to : ℕ) (item : Item) (answer : Option Message) (accepted : List (List ℕ)) → state_of p ≡ st
-    → state_of (record p {
-      submissions = set p.submissions to (get_or p.submissions to [] ++ option_to_list answer);
-      accepted = accepted;
-      repositories = set p.repositories to (repository_with (repository_at p.repositories to) from item);
-    })
-    ≡ with_applied st to (entry_from from item) answer
-unfolding submissions_after
-log_view p st from to item answer accepted view =
-    subst (λ (t : State). state_of (record p {
-      submissions = set p.submissions to (get_or p.submissions to [] ++ option_to_list answer);
-      accepted = accepted;
-      repositories = set p.repositories to (repository_with (repository_at p.repositories to) from item);
-    }) ≡ with_applied t to (entry_from from item) answer) view
-    (ap {A = List (List LogEntry)} {B = State} (λ l. record (state_of p) { submissions = set p.submissions to (get_or p.submissions to [] ++ option_to_list answer); logs = l })
-    (map-set (λ (r : RepositoryState). r.log) p.repositories to (repository_with (repository_at p.repositories to) from item)
-    ∙ ap (λ log. set (map (λ (r : RepositoryState). r.log) p.repositories) to (log ++ entry_from from item ∷ [])) (sym (logs-at p.repositories to)))
-    ∙ sym (with_applied_is (state_of p) to (entry_from from item) answer))
+-- what the list machine sees of a call to a party
+site_ok : {A : Type 0} (p : Parts) (st : State) (party : ℕ) (site new : SiteState) (after : SiteState → SiteState) (result : Result A SiteFault) → state_of p ≡ st
+    → SiteFacts p st party site → (after (site_of st party)).party ≡ party → OnOk result (new ≡ after site)
+    → OnOk result (state_of (record p { sites = set p.sites party new }) ≡ with_site st (after (site_of st party)))
+site_ok p st party site new after (Err fault) view facts own ok = tt
+site_ok p st party site new after (Ok value) view facts own ok =
+    let is : new ≡ after (site_of st party) = ok ∙ ap after facts.is in
+    ap (λ s. state_of (record p { sites = set p.sites party s })) is
+    ∙ subst (λ i. state_of (record p { sites = set p.sites i (after (site_of st party)) }) ≡ with_site st (after (site_of st party))) own (site_view p st (after (site_of st party)) view)
 
-length-one_if : {A : Type 0} (b : Bool) (x : A) → length (cond b (x ∷ []) []) ≡ cond b 1 0
-length-one_if true x = refl
-length-one_if false x = refl
+site_err : {A : Type 0} (p : Parts) (st : State) (party : ℕ) (site new : SiteState) (result : Result A SiteFault) → state_of p ≡ st
+    → SiteFacts p st party site → OnErr result (new ≡ site) → OnErr result (state_of (record p { sites = set p.sites party new }) ≡ st)
+site_err p st party site new (Ok value) view facts err = tt
+site_err p st party site new (Err fault) view facts err = ap (λ l. state_of (record p { sites = l })) (site_same p st party site new facts err) ∙ view
 
--- how many items of each sender each repository applied, once one more of a sender is applied
-applied_more : (st : State) (from to i j : ℕ) (item : Item) (submissions : List (List Message)) → to < length st.logs
-    → applied_count (record st { submissions = submissions; logs = set st.logs to (log_of st to ++ record { sender = from; item = item } ∷ []) }) i j
-    ≡ applied_count st i j + cond (eqb to j && eqb from i) 1 0
-applied_more st from to i j item submissions lt = by (eqb to j) refl
-  where
-    log : List LogEntry
-    log = log_of st to ++ record { sender = from; item = item } ∷ []
-
-    by : (same : Bool) → eqb to j ≡ same → length (items_from (get_or (set st.logs to log) j []) i) ≡ length (items_from (get_or st.logs j []) i) + cond (eqb to j && eqb from i) 1 0
-    by true e =
-        subst (λ r. length (items_from (get_or (set st.logs to log) r []) i) ≡ length (items_from (get_or st.logs r []) i) + cond (eqb to j && eqb from i) 1 0) (eqb-true to j e)
-        (ap (λ l. length (items_from l i)) (get_or-set_same st.logs to log [] lt)
-        ∙ ap length (items_from-push (log_of st to) (record { sender = from; item = item }) i)
-        ∙ length-append (items_from (log_of st to) i) (cond (eqb from i) (item ∷ []) [])
-        ∙ ap (λ n. length (items_from (log_of st to) i) + n) (length-one_if (eqb from i) item ∙ ap (λ b. cond (b && eqb from i) 1 0) (sym e)))
-    by false e =
-        ap (λ l. length (items_from l i)) (get_or-set_other st.logs to j log [] (λ same. eqb-false to j e (sym same)))
-        ∙ sym (ap (λ b. length (items_from (get_or st.logs j []) i) + cond (b && eqb from i) 1 0) e ∙ add-zero (length (items_from (get_or st.logs j []) i)))
-
--- the counts of what was applied, once one of them is greater by one
-accepted_more : (n : ℕ) (t : List (List ℕ)) (from to i j : ℕ) → IsSquare n t → from < n → to < n
-    → cell (put t from to (cell t from to 0 + 1)) i j 0 ≡ cell t i j 0 + cond (eqb to j && eqb from i) 1 0
-accepted_more n t from to i j square from_lt to_lt = by (eqb to j) (eqb from i) refl refl
-  where
-    by : (a b : Bool) → eqb to j ≡ a → eqb from i ≡ b → cell (put t from to (cell t from to 0 + 1)) i j 0 ≡ cell t i j 0 + cond (eqb to j && eqb from i) 1 0
-    by true true e f =
-        rw (e, f)
-        (subst (λ r. cell (put t from to (cell t from to 0 + 1)) i r 0 ≡ cell t i r 0 + 1) (eqb-true to j e)
-        (subst (λ s. cell (put t from to (cell t from to 0 + 1)) s to 0 ≡ cell t s to 0 + 1) (eqb-true from i f)
-        (cell-put_same n t from to (cell t from to 0 + 1) 0 square from_lt to_lt)))
-    by false b e f = rw e (cell-put_other t from to i j _ 0 (inr (λ same. eqb-false to j e (sym same))) ∙ sym (add-zero (cell t i j 0)))
-    by true false e f = rw (e, f) (cell-put_other t from to i j _ 0 (inl (λ same. eqb-false from i f (sym same))) ∙ sym (add-zero (cell t i j 0)))
-
--- where an answer can be submitted, there is room for it
-answer_fits : (st : State) (party : ℕ) (answer : Option Message) → length (submissions_of st party) ≤ st.limits.submissions → is_answer_busy st party answer ≡ false
-    → length (submissions_of st party ++ option_to_list answer) ≤ st.limits.submissions
-answer_fits st party None few free = omega (arith, few, length-append (submissions_of st party) [])
-answer_fits st party (Some answer) few free =
-    let not_full : is_sender_full st party ≡ false = neither (is_uplink_full st party) (is_sender_full st party) free in
-    omega (arith, few, eqb-false (length (submissions_of st party)) st.limits.submissions not_full, length-append (submissions_of st party) (answer ∷ []))
-  where
-    neither : (a b : Bool) → (a || b) ≡ false → b ≡ false
-    neither false b e = e
-    neither true b e = absurd (cc)
-
--- the system once a repository applied the next item of a sender, and its party submitted the answer that it calls for
-pub logged_kept : (p : Parts) (from to : ℕ) (item : Item) (answer : Option Message) → IsSystem p → from < length p.hub.parties → to < length p.hub.parties
-    → next_item (state_of p) from to ≡ Some item
-    → answer_to (log_of (state_of p) to) (entry_from from item) ≡ answer
-    → is_answer_busy (state_of p) to answer ≡ false
-    → IsSystem (record p {
-      submissions = set p.submissions to (get_or p.submissions to [] ++ option_to_list answer);
-      accepted = put p.accepted from to (cell p.accepted from to 0 + 1);
-      repositories = set p.repositories to (repository_with (repository_at p.repositories to) from item);
-    })
-unfolding submissions_after
-logged_kept p from to item answer k from_lt to_lt next called free =
-    let more = put p.accepted from to (cell p.accepted from to 0 + 1) in
-    let submissions = set p.submissions to (get_or p.submissions to [] ++ option_to_list answer) in
-    let seen = log_view p (state_of p) from to item answer more refl in
-    let whole = seen ∙ with_applied_is (state_of p) to (entry_from from item) answer in
-    let sound : IsSound (state_of (record p { submissions = submissions; accepted = more; repositories = set p.repositories to (repository_with (repository_at p.repositories to) from item) })) =
-    subst IsSound (sym seen) (applied-sound (state_of p) from to item answer (sound_of p k) from_lt to_lt next called) in
+-- the system with a party that changed
+put_kept : (p : Parts) (site : SiteState) → IsSystem p → IsSound (with_site (state_of p) site) → IsSiteAt p.limits (length p.hub.parties) site.party site
+    → IsSystem (record p { sites = set p.sites site.party site })
+put_kept p site k sound fits =
+    let after : IsSound (state_of (record p { sites = set p.sites site.party site })) = subst IsSound (sym (site_view p (state_of p) site refl)) sound in
     record {
-      well_formed = sound.well_formed;
-      lawful = sound.lawful;
+      well_formed = after.well_formed;
+      lawful = after.lawful;
       parties_least = k.parties_least;
       parties_most = k.parties_most;
       window = k.window;
       bounds = k.bounds;
-      submissions_few = put-each (λ party l. length l ≤ p.limits.submissions) p.submissions to (get_or p.submissions to [] ++ option_to_list answer) []
-          (answer_fits (state_of p) to answer (k.submissions_few to) free) k.submissions_few;
+      sites = put-each (λ party s. party < length p.hub.parties → IsSiteAt p.limits (length p.hub.parties) party s) p.sites site.party site (new_site 0 0 0) (λ _. fits) k.sites;
       wires_square = k.wires_square;
       wires_fit = k.wires_fit;
       frames = k.frames;
-      accepted_square = square-put (length p.hub.parties) p.accepted from to _ k.accepted_square;
-      accepted = λ i j i_lt j_lt.
-          accepted_more (length p.hub.parties) p.accepted from to i j k.accepted_square from_lt to_lt
-          ∙ ap (λ n. n + cond (eqb to j && eqb from i) 1 0) (k.accepted i j i_lt j_lt)
-          ∙ sym (applied_more (state_of p) from to i j item submissions (omega (arith, k.well_formed.logs_each, to_lt)))
-          ∙ ap (λ (t : State). applied_count t i j) (sym whole);
-      owners = put-each (λ party r. party < length p.hub.parties → r.party ≡ party) p.repositories to (repository_with (repository_at p.repositories to) from item) (new_repository 0)
-          (k.owners to) k.owners;
     }
 
--- the front frame of the next number bears the next item of the link
-pub front_item : (p : Parts) (st : State) (from to : ℕ) (wire : WireState) (frame : Frame)
-    → LinkFacts p st from to wire → slice_get wire.frames 0 ≡ Some frame → slice_get (wire_of st from to) 0 ≡ Some (applied_count st from to + 1)
-    → slice_get (link_of st from to) (applied_count st from to) ≡ Some frame.item
-front_item p st from to wire frame facts front next =
-    let x : Some frame.number ≡ slice_get (wire_of st from to) 0 = sym (ap (λ l. slice_get l 0) (sym facts.seen) ∙ numbers_of-front wire.frames ∙ ap (option_map (λ f. f.number)) front) in
-    let number : frame.number ≡ applied_count st from to + 1 = cc in
+-- a party submitted a message, or refused to, as the list machine's does
+pub submits : (p : Parts) (st : State) (party : ℕ) (site new : SiteState) (message : Message) (fault : SiteState → Option SiteFault) (result : Result ℕ SiteFault)
+    → state_of p ≡ st → SiteFacts p st party site → IfOk result (λ k. k ≡ length site.submissions + 1) → OnOk result (new ≡ with_submission site message)
+    → OnErr result (new ≡ site) → FailsBy (fault site) result → Submits st party message (fault (site_of st party)) result (state_of (record p { sites = set p.sites party new }))
+submits p st party site new message fault result view facts number ok err fails = record {
+  number = subst (λ (s : SiteState). IfOk result (λ k. k ≡ length s.submissions + 1)) facts.is number;
+  ok = site_ok p st party site new (λ s. with_submission s message) result view facts refl ok;
+  err = site_err p st party site new result view facts err;
+  fault = subst (λ s. FailsBy (fault s) result) facts.is fails;
+}
+
+-- the system once a party submitted a message, or refused to
+pub submission_kept : {A : Type 0} (p : Parts) (st : State) (party : ℕ) (site new : SiteState) (message : Message) (full : Bool) (fault : Option SiteFault) (result : Result A SiteFault)
+    → IsSystem p → SiteFacts p st party site → OnOk result (new ≡ with_submission site message) → OnErr result (new ≡ site) → FailsBy fault result
+    → (fault ≡ None → (answers_in (message ∷ []) ≡ []) × (ask_fault full site ≡ None)) → IsSystem (record p { sites = set p.sites party new })
+submission_kept p st party site new message full fault (Err refused) k facts ok err fails free =
+    subst (λ l. IsSystem (record p { sites = l })) (sym (site_same p st party site new facts err)) k
+submission_kept p st party site new message full fault (Ok value) k facts ok err fails free =
+    subst (λ s. IsSystem (record p { sites = set p.sites party s })) (sym (ok ∙ ap (λ s. with_submission s message) facts.here))
+    (put_kept p (with_submission (site_of (state_of p) party) message) k (submitted-sound (state_of p) party message (sound_of p k) (free fails).0) (record {
+      party_is = refl;
+      parties_are = refl;
+      limit_is = refl;
+      few = omega (arith, facts.few, (ask-free full site (free fails).1).1, ap (λ (s : SiteState). length s.submissions) facts.here, ap (λ (s : SiteState). s.limit) facts.here, length-append (submissions_of (state_of p) party) (message ∷ []));
+    }))
+
+-- the system once a party took a frame, or refused it
+pub taken_kept : {A : Type 0} (p : Parts) (st : State) (from to : ℕ) (site new : SiteState) (item : Item) (stands : Look) (full : Bool) (result : Result A SiteFault)
+    → IsSystem p → SiteFacts p st to site → from < length p.hub.parties → (stands ≡ look.Next → next_item (state_of p) from to ≡ Some item)
+    → OnOk result (new ≡ with_taken site from item stands) → OnErr result (new ≡ site) → FailsBy (apply_fault full site from item stands) result
+    → IsSystem (record p { sites = set p.sites to new })
+taken_kept p st from to site new item stands full (Err refused) k facts lt next ok err fails = subst (λ l. IsSystem (record p { sites = l })) (sym (site_same p st to site new facts err)) k
+taken_kept p st from to site new item look.Old full (Ok value) k facts lt next ok err fails = subst (λ l. IsSystem (record p { sites = l })) (sym (site_same p st to site new facts ok)) k
+taken_kept p st from to site new item (look.Gap expected) full (Ok value) k facts lt next ok err fails = subst (λ l. IsSystem (record p { sites = l })) (sym (site_same p st to site new facts ok)) k
+taken_kept p st from to site new item look.Next full (Ok value) k facts lt next ok err fails =
+    subst (λ s. IsSystem (record p { sites = set p.sites to s })) (sym (ok ∙ ap (λ s. with_applied s from item) facts.here))
+    (put_kept p (with_applied (site_of (state_of p) to) from item) k (applied-sound (state_of p) from to item (sound_of p k) lt (next refl)) (record {
+      party_is = refl;
+      parties_are = refl;
+      limit_is = refl;
+      few = subst (λ (s : SiteState). length (with_applied s from item).submissions ≤ s.limit) facts.here
+          (answer-room full site (answer_to site.log (entry_from from item)) facts.few fails);
+    }))
+
+-- the front frame of a wire, as the list machine sees it
+front_number : (p : Parts) (st : State) (from to : ℕ) (wire : WireState) (frame : Frame)
+    → LinkFacts p st from to wire → slice_get wire.frames 0 ≡ Some frame → slice_get (wire_of st from to) 0 ≡ Some frame.number
+front_number p st from to wire frame facts front =
+    ap (λ l. slice_get l 0) (sym facts.seen) ∙ numbers_of-front wire.frames ∙ ap (option_map (λ f. f.number)) front
+
+front_item : (p : Parts) (st : State) (from to : ℕ) (wire : WireState) (frame : Frame)
+    → LinkFacts p st from to wire → slice_get wire.frames 0 ≡ Some frame → slice_get (link_of st from to) (frame.number - 1) ≡ Some frame.item
+front_item p st from to wire frame facts front =
     let of = All-get_or (IsFrameOf (items_on p.hub from to)) wire.frames 0 frame (slice_get_within wire.frames 0 frame front) facts.frames in
-    ap (λ l. slice_get l (applied_count st from to)) facts.linked ∙ ap (slice_get (items_on p.hub from to)) (omega (arith, number))
+    ap (λ l. slice_get l (frame.number - 1)) facts.linked
     ∙ (subst (IsFrameOf (items_on p.hub from to)) (get_or_from_slice_get wire.frames 0 frame frame front) of).1
 
--- a party of the list machine has its place among the parts
-pub party-place : (p : Parts) (st : State) (party : ℕ) → state_of p ≡ st → IsTrue (is_party st party) → party < length p.hub.parties
-party-place p st party view is = subst (λ (t : State). IsTrue (is_party t party) → party < length p.hub.parties) view (ltb-true party (length p.hub.parties)) is
+with_taken-party : (site : SiteState) (sender : ℕ) (item : Item) (stands : Look) → (with_taken site sender item stands).party ≡ site.party
+with_taken-party site sender item look.Next = refl
+with_taken-party site sender item look.Old = refl
+with_taken-party site sender item (look.Gap expected) = refl
 
--- the same of two parties
+-- a frame that is the next bears the next item of its link
+pub next_of : (p : Parts) (st : State) (from to : ℕ) (wire : WireState) (frame : Frame) (site : SiteState) → state_of p ≡ st → LinkFacts p st from to wire → SiteFacts p st to site
+    → slice_get wire.frames 0 ≡ Some frame → look_at (count_from site.log from) frame.number ≡ look.Next → next_item (state_of p) from to ≡ Some frame.item
+next_of p st from to wire frame site view link facts front next =
+    let place : count_from (log_of st to) from ≡ frame.number - 1 =
+    omega (arith, next-number (count_from site.log from) frame.number next, ap (λ (s : SiteState). count_from s.log from) facts.is) in
+    subst (λ (t : State). next_item t from to ≡ Some frame.item) (sym view) (ap (slice_get (link_of st from to)) place ∙ front_item p st from to wire frame link front)
+
+-- a party took the frame in front of a wire, or refused it, as the list machine's does
+pub takes : (p : Parts) (st : State) (from to : ℕ) (wire : WireState) (frame : Frame) (site new : SiteState) (full : Bool) (result : Result Taken SiteFault)
+    → state_of p ≡ st → LinkFacts p st from to wire → SiteFacts p st to site → slice_get wire.frames 0 ≡ Some frame → full ≡ is_uplink_full st to
+    → IfOk result (λ taken. taken ≡ taken_by site from frame.item (look_at (count_from site.log from) frame.number))
+    → OnOk result (new ≡ with_taken site from frame.item (look_at (count_from site.log from) frame.number))
+    → OnErr result (new ≡ site) → FailsBy (apply_fault full site from frame.item (look_at (count_from site.log from) frame.number)) result
+    → (IsErrOf result Memory → look_at (count_from site.log from) frame.number ≡ look.Next)
+    → TakesFront st from to result (state_of (record p { sites = set p.sites to new }))
+takes p st from to wire frame site new full result view link facts front full_is value ok err fails memory = record {
+  number = frame.number;
+  item = frame.item;
+  front = front_number p st from to wire frame link front;
+  member = front_item p st from to wire frame link front;
+  answered = subst (λ (s : SiteState). IfOk result (λ taken. taken ≡ taken_by s from frame.item (look_at (count_from s.log from) frame.number))) facts.is value;
+  ok = site_ok p st to site new (λ s. with_taken s from frame.item (look_at (count_from s.log from) frame.number)) result view facts
+      (with_taken-party (site_of st to) from frame.item (look_at (count_from (log_of st to) from) frame.number)) ok;
+  err = site_err p st to site new result view facts err;
+  fault = subst (λ b. FailsBy (apply_fault b (site_of st to) from frame.item (look_at (count_from (log_of st to) from) frame.number)) result) full_is
+      (subst (λ (s : SiteState). FailsBy (apply_fault full s from frame.item (look_at (count_from s.log from) frame.number)) result) facts.is fails);
+  memory = subst (λ (s : SiteState). IsErrOf result Memory → look_at (count_from s.log from) frame.number ≡ look.Next) facts.is memory;
+}
+
+-- two parties of the list machine have their places among the parts
 pub record ArePlaces (p : Parts) (from to : ℕ) : Type 0 where
   pub from_party : from < length p.hub.parties
   pub to_party : to < length p.hub.parties
@@ -340,13 +362,9 @@ parties-places p st from to view both =
     let parts = and_parts (nat_lt from (length p.hub.parties)) (nat_lt to (length p.hub.parties)) both in
     record { from_party = ltb-true from (length p.hub.parties) parts.0; to_party = ltb-true to (length p.hub.parties) parts.1 }) both
 
--- what a repository applied of a sender is far from 2 ^ 32 items
-pub applied_count-few : (p : Parts) (from to : ℕ) → IsSystem p → ArePlaces p from to → applied_count (state_of p) from to ≤ 2 * SUBMISSIONS_LIMIT
-applied_count-few p from to k places =
-    let order = (k.lawful.of_link from to places.from_party places.to_party).applied in
-    let items = link_items-few p.hub.parties p.hub.entries from to in
-    let routed = routed_count-few (state_of p) from k.lawful places.from_party in
-    omega (arith, ap length order.1, length-append (items_from (log_of (state_of p) to) from) order.0, items, routed, k.submissions_few from, k.bounds.submissions_most)
+-- no party submitted more than it may
+pub submissions-few : (p : Parts) (party : ℕ) → IsSystem p → party < length p.hub.parties → length (submissions_of (state_of p) party) ≤ p.limits.submissions
+submissions-few p party k lt = omega (arith, ap length (submissions-at p party), (k.sites party lt).few)
 
 -- what waits of a party's submissions
 pub waiting-count : (p : Parts) (party : ℕ) → IsSystem p → party < length p.hub.parties → routed_count p.hub.entries party ≤ length (submissions_of (state_of p) party)
@@ -355,59 +373,5 @@ waiting-count p party k lt = routed_count-few (state_of p) party k.lawful lt
 -- the record is short enough for one more entry
 pub entries-short : (p : Parts) → IsSystem p → length p.hub.entries < NUMBER_LIMIT
 entries-short p k =
-    let few = entries-few (state_of p) k.lawful k.parties_most (λ party. omega (arith, k.submissions_few party, k.bounds.submissions_most)) in omega (arith, few)
-
--- what a repository applied, and what its party submitted then, as the parts keep them
-pub record IsLogged (p : Parts) (st : State) (from to : ℕ) (item : Item) (repository : RepositoryState) (messages new_messages : List Message) (new_repository : RepositoryState) (count : ℕ) : Type 0 where
-  pub kept : IsSystem (record p {
-    submissions = set p.submissions to new_messages;
-    accepted = put p.accepted from to count;
-    repositories = set p.repositories to new_repository;
-  })
-  pub seen : (accepted : List (List ℕ)) → state_of (record p {
-    submissions = set p.submissions to new_messages;
-    accepted = accepted;
-    repositories = set p.repositories to new_repository;
-  }) ≡ with_applied st to (entry_from from item) (answer_to (log_of st to) (entry_from from item))
-  pub log_is : repository.log ≡ log_of st to
-  pub messages_are : messages ≡ submissions_of st to
-
-pub is_logged : (p : Parts) (st : State) (from to : ℕ) (item : Item) (repository : RepositoryState) (messages new_messages : List Message) (new_repository : RepositoryState) (count : ℕ)
-    → IsSystem p → state_of p ≡ st → ArePlaces p from to → next_item st from to ≡ Some item → IsAnswerable st from to
-    → repository ≡ repository_at p.repositories to → messages ≡ get_or p.submissions to []
-    → new_messages ≡ messages ++ option_to_list (answer_to repository.log (entry_from from item))
-    → new_repository ≡ repository_with repository from item
-    → count ≡ cell p.accepted from to 0 + 1
-    → IsLogged p st from to item repository messages new_messages new_repository count
-is_logged p st from to item repository messages new_messages new_repository count k view places next free old_repository old_messages now_messages now_repository now_count =
-    subst (λ (t : State). next_item t from to ≡ Some item → IsAnswerable t from to → IsLogged p t from to item repository messages new_messages new_repository count) view here next free
-  where
-    log_is : repository.log ≡ log_of (state_of p) to
-    log_is = ap (λ (r : RepositoryState). r.log) old_repository ∙ sym (logs-at p.repositories to)
-
-    answer : Option Message
-    answer = answer_to (log_of (state_of p) to) (entry_from from item)
-
-    more : new_messages ≡ get_or p.submissions to [] ++ option_to_list (answer_to (log_of (state_of p) to) (entry_from from item))
-    more =
-        now_messages ∙ ap (λ l. l ++ option_to_list (answer_to repository.log (entry_from from item))) old_messages
-        ∙ ap (λ l. get_or p.submissions to [] ++ option_to_list (answer_to l (entry_from from item))) log_is
-
-    with_item : new_repository ≡ repository_with (repository_at p.repositories to) from item
-    with_item = now_repository ∙ ap (λ r. repository_with r from item) old_repository
-
-    here : next_item (state_of p) from to ≡ Some item → IsAnswerable (state_of p) from to → IsLogged p (state_of p) from to item repository messages new_messages new_repository count
-    here next free =
-        let none : is_answer_busy (state_of p) to answer ≡ false = ap (λ o. is_answer_busy (state_of p) to (next_answer (state_of p) from to o)) (sym next) ∙ free in
-        record {
-          kept = subst (λ n. IsSystem (record p { submissions = set p.submissions to new_messages; accepted = put p.accepted from to n; repositories = set p.repositories to new_repository })) (sym now_count)
-              (subst (λ (r : RepositoryState). IsSystem (record p { submissions = set p.submissions to new_messages; accepted = put p.accepted from to (cell p.accepted from to 0 + 1); repositories = set p.repositories to r })) (sym with_item)
-              (subst (λ (l : List Message). IsSystem (record p { submissions = set p.submissions to l; accepted = put p.accepted from to (cell p.accepted from to 0 + 1); repositories = set p.repositories to (repository_with (repository_at p.repositories to) from item) })) (sym more)
-              (logged_kept p from to item answer k places.from_party places.to_party next refl none)));
-          seen = λ accepted.
-              subst (λ (r : RepositoryState). state_of (record p { submissions = set p.submissions to new_messages; accepted = accepted; repositories = set p.repositories to r }) ≡ with_applied (state_of p) to (entry_from from item) answer) (sym with_item)
-              (subst (λ (l : List Message). state_of (record p { submissions = set p.submissions to l; accepted = accepted; repositories = set p.repositories to (repository_with (repository_at p.repositories to) from item) }) ≡ with_applied (state_of p) to (entry_from from item) answer) (sym more)
-              (log_view p (state_of p) from to item answer accepted refl));
-          log_is = log_is;
-          messages_are = old_messages;
-        }
+    let few = record-few (length p.hub.parties) p.hub.entries k.lawful.of_record k.parties_most
+    (λ party lt. omega (arith, waiting-count p party k lt, submissions-few p party k lt, k.bounds.submissions_most)) in omega (arith, few)

@@ -1,5 +1,5 @@
 -- What the system is seen as, the state of the list machine, and what it keeps beside that.
-use Rattle.std.specs.Prelude.{◌≡◌, All, ◌<◌, ◌≤◌, ℕ, List, [], length, map, slice_index_or, IsTrue, false, Option, Some}
+use Rattle.std.specs.Prelude.{◌≡◌, All, ◌<◌, ◌≤◌, ◌+◌, ◌-◌, ◌==◌, ℕ, List, [], ◌∷◌, length, map, slice_index_or, slice_get, IsTrue, Bool, true, false, Option, Some, Result, Ok, Err, IfOk, OnOk, OnErr, IsErrOf}
 use Rattle.mv_message.specs.declared.message.Message.{Message}
 use Rattle.mv_link.specs.Frames.{IsFrameOf}
 use Rattle.mv_link.specs.declared.limits.TheConstants.{PARTIES_LIMIT}
@@ -8,15 +8,20 @@ use Rattle.mv_hub.specs.Hub.{HubState, items_on}
 use Rattle.mv_hub.specs.declared.fault.RouteFault.{RouteFault}
 use Rattle.mv_hub.specs.declared.fault.RouteFault.TheVariants.{StrangerParty, Busy, Memory}
 use Rattle.mv_link.specs.declared.item.Item.{Item}
-use Rattle.mv_repository.specs.declared.effect.Effect.{Effect}
-use Rattle.mv_repository.specs.Effect.{effect_of}
-use Rattle.mv_repository.specs.Query.{answer_to}
-use Rattle.mv_repository.specs.Repository.{RepositoryState, new_repository}
+use Rattle.mv_link.specs.declared.incoming.Look.TheVariants.{Next}
+use Rattle.mv_party.specs.declared.fault.SiteFault.{SiteFault}
+use Rattle.mv_party.specs.declared.fault.SiteFault.TheVariants.{Memory as SiteMemory}
+use Rattle.mv_party.specs.declared.taken.Taken.{Taken}
+use Rattle.mv_party.specs.declared.taken.Taken.TheVariants.{Applied, Old, Gap}
+use Rattle.mv_party.specs.Site.{SiteState, new_site, with_submission}
+use Rattle.mv_party.specs.Calls.{FailsBy, look_at, apply_fault, taken_by, with_taken}
+use Rattle.mv_machine.specs.declared.reply.Reply.{Reply}
+use Rattle.mv_machine.specs.declared.reply.Reply.TheVariants as reply
 use Rattle.mv_machine.specs.declared.reply.Refusal.TheVariants.{Busy as BusyLink}
 use Rattle.mv_machine.specs.Limits.{Bounds, AreBounds}
 use Rattle.mv_machine.specs.Replies.{takes_memory}
-use Rattle.mv_machine.specs.State.{State, submissions_of, applied_count, log_of}
-use Rattle.mv_machine.specs.Steps.{refused, route, entry_from, next_item, next_answer, is_answer_busy, answer_number, with_applied}
+use Rattle.mv_machine.specs.State.{State, submissions_of, is_uplink_full, wire_of, items_on as items_on_link, applied_count, site_of, with_site}
+use Rattle.mv_machine.specs.Steps.{refused, route}
 use Rattle.mv_machine.specs.Lawful.{IsLawful, IsWellFormed}
 use Rattle.mv_system.specs.Wire.{WireState, new_wire, numbers_of}
 
@@ -24,40 +29,31 @@ use Rattle.mv_system.specs.Wire.{WireState, new_wire, numbers_of}
 pub record Parts : Type 0 where
   pub limits : Bounds
   pub hub : HubState
-  pub submissions : List (List Message)  -- what each party submitted, party 0 first
+  pub sites : List SiteState  -- the parties, party 0 first
   pub wires : List (List WireState)  -- what is under way on each link, by sender and receiver
-  pub accepted : List (List ℕ)  -- how many frames of each link were applied, by sender and receiver
-  pub repositories : List RepositoryState  -- of each party, party 0 first
 
 -- the parts, put together
-abbrev pub parts_of : Bounds → HubState → List (List Message) → List (List WireState) → List (List ℕ) → List RepositoryState → Parts
-parts_of limits hub submissions wires accepted repositories = record {
-  limits = limits;
-  hub = hub;
-  submissions = submissions;
-  wires = wires;
-  accepted = accepted;
-  repositories = repositories;
-}
+abbrev pub parts_of : Bounds → HubState → List SiteState → List (List WireState) → Parts
+parts_of limits hub sites wires = record { limits = limits; hub = hub; sites = sites; wires = wires }
 
 -- the wire of a link, by sender and receiver
 abbrev pub wire_at : List (List WireState) → ℕ → ℕ → WireState
 wire_at wires from to = cell wires from to (new_wire 0)
 
--- the repository of a party
-abbrev pub repository_at : List RepositoryState → ℕ → RepositoryState
-repository_at repositories party = slice_index_or repositories party (new_repository 0)
+-- one party
+abbrev pub site_at : List SiteState → ℕ → SiteState
+site_at sites party = slice_index_or sites party (new_site 0 0 0)
 
 -- the lists of the list machine
 abbrev pub state_of : Parts → State
 state_of p = record {
   parties = p.hub.parties;
   limits = p.limits;
-  submissions = p.submissions;
+  submissions = map (λ site. site.submissions) p.sites;
   entries = p.hub.entries;
   sent = p.hub.sent;
   wires = map (map (λ w. numbers_of w.frames)) p.wires;
-  logs = map (λ r. r.log) p.repositories;
+  logs = map (λ site. site.log) p.sites;
 }
 
 -- the hub, as the lists of the list machine show it
@@ -69,6 +65,13 @@ pub record FitsWire (limit : ℕ) (wire : WireState) : Type 0 where
   pub size : wire.size ≡ limit
   pub within : length wire.frames ≤ limit
 
+-- this is the party of a number, one of so many, within its limit
+pub record IsSiteAt (limits : Bounds) (parties party : ℕ) (site : SiteState) : Type 0 where
+  pub party_is : site.party ≡ party
+  pub parties_are : site.parties ≡ parties
+  pub limit_is : site.limit ≡ limits.submissions
+  pub few : length site.submissions ≤ limits.submissions
+
 -- what the system keeps
 pub record IsSystem (p : Parts) : Type 0 where
   pub well_formed : IsWellFormed (state_of p)
@@ -77,27 +80,36 @@ pub record IsSystem (p : Parts) : Type 0 where
   pub parties_most : length p.hub.parties ≤ PARTIES_LIMIT
   pub window : p.hub.window ≡ p.limits.window
   pub bounds : AreBounds p.limits
-  pub submissions_few : (party : ℕ) → length (slice_index_or p.submissions party []) ≤ p.limits.submissions
+  pub sites : (party : ℕ) → party < length p.hub.parties → IsSiteAt p.limits (length p.hub.parties) party (site_at p.sites party)
   pub wires_square : IsSquare (length p.hub.parties) p.wires
   pub wires_fit : (from to : ℕ) → from < length p.hub.parties → to < length p.hub.parties
       → FitsWire p.limits.wire (wire_at p.wires from to)
   pub frames : (from to : ℕ) → All (IsFrameOf (items_on p.hub from to)) (wire_at p.wires from to).frames
-  pub accepted_square : IsSquare (length p.hub.parties) p.accepted
-  pub accepted : (from to : ℕ) → from < length p.hub.parties → to < length p.hub.parties
-      → cell p.accepted from to 0 ≡ applied_count (state_of p) from to
-  pub owners : (party : ℕ) → party < length p.hub.parties → (repository_at p.repositories party).party ≡ party
 
--- the party whose repository applies the next item of a link can submit the answer that this calls for, if it does
-abbrev pub IsAnswerable : State → ℕ → ℕ → Type 0
-IsAnswerable st from to = is_answer_busy st to (next_answer st from to (next_item st from to)) ≡ false
+-- A party submitted a message, and was told its number, or it refused to for this fault or for want of memory.
+pub record Submits (old : State) (party : ℕ) (message : Message) (refused_for : Option SiteFault) (result : Result ℕ SiteFault) (new : State) : Type 0 where
+  pub number : IfOk result (λ k. k ≡ length (submissions_of old party) + 1)
+  pub ok : OnOk result (new ≡ with_site old (with_submission (site_of old party) message))
+  pub err : OnErr result (new ≡ old)
+  pub fault : FailsBy refused_for result
 
--- a repository applied the next item of a link, whose frame stays on the wire
-abbrev pub Logs : State → ℕ → ℕ → Effect → Option ℕ → State → Type 0
-Logs old from to effect number new = (item : Item)
-    × (next_item old from to ≡ Some item)
-    × (effect ≡ effect_of (log_of old to) (entry_from from item))
-    × (number ≡ answer_number (submissions_of old to) (answer_to (log_of old to) (entry_from from item)))
-    × (new ≡ with_applied old to (entry_from from item) (answer_to (log_of old to) (entry_from from item)))
+-- A party took the frame in front of a wire, which stays there, or refused it: the frame has this number, and bears this item.
+pub record TakesFront (old : State) (from to : ℕ) (result : Result Taken SiteFault) (new : State) : Type 0 where
+  pub number : ℕ
+  pub item : Item
+  pub front : slice_get (wire_of old from to) 0 ≡ Some number
+  pub member : slice_get (items_on_link old from to) (number - 1) ≡ Some item
+  pub answered : IfOk result (λ taken. taken ≡ taken_by (site_of old to) from item (look_at (applied_count old from to) number))
+  pub ok : OnOk result (new ≡ with_site old (with_taken (site_of old to) from item (look_at (applied_count old from to) number)))
+  pub err : OnErr result (new ≡ old)
+  pub fault : FailsBy (apply_fault (is_uplink_full old to) (site_of old to) from item (look_at (applied_count old from to) number)) result
+  pub memory : IsErrOf result SiteMemory → look_at (applied_count old from to) number ≡ Next
+
+-- the reply to a frame of a number that was taken
+abbrev pub reply_to : ℕ → Taken → Reply
+reply_to number (Applied effect answer) = reply.Applied number effect answer
+reply_to number Old = reply.Old number
+reply_to number (Gap expected) = reply.Gap number expected
 
 -- the hub's refusal of the next message of a party is that of the list machine, and nothing changed
 abbrev pub RouteRefuses : State → ℕ → RouteFault → State → Type 0

@@ -1,4 +1,4 @@
-//! The system on one thread: the submissions, the hub, the wires and the repositories, one step at a time.
+//! The system on one thread: the hub, its parties, and the wires between them, one step at a time.
 //!
 //! The program is its user. The contract: a `World` is seen as the state of the list machine; each step is one that the list
 //! machine allows, and every run leaves a lawful state: what a repository applied from each sender is a prefix of what the
@@ -6,7 +6,6 @@
 #![tactic(auto)]
 
 mod opening;
-mod submissions;
 mod wire;
 mod world;
 

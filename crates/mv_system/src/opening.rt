@@ -1,32 +1,22 @@
-//! What a system opens with: for each party no submission, and a repository that applied nothing.
+//! What a system opens with: parties that did nothing yet.
 
-ghost use Rattle.std.specs.Prelude.{◌≡◌, [], length, IfOk, map, replicate};
-ghost use Rattle.mv_repository.specs.Repository.{new_repository};
+ghost use Rattle.mv_party.specs.declared.limits.TheConstants.{SUBMISSIONS_LIMIT};
+ghost use Rattle.std.specs.Prelude.{◌≡◌, ◌≤◌, IfOk, map};
 ghost use Rattle.std.specs.List.{range_with_len};
+ghost use Rattle.mv_party.specs.Site.{new_site};
 
-use crate::submissions::Submissions;
-use mv_message::Party;
-use mv_repository::Repository;
+use mv_party::Site;
 use std::alloc::{AllocError, Global};
 
-/// No submission of any of so many parties.
-pub(crate) fn no_submissions(alloc: Global, parties: u32) -> Result<Vec<Submissions>, AllocError>
-    ensures { IfOk result (λ lists. lists.items ≡ replicate parties []) }
+/// So many parties, party 0 first, each of which submits so many messages at most.
+pub(crate) fn new_sites(alloc: Global, parties: u32, limit: u32) -> Result<Vec<Site>, AllocError>
+    requires { limit ≤ SUBMISSIONS_LIMIT }
+    ensures { IfOk result (λ sites.
+        sites.items ≡ map (λ party. new_site party parties limit) (range_with_len 0 parties)) }
 {
-    let mut lists = Vec::new(alloc);
-    for _ in 0..parties {
-        lists.push(Submissions::new(alloc))?;
-    }
-    Ok(lists)
-}
-
-/// The repository of each of so many parties, party 0 first.
-pub(crate) fn new_repositories(alloc: Global, parties: u32) -> Result<Vec<Repository>, AllocError>
-    ensures { IfOk result (λ made. made.items ≡ map new_repository (range_with_len 0 parties)) }
-{
-    let mut repositories = Vec::new(alloc);
+    let mut sites = Vec::new(alloc);
     for party in 0..parties {
-        repositories.push(Repository::new(alloc, party))?;
+        sites.push(Site::new(alloc, party, parties, limit)?)?;
     }
-    Ok(repositories)
+    Ok(sites)
 }

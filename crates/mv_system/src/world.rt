@@ -9,15 +9,14 @@ ghost use Rattle.mv_machine.specs.Lawful.{IsLawful, IsWellFormed};
 ghost use Rattle.mv_machine.specs.Headline.{HeadlineHolds};
 ghost use Rattle.mv_system.specs.Wire.{new_wire};
 
-use crate::opening::{new_repositories, no_submissions};
-use crate::submissions::Submissions;
+use crate::opening::new_sites;
 use crate::wire::Wire;
 use mv_hub::{Entry, Hub, Parties};
-use mv_link::Incoming;
 use mv_machine::{Limits, Reply, Step};
 use mv_message::{Message, Party, Shared};
 use mv_pack::PackKey;
 use mv_pairs::PairTable;
+use mv_party::Site;
 use mv_repository::{LogEntry, Repository};
 use std::alloc::{AllocError, Global};
 use std::marker::Model;
@@ -32,10 +31,8 @@ pub struct World {
     alloc: Global,
     limits: Limits,
     hub: Hub,
-    submissions: Vec<Submissions>,
+    sites: Vec<Site>,
     wires: PairTable<Wire>,
-    accepted: PairTable<Incoming>,
-    repositories: Vec<Repository>,
 }
 
 impl Model for World {
@@ -44,9 +41,9 @@ impl Model for World {
 
     ghost Value = { State };
 
-    ghost view = { λ w. state_of (parts_of w.limits w.hub w.submissions.items w.wires w.accepted w.repositories.items) };
+    ghost view = { λ w. state_of (parts_of w.limits w.hub w.sites.items w.wires) };
 
-    ghost invariant = { λ w. IsSystem (parts_of w.limits w.hub w.submissions.items w.wires w.accepted w.repositories.items) };
+    ghost invariant = { λ w. IsSystem (parts_of w.limits w.hub w.sites.items w.wires) };
 }
 
 impl World {
@@ -63,24 +60,14 @@ impl World {
                 ensures { IfOk result (λ wire. wire ≡ new_wire size) }
             { Wire::new(alloc, size) },
         )?;
-        let accepted = PairTable::from_fn(
-            alloc,
-            count,
-            || -> Result<Incoming, AllocError>
-                ensures { IfOk result (λ incoming. incoming ≡ 0) }
-            { Ok(Incoming::new()) },
-        )?;
-        let submissions = no_submissions(alloc, count)?;
-        let repositories = new_repositories(alloc, count)?;
+        let sites = new_sites(alloc, count, limits.submissions())?;
         let hub = Hub::new(alloc, parties, limits.window())?;
         Ok(World {
             alloc,
             limits,
             hub,
-            submissions,
+            sites,
             wires,
-            accepted,
-            repositories,
         })
     }
 
@@ -96,7 +83,7 @@ impl World {
         requires { IsTrue (is_party self.now party) }
         ensures { result.now ≡ submissions_of self.now party }
     {
-        self.submissions[party as usize].as_slice()
+        self.sites[party as usize].submissions()
     }
 
     /// The hub's record, the oldest entry first. Whoever looks at it knows that the state is lawful, as every state of a system is.
@@ -113,7 +100,7 @@ impl World {
         requires { IsTrue (is_party self.now party) }
         ensures { result.now ≡ log_of self.now party }
     {
-        self.repositories[party as usize].log()
+        self.repository(party).log()
     }
 
     /// The repository of a party. What it answers is the meaning of its log.
@@ -122,7 +109,7 @@ impl World {
         ensures party { result.now.party ≡ party }
         ensures log { result.now.log ≡ log_of self.now party }
     {
-        &self.repositories[party as usize]
+        self.sites[party as usize].repository()
     }
 
     /// The hub.

@@ -1,44 +1,51 @@
 //! The changes of the system, each one equation on the lists. Only these open the fields of the system to write.
 
-ghost use Rattle.std.specs.Prelude.{◌≡◌, ◌<◌, ◌+◌, ◌∷◌, [], ◌++◌, ℕ, length, IfOk, IfErr, IsSome, Some, None, OnOk, OnErr, IsTrue, slice_get, slice_set, drop};
+ghost use Rattle.std.specs.Prelude.{◌≡◌, ◌<◌, ◌+◌, ◌∷◌, [], ◌++◌, length, IfOk, IfErr, IsSome, OnOk, OnErr, IsTrue, slice_get, drop};
+ghost use Rattle.mv_message.specs.declared.message.Message.TheVariants.{Query};
 ghost use Rattle.mv_pairs.specs.Pairs.{put};
 ghost use Rattle.mv_link.specs.Frames.{IsFrameOf};
 ghost use Rattle.mv_link.specs.Fault.{FailsBy};
 ghost use Rattle.mv_hub.specs.Hub.{relay_fault, repeat_fault, close_fault};
 ghost use Rattle.mv_hub.specs.declared.entry.Entry.TheVariants.{Closed};
 ghost use Rattle.mv_hub.specs.Record.{routed_count};
-ghost use Rattle.mv_machine.specs.State.{is_party, are_parties, submissions_of, waiting_of, sent_of, wire_of, log_of, items_on, applied_count, with_wire};
-ghost use Rattle.mv_machine.specs.Steps.{route, apply, next_item};
-ghost use Rattle.mv_machine.specs.Replies.{takes_memory};
-ghost use Rattle.mv_machine.specs.Lawful.{answers_in};
-ghost use Rattle.mv_machine.specs.declared.reply.Reply.TheVariants.{Routed, Applied};
-ghost use Rattle.mv_system.specs.World.{RouteRefuses, IsAnswerable, Logs, hub_of};
+ghost use Rattle.mv_party.specs.Calls.{submit_fault, ask_fault};
+ghost use Rattle.mv_machine.specs.State.{is_party, are_parties, is_uplink_full, submissions_of, site_of, sent_of, wire_of, items_on, with_wire};
+ghost use Rattle.mv_machine.specs.Steps.{route};
+ghost use Rattle.mv_machine.specs.declared.reply.Reply.TheVariants.{Routed};
+ghost use Rattle.mv_system.specs.World.{RouteRefuses, Submits, TakesFront, hub_of};
 
 use crate::world::World;
 use mv_hub::{HubFault, RouteFault};
 use mv_link::{Frame, Reach};
 use mv_message::{Message, Party, Shared};
-use mv_repository::Effect;
-use std::alloc::AllocError;
+use mv_pack::PackKey;
+use mv_party::{SiteFault, Taken};
 
 impl World {
-    /// A party submits a message. Refused for want of memory.
+    /// A party submits a message, and is told its number.
     pub(super) fn put_submission(
         &mut self,
         from: Party,
         message: &Shared<Message>,
-    ) -> Result<(), AllocError>
-        requires party { IsTrue (is_party self.old from) }
-        requires room { length (submissions_of self.old from) < self.old.limits.submissions }
-        requires own { answers_in (message.now ∷ []) ≡ [] }
-        ensures ok { OnOk result (self.new ≡ record self.old {
-          submissions = slice_set self.old.submissions from (submissions_of self.old from ++ message.now ∷ []);
-        }) }
-        ensures err { OnErr result (self.new ≡ self.old) }
+    ) -> Result<u32, SiteFault>
+        requires { IsTrue (is_party self.old from) }
+        ensures { Submits self.old from message.now
+            (submit_fault (is_uplink_full self.old from) (site_of self.old from) message.now) result self.new }
     {
-        let of_sender = &mut self.submissions[from as usize];
-        of_sender.push(message)?;
-        Ok(())
+        let uplink_full = self.is_uplink_full(from);
+        let site = &mut self.sites[from as usize];
+        site.submit(message, uplink_full)
+    }
+
+    /// A party submits a query of a pack, and is told its number.
+    pub(super) fn put_query(&mut self, party: Party, key: &PackKey) -> Result<u32, SiteFault>
+        requires { IsTrue (is_party self.old party) }
+        ensures { Submits self.old party (Query key.now)
+            (ask_fault (is_uplink_full self.old party) (site_of self.old party)) result self.new }
+    {
+        let uplink_full = self.is_uplink_full(party);
+        let site = &mut self.sites[party as usize];
+        site.ask(key, uplink_full)
     }
 
     /// Routes the front of an uplink.
@@ -50,8 +57,9 @@ impl World {
         ensures err { IfErr result (λ fault. RouteRefuses self.old from fault self.new) }
     {
         let place = self.hub.routed_count(from) as usize;
-        let of_sender = &self.submissions[from as usize];
-        let Some(message) = of_sender.get(place) else {
+        let site = &self.sites[from as usize];
+        let Some(message) = site.submission(place) else {
+            // A message waits there.
             unreachable!();
         };
         self.hub.route(from, message)
@@ -150,44 +158,18 @@ impl World {
         wire.drop_front();
     }
 
-    /// Applies the frame in front of a wire, which is the next of its link and stays on the wire, and submits the answer that
-    /// it calls for.
-    fn log_front(&mut self, from: Party, to: Party) -> Result<(Effect, Option<u32>), AllocError>
+    /// Gives a party the frame in front of a wire, which stays there.
+    pub(super) fn take_front(&mut self, from: Party, to: Party) -> Result<Taken, SiteFault>
         requires parties { IsTrue (are_parties self.old from to) }
-        requires next { slice_get (wire_of self.old from to) 0 ≡ Some (applied_count self.old from to + 1) }
-        requires answerable { IsAnswerable self.old from to }
-        ensures member { IsSome (next_item self.old from to) }
-        ensures ok { IfOk result (λ applied. Logs self.old from to applied.0 applied.1 self.new) }
-        ensures err { OnErr result (self.new ≡ self.old) }
+        requires some { IsSome (slice_get (wire_of self.old from to) 0) }
+        ensures { TakesFront self.old from to result self.new }
     {
+        let uplink_full = self.is_uplink_full(to);
         let Some(frame) = self.wires.at(from, to).front() else {
+            // There is a frame in front.
             unreachable!();
         };
-        let repository = &mut self.repositories[to as usize];
-        let submissions = &mut self.submissions[to as usize];
-        let applied = submissions.apply(repository, from, &frame.item)?;
-        let incoming = self.accepted.at_mut(from, to);
-        incoming.advance();
-        Ok(applied)
-    }
-
-    /// Applies the frame in front of a wire, which is the next of its link, takes it away, and submits the answer that it
-    /// calls for.
-    pub(super) fn put_applied(
-        &mut self,
-        from: Party,
-        to: Party,
-    ) -> Result<(Effect, Option<u32>), AllocError>
-        requires parties { IsTrue (are_parties self.old from to) }
-        requires next { slice_get (wire_of self.old from to) 0 ≡ Some (applied_count self.old from to + 1) }
-        requires answerable { IsAnswerable self.old from to }
-        ensures ok { IfOk result (λ applied. apply self.old from to
-            ≡ record { reply = Applied (applied_count self.old from to + 1) applied.0 applied.1; state = self.new }) }
-        ensures memory { IsTrue (takes_memory (apply self.old from to).reply) }
-        ensures err { OnErr result (self.new ≡ self.old) }
-    {
-        let applied = self.log_front(from, to)?;
-        self.drop_front(from, to);
-        Ok(applied)
+        let site = &mut self.sites[to as usize];
+        site.apply(from, frame, uplink_full)
     }
 }

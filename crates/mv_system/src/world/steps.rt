@@ -1,17 +1,17 @@
 //! The steps: each asks the readers and makes one change. No step opens a field.
 
-ghost use Rattle.std.specs.Prelude.{◌≡◌, ◌∷◌, [], false};
-ghost use Rattle.mv_message.specs.Kinds.{is_query_or_answer};
+ghost use Rattle.std.specs.Prelude.{◌≡◌};
 ghost use Rattle.mv_machine.specs.Runs.{Meets, Allows};
 ghost use Rattle.mv_machine.specs.Steps.{ask};
-ghost use Rattle.mv_machine.specs.Lawful.{answers_in};
 ghost use Rattle.mv_machine.specs.declared.step.Step.{Step as AStep};
+ghost use Rattle.mv_system.specs.World.{reply_to};
 
 use crate::world::World;
 use mv_hub::{HubFault, RouteFault};
 use mv_machine::{Refusal, Reply, Step};
 use mv_message::{Message, Party, Shared};
 use mv_pack::PackKey;
+use mv_party::Taken;
 use mv_repository::Local;
 
 impl World {
@@ -39,21 +39,9 @@ impl World {
         if !self.is_party(from) {
             return Reply::Refused(Refusal::Party);
         }
-        if is_query_or_answer(message.get()) {
-            return Reply::Refused(Refusal::NotYours);
-        }
-        if self.is_uplink_full(from) {
-            return Reply::Refused(Refusal::UplinkFull);
-        }
-        if self.is_sender_full(from) {
-            return Reply::Refused(Refusal::SenderFull);
-        }
-        let count = self.submission_count(from);
-        let Ok(()) = self.put_submission(from, message) else {
-            return Reply::Refused(Refusal::Memory);
-        };
-        Reply::Submitted {
-            k: count as u32 + 1,
+        match self.put_submission(from, message) {
+            Ok(k) => Reply::Submitted { k },
+            Err(fault) => Reply::Refused(Refusal::from(fault)),
         }
     }
 
@@ -78,21 +66,9 @@ impl World {
         if !self.is_party(party) {
             return Reply::Refused(Refusal::Party);
         }
-        if self.is_uplink_full(party) {
-            return Reply::Refused(Refusal::UplinkFull);
-        }
-        if self.is_sender_full(party) {
-            return Reply::Refused(Refusal::SenderFull);
-        }
-        let count = self.submission_count(party);
-        let Ok(query) = Shared::new(self.alloc, Message::Query { key: key.copy() }) else {
-            return Reply::Refused(Refusal::Memory);
-        };
-        let Ok(()) = self.put_submission(party, &query) else {
-            return Reply::Refused(Refusal::Memory);
-        };
-        Reply::Asked {
-            q: count as u32 + 1,
+        match self.put_query(party, key) {
+            Ok(q) => Reply::Asked { q },
+            Err(fault) => Reply::Refused(Refusal::from(fault)),
         }
     }
 
@@ -130,7 +106,7 @@ impl World {
         }
     }
 
-    #[tactic(auto, unfolding(mv_machine::specs::Runs::Allows, mv_machine::specs::Runs::Meets, mv_machine::specs::Steps::apply, mv_machine::specs::Steps::apply_front))]
+    #[tactic(auto, unfolding(mv_machine::specs::Runs::Allows, mv_machine::specs::Runs::Meets, mv_machine::specs::Steps::apply))]
     fn apply(&mut self, from: Party, to: Party) -> Reply
         ensures { Allows self.old (Step.Apply from to) result self.new }
     {
@@ -140,26 +116,12 @@ impl World {
         let Some(number) = self.front_number(from, to) else {
             return Reply::Refused(Refusal::WireEmpty);
         };
-        let count = self.applied_count(from, to);
-        if number <= count {
-            self.drop_front(from, to);
-            return Reply::Old { number };
-        }
-        let expected = count + 1;
-        if expected < number {
-            self.drop_front(from, to);
-            return Reply::Gap { number, expected };
-        }
-        if self.is_answer_busy(from, to) {
-            return Reply::Refused(Refusal::AnswerBusy);
-        }
-        let Ok((effect, answer)) = self.put_applied(from, to) else {
-            return Reply::Refused(Refusal::Memory);
-        };
-        Reply::Applied {
-            number,
-            effect,
-            answer,
+        match self.take_front(from, to) {
+            Ok(taken) => {
+                self.drop_front(from, to);
+                reply_to(number, taken)
+            }
+            Err(fault) => Reply::Refused(Refusal::from(fault)),
         }
     }
 
@@ -222,10 +184,17 @@ impl World {
     }
 }
 
-/// Whether a message is a query or an answer, which the system submits by itself.
-fn is_query_or_answer(message: &Message) -> bool
-    ensures value { result ≡ is_query_or_answer message.now }
-    ensures other { result ≡ false → answers_in (message.now ∷ []) ≡ [] }
+/// The reply to a frame of a number that was taken.
+fn reply_to(number: u32, taken: Taken) -> Reply
+    ensures { result ≡ reply_to number taken }
 {
-    matches!(message, Message::Query { .. } | Message::Answer { .. })
+    match taken {
+        Taken::Applied { effect, answer } => Reply::Applied {
+            number,
+            effect,
+            answer,
+        },
+        Taken::Old => Reply::Old { number },
+        Taken::Gap { expected } => Reply::Gap { number, expected },
+    }
 }

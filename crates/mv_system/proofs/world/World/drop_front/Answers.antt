@@ -12,7 +12,7 @@ use Rattle.mv_system.proofs.world.World.drop_front.Goals as goal
 pub invariant_of-self : goal.invariant_of-self
 invariant_of-self c =
     let a = c.self.inside in
-    let p = parts_of a.limits a.hub a.submissions.items a.wires a.accepted a.repositories.items in
+    let p = parts_of a.limits a.hub a.sites.items a.wires in
     let wire = c.at_mut-wire.result.now in
     let facts = link_facts p c.args.self.now c.args.from c.args.to wire c.self.invariant c.self.view_is c.requires (c.at_mut-wire.ensures.value (new_wire 0)) in
     let of = IsFrameOf (items_on a.hub c.args.from c.args.to) in
@@ -23,7 +23,7 @@ invariant_of-self c =
 pub returns : goal.returns
 returns c =
     let a = c.self.inside in
-    let p = parts_of a.limits a.hub a.submissions.items a.wires a.accepted a.repositories.items in
+    let p = parts_of a.limits a.hub a.sites.items a.wires in
     let wire = c.at_mut-wire.result.now in
     let facts = link_facts p c.args.self.now c.args.from c.args.to wire c.self.invariant c.self.view_is c.requires (c.at_mut-wire.ensures.value (new_wire 0)) in
     wire_view p c.args.self.now c.args.from c.args.to c.drop_front.new.self _ c.self.view_is

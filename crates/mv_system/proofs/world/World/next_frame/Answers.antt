@@ -9,6 +9,6 @@ use Rattle.mv_system.proofs.world.World.next_frame.Goals as goal
 pub invariant_of-self : goal.invariant_of-self
 invariant_of-self c =
     let a = c.self.inside in
-    let p = parts_of a.limits a.hub a.submissions.items a.wires a.accepted a.repositories.items in
+    let p = parts_of a.limits a.hub a.sites.items a.wires in
     hub_kept (λ _. ⊤) p c.relay.new.self (with_relayed a.hub c.args.from c.args.to) c.relay.result c.relay.ensures.ok c.relay.ensures.err tt c.self.invariant
     (λ _ _. sent_kept p _ c.self.invariant (square-put (length a.hub.parties) a.hub.sent c.args.from c.args.to _ c.self.invariant.well_formed.sent_each))

@@ -13,14 +13,14 @@ use Rattle.mv_system.proofs.world.World.push_frame.Goals as goal
 pub push-requires : goal.push-requires
 push-requires c =
     let a = c.self.inside in
-    let p = parts_of a.limits a.hub a.submissions.items a.wires a.accepted a.repositories.items in
+    let p = parts_of a.limits a.hub a.sites.items a.wires in
     let facts = link_facts p c.args.self.now c.args.from c.args.to c.at_mut-wire.result.now c.self.invariant c.self.view_is c.requires.parties (c.at_mut-wire.ensures.value (new_wire 0)) in
     omega (arith, facts.len, facts.fits.size, c.requires.room, ap (λ l. l.wire) facts.limits)
 
 pub invariant_of-self : goal.invariant_of-self
 invariant_of-self c =
     let a = c.self.inside in
-    let p = parts_of a.limits a.hub a.submissions.items a.wires a.accepted a.repositories.items in
+    let p = parts_of a.limits a.hub a.sites.items a.wires in
     let wire = c.at_mut-wire.result.now in
     let frame = c.args.frame in
     let facts = link_facts p c.args.self.now c.args.from c.args.to wire c.self.invariant c.self.view_is c.requires.parties (c.at_mut-wire.ensures.value (new_wire 0)) in
@@ -34,7 +34,7 @@ invariant_of-self c =
 pub returns : goal.returns
 returns c =
     let a = c.self.inside in
-    let p = parts_of a.limits a.hub a.submissions.items a.wires a.accepted a.repositories.items in
+    let p = parts_of a.limits a.hub a.sites.items a.wires in
     let wire = c.at_mut-wire.result.now in
     let facts = link_facts p c.args.self.now c.args.from c.args.to wire c.self.invariant c.self.view_is c.requires.parties (c.at_mut-wire.ensures.value (new_wire 0)) in
     wire_view p c.args.self.now c.args.from c.args.to c.push.new.self _ c.self.view_is

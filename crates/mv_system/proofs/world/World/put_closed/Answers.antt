@@ -12,7 +12,7 @@ use Rattle.mv_system.proofs.world.World.put_closed.Goals as goal
 pub invariant_of-self : goal.invariant_of-self
 invariant_of-self c =
     let a = c.self.inside in
-    let p = parts_of a.limits a.hub a.submissions.items a.wires a.accepted a.repositories.items in
+    let p = parts_of a.limits a.hub a.sites.items a.wires in
     let from = c.args.from in
     let to = c.args.to in
     let places = parties-places p c.args.self.now from to c.self.view_is c.requires in

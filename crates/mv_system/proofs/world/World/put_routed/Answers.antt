@@ -1,17 +1,17 @@
 -- The hub's answer is the row's, since the message that waits is the one that it was given.
-use Rattle.std.proofs.Common.{◌≡◌, ◌<◌, [], length, Some, arith, sym, ap, subst, ◌∙◌}
+use Rattle.std.proofs.Common.{◌≡◌, ◌<◌, length, Some, refl, sym, ap, subst, ◌∙◌}
 use Rattle.std.specs.Bool.{⊤}
 use Rattle.std.specs.Prelude.{slice_get, IfOk, IfErr}
 use Rattle.std.specs.Option.{option_copied}
-use Rattle.std.proofs.lemmas.List.{get_or_read}
 use Rattle.mv_hub.specs.Record.{routed_count}
 use Rattle.mv_hub.specs.Hub.{next_entry, with_routed}
+use Rattle.mv_party.specs.Site.{SiteState}
 use Rattle.mv_machine.specs.State.{State, submissions_of}
 use Rattle.mv_machine.specs.declared.reply.Reply.TheVariants.{Routed}
 use Rattle.mv_machine.specs.Steps.{route}
 use Rattle.mv_machine.proofs.LawfulLemmas.{routed-sound}
 use Rattle.mv_system.specs.World.{Parts, parts_of, state_of, RouteRefuses}
-use Rattle.mv_system.proofs.SystemLemmas.{sound_of, party-place, entered_kept, entries-short, hub_kept}
+use Rattle.mv_system.proofs.SystemLemmas.{sound_of, party-place, site_facts, entered_kept, entries-short, hub_kept}
 use Rattle.mv_system.proofs.RouteLemmas.{routes, route_refused}
 use Rattle.mv_system.proofs.world.World.put_routed.Goals as goal
 use Rattle.mv_system.proofs.world.World.put_routed.Goals.{After-route}
@@ -19,7 +19,7 @@ use Rattle.mv_system.proofs.world.World.put_routed.Goals.{After-route}
 -- the parts before the routing
 abbrev parts : After-route → Parts
 parts c =
-    let a = c.self.inside in parts_of a.limits a.hub a.submissions.items a.wires a.accepted a.repositories.items
+    let a = c.self.inside in parts_of a.limits a.hub a.sites.items a.wires
 
 place : (c : After-route) → c.args.from < length (parts c).hub.parties
 place c = party-place (parts c) c.args.self.now c.args.from c.self.view_is c.requires.party
@@ -27,15 +27,15 @@ place c = party-place (parts c) c.args.self.now c.args.from c.self.view_is c.req
 waits : (c : After-route) → slice_get (submissions_of (state_of (parts c)) c.args.from) (routed_count (parts c).hub.entries c.args.from) ≡ Some c.in-Some.message.now
 waits c =
     let a = c.self.inside in
-    let of_sender = c.index-of_sender.result.now in
-    let at : of_sender ≡ submissions_of (state_of (parts c)) c.args.from =
-    get_or_read a.submissions.items c.args.from of_sender (omega (arith, place c, c.self.invariant.well_formed.submissions_each)) c.index-of_sender.ensures [] in
-    ap (λ l. slice_get l (routed_count a.hub.entries c.args.from)) (sym at) ∙ ap (slice_get of_sender) (sym c.routed_count-place.ensures.value) ∙ sym c.get.ensures ∙ ap option_copied c.in-Some.is
+    let site = c.index-site.result.now in
+    let facts = site_facts (parts c) (state_of (parts c)) c.args.from site c.self.invariant refl (place c) c.index-site.ensures in
+    ap (λ (s : SiteState). slice_get s.submissions (routed_count a.hub.entries c.args.from)) (sym facts.is)
+    ∙ ap (slice_get site.submissions) (sym c.routed_count-place.ensures.value) ∙ sym c.submission.ensures ∙ ap option_copied c.in-Some.is
 
 pub route-requires : goal.route-requires
 route-requires c =
     let a = c.self.inside in
-    entries-short (parts_of a.limits a.hub a.submissions.items a.wires a.accepted a.repositories.items) c.self.invariant
+    entries-short (parts_of a.limits a.hub a.sites.items a.wires) c.self.invariant
 
 pub invariant_of-self : goal.invariant_of-self
 invariant_of-self c =

@@ -1,0 +1,73 @@
+-- The answers among what a party submits are those that its repository's log calls for.
+use Rattle.std.proofs.Common.{◌≡◌, ℕ, false, List, [], ◌∷◌, ◌++◌, Some, None, Option, sym, refl, ap, ◌∙◌, append_assoc, append-nil}
+use Rattle.std.specs.Prelude.{option_to_list}
+use Rattle.mv_message.specs.declared.message.Message.{Message}
+use Rattle.mv_message.specs.declared.message.Message.TheVariants.{Master, Upload, Status, Recall, Repack, Withdraw, Query, Answer}
+use Rattle.mv_message.specs.Kinds.{is_query_or_answer}
+use Rattle.mv_link.specs.declared.item.Item.{Item}
+use Rattle.mv_link.specs.declared.item.Item.TheVariants.{Receipt, Carried}
+use Rattle.mv_repository.specs.declared.entry.LogEntry.{LogEntry}
+use Rattle.mv_repository.specs.Query.{answer_after, answer_to, with_answer, answers_from, answers_of}
+use Rattle.mv_party.specs.Site.{answers_in}
+
+pub answers_in-append : (xs ys : List Message) → answers_in (xs ++ ys) ≡ answers_in xs ++ answers_in ys
+answers_in-append [] ys = refl
+answers_in-append (Answer asker q key found ∷ xs) ys = ap (λ l. Answer asker q key found ∷ l) (answers_in-append xs ys)
+answers_in-append (Master gtin product ∷ xs) ys = answers_in-append xs ys
+answers_in-append (Upload gtin batch expiry national serials ∷ xs) ys = answers_in-append xs ys
+answers_in-append (Status key to user at ∷ xs) ys = answers_in-append xs ys
+answers_in-append (Recall key at ∷ xs) ys = answers_in-append xs ys
+answers_in-append (Repack before before_serials after after_serials at ∷ xs) ys = answers_in-append xs ys
+answers_in-append (Withdraw gtin at ∷ xs) ys = answers_in-append xs ys
+answers_in-append (Query key ∷ xs) ys = answers_in-append xs ys
+
+-- what a party may submit is no answer
+pub no_answer : (message : Message) → is_query_or_answer message ≡ false → answers_in (message ∷ []) ≡ []
+no_answer (Answer asker q key found) e = absurd (cc)
+no_answer (Master gtin product) e = refl
+no_answer (Upload gtin batch expiry national serials) e = refl
+no_answer (Status key to user at) e = refl
+no_answer (Recall key at) e = refl
+no_answer (Repack before before_serials after after_serials at) e = refl
+no_answer (Withdraw gtin at) e = refl
+no_answer (Query key) e = refl
+
+-- one more message that is no answer
+pub answers_in-more : (messages : List Message) (message : Message) → answers_in (message ∷ []) ≡ [] → answers_in (messages ++ message ∷ []) ≡ answers_in messages
+answers_in-more messages message none = answers_in-append messages (message ∷ []) ∙ ap (λ l. answers_in messages ++ l) none ∙ append-nil (answers_in messages)
+
+-- what an item calls for is an answer
+called_for : (log : List LogEntry) (sender : ℕ) (item : Item) → answers_in (option_to_list (answer_after log sender item)) ≡ option_to_list (answer_after log sender item)
+called_for log sender (Receipt k reach query) = refl
+called_for log sender (Carried k stamp (Answer asker q key found)) = refl
+called_for log sender (Carried k stamp (Master gtin product)) = refl
+called_for log sender (Carried k stamp (Upload gtin batch expiry national serials)) = refl
+called_for log sender (Carried k stamp (Status key to user at)) = refl
+called_for log sender (Carried k stamp (Recall key at)) = refl
+called_for log sender (Carried k stamp (Repack before before_serials after after_serials at)) = refl
+called_for log sender (Carried k stamp (Withdraw gtin at)) = refl
+called_for log sender (Carried k stamp (Query key)) = refl
+
+with_answer-append : (answer : Option Message) (xs ys : List Message) → with_answer answer (xs ++ ys) ≡ with_answer answer xs ++ ys
+with_answer-append None xs ys = refl
+with_answer-append (Some a) xs ys = refl
+
+with_answer-nil : (answer : Option Message) → with_answer answer [] ≡ option_to_list answer
+with_answer-nil None = refl
+with_answer-nil (Some a) = refl
+
+answers_from-push : (before log : List LogEntry) (entry : LogEntry) → answers_from before (log ++ entry ∷ []) ≡ answers_from before log ++ option_to_list (answer_to (before ++ log) entry)
+answers_from-push before [] entry = with_answer-nil (answer_to before entry) ∙ ap (λ b. option_to_list (answer_to b entry)) (sym (append-nil before))
+answers_from-push before (x ∷ log) entry =
+    ap (with_answer (answer_to before x)) (answers_from-push (before ++ x ∷ []) log entry)
+    ∙ with_answer-append (answer_to before x) (answers_from (before ++ x ∷ []) log) (option_to_list (answer_to ((before ++ x ∷ []) ++ log) entry))
+    ∙ ap (λ b. with_answer (answer_to before x) (answers_from (before ++ x ∷ []) log) ++ option_to_list (answer_to b entry)) (append_assoc before (x ∷ []) log)
+
+-- an entry is applied, and the answer that it calls for is submitted
+pub answers_in-applied : (messages : List Message) (log : List LogEntry) (entry : LogEntry) → answers_in messages ≡ answers_of log
+    → answers_in (messages ++ option_to_list (answer_to log entry)) ≡ answers_of (log ++ entry ∷ [])
+answers_in-applied messages log entry same =
+    answers_in-append messages (option_to_list (answer_to log entry))
+    ∙ ap (λ l. answers_in messages ++ l) (called_for log entry.sender entry.item)
+    ∙ ap (λ l. l ++ option_to_list (answer_to log entry)) same
+    ∙ sym (answers_from-push [] log entry)

@@ -1,0 +1,65 @@
+-- What a party answers to each call, and when it refuses one. Whether its uplink has room is for its caller to say.
+use Rattle.std.specs.Prelude.{◌≡◌, ℕ, ◌+◌, ◌||◌, Bool, nat_le, nat_lt, Option, Some, None, Result, Ok, Err, if◌then◌else◌, ⊤}
+use Rattle.mv_message.specs.declared.message.Message.{Message}
+use Rattle.mv_message.specs.Kinds.{is_query_or_answer}
+use Rattle.mv_link.specs.declared.item.Item.{Item}
+use Rattle.mv_link.specs.declared.incoming.Look.{Look}
+use Rattle.mv_link.specs.declared.incoming.Look.TheVariants as look
+use Rattle.mv_repository.specs.Effect.{effect_of}
+use Rattle.mv_repository.specs.Query.{answer_to}
+use Rattle.mv_party.specs.declared.fault.SiteFault.{SiteFault}
+use Rattle.mv_party.specs.declared.fault.SiteFault.TheVariants.{NotYours, UplinkFull, SenderFull, AnswerBusy, Memory}
+use Rattle.mv_party.specs.declared.taken.Taken.{Taken}
+use Rattle.mv_party.specs.declared.taken.Taken.TheVariants.{Applied, Old, Gap}
+use Rattle.mv_party.specs.Site.{SiteState, entry_from, answer_number, is_full, with_applied}
+
+-- a call is refused for this fault, the first that holds; where there is none it may want memory, and nothing else
+abbrev pub FailsBy : {A : Type 0} → Option SiteFault → Result A SiteFault → Type 0
+FailsBy fault (Ok value) = fault ≡ None
+FailsBy fault (Err Memory) = fault ≡ None
+FailsBy fault (Err refused) = fault ≡ Some refused
+
+-- what a call says that only tells whether there is a fault
+abbrev pub unless_fault : Option SiteFault → Result ⊤ SiteFault
+unless_fault None = Ok tt
+unless_fault (Some fault) = Err fault
+
+-- why a party submits nothing now, memory aside, the first reason that holds
+abbrev pub ask_fault : Bool → SiteState → Option SiteFault
+ask_fault uplink_full site =
+    if uplink_full then Some UplinkFull
+    else (if is_full site then Some SenderFull
+    else None)
+
+-- why a party does not submit a message, memory aside, the first reason that holds
+abbrev pub submit_fault : Bool → SiteState → Message → Option SiteFault
+submit_fault uplink_full site message = if is_query_or_answer message then Some NotYours else ask_fault uplink_full site
+
+-- how the number of a frame stands to how many items of its sender were applied
+abbrev pub look_at : ℕ → ℕ → Look
+look_at count number =
+    if nat_le number count then look.Old
+    else (if nat_lt (count + 1) number then look.Gap (count + 1)
+    else look.Next)
+
+-- why a party does not submit the answer that an item calls for, if it does, memory aside
+abbrev pub answer_fault : Bool → SiteState → Option Message → Option SiteFault
+answer_fault uplink_full site None = None
+answer_fault uplink_full site (Some answer) = if uplink_full || is_full site then Some AnswerBusy else None
+
+-- why a party does not take a frame that stands so, and bears this item, memory aside
+abbrev pub apply_fault : Bool → SiteState → ℕ → Item → Look → Option SiteFault
+apply_fault uplink_full site sender item look.Next = answer_fault uplink_full site (answer_to site.log (entry_from sender item))
+apply_fault uplink_full site sender item stands = None
+
+-- what it did with such a frame
+abbrev pub taken_by : SiteState → ℕ → Item → Look → Taken
+taken_by site sender item look.Next =
+    Applied (effect_of site.log (entry_from sender item)) (answer_number site.submissions (answer_to site.log (entry_from sender item)))
+taken_by site sender item look.Old = Old
+taken_by site sender item (look.Gap expected) = Gap expected
+
+-- the party once it took such a frame: only the next changes it
+abbrev pub with_taken : SiteState → ℕ → Item → Look → SiteState
+with_taken site sender item look.Next = with_applied site sender item
+with_taken site sender item stands = site

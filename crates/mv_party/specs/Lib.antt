@@ -1,0 +1,4 @@
+pub mod Site
+pub mod Calls
+pub mod Kept
+pub mod Laws

@@ -1,0 +1,18 @@
+//! One party of a system: what it submitted, its repository, and the receiving ends of the links to it.
+//!
+//! The system holds one for each party. The contract: a party is seen as its lists; the answers among its submissions are those
+//! that its log calls for; each call answers by the definitions in `specs/`, and a refused one has changed nothing. Whether the
+//! party's uplink has room is for its caller to say. This crate knows no hub and no wire.
+#![tactic(auto)]
+
+mod fault;
+mod laws;
+mod limits;
+mod site;
+mod taken;
+
+pub use fault::SiteFault;
+pub use laws::parties_stay_lawful;
+pub use limits::SUBMISSIONS_LIMIT;
+pub use site::Site;
+pub use taken::Taken;

@@ -1,0 +1,279 @@
+//! One party of a system.
+
+ghost use Rattle.std.specs.Prelude.{◌≡◌, ◌<◌, ◌≤◌, ◌+◌, ◌∷◌, [], ◌++◌, List, ℕ, length, replicate, slice_get, vec_capacity, option_to_list, IfOk, OnOk, OnErr, IsErrOf, is_some, false};
+ghost use Rattle.std.specs.Option.{option_copied};
+ghost use Rattle.mv_message.specs.Kinds.{is_query_or_answer};
+ghost use Rattle.mv_message.specs.declared.message.Message.TheVariants.{Query};
+ghost use Rattle.mv_link.specs.declared.incoming.Look.TheVariants.{Next};
+ghost use Rattle.mv_link.specs.declared.limits.TheConstants.{NUMBER_LIMIT};
+ghost use Rattle.mv_party.specs.declared.limits.TheConstants.{SUBMISSIONS_LIMIT};
+ghost use Rattle.mv_repository.specs.declared.entry.LogEntry.{LogEntry as ALogEntry};
+ghost use Rattle.mv_repository.specs.Query.{answer_after};
+ghost use Rattle.mv_party.specs.Site.{new_site, is_full, with_submission, with_applied, count_from, answer_number, answers_in, IsLawfulParty};
+ghost use Rattle.mv_party.specs.Calls.{FailsBy, unless_fault, submit_fault, ask_fault, look_at, answer_fault, apply_fault, taken_by, with_taken};
+
+use crate::{SiteFault, Taken};
+use mv_link::{Frame, Incoming, Item, Look};
+use mv_message::{Message, Party, Shared};
+use mv_pack::PackKey;
+use mv_repository::Repository;
+use std::alloc::{AllocError, Global};
+use std::marker::Model;
+
+/// One party of a system: what it submitted, its repository, and the receiving ends of the links to it.
+#[derive(Drop)]
+pub struct Site {
+    alloc: Global,
+    limit: u32,
+    submissions: Vec<Shared<Message>>,
+    repository: Repository,
+    accepted: Vec<Incoming>,
+}
+
+impl Model for Site {
+    ghost use Rattle.std.specs.Prelude.{length};
+    ghost use Rattle.mv_party.specs.Site.{SiteState};
+    ghost use Rattle.mv_party.specs.Kept.{site_of, IsSite};
+
+    ghost Value = { SiteState };
+
+    ghost view = { λ s. site_of s.limit s.submissions.items s.repository (length s.accepted.items) };
+
+    ghost invariant = { λ s. IsSite (site_of s.limit s.submissions.items s.repository (length s.accepted.items)) s.accepted.items };
+}
+
+impl Site {
+    /// A party that did nothing yet, one of so many, which submits so many messages at most. Refused for want of memory.
+    pub fn new(alloc: Global, party: Party, parties: u32, limit: u32) -> Result<Site, AllocError>
+        requires { limit ≤ SUBMISSIONS_LIMIT }
+        ensures { IfOk result (λ site. site ≡ new_site party parties limit) }
+    {
+        let accepted = no_frames(alloc, parties)?;
+        Ok(Site {
+            alloc,
+            limit,
+            submissions: Vec::new(alloc),
+            repository: Repository::new(alloc, party),
+            accepted,
+        })
+    }
+
+    /// What it submitted, the oldest message first.
+    pub fn submissions(&self) -> &[Shared<Message>]
+        ensures value { result.now ≡ self.now.submissions }
+        ensures few { length result.now ≤ self.now.limit }
+        ensures lawful { IsLawfulParty self.now.parties self.now.submissions self.now.log }
+    {
+        self.submissions.as_slice()
+    }
+
+    /// Its submission at a place, counted from 0.
+    pub fn submission(&self, place: usize) -> Option<&Shared<Message>>
+        ensures { option_copied result ≡ slice_get self.now.submissions place }
+    {
+        self.submissions.get(place)
+    }
+
+    /// Its repository.
+    pub fn repository(&self) -> &Repository
+        ensures party { result.now.party ≡ self.now.party }
+        ensures log { result.now.log ≡ self.now.log }
+    {
+        &self.repository
+    }
+
+    /// Whether it can submit a message now, memory aside. The first of these that holds is the fault: the message is a query
+    /// or an answer; its uplink is full; it submitted as many messages as it may.
+    pub fn check(&self, message: &Message, uplink_full: bool) -> Result<(), SiteFault>
+        ensures value { result ≡ unless_fault (submit_fault uplink_full self.now message.now) }
+        ensures own { OnOk result (answers_in (message.now ∷ []) ≡ []) }
+        ensures room { OnOk result (length self.now.submissions < self.now.limit) }
+    {
+        if is_query_or_answer(message) {
+            return Err(SiteFault::NotYours);
+        }
+        self.check_room(uplink_full)
+    }
+
+    /// Whether it can submit anything now, memory aside: its uplink is not full, and it may submit more.
+    pub fn check_room(&self, uplink_full: bool) -> Result<(), SiteFault>
+        ensures value { result ≡ unless_fault (ask_fault uplink_full self.now) }
+        ensures room { OnOk result (length self.now.submissions < self.now.limit) }
+    {
+        if uplink_full {
+            return Err(SiteFault::UplinkFull);
+        }
+        if self.is_full() {
+            return Err(SiteFault::SenderFull);
+        }
+        Ok(())
+    }
+
+    /// Submits a message, and answers its number among the submissions. Refused by [`Site::check`] or for want of memory,
+    /// nothing has changed.
+    pub fn submit(&mut self, message: &Shared<Message>, uplink_full: bool) -> Result<u32, SiteFault>
+        ensures number { IfOk result (λ k. k ≡ length self.old.submissions + 1) }
+        ensures ok { OnOk result (self.new ≡ with_submission self.old message.now) }
+        ensures err { OnErr result (self.new ≡ self.old) }
+        ensures fault { FailsBy (submit_fault uplink_full self.old message.now) result }
+    {
+        self.check(message.get(), uplink_full)?;
+        let k = self.put(message)?;
+        Ok(k)
+    }
+
+    /// Submits a query of a pack, and answers its number among the submissions. Refused by [`Site::check_room`] or for want of
+    /// memory, nothing has changed.
+    pub fn ask(&mut self, key: &PackKey, uplink_full: bool) -> Result<u32, SiteFault>
+        ensures number { IfOk result (λ q. q ≡ length self.old.submissions + 1) }
+        ensures ok { OnOk result (self.new ≡ with_submission self.old (Query key.now)) }
+        ensures err { OnErr result (self.new ≡ self.old) }
+        ensures fault { FailsBy (ask_fault uplink_full self.old) result }
+    {
+        self.check_room(uplink_full)?;
+        let query = Shared::new(self.alloc, Message::Query { key: key.copy() })?;
+        let q = self.put(&query)?;
+        Ok(q)
+    }
+
+    /// Takes a frame from a party: where it is the next, its item is applied, and the answer that this calls for is submitted,
+    /// both or neither; where it is old, or behind a gap, nothing changes. Only the next is refused: where it calls for an
+    /// answer that the party cannot submit now, or for want of memory.
+    pub fn apply(
+        &mut self,
+        sender: Party,
+        frame: &Frame,
+        uplink_full: bool,
+    ) -> Result<Taken, SiteFault>
+        requires { sender < self.old.parties }
+        ensures value { IfOk result (λ taken. taken ≡ taken_by self.old sender frame.now.item
+            (look_at (count_from self.old.log sender) frame.now.number)) }
+        ensures ok { OnOk result (self.new ≡ with_taken self.old sender frame.now.item
+            (look_at (count_from self.old.log sender) frame.now.number)) }
+        ensures err { OnErr result (self.new ≡ self.old) }
+        ensures fault { FailsBy (apply_fault uplink_full self.old sender frame.now.item
+            (look_at (count_from self.old.log sender) frame.now.number)) result }
+        ensures memory { IsErrOf result SiteFault.Memory
+            → look_at (count_from self.old.log sender) frame.now.number ≡ Next }
+    {
+        match self.look(sender, frame) {
+            Look::Old => Ok(Taken::Old),
+            Look::Gap { expected } => Ok(Taken::Gap { expected }),
+            Look::Next => {
+                prove!(frame.number <= u32::MAX);
+                self.apply_next(sender, &frame.item, uplink_full)
+            }
+        }
+    }
+
+    /// Whether it submitted as many messages as it may.
+    fn is_full(&self) -> bool
+        ensures value { result ≡ is_full self.now }
+        ensures room { result ≡ false → length self.now.submissions < self.now.limit }
+    {
+        self.submissions.len() == self.limit as usize
+    }
+
+    /// Puts a message behind the submissions, and answers its number among them.
+    fn put(&mut self, message: &Shared<Message>) -> Result<u32, AllocError>
+        requires room { length self.old.submissions < self.old.limit }
+        requires own { answers_in (message.now ∷ []) ≡ [] }
+        ensures number { IfOk result (λ k. k ≡ length self.old.submissions + 1) }
+        ensures ok { OnOk result (self.new ≡ with_submission self.old message.now) }
+        ensures err { OnErr result (self.new ≡ self.old) }
+    {
+        let count = self.submissions.len() as u32;
+        self.submissions.push(message.share()?)?;
+        Ok(count + 1)
+    }
+
+    /// How a frame from a party stands to what was accepted from it.
+    fn look(&self, sender: Party, frame: &Frame) -> Look
+        requires { sender < self.now.parties }
+        ensures { result ≡ look_at (count_from self.now.log sender) frame.now.number }
+    {
+        self.accepted[sender as usize].look(frame)
+    }
+
+    /// Whether it can submit the answer that an item from a party calls for, if it does.
+    fn check_answer(&self, item: &Item, uplink_full: bool) -> Result<(), SiteFault>
+        ensures { (sender : ℕ) → result
+            ≡ unless_fault (answer_fault uplink_full self.now (answer_after self.now.log sender item.now)) }
+    {
+        if is_query(item) && (uplink_full || self.is_full()) {
+            return Err(SiteFault::AnswerBusy);
+        }
+        Ok(())
+    }
+
+    /// Applies the item of the next frame from a party, and submits the answer that it calls for: both, or neither.
+    fn apply_next(
+        &mut self,
+        sender: Party,
+        item: &Item,
+        uplink_full: bool,
+    ) -> Result<Taken, SiteFault>
+        requires sender { sender < self.old.parties }
+        requires count { count_from self.old.log sender < NUMBER_LIMIT }
+        ensures value { IfOk result (λ taken. taken ≡ taken_by self.old sender item.now Next) }
+        ensures ok { OnOk result (self.new ≡ with_applied self.old sender item.now) }
+        ensures err { OnErr result (self.new ≡ self.old) }
+        ensures fault { FailsBy (apply_fault uplink_full self.old sender item.now Next) result }
+    {
+        self.check_answer(item, uplink_full)?;
+        self.submissions.reserve(1)?;
+        let (effect, answer) = self.repository.apply(sender, item)?;
+        // Nothing fails from here on.
+        self.accepted[sender as usize].advance();
+        let answer = put_answer(&mut self.submissions, answer);
+        Ok(Taken::Applied { effect, answer })
+    }
+}
+
+/// Puts an answer behind submissions that have room for it, and answers its number among them.
+fn put_answer(
+    submissions: &mut Vec<Shared<Message>>,
+    answer: Option<Shared<Message>>,
+) -> Option<u32>
+    requires few { length submissions.old.items ≤ SUBMISSIONS_LIMIT }
+    requires room { length submissions.old.items < vec_capacity submissions.old }
+    ensures number { result ≡ answer_number submissions.old.items answer }
+    ensures put { submissions.new.items ≡ submissions.old.items ++ option_to_list answer }
+{
+    let answer = answer?;
+    let count = submissions.len() as u32;
+    submissions.push_reserved(answer);
+    Some(count + 1)
+}
+
+/// Receiving ends, so many, that accepted nothing.
+fn no_frames(alloc: Global, parties: u32) -> Result<Vec<Incoming>, AllocError>
+    ensures { IfOk result (λ ends. ends.items ≡ replicate parties 0) }
+{
+    let mut ends = Vec::new(alloc);
+    for _ in 0..parties {
+        ends.push(Incoming::new())?;
+    }
+    Ok(ends)
+}
+
+/// Whether an item carries a query, which alone calls for an answer.
+fn is_query(item: &Item) -> bool
+    ensures { (log : List ALogEntry) (sender : ℕ) → result ≡ is_some (answer_after log sender item.now) }
+{
+    match item {
+        Item::Carried { message, .. } => match message.get() {
+            Message::Query { .. } => true,
+            _ => false,
+        },
+        Item::Receipt { .. } => false,
+    }
+}
+
+/// Whether a message is a query or an answer, which the system submits by itself.
+fn is_query_or_answer(message: &Message) -> bool
+    ensures value { result ≡ is_query_or_answer message.now }
+    ensures other { result ≡ false → answers_in (message.now ∷ []) ≡ [] }
+{
+    matches!(message, Message::Query { .. } | Message::Answer { .. })
+}

@@ -1,0 +1,7 @@
+use Rattle.std.proofs.Common.{◌≡◌, map}
+use Rattle.std.specs.List.{range_with_len}
+use Rattle.mv_party.specs.Site.{new_site}
+use Rattle.mv_system.proofs.opening.new_sites.Given as goal
+
+abbrev pub invariant-loop-party : goal.invariant-loop-party
+invariant-loop-party l = l.sites.items ≡ map (λ party. new_site party l.parties l.limit) (range_with_len 0 l.party)

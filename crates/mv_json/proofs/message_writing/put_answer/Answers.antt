@@ -1,0 +1,17 @@
+use Rattle.mv_json.proofs.TokenLemmas.{one, ◌then◌, named}
+use Rattle.mv_json.proofs.message_writing.put_answer.Goals as goal
+
+-- member by member
+pub returns : goal.returns
+returns c =
+    named (
+    one c.in_ok-begin_object.ensures
+    then c.in_ok-put_whole.ensures
+    then one c.in_ok-key.ensures
+    then c.in_ok-put_found.ensures
+    then c.in_ok-put_text.ensures
+    then c.in_ok-put_text-2.ensures
+    then c.in_ok-put_whole-2.ensures
+    then c.in_ok-put_text-3.ensures
+    then c.put_end.ensures
+    ) (rw c.found_version-version.ensures (cc))

@@ -2,6 +2,7 @@ pub mod MembersLemmas
 pub mod ListLemmas
 pub mod ValueLemmas
 pub mod TokenLemmas
+pub mod ObjectLemmas
 pub mod ReadingLemmas
 pub mod NumberLemmas
 pub mod ChainLemmas

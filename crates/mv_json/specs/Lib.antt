@@ -12,6 +12,7 @@ pub mod Readers
 pub mod FieldFaults
 pub mod Values
 pub mod Messages
+pub mod Objects
 pub mod Tokens
 pub mod Legal
 pub mod Reads

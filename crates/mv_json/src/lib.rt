@@ -11,14 +11,15 @@ mod form;
 mod found_reading;
 pub mod laws;
 mod lists;
+mod member;
+mod member_values;
 mod member_writing;
 pub mod members;
+mod message_members;
 mod message_reading;
-mod message_writing;
 mod numbers;
 mod readers;
 mod reading;
-mod values;
 mod version;
 mod writing;
 

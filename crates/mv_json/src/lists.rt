@@ -1,9 +1,8 @@
-//! Reads the fields that are lists of texts, and writes such lists.
+//! Reads the fields that are lists of texts.
 
-ghost use Rattle.std.specs.Prelude.{◌≡◌, ◌≢◌, IfOk, IfErr, IsOk, MatchResult, Ok, Err, map, is_some};
+ghost use Rattle.std.specs.Prelude.{◌≡◌, ◌≢◌, IfOk, IfErr, IsOk, MatchResult, Ok, Err, is_some};
 ghost use Rattle.mv_json.specs.Limits.{most_markets, most_serials};
 ghost use Rattle.std.specs.List.{list_all};
-ghost use Rattle.serde_json.specs.Data.{string};
 ghost use Rattle.serde_json.specs.Find.{as_str};
 ghost use Rattle.serde_json.specs.View.{view, items_view};
 ghost use Rattle.mv_pack.specs.Code.{read_code};
@@ -15,7 +14,7 @@ use crate::{Field, MessageFault};
 use mv_message::{Markets, Serials};
 use mv_pack::{Market, Serial};
 use serde_json::Value;
-use std::alloc::{AllocError, Global};
+use std::alloc::Global;
 
 /// How many markets a product has at most.
 pub const MOST_MARKETS: usize = 32;
@@ -136,26 +135,4 @@ fn serial_in(value: &Value, field: Field) -> Result<Serial, MessageFault>
         Ok(serial) => Ok(serial),
         Err(fault) => Err(MessageFault::Pack(field, fault)),
     }
-}
-
-/// The texts of markets, as values.
-pub(crate) fn market_values(alloc: Global, markets: &[Market]) -> Result<Vec<Value>, AllocError>
-    ensures { IfOk result (λ values. map view values.items ≡ map string markets.now) }
-{
-    let mut values = Vec::with_capacity(alloc, markets.len())?;
-    for market in markets {
-        values.push(Value::try_from_str(alloc, market.as_str())?)?;
-    }
-    Ok(values)
-}
-
-/// The texts of serial numbers, as values.
-pub(crate) fn serial_values(alloc: Global, serials: &[Serial]) -> Result<Vec<Value>, AllocError>
-    ensures { IfOk result (λ values. map view values.items ≡ map string serials.now) }
-{
-    let mut values = Vec::with_capacity(alloc, serials.len())?;
-    for serial in serials {
-        values.push(Value::try_from_str(alloc, serial.as_str())?)?;
-    }
-    Ok(values)
 }

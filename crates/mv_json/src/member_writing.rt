@@ -1,68 +1,112 @@
-//! Writes the members of objects, as tokens of JSON.
+//! Puts objects into texts, as the tokens of their members.
 
-ghost use Rattle.std.specs.Prelude.{[], ◌∷◌, decimal};
-ghost use Rattle.json.specs.Token.{key, string, number, boolean};
-ghost use Rattle.json.specs.Tree.{members_tokens};
-ghost use Rattle.serde_json.specs.Data.{array};
-ghost use Rattle.serde_json.specs.Written.{members_outline};
-ghost use Rattle.mv_json.specs.Tokens.{Puts, tokens_of};
-ghost use Rattle.mv_json.specs.Values.{strings, text_or_null, version_members};
+ghost use Rattle.std.specs.Prelude.{flat_map};
+ghost use Rattle.serde_json.specs.Data.{array, object};
+ghost use Rattle.mv_json.specs.Objects.{members_of};
+ghost use Rattle.mv_json.specs.Tokens.{Puts, tokens_of, member_tokens};
+ghost use Rattle.mv_json.specs.Values.{strings, text_or_null};
 
-use crate::version::Version;
+use crate::member::{Member, Target};
 use json::Writer;
 use mv_pack::{Market, National, Serial};
 use std::alloc::AllocError;
 
-/// A text under its name.
-pub(crate) fn put_text(writer: &mut Writer, name: &str, text: &str) -> Result<(), AllocError>
-    ensures { Puts result writer.old writer.new (key name.now ∷ string text.now ∷ []) }
-{
-    writer.key(name)?;
-    writer.string(text)
+impl Target for Writer {
+    ghost puts = { λ result old new value. Puts result old new (tokens_of value) };
+
+    fn object(&mut self, members: &[Member<'_>]) -> Result<(), AllocError> {
+        put_object(self, members)
+    }
+
+    fn nested_object(
+        &mut self,
+        first: Member<'_>,
+        name: &str,
+        inner: &[Member<'_>],
+        rest: &[Member<'_>],
+    ) -> Result<(), AllocError> {
+        self.begin_object()?;
+        put_member(self, first)?;
+        self.key(name)?;
+        put_object(self, inner)?;
+        put_members(self, rest)?;
+        self.end_object()
+    }
 }
 
-/// A whole number under its name.
-pub(crate) fn put_whole(writer: &mut Writer, name: &str, value: u64) -> Result<(), AllocError>
-    ensures { Puts result writer.old writer.new (key name.now ∷ number (decimal value) ∷ []) }
+/// The object of these members.
+fn put_object(writer: &mut Writer, members: &[Member<'_>]) -> Result<(), AllocError>
+    ensures { Puts result writer.old writer.new (tokens_of (object (members_of members.now))) }
 {
-    writer.key(name)?;
-    writer.u64(value)
+    writer.begin_object()?;
+    put_members(writer, members)?;
+    writer.end_object()
 }
 
-/// `true` or `false` under its name.
-pub(crate) fn put_truth(writer: &mut Writer, name: &str, value: bool) -> Result<(), AllocError>
-    ensures { Puts result writer.old writer.new (key name.now ∷ boolean value ∷ []) }
+/// Members, in order.
+fn put_members(writer: &mut Writer, members: &[Member<'_>]) -> Result<(), AllocError>
+    ensures { Puts result writer.old writer.new (flat_map member_tokens members.now) }
 {
-    writer.key(name)?;
-    writer.boolean(value)
+    for member in members {
+        put_member(writer, *member)?;
+    }
+    Ok(())
 }
 
-/// A national number under its name, or `null`.
-pub(crate) fn put_national(
-    writer: &mut Writer,
-    name: &str,
-    national: &Option<National>,
-) -> Result<(), AllocError>
-    ensures { Puts result writer.old writer.new
-        (key name.now ∷ tokens_of (text_or_null national.now)) }
+/// A member.
+fn put_member(writer: &mut Writer, member: Member<'_>) -> Result<(), AllocError>
+    ensures { Puts result writer.old writer.new (member_tokens member.entry) }
 {
-    writer.key(name)?;
+    match member {
+        Member::Null(name) => {
+            writer.key(name)?;
+            writer.null()
+        }
+        Member::Text(name, text) => {
+            writer.key(name)?;
+            writer.string(text)
+        }
+        Member::Whole(name, number) => {
+            writer.key(name)?;
+            writer.u64(number)
+        }
+        Member::Truth(name, truth) => {
+            writer.key(name)?;
+            writer.boolean(truth)
+        }
+        Member::Expiry(name, expiry) => {
+            writer.key(name)?;
+            writer.string(expiry.text().as_str())
+        }
+        Member::National(name, national) => {
+            writer.key(name)?;
+            put_national(writer, national)
+        }
+        Member::Serials(name, serials) => {
+            writer.key(name)?;
+            put_serials(writer, serials)
+        }
+        Member::Markets(name, markets) => {
+            writer.key(name)?;
+            put_markets(writer, markets)
+        }
+    }
+}
+
+/// A national number, or `null`.
+fn put_national(writer: &mut Writer, national: &Option<National>) -> Result<(), AllocError>
+    ensures { Puts result writer.old writer.new (tokens_of (text_or_null national.now)) }
+{
     match national {
         Some(number) => writer.string(number.as_str()),
         None => writer.null(),
     }
 }
 
-/// A list of serial numbers under its name.
-pub(crate) fn put_serials(
-    writer: &mut Writer,
-    name: &str,
-    serials: &[Serial],
-) -> Result<(), AllocError>
-    ensures { Puts result writer.old writer.new
-        (key name.now ∷ tokens_of (array (strings serials.now))) }
+/// A list of serial numbers.
+fn put_serials(writer: &mut Writer, serials: &[Serial]) -> Result<(), AllocError>
+    ensures { Puts result writer.old writer.new (tokens_of (array (strings serials.now))) }
 {
-    writer.key(name)?;
     writer.begin_array()?;
     for serial in serials {
         writer.string(serial.as_str())?;
@@ -70,33 +114,13 @@ pub(crate) fn put_serials(
     writer.end_array()
 }
 
-/// A list of markets under its name.
-pub(crate) fn put_markets(
-    writer: &mut Writer,
-    name: &str,
-    markets: &[Market],
-) -> Result<(), AllocError>
-    ensures { Puts result writer.old writer.new
-        (key name.now ∷ tokens_of (array (strings markets.now))) }
+/// A list of markets.
+fn put_markets(writer: &mut Writer, markets: &[Market]) -> Result<(), AllocError>
+    ensures { Puts result writer.old writer.new (tokens_of (array (strings markets.now))) }
 {
-    writer.key(name)?;
     writer.begin_array()?;
     for market in markets {
         writer.string(market.as_str())?;
     }
     writer.end_array()
-}
-
-/// What ends an object of a version: `v`, which stands behind all other keys, and the bracket.
-pub(crate) fn put_end(writer: &mut Writer, version: Version) -> Result<(), AllocError>
-    ensures { Puts result writer.old writer.new
-        (members_tokens (members_outline (version_members version))) }
-{
-    match version {
-        Version::One => writer.end_object(),
-        Version::Two => {
-            put_whole(writer, "v", 2)?;
-            writer.end_object()
-        }
-    }
 }

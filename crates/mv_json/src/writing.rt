@@ -7,8 +7,8 @@ ghost use Rattle.mv_json.specs.Messages.{value_of, read_bytes};
 ghost use Rattle.mv_json.specs.Legal.{IsLegal};
 
 use crate::MessageFault;
-use crate::message_writing::put_message;
-use crate::values::message_value;
+use crate::member_values::Making;
+use crate::message_members::put_message;
 use json::Writer;
 use mv_message::Message;
 use serde_json::Value;
@@ -17,11 +17,14 @@ use std::mem;
 
 /// The JSON value of a message, of version 2 where it could not say all in version 1. The only refusal is M9, for want of
 /// memory.
+#[tactic(auto, using(crate::proofs::KeyLemmas::keys_ascend))]
 pub fn to_value(alloc: Global, message: &Message) -> Result<Value, MessageFault>
     ensures value { IfOk result (λ value. view value ≡ value_of message.now) }
     ensures memory { IfErr result (λ fault. fault ≡ MessageFault.Memory) }
 {
-    Ok(message_value(alloc, message)?)
+    let mut making = Making::new(alloc);
+    put_message(&mut making, message)?;
+    Ok(making.into_value())
 }
 
 /// Appends the canonical text of a message to a buffer: its value with no blanks, the keys in byte order. The only

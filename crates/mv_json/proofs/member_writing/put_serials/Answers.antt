@@ -5,5 +5,4 @@ use Rattle.mv_json.proofs.member_writing.put_serials.Goals as goal
 -- the list, and its end
 pub returns : goal.returns
 returns c =
-    let l = c.loop-serial in
-    named (l.invariant then one c.end_array.ensures) (whole_list c.args.name.now l.serial-index c.args.serials.now (omega arith))
+    let l = c.loop-serial in named (l.invariant then one c.end_array.ensures) (whole_list l.serial-index c.args.serials.now (omega arith))

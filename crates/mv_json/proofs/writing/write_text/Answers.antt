@@ -12,12 +12,12 @@ returns-else-is_err-clause-text c =
     let before = put.ensures.before ∙ c.new-writer.ensures.before ∙ ap (λ v. v.items) c.replace.ensures.value in
     on_ok_weaker put.result (λ written.
     c.into_inner.ensures.items
-    ∙ ap₂ (λ front text. front ++ text) before (printed (value_of c.args.message.now) c.new-writer.result.tokens put.new.writer.tokens c.new-writer.ensures.tokens written)) put.ensures.ok
+    ∙ ap₂ (λ front text. front ++ text) before (printed (value_of c.args.message.now) c.new-writer.result.tokens put.new.target.tokens c.new-writer.ensures.tokens written)) put.ensures.ok
 
 -- the writer's bytes are UTF-8
 pub returns-else-is_err-clause-utf8 : goal.returns-else-is_err-clause-utf8
 returns-else-is_err-clause-utf8 c =
     let put = c.put_message-written in
     on_ok_weaker put.result (λ written.
-    subst IsUtf8 (printed (value_of c.args.message.now) c.new-writer.result.tokens put.new.writer.tokens c.new-writer.ensures.tokens written)
+    subst IsUtf8 (printed (value_of c.args.message.now) c.new-writer.result.tokens put.new.target.tokens c.new-writer.ensures.tokens written)
     c.into_inner.ensures.utf8) put.ensures.ok

@@ -1,17 +1,1 @@
-pub mod MembersLemmas
-pub mod ListLemmas
-pub mod ValueLemmas
-pub mod TokenLemmas
-pub mod ReadingLemmas
-pub mod NumberLemmas
-pub mod ChainLemmas
-pub mod FormLemmas
-pub mod FoundLemmas
-pub mod SpelledLemmas
-pub mod ReadsLemmas
-pub mod LegalLemmas
-pub mod OrderLemmas
-pub mod FirstFaultLemmas
-pub mod KeyLemmas
 pub mod EqualityLemmas
-pub mod CanonLemmas

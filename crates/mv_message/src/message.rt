@@ -1,16 +1,10 @@
 //! What parties send each other.
 
-ghost use Rattle.std.specs.Prelude.{◌≡◌, IfOk, IfErr, IsOk, IsTrue};
-ghost use Rattle.serde_json.specs.View.{view};
-ghost use Rattle.mv_message.specs.Reading.{Gives};
+ghost use Rattle.std.specs.Prelude.{◌≡◌, IfOk, IsOk, IsTrue};
 
-use crate::form::{form_at, known_form_at};
 use crate::found::national_copy;
-use crate::readers::message_at;
-use crate::version::version_at;
-use crate::{Found, Markets, MessageFault, Serials, Standing, Text};
+use crate::{Found, Markets, Serials, Standing, Text};
 use mv_pack::{Batch, BatchKey, Expiry, Gtin, Moment, National, PackKey};
-use serde_json::Value;
 use std::alloc::{AllocError, Global};
 
 /// A party, by its number from 0.
@@ -135,50 +129,11 @@ pub enum Message {
 }
 
 impl Message {
-    ghost use Rattle.mv_message.specs.Messages.{read_bytes, read_message};
     ghost use Rattle.mv_message.specs.Kinds.{is_query_or_answer};
 
-    /// Reads a message from the bytes of a JSON text.
-    ///
-    /// The first of these that holds is the fault: M1, the bytes are no JSON; then those of `from_value`. M9 may stand
-    /// in place of any answer where memory was refused.
-    #[tactic(auto, using(crate::proofs::ValueLemmas::utf8_test, crate::proofs::ValueLemmas::utf8_fact))]
-    pub fn read(alloc: Global, bytes: &[u8]) -> Result<Message, MessageFault>
-        ensures { Gives result (read_bytes bytes.now) }
-    {
-        match Value::from_slice(alloc, bytes) {
-            Ok(value) => Message::from_value(alloc, &value),
-            Err(error) => {
-                if error.is_memory() {
-                    Err(MessageFault::Memory)
-                } else {
-                    Err(MessageFault::NotJson)
-                }
-            }
-        }
-    }
-
-    /// Reads a message from a JSON value.
-    ///
-    /// The first of these that holds is the fault: M2, the value is no object; M5 of `v`, which is there and not 2; M3
-    /// or M5 of `msg`; M4 with the first key, in byte order, that the message does not have; then the faults of the
-    /// fields, in byte order of their names. M9 may stand in place of any answer where memory was refused.
-    #[tactic(auto, unfolding(crate::specs::Messages::read_message))]
-    pub fn from_value(alloc: Global, value: &Value) -> Result<Message, MessageFault>
-        ensures { Gives result (read_message (view value.now)) }
-    {
-        let Some(members) = value.as_object() else {
-            return Err(MessageFault::NotObject);
-        };
-        let version = version_at(value)?;
-        let form = known_form_at(alloc, members, version, form_at(value, version)?)?;
-        message_at(alloc, value, version, form)
-    }
-
-    /// A message of its own that equals this one. The only refusal is M9, for want of memory.
-    pub fn copy(&self, alloc: Global) -> Result<Message, MessageFault>
+    /// A message of its own that equals this one.
+    pub fn copy(&self, alloc: Global) -> Result<Message, AllocError>
         ensures copy { IfOk result (λ message. message ≡ self.now) }
-        ensures memory { IfErr result (λ fault. fault ≡ MessageFault.Memory) }
         // A query or an answer takes no memory to copy.
         ensures no_memory { IsTrue (is_query_or_answer self.now) → IsOk result }
     {
@@ -193,10 +148,8 @@ impl Message {
                 expiry,
                 national,
                 serials,
-            } => Ok(upload_copy(alloc, *gtin, batch, *expiry, national, serials)?),
-            Message::Status { key, to, user, at } => {
-                Ok(status_copy(alloc, key, *to, user, *at)?)
-            }
+            } => upload_copy(alloc, *gtin, batch, *expiry, national, serials),
+            Message::Status { key, to, user, at } => status_copy(alloc, key, *to, user, *at),
             Message::Recall { key, at } => Ok(Message::Recall {
                 key: key.copy(),
                 at: *at,
@@ -207,7 +160,7 @@ impl Message {
                 after,
                 after_serials,
                 at,
-            } => Ok(repack_copy(alloc, before, before_serials, after, after_serials, *at)?),
+            } => repack_copy(alloc, before, before_serials, after, after_serials, *at),
             Message::Withdraw { gtin, at } => Ok(Message::Withdraw {
                 gtin: *gtin,
                 at: *at,

@@ -83,7 +83,7 @@ fn product_code() -> Option<Gtin> {
 
 /// The message that a text is.
 fn message_of(alloc: Global, text: &str) -> Option<Shared<Message>> {
-    Shared::new(alloc, Message::read(alloc, text.as_bytes()).ok()?).ok()
+    Shared::new(alloc, mv_json::read(alloc, text.as_bytes()).ok()?).ok()
 }
 
 /// Whether a message of a party is its `k`-th and reaches these parties.

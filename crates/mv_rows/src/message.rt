@@ -47,7 +47,7 @@ const CANONICAL: [&str; 11] = [
 const OTHER_PACK: &str = "{\"gtin\":\"09506000134352\",\"msg\":\"query\",\"serial\":\"S9\"}";
 
 fn message(alloc: Global, text: &str) -> Option<Message> {
-    Message::read(alloc, text.as_bytes()).ok()
+    mv_json::read(alloc, text.as_bytes()).ok()
 }
 
 fn is_copied(alloc: Global, text: &str) -> Option<bool> {
@@ -58,8 +58,8 @@ fn is_copied(alloc: Global, text: &str) -> Option<bool> {
 
 fn is_read_back(alloc: Global, text: &str) -> Option<bool> {
     let message = message(alloc, text)?;
-    let value = message.to_value(alloc).ok()?;
-    let again = Message::from_value(alloc, &value).ok()?;
+    let value = mv_json::to_value(alloc, &message).ok()?;
+    let again = mv_json::from_value(alloc, &value).ok()?;
     Some(again == message)
 }
 
@@ -67,7 +67,7 @@ fn is_read_back(alloc: Global, text: &str) -> Option<bool> {
 fn written_behind(alloc: Global, before: &str, text: &str) -> Option<String> {
     let message = message(alloc, text)?;
     let mut out = Vec::from_slice(alloc, before.as_bytes()).ok()?;
-    message.write_text(alloc, &mut out).ok()?;
+    mv_json::write_text(alloc, &message, &mut out).ok()?;
     String::from_utf8(out).ok()
 }
 
@@ -78,7 +78,7 @@ fn is_written_behind(alloc: Global, before: &str, text: &str) -> Option<bool> {
 
 fn is_own_text(alloc: Global, text: &str) -> Option<bool> {
     let message = message(alloc, text)?;
-    Some(message.text(alloc).ok()?.as_str() == text)
+    Some(mv_json::text(alloc, &message).ok()?.as_str() == text)
 }
 
 fn shared(alloc: Global, text: &str) -> Option<Shared<Message>> {

@@ -2,7 +2,7 @@
 //! `examples/`.
 
 use mv_link::Item;
-use mv_message::{Message, Shared};
+use mv_message::Shared;
 use mv_repository::{Effect, Repository};
 use std::alloc::Global;
 use std::test::Fail;
@@ -13,7 +13,7 @@ const RECALL: &str =
 
 /// The effect of the recall, from a sender and under a stamp, which is its number too.
 fn effect(repository: &mut Repository, alloc: Global, sender: u32, stamp: u32) -> Option<Effect> {
-    let message = Shared::new(alloc, Message::read(alloc, RECALL.as_bytes()).ok()?).ok()?;
+    let message = Shared::new(alloc, mv_json::read(alloc, RECALL.as_bytes()).ok()?).ok()?;
     let item = Item::Carried {
         k: stamp,
         stamp,

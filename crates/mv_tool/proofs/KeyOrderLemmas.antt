@@ -2,9 +2,9 @@
 use Rattle.std.proofs.Common.{ℕ, List, codes, refl, None, Some}
 use Rattle.mv_pack.specs.declared.fault.PackFault.{PackFault}
 use Rattle.mv_pack.specs.declared.fault.PackFault.TheVariants as pack
-use Rattle.mv_message.specs.Fields.{field_name as message_field_name}
-use Rattle.mv_message.specs.declared.fault.MessageFault.{MessageFault}
-use Rattle.mv_message.specs.declared.fault.MessageFault.TheVariants as message
+use Rattle.mv_json.specs.Fields.{field_name as message_field_name}
+use Rattle.mv_json.specs.declared.fault.MessageFault.{MessageFault}
+use Rattle.mv_json.specs.declared.fault.MessageFault.TheVariants as message
 use Rattle.mv_repository.specs.declared.effect.Effect.{Effect}
 use Rattle.mv_repository.specs.declared.effect.Effect.TheVariants as effects
 use Rattle.mv_repository.specs.declared.verdict.Joint.{Joint}

@@ -5,7 +5,7 @@ use Rattle.std.specs.List.{list_all}
 use Rattle.serde_json.specs.Find.{as_str}
 use Rattle.serde_json.specs.View.{view, items_view}
 use Rattle.serde_json.specs.declared.value.Value.{Value}
-use Rattle.mv_message.specs.Reading.{are_texts}
+use Rattle.mv_json.specs.Reading.{are_texts}
 use Rattle.mv_tool.specs.Reading.{is_text_list, are_text_lists}
 
 -- all values are texts where all members are

@@ -9,7 +9,7 @@ use Rattle.serde_json.specs.Data as datas
 use Rattle.serde_json.specs.Read.{read}
 use Rattle.mv_machine.specs.declared.step.Step.{Step as AnyStep}
 use Rattle.mv_machine.specs.declared.step.Step.TheVariants as steps
-use Rattle.mv_message.proofs.ValueLemmas.{utf8_test}
+use Rattle.mv_json.proofs.ValueLemmas.{utf8_test}
 use Rattle.mv_tool.specs.Fields.{field_name}
 use Rattle.mv_tool.specs.Kinds.{kind_at, kind_named}
 use Rattle.mv_tool.specs.PlainLines.{IsWhole, HasNumber, AreLink, AreAsked, Asks, value_of, line_tokens, last}

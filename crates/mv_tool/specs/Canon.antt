@@ -2,8 +2,8 @@
 use Rattle.std.specs.Prelude.{◌≡◌, ℕ, List, map, Result, Ok, Err, ⊤}
 use Rattle.serde_json.specs.Data.{Data}
 use Rattle.serde_json.specs.Written.{compact_text}
-use Rattle.mv_message.specs.Messages.{read_bytes, value_of}
-use Rattle.mv_message.specs.declared.fault.MessageFault.{MessageFault}
+use Rattle.mv_json.specs.Messages.{read_bytes, value_of}
+use Rattle.mv_json.specs.declared.fault.MessageFault.{MessageFault}
 use Rattle.mv_message.specs.declared.message.Message.{Message}
 use Rattle.mv_tool.specs.Lines.{pieces, lines_of}
 use Rattle.mv_tool.specs.Replies.{text_lines}

@@ -4,7 +4,7 @@ use Rattle.std.specs.Cmp.Lexicographic.{slice_cmp}
 use Rattle.std.specs.Ordering.{nat_cmp}
 use Rattle.std.specs.declared.cmp.Ordering.TheVariants.{Less}
 use Rattle.serde_json.specs.Data.{Data, null, boolean, number, string, array, object, Members, no_members, member}
-use Rattle.mv_message.specs.declared.fault.MessageFault.{MessageFault}
+use Rattle.mv_json.specs.declared.fault.MessageFault.{MessageFault}
 use Rattle.mv_machine.specs.declared.reply.Reply.{Reply}
 use Rattle.mv_tool.specs.ReplyLines.{line_fault_value, message_fault_value, opened_value, refused, reply_value}
 use Rattle.mv_tool.specs.declared.line_fault.LineFault.{LineFault}

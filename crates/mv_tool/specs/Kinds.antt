@@ -1,7 +1,7 @@
 -- The kinds of lines, by the text of their field `do`, and the fields of each.
 use Rattle.std.specs.Prelude.{ℕ, if◌then◌else◌, List, [], ◌∷◌, map, codes, bytes_eq, Option, Some, None, Result, Ok, Err}
 use Rattle.serde_json.specs.Data.{Data, Members}
-use Rattle.mv_message.specs.Members.{first_unknown}
+use Rattle.mv_json.specs.Members.{first_unknown}
 use Rattle.mv_tool.specs.declared.field.LineField.{LineField}
 use Rattle.mv_tool.specs.declared.field.LineField.TheVariants as fields
 use Rattle.mv_tool.specs.declared.line_fault.LineFault.{LineFault}

@@ -6,10 +6,10 @@ use Rattle.mv_pack.specs.Code.{read_code}
 use Rattle.mv_pack.specs.Gtin.{read_gtin}
 use Rattle.mv_pack.specs.Market.{read_market}
 use Rattle.mv_pack.specs.declared.fault.PackFault.{PackFault}
-use Rattle.mv_message.specs.Messages.{read_message}
-use Rattle.mv_message.specs.Reading.{are_texts}
+use Rattle.mv_json.specs.Messages.{read_message}
+use Rattle.mv_json.specs.Reading.{are_texts}
 use Rattle.mv_message.specs.declared.message.Message.{Message}
-use Rattle.mv_message.specs.declared.fault.MessageFault.{MessageFault}
+use Rattle.mv_json.specs.declared.fault.MessageFault.{MessageFault}
 use Rattle.mv_tool.specs.declared.field.LineField.{LineField}
 use Rattle.mv_tool.specs.declared.field.LineField.TheVariants as fields
 use Rattle.mv_tool.specs.declared.line_fault.LineFault.{LineFault}

@@ -5,9 +5,9 @@ use Rattle.serde_json.specs.View.{items_of}
 use Rattle.mv_pack.specs.Fault.{code_of as pack_code}
 use Rattle.mv_pack.specs.declared.fault.PackFault.{PackFault}
 use Rattle.mv_pack.specs.declared.fault.PackFault.TheVariants.{Character}
-use Rattle.mv_message.specs.Fields.{field_name as message_field_name}
-use Rattle.mv_message.specs.declared.fault.MessageFault.{MessageFault}
-use Rattle.mv_message.specs.declared.fault.MessageFault.TheVariants as message
+use Rattle.mv_json.specs.Fields.{field_name as message_field_name}
+use Rattle.mv_json.specs.declared.fault.MessageFault.{MessageFault}
+use Rattle.mv_json.specs.declared.fault.MessageFault.TheVariants as message
 use Rattle.mv_repository.specs.Effect.{code_of as effect_code}
 use Rattle.mv_repository.specs.declared.effect.Effect.{Effect}
 use Rattle.mv_repository.specs.declared.effect.Effect.TheVariants.{Uploaded}

@@ -9,7 +9,7 @@ use crate::ServeFault;
 use crate::answering::Answering;
 use crate::engine::answer_lines;
 use crate::reply_line::append;
-use mv_message::{Message, MessageFault};
+use mv_json::MessageFault;
 use std::alloc::{AllocError, Global};
 use std::io::{Read, Write};
 use std::marker::Model;
@@ -32,8 +32,8 @@ impl Answering for Canonizer {
     ghost replies = { IsCanon };
 
     fn answer(&mut self, line: &[u8], out: &mut Vec<u8>) -> Result<(), AllocError> {
-        match Message::read(self.alloc, line) {
-            Ok(message) => message.write_text(self.alloc, out),
+        match mv_json::read(self.alloc, line) {
+            Ok(message) => mv_json::write_text(self.alloc, &message, out),
             Err(MessageFault::Memory) => Err(AllocError),
             Err(fault) => append(self.alloc, out, &fault),
         }

@@ -7,8 +7,8 @@ ghost use Rattle.mv_tool.specs.Kinds.{kind_named, kind_at, names_of, known_kind_
 
 use crate::reading::text_of;
 use crate::{LineFault, LineField};
+use mv_json::members::first_unknown;
 use mv_message::Text;
-use mv_message::members::first_unknown;
 use serde_json::{Map, Value};
 use std::alloc::Global;
 

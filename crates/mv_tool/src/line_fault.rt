@@ -4,7 +4,8 @@ ghost use Rattle.std.specs.Prelude.{◌≡◌};
 ghost use Rattle.mv_tool.specs.declared.line_fault.LineFault.TheVariants.{Memory};
 
 use crate::LineField;
-use mv_message::{MessageFault, Text};
+use mv_json::MessageFault;
+use mv_message::Text;
 use mv_pack::PackFault;
 use std::alloc::{AllocError, AllocFailed};
 

@@ -5,7 +5,8 @@ ghost use Rattle.serde_json.specs.View.{view};
 ghost use Rattle.mv_tool.specs.Reading.{member_at, text_at, gtin_at, serial_at, whole_number, number_at, message_at, Gives};
 
 use crate::{LineFault, LineField};
-use mv_message::{Message, MessageFault};
+use mv_json::MessageFault;
+use mv_message::Message;
 use mv_pack::{Gtin, Serial};
 use serde_json::Value;
 use std::alloc::Global;
@@ -83,7 +84,7 @@ fn whole_number(value: &Value) -> Option<u32>
 pub(crate) fn message_of(alloc: Global, value: &Value) -> Result<Message, LineFault>
     ensures { Gives result (message_at (view value.now)) }
 {
-    match Message::from_value(alloc, member_of(value, LineField::Message)?) {
+    match mv_json::from_value(alloc, member_of(value, LineField::Message)?) {
         Ok(message) => Ok(message),
         Err(MessageFault::Memory) => Err(LineFault::Memory),
         Err(fault) => Err(LineFault::Message(fault)),

@@ -9,8 +9,8 @@ ghost use Rattle.mv_tool.specs.ReplyLines.{refused, refused_field, refused_pack,
 use crate::LineFault;
 use crate::members::{Member, write_object};
 use json::Writer;
+use mv_json::MessageFault;
 use mv_machine::{Refusal, Reply};
-use mv_message::MessageFault;
 use mv_pack::PackFault;
 use mv_repository::{Effect, Joint, Verdict};
 use std::alloc::{AllocError, Global};

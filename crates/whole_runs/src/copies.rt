@@ -93,7 +93,7 @@ fn receipt_value(alloc: Global, k: u32, reached: &[Party], query: bool) -> Optio
 
 /// A message as it was carried.
 fn carried_value(alloc: Global, k: u32, stamp: u32, message: &Message) -> Option<Value> {
-    let message = message.to_value(alloc).ok()?;
+    let message = mv_json::to_value(alloc, message).ok()?;
     let value = json!(in alloc; { "k": k, "message": message, "stamp": stamp });
     value.ok()
 }
@@ -119,7 +119,7 @@ fn master_value(alloc: Global, gtin: &Gtin, product: &Product) -> Option<Value> 
         gtin: *gtin,
         product: product.copy(alloc).ok()?,
     };
-    master.to_value(alloc).ok()
+    mv_json::to_value(alloc, &master).ok()
 }
 
 /// Whether a batch is recalled.

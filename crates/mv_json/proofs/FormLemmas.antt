@@ -1,0 +1,154 @@
+-- The keys, the version and the form of an object.
+use Rattle.std.proofs.Common.{◌≡◌, ◌∙◌, ℕ, true, false, not, cond, List, [], ◌∷◌, ap, sym, subst, refl, arith}
+use Rattle.std.specs.Prelude.{◌==◌, Option, Some, None, Ok, Err, find, Contains}
+use Rattle.std.specs.List.{AllByRecursion}
+use Rattle.std.specs.Cmp.Lexicographic.{nat_list_eq_equiv}
+use Rattle.std.proofs.lemmas.Bool.Decides.{nat_tests}
+use Rattle.std.proofs.lemmas.Map.Views.{Contains-from_any, list_any-from_Contains}
+use Rattle.serde_json.specs.Data.{Data, object}
+use Rattle.serde_json.specs.Find.{get, as_object}
+use Rattle.mv_json.specs.declared.field.Field.TheVariants as fields
+use Rattle.mv_json.specs.declared.fault.MessageFault.TheVariants.{Kind, NotObject}
+use Rattle.mv_json.specs.declared.form.Form.{Form}
+use Rattle.mv_json.specs.declared.form.Form.TheVariants as forms
+use Rattle.mv_message.specs.declared.message.Message.{Message}
+use Rattle.mv_json.specs.declared.version.Version.{Version}
+use Rattle.mv_json.specs.declared.version.Version.TheVariants.{One, Two}
+use Rattle.mv_json.specs.Fields.{field_name}
+use Rattle.mv_json.specs.Forms.{form_name, forms_of, form_named, form_at, names_of, unless_unknown, known_form_at}
+use Rattle.mv_json.specs.Members.{keys_of, is_among, first_unknown}
+use Rattle.mv_json.specs.Messages.{read_message}
+use Rattle.mv_json.specs.Readers.{message_at}
+use Rattle.mv_json.specs.Reading.{◌and_then◌, some_or, text_at}
+use Rattle.mv_json.specs.Numbers.{whole_number}
+use Rattle.mv_json.specs.Versions.{version_numbered, version_of, version_at}
+use Rattle.mv_json.specs.Reads.{HasText, HasOnly, IsOfVersion, IsOfForm}
+use Rattle.mv_json.specs.Values.{whole}
+use Rattle.mv_json.proofs.NumberLemmas.{whole_number_ok}
+use Rattle.mv_json.proofs.ReadingLemmas.{both_ok, some_or_ok, as_object_ok, text_ok, text_is_read, same_bytes, found_by_name}
+
+-- no key is unknown, so each is one of the names
+pub all_known : (names keys : List (List ℕ)) → find (λ key. not (is_among names key)) keys ≡ None → AllByRecursion (Contains names) keys
+all_known names [] h = tt
+all_known names (k ∷ ks) h = elim (is_among names k) as (λ b. is_among names k ≡ b → cond (not b) (Some k) (find (λ key. not (is_among names key)) ks) ≡ None → Contains names k × AllByRecursion (Contains names) ks) [
+  | true ↦ λ known e. (Contains-from_any same_bytes k names known, all_known names ks e)
+  | false ↦ λ known e. cc
+] refl h
+
+pub none_unknown : (names keys : List (List ℕ)) → AllByRecursion (Contains names) keys → find (λ key. not (is_among names key)) keys ≡ None
+none_unknown names [] h = refl
+none_unknown names (k ∷ ks) h =
+    ap (λ b. cond (not b) (Some k) (find (λ key. not (is_among names key)) ks)) (list_any-from_Contains nat_list_eq_equiv k names h.0)
+    ∙ none_unknown names ks h.1
+
+unless_ok : (form : Form) (o : Option (List ℕ)) (known : Form) → unless_unknown form o ≡ Ok known → (o ≡ None) × (form ≡ known)
+unless_ok form None known h = (refl, cc)
+unless_ok form (Some key) known h = cc
+
+is_two : (n : ℕ) → (n == 2) ≡ true → n ≡ 2
+is_two n h = grind (arith, nat_tests)
+
+numbered_ok : (n : ℕ) (version : Version) → version_numbered n ≡ Ok version → (n ≡ 2) × (version ≡ Two)
+numbered_ok n version h = elim (n == 2) as (λ b. (n == 2) ≡ b → cond b (Ok Two) (Err (Kind fields.V)) ≡ Ok version → (n ≡ 2) × (version ≡ Two))
+    [ true ↦ λ e same. (is_two n e, cc) | false ↦ λ e same. cc ] refl h
+
+-- what `v` is where it gives that version
+abbrev IsVersion : Version → Option Data → Type 0
+IsVersion One o = o ≡ None
+IsVersion Two o = o ≡ Some (whole 2)
+
+version_of_ok : (o : Option Data) (version : Version) → version_of o ≡ Ok version → IsVersion version o
+version_of_ok None One h = refl
+version_of_ok None Two h = cc
+version_of_ok (Some found) version h =
+    let p = both_ok (some_or (Kind fields.V) (whole_number found)) version_numbered version h in
+    let n = numbered_ok p.0 version p.2 in
+    let is_whole : found ≡ whole p.0 = whole_number_ok found p.0 (some_or_ok (Kind fields.V) (whole_number found) p.0 p.1) in
+    subst (λ w. IsVersion w (Some found)) (sym n.1) (ap (λ x. Some x) (is_whole ∙ ap whole n.0))
+
+-- an object whose version is read is of that version
+pub version_ok : (d : Data) (version : Version) → version_at d ≡ Ok version → IsOfVersion version d
+unfolding version_at
+version_ok d One h = version_of_ok (get (field_name fields.V) d) One h
+version_ok d Two h = version_of_ok (get (field_name fields.V) d) Two h
+
+pub version_read : (d : Data) (version : Version) → IsOfVersion version d → version_at d ≡ Ok version
+unfolding version_at
+version_read d One h = ap version_of h
+version_read d Two h = ap version_of h
+
+-- the form came with that version, or before it
+abbrev pub IsIn : Form → Version → Type 0
+IsIn forms.Withdraw One = ⊥
+IsIn form version = Unit {0}
+
+form_has_name : (version : Version) (t : List ℕ) (form : Form) → form_named version t ≡ Some form → (t ≡ form_name form) × IsIn form version
+form_has_name One t form h = found_by_name form_name (λ f. IsIn f One) t (forms_of One) form (tt, (tt, (tt, (tt, (tt, (tt, (tt, tt))))))) h
+form_has_name Two t form h = found_by_name form_name (λ f. IsIn f Two) t (forms_of Two) form (tt, (tt, (tt, (tt, (tt, (tt, (tt, (tt, tt)))))))) h
+
+form_is_named : (version : Version) (form : Form) → IsIn form version → form_named version (form_name form) ≡ Some form
+form_is_named One forms.Answer h = refl
+form_is_named One forms.Master h = refl
+form_is_named One forms.Query h = refl
+form_is_named One forms.Recall h = refl
+form_is_named One forms.Repack h = refl
+form_is_named One forms.Status h = refl
+form_is_named One forms.Upload h = refl
+form_is_named One forms.Withdraw h = absurd h
+form_is_named Two forms.Answer h = refl
+form_is_named Two forms.Master h = refl
+form_is_named Two forms.Query h = refl
+form_is_named Two forms.Recall h = refl
+form_is_named Two forms.Repack h = refl
+form_is_named Two forms.Status h = refl
+form_is_named Two forms.Upload h = refl
+form_is_named Two forms.Withdraw h = refl
+
+form_ok : (version : Version) (d : Data) (form : Form) → form_at version d ≡ Ok form → HasText d fields.Msg (form_name form) × IsIn form version
+unfolding form_at
+form_ok version d form h =
+    let b = both_ok (text_at fields.Msg d) (λ t. some_or (Kind fields.Msg) (form_named version t)) form h in
+    let named = form_has_name version b.0 form (some_or_ok (Kind fields.Msg) (form_named version b.0) form b.2) in
+    (subst (HasText d fields.Msg) named.0 (text_ok fields.Msg d b.0 b.1), named.1)
+
+form_read : (version : Version) (d : Data) (form : Form) → HasText d fields.Msg (form_name form) → IsIn form version → form_at version d ≡ Ok form
+unfolding form_at
+form_read version d form h is_in =
+    ap (λ r. r and_then λ t. some_or (Kind fields.Msg) (form_named version t)) (text_is_read fields.Msg d (form_name form) h)
+    ∙ ap (some_or (Kind fields.Msg)) (form_is_named version form is_in)
+
+same_form : (version : Version) (d : Data) (m : Message) (form known : Form) → form ≡ known → message_at version known d ≡ Ok m → message_at version form d ≡ Ok m
+same_form version d m form known same h = ap (λ f. message_at version f d) same ∙ h
+
+-- a message was read, so the object has a version and a form, and its fields give the message
+pub opened : (d : Data) (m : Message) → read_message d ≡ Ok m → (version : Version) × (form : Form) × IsOfVersion version d × IsOfForm version form d × IsIn form version × (message_at version form d ≡ Ok m)
+unfolding read_message
+opened d m h =
+    let a = both_ok (some_or NotObject (as_object d)) (λ ms. version_at d and_then λ version. form_at version d and_then λ form. known_form_at version form ms and_then λ known. message_at version known d) m h in
+    let v = both_ok (version_at d) (λ version. form_at version d and_then λ form. known_form_at version form a.0 and_then λ known. message_at version known d) m a.2 in
+    let b = both_ok (form_at v.0 d) (λ form. known_form_at v.0 form a.0 and_then λ known. message_at v.0 known d) m v.2 in
+    let k = both_ok (known_form_at v.0 b.0 a.0) (λ known. message_at v.0 known d) m b.2 in
+    let u = unless_ok b.0 (first_unknown (names_of v.0 b.0) a.0) k.0 k.1 in
+    let is_object : d ≡ object a.0 = as_object_ok d a.0 (some_or_ok NotObject (as_object d) a.0 a.1) in
+    let named = form_ok v.0 d b.0 b.1 in (
+      v.0,
+      b.0,
+      version_ok d v.0 v.1,
+      ((a.0, is_object, all_known (names_of v.0 b.0) (keys_of a.0) u.0), named.0),
+      named.1,
+      same_form v.0 d m b.0 k.0 u.1 k.2,
+    )
+
+-- an object of that version and form, with no other key, is read by its fields
+pub read_by_fields : (d : Data) (version : Version) (form : Form) → version_at d ≡ Ok version → form_at version d ≡ Ok form → HasOnly (names_of version form) d → read_message d ≡ message_at version form d
+unfolding read_message
+read_by_fields d version form of_version of_form (ms, is_object, known) =
+    ap (λ o. some_or NotObject o and_then λ ms. version_at d and_then λ version. form_at version d and_then λ form. known_form_at version form ms and_then λ known. message_at version known d) (ap as_object is_object)
+    ∙ ap (λ r. r and_then λ version. form_at version d and_then λ form. known_form_at version form ms and_then λ known. message_at version known d) of_version
+    ∙ ap (λ r. r and_then λ form. known_form_at version form ms and_then λ known. message_at version known d) of_form
+    ∙ ap (λ o. unless_unknown form o and_then λ known. message_at version known d) (none_unknown (names_of version form) (keys_of ms) known)
+
+-- an object of that version and form is read as what its fields give
+pub reopened : (d : Data) (m : Message) (version : Version) (form : Form) → IsOfVersion version d → IsOfForm version form d → IsIn form version → message_at version form d ≡ Ok m → read_message d ≡ Ok m
+reopened d m version form of_version (known, name) is_in fields_read =
+    read_by_fields d version form (version_read d version of_version) (form_read version d form name is_in) known ∙ fields_read

@@ -1,0 +1,6 @@
+use Rattle.mv_json.proofs.ReadsLemmas.{reads_exactly}
+use Rattle.mv_json.proofs.laws.reads_exactly.Goals as goal
+
+-- the law as it stands in the lemmas
+pub returns : goal.returns
+returns c = reads_exactly

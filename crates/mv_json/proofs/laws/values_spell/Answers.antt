@@ -1,0 +1,6 @@
+use Rattle.mv_json.proofs.LegalLemmas.{value_spells}
+use Rattle.mv_json.proofs.laws.values_spell.Goals as goal
+
+-- the law as it stands in the lemmas
+pub returns : goal.returns
+returns c = value_spells

@@ -1,0 +1,4 @@
+use Rattle.mv_json.proofs.message_members.put_message.Goals as goal
+
+pub returns-in-Master : goal.returns-in-Master
+returns-in-Master g c = rw c.in-Master.is c.put_master.ensures

@@ -1,0 +1,41 @@
+-- What reading a field that is a whole number, or `true` or `false`, gives: its meaning, or the first fault.
+use Rattle.std.specs.Prelude.{ℕ, ◌^◌, ◌==◌, Bool, nat_lt, if◌then◌else◌, option_and_then, Option, Result, Ok, Err}
+use Rattle.serde_json.specs.Data.{Data}
+use Rattle.serde_json.specs.Find.{as_bool, as_number, as_u64}
+use Rattle.mv_pack.specs.Moment.{read_moment}
+use Rattle.mv_json.specs.declared.field.Field.{Field}
+use Rattle.mv_json.specs.declared.fault.MessageFault.{MessageFault}
+use Rattle.mv_json.specs.declared.fault.MessageFault.TheVariants.{Kind}
+use Rattle.mv_json.specs.Reading.{◌and_then◌, some_or, of_field, member_at}
+
+-- whether a field says `true`: M3, M5
+unfoldable pub truth_at : Field → Data → Result Bool MessageFault
+truth_at field value = member_at field value and_then λ found. some_or (Kind field) (as_bool found)
+
+-- the whole number that a value is; one with a fraction or an exponent is none
+abbrev pub whole_number : Data → Option ℕ
+whole_number value = option_and_then as_u64 (as_number value)
+
+-- the whole number of a field: M3, M5
+unfoldable pub whole_at : Field → Data → Result ℕ MessageFault
+whole_at field value = member_at field value and_then λ found. some_or (Kind field) (whole_number found)
+
+-- the moment of a field: M3, M5, M6
+unfoldable pub moment_at : Field → Data → Result ℕ MessageFault
+moment_at field value = whole_at field value and_then λ seconds. of_field field (read_moment seconds)
+
+-- a number of at most 32 bits, else M5
+abbrev pub of_32_bits : Field → ℕ → Result ℕ MessageFault
+of_32_bits field number = if nat_lt number (2 ^ 32) then Ok number else Err (Kind field)
+
+-- the whole number of a field, up to 4,294,967,295: M3, M5
+unfoldable pub number_at : Field → Data → Result ℕ MessageFault
+number_at field value = whole_at field value and_then of_32_bits field
+
+-- a number that is not 0, else M5
+abbrev pub not_zero : Field → ℕ → Result ℕ MessageFault
+not_zero field number = if number == 0 then Err (Kind field) else Ok number
+
+-- the whole number of a field, from 1 to 4,294,967,295: M3, M5
+unfoldable pub count_at : Field → Data → Result ℕ MessageFault
+count_at field value = number_at field value and_then not_zero field

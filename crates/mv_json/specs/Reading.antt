@@ -1,0 +1,122 @@
+-- What reading a part of a JSON value gives: its meaning, or the first fault.
+use Rattle.std.specs.Prelude.{◌≡◌, ◌≢◌, ℕ, suc, ◌==◌, ◌&&◌, ◌||◌, not, Bool, true, nat_lt, if◌then◌else◌, List, [], ◌∷◌, length, is_some, Option, Some, None, Result, Ok, Err}
+use Rattle.serde_json.specs.Data.{Data, Items, no_items, item}
+use Rattle.serde_json.specs.Find.{get, as_null, as_str, as_array}
+use Rattle.mv_pack.specs.Code.{read_code}
+use Rattle.mv_pack.specs.Expiry.{CivilDate, read_expiry}
+use Rattle.mv_pack.specs.Gtin.{read_gtin}
+use Rattle.mv_pack.specs.Market.{read_market}
+use Rattle.mv_pack.specs.declared.fault.PackFault.{PackFault}
+use Rattle.mv_json.specs.declared.field.Field.{Field}
+use Rattle.mv_json.specs.declared.fault.MessageFault.{MessageFault}
+use Rattle.mv_json.specs.declared.fault.MessageFault.TheVariants.{Missing, Kind, Pack, Count, TextLength, Memory}
+use Rattle.mv_message.specs.declared.standing.Standing.{Standing}
+use Rattle.mv_json.specs.Fields.{field_name}
+use Rattle.mv_message.specs.Standings.{standing_named}
+use Rattle.mv_json.specs.Limits.{most_markets, most_serials, most_text_bytes}
+
+-- the next step on what was read, or the fault that there was
+infixl 10 ◌and_then◌
+abbrev pub ◌and_then◌ : {A B : Type 0} → Result A MessageFault → (A → Result B MessageFault) → Result B MessageFault
+(Ok meaning) and_then next = next meaning
+(Err fault) and_then next = Err fault
+
+-- what there is, or the fault where there is nothing
+abbrev pub some_or : {A : Type 0} → MessageFault → Option A → Result A MessageFault
+some_or fault None = Err fault
+some_or fault (Some x) = Ok x
+
+-- a refusal of a reader of values is a fault of the field (M6)
+abbrev pub of_field : {A : Type 0} → Field → Result A PackFault → Result A MessageFault
+of_field field (Ok meaning) = Ok meaning
+of_field field (Err fault) = Err (Pack field fault)
+
+-- the value of a field, else M3
+abbrev pub member_at : Field → Data → Result Data MessageFault
+member_at field value = some_or (Missing field) (get (field_name field) value)
+
+-- the text of a field: M3, M5
+abbrev pub text_at : Field → Data → Result (List ℕ) MessageFault
+text_at field value = member_at field value and_then λ found. some_or (Kind field) (as_str found)
+
+-- the product code of a field: M3, M5, M6
+unfoldable pub gtin_at : Field → Data → Result (List ℕ) MessageFault
+gtin_at field value = text_at field value and_then λ text. of_field field (read_gtin text)
+
+-- the serial number, batch number or national number of a field: M3, M5, M6
+unfoldable pub code_at : Field → Data → Result (List ℕ) MessageFault
+code_at field value = text_at field value and_then λ text. of_field field (read_code text)
+
+-- the expiry date of a field: M3, M5, M6
+unfoldable pub expiry_at : Field → Data → Result CivilDate MessageFault
+expiry_at field value = text_at field value and_then λ text. of_field field (read_expiry text)
+
+-- the standing of a field: M3, M5
+unfoldable pub standing_at : Field → Data → Result Standing MessageFault
+standing_at field value = text_at field value and_then λ text. some_or (Kind field) (standing_named text)
+
+-- a text of 1 to 200 bytes, else M8
+abbrev pub limited : Field → List ℕ → Result (List ℕ) MessageFault
+limited field text =
+    if (length text == 0) || nat_lt most_text_bytes (length text) then Err (TextLength field) else Ok text
+
+-- the free text of a field: M3, M5, M8
+unfoldable pub free_text_at : Field → Data → Result (List ℕ) MessageFault
+free_text_at field value = text_at field value and_then limited field
+
+-- whether a value is `null`
+abbrev pub is_null : Data → Bool
+is_null value = is_some (as_null value)
+
+-- a national number, or none where there is `null`: M5, M6
+abbrev pub national_of : Field → Data → Result (Option (List ℕ)) MessageFault
+national_of field found =
+    if is_null found then Ok None
+    else (some_or (Kind field) (as_str found) and_then λ text.
+    of_field field (read_code text) and_then λ number. Ok (Some number))
+
+-- the national number of a field, or none: M3, M5, M6
+unfoldable pub national_at : Field → Data → Result (Option (List ℕ)) MessageFault
+national_at field value = member_at field value and_then national_of field
+
+-- whether all members of a list are texts
+abbrev pub are_texts : Items → Bool
+are_texts no_items = true
+are_texts (item value items) = is_some (as_str value) && are_texts items
+
+-- how many members a list has
+abbrev pub length_of : Items → ℕ
+length_of no_items = 0
+length_of (item value items) = suc (length_of items)
+
+-- the list of a field, all of whose members are texts, 1 to most of them: M3, M5, M7
+unfoldable pub texts_at : ℕ → Field → Data → Result Items MessageFault
+texts_at most field value =
+    member_at field value and_then λ found.
+    some_or (Kind field) (as_array found) and_then λ items.
+    if not (are_texts items) then Err (Kind field)
+    else (if (length_of items == 0) || nat_lt most (length_of items) then Err (Count field)
+    else Ok items)
+
+-- a member of a list, by its reader
+abbrev pub read_item : {A : Type 0} → (List ℕ → Result A PackFault) → Field → Data → Result A MessageFault
+read_item reader field value = some_or (Kind field) (as_str value) and_then λ text. of_field field (reader text)
+
+-- each member of a list in its order, or the fault of the first bad one
+abbrev pub read_each : {A : Type 0} → (List ℕ → Result A PackFault) → Field → Items → Result (List A) MessageFault
+read_each reader field no_items = Ok []
+read_each reader field (item value items) =
+    read_item reader field value and_then λ first. read_each reader field items and_then λ rest. Ok (first ∷ rest)
+
+-- the markets of a field, 1 to 32: M3, M5, M7, M6
+unfoldable pub markets_at : Field → Data → Result (List (List ℕ)) MessageFault
+markets_at field value = texts_at most_markets field value and_then read_each read_market field
+
+-- the serial numbers of a field, 1 to 100: M3, M5, M7, M6
+unfoldable pub serials_at : Field → Data → Result (List (List ℕ)) MessageFault
+serials_at field value = texts_at most_serials field value and_then read_each read_code field
+
+-- A function returned what reading gives, or memory was refused.
+abbrev pub Gives : {A : Type 0} → Result A MessageFault → Result A MessageFault → Type 0
+Gives (Ok meaning) reading = reading ≡ Ok meaning
+Gives (Err fault) reading = fault ≢ Memory → reading ≡ Err fault

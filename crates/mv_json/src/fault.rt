@@ -1,0 +1,74 @@
+//! Why bytes or a value are no message. Each fault has its number, which replies print.
+
+ghost use Rattle.std.specs.Prelude.{◌≡◌};
+
+use crate::Field;
+use mv_message::Text;
+use mv_pack::PackFault;
+use std::alloc::{AllocError, AllocFailed};
+
+/// Why bytes or a value are no message.
+#[derive(Debug, PartialEq, Eq, Drop)]
+pub enum MessageFault {
+    /// M1: the bytes are no JSON.
+    NotJson,
+    /// M2: the value is no object.
+    NotObject,
+    /// M3: this field is missing.
+    Missing(Field),
+    /// M4: the message has no field of this name.
+    Unknown(Text),
+    /// M5: this field is of another kind.
+    Kind(Field),
+    /// M6: a reader of values refused this field.
+    Pack(Field, PackFault),
+    /// M7: this list has too few or too many members.
+    Count(Field),
+    /// M8: this text is empty or too long.
+    TextLength(Field),
+    /// M9: memory was refused.
+    Memory,
+}
+
+impl MessageFault {
+    ghost use Rattle.mv_json.specs.Fault.{code_of};
+
+    /// The number of the fault, as `M3`.
+    pub fn code(&self) -> &'static str
+        ensures { result.now ≡ code_of self.now }
+    {
+        match self {
+            MessageFault::NotJson => "M1",
+            MessageFault::NotObject => "M2",
+            MessageFault::Missing(_) => "M3",
+            MessageFault::Unknown(_) => "M4",
+            MessageFault::Kind(_) => "M5",
+            MessageFault::Pack(_, _) => "M6",
+            MessageFault::Count(_) => "M7",
+            MessageFault::TextLength(_) => "M8",
+            MessageFault::Memory => "M9",
+        }
+    }
+}
+
+impl From<AllocError> for MessageFault {
+    ghost use Rattle.std.specs.Prelude.{◌≡◌};
+    ghost use Rattle.mv_json.specs.declared.fault.MessageFault.TheVariants.{Memory};
+
+    ghost from_gives = { λ _ e. e ≡ Memory };
+
+    fn from(_refused: AllocError) -> MessageFault {
+        MessageFault::Memory
+    }
+}
+
+impl<T: Drop> From<AllocFailed<T>> for MessageFault {
+    ghost use Rattle.std.specs.Prelude.{◌≡◌};
+    ghost use Rattle.mv_json.specs.declared.fault.MessageFault.TheVariants.{Memory};
+
+    ghost from_gives = { λ _ e. e ≡ Memory };
+
+    fn from(_refused: AllocFailed<T>) -> MessageFault {
+        MessageFault::Memory
+    }
+}

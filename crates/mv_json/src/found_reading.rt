@@ -1,0 +1,108 @@
+//! Reads the field `found` of an answer: `null`, or an object of its own.
+
+ghost use Rattle.std.specs.Prelude.{◌≡◌, map};
+ghost use Rattle.serde_json.specs.View.{view};
+ghost use Rattle.mv_json.specs.Found.{present_names, first_present_at, second_present_at, present_at, present_of, found_of, found_at};
+
+use crate::members::first_unknown;
+use crate::numbers::truth_at;
+use crate::reading::{batch_at, expiry_at, member_at, national_at, standing_at};
+use crate::version::Version;
+use crate::{Field, MessageFault};
+use mv_message::Found;
+use serde_json::Value;
+
+/// What the field `found` says: M3, M5.
+#[tactic(auto, unfolding(crate::specs::Found::found_at))]
+pub(crate) fn found_at(value: &Value, version: Version) -> Result<Found, MessageFault>
+    ensures { result ≡ found_at version (view value.now) }
+{
+    found_of(member_at(value, Field::Found)?, version)
+}
+
+/// What a value says was found: M5 of `found` where it is neither `null` nor a legal pack.
+fn found_of(value: &Value, version: Version) -> Result<Found, MessageFault>
+    ensures { result ≡ found_of version (view value.now) }
+{
+    if value.is_null() {
+        return Ok(Found::Absent);
+    }
+    match present_of(value, version) {
+        Ok(found) => Ok(found),
+        Err(_fault) => Err(MessageFault::Kind(Field::Found)),
+    }
+}
+
+/// The pack that an object is, which has no other key than its fields.
+#[tactic(auto, unfolding(crate::specs::Found::present_of))]
+fn present_of(value: &Value, version: Version) -> Result<Found, MessageFault>
+    ensures { result ≡ present_of version (view value.now) }
+{
+    let Some(members) = value.as_object() else {
+        return Err(MessageFault::NotObject);
+    };
+    if first_unknown(members, present_names(version)).is_some() {
+        return Err(MessageFault::Kind(Field::Found));
+    }
+    match version {
+        Version::One => first_present_at(value),
+        Version::Two => second_present_at(value),
+    }
+}
+
+/// The names of the fields of a pack that was found, in byte order.
+fn present_names(version: Version) -> &'static [&'static str]
+    ensures { map (λ name. name.now) result.now ≡ present_names version }
+{
+    match version {
+        Version::One => &["batch", "expiry", "recalled", "standing"],
+        Version::Two => &[
+            "batch",
+            "expiry",
+            "national",
+            "recalled",
+            "standing",
+            "withdrawn",
+        ],
+    }
+}
+
+/// The pack that the fields of an object give, in version 1.
+#[tactic(auto, unfolding(crate::specs::Found::first_present_at))]
+fn first_present_at(value: &Value) -> Result<Found, MessageFault>
+    ensures { result ≡ first_present_at (view value.now) }
+{
+    let batch = batch_at(value, Field::Batch)?;
+    let expiry = expiry_at(value, Field::Expiry)?;
+    let recalled = truth_at(value, Field::Recalled)?;
+    let standing = standing_at(value, Field::Standing)?;
+    Ok(Found::Present {
+        batch,
+        expiry,
+        national: None,
+        standing,
+        recalled,
+        withdrawn: false,
+    })
+}
+
+/// The pack that the fields of an object give, in version 2.
+#[tactic(auto, unfolding(crate::specs::Found::second_present_at))]
+fn second_present_at(value: &Value) -> Result<Found, MessageFault>
+    ensures { result ≡ second_present_at (view value.now) }
+{
+    let batch = batch_at(value, Field::Batch)?;
+    let expiry = expiry_at(value, Field::Expiry)?;
+    let national = national_at(value, Field::National)?;
+    let recalled = truth_at(value, Field::Recalled)?;
+    let standing = standing_at(value, Field::Standing)?;
+    let withdrawn = truth_at(value, Field::Withdrawn)?;
+    Ok(Found::Present {
+        batch,
+        expiry,
+        national,
+        standing,
+        recalled,
+        withdrawn,
+    })
+}

@@ -1,0 +1,31 @@
+//! The JSON form of messages.
+//!
+//! Used by the program alone. Its contract: a value is read as a message exactly where the definitions in `specs/` say
+//! so, else the first fault in their order is answered; what is written is read back. This crate knows no link, no hub
+//! and no line of the program.
+#![tactic(auto)]
+
+mod fault;
+mod field;
+mod form;
+mod found_reading;
+pub mod laws;
+mod lists;
+mod member;
+mod member_values;
+mod member_writing;
+pub mod members;
+mod message_members;
+mod message_reading;
+mod numbers;
+mod readers;
+mod reading;
+mod version;
+mod writing;
+
+pub use fault::MessageFault;
+pub use field::Field;
+pub use lists::{MOST_MARKETS, MOST_SERIALS};
+pub use message_reading::{from_value, read};
+pub use reading::MOST_TEXT_BYTES;
+pub use writing::{text, to_value, write_text};

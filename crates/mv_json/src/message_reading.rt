@@ -1,0 +1,50 @@
+//! Reads messages, from the bytes of JSON texts and from JSON values.
+
+ghost use Rattle.serde_json.specs.View.{view};
+ghost use Rattle.mv_json.specs.Messages.{read_bytes, read_message};
+ghost use Rattle.mv_json.specs.Reading.{Gives};
+
+use crate::MessageFault;
+use crate::form::{form_at, known_form_at};
+use crate::readers::message_at;
+use crate::version::version_at;
+use mv_message::Message;
+use serde_json::Value;
+use std::alloc::Global;
+
+/// Reads a message from the bytes of a JSON text.
+///
+/// The first of these that holds is the fault: M1, the bytes are no JSON; then those of `from_value`. M9 may stand in
+/// place of any answer where memory was refused.
+#[tactic(auto, using(crate::proofs::ValueLemmas::utf8_test, crate::proofs::ValueLemmas::utf8_fact))]
+pub fn read(alloc: Global, bytes: &[u8]) -> Result<Message, MessageFault>
+    ensures { Gives result (read_bytes bytes.now) }
+{
+    match Value::from_slice(alloc, bytes) {
+        Ok(value) => from_value(alloc, &value),
+        Err(error) => {
+            if error.is_memory() {
+                Err(MessageFault::Memory)
+            } else {
+                Err(MessageFault::NotJson)
+            }
+        }
+    }
+}
+
+/// Reads a message from a JSON value.
+///
+/// The first of these that holds is the fault: M2, the value is no object; M5 of `v`, which is there and not 2; M3 or M5
+/// of `msg`; M4 with the first key, in byte order, that the message does not have; then the faults of the fields, in byte
+/// order of their names. M9 may stand in place of any answer where memory was refused.
+#[tactic(auto, unfolding(crate::specs::Messages::read_message))]
+pub fn from_value(alloc: Global, value: &Value) -> Result<Message, MessageFault>
+    ensures { Gives result (read_message (view value.now)) }
+{
+    let Some(members) = value.as_object() else {
+        return Err(MessageFault::NotObject);
+    };
+    let version = version_at(value)?;
+    let form = known_form_at(alloc, members, version, form_at(value, version)?)?;
+    message_at(alloc, value, version, form)
+}

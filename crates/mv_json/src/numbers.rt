@@ -1,0 +1,67 @@
+//! Reads the fields that are whole numbers, or `true` or `false`.
+
+ghost use Rattle.std.specs.Prelude.{◌≡◌};
+ghost use Rattle.serde_json.specs.View.{view};
+ghost use Rattle.mv_json.specs.Numbers.{truth_at, whole_at, moment_at, number_at, count_at};
+
+use crate::reading::member_at;
+use crate::{Field, MessageFault};
+use mv_pack::Moment;
+use serde_json::Value;
+
+/// Whether a field says `true`: M3, M5.
+#[tactic(auto, unfolding(crate::specs::Numbers::truth_at))]
+pub(crate) fn truth_at(value: &Value, field: Field) -> Result<bool, MessageFault>
+    ensures { result ≡ truth_at field (view value.now) }
+{
+    match member_at(value, field)?.as_bool() {
+        Some(truth) => Ok(truth),
+        None => Err(MessageFault::Kind(field)),
+    }
+}
+
+/// The whole number of a field: M3, M5.
+#[tactic(auto, unfolding(crate::specs::Numbers::whole_at))]
+fn whole_at(value: &Value, field: Field) -> Result<u64, MessageFault>
+    ensures { result ≡ whole_at field (view value.now) }
+{
+    match member_at(value, field)?.as_u64() {
+        Some(number) => Ok(number),
+        None => Err(MessageFault::Kind(field)),
+    }
+}
+
+/// The moment of a field: M3, M5, M6.
+#[tactic(auto, unfolding(crate::specs::Numbers::moment_at))]
+pub(crate) fn moment_at(value: &Value, field: Field) -> Result<Moment, MessageFault>
+    ensures { result ≡ moment_at field (view value.now) }
+{
+    match Moment::of(whole_at(value, field)?) {
+        Ok(moment) => Ok(moment),
+        Err(fault) => Err(MessageFault::Pack(field, fault)),
+    }
+}
+
+/// The whole number of a field, up to 4,294,967,295: M3, M5.
+#[tactic(auto, unfolding(crate::specs::Numbers::number_at))]
+pub(crate) fn number_at(value: &Value, field: Field) -> Result<u32, MessageFault>
+    ensures { result ≡ number_at field (view value.now) }
+{
+    let number = whole_at(value, field)?;
+    if number > u64::from(u32::MAX) {
+        return Err(MessageFault::Kind(field));
+    }
+    Ok(number as u32)
+}
+
+/// The whole number of a field, from 1 to 4,294,967,295: M3, M5.
+#[tactic(auto, unfolding(crate::specs::Numbers::count_at))]
+pub(crate) fn count_at(value: &Value, field: Field) -> Result<u32, MessageFault>
+    ensures { result ≡ count_at field (view value.now) }
+{
+    let number = number_at(value, field)?;
+    if number == 0 {
+        return Err(MessageFault::Kind(field));
+    }
+    Ok(number)
+}

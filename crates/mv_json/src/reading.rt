@@ -1,0 +1,152 @@
+//! Reads the fields of a JSON object, one at a time, each with its own faults in their order.
+
+ghost use Rattle.std.specs.Prelude.{◌≡◌, ◌≢◌, IfErr, IsOk, MatchResult, Ok, Err};
+ghost use Rattle.serde_json.specs.View.{view};
+ghost use Rattle.mv_json.specs.Reading.{member_at, text_at, gtin_at, code_at, expiry_at, standing_at, free_text_at, national_of, national_at, is_null, Gives};
+ghost use Rattle.mv_message.specs.Standings.{standing_named};
+
+use crate::{Field, MessageFault};
+use mv_message::{Standing, Text};
+use mv_pack::{Batch, Expiry, Gtin, National, Serial};
+use serde_json::Value;
+use std::alloc::Global;
+
+/// How many bytes a free text has at most.
+pub const MOST_TEXT_BYTES: usize = 200;
+
+/// The value of a field, else M3.
+pub(crate) fn member_at(value: &Value, field: Field) -> Result<&Value, MessageFault>
+    ensures gives { MatchResult result
+        (λ member. member_at field (view value.now) ≡ Ok (view member.now))
+        (λ fault. member_at field (view value.now) ≡ Err fault) }
+    // It takes no memory.
+    ensures no_memory { IfErr result (λ fault. fault ≢ MessageFault.Memory) }
+{
+    match value.get(field.as_str()) {
+        Some(member) => Ok(member),
+        None => Err(MessageFault::Missing(field)),
+    }
+}
+
+/// The text of a field: M3, M5.
+pub(crate) fn text_at(value: &Value, field: Field) -> Result<&str, MessageFault>
+    ensures { MatchResult result
+        (λ text. text_at field (view value.now) ≡ Ok text.now)
+        (λ fault. text_at field (view value.now) ≡ Err fault) }
+{
+    match member_at(value, field)?.as_str() {
+        Some(text) => Ok(text),
+        None => Err(MessageFault::Kind(field)),
+    }
+}
+
+/// The product code of a field: M3, M5, M6.
+#[tactic(auto, unfolding(crate::specs::Reading::gtin_at))]
+pub(crate) fn gtin_at(value: &Value, field: Field) -> Result<Gtin, MessageFault>
+    ensures { result ≡ gtin_at field (view value.now) }
+{
+    match Gtin::read(text_at(value, field)?) {
+        Ok(gtin) => Ok(gtin),
+        Err(fault) => Err(MessageFault::Pack(field, fault)),
+    }
+}
+
+/// The serial number of a field: M3, M5, M6.
+#[tactic(auto, unfolding(crate::specs::Reading::code_at))]
+pub(crate) fn serial_at(value: &Value, field: Field) -> Result<Serial, MessageFault>
+    ensures { result ≡ code_at field (view value.now) }
+{
+    match Serial::read(text_at(value, field)?) {
+        Ok(serial) => Ok(serial),
+        Err(fault) => Err(MessageFault::Pack(field, fault)),
+    }
+}
+
+/// The batch number of a field: M3, M5, M6.
+#[tactic(auto, unfolding(crate::specs::Reading::code_at))]
+pub(crate) fn batch_at(value: &Value, field: Field) -> Result<Batch, MessageFault>
+    ensures { result ≡ code_at field (view value.now) }
+{
+    match Batch::read(text_at(value, field)?) {
+        Ok(batch) => Ok(batch),
+        Err(fault) => Err(MessageFault::Pack(field, fault)),
+    }
+}
+
+/// The expiry date of a field: M3, M5, M6.
+#[tactic(auto, unfolding(crate::specs::Reading::expiry_at))]
+pub(crate) fn expiry_at(value: &Value, field: Field) -> Result<Expiry, MessageFault>
+    ensures { result ≡ expiry_at field (view value.now) }
+{
+    match Expiry::read(text_at(value, field)?) {
+        Ok(expiry) => Ok(expiry),
+        Err(fault) => Err(MessageFault::Pack(field, fault)),
+    }
+}
+
+/// The national number of a field, or none where there is `null`: M3, M5, M6.
+#[tactic(auto, unfolding(crate::specs::Reading::national_at))]
+pub(crate) fn national_at(value: &Value, field: Field) -> Result<Option<National>, MessageFault>
+    ensures { result ≡ national_at field (view value.now) }
+{
+    national_of(member_at(value, field)?, field)
+}
+
+/// The national number that a value is, or none where it is `null`: M5, M6.
+fn national_of(found: &Value, field: Field) -> Result<Option<National>, MessageFault>
+    ensures { result ≡ national_of field (view found.now) }
+{
+    if found.is_null() {
+        return Ok(None);
+    }
+    let Some(text) = found.as_str() else {
+        return Err(MessageFault::Kind(field));
+    };
+    match National::read(text) {
+        Ok(number) => Ok(Some(number)),
+        Err(fault) => Err(MessageFault::Pack(field, fault)),
+    }
+}
+
+/// The standing of a field: M3, M5.
+#[tactic(auto, unfolding(crate::specs::Reading::standing_at))]
+pub(crate) fn standing_at(value: &Value, field: Field) -> Result<Standing, MessageFault>
+    ensures { result ≡ standing_at field (view value.now) }
+{
+    match standing_named(text_at(value, field)?) {
+        Some(standing) => Ok(standing),
+        None => Err(MessageFault::Kind(field)),
+    }
+}
+
+/// The standing of that name.
+fn standing_named(name: &str) -> Option<Standing>
+    ensures { result ≡ standing_named name.now }
+{
+    match name {
+        "active" => Some(Standing::Active),
+        "supplied" => Some(Standing::Supplied),
+        "exported" => Some(Standing::Exported),
+        "destruction" => Some(Standing::Destruction),
+        "sample" => Some(Standing::Sample),
+        "free_sample" => Some(Standing::FreeSample),
+        "stolen" => Some(Standing::Stolen),
+        "repackaged" => Some(Standing::Repackaged),
+        _ => None,
+    }
+}
+
+/// The free text of a field: M3, M5, M8.
+#[tactic(auto, unfolding(crate::specs::Reading::free_text_at))]
+pub(crate) fn free_text_at(alloc: Global, value: &Value, field: Field) -> Result<Text, MessageFault>
+    ensures gives { Gives result (free_text_at field (view value.now)) }
+    // Memory is asked for only once the text is known to be right.
+    ensures memory { IfErr result (λ fault. fault ≡ MessageFault.Memory
+        → IsOk (free_text_at field (view value.now))) }
+{
+    let text = text_at(value, field)?;
+    if text.is_empty() || text.len() > MOST_TEXT_BYTES {
+        return Err(MessageFault::TextLength(field));
+    }
+    Ok(Text::new(String::from_str(alloc, text)?))
+}

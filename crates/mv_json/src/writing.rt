@@ -1,0 +1,63 @@
+//! Writes messages, as JSON values and as texts.
+
+ghost use Rattle.std.specs.Prelude.{◌≡◌, ◌++◌, IfOk, IfErr, OnOk, OnErr, IsUtf8, Ok, string_bytes};
+ghost use Rattle.serde_json.specs.View.{view};
+ghost use Rattle.serde_json.specs.Written.{compact_text};
+ghost use Rattle.mv_json.specs.Messages.{value_of, read_bytes};
+ghost use Rattle.mv_json.specs.Legal.{IsLegal};
+
+use crate::MessageFault;
+use crate::member_values::Making;
+use crate::message_members::put_message;
+use json::Writer;
+use mv_message::Message;
+use serde_json::Value;
+use std::alloc::{AllocError, Global};
+use std::mem;
+
+/// The JSON value of a message, of version 2 where it could not say all in version 1. The only refusal is M9, for want of
+/// memory.
+#[tactic(auto, using(crate::proofs::KeyLemmas::keys_ascend))]
+pub fn to_value(alloc: Global, message: &Message) -> Result<Value, MessageFault>
+    ensures value { IfOk result (λ value. view value ≡ value_of message.now) }
+    ensures memory { IfErr result (λ fault. fault ≡ MessageFault.Memory) }
+{
+    let mut making = Making::new(alloc);
+    put_message(&mut making, message)?;
+    Ok(making.into_value())
+}
+
+/// Appends the canonical text of a message to a buffer: its value with no blanks, the keys in byte order. The only
+/// refusal is want of memory; then the buffer holds what it held.
+pub fn write_text(alloc: Global, message: &Message, out: &mut Vec<u8>) -> Result<(), AllocError>
+    ensures text { OnOk result
+        (out.new.items ≡ out.old.items ++ compact_text (value_of message.now)) }
+    ensures utf8 { OnOk result (IsUtf8 (compact_text (value_of message.now))) }
+    ensures err { OnErr result (out.new.items ≡ out.old.items) }
+{
+    let len = out.len();
+    let mut writer = Writer::new(mem::replace(out, Vec::new(alloc)));
+    let written = put_message(&mut writer, message);
+    *out = writer.into_inner();
+    if written.is_err() {
+        out.truncate(len);
+    }
+    written
+}
+
+/// The canonical text of a message: its value with no blanks, the keys in byte order. The only refusal is M9, for want of
+/// memory.
+pub fn text(alloc: Global, message: &Message) -> Result<String, MessageFault>
+    ensures text { IfOk result (λ text. string_bytes text ≡ compact_text (value_of message.now)) }
+    // Of a legal message it is read back as that message.
+    ensures reads_back { IfOk result
+        (λ text. IsLegal message.now → read_bytes (string_bytes text) ≡ Ok message.now) }
+    ensures memory { IfErr result (λ fault. fault ≡ MessageFault.Memory) }
+{
+    let mut bytes = Vec::new(alloc);
+    write_text(alloc, message, &mut bytes)?;
+    let Ok(text) = String::from_utf8(bytes) else {
+        unreachable!();
+    };
+    Ok(text)
+}

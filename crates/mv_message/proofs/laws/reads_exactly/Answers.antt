@@ -1,6 +1,0 @@
-use Rattle.mv_message.proofs.ReadsLemmas.{reads_exactly}
-use Rattle.mv_message.proofs.laws.reads_exactly.Goals as goal
-
--- the law as it stands in the lemmas
-pub returns : goal.returns
-returns c = reads_exactly

@@ -1,4 +1,0 @@
-use Rattle.mv_message.proofs.message_writing.put_message.Goals as goal
-
-pub returns-in-Master : goal.returns-in-Master
-returns-in-Master c = rw c.in-Master.is c.put_master.ensures

@@ -2,6 +2,25 @@
 //!
 //! The program is its user. The contract: `serve` writes the replies to the lines that it reads, by the definitions in
 //! `specs/`: what the lines of some bytes are, what a line asks, and which reply it may get from the list machine.
+//!
+//! It can be used alone, with the crates that its line of crates.txt names.
+//! A caller that is the program, proved in the gate (`mvhub`):
+//!
+//! ```rust
+//! fn main(rt: HostRuntime) -> ExitCode {
+//!     let Ok(given) = env::args(&rt) else {
+//!         return ExitCode::from(Status::Refused.code());
+//!     };
+//!     let Ok(words) = given.collect(rt.alloc()) else {
+//!         return ExitCode::from(Status::Refused.code());
+//!     };
+//!     let mut reader = rt.stdin();
+//!     let mut writer = rt.stdout();
+//!     let mut faults = rt.stderr();
+//!     let status = command(rt.alloc(), words, &mut reader, &mut writer, &mut faults);
+//!     ExitCode::from(status)
+//! }
+//! ```
 #![tactic(auto)]
 
 mod answering;

@@ -4,21 +4,19 @@
 //! `specs/`: what the lines of some bytes are, what a line asks, and which reply it may get from the list machine.
 //!
 //! It can be used alone, with the crates that its line of crates.txt names.
-//! A caller that is the program, proved in the gate (`mvhub`):
+//! A caller that answers the lines of a reader, proved in the gate (`mv_rows`):
 //!
 //! ```rust
-//! fn main(rt: HostRuntime) -> ExitCode {
-//!     let Ok(given) = env::args(&rt) else {
-//!         return ExitCode::from(Status::Refused.code());
-//!     };
-//!     let Ok(words) = given.collect(rt.alloc()) else {
-//!         return ExitCode::from(Status::Refused.code());
-//!     };
-//!     let mut reader = rt.stdin();
-//!     let mut writer = rt.stdout();
-//!     let mut faults = rt.stderr();
-//!     let status = command(rt.alloc(), words, &mut reader, &mut writer, &mut faults);
-//!     ExitCode::from(status)
+//! fn answer(
+//!     alloc: Global,
+//!     task: Task,
+//!     reader: &mut Script<'_>,
+//!     writer: &mut Sink,
+//! ) -> Result<(), ServeFault> {
+//!     match task {
+//!         Task::Steps => serve(alloc, reader, writer),
+//!         Task::Canon => canon(alloc, reader, writer),
+//!     }
 //! }
 //! ```
 #![tactic(auto)]

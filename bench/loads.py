@@ -2,14 +2,29 @@
 
 import json
 import random
+import sys
 from collections import Counter, defaultdict, deque
 from itertools import cycle, islice
+from pathlib import Path
+
+sys.path.insert(0, str(Path(__file__).resolve().parent.parent / "tests"))
+
+from messages import answer_of, master_of, query_of, recall_of, repack_of, status_of, upload_of, withdrawal_of
 
 MARKETS = ["AT", "BE", "DE", "DK", "ES", "FI", "FR", "SE"]
 STANDINGS = ["active", "supplied", "exported", "destruction", "sample", "free_sample", "stolen", "repackaged"]
 CODE = "ABCDEFGHJKLMNPQRSTUVWXYZ0123456789"
 START = 1_800_000_000
 PACKS = 100  # of an upload
+TEXTS = {
+    "common": "paracetamol",
+    "form": "tablet",
+    "name": "Examplin",
+    "pack_size": "30",
+    "pack_type": "blister",
+    "scheme": "GTIN",
+    "strength": "500 mg",
+}
 
 
 # Messages.
@@ -32,55 +47,19 @@ def compact(value):
     return json.dumps(value, separators=(",", ":"), sort_keys=True, ensure_ascii=False)
 
 
-def master_of(number, markets):
+def numbered_master(number, markets):
     """The product master with this number."""
-    return {
-        "common": "paracetamol",
-        "form": "tablet",
-        "gtin": gtin_of(number),
-        "markets": markets,
-        "msg": "master",
-        "name": "Examplin",
-        "pack_size": "30",
-        "pack_type": "blister",
-        "scheme": "GTIN",
-        "strength": "500 mg",
-    }
+    return master_of(gtin_of(number), markets, TEXTS)
 
 
-def upload_of(gtin, batch, number):
+def numbered_upload(gtin, batch, number):
     """The upload with this number: of 100 packs, those with the numbers from 100 times that on."""
-    serials = [serial_of(number * PACKS + place) for place in range(PACKS)]
-    return {"batch": batch, "expiry": "320229", "gtin": gtin, "msg": "upload", "serials": serials}
+    return upload_of(gtin, batch, "320229", [serial_of(number * PACKS + place) for place in range(PACKS)])
 
 
-def status_of(gtin, serial, to, user, at):
-    """A status of a pack."""
-    return {"at": at, "gtin": gtin, "msg": "status", "serial": serial, "to": to, "user": user}
-
-
-def recall_of(gtin, batch):
-    """A recall of a batch."""
-    return {"at": START, "batch": batch, "gtin": gtin, "msg": "recall"}
-
-
-def withdrawal_of(gtin):
-    """A withdrawal of a product."""
-    return {"at": START, "gtin": gtin, "msg": "withdraw", "v": 2}
-
-
-def repack_of(gtin, batch, serials, at):
+def repacked(gtin, batch, serials, at):
     """Packs of a batch become packs of another."""
-    return {
-        "after_batch": "R" + batch,
-        "after_gtin": gtin,
-        "after_serials": ["R" + serial for serial in serials],
-        "at": at,
-        "before_batch": batch,
-        "before_gtin": gtin,
-        "before_serials": serials,
-        "msg": "repack",
-    }
+    return repack_of((gtin, batch, serials), (gtin, "R" + batch, ["R" + serial for serial in serials]), at)
 
 
 # Lines.
@@ -91,9 +70,14 @@ def opening(parties):
     return {"do": "open", "parties": parties, "submissions": 1_000_000, "uplink": 64, "window": 256, "wire": 64}
 
 
+def submission(sender, message):
+    """The line by which a party submits a message, whose keys are in order."""
+    return {"do": "submit", "from": sender, "message": dict(sorted(message.items()))}
+
+
 def sent(sender, message):
     """A message is submitted and routed."""
-    yield {"do": "submit", "from": sender, "message": message}
+    yield submission(sender, message)
     yield {"do": "route", "from": sender}
 
 
@@ -133,7 +117,7 @@ class Work:
 
     def send(self, sender, message, reach):
         """A party submits a message, the hub routes it, and it is carried to the parties that it reaches."""
-        yield {"do": "submit", "from": sender, "message": message}
+        yield submission(sender, message)
         self.submitted[sender] += 1
         yield from self.carry(sender, dict.fromkeys(reach))
 
@@ -181,7 +165,7 @@ class Work:
         """A new product."""
         maker, sold = self.some.randrange(8), self.some.sample(range(8), self.some.randint(1, 3))
         self.products.append([gtin_of(len(self.products) + 1), maker, sold])
-        yield from self.send(maker, master_of(len(self.products), [MARKETS[party] for party in sold]), sold)
+        yield from self.send(maker, numbered_master(len(self.products), [MARKETS[party] for party in sold]), sold)
 
     def move(self):
         """A product is sold elsewhere from now on."""
@@ -189,7 +173,7 @@ class Work:
         _, maker, before = self.products[number]
         sold = self.some.sample(range(8), 2)
         self.products[number][2] = sold
-        yield from self.send(maker, master_of(number + 1, [MARKETS[party] for party in sold]), {*before, *sold})
+        yield from self.send(maker, numbered_master(number + 1, [MARKETS[party] for party in sold]), {*before, *sold})
 
     def upload(self):
         """A hundred packs of a product, a batch of their own."""
@@ -197,7 +181,7 @@ class Work:
         gtin, maker, sold = product
         number, batch = len(self.uploads), f"L{len(self.uploads):07d}"
         self.uploads.append((product, batch, sold))
-        yield {"do": "submit", "from": maker, "message": upload_of(gtin, batch, number)}
+        yield submission(maker, numbered_upload(gtin, batch, number))
         self.submitted[maker] += 1
         yield from self.carry(maker, {party: lambda party=party: self.hold(party, number) for party in sold})
 
@@ -269,17 +253,17 @@ class Work:
         upload = self.some.randrange(len(self.uploads))
         (gtin, maker, sold), batch, _ = self.uploads[upload]
         serials = [serial_of(upload * PACKS + place) for place in range(10)]
-        yield from self.send(maker, repack_of(gtin, batch, serials, self.moment), sold)
+        yield from self.send(maker, repacked(gtin, batch, serials, self.moment), sold)
 
     def recall(self):
         """A batch is recalled."""
         (gtin, maker, sold), batch, _ = self.some.choice(self.uploads)
-        yield from self.send(maker, recall_of(gtin, batch), sold)
+        yield from self.send(maker, recall_of(gtin, batch, START), sold)
 
     def withdraw(self):
         """A product is withdrawn."""
         gtin, maker, sold = self.some.choice(self.products)
-        yield from self.send(maker, withdrawal_of(gtin), sold)
+        yield from self.send(maker, withdrawal_of(gtin, START), sold)
 
 
 # Loads.
@@ -318,8 +302,8 @@ def markets(uploads):
     sold = range(0, 64, 2)
     yield opening([[name] for name in names])
     yield {"do": "close", "from": 1, "to": 1}  # the maker wants no receipts
-    messages = [master_of(1, [names[party] for party in sold])]
-    messages += [upload_of(gtin_of(1), f"L{number:07d}", number) for number in range(uploads)]
+    messages = [numbered_master(1, [names[party] for party in sold])]
+    messages += [numbered_upload(gtin_of(1), f"L{number:07d}", number) for number in range(uploads)]
     for message in messages:
         yield from sent(1, message)
         for party in sold:
@@ -339,7 +323,7 @@ def one_keeper():
 
 def launched(number):
     """The product master with this number comes to the one repository."""
-    yield from sent(MAKER, master_of(number, ["FI"]))
+    yield from sent(MAKER, numbered_master(number, ["FI"]))
     yield from taken(MAKER, KEEPER)
 
 
@@ -349,9 +333,9 @@ def recalls(uploads, recalls):
     yield from one_keeper()
     yield from launched(1)
     for _ in range(recalls):
-        yield from sent(RECALLER, recall_of(gtin_of(1), "L1"))
+        yield from sent(RECALLER, recall_of(gtin_of(1), "L1", START))
     for _ in range(uploads):
-        yield from sent(MAKER, upload_of(gtin_of(1), "L1", 0))
+        yield from sent(MAKER, numbered_upload(gtin_of(1), "L1", 0))
         yield from taken(MAKER, KEEPER)
     for place in range(PACKS):
         for to in ("supplied", "active"):
@@ -368,14 +352,14 @@ def packs(uploads):
     yield from one_keeper()
     for product in range(1 + (uploads - 1000) // 100):
         yield from launched(product + 1)
-    for message in (recall_of(gtin_of(2), "L0001000"), recall_of(gtin_of(1), "L0000000")):
+    for message in (recall_of(gtin_of(2), "L0001000", START), recall_of(gtin_of(1), "L0000000", START)):
         yield from sent(RECALLER, message)
-    for message in (withdrawal_of(gtin_of(2)), withdrawal_of(gtin_of(1))):
+    for message in (withdrawal_of(gtin_of(2), START), withdrawal_of(gtin_of(1), START)):
         yield from sent(RECALLER, message)
     statuses, late = 0, 0
     for number in range(uploads):
         product, batch = (1, 0) if number < 1000 else (2 + (number - 1000) // 100, number)
-        yield from sent(MAKER, upload_of(gtin_of(product), f"L{batch:07d}", number))
+        yield from sent(MAKER, numbered_upload(gtin_of(product), f"L{batch:07d}", number))
         yield from taken(MAKER, KEEPER)
         for place in (17, 71) if number % 4 == 0 else ():
             statuses += 1
@@ -397,7 +381,7 @@ def single_packs(uploads):
     yield from one_keeper()
     yield from launched(1)
     for number in range(uploads):
-        upload = upload_of(gtin_of(1), f"L{number // PACKS:07d}", 0)
+        upload = numbered_upload(gtin_of(1), f"L{number // PACKS:07d}", 0)
         yield from sent(MAKER, {**upload, "serials": [serial_of(number)]})
         yield from taken(MAKER, KEEPER)
 
@@ -410,7 +394,7 @@ def steps(masters, loses):
     for number in range(masters):
         sender = number % len(MARKETS)
         receiver = (number * 5 + 3) % len(MARKETS)
-        yield from sent(sender, master_of(number + 1, [MARKETS[receiver]]))
+        yield from sent(sender, numbered_master(number + 1, [MARKETS[receiver]]))
         for to in [sender, receiver]:
             link = {"from": sender, "to": to}
             relayed[sender, to] += 1
@@ -460,36 +444,35 @@ class Messages:
         return [self.serial() for _ in range(self.some.randint(1, PACKS))]
 
     def master(self, number):
-        return master_of(number + 1, self.some.sample(MARKETS, 3))
+        return numbered_master(number + 1, self.some.sample(MARKETS, 3))
 
     def upload(self, number):
         serials = self.serials()
-        return {"batch": self.batch(), "expiry": "280229", "gtin": gtin_of(number + 1), "msg": "upload", "serials": serials}
+        return upload_of(gtin_of(number + 1), self.batch(), "280229", serials)
 
     def status(self, number):
         return status_of(gtin_of(number + 1), self.serial(), self.some.choice(STANDINGS), "pharmacy 7", START + number)
 
     def recall(self, number):
-        return recall_of(gtin_of(number + 1), self.batch())
+        return recall_of(gtin_of(number + 1), self.batch(), START)
 
     def repack(self, number):
-        return repack_of(gtin_of(number + 1), self.batch(), self.serials(), START + number)
+        return repacked(gtin_of(number + 1), self.batch(), self.serials(), START + number)
 
     def query(self, number):
-        return {"gtin": gtin_of(number + 1), "msg": "query", "serial": self.serial()}
+        return query_of(gtin_of(number + 1), self.serial())
 
     def answer(self, number):
         found = {"batch": self.batch(), "expiry": "280229", "recalled": False, "standing": self.some.choice(STANDINGS)}
-        gtin = gtin_of(number + 1)
-        return {"asker": number % 8, "found": found, "gtin": gtin, "msg": "answer", "q": number + 1, "serial": self.serial()}
+        return answer_of(number % 8, number + 1, gtin_of(number + 1), self.serial(), found)
 
     def withdrawal(self, number):
-        return withdrawal_of(gtin_of(number + 1))
+        return withdrawal_of(gtin_of(number + 1), START)
 
 
 def spelled(message, number):
     """A message as a sender may spell it: with blanks, its keys in another order, and its GTIN without zeros."""
-    keys = list(message)
+    keys = sorted(message)
     turn = number % len(keys)
     turned = {key: message[key] for key in keys[turn:] + keys[:turn]}
     if "gtin" in turned:

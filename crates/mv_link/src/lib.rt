@@ -3,6 +3,18 @@
 //! There is a link for each ordered pair of parties, a party and itself included. The hub keeps the sending ends, the
 //! system the receiving ends. The contract: each frame that is relayed is a frame of every list that ends with what the
 //! sending end holds, and frames that come in any order are accepted as a prefix of their list. This crate knows no hub.
+//!
+//! It can be used alone, with the crates that its line of crates.txt names.
+//! A caller that pushes an item where the window has room, proved in the gate (`mv_rows`):
+//!
+//! ```rust
+//! fn push(alloc: Global, link: &mut Outgoing, k: u32) -> bool {
+//!     match receipt(alloc, k) {
+//!         Ok(item) => link.room(1) && link.push(item).is_ok(),
+//!         Err(_) => false,
+//!     }
+//! }
+//! ```
 #![tactic(auto)]
 
 mod fault;

@@ -3,6 +3,19 @@
 //! The system is its only user. The contract: a repository is seen as its party and its log; whatever it answers is the
 //! meaning of that log in the order of the hub's stamps, by the definitions in `specs/`. A refused call has changed
 //! nothing. This crate knows no hub, no JSON and no thread.
+//!
+//! It can be used alone, with the crates that its line of crates.txt names.
+//! A caller that looks at what came from one sender, proved in the gate (`mv_rows`):
+//!
+//! ```rust
+//! fn has_one(repository: &Repository, sender: u32, wanted: u32) -> bool {
+//!     let mut items = repository.from_sender(sender);
+//!     match items.next() {
+//!         Some(Item::Carried { stamp, .. }) => *stamp == wanted && items.next().is_none(),
+//!         _ => false,
+//!     }
+//! }
+//! ```
 #![tactic(auto)]
 
 mod counts;

@@ -3,6 +3,17 @@
 //! The program is its user. The contract: a `World` is seen as the state of the list machine; each step is one that the list
 //! machine allows, and every run leaves a lawful state: what a repository applied from each sender is a prefix of what the
 //! record put on their link, in order and each once. This crate knows no JSON and no line of the program.
+//!
+//! It can be used alone, with the crates that its line of crates.txt names.
+//! A caller that opens a system, proved in the gate (`mv_cases`):
+//!
+//! ```rust
+//! fn opened(alloc: Global, uplink: u32, submissions: u32) -> Option<World> {
+//!     let parties = parties(alloc)?;
+//!     let limits = Limits::of(8, 8, uplink, submissions).ok()?;
+//!     World::open(alloc, parties, limits).ok()
+//! }
+//! ```
 #![tactic(auto)]
 
 mod opening;

@@ -14,9 +14,11 @@ use Rattle.mv_tool.specs.declared.status.Status.TheVariants.{Done, Failed, Refus
 use Rattle.mv_tool.specs.Replies.{ReplyRule}
 use Rattle.mv_tool.specs.Served.{Served, Ended}
 
--- `mvhub`, of which a subcommand is required
+-- `mvhub`, of which a subcommand is required; it tells its version, and without words how it is called
 abbrev pub mvhub : App
-mvhub = on_top (λ shape. record shape { subcommand_required = true }) (new_app (codes "mvhub"))
+mvhub =
+    on_top (λ shape. record shape { has_version = true; arg_required_else_help = true; subcommand_required = true })
+    (new_app (codes "mvhub"))
 
 -- the command line: `mvhub` with the subcommands `steps` and `canon`
 abbrev pub command_line : App

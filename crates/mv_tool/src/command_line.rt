@@ -1,9 +1,10 @@
 //! The command line: which words run what, and the exit status.
 
-ghost use Rattle.std.specs.Prelude.{◌≡◌, ◌≤◌, None, IfOk, MatchResult, Some, map, codes, string_bytes, option_and_then};
+ghost use Rattle.std.specs.Prelude.{◌≡◌, ◌≤◌, None, IfOk, MatchResult, Some, map, codes, string_bytes, option_and_then, false};
 ghost use Rattle.std.specs.Io.KnownBytes.{Keeps};
-ghost use Rattle.clap.specs.Words.{app_of, fault_of, FailsBy, subcommand_name_of};
+ghost use Rattle.clap.specs.Words.{app_of, fault_of, FailsBy, new_app, subcommand_name_of};
 ghost use Rattle.clap.specs.Values.{kind_of};
+ghost use Rattle.clap.specs.declared.builder.command.Command.TheViews.{out-Command as fields_of};
 ghost use Rattle.clap.specs.declared.error.kind.ErrorKind.TheVariants.{OutOfMemory};
 ghost use Rattle.mv_tool.specs.Canon.{IsCanon};
 ghost use Rattle.mv_tool.specs.Commands.{command_line, task_called, AsksFor, AreNotTaken, AreMistaken, IsMistake, RanLines};
@@ -17,6 +18,31 @@ use crate::{ServeFault, Status, canon};
 use clap::{ArgMatches, Command, Error};
 use std::alloc::{AllocError, Global};
 use std::io::{Read, Write};
+
+/// What `--version` tells behind the program's name.
+const VERSION: &str = "1.0.0";
+
+/// What the program is.
+const PROGRAM: &str = "The hub of the medicines verification system, and the national repositories";
+
+/// What `steps` does.
+const STEPS: &str = "Answers steps: a JSON object a line, from standard input to standard output";
+
+/// What `canon` does.
+const CANON: &str =
+    "Writes messages as their canonical texts: a JSON object a line, from standard input to standard output";
+
+/// What stands below the help of the program.
+const WHERE_TO_READ: &str =
+    "docs/TOUR.md is a day at the hub, line by line; docs/FORMATS.md has every line and every reply, docs/OPERATING.md what each means.";
+
+/// What stands below the help of `steps`.
+const STEPS_EXAMPLE: &str =
+    "A line, and what comes out:\n  {\"do\":\"open\",\"parties\":[[],[\"FI\"]],\"submissions\":1000,\"uplink\":8,\"window\":8,\"wire\":8}\n  {\"opened\":2}\n\nEvery line and every reply: docs/FORMATS.md. What each means: docs/OPERATING.md. A day of them: docs/TOUR.md.";
+
+/// What stands below the help of `canon`.
+const CANON_EXAMPLE: &str =
+    "A line, and what comes out:\n  {\"serial\":\"S1\",\"gtin\":\"9506000134352\",\"msg\":\"query\"}\n  {\"gtin\":\"09506000134352\",\"msg\":\"query\",\"serial\":\"S1\"}\n\nEvery message, its fields and its faults: docs/FORMATS.md.";
 
 /// What the words ask for.
 #[derive(Clone, Copy)]
@@ -100,18 +126,23 @@ fn task_of(alloc: Global, words: &[String]) -> Result<Option<Task>, Error>
     Ok(task_named(&matches))
 }
 
+/// A command of this name, with what its help says first and last.
+fn told<'a>(alloc: Global, name: &'a str, first: &'a str, last: &'a str) -> Command<'a>
+    ensures app { app_of result ≡ new_app name.entry.now }
+    ensures local { (fields_of result).has_globals ≡ false }
+{
+    Command::new(alloc, name).about(first).after_help(last)
+}
+
 /// The command line that the program takes.
 fn command_line<'a>(alloc: Global) -> Result<Command<'a>, AllocError>
     ensures { IfOk result (λ line. app_of line ≡ command_line) }
 {
-    let steps = Command::new(alloc, "steps").about(
-        "Answers steps: a JSON object a line, from standard input to standard output",
-    );
-    let canon = Command::new(alloc, "canon").about(
-        "Writes messages as their canonical texts: a JSON object a line, from standard input to standard output",
-    );
-    Command::new(alloc, "mvhub")
-        .about("The hub of the medicines verification system, and the national repositories")
+    let steps = told(alloc, "steps", STEPS, STEPS_EXAMPLE);
+    let canon = told(alloc, "canon", CANON, CANON_EXAMPLE);
+    told(alloc, "mvhub", PROGRAM, WHERE_TO_READ)
+        .version(VERSION)
+        .arg_required_else_help(true)
         .subcommand_required(true)
         .subcommand(steps)?
         .subcommand(canon)

@@ -2,6 +2,23 @@
 //!
 //! The program is its user. The contract: `serve` writes the replies to the lines that it reads, by the definitions in
 //! `specs/`: what the lines of some bytes are, what a line asks, and which reply it may get from the list machine.
+//!
+//! It can be used alone, with the crates that its line of crates.txt names.
+//! A caller that answers the lines of a reader, proved in the gate (`mv_rows`):
+//!
+//! ```rust
+//! fn answer(
+//!     alloc: Global,
+//!     task: Task,
+//!     reader: &mut Script<'_>,
+//!     writer: &mut Sink,
+//! ) -> Result<(), ServeFault> {
+//!     match task {
+//!         Task::Steps => serve(alloc, reader, writer),
+//!         Task::Canon => canon(alloc, reader, writer),
+//!     }
+//! }
+//! ```
 #![tactic(auto)]
 
 mod answering;

@@ -94,6 +94,21 @@ impl Outgoing {
         Ok(Frame { number, item })
     }
 
+    /// The next frame that was not relayed yet: L1 where there is none, L4 for want of memory. It stays the next.
+    pub fn next(&self) -> Result<Frame, LinkFault>
+        ensures number { IfOk result (λ frame. frame.number ≡ self.now.sent + 1) }
+        ensures frame { IfOk result (λ frame. IsFrameOfAll self.now frame) }
+        ensures waiting { OnOk result (self.now.sent < self.now.total) }
+        ensures nothing { IsErrOf result LinkFault.Nothing ↔ (self.now.sent ≡ self.now.total) }
+        ensures others { IfErr result (λ fault. (fault ≡ LinkFault.Nothing) ⊎ (fault ≡ LinkFault.Memory)) }
+        ensures memory { IsErrOf result LinkFault.Memory → self.now.sent < self.now.total }
+    {
+        if self.sent == self.total {
+            return Err(LinkFault::Nothing);
+        }
+        self.frame(self.sent + 1)
+    }
+
     /// The next frame that was not relayed yet: L1 where there is none, L4 for want of memory.
     pub fn relay(&mut self) -> Result<Frame, LinkFault>
         ensures number { IfOk result (λ frame. frame.number ≡ self.old.sent + 1) }
@@ -105,12 +120,8 @@ impl Outgoing {
         ensures memory { IsErrOf result LinkFault.Memory → self.old.sent < self.old.total }
         ensures err { OnErr result (self.new ≡ self.old) }
     {
-        if self.sent == self.total {
-            return Err(LinkFault::Nothing);
-        }
-        let number = self.sent + 1;
-        let frame = self.frame(number)?;
-        self.sent = number;
+        let frame = self.next()?;
+        self.sent += 1;
         Ok(frame)
     }
 

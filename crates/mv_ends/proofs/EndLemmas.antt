@@ -28,9 +28,12 @@ use Rattle.mv_machine.proofs.BoundLemmas.{record-few}
 use Rattle.mv_machine.proofs.PartLemmas.{record-entered}
 use Rattle.mv_machine.proofs.PrefixLemmas.{slice_get-append}
 use Rattle.mv_ends.specs.declared.outlets.Outlets.{Outlets}
-use Rattle.mv_ends.specs.declared.uplinks.Uplinks.{Uplinks}
+use Rattle.std.specs.declared.alloc.Global.{Global}
+use Rattle.rtrb.specs.declared.consumer.Consumer.{Consumer}
+use Rattle.rtrb.specs.declared.AnyItems.{AnyItems}
+use Rattle.mv_ends.specs.declared.inlets.Inlets.{Inlets}
 use Rattle.mv_ends.specs.declared.wires.Wires.{Wires}
-use Rattle.mv_ends.specs.Uplinks.{Uplink, starts_of, taken_of, SameUplinks, TakesNothing, Takes}
+use Rattle.mv_ends.specs.Inlets.{starts_of, taken_of, SameInlets, TakesNothing, Takes}
 use Rattle.mv_ends.specs.Outlets.{Outlet, ends_of}
 use Rattle.mv_ends.specs.Wires.{outlets_of, wire_of, SameWires, PutsNoFrame, PutsFrame}
 use Rattle.mv_ends.specs.Valid.{TookAll, IsFor, AreOfLinks, AreWithin}
@@ -98,7 +101,7 @@ eqb-swap a b = by (eqb a b) (eqb b a) refl refl
     by false true e f = absurd (eqb-false a b e (sym (eqb-true b a f)))
 
 -- the message that was taken is the one that was routed
-pub took_routed : (entries : List Entry) (sender k : ℕ) (message : Message) (old new : Uplinks) → SameUplinks old new → Takes sender message old new
+pub took_routed : (entries : List Entry) (sender k : ℕ) (message : Message) (old new : Inlets Message) → SameInlets old new → Takes sender message old new
     → TookAll entries old → TookAll (entries ++ Routed sender k message ∷ []) new
 took_routed entries sender k message old new same takes took from absent in_range =
     let there : from < length (starts_of old) = subst (λ n. from < n) same.0 in_range in
@@ -108,12 +111,12 @@ took_routed entries sender k message old new same takes took from absent in_rang
     ∙ sym (routed_from-append entries (Routed sender k message ∷ []) from)
 
 -- a closing routes nothing
-pub took_closed : (entries : List Entry) (sender receiver : ℕ) (uplinks : Uplinks) → TookAll entries uplinks → TookAll (entries ++ Closed sender receiver ∷ []) uplinks
+pub took_closed : (entries : List Entry) (sender receiver : ℕ) (uplinks : Inlets Message) → TookAll entries uplinks → TookAll (entries ++ Closed sender receiver ∷ []) uplinks
 took_closed entries sender receiver uplinks took from absent in_range =
     took from absent in_range ∙ sym (append-nil (routed_from entries from)) ∙ sym (routed_from-append entries (Closed sender receiver ∷ []) from)
 
 -- nothing was taken
-pub took_same : (entries : List Entry) (old new : Uplinks) → SameUplinks old new → TakesNothing old new → TookAll entries old → TookAll entries new
+pub took_same : (entries : List Entry) (old new : Inlets Message) → SameInlets old new → TakesNothing old new → TookAll entries old → TookAll entries new
 took_same entries old new same nothing took from absent in_range =
     let there : from < length (starts_of old) = subst (λ n. from < n) same.0 in_range in
     nothing from absent there ∙ took from absent there
@@ -151,7 +154,7 @@ pub lawful_closed : (hub : HubState) (sender receiver : ℕ) → sender < length
 lawful_closed hub sender receiver one other was_open lawful = record-entered (length hub.parties) hub.entries (Closed sender receiver) lawful was_open (one, other)
 
 -- what is taken next to nothing is all that is taken
-pub takes_after : (sender : ℕ) (message : Message) (first second third : Uplinks) → SameUplinks first second → TakesNothing first second → Takes sender message second third → Takes sender message first third
+pub takes_after : (sender : ℕ) (message : Message) (first second third : Inlets Message) → SameInlets first second → TakesNothing first second → Takes sender message second third → Takes sender message first third
 takes_after sender message first second third same nothing takes from absent below =
     takes from absent (subst (λ n. from < n) (sym same.0) below) ∙ ap (λ l. l ++ cond (eqb from sender) (message ∷ []) []) (nothing from absent below)
 

@@ -12,11 +12,11 @@ use Rattle.mv_machine.specs.declared.reply.Reply.{Reply}
 use Rattle.mv_machine.specs.declared.reply.Reply.TheVariants.{Routed, Relayed, Repeated, Closed, Refused}
 use Rattle.mv_machine.specs.declared.reply.Refusal.{Refusal}
 use Rattle.mv_machine.specs.declared.reply.Refusal.TheVariants.{Party, UplinkEmpty, Busy, WireFull, NotSent, Gone, Nothing, AlreadyClosed, Memory}
-use Rattle.mv_ends.specs.declared.uplinks.Uplinks.{Uplinks}
+use Rattle.mv_ends.specs.declared.inlets.Inlets.{Inlets}
 use Rattle.mv_ends.specs.declared.wires.Wires.{Wires}
 use Rattle.mv_ends.specs.declared.hub_end.HubEnd.{HubEnd}
 use Rattle.mv_ends.specs.Refusals.{IsRefusedBy}
-use Rattle.mv_ends.specs.Uplinks.{SameUplinks, TakesNothing, Takes}
+use Rattle.mv_ends.specs.Inlets.{SameInlets, TakesNothing, Takes}
 use Rattle.mv_ends.specs.Wires.{SameWires, PutsNoFrame, PutsFrame}
 
 -- the hub of an end
@@ -24,7 +24,7 @@ abbrev pub hub_of : HubEnd → HubState
 hub_of end = end.hub
 
 -- the ends of its rings
-abbrev pub uplinks_of : HubEnd → Uplinks
+abbrev pub uplinks_of : HubEnd → Inlets Message
 uplinks_of end = end.uplinks
 
 abbrev pub wires_of : HubEnd → Wires
@@ -34,7 +34,7 @@ wires_of end = end.wires
 pub record SameHubEnd (old new : HubEnd) : Type 0 where
   pub parties : (hub_of new).parties ≡ (hub_of old).parties
   pub limits : new.limits ≡ old.limits
-  pub uplinks : SameUplinks (uplinks_of old) (uplinks_of new)
+  pub uplinks : SameInlets (uplinks_of old) (uplinks_of new)
   pub wires : SameWires (wires_of old) (wires_of new)
 
 -- nothing has changed: neither the hub nor what was taken or put

@@ -1,5 +1,5 @@
+pub mod Inlets
 pub mod Outlets
-pub mod Uplinks
 pub mod Wires
 pub mod Valid
 pub mod Refusals

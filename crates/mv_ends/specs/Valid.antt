@@ -10,15 +10,19 @@ use Rattle.mv_machine.specs.Lawful.{Fits, AllFit, NamesParties, AllNameParties, 
 use Rattle.mv_hub.specs.Record.{routed_from, routed_count, is_open}
 use Rattle.mv_hub.specs.Hub.{HubState, items_on}
 use Rattle.mv_ends.specs.declared.outlets.Outlets.{Outlets}
-use Rattle.mv_ends.specs.declared.uplinks.Uplinks.{Uplinks}
+use Rattle.std.specs.declared.alloc.Global.{Global}
+use Rattle.rtrb.specs.declared.consumer.Consumer.{Consumer}
+use Rattle.rtrb.specs.declared.AnyItems.{AnyItems}
+use Rattle.mv_message.specs.declared.message.Message.{Message}
+use Rattle.mv_ends.specs.declared.inlets.Inlets.{Inlets}
 use Rattle.mv_ends.specs.declared.wires.Wires.{Wires}
-use Rattle.mv_ends.specs.Uplinks.{Uplink, starts_of, taken_of}
+use Rattle.mv_ends.specs.Inlets.{starts_of, taken_of}
 use Rattle.mv_ends.specs.Outlets.{Outlet, ends_of}
 use Rattle.mv_ends.specs.Wires.{outlets_of, wire_of}
 
 -- what was taken from each uplink is what was routed from its party, in order
-abbrev pub TookAll : List Entry → Uplinks → Type 0
-TookAll entries uplinks = (from : ℕ) (absent : Uplink) → from < length (starts_of uplinks) → taken_of uplinks from absent ≡ routed_from entries from
+abbrev pub TookAll : List Entry → Inlets Message → Type 0
+TookAll entries uplinks = (from : ℕ) (absent : Consumer Message Global AnyItems) → from < length (starts_of uplinks) → taken_of uplinks from absent ≡ routed_from entries from
 
 -- there is a link for each ordered pair of so many parties
 abbrev pub IsFor : ℕ → Wires → Type 0

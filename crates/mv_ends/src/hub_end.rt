@@ -3,11 +3,11 @@
 ghost use Rattle.std.specs.Prelude.{◌≡◌, ◌<◌, ◌&&◌, length, nat_lt};
 ghost use Rattle.mv_machine.specs.Lawful.{IsLawfulRecord};
 ghost use Rattle.mv_ends.specs.Valid.{TookAll, IsFor, AreOfLinks, AreWithin, IsLawfulRecord-prop};
-ghost use Rattle.mv_ends.specs.Uplinks.{starts_of};
+ghost use Rattle.mv_ends.specs.Inlets.{starts_of};
 
-use crate::parcel::FrameParcel;
+use crate::inlets::Inlets;
+use crate::parcel::{FrameParcel, MessageParcel};
 use crate::refusal::refusal_of;
-use crate::uplinks::Uplinks;
 use crate::wires::Wires;
 use mv_hub::{Entry, Hub, RouteFault};
 use mv_machine::{Limits, Refusal, Reply};
@@ -20,7 +20,9 @@ pub struct HubEnd {
     alloc: Global,
     limits: Limits,
     hub: Hub,
-    uplinks: Uplinks,
+    /// The ends of the uplinks.
+    uplinks: Inlets<MessageParcel>,
+    /// The ends of the links.
     wires: Wires,
     ghost window: { hub.window ≡ limits.window },
     ghost each: { length (starts_of uplinks) ≡ length hub.parties },
@@ -68,7 +70,7 @@ impl HubEnd {
         if self.uplinks.is_empty(from) {
             return Reply::Refused(Refusal::UplinkEmpty);
         }
-        match self.hub.route(from, self.uplinks.front(from)) {
+        match self.hub.route(from, self.uplinks.front(from).message()) {
             Ok((k, reach)) => {
                 let _parcel = self.uplinks.take(from);
                 Reply::Routed { k, reach }

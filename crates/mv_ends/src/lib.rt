@@ -7,14 +7,14 @@
 #![tactic(auto)]
 
 mod hub_end;
+mod inlets;
 mod outlets;
 mod parcel;
 mod refusal;
-mod uplinks;
 mod wires;
 
 pub use hub_end::HubEnd;
+pub use inlets::Inlets;
 pub use outlets::Outlets;
 pub use parcel::{FrameParcel, MessageParcel};
-pub use uplinks::Uplinks;
 pub use wires::Wires;

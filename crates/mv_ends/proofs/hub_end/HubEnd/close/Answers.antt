@@ -3,7 +3,7 @@ use Rattle.std.proofs.Common.{◌≡◌, length}
 use Rattle.mv_hub.specs.declared.entry.Entry.TheVariants.{Closed}
 use Rattle.mv_hub.specs.Hub.{HubState}
 use Rattle.mv_machine.specs.Lawful.{IsLawfulRecord}
-use Rattle.mv_ends.specs.Uplinks.{starts_of}
+use Rattle.mv_ends.specs.Inlets.{starts_of}
 use Rattle.mv_ends.specs.Valid.{IsFor, TookAll, AreOfLinks, AreWithin}
 use Rattle.mv_ends.proofs.EndLemmas.{of_links_entered, took_closed, within_closed, lawful_closed, closable, closed_or_same}
 use Rattle.mv_ends.proofs.hub_end.HubEnd.close.Goals as goal

@@ -98,6 +98,21 @@ impl Outgoing {
         Ok(Frame { number, item })
     }
 
+    /// The next frame that was not relayed yet. It stays the next.
+    ///
+    /// The first of these that holds is the fault: L1, every item has been relayed; L4, memory was refused.
+    pub fn next(&self) -> Result<Frame, LinkFault>
+        ensures number { IfOk result (λ frame. frame.number ≡ self.now.sent + 1) }
+        ensures frame { IfOk result (λ frame. IsFrameOfAll self.now frame) }
+        ensures waiting { OnOk result (self.now.sent < self.now.total) }
+        ensures fault { FailsBy LinkFault.Memory (relay_fault self.now.total self.now.sent) result }
+    {
+        if self.sent == self.total {
+            return Err(LinkFault::Nothing);
+        }
+        Ok(self.frame(self.sent + 1)?)
+    }
+
     /// The next frame that was not relayed yet.
     ///
     /// The first of these that holds is the fault: L1, every item has been relayed; L4, memory was refused.
@@ -109,12 +124,8 @@ impl Outgoing {
         ensures err { OnErr result (self.new ≡ self.old) }
         ensures fault { FailsBy LinkFault.Memory (relay_fault self.old.total self.old.sent) result }
     {
-        if self.sent == self.total {
-            return Err(LinkFault::Nothing);
-        }
-        let number = self.sent + 1;
-        let frame = self.frame(number)?;
-        self.sent = number;
+        let frame = self.next()?;
+        self.sent += 1;
         Ok(frame)
     }
 

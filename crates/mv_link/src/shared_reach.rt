@@ -50,6 +50,16 @@ impl SharedReach {
         })
     }
 
+    /// The same in memory of its own, which nobody else holds. Refused for want of memory.
+    pub fn copy(&self, alloc: Global) -> Result<SharedReach, AllocError>
+        ensures { IfOk result (λ copied. copied ≡ self.now) }
+    {
+        let parties = self.as_slice().to_vec(alloc)?;
+        Ok(SharedReach {
+            parties: Shared::new(alloc, parties)?,
+        })
+    }
+
     /// The parties, ascending.
     pub fn as_slice(&self) -> &[Party]
         ensures value { result.now ≡ self.now }

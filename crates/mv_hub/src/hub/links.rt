@@ -20,11 +20,26 @@ impl Hub {
         self.link(from, to).total()
     }
 
+    /// The next frame of the link from one party to another that was not relayed yet. It stays the next.
+    ///
+    /// The first of these that holds is the fault: H4, one of the parties is none; H8, every item of the link has been
+    /// relayed; H7, memory was refused.
+    pub fn next_frame(&self, from: Party, to: Party) -> Result<Frame, HubFault>
+        ensures number { IfOk result (λ frame. frame.number ≡ sent_of self.now from to + 1) }
+        ensures frame { IfOk result (λ frame. IsFrameOf (items_on self.now from to) frame) }
+        ensures fault { FailsBy HubFault.Memory (relay_fault self.now from to) result }
+    {
+        let count = self.parties().len();
+        if from >= count || to >= count {
+            return Err(HubFault::StrangerParty);
+        }
+        Ok(self.link(from, to).next()?)
+    }
+
     /// The next frame of the link from one party to another that was not relayed yet.
     ///
     /// The first of these that holds is the fault: H4, one of the parties is none; H8, every item of the link has been
     /// relayed; H7, memory was refused.
-
     pub fn relay(&mut self, from: Party, to: Party) -> Result<Frame, HubFault>
         ensures number { IfOk result (λ frame. frame.number ≡ sent_of self.old from to + 1) }
         ensures frame { IfOk result (λ frame. IsFrameOf (items_on self.old from to) frame) }

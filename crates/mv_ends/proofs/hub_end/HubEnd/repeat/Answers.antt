@@ -1,0 +1,18 @@
+-- The frame that is put is the one that was asked for.
+use Rattle.std.proofs.Common.{◌≡◌, ◌∙◌, sym, subst, length, rules}
+use Rattle.mv_ends.specs.Valid.{IsFor, TookAll, AreOfLinks, AreWithin}
+use Rattle.mv_ends.specs.Wires.{PutsFrame}
+use Rattle.mv_ends.proofs.EndLemmas.{of_links_same, of_links_put, for_same, puts_after}
+use Rattle.mv_ends.proofs.hub_end.HubEnd.repeat.Goals as goal
+
+pub invariant_of-self-2-clause-square : goal.invariant_of-self-2-clause-square
+invariant_of-self-2-clause-square c =
+    for_same (length c.args.self.now.hub.parties) c.is_full.new.self c.put.new.self c.put.ensures.same
+    (for_same (length c.args.self.now.hub.parties) c.args.self.now.wires c.is_full.new.self c.is_full.ensures.same c.args.self.now.square)
+
+pub invariant_of-self-2-clause-of_links : goal.invariant_of-self-2-clause-of_links
+invariant_of-self-2-clause-of_links c =
+    let hub = c.args.self.now.hub in
+    let puts = subst (λ f. PutsFrame c.args.from c.args.to f c.is_full.new.self c.put.new.self) c.in-Ok-of.ensures c.put.ensures.puts in
+    of_links_put hub c.is_full.new.self c.put.new.self c.args.from c.args.to c.in-Ok.frame c.put.ensures.same puts c.in-Ok.ensures.frame
+    (of_links_same hub c.args.self.now.wires c.is_full.new.self c.is_full.ensures.same c.is_full.ensures.nothing c.args.self.now.of_links)

@@ -1,0 +1,63 @@
+-- What the hub's end keeps of its rings, beside the hub.
+use Rattle.std.specs.Prelude.{◌≡◌, ℕ, ◌+◌, ◌<◌, ◌≤◌, true, List, [], ◌∷◌, ◌++◌, length, slice_index_or}
+use Rattle.std.specs.List.{All}
+use Rattle.mv_link.specs.Frames.{IsFrameOf}
+use Rattle.std.specs.Coded.{×_prop, Unit-prop, le_prop, Coded-set, coded_bool}
+use Rattle.std.proofs.Math.Nat.{ℕ_set}
+use Rattle.mv_hub.specs.declared.entry.Entry.{Entry}
+use Rattle.mv_hub.specs.declared.entry.Entry.TheVariants.{Routed, Closed}
+use Rattle.mv_machine.specs.Lawful.{Fits, AllFit, NamesParties, AllNameParties, IsLawfulRecord}
+use Rattle.mv_hub.specs.Record.{routed_from, routed_count, is_open}
+use Rattle.mv_hub.specs.Hub.{HubState, items_on}
+use Rattle.mv_ends.specs.declared.outlets.Outlets.{Outlets}
+use Rattle.std.specs.declared.alloc.Global.{Global}
+use Rattle.rtrb.specs.declared.consumer.Consumer.{Consumer}
+use Rattle.rtrb.specs.declared.AnyItems.{AnyItems}
+use Rattle.mv_message.specs.declared.message.Message.{Message}
+use Rattle.mv_ends.specs.declared.inlets.Inlets.{Inlets}
+use Rattle.mv_ends.specs.declared.wires.Wires.{Wires}
+use Rattle.mv_ends.specs.Inlets.{starts_of, taken_of}
+use Rattle.mv_ends.specs.Outlets.{Outlet, ends_of}
+use Rattle.mv_ends.specs.Wires.{outlets_of, wire_of}
+
+-- what was taken from each uplink is what was routed from its party, in order
+abbrev pub TookAll : List Entry → Inlets Message → Type 0
+TookAll entries uplinks = (from : ℕ) (absent : Consumer Message Global AnyItems) → from < length (starts_of uplinks) → taken_of uplinks from absent ≡ routed_from entries from
+
+-- there is a link for each ordered pair of so many parties
+abbrev pub IsFor : ℕ → Wires → Type 0
+IsFor count wires = (length (outlets_of wires) ≡ count)
+    × ((to : ℕ) (none : Outlets) → to < count → length (ends_of (slice_index_or (outlets_of wires) to none)) ≡ count)
+
+-- on the ring of each link only frames of the link were put
+abbrev pub AreOfLinks : HubState → Wires → Type 0
+AreOfLinks hub wires = (from to : ℕ) (none : Outlets) (absent : Outlet) → to < length (outlets_of wires)
+    → from < length (ends_of (slice_index_or (outlets_of wires) to none)) → All (IsFrameOf (items_on hub from to)) (wire_of wires from to none absent)
+
+-- no more messages of any party were routed than it may submit
+abbrev pub AreWithin : ℕ → HubState → Type 0
+AreWithin most hub = (from : ℕ) → from < length hub.parties → routed_count hub.entries from ≤ most
+
+-- that a record is lawful has one proof at most
+
+Fits-prop : (before : List Entry) (entry : Entry) → IsProp (Fits before entry)
+Fits-prop before (Routed from k message) = ℕ_set k (routed_count before from + 1)
+Fits-prop before (Closed from to) = Coded-set coded_bool (is_open before from to) true
+
+AllFit-prop : (before entries : List Entry) → IsProp (AllFit before entries)
+AllFit-prop before [] = Unit-prop
+AllFit-prop before (entry ∷ entries) = ×_prop (Fits-prop before entry) (AllFit-prop (before ++ entry ∷ []) entries)
+
+NamesParties-prop : (count : ℕ) (entry : Entry) → IsProp (NamesParties count entry)
+NamesParties-prop count (Routed from k message) = hlevel le_prop
+NamesParties-prop count (Closed from to) = hlevel le_prop
+
+AllNameParties-prop : (count : ℕ) (entries : List Entry) → IsProp (AllNameParties count entries)
+AllNameParties-prop count [] = Unit-prop
+AllNameParties-prop count (entry ∷ entries) = ×_prop (NamesParties-prop count entry) (AllNameParties-prop count entries)
+
+pub IsLawfulRecord-prop : (count : ℕ) (entries : List Entry) → IsProp (IsLawfulRecord count entries)
+IsLawfulRecord-prop count entries one other = λ i. record {
+  fit = AllFit-prop [] entries one.fit other.fit i;
+  name_parties = AllNameParties-prop count entries one.name_parties other.name_parties i;
+}

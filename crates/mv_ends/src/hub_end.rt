@@ -1,0 +1,163 @@
+//! The hub's end: the hub, the ends of the uplinks that it takes messages from, and those of the links that it puts frames on.
+
+ghost use Rattle.std.specs.Prelude.{◌≡◌, ◌<◌, ◌&&◌, length, nat_lt};
+ghost use Rattle.mv_machine.specs.Lawful.{IsLawfulRecord};
+ghost use Rattle.mv_ends.specs.Valid.{TookAll, IsFor, AreOfLinks, AreWithin, IsLawfulRecord-prop};
+ghost use Rattle.mv_ends.specs.Inlets.{starts_of};
+
+use crate::inlets::Inlets;
+use crate::parcel::{FrameParcel, MessageParcel};
+use crate::refusal::refusal_of;
+use crate::wires::Wires;
+use mv_hub::{Entry, Hub, RouteFault};
+use mv_machine::{Limits, Refusal, Reply};
+use mv_message::Party;
+use std::alloc::Global;
+
+/// The hub's end of all rings, with the hub.
+#[derive(Drop)]
+pub struct HubEnd {
+    alloc: Global,
+    limits: Limits,
+    hub: Hub,
+    /// The ends of the uplinks.
+    uplinks: Inlets<MessageParcel>,
+    /// The ends of the links.
+    wires: Wires,
+    ghost window: { hub.window ≡ limits.window },
+    ghost each: { length (starts_of uplinks) ≡ length hub.parties },
+    ghost square: { IsFor (length hub.parties) wires },
+    ghost took: { TookAll hub.entries uplinks },
+    ghost of_links: { AreOfLinks hub wires },
+    ghost lawful: { IsLawfulRecord (length hub.parties) hub.entries } by { IsLawfulRecord-prop (length hub.parties) hub.entries },
+    ghost within: { AreWithin limits.submissions hub },
+}
+
+impl HubEnd {
+    ghost use Rattle.mv_ends.specs.HubEnd.{hub_of, SameHubEnd, Routes, Relays, Repeats, Closes};
+
+    /// The hub.
+    pub fn hub(&self) -> &Hub
+        ensures { result.now ≡ hub_of self.now }
+    {
+        &self.hub
+    }
+
+    /// The hub's record, the oldest entry first.
+    pub fn record(&self) -> &[Entry]
+        ensures entries { result.now ≡ (hub_of self.now).entries }
+        ensures lawful { IsLawfulRecord (length (hub_of self.now).parties) (hub_of self.now).entries }
+    {
+        self.hub.record()
+    }
+
+    /// Takes the front message of a party's uplink and routes it.
+    ///
+    /// Answers `Routed`, or the first of these refusals that holds: S1, there is no such party; S5, no message of the party
+    /// is there to be routed, or as many of its messages were routed as it may submit; S6, a link has no room; S14, memory was
+    /// refused. S5 may be told though a message was just put on the uplink.
+    #[tactic(auto, using(crate::proofs::EndLemmas::of_links_entered, crate::proofs::EndLemmas::took_routed, crate::proofs::EndLemmas::took_same, crate::proofs::EndLemmas::within_routed, crate::proofs::EndLemmas::room_left, crate::proofs::EndLemmas::lawful_routed))]
+    pub fn route(&mut self, from: Party) -> Reply
+        ensures same { SameHubEnd self.old self.new }
+        ensures reply { Routes from self.old self.new result }
+    {
+        if from >= self.hub.parties().len() {
+            return Reply::Refused(Refusal::Party);
+        }
+        if self.hub.routed_count(from) >= self.limits.submissions() {
+            return Reply::Refused(Refusal::UplinkEmpty);
+        }
+        if self.uplinks.is_empty(from) {
+            return Reply::Refused(Refusal::UplinkEmpty);
+        }
+        match self.hub.route(from, self.uplinks.front(from).message()) {
+            Ok((k, reach)) => {
+                let _parcel = self.uplinks.take(from);
+                Reply::Routed { k, reach }
+            }
+            Err(RouteFault::Busy(to)) => Reply::Refused(Refusal::Busy(to)),
+            Err(_) => Reply::Refused(Refusal::Memory),
+        }
+    }
+
+    /// Puts the next frame of a link on its ring.
+    ///
+    /// Answers `Relayed`, or the first of these refusals that holds: S1, one of the parties is none; S7, the ring has no room;
+    /// S11, every item of the link has been relayed; S14, memory was refused. S7 may be told though room was just made.
+    #[tactic(auto, using(crate::proofs::EndLemmas::of_links_same, crate::proofs::EndLemmas::of_links_put, crate::proofs::EndLemmas::refused_by))]
+    pub fn relay(&mut self, from: Party, to: Party) -> Reply
+        ensures same { SameHubEnd self.old self.new }
+        ensures reply { Relays from to self.old self.new result }
+    {
+        if !self.are_parties(from, to) {
+            return Reply::Refused(Refusal::Party);
+        }
+        if self.wires.is_full(from, to) {
+            return Reply::Refused(Refusal::WireFull);
+        }
+        let frame = match self.hub.next_frame(from, to) {
+            Ok(frame) => frame,
+            Err(fault) => return Reply::Refused(refusal_of(fault)),
+        };
+        let Ok(parcel) = FrameParcel::of(self.alloc, &frame) else {
+            return Reply::Refused(Refusal::Memory);
+        };
+        let Ok(relayed) = self.hub.relay(from, to) else {
+            return Reply::Refused(Refusal::Memory);
+        };
+        self.wires.put(from, to, parcel);
+        Reply::Relayed {
+            number: relayed.number,
+        }
+    }
+
+    /// Puts the frame of this number of a link on its ring once more, one that was relayed before.
+    ///
+    /// Answers `Repeated`, or the first of these refusals that holds: S1, one of the parties is none; S7, the ring has no room;
+    /// S9, no frame of this number was relayed; S10, it is kept no longer; S14, memory was refused. S7 may be told though room
+    /// was just made.
+    #[tactic(auto, using(crate::proofs::EndLemmas::of_links_same, crate::proofs::EndLemmas::of_links_put, crate::proofs::EndLemmas::refused_by))]
+    pub fn repeat(&mut self, from: Party, to: Party, number: u32) -> Reply
+        ensures same { SameHubEnd self.old self.new }
+        ensures reply { Repeats from to number self.old self.new result }
+    {
+        if !self.are_parties(from, to) {
+            return Reply::Refused(Refusal::Party);
+        }
+        if self.wires.is_full(from, to) {
+            return Reply::Refused(Refusal::WireFull);
+        }
+        let frame = match self.hub.repeat(from, to, number) {
+            Ok(frame) => frame,
+            Err(fault) => return Reply::Refused(refusal_of(fault)),
+        };
+        let Ok(parcel) = FrameParcel::of(self.alloc, &frame) else {
+            return Reply::Refused(Refusal::Memory);
+        };
+        self.wires.put(from, to, parcel);
+        Reply::Repeated { number }
+    }
+
+    /// Closes a link for ever. What was put on it before is still relayed and repeated.
+    ///
+    /// Answers `Closed`, or the first of these refusals that holds: S1, one of the parties is none; S12, the link is closed
+    /// already; S14, memory was refused.
+    #[tactic(auto, using(crate::proofs::EndLemmas::of_links_entered, crate::proofs::EndLemmas::took_closed, crate::proofs::EndLemmas::within_closed, crate::proofs::EndLemmas::lawful_closed, crate::proofs::EndLemmas::refused_by))]
+    pub fn close(&mut self, from: Party, to: Party) -> Reply
+        ensures same { SameHubEnd self.old self.new }
+        ensures reply { Closes from to self.old self.new result }
+    {
+        if let Err(fault) = self.hub.close(from, to) {
+            return Reply::Refused(refusal_of(fault));
+        }
+        Reply::Closed
+    }
+
+    /// Whether both are parties.
+    fn are_parties(&self, from: Party, to: Party) -> bool
+        ensures { result ≡ (nat_lt from (length (hub_of self.now).parties) && nat_lt to (length (hub_of self.now).parties)) }
+    {
+        let count = self.hub.parties().len();
+        from < count && to < count
+    }
+}

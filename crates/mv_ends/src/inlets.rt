@@ -1,0 +1,56 @@
+//! The ends of rings that are taken from, one for each party.
+//!
+//! The hub takes messages from the uplinks, and each repository frames from the links to it.
+
+ghost use Rattle.std.specs.Prelude.{◌≡◌, ◌<◌, length};
+ghost use Rattle.std.specs.Prelude.{IsFalse};
+
+use mv_message::Party;
+use rtrb::Consumer;
+
+/// The ends of rings that are taken from, by the party that puts there.
+#[derive(Drop)]
+pub struct Inlets<T> {
+    ends: Vec<Consumer<T>>,
+}
+
+impl<T: Drop> Inlets<T> {
+    ghost use Rattle.mv_ends.specs.Inlets.{starts_of, SameInlets, TakesNothing, Takes, HasFront, IsFront};
+
+    /// The ends of these rings.
+    pub(crate) fn new(ends: Vec<Consumer<T>>) -> Inlets<T>
+        ensures { starts_of result ≡ ends.items }
+    {
+        Inlets { ends }
+    }
+
+    /// Whether nothing is seen on the ring from a party. The party may put something there at any time.
+    pub(crate) fn is_empty(&mut self, from: Party) -> bool
+        requires { from < length (starts_of self.old) }
+        ensures same { SameInlets self.old self.new }
+        ensures nothing { TakesNothing self.old self.new }
+        ensures front { IsFalse result → HasFront self.new from }
+    {
+        self.ends[from as usize].is_empty()
+    }
+
+    /// What is at the front of the ring from a party.
+    pub(crate) fn front(&self, from: Party) -> &T
+        requires from { from < length (starts_of self.now) }
+        requires some { HasFront self.now from }
+        ensures { IsFront self.now from result.now }
+    {
+        self.ends[from as usize].peek_known()
+    }
+
+    /// Takes what is at the front of the ring from a party.
+    pub(crate) fn take(&mut self, from: Party) -> T
+        requires from { from < length (starts_of self.old) }
+        requires some { HasFront self.old from }
+        ensures same { SameInlets self.old self.new }
+        ensures takes { Takes from result self.old self.new }
+        ensures front { (front : T) → IsFront self.old from front → result ≡ front }
+    {
+        self.ends[from as usize].pop_known()
+    }
+}

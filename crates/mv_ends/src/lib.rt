@@ -1,0 +1,20 @@
+//! The ends of a system whose parts run apart: the hub's end, and the end of each repository.
+//!
+//! The workers are their user: each thread owns one end. Ends share nothing but rings, of one producer and one consumer
+//! each: one for each party's uplink to the hub, and one for each ordered pair of parties, which is the wire of their link.
+//! What crosses a ring is a copy in memory of its own (a parcel). The contract: each call is the step of its name, over the
+//! lists that the end itself keeps. No call waits, and none takes a lock. This crate knows no thread and no JSON.
+#![tactic(auto)]
+
+mod hub_end;
+mod inlets;
+mod outlets;
+mod parcel;
+mod refusal;
+mod wires;
+
+pub use hub_end::HubEnd;
+pub use inlets::Inlets;
+pub use outlets::Outlets;
+pub use parcel::{FrameParcel, MessageParcel};
+pub use wires::Wires;

@@ -8,6 +8,8 @@ use Rattle.std.proofs.lemmas.Grind.{common_steps}
 use mathlib.Core.List.{IsPrefix}
 use Rattle.mv_message.specs.declared.message.Message.{Message}
 use Rattle.mv_link.specs.declared.item.Item.{Item}
+use Rattle.mv_link.specs.declared.limits.TheConstants.{PARTIES_LIMIT, NUMBER_LIMIT}
+use Rattle.mv_party.specs.declared.limits.TheConstants.{SUBMISSIONS_LIMIT}
 use Rattle.mv_link.specs.declared.item.Frame.{Frame}
 use Rattle.mv_link.specs.Frames.{IsFrameOf}
 use Rattle.mv_hub.specs.declared.entry.Entry.{Entry}
@@ -138,7 +140,7 @@ within_closed most hub sender receiver within from in_range =
     omega (arith, within from in_range, ap length (routed_from-append hub.entries (Closed sender receiver ∷ []) from), ap length (append-nil (routed_from hub.entries from)))
 
 -- a record of so few parties and submissions has room for more
-pub room_left : (count most : ℕ) (hub : HubState) → count ≡ length hub.parties → IsLawfulRecord (length hub.parties) hub.entries → length hub.parties ≤ 64 → most ≤ 1000000 → AreWithin most hub → length hub.entries < 4294967295
+pub room_left : (count most : ℕ) (hub : HubState) → count ≡ length hub.parties → IsLawfulRecord (length hub.parties) hub.entries → length hub.parties ≤ PARTIES_LIMIT → most ≤ SUBMISSIONS_LIMIT → AreWithin most hub → length hub.entries < NUMBER_LIMIT
 room_left count most hub each lawful few bounded within =
     omega (arith, record-few (length hub.parties) hub.entries lawful few (λ party below. omega (arith, within party below, bounded)))
 

@@ -131,10 +131,10 @@ impl HubEnd {
             Ok(frame) => frame,
             Err(fault) => return Reply::Refused(refusal_of(fault)),
         };
-        let Ok(parcel) = FrameParcel::of(self.alloc, &frame) else {
+        let Ok(again) = FrameParcel::of(self.alloc, &frame) else {
             return Reply::Refused(Refusal::Memory);
         };
-        self.wires.put(from, to, parcel);
+        self.wires.put(from, to, again);
         Reply::Repeated { number }
     }
 

@@ -148,6 +148,14 @@ fn carries(frame: &Frame, number: u32, stamp: u32) -> bool {
     }
 }
 
+/// Whether the next frame of the link from party 0 to party 1 does, before it is relayed.
+fn is_next(hub: &Hub, number: u32, stamp: u32) -> bool {
+    match hub.next_frame(0, 1) {
+        Ok(frame) => carries(&frame, number, stamp),
+        Err(_) => false,
+    }
+}
+
 /// Whether the next frame of the link from party 0 to party 1 does.
 fn is_carried(hub: &mut Hub, number: u32, stamp: u32) -> bool {
     match hub.relay(0, 1) {
@@ -176,6 +184,7 @@ fn is_stamped(hub: &mut Hub, alloc: Global) -> bool {
         && hub.close(1, 2) == Ok(())
         && is_routed(hub, alloc, 0, FIRST_BATCH, 2, &[1])
         && has_a_closing_between(hub)
+        && is_next(hub, 1, 1)
         && is_carried(hub, 1, 1)
         && is_carried(hub, 2, 3)
 }

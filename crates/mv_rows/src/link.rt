@@ -58,6 +58,7 @@ fn takes_no_item_into_a_full_window(rt: HostRuntime) -> Result<(), AllocError> {
     assert!(rt; push(rt.alloc(), &mut link, 1));
     assert!(rt; push(rt.alloc(), &mut link, 2));
     assert!(rt; !push(rt.alloc(), &mut link, 3));
+    assert_eq!(rt; number_of(link.next()), 1);
     assert_eq!(rt; number_of(link.relay()), 1);
     assert!(rt; push(rt.alloc(), &mut link, 3));
     assert_eq!(rt; link.total(), 3);
@@ -130,6 +131,8 @@ fn keeps_the_parties_of_a_reach(rt: HostRuntime) -> Result<(), AllocError> {
     let kept = SharedReach::of(rt.alloc(), &Reach::new(parties))?;
     let shared = kept.share()?;
     assert_eq!(rt; shared.as_slice(), [3].as_slice());
+    let copied = kept.copy(rt.alloc())?;
+    assert_eq!(rt; copied.as_slice(), [3].as_slice());
     assert!(rt; shared == kept);
     assert!(rt; kept != SharedReach::of(rt.alloc(), &Reach::new(ArrayVec::new()))?);
     Ok(())

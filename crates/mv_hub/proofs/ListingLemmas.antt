@@ -3,7 +3,7 @@ use Rattle.std.proofs.Common.{◌≡◌, ℕ, Bool, true, false, ◌||◌, ◌&&
 use Rattle.std.specs.Prelude.{nat_eq}
 use Rattle.std.specs.Cmp.Lexicographic.{pointwise}
 use Rattle.std.specs.List.{list_any, filter_map}
-use Rattle.std.proofs.lemmas.Bool.{eq-eqb}
+use Rattle.std.proofs.lemmas.Bool.{and_parts, eq-eqb}
 use Rattle.std.proofs.lemmas.List.Elements.{filter-append, filter_map-append}
 use Rattle.mv_pack.specs.declared.key.BatchKey.{BatchKey}
 use Rattle.mv_hub.specs.Listing.{Listing, is_same_listing, distinct}
@@ -73,20 +73,15 @@ module _ {A : Type 0} (same : A → A → Bool) where
         by None = ap (distinct same) (append-nil (filter_map named entries))
         by (Some x) = distinct-push (filter_map named entries) x
 
-both-true : (p q : Bool) → (p && q) ≡ true → (p ≡ true) × (q ≡ true)
-both-true true true e = (refl, refl)
-both-true true false e = absurd (cc)
-both-true false q e = absurd (cc)
-
 pub listing-same : (a b : Listing) → is_same_listing a b ≡ true → a ≡ b
 listing-same a b e =
     let years = eqb a.1.year b.1.year in
     let months = eqb a.1.month b.1.month in
     let days = eqb a.1.day b.1.day in
     let text = pointwise nat_eq a.0 b.0 in
-    let third = both-true ((text && years) && months) days e in
-    let second = both-true (text && years) months third.0 in
-    let first = both-true text years second.0 in
+    let third = and_parts ((text && years) && months) days e in
+    let second = and_parts (text && years) months third.0 in
+    let first = and_parts text years second.0 in
     ap {A = List ℕ} {B = Listing} (λ t. (t, a.1)) (text-same a.0 b.0 first.0)
     ∙ ap {A = ℕ} {B = Listing} (λ n. (b.0, record { year = n; month = a.1.month; day = a.1.day })) (eqb-true _ _ first.1)
     ∙ ap {A = ℕ} {B = Listing} (λ n. (b.0, record { year = b.1.year; month = n; day = a.1.day })) (eqb-true _ _ second.1)

@@ -26,22 +26,13 @@ range-append a (suc m) n =
     let place : a + 1 + m ≡ a + suc m = omega arith in
     rw count (ap (λ l. a ∷ l) (range-append (a + 1) m n ∙ ap (λ b. range_with_len (a + 1) m ++ range_with_len b n) place))
 
-range-more : (n : ℕ) → range_with_len 0 (n + 1) ≡ range_with_len 0 n ++ n ∷ []
-range-more n = range-append 0 n 1 ∙ ap (λ x. range_with_len 0 n ++ x ∷ []) (zero-add n)
-
--- the numbers below a count, with one of them in the middle
 range-split : (i n : ℕ) → i < n → range_with_len 0 n ≡ range_with_len 0 i ++ (i ∷ range_with_len (i + 1) (n - i - 1))
 range-split i n lt =
     let count : n ≡ i + suc (n - i - 1) = omega arith in
     ap (λ k. range_with_len 0 k) count ∙ range-append 0 i (suc (n - i - 1))
     ∙ ap (λ b. range_with_len 0 i ++ (b ∷ range_with_len (b + 1) (n - i - 1))) (zero-add i)
 
--- of the numbers below n + 1 those that pass
-pub filter-range_more : (p : ℕ → Bool) (n : ℕ)
-    → filter p (range_with_len 0 (n + 1)) ≡ filter p (range_with_len 0 n) ++ cond (p n) (n ∷ []) []
-filter-range_more p n = ap (filter p) (range-more n) ∙ filter-append p (range_with_len 0 n) (n ∷ [])
-
--- they ascend
+-- the numbers below a count that pass ascend
 pub increasing-filter_range : (p : ℕ → Bool) (n : ℕ) → IsStrictlyIncreasing (filter p (range_with_len 0 n))
 increasing-filter_range p n =
     IsStrictlyIncreasing-filter p (range_with_len 0 n) (λ k lt.
@@ -50,19 +41,6 @@ increasing-filter_range p n =
       get_or-range_with_len 0 n k 0 (omega (arith, length-range_with_len 0 n)),
       get_or-range_with_len 0 n (k + 1) 0 (omega (arith, length-range_with_len 0 n)),
     ))
-
--- the first number below a count that passes
-pub find-first : (p : ℕ → Bool) (i n : ℕ) → i < n → find p (range_with_len 0 i) ≡ None → p i ≡ true → find p (range_with_len 0 n) ≡ Some i
-find-first p i n lt none here =
-    let rest = range_with_len (i + 1) (n - i - 1) in
-    ap (find p) (range-split i n lt) ∙ find-append p (range_with_len 0 i) (i ∷ rest)
-    ∙ ap (λ o. option_or o (find p (i ∷ rest))) none ∙ ap (λ b. cond b (Some i) (find p rest)) here
-
--- one more number does not pass
-pub find-more : (p : ℕ → Bool) (n : ℕ) → find p (range_with_len 0 n) ≡ None → p n ≡ false → find p (range_with_len 0 (n + 1)) ≡ None
-find-more p n none here =
-    ap (find p) (range-more n) ∙ find-append p (range_with_len 0 n) (n ∷ []) ∙ ap (λ o. option_or o (find p (n ∷ []))) none
-    ∙ ap (λ b. cond b (Some n) None) here
 
 -- where none of a list passes, no member does
 none-at : (p : ℕ → Bool) (xs : List ℕ) (x : ℕ) (ys : List ℕ) → find p (xs ++ (x ∷ ys)) ≡ None → p x ≡ false

@@ -1,6 +1,6 @@
 -- Nothing that is routed after the closing of a link goes over it, and the record only grows.
 use Rattle.std.proofs.Common.{◌≡◌, ℕ, ◌+◌, ◌-◌, ◌<◌, ◌≤◌, Bool, true, false, List, [], ◌∷◌, ◌++◌, length, cond, Some, None, Option, sym, refl, ap, ◌∙◌, subst, append_assoc, append-nil, arith, eqb, eqb-true, length-append}
-use Rattle.std.specs.Prelude.{not, ◌&&◌, ◌==◌, slice_get, nat_le, find}
+use Rattle.std.specs.Prelude.{nat_lt, not, ◌&&◌, ◌==◌, slice_get, nat_le, find}
 use Rattle.std.specs.List.{range_with_len}
 use Rattle.std.proofs.lemmas.List.Elements.{All-nil, All-cons, All-append, All-weaker}
 use Rattle.mv_pack.specs.declared.key.PackKey.{PackKey}

@@ -1,6 +1,6 @@
 use Rattle.std.proofs.Common.{ℕ, ◌∷◌, [], ◌++◌, map, sym, ap, ◌∙◌}
 use Rattle.std.specs.List.{range_with_len}
-use Rattle.mv_party.specs.Site.{SiteState, new_site}
+use Rattle.mv_party.specs.Site.{new_site}
 use Rattle.mv_system.proofs.OpeningLemmas.{map-range_push}
 use Rattle.mv_system.proofs.opening.new_sites.Goals as goal
 

@@ -1,5 +1,5 @@
 -- The party's answer is the list machine's, since its part is what the list machine sees.
-use Rattle.std.proofs.Common.{set, subst, refl}
+use Rattle.std.proofs.Common.{set, subst}
 use Rattle.mv_party.specs.Calls.{submit_fault}
 use Rattle.mv_party.proofs.AnswerLemmas.{no_answer}
 use Rattle.mv_party.proofs.SiteLemmas.{submit-free}

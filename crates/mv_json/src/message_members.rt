@@ -74,7 +74,8 @@ fn put_upload<'a, T: Target>(
     national: &'a Option<National>,
     serials: &'a Serials,
 ) -> Result<(), AllocError>
-    ensures { T.puts result target.old target.new (upload_value gtin.now batch.now expiry.now national.now serials.now) }
+    ensures { T.puts result target.old target.new
+        (upload_value gtin.now batch.now expiry.now national.now serials.now) }
 {
     match national {
         None => target.object(&[
@@ -137,7 +138,8 @@ fn put_repack<'a, T: Target>(
     after_serials: &'a Serials,
     at: Moment,
 ) -> Result<(), AllocError>
-    ensures { T.puts result target.old target.new (repack_value before.now before_serials.now after.now after_serials.now at) }
+    ensures { T.puts result target.old target.new
+        (repack_value before.now before_serials.now after.now after_serials.now at) }
 {
     target.object(&[
         Member::Text("after_batch", after.batch.as_str()),

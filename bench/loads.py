@@ -4,13 +4,16 @@ import json
 import random
 import sys
 from collections import Counter, defaultdict, deque
-from itertools import cycle, islice
+from itertools import count, cycle, islice
 from pathlib import Path
 
 sys.path.insert(0, str(Path(__file__).resolve().parent.parent / "tests"))
 
 from messages import answer_of, master_of, query_of, recall_of, repack_of, status_of, upload_of, withdrawal_of
 
+PARTIES = 64  # at most
+UPLINK, WINDOW, WIRE = 64, 256, 64  # at most
+NAMES = [chr(ord("A") + party // 26) + chr(ord("A") + party % 26) for party in range(PARTIES)]
 MARKETS = ["AT", "BE", "DE", "DK", "ES", "FI", "FR", "SE"]
 STANDINGS = ["active", "supplied", "exported", "destruction", "sample", "free_sample", "stolen", "repackaged"]
 CODE = "ABCDEFGHJKLMNPQRSTUVWXYZ0123456789"
@@ -67,7 +70,7 @@ def repacked(gtin, batch, serials, at):
 
 def opening(parties):
     """The line that opens a system of parties that serve these markets, with the widest limits."""
-    return {"do": "open", "parties": parties, "submissions": 1_000_000, "uplink": 64, "window": 256, "wire": 64}
+    return {"do": "open", "parties": parties, "submissions": 1_000_000, "uplink": UPLINK, "window": WINDOW, "wire": WIRE}
 
 
 def submission(sender, message):
@@ -276,6 +279,21 @@ def uploads(lines):
     return islice(work.rounds(events), lines)
 
 
+def until_submitted(lines, messages):
+    """The lines until so many messages were submitted, and all that was submitted before the last of them is carried."""
+    submitted = 0
+    for line in lines:
+        submitted += line["do"] in ("submit", "verify")
+        if submitted > messages:
+            return
+        yield line
+
+
+def planned(lines):
+    """What a plan has of the lines of a run: the opening, and what each party submits, in order."""
+    return (line for line in lines if line["do"] in ("open", "submit", "verify"))
+
+
 def rounds(lines, waits):
     """Rounds of all kinds of lines and messages; a share of the links is left to wait."""
     work = Work(waits)
@@ -298,11 +316,10 @@ def rounds(lines, waits):
 
 def markets(uploads):
     """One product in 32 of 64 markets, and uploads of 100 packs that are carried to each of these."""
-    names = [chr(ord("A") + number // 26) + chr(ord("A") + number % 26) for number in range(64)]
-    sold = range(0, 64, 2)
-    yield opening([[name] for name in names])
+    sold = range(0, PARTIES, 2)
+    yield opening([[name] for name in NAMES])
     yield {"do": "close", "from": 1, "to": 1}  # the maker wants no receipts
-    messages = [numbered_master(1, [names[party] for party in sold])]
+    messages = [numbered_master(1, [NAMES[party] for party in sold])]
     messages += [numbered_upload(gtin_of(1), f"L{number:07d}", number) for number in range(uploads)]
     for message in messages:
         yield from sent(1, message)
@@ -403,6 +420,31 @@ def steps(masters, loses):
                 yield {"do": "lose", **link}
                 yield {"do": "repeat", **link, "number": relayed[sender, to]}
             yield {"do": "apply", **link}
+
+
+def longest_master(number):
+    """A master with this number among those of one product: the longest there is. It names one half of the markets, and the next one the
+    other, so that each is for all parties."""
+    return master_of(gtin_of(1), NAMES[number % 2 :: 2], {name: f"{number:0200d}" for name in TEXTS})
+
+
+def largest():
+    """The largest system, which is then filled: each uplink, each wire and each window but those of parties to themselves, with messages
+    none of which is another's."""
+    yield opening([[name] for name in NAMES])
+    for party in range(PARTIES):
+        yield {"do": "close", "from": party, "to": party}
+    yield from sent(0, longest_master(0))
+    for party in range(2, PARTIES, 2):
+        yield from taken(0, party)
+    numbers = count(1)
+    for party in range(PARTIES):
+        for number in range(WIRE + WINDOW):
+            yield from sent(party, longest_master(next(numbers)))
+            if number < WIRE:
+                yield from ({"do": "relay", "from": party, "to": to} for to in range(PARTIES) if to != party)
+        for _ in range(UPLINK):
+            yield submission(party, longest_master(next(numbers)))
 
 
 def line_texts(steps):

@@ -1,7 +1,8 @@
 //! Measures how batches are followed through repackagings; `bench/run` gives it the words and takes the time.
 //!
-//! `chain N` links N batches one behind the other, `complete N` each of N batches to each other. It routes that many
-//! repackagings through a hub, asks what descends from the first batch, and prints how many batches that are.
+//! `chain N` links N batches one behind the other, `ring N` the last of them to the first too, `complete N` each of N
+//! batches to each other. It routes that many repackagings through a hub, asks what descends from the first batch, and
+//! prints how many batches that are.
 #![tactic(auto)]
 
 use mv_hub::{Hub, Parties};
@@ -16,6 +17,8 @@ use std::process::ExitCode;
 enum Shape {
     /// Each to the next.
     Chain,
+    /// Each to the next, and the last to the first.
+    Ring,
     /// Each to each other.
     Complete,
 }
@@ -43,6 +46,7 @@ fn main(rt: HostRuntime) -> ExitCode {
 fn asked(words: &[String]) -> Option<(Shape, u32)> {
     let shape = match words.get(1)?.as_str() {
         "chain" => Shape::Chain,
+        "ring" => Shape::Ring,
         "complete" => Shape::Complete,
         _ => return None,
     };
@@ -56,6 +60,7 @@ fn count_descendants(alloc: Global, shape: Shape, size: u32) -> Option<usize> {
     let mut hub = hub_of_one(alloc)?;
     match shape {
         Shape::Chain => link_chain(alloc, &mut hub, gtin, size)?,
+        Shape::Ring => link_ring(alloc, &mut hub, gtin, size)?,
         Shape::Complete => link_all(alloc, &mut hub, gtin, size)?,
     }
     descendants_of_first(alloc, &hub, gtin)
@@ -82,6 +87,12 @@ fn link_chain(alloc: Global, hub: &mut Hub, gtin: Gtin, size: u32) -> Option<()>
         link(alloc, hub, gtin, number - 1, number)?;
     }
     Some(())
+}
+
+/// Repackages each batch into the next, and the last into the first.
+fn link_ring(alloc: Global, hub: &mut Hub, gtin: Gtin, size: u32) -> Option<()> {
+    link_chain(alloc, hub, gtin, size)?;
+    link(alloc, hub, gtin, size.checked_sub(1)?, 0)
 }
 
 /// Repackages each batch into each other.

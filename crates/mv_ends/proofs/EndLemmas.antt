@@ -1,6 +1,5 @@
 -- What the ends keep while their lists grow.
 use Rattle.std.proofs.Common.{◌≡◌, ◌≤◌, ◌<◌, ◌+◌, ℕ, List, [], ◌∷◌, ◌++◌, length, sym, ◌∙◌, ap, refl, subst, arith, Bool, true, false, cond, eqb, append-nil, Some, slice_index_or, length-append, ◌-◌, eqb-true}
-use Rattle.std.specs.Prelude.{slice_get}
 use Rattle.std.specs.List.{All}
 use Rattle.std.proofs.lemmas.List.Elements.{All-nil, All-cons, All-head, All-tail}
 use Rattle.std.proofs.lemmas.Bool.{eqb-false}
@@ -20,7 +19,7 @@ use Rattle.mv_hub.specs.declared.fault.HubFault.{HubFault}
 use Rattle.mv_hub.specs.declared.fault.HubFault.TheVariants as hub_fault
 use Rattle.mv_link.specs.Fault.{FailsBy}
 use Rattle.mv_ends.specs.Refusals.{refusal_of, IsRefusedBy}
-use Rattle.mv_hub.specs.Links.{gained, link_items}
+use Rattle.mv_hub.specs.Links.{gained}
 use Rattle.mv_hub.specs.Hub.{HubState, items_on, close_fault, with_closed}
 use Rattle.std.proofs.lemmas.Bool.Decides.{nat_tests}
 use Rattle.mv_hub.proofs.RecordLemmas.{routed_from-append, link_items-push}
@@ -28,14 +27,10 @@ use Rattle.mv_machine.specs.Lawful.{IsLawfulRecord}
 use Rattle.mv_machine.proofs.BoundLemmas.{record-few}
 use Rattle.mv_machine.proofs.PartLemmas.{record-entered}
 use Rattle.mv_machine.proofs.PrefixLemmas.{slice_get-append}
-use Rattle.mv_ends.specs.declared.outlets.Outlets.{Outlets}
-use Rattle.std.specs.declared.alloc.Global.{Global}
-use Rattle.rtrb.specs.declared.consumer.Consumer.{Consumer}
-use Rattle.rtrb.specs.declared.AnyItems.{AnyItems}
 use Rattle.mv_ends.specs.declared.inlets.Inlets.{Inlets}
 use Rattle.mv_ends.specs.declared.wires.Wires.{Wires}
-use Rattle.mv_ends.specs.Inlets.{starts_of, taken_of, SameInlets, TakesNothing, Takes}
-use Rattle.mv_ends.specs.Outlets.{Outlet, ends_of}
+use Rattle.mv_ends.specs.Inlets.{starts_of, SameInlets, TakesNothing, Takes}
+use Rattle.mv_ends.specs.Outlets.{ends_of}
 use Rattle.mv_ends.specs.Wires.{outlets_of, wire_of, SameWires, PutsNoFrame, PutsFrame}
 use Rattle.mv_ends.specs.Valid.{TookAll, IsFor, AreOfLinks, AreWithin}
 

@@ -1,1 +1,5 @@
 pub mod EndLemmas
+pub mod SiteEndLemmas
+pub mod OpeningLemmas
+pub mod LookLemmas
+pub mod OutcomeLemmas

@@ -7,11 +7,10 @@ use Rattle.mv_hub.specs.declared.fault.RouteFault.TheVariants as route
 use Rattle.mv_hub.specs.Record.{routed_count}
 use Rattle.mv_hub.specs.Targets.{reach}
 use Rattle.mv_hub.specs.Hub.{HubState, sent_of, items_on, route_fault, relay_fault, repeat_fault, close_fault, with_routed, with_relayed, with_closed}
-use Rattle.mv_machine.specs.Limits.{Bounds}
 use Rattle.mv_machine.specs.declared.reply.Reply.{Reply}
 use Rattle.mv_machine.specs.declared.reply.Reply.TheVariants.{Routed, Relayed, Repeated, Closed, Refused}
 use Rattle.mv_machine.specs.declared.reply.Refusal.{Refusal}
-use Rattle.mv_machine.specs.declared.reply.Refusal.TheVariants.{Party, UplinkEmpty, Busy, WireFull, NotSent, Gone, Nothing, AlreadyClosed, Memory}
+use Rattle.mv_machine.specs.declared.reply.Refusal.TheVariants.{Party, UplinkEmpty, Busy, WireFull, Memory}
 use Rattle.mv_ends.specs.declared.inlets.Inlets.{Inlets}
 use Rattle.mv_ends.specs.declared.wires.Wires.{Wires}
 use Rattle.mv_ends.specs.declared.hub_end.HubEnd.{HubEnd}

@@ -2,7 +2,8 @@
 use Rattle.std.specs.Prelude.{◌≡◌, ◌==◌, ℕ, ◌<◌, List, [], ◌∷◌, ◌++◌, length, slice_index_or, if◌then◌else◌}
 use Rattle.std.specs.declared.alloc.Global.{Global}
 use mathlib.Core.List.{IsPrefix}
-use Rattle.rtrb.specs.Ring.{received, known_items, SameConsumer}
+use Rattle.rtrb.specs.Ring.{received, known_items, SameConsumer, IsPair}
+use Rattle.rtrb.specs.declared.producer.Producer.{Producer}
 use Rattle.rtrb.specs.declared.consumer.Consumer.{Consumer}
 use Rattle.rtrb.specs.declared.AnyItems.{AnyItems}
 use Rattle.mv_ends.specs.declared.inlets.Inlets.{Inlets}
@@ -39,3 +40,11 @@ module _ {T : Type 0} where
   abbrev pub Takes : ℕ → T → Inlets T → Inlets T → Type 0
   Takes sender taken old new = (from : ℕ) (absent : Consumer T Global AnyItems) → from < length (starts_of old)
       → taken_of new from absent ≡ taken_of old from absent ++ (if from == sender then taken ∷ [] else [])
+
+  -- this is the other end of the ring from a party
+  abbrev pub IsPairAt : ℕ → Producer T Global AnyItems → Inlets T → Type 0
+  IsPairAt from producer inlets = (absent : Consumer T Global AnyItems) → IsPair producer (slice_index_or (starts_of inlets) from absent)
+
+  -- what was taken from the ring from a party is a front of this list
+  abbrev pub IsFrontOf : ℕ → Inlets T → List T → Type 0
+  IsFrontOf from inlets list = (absent : Consumer T Global AnyItems) → IsPrefix (taken_of inlets from absent) list

@@ -1,6 +1,15 @@
 pub mod Inlets
 pub mod Outlets
 pub mod Wires
+pub mod Rings
 pub mod Valid
 pub mod Refusals
 pub mod HubEnd
+pub mod Accepted
+pub mod Answering
+pub mod RepoEnd
+pub mod Opened
+pub mod Whole
+pub mod Looking
+pub mod Outcome
+pub mod Laws

@@ -29,6 +29,11 @@ abbrev pub IsFor : ℕ → Wires → Type 0
 IsFor count wires = (length (outlets_of wires) ≡ count)
     × ((to : ℕ) (none : Outlets) → to < count → length (ends_of (slice_index_or (outlets_of wires) to none)) ≡ count)
 
+-- nothing was put on any ring
+abbrev pub AreUnused : Wires → Type 0
+AreUnused wires = (from to : ℕ) (none : Outlets) (absent : Outlet) → to < length (outlets_of wires)
+    → from < length (ends_of (slice_index_or (outlets_of wires) to none)) → wire_of wires from to none absent ≡ []
+
 -- on the ring of each link only frames of the link were put
 abbrev pub AreOfLinks : HubState → Wires → Type 0
 AreOfLinks hub wires = (from to : ℕ) (none : Outlets) (absent : Outlet) → to < length (outlets_of wires)

@@ -2,12 +2,13 @@
 
 ghost use Rattle.std.specs.Prelude.{◌≡◌, ◌<◌, ◌&&◌, length, nat_lt};
 ghost use Rattle.mv_machine.specs.Lawful.{IsLawfulRecord};
-ghost use Rattle.mv_ends.specs.Valid.{TookAll, IsFor, AreOfLinks, AreWithin, IsLawfulRecord-prop};
+ghost use Rattle.mv_ends.specs.Valid.{TookAll, IsFor, AreUnused, AreOfLinks, AreWithin, IsLawfulRecord-prop};
 ghost use Rattle.mv_ends.specs.Inlets.{starts_of};
 
 use crate::inlets::Inlets;
 use crate::parcel::{FrameParcel, MessageParcel};
 use crate::refusal::refusal_of;
+use crate::repo_end::RepoEnd;
 use crate::wires::Wires;
 use mv_hub::{Entry, Hub, RouteFault};
 use mv_machine::{Limits, Refusal, Reply};
@@ -34,7 +35,39 @@ pub struct HubEnd {
 }
 
 impl HubEnd {
-    ghost use Rattle.mv_ends.specs.HubEnd.{hub_of, SameHubEnd, Routes, Relays, Repeats, Closes};
+    ghost use Rattle.mv_hub.specs.Hub.{new_hub};
+    ghost use Rattle.mv_ends.specs.Rings.{IsUntaken};
+    ghost use Rattle.mv_ends.specs.HubEnd.{hub_of, uplinks_of, wires_of, SameHubEnd, IsUnchanged, Routes, Relays, Repeats, Closes};
+    ghost use Rattle.mv_ends.specs.RepoEnd.{site_of, SameRepoEnd, IsRepoUnchanged};
+    ghost use Rattle.mv_ends.specs.Whole.{IsEndOf};
+    ghost use Rattle.mv_ends.specs.Looking.{IsLawfulAt};
+
+    /// The end of a hub where nothing has happened, with its ends of rings that were not used yet.
+    pub(crate) fn new(
+        alloc: Global,
+        limits: Limits,
+        hub: Hub,
+        uplinks: Inlets<MessageParcel>,
+        wires: Wires,
+    ) -> HubEnd
+        requires hub { hub ≡ new_hub hub.parties limits.window }
+        requires each { length (starts_of uplinks) ≡ length hub.parties }
+        requires square { IsFor (length hub.parties) wires }
+        requires untaken { IsUntaken uplinks }
+        requires unused { AreUnused wires }
+        ensures hub { hub_of result ≡ hub }
+        ensures limits { result.limits ≡ limits }
+        ensures uplinks { uplinks_of result ≡ uplinks }
+        ensures wires { wires_of result ≡ wires }
+    {
+        HubEnd {
+            alloc,
+            limits,
+            hub,
+            uplinks,
+            wires,
+        }
+    }
 
     /// The hub.
     pub fn hub(&self) -> &Hub
@@ -151,6 +184,24 @@ impl HubEnd {
             return Reply::Refused(refusal_of(fault));
         }
         Reply::Closed
+    }
+
+    /// Looks at both ends of all rings of a party: the party is lawful beside the hub.
+    #[tactic(auto, using(crate::proofs::EndLemmas::of_links_same, crate::proofs::EndLemmas::took_same, crate::proofs::EndLemmas::for_same))]
+    pub(crate) fn look_beside(&mut self, party: Party, repo: &mut RepoEnd)
+        requires party { party < length (hub_of self.old).parties }
+        requires end { IsEndOf self.old party repo.old }
+        ensures same { SameHubEnd self.old self.new }
+        ensures hub { IsUnchanged self.old self.new }
+        ensures repo { SameRepoEnd repo.old repo.new }
+        ensures unchanged { IsRepoUnchanged repo.old repo.new }
+        ensures lawful { IsLawfulAt (hub_of self.old) (site_of repo.old) }
+    {
+        // The party is lawful: its submissions are looked at for that alone.
+        let _ = repo.sub();
+        let count = self.hub.parties().len();
+        repo.look_at_uplink(&mut self.uplinks);
+        self.wires.look_beside(party, count, repo);
     }
 
     /// Whether both are parties.

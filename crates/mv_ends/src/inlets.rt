@@ -6,7 +6,7 @@ ghost use Rattle.std.specs.Prelude.{◌≡◌, ◌<◌, length};
 ghost use Rattle.std.specs.Prelude.{IsFalse};
 
 use mv_message::Party;
-use rtrb::Consumer;
+use rtrb::{Consumer, Producer};
 
 /// The ends of rings that are taken from, by the party that puts there.
 #[derive(Drop)]
@@ -15,13 +15,21 @@ pub struct Inlets<T> {
 }
 
 impl<T: Drop> Inlets<T> {
-    ghost use Rattle.mv_ends.specs.Inlets.{starts_of, SameInlets, TakesNothing, Takes, HasFront, IsFront};
+    ghost use Rattle.rtrb.specs.Ring.{sent, SameProducer};
+    ghost use Rattle.mv_ends.specs.Inlets.{starts_of, SameInlets, TakesNothing, Takes, HasFront, IsFront, IsPairAt, IsFrontOf};
 
     /// The ends of these rings.
     pub(crate) fn new(ends: Vec<Consumer<T>>) -> Inlets<T>
         ensures { starts_of result ≡ ends.items }
     {
         Inlets { ends }
+    }
+
+    /// How many rings there are.
+    pub(crate) fn len(&self) -> usize
+        ensures { result ≡ length (starts_of self.now) }
+    {
+        self.ends.len()
     }
 
     /// Whether nothing is seen on the ring from a party. The party may put something there at any time.
@@ -52,5 +60,18 @@ impl<T: Drop> Inlets<T> {
         ensures front { (front : T) → IsFront self.old from front → result ≡ front }
     {
         self.ends[from as usize].pop_known()
+    }
+
+    /// Looks at both ends of the ring from a party: what was taken is a front of what was put.
+    pub(crate) fn look_beside(&mut self, from: Party, producer: &mut Producer<T>)
+        requires from { from < length (starts_of self.old) }
+        requires pair { IsPairAt from producer.old self.old }
+        ensures same { SameInlets self.old self.new }
+        ensures nothing { TakesNothing self.old self.new }
+        ensures producer { SameProducer producer.old producer.new }
+        ensures put { sent producer.new ≡ sent producer.old }
+        ensures front { IsFrontOf from self.old (sent producer.old) }
+    {
+        self.ends[from as usize].slots_beside(producer);
     }
 }

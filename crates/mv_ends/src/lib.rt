@@ -6,15 +6,26 @@
 //! lists that the end itself keeps. No call waits, and none takes a lock. This crate knows no thread and no JSON.
 #![tactic(auto)]
 
+mod answering;
+mod gathering;
 mod hub_end;
 mod inlets;
+mod laws;
+mod opening;
+mod outcome;
 mod outlets;
 mod parcel;
 mod refusal;
+mod repo_end;
 mod wires;
 
+pub use gathering::gather;
 pub use hub_end::HubEnd;
 pub use inlets::Inlets;
+pub use laws::ends_stay_ends;
+pub use opening::open;
+pub use outcome::Outcome;
 pub use outlets::Outlets;
 pub use parcel::{FrameParcel, MessageParcel};
+pub use repo_end::RepoEnd;
 pub use wires::Wires;

@@ -3,6 +3,7 @@
 ghost use Rattle.std.specs.Prelude.{◌≡◌, ◌<◌, length};
 ghost use Rattle.std.specs.Prelude.{IsFalse};
 
+use crate::inlets::Inlets;
 use crate::parcel::FrameParcel;
 use mv_message::Party;
 use rtrb::Producer;
@@ -14,7 +15,9 @@ pub struct Outlets {
 }
 
 impl Outlets {
-    ghost use Rattle.mv_ends.specs.Outlets.{ends_of, HasRoomFor, SameOutlets, PutsNothing, Puts};
+    ghost use Rattle.mv_ends.specs.Inlets.{starts_of, SameInlets, TakesNothing, IsFrontOf};
+    ghost use Rattle.mv_ends.specs.Rings.{AreJoined};
+    ghost use Rattle.mv_ends.specs.Outlets.{Outlet, ends_of, put_of, HasRoomFor, SameOutlets, PutsNothing, Puts};
 
     /// The ends of these rings.
     pub(crate) fn new(ends: Vec<Producer<FrameParcel>>) -> Outlets
@@ -41,5 +44,18 @@ impl Outlets {
         ensures puts { Puts from parcel self.old self.new }
     {
         self.ends[from as usize].push_reserved(parcel);
+    }
+
+    /// Looks at both ends of the ring of the link from a sender: what the receiver took is a front of what was put.
+    pub(crate) fn look_beside(&mut self, from: Party, inlets: &mut Inlets<FrameParcel>)
+        requires joined { AreJoined self.old inlets.old }
+        requires from { from < length (starts_of inlets.old) }
+        ensures same { SameOutlets self.old self.new }
+        ensures nothing { PutsNothing self.old self.new }
+        ensures inlets { SameInlets inlets.old inlets.new }
+        ensures taken { TakesNothing inlets.old inlets.new }
+        ensures front { (absent : Outlet) → IsFrontOf from inlets.old (put_of self.old from absent) }
+    {
+        inlets.look_beside(from, &mut self.ends[from as usize]);
     }
 }

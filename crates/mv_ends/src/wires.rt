@@ -1,10 +1,14 @@
 //! The hub's ends of all links: a ring for each ordered pair of parties.
 
-ghost use Rattle.std.specs.Prelude.{◌≡◌, ◌<◌, length};
-ghost use Rattle.std.specs.Prelude.{IsFalse};
+ghost use Rattle.std.specs.Prelude.{◌≡◌, ◌<◌, ℕ, List, length, slice_index_or, All, IsFalse};
+ghost use mathlib.Core.List.{IsPrefix};
+ghost use Rattle.mv_link.specs.Frames.{IsFrameOf};
+ghost use Rattle.mv_link.specs.declared.item.Item.{Item as AnItem};
+ghost use Rattle.mv_repository.specs.Log.{items_from};
 
 use crate::outlets::Outlets;
 use crate::parcel::FrameParcel;
+use crate::repo_end::RepoEnd;
 use mv_message::Party;
 
 /// The hub's ends of all links, by the party that they go to.
@@ -14,7 +18,12 @@ pub struct Wires {
 }
 
 impl Wires {
-    ghost use Rattle.mv_ends.specs.Wires.{outlets_of, AreBetween, HasRoomOn, SameWires, PutsNoFrame, PutsFrame};
+    ghost use Rattle.mv_ends.specs.declared.outlets.Outlets.{Outlets as AnOutlets};
+    ghost use Rattle.mv_ends.specs.Inlets.{starts_of};
+    ghost use Rattle.mv_ends.specs.Outlets.{Outlet};
+    ghost use Rattle.mv_ends.specs.Rings.{AreJoined};
+    ghost use Rattle.mv_ends.specs.RepoEnd.{site_of, inlets_of, SameRepoEnd, IsRepoUnchanged};
+    ghost use Rattle.mv_ends.specs.Wires.{wire_of, outlets_of, AreBetween, HasRoomOn, SameWires, PutsNoFrame, PutsFrame};
 
     /// The ends of these links.
     pub(crate) fn new(outlets: Vec<Outlets>) -> Wires
@@ -41,5 +50,22 @@ impl Wires {
         ensures puts { PutsFrame from to parcel self.old self.new }
     {
         self.outlets[to as usize].put(from, parcel);
+    }
+
+    /// Looks at both ends of all rings of the links to a party, from so many: what its repository applied from each is a front of
+    /// each list whose frames were put there.
+    pub(crate) fn look_beside(&mut self, to: Party, count: u32, repo: &mut RepoEnd)
+        requires to { to < length (outlets_of self.old) }
+        requires count { count ≡ length (starts_of (inlets_of repo.old)) }
+        requires joined { (none : AnOutlets) → AreJoined (slice_index_or (outlets_of self.old) to none) (inlets_of repo.old) }
+        ensures same { SameWires self.old self.new }
+        ensures nothing { PutsNoFrame self.old self.new }
+        ensures repo { SameRepoEnd repo.old repo.new }
+        ensures unchanged { IsRepoUnchanged repo.old repo.new }
+        ensures applied { (from : ℕ) (items : List AnItem) → from < count
+            → ((none : AnOutlets) (absent : Outlet) → All (IsFrameOf items) (wire_of self.old from to none absent))
+            → IsPrefix (items_from (site_of repo.old).log from) items }
+    {
+        repo.look_at_links(count, &mut self.outlets[to as usize]);
     }
 }

@@ -4,6 +4,7 @@ ghost use Rattle.std.specs.Prelude.{◌≡◌, ◌+◌, ◌<◌, ◌≤◌, leng
 ghost use Rattle.std.specs.Option.{option_copied};
 ghost use Rattle.std.specs.List.Sorted.{IsStrictlySortedBy};
 ghost use Rattle.mv_pack.specs.declared.key.BatchKey.{BatchKey as ABatch};
+ghost use Rattle.mv_pairs.specs.Pairs.{IsSquare};
 ghost use Rattle.mv_hub.specs.Record.{routed_count, last_markets, is_open};
 ghost use Rattle.mv_hub.specs.Catalogue.{catalogue_of};
 ghost use Rattle.mv_hub.specs.BatchLinks.{batch_cmp, linked_to, IsDescendant};
@@ -92,11 +93,12 @@ impl Hub {
         })
     }
 
-    /// The parties.
+    /// The parties. For each ordered pair of them the hub counts what it relayed.
     pub fn parties(&self) -> &Parties
         ensures value { result.now ≡ self.now.parties }
         ensures some { 1 ≤ length self.now.parties }
         ensures few { length self.now.parties ≤ PARTIES_LIMIT }
+        ensures pairs { IsSquare (length self.now.parties) self.now.sent }
     {
         &self.parties
     }

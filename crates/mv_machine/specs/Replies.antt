@@ -2,6 +2,8 @@
 use Rattle.std.specs.Prelude.{ℕ, List, codes, Bool, true, false}
 use Rattle.mv_party.specs.declared.fault.SiteFault.{SiteFault}
 use Rattle.mv_party.specs.declared.fault.SiteFault.TheVariants as fault
+use Rattle.mv_party.specs.declared.taken.Taken.{Taken}
+use Rattle.mv_party.specs.declared.taken.Taken.TheVariants as taken
 use Rattle.mv_machine.specs.declared.reply.Reply.{Reply}
 use Rattle.mv_machine.specs.declared.reply.Reply.TheVariants.{Submitted, Known, Asked, Routed, Relayed, Applied, Old, Gap, Repeated, Closed, Lost, Joint, Refused}
 use Rattle.mv_machine.specs.declared.reply.Refusal.{Refusal}
@@ -31,6 +33,12 @@ refusal_of fault.UplinkFull = UplinkFull
 refusal_of fault.SenderFull = SenderFull
 refusal_of fault.AnswerBusy = AnswerBusy
 refusal_of fault.Memory = Memory
+
+-- the reply to a frame of a number that was taken
+abbrev pub reply_to : ℕ → Taken → Reply
+reply_to number (taken.Applied effect answer) = Applied number effect answer
+reply_to number taken.Old = Old number
+reply_to number (taken.Gap expected) = Gap number expected
 
 -- a reply that want of memory may stand in place of: the step takes memory
 abbrev pub takes_memory : Reply → Bool

@@ -4,7 +4,7 @@ ghost use Rattle.std.specs.Prelude.{◌≡◌};
 
 use mv_link::Reach;
 use mv_message::Party;
-use mv_party::SiteFault;
+use mv_party::{SiteFault, Taken};
 use mv_repository::{Effect, Joint, Verdict};
 
 /// What a step is answered.
@@ -59,6 +59,25 @@ pub enum Reply {
     Joint(Joint),
     /// The step was refused, and nothing changed.
     Refused(Refusal),
+}
+
+impl Reply {
+    ghost use Rattle.mv_machine.specs.Replies.{reply_to};
+
+    /// The reply to a frame of a number that a party took.
+    pub fn of_taken(number: u32, taken: Taken) -> Reply
+        ensures { result ≡ reply_to number taken }
+    {
+        match taken {
+            Taken::Applied { effect, answer } => Reply::Applied {
+                number,
+                effect,
+                answer,
+            },
+            Taken::Old => Reply::Old { number },
+            Taken::Gap { expected } => Reply::Gap { number, expected },
+        }
+    }
 }
 
 /// Why a step was refused. Nothing has changed then.

@@ -187,16 +187,23 @@ impl Site {
         Ok(count + 1)
     }
 
-    /// How a frame from a party stands to what was accepted from it.
-    fn look(&self, sender: Party, frame: &Frame) -> Look
+    /// How a frame from a party stands to what was accepted from it. Nothing changes.
+    pub fn look(&self, sender: Party, frame: &Frame) -> Look
         requires { sender < self.now.parties }
         ensures { result ≡ look_at (count_from self.now.log sender) frame.now.number }
     {
         self.accepted[sender as usize].look(frame)
     }
 
+    /// The answer that an item from a party calls for, if it does. Nothing changes.
+    pub fn answer(&self, sender: Party, item: &Item) -> Option<Message>
+        ensures { result ≡ answer_after self.now.log sender item.now }
+    {
+        self.repository.answer(sender, item)
+    }
+
     /// Whether it can submit the answer that an item from a party calls for, if it does.
-    fn check_answer(&self, item: &Item, uplink_full: bool) -> Result<(), SiteFault>
+    pub fn check_answer(&self, item: &Item, uplink_full: bool) -> Result<(), SiteFault>
         ensures { (sender : ℕ) → result
             ≡ unless_fault (answer_fault uplink_full self.now (answer_after self.now.log sender item.now)) }
     {

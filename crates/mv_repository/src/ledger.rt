@@ -189,23 +189,36 @@ impl Ledger {
         }
     }
 
-    /// The answer that an item from a party calls for, before it is applied.
-    fn answer(&self, sender: Party, item: &Item) -> Result<Option<Shared<Message>>, AllocError>
-        ensures { IfOk result (λ answer. answer ≡ answer_after self.now.log sender item.now) }
+    /// The answer that an item from a party calls for, before it is applied; only a query calls for one.
+    pub fn answer(&self, sender: Party, item: &Item) -> Option<Message>
+        ensures { result ≡ answer_after self.now.log sender item.now }
     {
         let Item::Carried { k, message, .. } = item else {
-            return Ok(None);
+            return None;
         };
         let Message::Query { key } = message.get() else {
-            return Ok(None);
+            return None;
         };
-        let answer = Message::Answer {
+        Some(Message::Answer {
             asker: sender,
             q: *k,
             key: key.copy(),
             found: self.found(key),
-        };
-        Ok(Some(Shared::new(self.alloc, answer)?))
+        })
+    }
+
+    /// The answer that an item from a party calls for, in a block of its own. Refused for want of memory.
+    fn shared_answer(
+        &self,
+        sender: Party,
+        item: &Item,
+    ) -> Result<Option<Shared<Message>>, AllocError>
+        ensures { IfOk result (λ answer. answer ≡ answer_after self.now.log sender item.now) }
+    {
+        match self.answer(sender, item) {
+            Some(answer) => Ok(Some(Shared::new(self.alloc, answer)?)),
+            None => Ok(None),
+        }
     }
 
     /// Applies an item that came from a party: says what that did, at the item's own place in the order of stamps, and
@@ -222,7 +235,7 @@ impl Ledger {
             ≡ answer_to self.old.log (record { sender = sender; item = item.now })) }
         ensures err { OnErr result (self.new ≡ self.old) }
     {
-        let answer = self.answer(sender, item)?;
+        let answer = self.shared_answer(sender, item)?;
         let effect = self.apply_item(sender, item)?;
         Ok((effect, answer))
     }

@@ -35,7 +35,7 @@ impl Repository {
     ghost use Rattle.mv_repository.specs.Repository.{new_repository, with_applied, product_of};
     ghost use Rattle.mv_repository.specs.PackState.{pack_state, is_recalled, is_withdrawn};
     ghost use Rattle.mv_repository.specs.Effect.{effect_of};
-    ghost use Rattle.mv_repository.specs.Query.{answer_to};
+    ghost use Rattle.mv_repository.specs.Query.{answer_after, answer_to};
     ghost use Rattle.mv_repository.specs.Verdict.{local_verdict, joint_verdict};
     ghost use Rattle.mv_repository.specs.Counts.{counts_of};
 
@@ -117,6 +117,13 @@ impl Repository {
         ensures { result ≡ joint_verdict self.now.party self.now.log q }
     {
         self.inquiries.verdict(self.ledger.log(), q)
+    }
+
+    /// The answer that an item from a party calls for, by what is held now; only a query calls for one. Nothing changes.
+    pub fn answer(&self, sender: Party, item: &Item) -> Option<Message>
+        ensures { result ≡ answer_after self.now.log sender item.now }
+    {
+        self.ledger.answer(sender, item)
     }
 
     /// Applies an item that came from a party: says what that did, at the item's own place in the order of stamps, and

@@ -105,12 +105,6 @@ pub record TakesFront (old : State) (from to : ℕ) (result : Result Taken SiteF
   pub fault : FailsBy (apply_fault (is_uplink_full old to) (site_of old to) from item (look_at (applied_count old from to) number)) result
   pub memory : IsErrOf result SiteMemory → look_at (applied_count old from to) number ≡ Next
 
--- the reply to a frame of a number that was taken
-abbrev pub reply_to : ℕ → Taken → Reply
-reply_to number (Applied effect answer) = reply.Applied number effect answer
-reply_to number Old = reply.Old number
-reply_to number (Gap expected) = reply.Gap number expected
-
 -- the hub's refusal of the next message of a party is that of the list machine, and nothing changed
 abbrev pub RouteRefuses : State → ℕ → RouteFault → State → Type 0
 RouteRefuses old from StrangerParty new = ⊥

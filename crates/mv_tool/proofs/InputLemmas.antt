@@ -5,7 +5,7 @@ use Rattle.std.proofs.lemmas.List.Elements.{All-append, filter-append}
 use Rattle.std.specs.Prelude.{cond, ◌==◌, map, filter, Result, Ok, Err, OnOk, IfErr}
 use Rattle.std.specs.Io.BufRead.{strip_last}
 use Rattle.mv_tool.specs.declared.fault.ServeFault.{ServeFault}
-use Rattle.mv_tool.specs.declared.fault.ServeFault.TheVariants.{Read, Write, Memory, TooManyLines, LineTooLong}
+use Rattle.mv_tool.specs.declared.fault.ServeFault.TheVariants.{Read, Write, Memory, TooManyLines, LineTooLong, Start}
 use Rattle.mv_tool.specs.Lines.{whole_from, rest_from, lines_of, has_byte, line_limit, lines_limit, IsUnended, IsShort, KeepLimits}
 use Rattle.mv_tool.specs.Replies.{IsReplies}
 use Rattle.mv_tool.specs.Served.{Taken, StopsAt, StopsIn, Stopped}
@@ -56,6 +56,7 @@ pub stops_later : (fault : ServeFault) (begun : List ℕ) (count : ℕ) (front g
     → StopsAt fault (rest_from begun front) (count + length (whole_from begun front)) good bad → StopsAt fault begun count (front ++ good) (bad ++ tail)
 stops_later Read begun count front good bad tail why = why
 stops_later Write begun count front good bad tail why = why
+stops_later Start begun count front good bad tail why = why
 stops_later Memory begun count front good bad tail why = why
 stops_later TooManyLines begun count front good bad tail why =
     (rw (whole_from-append begun front good, length-append) (omega (arith, why.0)), rw length-append (omega (arith, why.1)))

@@ -9,3 +9,6 @@ pub mod ServedLemmas
 pub mod CanonLemmas
 pub mod CommandLemmas
 pub mod PlainLineLemmas
+pub mod ReportLemmas
+pub mod DraftLemmas
+pub mod WorkLemmas

@@ -4,7 +4,7 @@ use Rattle.std.specs.Prelude.{Option, Result, Ok, Err, OnOk, IfErr}
 use Rattle.std.specs.Io.KnownBytes.{Appends, Consumes}
 use Rattle.std.proofs.KnownBytes.{Appends-trans, Consumes-trans}
 use Rattle.mv_tool.specs.declared.fault.ServeFault.{ServeFault}
-use Rattle.mv_tool.specs.declared.fault.ServeFault.TheVariants.{Read, Write, Memory, TooManyLines, LineTooLong}
+use Rattle.mv_tool.specs.declared.fault.ServeFault.TheVariants.{Read, Write, Memory, TooManyLines, LineTooLong, Start}
 use Rattle.mv_tool.specs.Lines.{whole_from, rest_from, pieces, last_piece, lines_of, line_limit, lines_limit, KeepLimits}
 use Rattle.mv_tool.specs.Output.{WrotePart}
 use Rattle.mv_tool.specs.Replies.{IsReplies}
@@ -103,6 +103,7 @@ module _ {S : Type 0} (Reply : S → List ℕ → List ℕ → S → Type 0) whe
       → Ended Reply fault before (front ++ back) a c
   halted_later Read before between front back begun' out count' a b c written taken (other, more, stopped) = absurd stopped.why
   halted_later Write before between front back begun' out count' a b c written taken broken = wrote_later before between front back begun' out count' a b c written taken broken
+  halted_later Start before between front back begun' out count' a b c written taken (other, more, stopped) = absurd stopped.why
   halted_later Memory before between front back begun' out count' a b c written taken h = stop_later Memory before between front back begun' out count' a b c written taken h
   halted_later TooManyLines before between front back begun' out count' a b c written taken h = stop_later TooManyLines before between front back begun' out count' a b c written taken h
   halted_later LineTooLong before between front back begun' out count' a b c written taken h = stop_later LineTooLong before between front back begun' out count' a b c written taken h
@@ -112,6 +113,7 @@ module _ {S : Type 0} (Reply : S → List ℕ → List ℕ → S → Type 0) whe
       → Taken Reply [] 0 before bytes begun' count' between out → HaltedLast Reply fault count' between (last_piece begun') b c
       → Ended Reply fault before bytes a c
   halted_last Read before between bytes begun' out count' a b c written taken h = absurd h
+  halted_last Start before between bytes begun' out count' a b c written taken h = absurd h
   halted_last TooManyLines before between bytes begun' out count' a b c written taken h = absurd h
   halted_last LineTooLong before between bytes begun' out count' a b c written taken h = absurd h
   halted_last Memory before between bytes begun' out count' a b c written taken h =

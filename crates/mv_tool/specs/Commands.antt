@@ -1,18 +1,19 @@
 -- The command line of the program, and what comes of the words that it takes.
-use Rattle.std.specs.Prelude.{◌≡◌, ◌≢◌, ℕ, List, [], ◌∷◌, codes, bytes_eq, if◌then◌else◌, true, Option, Some, None, IfSome}
+use Rattle.std.specs.Prelude.{◌≡◌, ◌≢◌, ◌<◌, ◌^◌, ◌⊎◌, ℕ, pos, List, [], ◌∷◌, codes, true, false, Option, Some, IfSome}
 use Rattle.std.specs.List.{AllByRecursion}
 use Rattle.std.specs.Io.KnownBytes.{Consumes, Keeps}
-use Rattle.clap.specs.Words.{App, new_app, with_subcommand, fault_of}
+use Rattle.std.specs.Str.Parse.{IsNumeral, digits_value}
+use Rattle.clap.specs.Words.{App, Rule, new_app, new_rule, with_rule, with_subcommand, fault_of}
+use Rattle.clap.specs.declared.builder.value_parser.ValueParser.TheVariants.{Signed}
 use Rattle.clap.specs.Simple.{new_shape, on_top}
 use Rattle.clap.specs.declared.error.kind.ErrorKind.{ErrorKind}
 use Rattle.clap.specs.declared.error.kind.ErrorKind.TheVariants.{DisplayHelp, DisplayVersion}
-use Rattle.mv_tool.specs.declared.command_line.Task.{Task}
-use Rattle.mv_tool.specs.declared.command_line.Task.TheVariants.{Steps, Canon}
 use Rattle.mv_tool.specs.declared.fault.ServeFault.{ServeFault}
 use Rattle.mv_tool.specs.declared.status.Status.{Status}
 use Rattle.mv_tool.specs.declared.status.Status.TheVariants.{Done, Failed, Refused}
 use Rattle.mv_tool.specs.Replies.{ReplyRule}
 use Rattle.mv_tool.specs.Served.{Served, Ended}
+use Rattle.mv_tool.specs.Working.{Worked, Failed as WorkFailed}
 
 -- `mvhub`, of which a subcommand is required; it tells its version, and without words how it is called
 abbrev pub mvhub : App
@@ -20,20 +21,36 @@ mvhub =
     on_top (λ shape. record shape { has_version = true; arg_required_else_help = true; subcommand_required = true })
     (new_app (codes "mvhub"))
 
--- the command line: `mvhub` with the subcommands `steps` and `canon`
-abbrev pub command_line : App
-command_line = with_subcommand (with_subcommand mvhub (new_shape (codes "steps"))) (new_shape (codes "canon"))
+-- the option of `work`, which is required: a number of 32 bits
+abbrev pub turns_rule : Rule
+turns_rule = record (new_rule (codes "turns")) {
+  long = Some (codes "turns");
+  value_names = 1;
+  parser = Some (Signed (pos 0) (pos 4294967295));
+  required = true;
+}
 
--- the task of a subcommand
-abbrev pub task_called : List ℕ → Option Task
-task_called name =
-    if bytes_eq name (codes "steps") then Some Steps
-    else (if bytes_eq name (codes "canon") then Some Canon
-    else None)
+-- `work`, with its option
+abbrev pub work_app : App
+work_app = with_rule (new_app (codes "work")) turns_rule
+
+-- the command line: `mvhub` with the subcommands `steps`, `canon` and `work`
+abbrev pub command_line : App
+command_line =
+    with_subcommand (with_subcommand (with_subcommand mvhub (new_shape (codes "steps"))) (new_shape (codes "canon"))) work_app.top
 
 -- the words are the program's name and this one
 abbrev pub AsksFor : List ℕ → List (List ℕ) → Type 0
 AsksFor name words = (program : List ℕ) × (words ≡ program ∷ name ∷ [])
+
+-- the text is decimal digits, and they write this number, which is one of 32 bits
+abbrev pub WritesTurns : ℕ → List ℕ → Type 0
+WritesTurns turns text = IsNumeral 10 text × (digits_value 10 text ≡ turns) × (turns < 2 ^ 32)
+
+-- the words are the program's name, `work`, `--turns` and this number
+abbrev pub AsksForWork : ℕ → List (List ℕ) → Type 0
+AsksForWork turns words = (program : List ℕ) × (text : List ℕ) × WritesTurns turns text
+    × (words ≡ program ∷ codes "work" ∷ codes "--turns" ∷ text ∷ [])
 
 -- the command line does not take the words
 abbrev pub AreNotTaken : List (List ℕ) → Type 0
@@ -56,3 +73,11 @@ RanLines {S = S} rule before Done input rest old new =
 RanLines rule before Failed input rest old new =
     (fault : ServeFault) × (bytes : List ℕ) × Consumes input rest bytes × Ended rule fault before bytes old new
 RanLines rule before Refused input rest old new = Keeps input rest × Keeps old new
+
+-- What a run of `work` came to, by its status. Done: the plan of the input was finished. Failed: it was not, or a fault ended the
+-- run. Refused: nothing was read and nothing written.
+abbrev pub RanWork : Status → Option (List ℕ) → Option (List ℕ) → Option (List ℕ) → Option (List ℕ) → Type 0
+RanWork Done input rest old new = IfSome input (λ bytes. Worked bytes true old new)
+RanWork Failed input rest old new =
+    IfSome input (λ bytes. Worked bytes false old new) ⊎ ((fault : ServeFault) × WorkFailed fault input rest old new)
+RanWork Refused input rest old new = Keeps input rest × Keeps old new

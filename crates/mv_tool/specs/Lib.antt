@@ -14,4 +14,8 @@ pub mod Openings
 pub mod Sessions
 pub mod Canon
 pub mod Statuses
+pub mod Drafts
+pub mod Planning
+pub mod Working
+pub mod Report
 pub mod Commands

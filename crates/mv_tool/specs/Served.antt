@@ -2,7 +2,7 @@
 use Rattle.std.specs.Prelude.{◌≡◌, ◌≢◌, ℕ, ◌+◌, ◌<◌, List, [], ◌∷◌, ◌++◌, length, Option, ⊤}
 use Rattle.std.specs.Io.KnownBytes.{Appends}
 use Rattle.mv_tool.specs.declared.fault.ServeFault.{ServeFault}
-use Rattle.mv_tool.specs.declared.fault.ServeFault.TheVariants.{Read, Write, Memory, TooManyLines, LineTooLong}
+use Rattle.mv_tool.specs.declared.fault.ServeFault.TheVariants.{Read, Write, Memory, TooManyLines, LineTooLong, Start}
 use Rattle.mv_tool.specs.Lines.{whole_from, rest_from, pieces, lines_of, line_limit, lines_limit, KeepLimits}
 use Rattle.mv_tool.specs.Replies.{ReplyRule, IsReplies}
 
@@ -27,6 +27,7 @@ pub record Taken {S : Type 0} (rule : ReplyRule S) (begun : List ℕ) (count : �
 abbrev pub StopsAt : ServeFault → List ℕ → ℕ → List ℕ → List ℕ → Type 0
 StopsAt Read begun count good bad = ⊥
 StopsAt Write begun count good bad = ⊥
+StopsAt Start begun count good bad = ⊥
 StopsAt Memory begun count good bad = ⊤
 -- all lines that a run may have are read, and more follows
 StopsAt TooManyLines begun count good bad =

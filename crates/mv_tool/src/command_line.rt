@@ -1,23 +1,27 @@
 //! The command line: which words run what, and the exit status.
 
-ghost use Rattle.std.specs.Prelude.{◌≡◌, ◌≤◌, None, IfOk, MatchResult, Some, map, codes, string_bytes, option_and_then, false};
+ghost use Rattle.std.specs.Prelude.{◌≡◌, ◌≤◌, ℕ, List, None, IfOk, MatchResult, Some, map, codes, string_bytes, false, if◌then◌else◌};
 ghost use Rattle.std.specs.Io.KnownBytes.{Keeps};
-ghost use Rattle.clap.specs.Words.{app_of, fault_of, FailsBy, new_app, subcommand_name_of};
+ghost use Rattle.clap.specs.Words.{app_of, fault_of, FailsBy, new_app, one_of, rule_of, Row, subcommand_name_of, subcommand_rows_of};
 ghost use Rattle.clap.specs.Values.{kind_of};
 ghost use Rattle.clap.specs.declared.builder.command.Command.TheViews.{out-Command as fields_of};
 ghost use Rattle.clap.specs.declared.error.kind.ErrorKind.TheVariants.{OutOfMemory};
 ghost use Rattle.mv_tool.specs.Canon.{IsCanon};
-ghost use Rattle.mv_tool.specs.Commands.{command_line, task_called, AsksFor, AreNotTaken, AreMistaken, IsMistake, RanLines};
+ghost use Rattle.mv_tool.specs.Commands.{command_line, turns_rule, AsksFor, AsksForWork, AreNotTaken, AreMistaken, IsMistake, RanLines, RanWork, WritesTurns};
 ghost use Rattle.mv_tool.specs.Sessions.{IsReply};
 ghost use Rattle.mv_tool.specs.Statuses.{status_code};
 ghost use Rattle.mv_tool.specs.declared.status.Status.{Status as AStatus};
 
 use crate::output::put_out;
 use crate::steps::serve_last;
-use crate::{ServeFault, Status, canon};
-use clap::{ArgMatches, Command, Error};
+use crate::{ServeFault, Status, canon, work};
+use clap::{Arg, ArgMatches, Command, Error, value_parser};
+use mv_workers::NoGate;
 use std::alloc::{AllocError, Global};
 use std::io::{Read, Write};
+use std::marker::Sync;
+use std::sync::Wait;
+use std::thread::Threads;
 
 /// What `--version` tells behind the program's name.
 const VERSION: &str = "1.0.0";
@@ -32,6 +36,13 @@ const STEPS: &str = "Answers steps: a JSON object a line, from standard input to
 const CANON: &str =
     "Writes messages as their canonical texts: a JSON object a line, from standard input to standard output";
 
+/// What `work` does.
+const WORK: &str =
+    "Carries out a plan in threads: a JSON object a line from standard input, a report to standard output";
+
+/// What `--turns` is.
+const TURNS: &str = "How many turns the hub and each party take at most";
+
 /// What stands below the help of the program.
 const WHERE_TO_READ: &str =
     "docs/TOUR.md is a day at the hub, line by line; docs/FORMATS.md has every line and every reply, docs/OPERATING.md what each means.";
@@ -44,6 +55,10 @@ const STEPS_EXAMPLE: &str =
 const CANON_EXAMPLE: &str =
     "A line, and what comes out:\n  {\"serial\":\"S1\",\"gtin\":\"9506000134352\",\"msg\":\"query\"}\n  {\"gtin\":\"09506000134352\",\"msg\":\"query\",\"serial\":\"S1\"}\n\nEvery message, its fields and its faults: docs/FORMATS.md.";
 
+/// What stands below the help of `work`.
+const WORK_EXAMPLE: &str =
+    "A line, and how the report of a plan of that line alone ends:\n  {\"do\":\"open\",\"parties\":[[],[\"FI\"]],\"submissions\":1000,\"uplink\":8,\"window\":8,\"wire\":8}\n  finished\n\nThe lines of a plan, and its report: docs/FORMATS.md. What each means: docs/OPERATING.md.";
+
 /// What the words ask for.
 #[derive(Clone, Copy)]
 enum Task {
@@ -51,6 +66,11 @@ enum Task {
     Steps,
     /// `canon`: to write messages as their canonical texts, a line each.
     Canon,
+    /// `work`: to carry out a plan of lines, in so many turns at most.
+    Work {
+        /// How many turns each worker takes at most.
+        turns: u32,
+    },
 }
 
 /// Reads the words, the program's name first, runs what they ask for, and answers the exit status, that of a `Status`.
@@ -60,7 +80,8 @@ enum Task {
 ///
 /// It is the last call of a program: what `steps` has open at its end is left to the end of the process, which gives the
 /// memory back. Whoever goes on calls `serve`.
-pub fn command<R: Read, W: Write, F: Write>(
+pub fn command<H: Threads + Wait + Sync, R: Read, W: Write, F: Write>(
+    rt: &H,
     alloc: Global,
     words: Vec<String>,
     reader: &mut R,
@@ -76,17 +97,22 @@ pub fn command<R: Read, W: Write, F: Write>(
         × (result ≡ status_code status)
         × RanLines IsCanon tt status (R.remaining reader.old) (R.remaining reader.new)
         (W.contents writer.old) (W.contents writer.new) }
+    ensures work { (turns : ℕ) → AsksForWork turns (map string_bytes words.items)
+        → (status : AStatus) × (result ≡ status_code status)
+        × RanWork status (R.remaining reader.old) (R.remaining reader.new)
+        (W.contents writer.old) (W.contents writer.new) }
     ensures mistaken { AreMistaken (map string_bytes words.items) → result ≡ 2 }
     // Such words are mistaken, or a call for help.
     ensures unread { AreNotTaken (map string_bytes words.items)
         → Keeps (R.remaining reader.old) (R.remaining reader.new) }
     ensures unwritten { result ≡ 2 → Keeps (W.contents writer.old) (W.contents writer.new) }
 {
-    run(alloc, words.as_slice(), reader, writer, faults).code()
+    run(rt, alloc, words.as_slice(), reader, writer, faults).code()
 }
 
 /// Reads the words and runs what they ask for.
-fn run<R: Read, W: Write, F: Write>(
+fn run<H: Threads + Wait + Sync, R: Read, W: Write, F: Write>(
+    rt: &H,
     alloc: Global,
     words: &[String],
     reader: &mut R,
@@ -99,6 +125,9 @@ fn run<R: Read, W: Write, F: Write>(
     ensures canon { AsksFor (codes "canon") (map string_bytes words.now)
         → RanLines IsCanon tt result (R.remaining reader.old) (R.remaining reader.new)
         (W.contents writer.old) (W.contents writer.new) }
+    ensures work { (turns : ℕ) → AsksForWork turns (map string_bytes words.now)
+        → RanWork result (R.remaining reader.old) (R.remaining reader.new)
+        (W.contents writer.old) (W.contents writer.new) }
     ensures mistaken { AreMistaken (map string_bytes words.now) → result ≡ Status.Refused }
     ensures unread { AreNotTaken (map string_bytes words.now)
         → Keeps (R.remaining reader.old) (R.remaining reader.new) }
@@ -108,6 +137,9 @@ fn run<R: Read, W: Write, F: Write>(
     match task_of(alloc, words) {
         Ok(Some(Task::Steps)) => status_of(serve_last(alloc, reader, writer), faults),
         Ok(Some(Task::Canon)) => status_of(canon(alloc, reader, writer), faults),
+        Ok(Some(Task::Work { turns })) => {
+            status_of_work(work(rt, alloc, reader, writer, turns, &NoGate), faults)
+        }
         Ok(None) => Status::Refused,
         Err(error) => explain(alloc, &error, writer, faults),
     }
@@ -119,6 +151,9 @@ fn task_of(alloc: Global, words: &[String]) -> Result<Option<Task>, Error>
         (λ task. task ≡ Some Task.Steps) (λ error. kind_of error ≡ OutOfMemory) }
     ensures canon { AsksFor (codes "canon") (map string_bytes words.now) → MatchResult result
         (λ task. task ≡ Some Task.Canon) (λ error. kind_of error ≡ OutOfMemory) }
+    ensures work { (turns : ℕ) → AsksForWork turns (map string_bytes words.now)
+        → MatchResult result
+        (λ task. task ≡ Some (Task.Work turns)) (λ error. kind_of error ≡ OutOfMemory) }
     ensures taken { FailsBy (fault_of command_line (map string_bytes words.now)) result }
 {
     let line = command_line(alloc)?;
@@ -140,21 +175,46 @@ fn command_line<'a>(alloc: Global) -> Result<Command<'a>, AllocError>
 {
     let steps = told(alloc, "steps", STEPS, STEPS_EXAMPLE);
     let canon = told(alloc, "canon", CANON, CANON_EXAMPLE);
+    let work = told(alloc, "work", WORK, WORK_EXAMPLE).arg(turns(alloc))?;
     told(alloc, "mvhub", PROGRAM, WHERE_TO_READ)
         .version(VERSION)
         .arg_required_else_help(true)
         .subcommand_required(true)
         .subcommand(steps)?
-        .subcommand(canon)
+        .subcommand(canon)?
+        .subcommand(work)
+}
+
+/// The option of `work`: how many turns.
+fn turns<'a>(alloc: Global) -> Arg<'a>
+    ensures rule { rule_of result ≡ turns_rule }
+    ensures local { result.global ≡ false }
+{
+    Arg::new(alloc, "turns")
+        .long("turns")
+        .value_name("N")
+        .help(TURNS)
+        .value_parser(value_parser!(u32))
+        .required(true)
 }
 
 /// The task that the subcommand names.
 fn task_named(matches: &ArgMatches<'_>) -> Option<Task>
-    ensures { result ≡ option_and_then task_called (subcommand_name_of matches.now) }
+    ensures steps { subcommand_name_of matches.now ≡ Some (codes "steps")
+        → result ≡ Some Task.Steps }
+    ensures canon { subcommand_name_of matches.now ≡ Some (codes "canon")
+        → result ≡ Some Task.Canon }
+    ensures work { (rows : List Row) (turns : ℕ) (text : List ℕ)
+        → subcommand_rows_of matches.now ≡ Some (codes "work", rows)
+        → one_of (codes "turns") rows ≡ Some text → WritesTurns turns text
+        → result ≡ Some (Task.Work turns) }
 {
     match matches.subcommand() {
         Some(("steps", _)) => Some(Task::Steps),
         Some(("canon", _)) => Some(Task::Canon),
+        Some(("work", given)) => Some(Task::Work {
+            turns: given.get_one("turns")?,
+        }),
         _ => None,
     }
 }
@@ -183,6 +243,19 @@ fn explain<W: Write, F: Write>(
             let _ = writeln!(faults, "error: {error}");
             Status::Refused
         }
+    }
+}
+
+/// The status of a run of `work` that has ended.
+fn status_of_work<F: Write>(ended: Result<bool, ServeFault>, faults: &mut F) -> Status
+    ensures { MatchResult ended
+        (λ finished. result ≡ (if finished then Status.Done else Status.Failed))
+        (λ _. result ≡ Status.Failed) }
+{
+    match ended {
+        Ok(true) => Status::Done,
+        Ok(false) => Status::Failed,
+        Err(fault) => status_of(Err(fault), faults),
     }
 }
 

@@ -24,6 +24,9 @@ pub enum ServeFault {
     /// A line was longer than a line may be.
     #[error("V5")]
     LineTooLong,
+    /// A thread could not be started, or its memory not be had: nothing was submitted.
+    #[error("V6")]
+    Start,
 }
 
 impl From<AllocError> for ServeFault {

@@ -2,8 +2,7 @@
 
 ghost use Rattle.std.specs.Prelude.{◌≡◌, length, Ok, Some, None, IfOk, IfErr};
 ghost use Rattle.mv_hub.specs.Parties.{parties_of};
-ghost use Rattle.mv_machine.specs.Limits.{limits_of};
-ghost use Rattle.mv_tool.specs.Openings.{Gives, code_of, of_parties, of_limits};
+ghost use Rattle.mv_tool.specs.Openings.{code_of, of_parties};
 ghost use Rattle.mv_tool.specs.Reading.{Gives as ReadGives};
 ghost use Rattle.mv_tool.specs.ReplyLines.{refused, opened_value};
 ghost use Rattle.mv_tool.specs.Requests.{read_line};
@@ -13,11 +12,12 @@ ghost use Rattle.mv_tool.specs.Sessions.{IsAnswer, IsOpenReply, IsStepReply, IsR
 ghost use Rattle.mv_tool.specs.Writing.{Appended};
 
 use crate::answering::Answering;
+use crate::opening::{limits_of, parties_of};
 use crate::plain_line::plain_step;
 use crate::reply_line::{Opened, Refused, append};
 use crate::{LineFault, MarketLists, OpenFault, Request};
 use json::Scratch;
-use mv_hub::{HubFault, Parties};
+use mv_hub::Parties;
 use mv_machine::{Limits, Step};
 use mv_system::World;
 use std::alloc::{AllocError, Global};
@@ -166,26 +166,5 @@ impl Session {
         ensures { Appended result out.old.items out.new.items (refused (code_of fault)) }
     {
         append(self.alloc, out, &Refused { code: fault.code() })
-    }
-}
-
-/// The parties of lists of markets: H1 to H3.
-fn parties_of(alloc: Global, lists: MarketLists) -> Result<Parties, OpenFault>
-    ensures { Gives result (of_parties (parties_of lists)) }
-{
-    match Parties::new(alloc, lists.into_lists()) {
-        Ok(parties) => Ok(parties),
-        Err(HubFault::Memory) => Err(OpenFault::Memory),
-        Err(fault) => Err(OpenFault::Parties(fault)),
-    }
-}
-
-/// The limits of numbers: O1 to O4.
-fn limits_of(window: u32, wire: u32, uplink: u32, submissions: u32) -> Result<Limits, OpenFault>
-    ensures { result ≡ of_limits (limits_of window wire uplink submissions) }
-{
-    match Limits::of(window, wire, uplink, submissions) {
-        Ok(limits) => Ok(limits),
-        Err(fault) => Err(OpenFault::Limits(fault)),
     }
 }

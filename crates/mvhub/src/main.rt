@@ -21,6 +21,13 @@ fn main(rt: HostRuntime) -> ExitCode {
     };
     let mut reader = rt.stdin();
     let mut writer = rt.stdout();
-    let status = command(rt.alloc(), words, &mut reader, &mut writer, &mut faults);
+    let status = command(
+        &rt,
+        rt.alloc(),
+        words,
+        &mut reader,
+        &mut writer,
+        &mut faults,
+    );
     ExitCode::from(status)
 }

@@ -4,7 +4,6 @@ ghost use Rattle.std.specs.Prelude.{◌≡◌};
 ghost use Rattle.mv_machine.specs.Runs.{Meets, Allows};
 ghost use Rattle.mv_machine.specs.Steps.{ask};
 ghost use Rattle.mv_machine.specs.declared.step.Step.{Step as AStep};
-ghost use Rattle.mv_system.specs.World.{reply_to};
 
 use crate::world::World;
 use mv_hub::{HubFault, RouteFault};
@@ -119,7 +118,7 @@ impl World {
         match self.take_front(from, to) {
             Ok(taken) => {
                 self.drop_front(from, to);
-                reply_to(number, taken)
+                Reply::of_taken(number, taken)
             }
             Err(fault) => Reply::Refused(Refusal::from(fault)),
         }
@@ -181,20 +180,5 @@ impl World {
             return Reply::Refused(Refusal::Party);
         }
         Reply::Joint(self.joint_verdict(party, q))
-    }
-}
-
-/// The reply to a frame of a number that was taken.
-fn reply_to(number: u32, taken: Taken) -> Reply
-    ensures { result ≡ reply_to number taken }
-{
-    match taken {
-        Taken::Applied { effect, answer } => Reply::Applied {
-            number,
-            effect,
-            answer,
-        },
-        Taken::Old => Reply::Old { number },
-        Taken::Gap { expected } => Reply::Gap { number, expected },
     }
 }

@@ -1,9 +1,9 @@
 -- The frame that is put is the next one of its link.
-use Rattle.std.proofs.Common.{◌≡◌, ◌∙◌, sym, subst, length, rules}
+use Rattle.std.proofs.Common.{sym, subst, length}
 use Rattle.mv_hub.specs.Hub.{HubState}
 use Rattle.mv_ends.specs.Valid.{IsFor, TookAll, AreOfLinks, AreWithin}
 use Rattle.mv_ends.specs.Wires.{PutsFrame}
-use Rattle.mv_ends.proofs.EndLemmas.{of_links_same, of_links_put, for_same, puts_after}
+use Rattle.mv_ends.proofs.EndLemmas.{of_links_same, of_links_put, for_same}
 use Rattle.mv_ends.proofs.hub_end.HubEnd.relay.Goals as goal
 
 pub invariant_of-self-2-clause-square : goal.invariant_of-self-2-clause-square

@@ -1,8 +1,7 @@
 -- The frame that is put is the one that was asked for.
-use Rattle.std.proofs.Common.{◌≡◌, ◌∙◌, sym, subst, length, rules}
-use Rattle.mv_ends.specs.Valid.{IsFor, TookAll, AreOfLinks, AreWithin}
+use Rattle.std.proofs.Common.{subst, length}
 use Rattle.mv_ends.specs.Wires.{PutsFrame}
-use Rattle.mv_ends.proofs.EndLemmas.{of_links_same, of_links_put, for_same, puts_after}
+use Rattle.mv_ends.proofs.EndLemmas.{of_links_same, of_links_put, for_same}
 use Rattle.mv_ends.proofs.hub_end.HubEnd.repeat.Goals as goal
 
 pub invariant_of-self-2-clause-square : goal.invariant_of-self-2-clause-square

@@ -1,6 +1,6 @@
 -- The hub routed what is taken from the uplink.
-use Rattle.std.proofs.Common.{◌≡◌, ◌+◌, ◌∙◌, sym, subst, length, rules, ap}
-use Rattle.mv_hub.specs.Hub.{HubState, with_routed}
+use Rattle.std.proofs.Common.{◌+◌, sym, subst, length, rules}
+use Rattle.mv_hub.specs.Hub.{HubState}
 use Rattle.mv_hub.specs.Record.{routed_count}
 use Rattle.mv_machine.specs.Lawful.{IsLawfulRecord}
 use Rattle.mv_ends.specs.Inlets.{Takes}

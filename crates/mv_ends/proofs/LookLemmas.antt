@@ -1,0 +1,172 @@
+-- The same ends at two moments and at three, and what is seen of them beside one another.
+use Rattle.std.proofs.Common.{◌≡◌, ◌<◌, ℕ, List, length, slice_index_or, set, length-set, sym, ◌∙◌, ap, refl, subst, arith, inl, inr}
+use Rattle.std.specs.Prelude.{All}
+use Rattle.std.specs.declared.alloc.Global.{Global}
+use mathlib.Core.List.{IsPrefix}
+use Rattle.std.proofs.lemmas.Bool.{cases_eq}
+use Rattle.std.proofs.lemmas.List.{get_or-set_same, get_or-set_other, get_or_default}
+use Rattle.rtrb.specs.Ring.{SameProducer, SameConsumer, IsPair}
+use Rattle.rtrb.specs.declared.consumer.Consumer.{Consumer}
+use Rattle.rtrb.specs.declared.producer.Producer.{Producer}
+use Rattle.rtrb.specs.declared.AnyItems.{AnyItems}
+use Rattle.mv_message.specs.declared.message.Message.{Message}
+use Rattle.mv_link.specs.declared.item.Item.{Item}
+use Rattle.mv_link.specs.declared.item.Frame.{Frame}
+use Rattle.mv_link.specs.Frames.{IsFrameOf, accepted}
+use Rattle.mv_link.proofs.LinkLemmas.{accepted_front}
+use Rattle.mv_repository.specs.declared.entry.LogEntry.{LogEntry}
+use Rattle.mv_repository.specs.Log.{items_from}
+use Rattle.mv_machine.proofs.PrefixLemmas.{All-front}
+use Rattle.mv_ends.specs.declared.inlets.Inlets.{Inlets}
+use Rattle.mv_ends.specs.declared.outlets.Outlets.{Outlets}
+use Rattle.mv_ends.specs.declared.wires.Wires.{Wires}
+use Rattle.mv_ends.specs.declared.hub_end.HubEnd.{HubEnd}
+use Rattle.mv_ends.specs.declared.repo_end.RepoEnd.{RepoEnd}
+use Rattle.mv_ends.specs.Inlets.{starts_of, SameInlets, TakesNothing}
+use Rattle.mv_ends.specs.Outlets.{ends_of, SameOutlets, PutsNothing}
+use Rattle.mv_ends.specs.Wires.{outlets_of, SameWires}
+use Rattle.mv_ends.specs.Rings.{AreJoined}
+use Rattle.mv_ends.specs.HubEnd.{uplinks_of, wires_of, SameHubEnd}
+use Rattle.mv_ends.specs.RepoEnd.{inlets_of, SameRepoEnd, IsRepoUnchanged}
+use Rattle.mv_ends.specs.Whole.{AreEnds, IsEndOf}
+use Rattle.mv_ends.specs.Laws.{AreSameRepos}
+
+-- the end of a ring that is taken from
+abbrev Inlet : Type 0 → Type 0
+Inlet T = Consumer T Global AnyItems
+
+consumer_further : (T : Type 0) (a b c : Inlet T) → SameConsumer a b → SameConsumer b c → SameConsumer a c
+consumer_further T a b c p q = ((q.0.0 ∙ p.0.0, q.0.1 ∙ p.0.1, q.0.2 ∙ p.0.2, q.0.3 ∙ p.0.3), q.1 ∙ p.1)
+
+producer_further : (T : Type 0) (a b c : Producer T Global AnyItems) → SameProducer a b → SameProducer b c → SameProducer a c
+producer_further T a b c p q = ((q.0.0 ∙ p.0.0, q.0.1 ∙ p.0.1, q.0.2 ∙ p.0.2, q.0.3 ∙ p.0.3), q.1 ∙ p.1)
+
+inlets_further : (T : Type 0) (a b c : Inlets T) → SameInlets a b → SameInlets b c → SameInlets a c
+inlets_further T a b c p q = (
+  q.0 ∙ p.0,
+  λ from absent below.
+      consumer_further T (slice_index_or (starts_of a) from absent) (slice_index_or (starts_of b) from absent) (slice_index_or (starts_of c) from absent)
+      (p.1 from absent below) (q.1 from absent (omega (arith, p.0, below))),
+)
+
+nothing_further : (T : Type 0) (a b c : Inlets T) → SameInlets a b → TakesNothing a b → TakesNothing b c → TakesNothing a c
+nothing_further T a b c same p q from absent below = q from absent (omega (arith, same.0, below)) ∙ p from absent below
+
+pub outlets_further : (a b c : Outlets) → SameOutlets a b → SameOutlets b c → SameOutlets a c
+outlets_further a b c p q = (
+  q.0 ∙ p.0,
+  λ from absent below.
+      producer_further Frame (slice_index_or (ends_of a) from absent) (slice_index_or (ends_of b) from absent) (slice_index_or (ends_of c) from absent)
+      (p.1 from absent below) (q.1 from absent (omega (arith, p.0, below))),
+)
+
+pub puts_nothing_further : (a b c : Outlets) → SameOutlets a b → PutsNothing a b → PutsNothing b c → PutsNothing a c
+puts_nothing_further a b c same p q from absent below = q from absent (omega (arith, same.0, below)) ∙ p from absent below
+
+pub repo_further : (a b c : RepoEnd) → SameRepoEnd a b → SameRepoEnd b c → SameRepoEnd a c
+repo_further a b c p q = record {
+  party = q.party ∙ p.party;
+  parties = q.parties ∙ p.parties;
+  limit = q.limit ∙ p.limit;
+  uplink = producer_further Message a.uplink b.uplink c.uplink p.uplink q.uplink;
+  inlets = inlets_further Frame (inlets_of a) (inlets_of b) (inlets_of c) p.inlets q.inlets;
+}
+
+pub repo_unchanged_further : (a b c : RepoEnd) → SameRepoEnd a b → IsRepoUnchanged a b → IsRepoUnchanged b c → IsRepoUnchanged a c
+repo_unchanged_further a b c same p q = record {
+  site = q.site ∙ p.site;
+  pushed = q.pushed ∙ p.pushed;
+  taken = nothing_further Frame (inlets_of a) (inlets_of b) (inlets_of c) same.inlets p.taken q.taken;
+}
+
+pub repo_itself : (a : RepoEnd) → SameRepoEnd a a
+repo_itself a = record {
+  party = refl;
+  parties = refl;
+  limit = refl;
+  uplink = ((refl, refl, refl, refl), refl);
+  inlets = (refl, λ from absent below. ((refl, refl, refl, refl), refl));
+}
+
+-- the links' ends at three moments
+wires_further : (a b c : Wires) → SameWires a b → SameWires b c → SameWires a c
+wires_further a b c p q = (
+  q.0 ∙ p.0,
+  λ to none below.
+      outlets_further (slice_index_or (outlets_of a) to none) (slice_index_or (outlets_of b) to none) (slice_index_or (outlets_of c) to none)
+      (p.1 to none below) (q.1 to none (omega (arith, p.0, below))),
+)
+
+pub hub_further : (a b c : HubEnd) → SameHubEnd a b → SameHubEnd b c → SameHubEnd a c
+hub_further a b c p q = record {
+  parties = q.parties ∙ p.parties;
+  limits = q.limits ∙ p.limits;
+  uplinks = inlets_further Message (uplinks_of a) (uplinks_of b) (uplinks_of c) p.uplinks q.uplinks;
+  wires = wires_further (wires_of a) (wires_of b) (wires_of c) p.wires q.wires;
+}
+
+pub hub_itself : (a : HubEnd) → SameHubEnd a a
+hub_itself a = record {
+  parties = refl;
+  limits = refl;
+  uplinks = (refl, λ from absent below. ((refl, refl, refl, refl), refl));
+  wires = (refl, λ to none below. (refl, λ from absent within. ((refl, refl, refl, refl), refl)));
+}
+
+-- what was applied is a front of each list whose frames were put, where what was taken is a front of what was put
+pub applied_front : (log : List LogEntry) (from : ℕ) (items : List Item) (taken put : List Frame) → accepted taken ≡ items_from log from
+    → IsPrefix taken put → All (IsFrameOf items) put → IsPrefix (items_from log from) items
+applied_front log from items taken put seen front valid =
+    let found = accepted_front items taken 0 (All-front (IsFrameOf items) taken front.0 (subst (λ l. All (IsFrameOf items) l) (sym front.1) valid)) in
+    subst (λ l. IsPrefix l items) seen (found.0, sym found.1)
+
+-- the two ends of a ring stay such
+pair_kept : (T : Type 0) (p p' : Producer T Global AnyItems) (c c' : Inlet T) → SameProducer p p' → SameConsumer c c' → IsPair p c → IsPair p' c'
+pair_kept T p p' c c' x y e = (y.0.0 ∙ e.0 ∙ sym x.0.0, y.0.1 ∙ e.1 ∙ sym x.0.1, y.0.2 ∙ e.2 ∙ sym x.0.2, y.0.3 ∙ e.3 ∙ sym x.0.3)
+
+joined_kept : (o o' : Outlets) (i i' : Inlets Frame) → SameOutlets o o' → SameInlets i i' → AreJoined o i → AreJoined o' i'
+joined_kept o o' i i' x y joined = (
+  x.0 ∙ joined.0 ∙ sym y.0,
+  λ from put taken below.
+      let low : from < length (starts_of i) = omega (arith, y.0, below) in
+      pair_kept Frame (slice_index_or (ends_of o) from put) (slice_index_or (ends_of o') from put) (slice_index_or (starts_of i) from taken) (slice_index_or (starts_of i') from taken)
+      (x.1 from put (omega (arith, joined.0, low))) (y.1 from taken low) (joined.1 from put taken low),
+)
+
+end_kept : (h h' : HubEnd) (party : ℕ) (r r' : RepoEnd) → party < length (starts_of (uplinks_of h)) → party < length (outlets_of (wires_of h)) → SameHubEnd h h' → SameRepoEnd r r'
+    → IsEndOf h party r → IsEndOf h' party r'
+end_kept h h' party r r' is_uplink is_wire x y end = record {
+  party_is = y.party ∙ end.party_is;
+  parties = y.parties ∙ end.parties ∙ ap length (sym x.parties);
+  limit = y.limit ∙ end.limit ∙ ap (λ l. l.submissions) (sym x.limits);
+  uplink = λ absent.
+      pair_kept Message r.uplink r'.uplink (slice_index_or (starts_of (uplinks_of h)) party absent) (slice_index_or (starts_of (uplinks_of h')) party absent)
+      y.uplink (x.uplinks.1 party absent is_uplink) (end.uplink absent);
+  links = λ none.
+      joined_kept (slice_index_or (outlets_of (wires_of h)) party none) (slice_index_or (outlets_of (wires_of h')) party none) (inlets_of r) (inlets_of r')
+      (x.wires.1 party none is_wire) y.inlets (end.links none);
+}
+
+-- the ends of one opening stay such
+pub ends_kept : (h h' : HubEnd) (rs rs' : List RepoEnd) → SameHubEnd h h' → AreSameRepos rs rs' → AreEnds h rs → AreEnds h' rs'
+ends_kept h h' rs rs' x y ends = record {
+  each = y.0 ∙ ends.each ∙ ap length (sym x.parties);
+  ends = λ party absent below.
+      let low : party < length rs = omega (arith, y.0, below) in
+      end_kept h h' party (slice_index_or rs party absent) (slice_index_or rs' party absent)
+      (omega (arith, low, ends.each, h.each)) (omega (arith, low, ends.each, h.square.0)) x (y.1 party absent low) (ends.ends party absent low);
+}
+
+-- where one end is put back, the others are what they were
+pub same_but_one : (rs : List RepoEnd) (k : ℕ) (was now : RepoEnd) → k < length rs → was ≡ slice_index_or rs k was → SameRepoEnd was now → AreSameRepos rs (set rs k now)
+same_but_one rs k was now in_range is same = (
+  length-set rs k now,
+  λ party absent below.
+      let P : ℕ → Type 0 = λ j. SameRepoEnd (slice_index_or rs j absent) (slice_index_or (set rs k now) j absent) in
+      elim (cases_eq party k) [
+        | inl at ↦
+            subst P (sym at) (subst (λ e. SameRepoEnd (slice_index_or rs k absent) e) (sym (get_or-set_same rs k now absent in_range))
+            (subst (λ e. SameRepoEnd e now) (is ∙ get_or_default rs k was absent in_range) same))
+        | inr other ↦ subst (λ e. SameRepoEnd (slice_index_or rs party absent) e) (sym (get_or-set_other rs k party now absent other)) (repo_itself (slice_index_or rs party absent))
+      ],
+)

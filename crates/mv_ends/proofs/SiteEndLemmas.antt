@@ -1,0 +1,96 @@
+-- What a repository's end keeps as it takes frames.
+use Rattle.std.proofs.Common.{◌≡◌, ◌<◌, ◌+◌, ℕ, List, [], ◌∷◌, ◌++◌, length, sym, ◌∙◌, ap, refl, subst, arith, Bool, true, false, cond, eqb, eqb-true, append-nil, Option, Some, Err}
+use Rattle.std.specs.Prelude.{nat_le, nat_lt, option_to_list}
+use Rattle.std.proofs.lemmas.Bool.Decides.{nat_tests}
+use Rattle.mv_link.specs.declared.item.Item.{Item}
+use Rattle.mv_link.specs.declared.item.Frame.{Frame}
+use Rattle.mv_link.specs.declared.incoming.Look.{Look}
+use Rattle.mv_link.specs.declared.incoming.Look.TheVariants as look
+use Rattle.mv_link.specs.Frames.{accepted}
+use Rattle.mv_link.proofs.LinkLemmas.{one_more}
+use Rattle.mv_repository.specs.declared.entry.LogEntry.{LogEntry}
+use Rattle.mv_repository.specs.Log.{items_from}
+use Rattle.mv_party.specs.declared.fault.SiteFault.{SiteFault}
+use Rattle.mv_party.specs.declared.fault.SiteFault.TheVariants as site_fault
+use Rattle.mv_party.specs.Site.{SiteState, entry_from, count_from}
+use Rattle.mv_party.specs.Calls.{FailsBy, with_taken}
+use Rattle.mv_party.proofs.SiteLemmas.{items_from-push}
+use Rattle.mv_machine.specs.Replies.{refusal_of}
+use Rattle.mv_ends.specs.declared.inlets.Inlets.{Inlets}
+use Rattle.mv_ends.specs.Inlets.{starts_of, taken_of, SameInlets, TakesNothing, Takes}
+use Rattle.mv_ends.specs.Answering.{answer_by, stands_to}
+use Rattle.mv_ends.specs.Accepted.{AreAccepted}
+use Rattle.mv_ends.specs.RepoEnd.{IsRefusedFor}
+
+-- a fault of the party calls for its refusal
+pub refused_for : (A : Type 0) (expected : Option SiteFault) (fault : SiteFault) → FailsBy {A = A} expected (Err fault) → IsRefusedFor expected (refusal_of fault)
+refused_for A expected fault fails = by fault fails
+  where
+    some : (other : SiteFault) → expected ≡ Some other → IsRefusedFor expected (refusal_of other)
+    some other e = subst (λ o. IsRefusedFor o (refusal_of other)) (sym e) refl
+
+    by : (f : SiteFault) → FailsBy {A = A} expected (Err f) → IsRefusedFor expected (refusal_of f)
+    by site_fault.Memory e = subst (λ o. IsRefusedFor o (refusal_of site_fault.Memory)) (sym e) refl
+    by site_fault.NotYours e = some site_fault.NotYours e
+    by site_fault.UplinkFull e = some site_fault.UplinkFull e
+    by site_fault.SenderFull e = some site_fault.SenderFull e
+    by site_fault.AnswerBusy e = some site_fault.AnswerBusy e
+
+-- what the party submitted once it took a frame
+pub submitted_by : (site : SiteState) (sender : ℕ) (item : Item) (stands : Look)
+    → (with_taken site sender item stands).submissions ≡ site.submissions ++ option_to_list (answer_by site sender item stands)
+submitted_by site sender item look.Next = refl
+submitted_by site sender item look.Old = sym (append-nil site.submissions)
+submitted_by site sender item (look.Gap expected) = sym (append-nil site.submissions)
+
+-- what its repository applied from another sender
+from_other : (site : SiteState) (sender from : ℕ) (item : Item) (stands : Look) → eqb sender from ≡ false
+    → items_from (with_taken site sender item stands).log from ≡ items_from site.log from
+from_other site sender from item look.Next other =
+    items_from-push site.log (entry_from sender item) from
+    ∙ ap (λ b. items_from site.log from ++ cond b (item ∷ []) []) other ∙ append-nil (items_from site.log from)
+from_other site sender from item look.Old other = refl
+from_other site sender from item (look.Gap expected) other = refl
+
+eqb-same : (a : ℕ) → eqb a a ≡ true
+eqb-same a = grind (arith, nat_tests)
+
+-- and from the sender itself
+from_sender : (site : SiteState) (sender : ℕ) (frame : Frame) (frames : List Frame) → accepted frames ≡ items_from site.log sender
+    → accepted (frames ++ frame ∷ []) ≡ items_from (with_taken site sender frame.item (stands_to site sender frame)).log sender
+from_sender site sender frame frames seen = by (nat_le frame.number (count_from site.log sender)) (nat_lt (count_from site.log sender + 1) frame.number) refl refl
+  where
+    count : length (accepted frames) ≡ count_from site.log sender
+    count = ap length seen
+
+    by : (a b : Bool) → nat_le frame.number (count_from site.log sender) ≡ a → nat_lt (count_from site.log sender + 1) frame.number ≡ b
+        → accepted (frames ++ frame ∷ []) ≡ items_from (with_taken site sender frame.item (cond a look.Old (cond b (look.Gap (count_from site.log sender + 1)) look.Next))).log sender
+    by true b e f = (one_more frames frame).old (grind (arith, nat_tests, e, count)) ∙ seen
+    by false true e f = (one_more frames frame).gap (grind (arith, nat_tests, f, count)) ∙ seen
+    by false false e f =
+        (one_more frames frame).next (grind (arith, nat_tests, e, f, count))
+        ∙ ap (λ l. l ++ frame.item ∷ []) seen
+        ∙ sym (items_from-push site.log (entry_from sender frame.item) sender ∙ ap (λ b. items_from site.log sender ++ cond b (frame.item ∷ []) []) (eqb-same sender))
+
+-- just the frames that the log has were accepted, with one more
+pub accepted_taken : (site : SiteState) (sender : ℕ) (frame : Frame) (old new : Inlets Frame) → SameInlets old new → Takes sender frame old new → AreAccepted site.log old
+    → AreAccepted (with_taken site sender frame.item (stands_to site sender frame)).log new
+accepted_taken site sender frame old new same takes all from absent below =
+    let there : from < length (starts_of old) = subst (λ n. from < n) same.0 below in
+    ap accepted (takes from absent there) ∙ by (eqb from sender) (eqb-true from sender) refl (all from absent there)
+  where
+    by : (b : Bool) → (b ≡ true → from ≡ sender) → eqb from sender ≡ b → accepted (taken_of old from absent) ≡ items_from site.log from
+        → accepted (taken_of old from absent ++ cond b (frame ∷ []) []) ≡ items_from (with_taken site sender frame.item (stands_to site sender frame)).log from
+    by true e f seen =
+        subst (λ s. accepted (taken_of old s absent) ≡ items_from site.log s
+        → accepted (taken_of old s absent ++ frame ∷ []) ≡ items_from (with_taken site sender frame.item (stands_to site sender frame)).log s) (sym (e refl))
+        (from_sender site sender frame (taken_of old sender absent)) seen
+    by false e f seen =
+        ap accepted (append-nil (taken_of old from absent)) ∙ seen
+        ∙ sym (from_other site sender from frame.item (stands_to site sender frame) (grind (arith, nat_tests, f)))
+
+-- nothing was taken
+pub accepted_same : (log : List LogEntry) (old new : Inlets Frame) → SameInlets old new → TakesNothing old new → AreAccepted log old → AreAccepted log new
+accepted_same log old new same nothing all from absent below =
+    let there : from < length (starts_of old) = subst (λ n. from < n) same.0 below in
+    ap accepted (nothing from absent there) ∙ all from absent there

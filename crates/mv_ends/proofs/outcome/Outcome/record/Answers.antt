@@ -1,0 +1,11 @@
+use Rattle.std.proofs.Common.{subst}
+use Rattle.mv_machine.specs.State.{State, opening}
+use Rattle.mv_machine.specs.Headline.{HeadlineHolds}
+use Rattle.mv_ends.specs.Outcome.{state_of}
+use Rattle.mv_ends.proofs.OutcomeLemmas.{headline_of}
+use Rattle.mv_ends.proofs.outcome.Outcome.record.Goals as goal
+
+pub returns-clause-headline : goal.returns-clause-headline
+returns-clause-headline c =
+    subst (λ (st : State). HeadlineHolds (opening st.parties st.limits) st) c.self.view_is
+    (headline_of (state_of c.self.inside.hub c.self.inside.repos.items) c.self.invariant.well_formed c.self.invariant.lawful)

@@ -1,0 +1,49 @@
+-- The party took the frame that is taken from the link, and what it answers is on its uplink.
+use Rattle.std.proofs.Common.{◌≡◌, ◌∙◌, inr, refl, sym, subst, ap, rules, ◌++◌}
+use Rattle.std.specs.Prelude.{option_to_list}
+use Rattle.rtrb.specs.Ring.{sent}
+use Rattle.mv_party.specs.declared.taken.Taken.{Taken}
+use Rattle.mv_party.specs.Site.{SiteState}
+use Rattle.mv_machine.specs.declared.reply.Refusal.TheVariants.{Memory}
+use Rattle.mv_ends.specs.Inlets.{Takes}
+use Rattle.mv_ends.specs.Answering.{stands_to}
+use Rattle.mv_ends.specs.Accepted.{AreAccepted}
+use Rattle.mv_ends.specs.RepoEnd.{IsRefusedFor}
+use Rattle.mv_ends.proofs.SiteEndLemmas.{refused_for, submitted_by, accepted_taken, accepted_same}
+use Rattle.mv_ends.proofs.repo_end.RepoEnd.apply.Goals as goal
+
+pub returns-in_default-clause-reply : goal.returns-in_default-clause-reply
+returns-in_default-clause-reply c = inr (record {
+  refusal = Memory;
+  unchanged = search rules;
+  why = inr (inr (c.is_full-full.result, c.frame-frame.result.now, subst (λ o. IsRefusedFor o Memory) (sym c.in_default.ensures.free) refl));
+  reply_is = refl;
+})
+
+pub returns-in-Err-clause-reply : goal.returns-in-Err-clause-reply
+returns-in-Err-clause-reply c = inr (record {
+  refusal = c.from.result;
+  unchanged = search rules;
+  why = inr (inr (c.is_full-full.result, c.frame-frame.result.now, subst (IsRefusedFor _) (sym c.from.ensures) (refused_for Taken _ c.in-Err.fault c.in-Err.ensures.fault)));
+  reply_is = refl;
+})
+
+pub invariant_of-self-in-Ok-apply-clause-pushed : goal.invariant_of-self-in-Ok-apply-clause-pushed
+invariant_of-self-in-Ok-apply-clause-pushed c =
+    let site = c.args.self.now.site in
+    let frame = c.frame-frame.result.now in
+    let before : sent c.is_full-full.new.self ≡ site.submissions = search rules in
+    c.put_answer.ensures.put
+    ∙ (λ i. before i ++ option_to_list (c.in-Ok.ensures.answer c.in-Ok-apply.ensures.fault i))
+    ∙ sym (submitted_by site c.args.from frame.item (stands_to site c.args.from frame))
+    ∙ ap (λ (s : SiteState). s.submissions) (sym c.in-Ok-apply.ensures.ok)
+
+pub invariant_of-self-in-Ok-apply-clause-accepted : goal.invariant_of-self-in-Ok-apply-clause-accepted
+invariant_of-self-in-Ok-apply-clause-accepted c =
+    let site = c.args.self.now.site in
+    let frame = c.frame-frame.result.now in
+    let taken : c.take-parcel.result ≡ frame = c.take-parcel.ensures.front c.front.result.now c.front.ensures ∙ sym c.frame-frame.ensures in
+    subst (λ (s : SiteState). AreAccepted s.log c.take-parcel.new.self) (sym c.in-Ok-apply.ensures.ok)
+    (accepted_taken site c.args.from frame c.is_empty.new.self c.take-parcel.new.self c.take-parcel.ensures.same
+    (subst (λ f. Takes c.args.from f c.is_empty.new.self c.take-parcel.new.self) taken c.take-parcel.ensures.takes)
+    (accepted_same site.log c.args.self.now.inlets c.is_empty.new.self c.is_empty.ensures.same c.is_empty.ensures.nothing c.args.self.now.accepted))

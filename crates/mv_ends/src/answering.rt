@@ -1,0 +1,50 @@
+//! The answer that a frame calls for: its copy for the uplink, made before anything changes.
+
+ghost use Rattle.std.specs.Prelude.{◌≡◌, ◌<◌, ◌++◌, true, None, is_some, option_to_list, IfOk, OnErr};
+ghost use Rattle.rtrb.specs.Ring.{sent, known_free, SameProducer};
+ghost use Rattle.mv_party.specs.Calls.{apply_fault};
+ghost use Rattle.mv_ends.specs.Answering.{answer_by, stands_to};
+
+use crate::parcel::MessageParcel;
+use mv_link::{Frame, Look};
+use mv_message::Party;
+use mv_party::Site;
+use rtrb::Producer;
+use std::alloc::{AllocError, Global};
+
+/// A copy for the uplink of the answer that a frame from a party calls for, where the frame is the next and the party can
+/// submit it. Refused for want of memory, where it calls for one.
+pub(crate) fn answer_parcel(
+    alloc: Global,
+    site: &Site,
+    from: Party,
+    frame: &Frame,
+    full: bool,
+) -> Result<Option<MessageParcel>, AllocError>
+    requires { from < site.now.parties }
+    ensures answer { IfOk result (λ parcel. apply_fault full site.now from frame.now.item (stands_to site.now from frame.now) ≡ None
+        → parcel ≡ answer_by site.now from frame.now.item (stands_to site.now from frame.now)) }
+    ensures free { OnErr result (apply_fault full site.now from frame.now.item (stands_to site.now from frame.now) ≡ None) }
+{
+    if site.look(from, frame) != Look::Next {
+        return Ok(None);
+    }
+    if let Err(_) = site.check_answer(&frame.item, full) {
+        return Ok(None);
+    }
+    match site.answer(from, &frame.item) {
+        Some(answer) => Ok(Some(MessageParcel::of(alloc, &answer)?)),
+        None => Ok(None),
+    }
+}
+
+/// Puts an answer on an uplink that has room for it, where there is one.
+pub(crate) fn put_answer(uplink: &mut Producer<MessageParcel>, answer: Option<MessageParcel>)
+    requires { is_some answer ≡ true → 0 < known_free uplink.old }
+    ensures same { SameProducer uplink.old uplink.new }
+    ensures put { sent uplink.new ≡ sent uplink.old ++ option_to_list answer }
+{
+    if let Some(parcel) = answer {
+        uplink.push_reserved(parcel);
+    }
+}

@@ -1,0 +1,25 @@
+//! The ends of one opening, given back and put together again.
+
+ghost use Rattle.std.specs.Prelude.{◌≡◌};
+ghost use Rattle.mv_ends.specs.Whole.{AreEnds};
+ghost use Rattle.mv_ends.specs.Outcome.{state_of};
+
+use crate::hub_end::HubEnd;
+use crate::outcome::Outcome;
+use crate::repo_end::RepoEnd;
+use mv_message::Party;
+
+/// Gathers all ends of one opening, the repositories in order of party, whatever their calls and however these followed one another:
+/// the outcome has the lists of the ends, unchanged, and is lawful. It takes no memory.
+pub fn gather(hub: HubEnd, repos: Vec<RepoEnd>) -> Outcome
+    requires { AreEnds hub repos.items }
+    ensures { result ≡ state_of hub repos.items }
+{
+    let mut hub = hub;
+    let mut repos = repos;
+    let count = hub.hub().parties().len();
+    for party in 0..count {
+        hub.look_beside(party, &mut repos[party as usize]);
+    }
+    Outcome::new(hub, repos)
+}

@@ -1,0 +1,110 @@
+//! What is gathered of all ends of one opening: what happened in a run.
+
+ghost use Rattle.std.specs.Prelude.{◌≡◌, IsTrue};
+ghost use Rattle.mv_machine.specs.State.{opening, is_party, submissions_of, log_of};
+ghost use Rattle.mv_machine.specs.Lawful.{IsLawful, IsWellFormed};
+ghost use Rattle.mv_machine.specs.Headline.{HeadlineHolds};
+
+use crate::hub_end::HubEnd;
+use crate::repo_end::RepoEnd;
+use mv_hub::{Entry, Hub, Parties};
+use mv_message::{Message, Party, Shared};
+use mv_repository::{LogEntry, Repository};
+use std::marker::Model;
+
+/// What happened in a run: the record of the hub, and what each party submitted and applied.
+///
+/// It is seen as the state of the list machine, with nothing under way, and every outcome is lawful. It keeps the ends, so that no
+/// memory is needed to gather them; their rings are given back with it.
+#[derive(Drop)]
+pub struct Outcome {
+    hub: HubEnd,
+    repos: Vec<RepoEnd>,
+}
+
+impl Model for Outcome {
+    ghost use Rattle.mv_machine.specs.State.{State};
+    ghost use Rattle.mv_ends.specs.Outcome.{state_of, IsOutcome};
+
+    ghost Value = { State };
+
+    ghost view = { λ o. state_of o.hub o.repos.items };
+
+    ghost invariant = { λ o. IsOutcome o.hub o.repos.items };
+}
+
+impl Outcome {
+    ghost use Rattle.mv_ends.specs.Outcome.{state_of, IsOutcome};
+
+    /// The outcome of these ends.
+    pub(crate) fn new(hub: HubEnd, repos: Vec<RepoEnd>) -> Outcome
+        requires { IsOutcome hub repos.items }
+        ensures { result ≡ state_of hub repos.items }
+    {
+        Outcome { hub, repos }
+    }
+
+    /// The parties.
+    pub fn parties(&self) -> &Parties
+        ensures { result.now ≡ self.now.parties }
+    {
+        self.hub.hub().parties()
+    }
+
+    /// Whether there is a party of this number.
+    pub fn is_party(&self, party: Party) -> bool
+        ensures { result ≡ is_party self.now party }
+    {
+        party < self.parties().len()
+    }
+
+    /// What a party submitted, the oldest message first.
+    pub fn sub(&self, party: Party) -> &[Shared<Message>]
+        requires { IsTrue (is_party self.now party) }
+        ensures { result.now ≡ submissions_of self.now party }
+    {
+        self.repos[party as usize].sub()
+    }
+
+    /// The hub's record, the oldest entry first. Whoever looks at it knows that the headline holds of the outcome, from the
+    /// opening on: what each repository applied from each sender is a prefix of what the record put on their link for the markets
+    /// that it serves, in order and each once, and what was routed from a sender is a prefix of what it submitted; the answers
+    /// that a party submitted are those that the log of its repository calls for, in order; over no link is anything applied that
+    /// was routed after its closing; and two repositories that applied the same messages about a pack, in whatever order these
+    /// came, agree on it.
+    pub fn record(&self) -> &[Entry]
+        ensures entries { result.now ≡ self.now.entries }
+        ensures well_formed { IsWellFormed self.now }
+        ensures lawful { IsLawful self.now }
+        ensures headline { HeadlineHolds (opening self.now.parties self.now.limits) self.now }
+    {
+        self.hub.record()
+    }
+
+    /// What a repository applied, the oldest entry first.
+    pub fn log(&self, party: Party) -> &[LogEntry]
+        requires { IsTrue (is_party self.now party) }
+        ensures { result.now ≡ log_of self.now party }
+    {
+        self.repository(party).log()
+    }
+
+    /// The repository of a party. What it answers is the meaning of its log.
+    pub fn repository(&self, party: Party) -> &Repository
+        requires { IsTrue (is_party self.now party) }
+        ensures party { result.now.party ≡ party }
+        ensures log { result.now.log ≡ log_of self.now party }
+    {
+        self.repos[party as usize].repository()
+    }
+
+    /// The hub.
+    pub fn hub(&self) -> &Hub
+        ensures parties { result.now.parties ≡ self.now.parties }
+        ensures window { result.now.window ≡ self.now.limits.window }
+        ensures entries { result.now.entries ≡ self.now.entries }
+        ensures sent { result.now.sent ≡ self.now.sent }
+    {
+        self.hub.hub()
+    }
+}

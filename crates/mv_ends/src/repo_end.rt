@@ -1,0 +1,195 @@
+//! A repository's end: the party, the end of its uplink that it puts messages on, and those of the links that it takes frames
+//! from.
+
+ghost use Rattle.std.specs.Prelude.{◌≡◌, [], length};
+ghost use Rattle.rtrb.specs.Ring.{sent};
+ghost use Rattle.mv_ends.specs.Inlets.{starts_of};
+ghost use Rattle.mv_ends.specs.Accepted.{AreAccepted};
+ghost use Rattle.mv_repository.specs.Verdict.{joint_verdict};
+ghost use Rattle.mv_party.specs.Site.{IsLawfulParty};
+
+use crate::answering::{answer_parcel, put_answer};
+use crate::inlets::Inlets;
+use crate::parcel::{FrameParcel, MessageParcel};
+use mv_machine::{Refusal, Reply};
+use mv_message::{Message, Party, Shared};
+use mv_pack::PackKey;
+use mv_party::Site;
+use mv_repository::{Local, LogEntry, Repository};
+use rtrb::Producer;
+use std::alloc::Global;
+
+mod looking;
+
+/// A repository's end of all its rings, with its party.
+#[derive(Drop)]
+pub struct RepoEnd {
+    alloc: Global,
+    site: Site,
+    /// The end of the party's uplink.
+    uplink: Producer<MessageParcel>,
+    /// The ends of the links to the party.
+    inlets: Inlets<FrameParcel>,
+    ghost pushed: { sent uplink ≡ site.submissions },
+    ghost each: { length (starts_of inlets) ≡ site.parties },
+    ghost accepted: { AreAccepted site.log inlets },
+}
+
+impl RepoEnd {
+    ghost use Rattle.mv_ends.specs.Rings.{IsUntaken};
+    ghost use Rattle.mv_ends.specs.RepoEnd.{site_of, inlets_of, SameRepoEnd, Submits, Asks, Verifies, Applies};
+
+    /// The end of a party that did nothing yet, with its ends of rings that were not used yet.
+    pub(crate) fn new(
+        alloc: Global,
+        site: Site,
+        uplink: Producer<MessageParcel>,
+        inlets: Inlets<FrameParcel>,
+    ) -> RepoEnd
+        requires site { (site.submissions ≡ []) × (site.log ≡ []) }
+        requires pushed { sent uplink ≡ [] }
+        requires each { length (starts_of inlets) ≡ site.parties }
+        requires untaken { IsUntaken inlets }
+        ensures site { site_of result ≡ site }
+        ensures uplink { result.uplink ≡ uplink }
+        ensures inlets { inlets_of result ≡ inlets }
+    {
+        RepoEnd {
+            alloc,
+            site,
+            uplink,
+            inlets,
+        }
+    }
+
+    /// The party.
+    pub fn party(&self) -> Party
+        ensures { result ≡ (site_of self.now).party }
+    {
+        self.site.repository().party()
+    }
+
+    /// What the party submitted, the oldest message first.
+    pub fn sub(&self) -> &[Shared<Message>]
+        ensures value { result.now ≡ (site_of self.now).submissions }
+        ensures lawful { IsLawfulParty (site_of self.now).parties (site_of self.now).submissions (site_of self.now).log }
+    {
+        self.site.submissions()
+    }
+
+    /// What the party's repository applied, the oldest entry first.
+    pub fn log(&self) -> &[LogEntry]
+        ensures { result.now ≡ (site_of self.now).log }
+    {
+        self.site.repository().log()
+    }
+
+    /// The party's repository.
+    pub fn repository(&self) -> &Repository
+        ensures party { result.now.party ≡ (site_of self.now).party }
+        ensures log { result.now.log ≡ (site_of self.now).log }
+    {
+        self.site.repository()
+    }
+
+    /// Submits a message that is neither a query nor an answer: a copy goes on the uplink.
+    ///
+    /// Answers `Submitted`, or the first of these refusals that holds: S2, the message is a query or an answer; S3, the uplink
+    /// has no room; S4, the party submitted as many messages as it may; S14, memory was refused. S3 may be told though room
+    /// was just made.
+    pub fn submit(&mut self, message: &Shared<Message>) -> Reply
+        ensures same { SameRepoEnd self.old self.new }
+        ensures reply { Submits message.now self.old self.new result }
+    {
+        let full = self.uplink.is_full();
+        if let Err(fault) = self.site.check(message.get(), full) {
+            return Reply::Refused(Refusal::from(fault));
+        }
+        let Ok(submitted) = MessageParcel::of(self.alloc, message.get()) else {
+            return Reply::Refused(Refusal::Memory);
+        };
+        match self.site.submit(message, full) {
+            Ok(k) => {
+                self.uplink.push_reserved(submitted);
+                Reply::Submitted { k }
+            }
+            Err(fault) => Reply::Refused(Refusal::from(fault)),
+        }
+    }
+
+    /// Submits a query of a pack: a copy goes on the uplink.
+    ///
+    /// Answers `Asked`, or the first of these refusals that holds: S3, the uplink has no room; S4, the party submitted as many
+    /// messages as it may; S14, memory was refused. S3 may be told though room was just made.
+    pub fn ask(&mut self, key: &PackKey) -> Reply
+        ensures same { SameRepoEnd self.old self.new }
+        ensures reply { Asks key.now self.old self.new result }
+    {
+        let full = self.uplink.is_full();
+        if let Err(fault) = self.site.check_room(full) {
+            return Reply::Refused(Refusal::from(fault));
+        }
+        let Ok(asked) = MessageParcel::of(self.alloc, &Message::Query { key: key.copy() }) else {
+            return Reply::Refused(Refusal::Memory);
+        };
+        match self.site.ask(key, full) {
+            Ok(q) => {
+                self.uplink.push_reserved(asked);
+                Reply::Asked { q }
+            }
+            Err(fault) => Reply::Refused(Refusal::from(fault)),
+        }
+    }
+
+    /// Verifies a pack: by the party's own repository, and where that does not hold it, by a query of the others.
+    ///
+    /// Answers `Known`, or as `ask` does.
+    pub fn verify(&mut self, key: &PackKey) -> Reply
+        ensures same { SameRepoEnd self.old self.new }
+        ensures reply { Verifies key.now self.old self.new result }
+    {
+        match self.site.repository().verify(key) {
+            Local::Known(verdict) => Reply::Known(verdict),
+            Local::Absent => self.ask(key),
+        }
+    }
+
+    /// The verdict of all that were asked, on the query that was the `q`-th message of the party.
+    pub fn verdict(&self, q: u32) -> Reply
+        ensures { result ≡ Reply.Joint (joint_verdict (site_of self.now).party (site_of self.now).log q) }
+    {
+        Reply::Joint(self.site.repository().verdict(q))
+    }
+
+    /// Takes the front frame of the link from a party.
+    ///
+    /// Answers `Applied`, `Old` or `Gap`, or the first of these refusals that holds: S1, there is no such party; S8, no frame is
+    /// there; S13, the frame is the next and carries a query, and the party can submit no answer now; S14, memory was refused.
+    /// S8 and S13 may be told though a frame was just put there, or room just made.
+    pub fn apply(&mut self, from: Party) -> Reply
+        ensures same { SameRepoEnd self.old self.new }
+        ensures reply { Applies from self.old self.new result }
+    {
+        if from as usize >= self.inlets.len() {
+            return Reply::Refused(Refusal::Party);
+        }
+        if self.inlets.is_empty(from) {
+            return Reply::Refused(Refusal::WireEmpty);
+        }
+        let full = self.uplink.is_full();
+        let frame = self.inlets.front(from).frame();
+        let number = frame.number;
+        let Ok(parcel) = answer_parcel(self.alloc, &self.site, from, frame, full) else {
+            return Reply::Refused(Refusal::Memory);
+        };
+        match self.site.apply(from, frame, full) {
+            Ok(taken) => {
+                // Nothing fails from here on: the answer goes out before its query's frame is taken.
+                put_answer(&mut self.uplink, parcel);
+                let _parcel = self.inlets.take(from);
+                Reply::of_taken(number, taken)
+            }
+            Err(fault) => Reply::Refused(Refusal::from(fault)),
+        }
+    }
+}

@@ -1,0 +1,83 @@
+-- Lemmas on what `work` writes.
+use Rattle.std.proofs.Common.{◌≡◌, ℕ, List, [], ◌∷◌, ◌++◌, refl, ap, sym, ◌∙◌, subst, true≢false}
+use Rattle.std.specs.Prelude.{IfOk, IfSome, Option, Some, None, Result, Ok, Err, Bool, true, false}
+use Rattle.mv_machine.specs.State.{State}
+use Rattle.mv_workers.specs.declared.plan.Plan.{Plan}
+use Rattle.mv_workers.specs.Plans.{KeepsPlan, IsComplete}
+use Rattle.mv_tool.specs.declared.working.Output.{Output}
+use Rattle.mv_tool.specs.Drafts.{parts_of}
+use Rattle.mv_tool.specs.Report.{report_text}
+use Rattle.mv_tool.specs.Replies.{AreReplies}
+use Rattle.mv_tool.specs.Served.{Served}
+use Rattle.mv_tool.specs.Lines.{pieces, lines_of}
+use Rattle.mv_tool.specs.Planning.{Planned, IsPlanned, plan_lines}
+use Rattle.mv_tool.specs.Output.{WrotePart}
+use Rattle.mv_tool.specs.Working.{end_line, IsReported, IsRead, IsOutput, IsWorked, Worked}
+use Rattle.std.specs.Io.KnownBytes.{Appends}
+
+-- the report of a complete outcome
+pub finished_output : {E : Type 0} (r : Result Output E) (plan : Plan) (outcome : State) → KeepsPlan plan outcome → IsComplete plan outcome
+    → IfOk r (λ output. output.text.items ≡ report_text outcome ++ end_line true) → IfOk r (λ output. output.finished ≡ true)
+    → IfOk r (λ output. IsReported (parts_of plan) output.text.items output.finished)
+finished_output (Ok output) plan outcome keeps complete text done = record {
+  plan = plan;
+  planned = refl;
+  outcome = outcome;
+  keeps = keeps;
+  complete = λ is. complete;
+  incomplete = λ is. absurd (true≢false (sym done ∙ is));
+  text = text ∙ ap (λ finished. report_text outcome ++ end_line finished) (sym done);
+}
+finished_output (Err e) plan outcome keeps complete text done = tt
+
+-- the report of an outcome that is not complete
+pub unfinished_output : {E : Type 0} (r : Result Output E) (plan : Plan) (outcome : State) → KeepsPlan plan outcome → (IsComplete plan outcome → ⊥)
+    → IfOk r (λ output. output.text.items ≡ report_text outcome ++ end_line false) → IfOk r (λ output. output.finished ≡ false)
+    → IfOk r (λ output. IsReported (parts_of plan) output.text.items output.finished)
+unfinished_output (Ok output) plan outcome keeps incomplete text left = record {
+  plan = plan;
+  planned = refl;
+  outcome = outcome;
+  keeps = keeps;
+  complete = λ is. absurd (true≢false (sym is ∙ left));
+  incomplete = λ is. incomplete;
+  text = text ∙ ap (λ finished. report_text outcome ++ end_line finished) (sym left);
+}
+unfinished_output (Err e) plan outcome keeps incomplete text left = tt
+
+-- what stands behind lines that were taken one by one is what they plan
+are_planned : (before : Planned) (lines texts : List (List ℕ)) (after : Planned) → AreReplies IsPlanned before lines texts after → after ≡ plan_lines before lines
+are_planned before [] [] after same = same
+are_planned before [] (text ∷ texts) after none = absurd none
+are_planned before (line ∷ lines) [] after none = absurd none
+are_planned before (line ∷ lines) (text ∷ texts) after (between, one, rest) =
+    are_planned between lines texts after rest ∙ ap (λ p. plan_lines p lines) one
+
+-- an input that was answered whole was read
+pub read_whole : (input : Option (List ℕ)) (before after planned : Planned) (old new : Option (List ℕ)) → before ≡ Ok None → planned ≡ after
+    → IfSome input (λ bytes. Served IsPlanned before bytes after old new) → IfSome input (λ bytes. IsRead bytes planned)
+read_whole None before after planned old new nothing same served = tt
+read_whole (Some bytes) before after planned old new nothing same served = (
+  served.kept,
+  same ∙ are_planned before (lines_of (pieces bytes)) _ after served.replied.2 ∙ ap (λ p. plan_lines p (lines_of (pieces bytes))) nothing,
+)
+
+-- the output of an input that was read went out
+pub worked_whole : (input : Option (List ℕ)) (planned : Planned) (old new : Option (List ℕ)) (text out : List ℕ) (finished : Bool)
+    → IfSome input (λ bytes. IsRead bytes planned) → IsOutput planned text finished → out ≡ text → Appends old new out
+    → IfSome input (λ bytes. Worked bytes finished old new)
+worked_whole None planned old new text out finished read output same written = tt
+worked_whole (Some bytes) planned old new text out finished read output same written = record {
+  kept = read.0;
+  out = text;
+  worked = subst (λ p. IsOutput p text finished) read.1 output;
+  written = subst (Appends old new) same written;
+}
+
+-- the first bytes of the output of an input that was read went out
+pub worked_part : (input : Option (List ℕ)) (planned : Planned) (old new : Option (List ℕ)) (text out : List ℕ) (finished : Bool)
+    → IfSome input (λ bytes. IsRead bytes planned) → IsOutput planned text finished → out ≡ text → WrotePart out old new
+    → IfSome input (λ bytes. (whole : List ℕ) × (done : Bool) × IsWorked bytes whole done × WrotePart whole old new)
+worked_part None planned old new text out finished read output same written = tt
+worked_part (Some bytes) planned old new text out finished read output same written =
+    (text, finished, subst (λ p. IsOutput p text finished) read.1 output, subst (λ l. WrotePart l old new) same written)

@@ -1,0 +1,46 @@
+-- The report of a run: a head line, a line for each party, and a line on closed links.
+use Rattle.std.specs.Prelude.{ℕ, suc, ◌-◌, List, [], ◌∷◌, ◌++◌, length, flat_map, replicate, codes, decimal}
+use Rattle.std.specs.List.{range_with_len}
+use Rattle.mv_hub.specs.declared.entry.Entry.{Entry}
+use Rattle.mv_hub.specs.declared.entry.Entry.TheVariants.{Routed, Closed}
+use Rattle.mv_hub.specs.Record.{routed_count}
+use Rattle.mv_repository.specs.declared.counts.Counts.{Counts}
+use Rattle.mv_repository.specs.Counts.{counts_of}
+use Rattle.mv_machine.specs.State.{State, submissions_of, log_of}
+
+-- how many links a record closes
+abbrev pub closed_count : List Entry → ℕ
+closed_count [] = 0
+closed_count (Routed from k message ∷ entries) = closed_count entries
+closed_count (Closed from to ∷ entries) = suc (closed_count entries)
+
+-- a text on the right of ten places, blanks (32) before it; one that is wider is written whole
+unfoldable pub in_ten_places : List ℕ → List ℕ
+in_ten_places text = replicate (10 - length text) 32 ++ text
+
+-- numbers, each in ten places
+abbrev pub entries_text : List ℕ → List ℕ
+entries_text numbers = flat_map (λ number. in_ten_places (decimal number)) numbers
+
+-- what the report says of a party, beside its number: how many messages it submitted, how many of these were routed, and what its
+-- repository has
+abbrev pub numbers_of : ℕ → ℕ → Counts → List ℕ
+numbers_of submitted routed counts =
+    submitted ∷ routed ∷ counts.entries ∷ counts.products ∷ counts.packs ∷ counts.active ∷ counts.recalled ∷ []
+
+-- the line of a party, ended by a line feed (10)
+unfoldable pub party_line : State → ℕ → List ℕ
+party_line outcome party = entries_text (party ∷ numbers_of
+    (length (submissions_of outcome party)) (routed_count outcome.entries party) (counts_of (log_of outcome party))) ++ 10 ∷ []
+
+-- the head line
+abbrev pub head_line : List ℕ
+head_line = codes "     party submitted    routed   applied  products     packs    active  recalled\n"
+
+-- the line on closed links
+unfoldable pub closed_line : State → List ℕ
+closed_line outcome = codes "closed links: " ++ decimal (closed_count outcome.entries) ++ 10 ∷ []
+
+-- the report
+unfoldable pub report_text : State → List ℕ
+report_text outcome = head_line ++ flat_map (party_line outcome) (range_with_len 0 (length outcome.parties)) ++ closed_line outcome

@@ -1,0 +1,69 @@
+-- What `work` writes.
+use Rattle.std.specs.Prelude.{◌≡◌, ℕ, List, [], ◌∷◌, ◌++◌, codes, Bool, true, false, if◌then◌else◌, Option, Some, None, Ok, Err, IfSome, ⊤}
+use Rattle.std.specs.Io.KnownBytes.{Appends, Keeps, Consumes}
+use Rattle.serde_json.specs.Written.{compact_text}
+use Rattle.mv_machine.specs.State.{State}
+use Rattle.mv_workers.specs.declared.plan.Plan.{Plan}
+use Rattle.mv_workers.specs.Plans.{KeepsPlan, IsComplete}
+use Rattle.mv_tool.specs.declared.fault.ServeFault.{ServeFault}
+use Rattle.mv_tool.specs.declared.fault.ServeFault.TheVariants.{Write, TooManyLines, LineTooLong, Start}
+use Rattle.mv_tool.specs.declared.open_fault.OpenFault.TheVariants.{NotOpen}
+use Rattle.mv_tool.specs.Lines.{pieces, lines_of, KeepLimits}
+use Rattle.mv_tool.specs.Drafts.{Parts, parts_of}
+use Rattle.mv_tool.specs.Openings.{code_of}
+use Rattle.mv_tool.specs.Output.{WrotePart}
+use Rattle.mv_tool.specs.Planning.{Planned, plan_lines}
+use Rattle.mv_tool.specs.ReplyLines.{refused}
+use Rattle.mv_tool.specs.Served.{StopsIn}
+use Rattle.mv_tool.specs.Report.{report_text}
+
+-- the last line: whether the plan was finished
+abbrev pub end_line : Bool → List ℕ
+end_line finished = if finished then codes "finished\n" else codes "unfinished\n"
+
+-- The output is the report of an outcome of the plan, and says that it is finished exactly where that is complete.
+pub record IsReported (parts : Parts) (out : List ℕ) (finished : Bool) : Type 0 where
+  pub plan : Plan
+  pub planned : parts_of plan ≡ parts
+  pub outcome : State
+  pub keeps : KeepsPlan plan outcome
+  pub complete : finished ≡ true → IsComplete plan outcome
+  pub incomplete : finished ≡ false → IsComplete plan outcome → ⊥
+  pub text : out ≡ report_text outcome ++ end_line finished
+
+-- the output of what some lines plan, and whether the plan was finished: a refusal, that no line has opened a plan, or a report
+abbrev pub IsOutput : Planned → List ℕ → Bool → Type 0
+IsOutput (Err text) out finished = (out ≡ text ++ 10 ∷ []) × (finished ≡ false)
+IsOutput (Ok None) out finished = (out ≡ compact_text (refused (code_of NotOpen)) ++ 10 ∷ []) × (finished ≡ false)
+IsOutput (Ok (Some parts)) out finished = IsReported parts out finished
+
+-- the output of an input, and whether its plan was finished
+abbrev pub IsWorked : List ℕ → List ℕ → Bool → Type 0
+IsWorked bytes out finished = IsOutput (plan_lines (Ok None) (lines_of (pieces bytes))) out finished
+
+-- All lines of an input keep the limits, and its output went out.
+pub record Worked (bytes : List ℕ) (finished : Bool) (old new : Option (List ℕ)) : Type 0 where
+  pub kept : KeepLimits 0 (pieces bytes)
+  pub out : List ℕ
+  pub worked : IsWorked bytes out finished
+  pub written : Appends old new out
+
+-- All lines of an input keep the limits, and this is what they plan.
+abbrev pub IsRead : List ℕ → Planned → Type 0
+IsRead bytes planned = KeepLimits 0 (pieces bytes) × (planned ≡ plan_lines (Ok None) (lines_of (pieces bytes)))
+
+-- why an input was not read: a read failed, memory was refused, or at some place a line or a byte came that may not
+abbrev pub Unread : ServeFault → Option (List ℕ) → Option (List ℕ) → Type 0
+Unread Write input rest = ⊥
+Unread Start input rest = ⊥
+Unread TooManyLines input rest = (bytes : List ℕ) × Consumes input rest bytes × StopsIn TooManyLines [] 0 bytes
+Unread LineTooLong input rest = (bytes : List ℕ) × Consumes input rest bytes × StopsIn LineTooLong [] 0 bytes
+Unread fault input rest = ⊤
+
+-- What a run that ended by a fault has written. Where a write failed: the first bytes of an output of the input. Else nothing: the
+-- input was not read, or memory was refused, or a thread.
+abbrev pub Failed : ServeFault → Option (List ℕ) → Option (List ℕ) → Option (List ℕ) → Option (List ℕ) → Type 0
+Failed Write input rest old new =
+    IfSome input (λ bytes. (out : List ℕ) × (finished : Bool) × IsWorked bytes out finished × WrotePart out old new)
+Failed Start input rest old new = Keeps old new
+Failed fault input rest old new = Keeps old new × Unread fault input rest

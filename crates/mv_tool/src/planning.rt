@@ -1,0 +1,130 @@
+//! What a line adds to a plan.
+
+ghost use Rattle.std.specs.Prelude.{◌≡◌, [], ◌∷◌, false, IfOk, Ok, Some, option_map};
+ghost use Rattle.mv_message.specs.Kinds.{is_query_or_answer};
+ghost use Rattle.mv_party.specs.Site.{answers_in};
+ghost use Rattle.mv_tool.specs.Openings.{of_parties, code_of};
+ghost use Rattle.mv_hub.specs.Parties.{parties_of};
+ghost use Rattle.mv_tool.specs.ReplyLines.{refused};
+ghost use Rattle.mv_tool.specs.Planning.{planned_of, refuses, begins, plan_step, plan_request, plan_line};
+
+use crate::draft::Draft;
+use crate::opening::{limits_of, parties_of};
+use crate::planned::Planned;
+use crate::reply_line::{Refused, ReplyLine, append};
+use crate::{LineFault, MarketLists, OpenFault, Request};
+use mv_machine::{Limits, Refusal, Reply, Step};
+use mv_message::{Message, Shared};
+use std::alloc::{AllocError, Global};
+
+/// What is planned behind a line. Behind one that is refused nothing changes any more.
+pub(crate) fn plan_line(alloc: Global, planned: Planned, line: &[u8]) -> Result<Planned, AllocError>
+    ensures { IfOk result (λ after. planned_of after ≡ plan_line (planned_of planned) line.now) }
+{
+    let draft = match planned {
+        Planned::Nothing => None,
+        Planned::Plan(draft) => Some(draft),
+        Planned::Refused(text) => return Ok(Planned::Refused(text)),
+    };
+    match Request::read(alloc, line) {
+        Ok(request) => plan_request(alloc, draft, request),
+        Err(LineFault::Memory) => Err(AllocError),
+        Err(fault) => refuse(alloc, &fault),
+    }
+}
+
+/// What is planned behind a line that asks this: C1, C2.
+fn plan_request(
+    alloc: Global,
+    draft: Option<Draft>,
+    request: Request,
+) -> Result<Planned, AllocError>
+    ensures { IfOk result (λ after. planned_of after ≡ plan_request draft request) }
+{
+    match request {
+        Request::Open {
+            parties,
+            submissions,
+            uplink,
+            window,
+            wire,
+        } => {
+            if draft.is_some() {
+                return refuse_opening(alloc, OpenFault::AlreadyOpen);
+            }
+            begin(alloc, parties, limits_of(window, wire, uplink, submissions))
+        }
+        Request::Step(step) => match draft {
+            None => refuse_opening(alloc, OpenFault::NotOpen),
+            Some(draft) => plan_step(alloc, draft, step),
+        },
+    }
+}
+
+/// What an opening begins: H1 to H3, O1 to O4.
+fn begin(
+    alloc: Global,
+    lists: MarketLists,
+    limits: Result<Limits, OpenFault>,
+) -> Result<Planned, AllocError>
+    ensures { IfOk result (λ after. planned_of after ≡ begins (of_parties (parties_of lists)) limits) }
+{
+    let parties = match parties_of(alloc, lists) {
+        Ok(parties) => parties,
+        Err(OpenFault::Memory) => return Err(AllocError),
+        Err(fault) => return refuse_opening(alloc, fault),
+    };
+    match limits {
+        Ok(limits) => Ok(Planned::Plan(Draft::new(alloc, parties, limits)?)),
+        Err(fault) => refuse_opening(alloc, fault),
+    }
+}
+
+/// What is planned behind a step: C3, S1, S2.
+fn plan_step(alloc: Global, draft: Draft, step: Step) -> Result<Planned, AllocError>
+    ensures { IfOk result (λ after. planned_of after ≡ plan_step draft step) }
+{
+    match step {
+        Step::Submit { from, message } => {
+            if !draft.is_party(from) {
+                return refuse(alloc, &Reply::Refused(Refusal::Party));
+            }
+            if is_query_or_answer(message.get()) {
+                return refuse(alloc, &Reply::Refused(Refusal::NotYours));
+            }
+            Ok(Planned::Plan(draft.with_message(from, message)?))
+        }
+        Step::Verify { party, key } => {
+            if !draft.is_party(party) {
+                return refuse(alloc, &Reply::Refused(Refusal::Party));
+            }
+            let query = Shared::new(alloc, Message::Query { key })?;
+            Ok(Planned::Plan(draft.with_message(party, query)?))
+        }
+        _ => refuse(alloc, &Refused { code: "C3" }),
+    }
+}
+
+/// A message is none that a party submits of its own.
+fn is_query_or_answer(message: &Message) -> bool
+    ensures value { result ≡ is_query_or_answer message.now }
+    ensures own { result ≡ false → answers_in (message.now ∷ []) ≡ [] }
+{
+    matches!(message, Message::Query { .. } | Message::Answer { .. })
+}
+
+/// A line is refused by what is open.
+fn refuse_opening(alloc: Global, fault: OpenFault) -> Result<Planned, AllocError>
+    ensures { IfOk result (λ after. planned_of after ≡ refuses (refused (code_of fault))) }
+{
+    refuse(alloc, &Refused { code: fault.code() })
+}
+
+/// A line is refused.
+fn refuse<T: ReplyLine>(alloc: Global, reply: &T) -> Result<Planned, AllocError>
+    ensures { IfOk result (λ after. planned_of after ≡ refuses (T.value reply.now)) }
+{
+    let mut text = Vec::new(alloc);
+    append(alloc, &mut text, reply)?;
+    Ok(Planned::Refused(text))
+}

@@ -1,0 +1,149 @@
+//! Carries out a plan, and reports.
+
+ghost use Rattle.std.specs.Prelude.{◌≡◌, ◌++◌, ◌∷◌, [], ◌⊎◌, false, IfOk, IfErr, IfSome};
+ghost use Rattle.mv_workers.specs.Plans.{IsSound};
+ghost use Rattle.mv_tool.specs.Drafts.{parts_of};
+ghost use Rattle.mv_tool.specs.Planning.{planned_of};
+ghost use Rattle.mv_tool.specs.Report.{report_text};
+ghost use Rattle.mv_tool.specs.Working.{end_line, IsReported, IsOutput, Worked, IsRead, Unread, Failed};
+
+use crate::engine::answer_lines;
+use crate::output::put_out;
+use crate::planned::Planned;
+use crate::planner::Planner;
+use crate::reply_line::{Refused, append};
+use crate::unwritten::Unwritten;
+use crate::{OpenFault, ServeFault, report};
+use mv_ends::Outcome;
+use mv_workers::{Gate, Plan, WorkFault, run_workers};
+use std::alloc::Global;
+use std::io::{Read, Write};
+use std::marker::Sync;
+use std::sync::Wait;
+use std::thread::Threads;
+
+/// What is written at the end, and whether the plan was finished.
+#[derive(Drop)]
+struct Output {
+    text: Vec<u8>,
+    finished: bool,
+}
+
+/// Carries out the plan that the lines are, each party and the hub in a thread of its own with so many turns, and writes the report
+/// of what came of it and, by its last line, whether the plan was finished. It answers whether it was.
+///
+/// All lines are read before anything is written or started. Where one is refused, its refusal is all that is written, that of the
+/// first, and nothing is started.
+pub fn work<H: Threads + Wait + Sync, R: Read, W: Write, G: Gate>(
+    rt: &H,
+    alloc: Global,
+    reader: &mut R,
+    writer: &mut W,
+    turns: u32,
+    gate: &G,
+) -> Result<bool, ServeFault>
+    ensures ok { IfOk result (λ finished. IfSome (R.remaining reader.old) (λ bytes.
+        Worked bytes finished (W.contents writer.old) (W.contents writer.new))) }
+    ensures err { IfErr result (λ fault. Failed fault (R.remaining reader.old) (R.remaining reader.new)
+        (W.contents writer.old) (W.contents writer.new)) }
+{
+    let planned = read_plan(alloc, reader)?;
+    let output = carry_out(rt, alloc, planned, turns, gate)?;
+    put_out(writer, output.text.as_slice())?;
+    Ok(output.finished)
+}
+
+/// Reads all lines to what they plan.
+fn read_plan<R: Read>(alloc: Global, reader: &mut R) -> Result<Planned, ServeFault>
+    ensures ok { IfOk result (λ planned. IfSome (R.remaining reader.old) (λ bytes. IsRead bytes (planned_of planned))) }
+    ensures err { IfErr result (λ fault. Unread fault (R.remaining reader.old) (R.remaining reader.new)) }
+{
+    let mut planner = Planner::new(alloc);
+    match answer_lines(alloc, &mut planner, reader, &mut Unwritten) {
+        Ok(()) => Ok(planner.into_planned()),
+        // Nothing is written, so no write fails.
+        Err(ServeFault::Write) => Err(ServeFault::Read),
+        Err(fault) => Err(fault),
+    }
+}
+
+/// The output of what is planned: V3, V6.
+fn carry_out<H: Threads + Wait + Sync, G: Gate>(
+    rt: &H,
+    alloc: Global,
+    planned: Planned,
+    turns: u32,
+    gate: &G,
+) -> Result<Output, ServeFault>
+    ensures ok { IfOk result (λ output. IsOutput (planned_of planned) output.text.items output.finished) }
+    ensures err { IfErr result (λ fault. (fault ≡ ServeFault.Memory) ⊎ (fault ≡ ServeFault.Start)) }
+{
+    match planned {
+        Planned::Nothing => {
+            let mut text = Vec::new(alloc);
+            append(
+                alloc,
+                &mut text,
+                &Refused {
+                    code: OpenFault::NotOpen.code(),
+                },
+            )?;
+            refusal(text)
+        }
+        Planned::Refused(text) => refusal(text),
+        Planned::Plan(draft) => run(rt, alloc, draft.into_plan(), turns, gate),
+    }
+}
+
+/// The output of a refusal.
+fn refusal(text: Vec<u8>) -> Result<Output, ServeFault>
+    ensures text { IfOk result (λ output. output.text.items ≡ text.items ++ 10 ∷ []) }
+    ensures unfinished { IfOk result (λ output. output.finished ≡ false) }
+    ensures err { IfErr result (λ fault. fault ≡ ServeFault.Memory) }
+{
+    let mut text = text;
+    text.push(b'\n')?;
+    Ok(Output {
+        text,
+        finished: false,
+    })
+}
+
+/// The output of a plan: V3, V6.
+fn run<H: Threads + Wait + Sync, G: Gate>(
+    rt: &H,
+    alloc: Global,
+    plan: Plan,
+    turns: u32,
+    gate: &G,
+) -> Result<Output, ServeFault>
+    requires sound { IsSound plan }
+    ensures ok { IfOk result (λ output. IsReported (parts_of plan) output.text.items output.finished) }
+    ensures err { IfErr result (λ fault. (fault ≡ ServeFault.Memory) ⊎ (fault ≡ ServeFault.Start)) }
+{
+    match run_workers(rt, alloc, plan, turns, gate) {
+        Ok(outcome) => reported(alloc, &outcome, true),
+        Err(WorkFault::Unfinished(outcome)) => reported(alloc, &outcome, false),
+        Err(WorkFault::Memory(_)) => Err(ServeFault::Memory),
+        Err(WorkFault::Start) => Err(ServeFault::Start),
+        Err(WorkFault::Plan) => unreachable!(),
+    }
+}
+
+/// The report of an outcome, and whether it is complete.
+fn reported(alloc: Global, outcome: &Outcome, finished: bool) -> Result<Output, ServeFault>
+    ensures text { IfOk result (λ output. output.text.items ≡ report_text outcome.now ++ end_line finished) }
+    ensures finished { IfOk result (λ output. output.finished ≡ finished) }
+    ensures err { IfErr result (λ fault. fault ≡ ServeFault.Memory) }
+{
+    let mut text = report(alloc, outcome)?;
+    if finished {
+        text.push_str("finished\n")?;
+    } else {
+        text.push_str("unfinished\n")?;
+    }
+    Ok(Output {
+        text: text.into_bytes(),
+        finished,
+    })
+}

@@ -1,0 +1,51 @@
+-- Lengths decide what is carried out.
+use Rattle.std.proofs.Common.{◌≡◌, ◌<◌, ◌+◌, ℕ, Bool, true, false, List, [], ◌∷◌, ◌++◌, length, get_or, take, cond, eqb, sym, ap, ◌∙◌, arith, append-nil, length-append}
+use mathlib.Core.List.{IsPrefix}
+use Rattle.mv_hub.specs.Record.{routed_from}
+use Rattle.mv_hub.specs.Links.{link_items}
+use Rattle.mv_repository.specs.declared.entry.LogEntry.{LogEntry}
+use Rattle.mv_repository.specs.Log.{items_from}
+use Rattle.mv_party.proofs.SiteLemmas.{items_from-push}
+use Rattle.mv_machine.specs.State.{State, submissions_of, log_of}
+use Rattle.mv_machine.specs.Lawful.{IsLawful}
+use Rattle.mv_workers.specs.Done.{IsRouted}
+use Rattle.mv_workers.proofs.WorkLemmas.{one_more}
+
+-- a front that is as long as the whole is the whole
+pub front-whole : {A : Type 0} (front whole : List A) → IsPrefix front whole → length front ≡ length whole → front ≡ whole
+front-whole {A = A} front whole prefix same = by prefix.0 (omega (arith, same, length-append front prefix.0, ap length prefix.1)) prefix.1
+  where
+    by : (rest : List A) → length rest ≡ 0 → front ++ rest ≡ whole → front ≡ whole
+    by [] none e = sym (append-nil front) ∙ e
+    by (x ∷ rest) none e = absurd (omega (arith, none))
+
+-- where as many messages of a party were routed as it submitted, all were
+pub routed_by_count : (outcome : State) (party count : ℕ) → IsLawful outcome → party < length outcome.parties → count ≡ length (routed_from outcome.entries party)
+    → count ≡ length (submissions_of outcome party) → IsRouted outcome party
+routed_by_count outcome party count lawful below routed submitted =
+    front-whole (routed_from outcome.entries party) (submissions_of outcome party) (lawful.of_link party party below below).routed (sym routed ∙ submitted)
+
+-- where a repository applied as many items of a party as are on the link, it applied all
+pub applied_by_count : (outcome : State) (from to applied total : ℕ) → IsLawful outcome → from < length outcome.parties → to < length outcome.parties
+    → applied ≡ length (items_from (log_of outcome to) from) → total ≡ length (link_items outcome.parties outcome.entries from to) → applied ≡ total
+    → items_from (log_of outcome to) from ≡ link_items outcome.parties outcome.entries from to
+applied_by_count outcome from to applied total lawful from_below to_below is put same =
+    front-whole (items_from (log_of outcome to) from) (link_items outcome.parties outcome.entries from to) (lawful.of_link from to from_below to_below).applied
+    (sym is ∙ same ∙ put)
+
+-- one more entry of a log is of a party or not
+pub count_entry : (log : List LogEntry) (place : ℕ) (entry : LogEntry) (party : ℕ) → place < length log → entry ≡ get_or log place entry → eqb entry.sender party ≡ true
+    → length (items_from (take (place + 1) log) party) ≡ length (items_from (take place log) party) + 1
+count_entry log place entry party below here own =
+    ap (λ l. length (items_from l party)) (one_more log place entry below here)
+    ∙ ap length (items_from-push (take place log) entry party)
+    ∙ ap (λ (b : Bool). length (items_from (take place log) party ++ cond b (entry.item ∷ []) [])) own
+    ∙ length-append (items_from (take place log) party) (entry.item ∷ [])
+
+pub count_other : (log : List LogEntry) (place : ℕ) (entry : LogEntry) (party : ℕ) → place < length log → entry ≡ get_or log place entry → eqb entry.sender party ≡ false
+    → length (items_from (take (place + 1) log) party) ≡ length (items_from (take place log) party)
+count_other log place entry party below here other =
+    ap (λ l. length (items_from l party)) (one_more log place entry below here)
+    ∙ ap length (items_from-push (take place log) entry party)
+    ∙ ap (λ (b : Bool). length (items_from (take place log) party ++ cond b (entry.item ∷ []) [])) other
+    ∙ ap length (append-nil (items_from (take place log) party))

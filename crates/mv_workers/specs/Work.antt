@@ -1,0 +1,34 @@
+-- What parties are to submit.
+use Rattle.std.specs.Prelude.{◌≡◌, ◌<◌, ℕ, Bool, true, false, List, [], ◌∷◌, length, map, take, slice_index_or}
+use Rattle.std.specs.declared.alloc.Global.{Global}
+use Rattle.std.specs.declared.vec.Vec.{Vec}
+use Rattle.mv_message.specs.declared.message.Message.{Message}
+use Rattle.mv_message.specs.declared.message.Message.TheVariants.{Answer}
+use Rattle.mv_party.specs.Site.{answers_in}
+
+-- what each party is to submit, party 0 first
+abbrev pub Work : Type 0
+Work = List (Vec Message Global)
+
+-- what one party is to submit, in order
+abbrev pub list_at : Work → ℕ → List Message
+list_at work party = slice_index_or (map (λ (list : Vec Message Global). list.items) work) party []
+
+-- what a party submits of its own: all but the answers to queries
+abbrev pub own_among : List Message → List Message
+own_among [] = []
+own_among (Answer asker q key found ∷ messages) = own_among messages
+own_among (message ∷ messages) = message ∷ own_among messages
+
+-- a message is the answer to a query
+abbrev pub is_answer : Message → Bool
+is_answer (Answer asker q key found) = true
+is_answer message = false
+
+-- no answer is among what parties are to submit
+abbrev pub PlansNoAnswer : Work → Type 0
+PlansNoAnswer work = (party : ℕ) → party < length work → answers_in (list_at work party) ≡ []
+
+-- a list is where another begins
+abbrev pub Begins : List Message → List Message → Type 0
+Begins front list = front ≡ take (length front) list

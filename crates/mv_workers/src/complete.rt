@@ -1,0 +1,99 @@
+//! Compares an outcome with what was to be carried out.
+//!
+//! An outcome is lawful, so what was routed of a party is where its submissions begin, and what a repository applied of a party is
+//! where its link begins. So lengths decide.
+
+ghost use Rattle.std.specs.Prelude.{◌≡◌, ◌↔◌, length, IsTrue};
+ghost use Rattle.mv_repository.specs.Log.{items_from};
+ghost use Rattle.mv_machine.specs.State.{is_party, submissions_of};
+ghost use Rattle.mv_workers.specs.Work.{own_among, is_answer, Begins};
+ghost use Rattle.mv_workers.specs.Done.{IsRouted, HasApplied, IsDone, AreDone, HaveBegun};
+
+use mv_ends::Outcome;
+use mv_message::{Message, Party, Shared};
+use mv_repository::LogEntry;
+
+/// Whether a message is the answer to a query.
+fn is_answer(message: &Message) -> bool
+    ensures { result ≡ is_answer message.now }
+{
+    matches!(message, Message::Answer { .. })
+}
+
+/// How many of these messages are no answers.
+pub(crate) fn own_count(messages: &[Shared<Message>]) -> usize
+    ensures { result ≡ length (own_among messages.now) }
+{
+    let mut count = 0;
+    for place in 0..messages.len() {
+        if !is_answer(messages[place].get()) {
+            count += 1;
+        }
+    }
+    count
+}
+
+/// How many entries of a log came from a party.
+fn entries_from(log: &[LogEntry], party: Party) -> usize
+    ensures { result ≡ length (items_from log.now party) }
+{
+    let mut count = 0;
+    for place in 0..log.len() {
+        if log[place].sender == party {
+            count += 1;
+        }
+    }
+    count
+}
+
+/// Whether a repository applied all that was routed to it.
+fn has_applied(outcome: &Outcome, party: Party) -> bool
+    requires { IsTrue (is_party outcome.now party) }
+    ensures { IsTrue result ↔ HasApplied outcome.now party }
+{
+    // The outcome is lawful: its record is looked at for that alone.
+    let _ = outcome.record();
+    let log = outcome.log(party);
+    let hub = outcome.hub();
+    for from in 0..outcome.parties().len() {
+        if entries_from(log, from) != hub.total(from, party) as usize {
+            return false;
+        }
+    }
+    true
+}
+
+/// Whether all that a party submitted was routed.
+fn is_routed(outcome: &Outcome, party: Party) -> bool
+    requires { IsTrue (is_party outcome.now party) }
+    ensures { IsTrue result ↔ IsRouted outcome.now party }
+{
+    // The outcome is lawful: its record is looked at for that alone.
+    let _ = outcome.record();
+    outcome.hub().routed_count(party) as usize == outcome.sub(party).len()
+}
+
+/// Whether a party is done with its list.
+fn is_done(outcome: &Outcome, party: Party, list: &[Shared<Message>]) -> bool
+    requires party { IsTrue (is_party outcome.now party) }
+    requires begun { Begins (own_among (submissions_of outcome.now party)) list.now }
+    ensures { IsTrue result ↔ IsDone outcome.now party list.now }
+{
+    own_count(outcome.sub(party)) == list.len()
+        && is_routed(outcome, party)
+        && has_applied(outcome, party)
+}
+
+/// Whether each party is done with its list.
+pub(crate) fn is_complete(outcome: &Outcome, work: &[Vec<Shared<Message>>]) -> bool
+    requires each { length work.now ≡ length outcome.now.parties }
+    requires begun { HaveBegun outcome.now work.now }
+    ensures { IsTrue result ↔ AreDone outcome.now work.now }
+{
+    for party in 0..outcome.parties().len() {
+        if !is_done(outcome, party, work[party as usize].as_slice()) {
+            return false;
+        }
+    }
+    true
+}

@@ -1,0 +1,149 @@
+//! Starts a worker for each end, and takes the ends back.
+
+ghost use Rattle.std.specs.Prelude.{◌≡◌, ◌≤◌, length, vec_len, vec_capacity, IfSome};
+ghost use Rattle.mv_ends.specs.HubEnd.{SameHubEnd};
+ghost use Rattle.mv_ends.specs.RepoEnd.{SameRepoEnd};
+ghost use Rattle.mv_ends.specs.Laws.{AreSameRepos};
+ghost use Rattle.mv_workers.specs.Work.{Begins};
+ghost use Rattle.mv_workers.specs.Turns.{own_of, IsUnused};
+ghost use Rattle.mv_workers.specs.Crews.{AllUnused, AllBegin, AllPromised, AllKept};
+
+use crate::course::Course;
+use crate::gate::Gate;
+use crate::turns::{hub_turns, repo_turns};
+use mv_ends::{HubEnd, RepoEnd};
+use mv_message::{Message, Shared};
+use std::alloc::Global;
+use std::marker::Sync;
+use std::snapshot::Snapshot;
+use std::sync::Wait;
+use std::thread::{Promise, PromisedHandle, Scope, Threads};
+
+/// What a repository's worker gives back: that end, at which its party's list was begun. The flag says whether it ended for want
+/// of memory.
+#[derive(Drop)]
+pub(crate) struct RepoPromise<'a> {
+    was: Snapshot<RepoEnd>,
+    list: &'a [Shared<Message>],
+}
+
+impl<'a> Promise<(RepoEnd, bool)> for RepoPromise<'a> {
+    ghost kept_by = { λ p r. SameRepoEnd p.was.value r.0 × Begins (own_of r.0) p.list.now };
+}
+
+/// What the hub's worker gives back: that end, and whether it ended for want of memory.
+#[derive(Drop)]
+pub(crate) struct HubPromise(Snapshot<HubEnd>);
+
+impl Promise<(HubEnd, bool)> for HubPromise {
+    ghost kept_by = { λ p r. SameHubEnd p.0.value r.0 };
+}
+
+/// The ends behind the turns of all workers, and whether one ended for want of memory.
+#[derive(Drop)]
+pub(crate) struct CrewEnds {
+    pub hub: HubEnd,
+    pub repos: Vec<RepoEnd>,
+    pub short: bool,
+}
+
+/// Starts a worker for each repository. None where one can't be started.
+fn start_repos<'s, E, R: Wait + Sync, G: Gate>(
+    scope: &Scope<'s, E>,
+    rt: &'s R,
+    alloc: Global,
+    repos: Vec<RepoEnd>,
+    work: &'s [Vec<Shared<Message>>],
+    gate: &'s G,
+    course: &'s Course,
+) -> Option<Vec<PromisedHandle<(RepoEnd, bool), RepoPromise<'s>>>>
+    requires each { vec_len repos ≡ length work.now }
+    requires unused { AllUnused repos.items }
+    ensures { IfSome result (λ handles. AllPromised repos.items work.entry.now handles.items) }
+{
+    let mut handles = Vec::new(alloc);
+    if handles.reserve(repos.len()).is_err() {
+        return None;
+    }
+    let mut place = 0;
+    for end in repos {
+        let list = work[place].as_slice();
+        let promise = RepoPromise {
+            was: Snapshot::of(&end),
+            list,
+        };
+        let worker = move || -> (RepoEnd, bool)
+            requires { IsUnused end }
+            ensures { SameRepoEnd end result.0 × Begins (own_of result.0) list.entry.now }
+        { repo_turns(rt, end, list, gate, course) };
+        let Ok(handle) = scope.spawn_with(promise, worker) else {
+            return None;
+        };
+        handles.push_reserved(handle);
+        place += 1;
+    }
+    Some(handles)
+}
+
+/// Joins the repositories' workers, in order. The flag says whether one ended for want of memory.
+fn join_repos<'s, R: Threads>(
+    rt: &R,
+    handles: Vec<PromisedHandle<(RepoEnd, bool), RepoPromise<'s>>>,
+    into: Vec<RepoEnd>,
+) -> (Vec<RepoEnd>, bool)
+    requires empty { vec_len into ≡ 0 }
+    requires room { vec_len handles ≤ vec_capacity into }
+    ensures { AllKept handles.entry.items result.0.items }
+{
+    let mut into = into;
+    let mut short = false;
+    for handle in handles {
+        let (end, ended) = handle.join(rt);
+        into.push_reserved(end);
+        short |= ended;
+    }
+    (into, short)
+}
+
+/// Runs a worker for the hub and one for each repository. None where one can't be started: the others end before their first
+/// turn. All room is got before the first starts.
+pub(crate) fn work_in<'s, E, R: Threads + Wait + Sync, G: Gate>(
+    scope: &Scope<'s, E>,
+    rt: &'s R,
+    alloc: Global,
+    hub: HubEnd,
+    repos: Vec<RepoEnd>,
+    work: &'s [Vec<Shared<Message>>],
+    gate: &'s G,
+    course: &'s Course,
+) -> Option<CrewEnds>
+    requires each { vec_len repos ≡ length work.now }
+    requires unused { AllUnused repos.items }
+    ensures { IfSome result (λ ends. SameHubEnd hub ends.hub × AreSameRepos repos.items ends.repos.items
+        × AllBegin work.entry.now ends.repos.items) }
+{
+    let mut back = Vec::new(alloc);
+    if back.reserve(repos.len()).is_err() {
+        return None;
+    }
+    let Some(handles) = start_repos(scope, rt, alloc, repos, work, gate, course) else {
+        course.start.end(rt);
+        return None;
+    };
+    let promise = HubPromise(Snapshot::of(&hub));
+    let worker = move || -> (HubEnd, bool)
+        ensures { SameHubEnd hub result.0 }
+    { hub_turns(rt, hub, course) };
+    let Ok(handle) = scope.spawn_with(promise, worker) else {
+        course.start.end(rt);
+        return None;
+    };
+    course.start.go(rt);
+    let (hub, ended) = handle.join(rt);
+    let (repos, short) = join_repos(rt, handles, back);
+    Some(CrewEnds {
+        hub,
+        repos,
+        short: short | ended,
+    })
+}

@@ -1,0 +1,92 @@
+//! A run by a plan.
+
+ghost use Rattle.std.specs.Prelude.{◌≡◌, ◌↔◌, length, vec_len, IfOk, IfErr, IfSome, IsTrue};
+ghost use Rattle.mv_ends.specs.HubEnd.{SameHubEnd};
+ghost use Rattle.mv_ends.specs.Laws.{AreSameRepos};
+ghost use Rattle.mv_workers.specs.Work.{PlansNoAnswer};
+ghost use Rattle.mv_workers.specs.Crews.{AllUnused, AllBegin};
+ghost use Rattle.mv_workers.specs.Plans.{IsSound, KeepsPlan, IsComplete, Faults};
+
+use crate::complete::{is_complete, own_count};
+use crate::course::Course;
+use crate::crew::{CrewEnds, work_in};
+use crate::gate::Gate;
+use crate::plan::{Plan, WorkFault};
+use mv_ends::{Outcome, gather, open};
+use mv_message::{Message, Shared};
+use std::alloc::Global;
+use std::marker::Sync;
+use std::sync::Wait;
+use std::thread;
+use std::thread::Threads;
+
+/// Whether no answer is among what parties are to submit.
+fn plans_no_answer(work: &[Vec<Shared<Message>>]) -> bool
+    ensures { IsTrue result ↔ PlansNoAnswer work.now }
+{
+    for party in 0..work.len() {
+        let list = work[party].as_slice();
+        if own_count(list) != list.len() {
+            return false;
+        }
+    }
+    true
+}
+
+/// Whether a plan can be run: it has a list for each party, and no answer is planned.
+fn is_sound(plan: &Plan) -> bool
+    ensures { IsTrue result ↔ IsSound plan.now }
+{
+    plan.work.len() == plan.parties.len() as usize && plans_no_answer(plan.work.as_slice())
+}
+
+/// Runs one worker for the hub and one for each repository, each of which takes so many turns at most, and gathers their ends.
+///
+/// In a turn the hub's worker routes once from each party and then relays once on each link; a repository's worker tries the next
+/// message of its party's list once, a query by asking it, and then passes the gate and looks for a frame once for each party. All
+/// take their first turn once all have started. A worker ends when memory is refused to it, and when nothing more can come in the
+/// whole run; one that can do nothing waits the longer the longer it can't.
+///
+/// No contract says that a run finishes, nor that workers run at once.
+pub fn run_workers<R: Threads + Wait + Sync, G: Gate>(
+    rt: &R,
+    alloc: Global,
+    plan: Plan,
+    turns: u32,
+    gate: &G,
+) -> Result<Outcome, WorkFault>
+    ensures complete { IfOk result (λ outcome. IsSound plan × KeepsPlan plan outcome × IsComplete plan outcome) }
+    ensures fault { IfErr result (λ fault. Faults plan fault) }
+{
+    if !is_sound(&plan) {
+        return Err(WorkFault::Plan);
+    }
+    let Ok(course) = Course::new(alloc, plan.parties.len(), turns) else {
+        return Err(WorkFault::Start);
+    };
+    let Ok((hub, repos)) = open(alloc, plan.parties, plan.limits) else {
+        return Err(WorkFault::Start);
+    };
+    let shared = &course;
+    let work = plan.work.as_slice();
+    let ends = thread::scope(
+        thread::scope_env(),
+        rt,
+        |scope| -> Option<CrewEnds>
+            requires { (vec_len repos ≡ length work.now) × AllUnused repos.items }
+            ensures { IfSome result (λ ends. SameHubEnd hub ends.hub × AreSameRepos repos.items ends.repos.items
+                × AllBegin work.entry.now ends.repos.items) }
+        { work_in(scope, rt, alloc, hub, repos, work, gate, shared) },
+    );
+    let Some(CrewEnds { hub, repos, short }) = ends else {
+        return Err(WorkFault::Start);
+    };
+    let outcome = gather(hub, repos);
+    if is_complete(&outcome, work) {
+        Ok(outcome)
+    } else if short {
+        Err(WorkFault::Memory(outcome))
+    } else {
+        Err(WorkFault::Unfinished(outcome))
+    }
+}

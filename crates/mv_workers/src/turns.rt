@@ -1,0 +1,186 @@
+//! The turns of each worker.
+
+ghost use Rattle.std.specs.Prelude.{◌≡◌};
+ghost use Rattle.mv_ends.specs.HubEnd.{SameHubEnd};
+ghost use Rattle.mv_ends.specs.RepoEnd.{SameRepoEnd};
+ghost use Rattle.mv_workers.specs.Work.{Begins};
+ghost use Rattle.mv_workers.specs.Turns.{own_of, IsUnused, HasSubmitted, Tries};
+
+use crate::course::Course;
+use crate::gate::Gate;
+use crate::pause::Pause;
+use mv_ends::{HubEnd, RepoEnd};
+use mv_machine::{Refusal, Reply};
+use mv_message::{Message, Party, Shared};
+use std::alloc::AllocError;
+use std::sync::Wait;
+
+/// Whether a call did something, by its reply. Refused where memory was refused to the call.
+fn is_done(reply: &Reply) -> Result<bool, AllocError> {
+    match reply {
+        Reply::Refused(Refusal::Memory) => Err(AllocError),
+        Reply::Refused(_) => Ok(false),
+        _ => Ok(true),
+    }
+}
+
+/// Tries the next message of a list once, of which so many were submitted: a query is asked. Answers how many were submitted
+/// then, and what the try came to.
+#[tactic(auto, using(mv_ends::proofs::LookLemmas::repo_further, mv_ends::proofs::LookLemmas::repo_itself, crate::proofs::TurnLemmas::more_submitted, crate::proofs::TurnLemmas::more_asked))]
+fn submit_next(
+    end: &mut RepoEnd,
+    list: &[Shared<Message>],
+    count: usize,
+) -> (usize, Result<bool, AllocError>)
+    requires { HasSubmitted end.old count list.now }
+    ensures same { SameRepoEnd end.old end.new }
+    ensures submitted { HasSubmitted end.new result.0 list.now }
+{
+    if count >= list.len() {
+        return (count, Ok(false));
+    }
+    let reply = submit_one(end, &list[count]);
+    match &reply {
+        Reply::Submitted { .. } | Reply::Asked { .. } => (count + 1, Ok(true)),
+        refused => (count, is_done(refused)),
+    }
+}
+
+/// Tries to submit a message once: a query is asked.
+fn submit_one(end: &mut RepoEnd, message: &Shared<Message>) -> Reply
+    ensures same { SameRepoEnd end.old end.new }
+    ensures reply { Tries message.now end.old end.new result }
+{
+    match message.get() {
+        Message::Query { key } => end.ask(key),
+        _ => end.submit(message),
+    }
+}
+
+/// Passes the gate and looks for a frame, once for each party.
+#[tactic(auto, using(mv_ends::proofs::LookLemmas::repo_further, mv_ends::proofs::LookLemmas::repo_itself, crate::proofs::TurnLemmas::own_applied))]
+fn apply_each<G: Gate>(end: &mut RepoEnd, parties: u32, gate: &G) -> Result<bool, AllocError>
+    ensures same { SameRepoEnd end.old end.new }
+    ensures own { own_of end.new ≡ own_of end.old }
+{
+    let party = end.party();
+    let mut done = false;
+    for from in 0..parties {
+        gate.pass(party);
+        done |= is_done(&end.apply(from))?;
+    }
+    Ok(done)
+}
+
+/// A turn of a repository's worker: it tries its next message once, and then looks once for a frame from each party.
+#[tactic(auto, using(mv_ends::proofs::LookLemmas::repo_further, mv_ends::proofs::LookLemmas::repo_itself))]
+fn repo_turn<G: Gate>(
+    end: &mut RepoEnd,
+    list: &[Shared<Message>],
+    count: usize,
+    parties: u32,
+    gate: &G,
+) -> (usize, Result<bool, AllocError>)
+    requires { HasSubmitted end.old count list.now }
+    ensures same { SameRepoEnd end.old end.new }
+    ensures submitted { HasSubmitted end.new result.0 list.now }
+{
+    let (count, submitted) = submit_next(end, list, count);
+    let Ok(submitted) = submitted else {
+        return (count, Err(AllocError));
+    };
+    match apply_each(end, parties, gate) {
+        Ok(applied) => (count, Ok(submitted || applied)),
+        Err(error) => (count, Err(error)),
+    }
+}
+
+/// The turns of a repository's worker. The flag says whether it ended for want of memory.
+#[tactic(auto, using(mv_ends::proofs::LookLemmas::repo_further, mv_ends::proofs::LookLemmas::repo_itself, crate::proofs::WorkLemmas::take_begins))]
+pub(crate) fn repo_turns<R: Wait, G: Gate>(
+    rt: &R,
+    end: RepoEnd,
+    list: &[Shared<Message>],
+    gate: &G,
+    course: &Course,
+) -> (RepoEnd, bool)
+    requires { IsUnused end }
+    ensures same { SameRepoEnd end result.0 }
+    ensures begins { Begins (own_of result.0) list.now }
+{
+    let mut end = end;
+    let mut count = 0;
+    if !course.start.wait(rt) {
+        return (end, false);
+    }
+    let worker = end.party();
+    let mut pause = Pause::new();
+    for _turn in 0..course.turns {
+        let moves = course.standstill.moves();
+        let (after, done) = repo_turn(&mut end, list, count, course.parties, gate);
+        count = after;
+        if !course.ends_turn(rt, worker, moves, &done, &mut pause) {
+            return (end, done.is_err());
+        }
+    }
+    course.standstill.gone(worker);
+    (end, false)
+}
+
+/// Routes once from each party.
+#[tactic(auto, using(mv_ends::proofs::LookLemmas::hub_further, mv_ends::proofs::LookLemmas::hub_itself))]
+fn route_each(hub: &mut HubEnd, parties: u32) -> Result<bool, AllocError>
+    ensures { SameHubEnd hub.old hub.new }
+{
+    let mut done = false;
+    for from in 0..parties {
+        done |= is_done(&hub.route(from))?;
+    }
+    Ok(done)
+}
+
+/// Relays once on each link from a party.
+#[tactic(auto, using(mv_ends::proofs::LookLemmas::hub_further, mv_ends::proofs::LookLemmas::hub_itself))]
+fn relay_from(hub: &mut HubEnd, from: Party, parties: u32) -> Result<bool, AllocError>
+    ensures { SameHubEnd hub.old hub.new }
+{
+    let mut done = false;
+    for to in 0..parties {
+        done |= is_done(&hub.relay(from, to))?;
+    }
+    Ok(done)
+}
+
+/// A turn of the hub's worker: it routes once from each party, and then relays once on each link.
+#[tactic(auto, using(mv_ends::proofs::LookLemmas::hub_further, mv_ends::proofs::LookLemmas::hub_itself))]
+fn hub_turn(hub: &mut HubEnd, parties: u32) -> Result<bool, AllocError>
+    ensures { SameHubEnd hub.old hub.new }
+{
+    let mut done = route_each(hub, parties)?;
+    for from in 0..parties {
+        done |= relay_from(hub, from, parties)?;
+    }
+    Ok(done)
+}
+
+/// The turns of the hub's worker. The flag says whether it ended for want of memory.
+#[tactic(auto, using(mv_ends::proofs::LookLemmas::hub_further, mv_ends::proofs::LookLemmas::hub_itself))]
+pub(crate) fn hub_turns<R: Wait>(rt: &R, hub: HubEnd, course: &Course) -> (HubEnd, bool)
+    ensures { SameHubEnd hub result.0 }
+{
+    let mut hub = hub;
+    if !course.start.wait(rt) {
+        return (hub, false);
+    }
+    let worker = course.parties;
+    let mut pause = Pause::new();
+    for _turn in 0..course.turns {
+        let moves = course.standstill.moves();
+        let done = hub_turn(&mut hub, course.parties);
+        if !course.ends_turn(rt, worker, moves, &done, &mut pause) {
+            return (hub, done.is_err());
+        }
+    }
+    course.standstill.gone(worker);
+    (hub, false)
+}

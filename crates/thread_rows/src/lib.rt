@@ -1,0 +1,17 @@
+//! The ends of a system, opened, called and gathered, on one thread and with each call of a repository's end in a thread of its own; and
+//! plans that are run in threads.
+//!
+//! Nothing stands on this crate. To drop an end, or an outcome, is dear to prove: so none is let go on the way, and each row says by
+//! a truth value how it went.
+#![tactic(auto)]
+
+#[cfg(test)]
+mod ends;
+#[cfg(test)]
+mod hands;
+#[cfg(test)]
+mod plans;
+#[cfg(test)]
+mod rows;
+#[cfg(test)]
+mod threes;

@@ -1,0 +1,207 @@
+//! A pack is asked for abroad, over a link that is closed meanwhile; and calls that are refused.
+
+use crate::ends::Ends;
+use crate::hands::{Apart, Hand, Here};
+use mv_ends::{HubEnd, Outcome, RepoEnd, open};
+use mv_hub::{Entry, Parties};
+use mv_machine::{Limits, Refusal, Reply, Step};
+use mv_message::{Message, Party, Shared};
+use mv_pack::{Gtin, Market, PackKey, Serial};
+use mv_repository::{Effect, Joint};
+use std::alloc::Global;
+
+/// The master of a product for Finland.
+const FINNISH: &str =
+    "{\"common\":\"paracetamol\",\"form\":\"tablet\",\"gtin\":\"09506000134352\",\"markets\":[\"FI\"],\"msg\":\"master\",\"name\":\"Examplin\",\"pack_size\":\"30\",\"pack_type\":\"blister\",\"scheme\":\"GTIN\",\"strength\":\"500 mg\"}";
+
+/// The markets of three parties: the first serves none, the others Finland and Sweden.
+fn markets(alloc: Global) -> Option<Parties> {
+    let finland = Market::read("FI").ok()?;
+    let sweden = Market::read("SE").ok()?;
+    let mut lists = Vec::with_capacity(alloc, 3).ok()?;
+    lists.push_reserved(Vec::new(alloc));
+    lists.push_reserved(vec![in alloc; finland].ok()?);
+    lists.push_reserved(vec![in alloc; sweden].ok()?);
+    Parties::new(alloc, lists).ok()
+}
+
+/// The ends that are opened.
+fn opened(alloc: Global) -> Option<Ends> {
+    let limits = Limits::of(256, 64, 64, 1_000_000).ok()?;
+    Ends::open(alloc, markets(alloc)?, limits)
+}
+
+/// The pack that is asked for.
+fn pack() -> Option<PackKey> {
+    Some(PackKey {
+        gtin: Gtin::read("09506000134352").ok()?,
+        serial: Serial::read("S1").ok()?,
+    })
+}
+
+/// The master, as a message.
+fn master(alloc: Global) -> Option<Shared<Message>> {
+    Shared::new(alloc, mv_json::read(alloc, FINNISH.as_bytes()).ok()?).ok()
+}
+
+/// Whether a reply says that the first message of a party was routed to this party alone.
+fn is_routed_to(reply: &Reply, party: Party) -> bool {
+    match reply {
+        Reply::Routed { k, reach } => *k == 1 && reach.as_slice() == [party].as_slice(),
+        _ => false,
+    }
+}
+
+/// Whether the hub routes the first message of a party to another alone.
+fn is_routed(ends: &mut Ends, from: Party, to: Party) -> bool {
+    is_routed_to(&ends.route(from), to)
+}
+
+/// Whether the hub relays the first frame of a link.
+fn is_relayed(ends: &mut Ends, from: Party, to: Party) -> bool {
+    ends.relay(from, to) == Reply::Relayed { number: 1 }
+}
+
+/// Whether the hub closes a link, once.
+fn is_closed(ends: &mut Ends, from: Party, to: Party) -> bool {
+    ends.close(from, to) == Reply::Closed
+        && ends.close(from, to) == Reply::Refused(Refusal::AlreadyClosed)
+}
+
+/// Finland takes a frame from a party; whether this is its reply.
+fn applied<H: Hand>(ends: Ends, hand: &H, from: Party, reply: &Reply) -> (Ends, bool) {
+    let (ends, given) = ends.at_finland(hand, Step::Apply { from, to: 1 });
+    (ends, given == *reply)
+}
+
+/// The maker submits the master, and the hub sends it to Finland, twice.
+fn launched<H: Hand>(ends: Ends, hand: &H, message: Shared<Message>) -> (Ends, bool) {
+    let done = Reply::Applied {
+        number: 1,
+        effect: Effect::Done,
+        answer: None,
+    };
+    let (mut ends, reply) = ends.at_maker(hand, Step::Submit { from: 0, message });
+    let sent = is_routed(&mut ends, 0, 1) && is_relayed(&mut ends, 0, 1);
+    let (mut ends, first) = applied(ends, hand, 0, &done);
+    let again = ends.repeat(0, 1, 1) == Reply::Repeated { number: 1 };
+    let (ends, second) = applied(ends, hand, 0, &Reply::Old { number: 1 });
+    let submitted = reply == Reply::Submitted { k: 1 };
+    (ends, submitted && sent && first && again && second)
+}
+
+/// Sweden asks for the pack, the link from the maker to Finland is closed, and Finland answers.
+fn answered<H: Hand>(ends: Ends, hand: &H, key: PackKey) -> (Ends, bool) {
+    let noted = Reply::Applied {
+        number: 1,
+        effect: Effect::Noted,
+        answer: Some(1),
+    };
+    let (mut ends, reply) = ends.at_sweden(hand, Step::Verify { party: 2, key });
+    let closed = is_closed(&mut ends, 0, 1);
+    let sent = is_routed(&mut ends, 2, 1) && is_relayed(&mut ends, 2, 1);
+    let (mut ends, applied) = applied(ends, hand, 2, &noted);
+    let back = is_routed(&mut ends, 1, 2);
+    let asked = reply == Reply::Asked { q: 1 };
+    (ends, asked && closed && sent && applied && back)
+}
+
+/// Whether an entry says that the first message of a party was routed.
+fn is_entry(entry: Option<&Entry>, party: Party) -> bool {
+    match entry {
+        Some(Entry::Routed { from, k, .. }) => *from == party && *k == 1,
+        _ => false,
+    }
+}
+
+/// Whether the record has the three messages, and the closing between the first and the others.
+fn is_recorded(outcome: &Outcome) -> bool {
+    let record = outcome.record();
+    record.len() == 4
+        && is_entry(record.get(0), 0)
+        && record.get(1) == Some(&Entry::Closed { from: 0, to: 1 })
+        && is_entry(record.get(2), 2)
+        && is_entry(record.get(3), 1)
+}
+
+/// Whether the outcome shows what each party submitted and applied.
+fn is_shown(outcome: &Outcome) -> bool {
+    outcome.parties().len() == 3
+        && outcome.is_party(2)
+        && !outcome.is_party(3)
+        && outcome.sub(0).len() == 1
+        && outcome.sub(1).len() == 1
+        && outcome.sub(2).len() == 1
+        && outcome.log(0).is_empty()
+        && outcome.log(1).len() == 2
+        && outcome.repository(1).party() == 1
+        && outcome.hub().routed_count(2) == 1
+}
+
+/// The ends behind all of it, by such a hand, and whether it went so.
+fn carried<H: Hand>(ends: Ends, hand: &H, message: Shared<Message>, key: PackKey) -> (Ends, bool) {
+    let (ends, first) = launched(ends, hand, message);
+    let (ends, second) = answered(ends, hand, key);
+    (ends, first && second)
+}
+
+/// What is gathered behind all of it, where it went so.
+fn gathered<H: Hand>(alloc: Global, hand: &H) -> Option<Outcome> {
+    let (message, key) = (master(alloc)?, pack()?);
+    let (ends, went) = carried(opened(alloc)?, hand, message, key);
+    let outcome = ends.gather(alloc);
+    if went { outcome } else { None }
+}
+
+/// Whether all of it goes so.
+fn is_carried<H: Hand>(alloc: Global, hand: &H) -> bool {
+    gathered(alloc, hand).is_some_and(|outcome| is_recorded(&outcome) && is_shown(&outcome))
+}
+
+#[test]
+fn carries_a_query_and_its_answer(rt: HostRuntime) {
+    assert!(rt; is_carried(rt.alloc(), &Here));
+}
+
+#[test]
+fn carries_them_with_each_call_in_a_thread(rt: HostRuntime) {
+    assert!(rt; is_carried(rt.alloc(), &Apart(&rt)));
+}
+
+/// Whether the hub refuses calls for their own reasons.
+fn does_hub_refuse(hub: &mut HubEnd) -> bool {
+    hub.route(0) == Reply::Refused(Refusal::UplinkEmpty)
+        && hub.route(3) == Reply::Refused(Refusal::Party)
+        && hub.relay(0, 1) == Reply::Refused(Refusal::Nothing)
+        && hub.repeat(0, 1, 1) == Reply::Refused(Refusal::NotSent)
+        && hub.record().is_empty()
+}
+
+/// Whether Sweden refuses frames for their own reasons, and asks for a pack.
+fn does_end_ask(end: &mut RepoEnd, key: &PackKey) -> bool {
+    end.apply(0) == Reply::Refused(Refusal::WireEmpty)
+        && end.apply(3) == Reply::Refused(Refusal::Party)
+        && end.ask(key) == Reply::Asked { q: 1 }
+        && end.party() == 2
+        && end.sub().len() == 1
+        && end.log().is_empty()
+        && end.repository().party() == 2
+        && end.verdict(1) == Reply::Joint(Joint::NotAsked)
+}
+
+/// Whether calls are refused for their own reasons, and a query is asked.
+fn are_refused(alloc: Global) -> Option<bool> {
+    let limits = Limits::of(256, 64, 64, 1_000_000).ok()?;
+    let (parties, key) = (markets(alloc)?, pack()?);
+    let Ok((mut hub, mut repos)) = open(alloc, parties, limits) else {
+        return None;
+    };
+    let refused = does_hub_refuse(&mut hub);
+    let asked = repos.get_mut(2).is_some_and(|end| does_end_ask(end, &key));
+    Some(refused && asked)
+}
+
+#[test]
+fn refuses_what_the_ends_lists_say(rt: HostRuntime) {
+    assert!(rt; are_refused(rt.alloc()) == Some(true));
+}

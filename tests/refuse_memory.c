@@ -1,10 +1,13 @@
 /* Refuses one request for memory of the program that this is loaded into: the one whose number, from 1, is in REFUSE_AT. At the
- * end it writes how many requests there were to the file that REFUSE_COUNT names, where it names one. */
+ * end it writes how many requests there were to the file that REFUSE_COUNT names, where it names one. A program that may start threads
+ * ends by _exit, which runs no destructor. */
 #define _GNU_SOURCE
 #include <dlfcn.h>
 #include <errno.h>
 #include <stdio.h>
 #include <stdlib.h>
+#include <sys/syscall.h>
+#include <unistd.h>
 
 static unsigned long requests;
 
@@ -50,4 +53,11 @@ __attribute__((destructor)) static void tell(void)
         fprintf(out, "%lu\n", count);
         fclose(out);
     }
+}
+
+void _exit(int status)
+{
+    tell();
+    for (;;)
+        syscall(SYS_exit_group, status);
 }

@@ -154,13 +154,6 @@ pub takes_after : (sender : ℕ) (message : Message) (first second third : Inlet
 takes_after sender message first second third same nothing takes from absent below =
     takes from absent (subst (λ n. from < n) (sym same.0) below) ∙ ap (λ l. l ++ cond (eqb from sender) (message ∷ []) []) (nothing from absent below)
 
--- what is put next to nothing is all that is put
-pub puts_after : (sender receiver : ℕ) (frame : Frame) (first second third : Wires) → SameWires first second → PutsNoFrame first second → PutsFrame sender receiver frame second third
-    → PutsFrame sender receiver frame first third
-puts_after sender receiver frame first second third same nothing puts from to none absent in_range below =
-    puts from to none absent (subst (λ n. to < n) (sym same.0) in_range) (subst (λ n. from < n) (sym (same.1 to none in_range).0) below)
-    ∙ ap (λ l. l ++ cond (eqb to receiver) (cond (eqb from sender) (frame ∷ []) []) []) (nothing from to none absent in_range below)
-
 -- a fault of the hub calls for its refusal
 pub refused_by : (expected : Option HubFault) (fault : HubFault) → FailsBy {A = Frame} hub_fault.Memory expected (Err fault) → IsRefusedBy expected (refusal_of fault)
 refused_by None fault e = ap refusal_of e

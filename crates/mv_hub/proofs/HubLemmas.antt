@@ -18,7 +18,8 @@ use Rattle.mv_hub.specs.declared.entry.Entry.TheVariants.{Routed, Closed}
 use Rattle.mv_hub.specs.Record.{routed_from, routed_count, is_open}
 use Rattle.mv_message.specs.declared.message.Message.TheVariants.{Master, Upload, Status, Recall, Repack, Withdraw, Query, Answer}
 use Rattle.mv_hub.specs.declared.hub.routing.Routing.{Routing}
-use Rattle.mv_hub.specs.Targets.{reach, is_reached, is_target, is_candidate, serves_product, is_query}
+use Rattle.mv_hub.specs.Targets.{reach, is_reached, is_target, serves_product, is_query}
+use Rattle.mv_hub.specs.PartySets.{is_candidate}
 use Rattle.mv_hub.specs.Links.{gained, link_items}
 use Rattle.mv_hub.specs.Hub.{HubState, new_hub, sent_of, items_on, next_items, is_busy, busy_party, busy_fault, route_fault, with_relayed}
 use Rattle.mv_hub.specs.declared.fault.RouteFault.TheVariants.{StrangerParty}

@@ -5,7 +5,8 @@ use Rattle.std.proofs.lemmas.List.{take_more, take-append-le}
 use Rattle.std.proofs.lemmas.List.Elements.{Contains-push, Contains-push_cases, Contains-append_left}
 use Rattle.indexmap.proofs.CallerLemmas.{Contains-list_any}
 use Rattle.mv_pack.specs.declared.key.BatchKey.{BatchKey}
-use Rattle.mv_hub.specs.BatchLinks.{is_same_batch, with_link, Gathers, IsChain, IsReachedFrom}
+use Rattle.mv_hub.specs.BatchLinks.{is_same_batch, IsChain, IsReachedFrom}
+use Rattle.mv_hub.specs.Tables.{with_link, Gathers}
 use Rattle.mv_hub.proofs.BatchLemmas.{batch-same}
 
 none-in : (batch : BatchKey) → Contains [] batch → ⊥

@@ -13,8 +13,10 @@ use Rattle.mv_hub.specs.declared.entry.Entry.TheVariants.{Routed}
 use Rattle.mv_hub.specs.declared.catalogue.Catalogue.{Catalogue}
 use Rattle.mv_hub.specs.Record.{is_same_gtin, product_in, last_product}
 use Rattle.mv_hub.specs.Listing.{Listing, is_same_listing, distinct}
-use Rattle.mv_hub.specs.Catalogue.{catalogue_with, catalogue_in, with_product, with_listing, listing_in, batches_of, catalogue_of}
-use Rattle.mv_hub.specs.BatchLinks.{is_same_batch, link_in, linked_in, linked_to, with_link, Gathers, IsChain, IsDescendant, IsReachedFrom}
+use Rattle.mv_hub.specs.Catalogue.{catalogue_with, listing_in, batches_of, catalogue_of}
+use Rattle.mv_hub.specs.Tables.{catalogue_in, with_product, with_listing}
+use Rattle.mv_hub.specs.BatchLinks.{is_same_batch, link_in, linked_to, IsChain, IsDescendant, IsReachedFrom}
+use Rattle.mv_hub.specs.Tables.{linked_in, with_link, Gathers}
 use Rattle.mv_hub.specs.Kept.{AreTables}
 use Rattle.mv_hub.proofs.BatchLemmas.{batch-same, text-same}
 use Rattle.mv_hub.proofs.SearchLemmas.{gathers-none, gathers-more}

@@ -1,10 +1,9 @@
 -- Links between batches: a routed repack makes packs of the batch before into packs of the batch after.
-use Rattle.std.specs.Prelude.{List, [], ◌∷◌, ◌++◌, nat_eq, Bool, unwrap_or, ◌&&◌, ◌≡◌, ◌↔◌, ◌⊎◌, Contains, Option, Some, None, if◌then◌else◌}
+use Rattle.std.specs.Prelude.{List, [], ◌∷◌, nat_eq, Bool, ◌&&◌, Contains, Option, Some, None, if◌then◌else◌}
 use Rattle.std.specs.Cmp.Lexicographic.{pointwise, slice_cmp}
 use Rattle.std.specs.Ordering.{nat_cmp, ordering_then}
 use Rattle.std.specs.declared.cmp.Ordering.{Ordering}
-use Rattle.std.specs.List.{filter_map, list_any}
-use Rattle.std.specs.Map.{lookup}
+use Rattle.std.specs.List.{filter_map}
 use Rattle.mv_pack.specs.declared.key.BatchKey.{BatchKey}
 use Rattle.mv_message.specs.declared.message.Message.TheVariants.{Repack}
 use Rattle.mv_hub.specs.declared.entry.Entry.{Entry}
@@ -41,16 +40,3 @@ IsReachedFrom links batch other = (between : List BatchKey) × IsChain links bat
 -- a batch was made of another by one or more routed repacks, each of packs that the one before had made
 abbrev pub IsDescendant : List Entry → BatchKey → BatchKey → Type 0
 IsDescendant entries batch other = IsReachedFrom (linked_to entries) batch other
-
--- what a table of the batches after says of a batch
-abbrev pub linked_in : List (BatchKey × List BatchKey) → BatchKey → List BatchKey
-linked_in table batch = unwrap_or (lookup (is_same_batch batch) table) []
-
--- one more batch after, unless it is there
-abbrev pub with_link : List BatchKey → BatchKey → List BatchKey
-with_link batches batch = if list_any (is_same_batch batch) batches then batches else batches ++ batch ∷ []
-
--- more batches were put behind those of a list, each unless it was there
-pub record Gathers (old more new : List BatchKey) : Type 0 where
-  pub behind : (rest : List BatchKey) × (new ≡ old ++ rest)
-  pub members : (batch : BatchKey) → Contains new batch ↔ (Contains old batch ⊎ Contains more batch)

@@ -1,7 +1,6 @@
 -- What the hub knows of a product: its last master, and the batches of it that were uploaded (Article 33).
-use Rattle.std.specs.Prelude.{ℕ, List, [], ◌∷◌, ◌++◌, Option, Some, None, if◌then◌else◌}
-use Rattle.std.specs.List.{filter_map, list_any}
-use Rattle.std.specs.Map.{lookup}
+use Rattle.std.specs.Prelude.{ℕ, List, [], Option, Some, None, if◌then◌else◌}
+use Rattle.std.specs.List.{filter_map}
 use Rattle.mv_message.specs.declared.message.Product.{Product}
 use Rattle.mv_message.specs.declared.message.Message.TheVariants.{Upload}
 use Rattle.mv_hub.specs.declared.entry.Entry.{Entry}
@@ -14,23 +13,6 @@ use Rattle.mv_hub.specs.Listing.{Listing, is_same_listing, distinct}
 abbrev pub catalogue_with : Option Product → List Listing → Option Catalogue
 catalogue_with None [] = None
 catalogue_with product batches = Some (record { product = product; batches = batches })
-
--- a product is known from now on
-abbrev pub with_product : Option Catalogue → Product → Catalogue
-with_product None product = record { product = Some product; batches = [] }
-with_product (Some catalogue) product = record { product = Some product; batches = catalogue.batches }
-
--- one more listing, unless it is there
-abbrev pub with_listing : Option Catalogue → Listing → Catalogue
-with_listing None listing = record { product = None; batches = listing ∷ [] }
-with_listing (Some catalogue) listing = record {
-  product = catalogue.product;
-  batches = if list_any (is_same_listing listing) catalogue.batches then catalogue.batches else catalogue.batches ++ listing ∷ [];
-}
-
--- what a table says of a product
-abbrev pub catalogue_in : List (List ℕ × Catalogue) → List ℕ → Option Catalogue
-catalogue_in table gtin = lookup (is_same_gtin gtin) table
 
 -- the batch and its expiry that an entry lists under a product: those of a routed upload of it
 abbrev pub listing_in : List ℕ → Entry → Option Listing

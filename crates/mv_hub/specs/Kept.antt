@@ -9,8 +9,10 @@ use Rattle.mv_hub.specs.declared.entry.Entry.{Entry}
 use Rattle.mv_hub.specs.declared.catalogue.Catalogue.{Catalogue}
 use Rattle.mv_hub.specs.Record.{routed_count, is_open}
 use Rattle.mv_hub.specs.Listing.{distinct}
-use Rattle.mv_hub.specs.Catalogue.{catalogue_in, catalogue_of}
-use Rattle.mv_hub.specs.BatchLinks.{is_same_batch, linked_in, linked_to}
+use Rattle.mv_hub.specs.Catalogue.{catalogue_of}
+use Rattle.mv_hub.specs.Tables.{catalogue_in}
+use Rattle.mv_hub.specs.BatchLinks.{is_same_batch, linked_to}
+use Rattle.mv_hub.specs.Tables.{linked_in}
 use Rattle.mv_hub.specs.Links.{link_items}
 
 -- the sending end of a link, by sender and receiver

@@ -26,11 +26,6 @@ is_target parties entries from (Withdraw gtin at) party = serves_product parties
 is_target parties entries from (Query key) party = serves_product parties entries key.gtin party && not (party == from)
 is_target parties entries from (Answer asker q key found) party = party == asker
 
--- a party may be a target of a message, whoever sends it: it is a target of it, or would be of a query that another sent
-abbrev pub is_candidate : List (List (List ℕ)) → List Entry → Message → ℕ → Bool
-is_candidate parties entries (Query key) party = serves_product parties entries key.gtin party
-is_candidate parties entries message party = is_target parties entries 0 message party
-
 -- a message from a party reaches another: that is one of the parties and a target, and the link between them is open
 unfoldable pub is_reached : List (List (List ℕ)) → List Entry → ℕ → Message → ℕ → Bool
 is_reached parties entries from message to =

@@ -3,7 +3,8 @@
 ghost use Rattle.std.specs.Prelude.{◌≡◌, ◌↔◌, ◌∷◌, [], ℕ, List, Contains, OnOk, OnErr, IfOk, if◌then◌else◌};
 ghost use Rattle.std.specs.List.Sorted.{IsStrictlySortedBy};
 ghost use Rattle.mv_pack.specs.declared.key.BatchKey.{BatchKey as ABatch};
-ghost use Rattle.mv_hub.specs.BatchLinks.{is_same_batch, batch_cmp, linked_in, with_link, Gathers, IsReachedFrom};
+ghost use Rattle.mv_hub.specs.BatchLinks.{is_same_batch, batch_cmp, IsReachedFrom};
+ghost use Rattle.mv_hub.specs.Tables.{linked_in, with_link, Gathers};
 
 use indexmap::{IndexMap, IndexSet};
 use mv_pack::BatchKey;

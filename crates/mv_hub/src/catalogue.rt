@@ -6,7 +6,8 @@ ghost use Rattle.std.specs.Cmp.Lexicographic.{pointwise, lists_equiv, options_eq
 ghost use Rattle.mv_message.specs.contracts.message.ProductEq.TheImpl.Laws.{laws-law};
 ghost use Rattle.std.specs.Option.{option_copied, option_eq};
 ghost use Rattle.mv_hub.specs.Record.{product_of};
-ghost use Rattle.mv_hub.specs.Listing.{is_same_listing, listing_equiv};
+ghost use Rattle.mv_hub.specs.Listing.{is_same_listing};
+ghost use Rattle.mv_hub.specs.Tables.{listing_equiv};
 
 use mv_message::{Message, Product, Shared};
 use mv_pack::{Batch, Expiry};

@@ -4,7 +4,7 @@ ghost use Rattle.std.specs.Prelude.{◌≡◌, ℕ, [], List, Option, Some, None
 ghost use Rattle.std.specs.Option.{option_copied};
 ghost use Rattle.mv_message.specs.declared.message.Product.{Product as AProduct};
 ghost use Rattle.mv_hub.specs.Record.{is_same_gtin, product_of};
-ghost use Rattle.mv_hub.specs.Catalogue.{with_product, with_listing};
+ghost use Rattle.mv_hub.specs.Tables.{with_product, with_listing};
 
 use crate::{Catalogue, MasterProduct, Pairs};
 use indexmap::{IndexMap, IndexSet};
@@ -96,7 +96,7 @@ impl Model for Catalogues {
 }
 
 impl Catalogues {
-    ghost use Rattle.mv_hub.specs.Catalogue.{catalogue_in};
+    ghost use Rattle.mv_hub.specs.Tables.{catalogue_in};
 
     /// Nothing is known of any product.
     pub(crate) fn new(alloc: Global) -> Catalogues

@@ -71,11 +71,6 @@ with_wire-sound st from to numbers sound =
     under_way-sound st st.sent (put st.wires from to numbers) sound.well_formed.sent_each
     (square-put (length st.parties) st.wires from to numbers sound.well_formed.wires_each) sound
 
-pub with_sent-sound : (st : State) (from to number : ℕ) → IsSound st → IsSound (record st { sent = put st.sent from to number })
-with_sent-sound st from to number sound =
-    under_way-sound st (put st.sent from to number) st.wires
-    (square-put (length st.parties) st.sent from to number sound.well_formed.sent_each) sound.well_formed.wires_each sound
-
 -- one party's part is another: it is lawful, what was routed from it is still a prefix of what it submitted, and what it applied from
 -- each sender one of their link
 pub site-sound : (st : State) (site : SiteState) → IsSound st

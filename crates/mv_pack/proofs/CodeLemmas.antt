@@ -1,12 +1,11 @@
 -- What is read as a serial, batch or national number.
-use Rattle.std.proofs.Common.{◌≡◌, ℕ, ◌+◌, ◌<◌, List, [], ◌∷◌, Bool, true, false, cond, not, ◌&&◌, length, refl, subst, arith}
-use Rattle.std.specs.Prelude.{IsUtf8, ◌==◌, nat_lt, Option, None, Some, Result, Ok, Err}
+use Rattle.std.proofs.Common.{◌≡◌, ℕ, ◌+◌, List, [], ◌∷◌, Bool, true, false, cond, not, ◌&&◌, length, refl, subst, arith}
+use Rattle.std.specs.Prelude.{◌==◌, nat_lt, Option, None, Some, Result, Ok, Err}
 use Rattle.std.specs.List.{list_all, position_from}
 use Rattle.std.proofs.lemmas.Bool.Decides.{nat_tests}
 use Rattle.mv_pack.specs.Code.{is_code_character, first_wrong, read_characters, read_code, IsCode, most_code_bytes}
 use Rattle.mv_pack.specs.declared.fault.PackFault.{PackFault}
 use Rattle.mv_pack.specs.declared.fault.PackFault.TheVariants.{Empty, TooLong}
-use Rattle.mv_pack.proofs.TextLemmas.{text_of_ascii}
 
 -- where no wrong element is found all are right
 none_wrong : {X : Type 0} (p : X → Bool) (xs : List X) (i : ℕ) → position_from (λ x. not (p x)) i xs ≡ None → list_all p xs ≡ true
@@ -50,10 +49,3 @@ read_code_is_code t c h =
     let tests = read_chosen (length t == 0) (nat_lt most_code_bytes (length t)) (first_wrong t) t c h in
     subst IsCode tests.3
     (grind (arith, nat_tests, tests.0), grind (arith, nat_tests, tests.1), no_wrong_byte t tests.2)
-
-code_character_below : (c : ℕ) → is_code_character c ≡ true → c < 128
-code_character_below c h = grind (arith, nat_tests)
-
--- a code is text
-pub utf8_of_code : (t : List ℕ) → IsCode t → IsUtf8 t
-utf8_of_code t h = text_of_ascii is_code_character code_character_below t h.2

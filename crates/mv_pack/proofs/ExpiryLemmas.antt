@@ -1,5 +1,5 @@
 -- Day numbers of the century 20, and dates as six digits.
-use Rattle.std.proofs.Common.{◌≡◌, ℕ, ◌+◌, ◌-◌, ◌*◌, ◌<◌, ◌≤◌, ◌/◌, ◌%◌, ◌&&◌, ◌==◌, nat_le, List, length, get_or, subst, true, cond, arith, pos, ◌≤ℤ◌}
+use Rattle.std.proofs.Common.{◌≡◌, ℕ, ◌+◌, ◌-◌, ◌<◌, ◌≤◌, ◌/◌, ◌%◌, ◌&&◌, ◌==◌, nat_le, List, length, get_or, subst, true, cond, arith, pos, ◌≤ℤ◌}
 use Rattle.std.specs.Prelude.{Ok}
 use Rattle.std.proofs.lemmas.Bool.{and_parts}
 use Rattle.mv_pack.proofs.TextLemmas.{passes_at, chosen_ok, given_ok}
@@ -21,10 +21,6 @@ unfolding days_from_civil
 day_from_1970 date h =
     let later = day_count-lt_year (pos 1970) 1 1 (pos date.year) date.month date.day (omega (arith, signed_arith), (omega arith, omega arith), (omega arith, omega arith)) h.4 (omega (arith, signed_arith)) in
     omega (arith, signed_arith)
-
--- the two digits of a number stand for it
-pub two_digits_value : (n : ℕ) → n < 100 → 10 * (n / 10 + 48 - 48) + (n % 10 + 48 - 48) ≡ n
-two_digits_value n h = omega arith
 
 pub digit_is : (c : ℕ) → 48 ≤ c → c ≤ 57 → is_digit c ≡ true
 digit_is c low high = grind (arith, nat_tests)

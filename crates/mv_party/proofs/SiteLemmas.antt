@@ -143,17 +143,6 @@ applied-kept limit submissions messages old new accepted sender item count full 
       counts = λ party is_party. accepted-push old.log accepted sender item party lt (k.counts sender lt) (k.counts party is_party);
     }))))
 
--- what a receiving end says of a number is how it stands
-pub look_is : (count number : ℕ) (stands : Look) → (number ≡ count + 1 → stands ≡ look.Next) → (number ≤ count → stands ≡ look.Old)
-    → (count + 1 < number → stands ≡ look.Gap (count + 1)) → stands ≡ look_at count number
-look_is count number stands next old gap = by (nat_le number count) (nat_lt (count + 1) number) refl refl
-  where
-    by : (below above : Bool) → nat_le number count ≡ below → nat_lt (count + 1) number ≡ above
-        → stands ≡ cond below look.Old (cond above (look.Gap (count + 1)) look.Next)
-    by true above e f = old (leb-true number count e)
-    by false true e f = gap (ltb-true (count + 1) number f)
-    by false false e f = next (omega (arith, leb-false number count e, ltb-false (count + 1) number f))
-
 -- a number of 32 bits that is the next leaves room to count it
 pub next-number : (count number : ℕ) → look_at count number ≡ look.Next → number ≡ count + 1
 next-number count number next = by (nat_le number count) (nat_lt (count + 1) number) refl refl next

@@ -14,20 +14,6 @@ use Rattle.mv_workers.specs.Plans.{IsSound}
 abbrev pub items_of : Vec Message Global → List Message
 items_of list = list.items
 
--- one more party has nothing to submit
-pub none_more : (lists : List (Vec Message Global)) (list : Vec Message Global) (n : ℕ) → map items_of lists ≡ replicate n [] → list.items ≡ []
-    → map items_of (lists ++ list ∷ []) ≡ replicate (n + 1) []
-none_more lists list n before none =
-    map_push items_of lists list ∙ ap (λ l. l ++ list.items ∷ []) before ∙ ap (λ (l : List Message). replicate n [] ++ l ∷ []) none
-    ∙ replicate-append-replicate n 1 []
-
--- a plan in which no party has anything to submit
-pub new_is_sound : (plan : Plan) (n : ℕ) → n ≡ length plan.parties → map items_of plan.work.items ≡ replicate n [] → IsSound plan
-new_is_sound plan n all none = record {
-  each = sym (length-map plan.work.items items_of) ∙ ap length none ∙ length-replicate n [] ∙ all;
-  no_answers = λ party below. ap (λ l. answers_in (slice_index_or l party [])) none ∙ ap answers_in (get_or-replicate n party [] [] (omega (arith, below, all)));
-}
-
 -- the lists of a plan with one more message
 pub lists_more : (lists : List (Vec Message Global)) (party : ℕ) (message : Message) (was now : Vec Message Global) → party < length lists
     → was ≡ slice_index_or lists party was → now.items ≡ was.items ++ message ∷ []

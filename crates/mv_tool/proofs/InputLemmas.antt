@@ -8,7 +8,8 @@ use Rattle.mv_tool.specs.declared.fault.ServeFault.{ServeFault}
 use Rattle.mv_tool.specs.declared.fault.ServeFault.TheVariants.{Read, Write, Memory, TooManyLines, LineTooLong, Start}
 use Rattle.mv_tool.specs.Lines.{whole_from, rest_from, lines_of, has_byte, line_limit, lines_limit, IsUnended, IsShort, KeepLimits}
 use Rattle.mv_tool.specs.Replies.{IsReplies}
-use Rattle.mv_tool.specs.Served.{Taken, StopsAt, StopsIn, Stopped}
+use Rattle.mv_tool.specs.Served.{StopsAt, StopsIn, Stopped}
+use Rattle.mv_tool.specs.Taking.{Taken}
 use Rattle.mv_tool.proofs.PartLemmas.{unended_whole, unended_rest, unended_front}
 use Rattle.mv_tool.proofs.RepliesLemmas.{IsReplies-append, IsReplies-nil}
 

@@ -8,7 +8,8 @@ use Rattle.mv_tool.specs.declared.fault.ServeFault.TheVariants.{Read, Write, Mem
 use Rattle.mv_tool.specs.Lines.{whole_from, rest_from, pieces, last_piece, lines_of, line_limit, lines_limit, KeepLimits}
 use Rattle.mv_tool.specs.Output.{WrotePart}
 use Rattle.mv_tool.specs.Replies.{IsReplies}
-use Rattle.mv_tool.specs.Served.{Taken, Stopped, WroteReplies, Halted, HaltedLast, Served, Ended}
+use Rattle.mv_tool.specs.Served.{Stopped, WroteReplies, Served, Ended}
+use Rattle.mv_tool.specs.Taking.{Taken, Halted, HaltedLast}
 use Rattle.mv_tool.proofs.RepliesLemmas.{IsReplies-append, IsReplies-nil}
 use Rattle.mv_tool.proofs.InputLemmas.{whole_from-append, lines_of-append, KeepLimits-nil, KeepLimits-append, stopped_later}
 

@@ -2,6 +2,7 @@ pub mod Lines
 pub mod Output
 pub mod Replies
 pub mod Served
+pub mod Taking
 pub mod Fields
 pub mod Reading
 pub mod Kinds

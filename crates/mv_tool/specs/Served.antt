@@ -10,19 +10,6 @@ use Rattle.mv_tool.specs.Replies.{ReplyRule, IsReplies}
 abbrev pub Wrote : Option (List ℕ) → Option (List ℕ) → (List ℕ → Type 0) → Type 0
 Wrote old new Fact = (out : List ℕ) × Appends old new out × Fact out
 
--- some bytes came behind the ones that stand ready to be written, and the fact holds of them
-abbrev pub Readied : List ℕ → List ℕ → (List ℕ → Type 0) → Type 0
-Readied old new Fact = (out : List ℕ) × (new ≡ old ++ out) × Fact out
-
--- The bytes were taken, and `out` are the replies to the lines that end in them, which keep the limits. Before them the line
--- had `begun` and `count` lines had come; behind them `begun'` and `count'`.
-pub record Taken {S : Type 0} (rule : ReplyRule S) (begun : List ℕ) (count : ℕ) (before : S)
-    (bytes begun' : List ℕ) (count' : ℕ) (after : S) (out : List ℕ) : Type 0 where
-  pub rest : begun' ≡ rest_from begun bytes
-  pub counted : count' ≡ count + length (whole_from begun bytes)
-  pub kept : KeepLimits count (whole_from begun bytes)
-  pub replied : IsReplies rule before (lines_of (whole_from begun bytes)) out after
-
 -- why the taking of bytes stops between `good` and `bad`
 abbrev pub StopsAt : ServeFault → List ℕ → ℕ → List ℕ → List ℕ → Type 0
 StopsAt Read begun count good bad = ⊥
@@ -64,19 +51,6 @@ pub record WroteReplies {S : Type 0} (rule : ReplyRule S) (count : ℕ) (before 
   pub after : S
   pub replied : IsReplies rule before (lines_of answered) (out ++ unwritten) after
   pub written : Appends old new out
-
--- what was written where a fault ended the taking of these bytes
-abbrev pub Halted : {S : Type 0} → ReplyRule S → ServeFault → List ℕ → ℕ → S → List ℕ
-    → Option (List ℕ) → Option (List ℕ) → Type 0
-Halted rule Write begun count before bytes old new = WroteReplies rule count before (whole_from begun bytes) old new
-Halted rule fault begun count before bytes old new = Wrote old new (Stopped rule fault begun count before bytes)
-
--- what was written where a fault ended the answering of the last piece, if there is one
-abbrev pub HaltedLast : {S : Type 0} → ReplyRule S → ServeFault → ℕ → S → List (List ℕ)
-    → Option (List ℕ) → Option (List ℕ) → Type 0
-HaltedLast rule Write count before ps old new = WroteReplies rule count before ps old new
-HaltedLast rule Memory count before ps old new = Appends old new []
-HaltedLast rule _ count before ps old new = ⊥
 
 -- A whole input was answered: its lines keep the limits, and the replies to them went out.
 pub record Served {S : Type 0} (rule : ReplyRule S) (before : S) (bytes : List ℕ) (after : S)

@@ -2,7 +2,7 @@
 
 ghost use Rattle.std.specs.Prelude.{◌≡◌, IfOk, IfErr};
 ghost use Rattle.mv_tool.specs.Replies.{ReplyRule};
-ghost use Rattle.mv_tool.specs.Served.{Readied};
+ghost use Rattle.mv_tool.specs.Taking.{Readied};
 
 use std::alloc::AllocError;
 

@@ -5,7 +5,8 @@ ghost use Rattle.std.specs.Io.BufRead.{strip_last};
 ghost use Rattle.mv_tool.specs.Lines.{IsUnended, last_piece, lines_of, line_limit, lines_limit};
 ghost use Rattle.mv_tool.specs.Replies.{IsReplies};
 ghost use Rattle.std.specs.Io.KnownBytes.{Appends};
-ghost use Rattle.mv_tool.specs.Served.{Wrote, Readied, Taken, StopsIn, Stopped, Halted, HaltedLast};
+ghost use Rattle.mv_tool.specs.Served.{Wrote, StopsIn, Stopped};
+ghost use Rattle.mv_tool.specs.Taking.{Readied, Taken, Halted, HaltedLast};
 
 use crate::answering::Answering;
 use crate::fault::ServeFault;

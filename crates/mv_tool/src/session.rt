@@ -6,7 +6,7 @@ ghost use Rattle.mv_tool.specs.Openings.{code_of, of_parties};
 ghost use Rattle.mv_tool.specs.Reading.{Gives as ReadGives};
 ghost use Rattle.mv_tool.specs.ReplyLines.{refused, opened_value};
 ghost use Rattle.mv_tool.specs.Requests.{read_line};
-ghost use Rattle.mv_tool.specs.Served.{Readied};
+ghost use Rattle.mv_tool.specs.Taking.{Readied};
 ghost use Rattle.mv_machine.specs.State.{opening};
 ghost use Rattle.mv_tool.specs.Sessions.{IsAnswer, IsOpenReply, IsStepReply, IsRequestReply, IsReply};
 ghost use Rattle.mv_tool.specs.Writing.{Appended};

@@ -61,10 +61,3 @@ done_complete plan outcome keeps complete = λ party below. record {
   applied = λ from from_below.
       complete.applied from party (omega (arith, from_below, ap length keeps.parties)) (omega (arith, below, ap length keeps.parties));
 }
-
--- a plan is sound where it has a list for each party and plans no answer
-pub sound_by : (plan : Plan) → length (work_of plan) ≡ length (parties_of plan) → PlansNoAnswer (work_of plan) → IsSound plan
-sound_by plan each none = record { each = each; no_answers = λ party below. none party (omega (arith, below, each)) }
-
-pub sound_none : (plan : Plan) → IsSound plan → PlansNoAnswer (work_of plan)
-sound_none plan sound = λ party below. sound.no_answers party (omega (arith, below, sound.each))

@@ -93,10 +93,6 @@ take_begins front list count front_is = front_is ∙ of count list ∙ ap (λ l.
     of (suc count) [] = refl
     of (suc count) (message ∷ list) = ap (λ l. message ∷ l) (of count list)
 
--- where a list begins another and is as long, it is the other
-pub begins-whole : (front list : List Message) → Begins front list → length front ≡ length list → front ≡ list
-begins-whole front list begins same = begins ∙ ap (λ n. take n list) same ∙ take-length list
-
 -- a list of no length is empty
 pub no_length : (messages : List Message) → length messages ≡ 0 → messages ≡ []
 no_length [] none = refl

@@ -2,7 +2,8 @@
 
 ghost use Rattle.std.specs.Prelude.{◌≡◌, ◌<◌, ◌==◌, ◌&&◌, not, length};
 ghost use Rattle.mv_hub.specs.Record.{market_table, is_open};
-ghost use Rattle.mv_hub.specs.Targets.{reach, is_candidate, is_query};
+ghost use Rattle.mv_hub.specs.Targets.{reach, is_query};
+ghost use Rattle.mv_hub.specs.PartySets.{is_candidate};
 ghost use Rattle.mv_hub.specs.PartySets.{those};
 
 use crate::hub::Hub;

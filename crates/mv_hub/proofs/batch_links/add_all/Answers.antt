@@ -1,6 +1,6 @@
 use Rattle.std.proofs.Common.{◌≡◌, ◌+◌, ◌∙◌, ◌++◌, ◌∷◌, [], take, ap, sym, subst}
 use Rattle.std.proofs.lemmas.List.{take_more}
-use Rattle.mv_hub.specs.BatchLinks.{Gathers, with_link}
+use Rattle.mv_hub.specs.Tables.{Gathers, with_link}
 use Rattle.mv_hub.proofs.SearchLemmas.{gathers-more}
 use Rattle.mv_hub.proofs.batch_links.add_all.Goals as goal
 

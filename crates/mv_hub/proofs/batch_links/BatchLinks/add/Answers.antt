@@ -3,7 +3,8 @@ use Rattle.std.specs.Prelude.{unwrap_or}
 use Rattle.std.specs.Option.{IsSome}
 use Rattle.std.specs.Map.{lookup}
 use Rattle.std.proofs.lemmas.Map.Steps.{set_value_same}
-use Rattle.mv_hub.specs.BatchLinks.{is_same_batch, linked_in, with_link}
+use Rattle.mv_hub.specs.BatchLinks.{is_same_batch}
+use Rattle.mv_hub.specs.Tables.{linked_in, with_link}
 use Rattle.mv_hub.proofs.BatchLemmas.{unwrap-cond}
 use Rattle.mv_hub.proofs.batch_links.BatchLinks.add.Goals as goal
 

@@ -1,5 +1,5 @@
 use Rattle.std.proofs.Common.{◌∙◌, get_or, arith, subst, sym, ap}
-use Rattle.mv_hub.specs.BatchLinks.{Gathers, linked_in}
+use Rattle.mv_hub.specs.Tables.{Gathers, linked_in}
 use Rattle.mv_hub.proofs.SearchLemmas.{searching-start, searching-more, searching-end}
 use Rattle.mv_hub.proofs.batch_links.BatchLinks.reached.Goals as goal
 

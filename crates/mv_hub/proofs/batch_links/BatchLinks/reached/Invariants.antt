@@ -1,5 +1,5 @@
 use Rattle.std.proofs.Common.{◌-◌}
-use Rattle.mv_hub.specs.BatchLinks.{linked_in}
+use Rattle.mv_hub.specs.Tables.{linked_in}
 use Rattle.mv_hub.proofs.SearchLemmas.{IsSearching}
 use Rattle.mv_hub.proofs.batch_links.BatchLinks.reached.Given as goal
 

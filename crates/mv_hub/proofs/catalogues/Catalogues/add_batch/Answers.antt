@@ -4,7 +4,7 @@ use Rattle.std.specs.Map.{lookup}
 use Rattle.std.proofs.lemmas.Map.Steps.{set_value_same}
 use Rattle.mv_hub.specs.Record.{is_same_gtin}
 use Rattle.mv_hub.specs.Listing.{Listing}
-use Rattle.mv_hub.specs.Catalogue.{catalogue_in, with_listing}
+use Rattle.mv_hub.specs.Tables.{catalogue_in, with_listing}
 use Rattle.mv_hub.proofs.catalogues.Catalogues.add_batch.Goals as goal
 
 -- the product was unknown

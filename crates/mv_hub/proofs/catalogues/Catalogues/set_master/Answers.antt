@@ -2,7 +2,7 @@ use Rattle.std.proofs.Common.{◌∙◌, ap, subst, refl, cond, Some}
 use Rattle.std.specs.Option.{IsSome}
 use Rattle.std.specs.Map.{lookup}
 use Rattle.mv_hub.specs.Record.{is_same_gtin, product_of}
-use Rattle.mv_hub.specs.Catalogue.{catalogue_in, with_product}
+use Rattle.mv_hub.specs.Tables.{catalogue_in, with_product}
 use Rattle.mv_hub.proofs.catalogues.Catalogues.set_master.Goals as goal
 
 -- the product was unknown

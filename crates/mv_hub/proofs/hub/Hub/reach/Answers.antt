@@ -3,7 +3,8 @@ use Rattle.std.specs.Prelude.{filter, ◌==◌}
 use Rattle.std.specs.List.Sorted.{IsStrictlyIncreasing}
 use Rattle.std.proofs.lemmas.List.Kept.{IsStrictlyIncreasing-filter}
 use Rattle.mv_hub.specs.Record.{is_open}
-use Rattle.mv_hub.specs.Targets.{reach, is_reached, is_candidate}
+use Rattle.mv_hub.specs.Targets.{reach, is_reached}
+use Rattle.mv_hub.specs.PartySets.{is_candidate}
 use Rattle.mv_hub.proofs.NumberLemmas.{those-below, those-agree, filter-those, filter-take_more}
 use Rattle.mv_hub.proofs.HubLemmas.{reached-candidate}
 use Rattle.mv_hub.proofs.hub.Hub.reach.Goals.{then-is_sent, else-is_sent}

@@ -1,0 +1,47 @@
+-- What the tables of the hub hold by its record, and how an entry changes them: words of the inside.
+use Rattle.std.specs.Prelude.{List, [], ◌∷◌, ◌++◌, unwrap_or, ◌≡◌, ◌↔◌, ◌⊎◌, Contains, Option, Some, None, if◌then◌else◌, ℕ}
+use Rattle.std.specs.Cmp.Lexicographic.{nat_list_eq_equiv}
+use Rattle.std.specs.List.{list_any}
+use Rattle.std.specs.Map.{lookup}
+use Rattle.mv_pack.specs.declared.key.BatchKey.{BatchKey}
+use Rattle.mv_hub.specs.Record.{is_same_gtin}
+use Rattle.mv_hub.specs.BatchLinks.{is_same_batch}
+use Rattle.mv_message.specs.declared.message.Product.{Product}
+use Rattle.mv_hub.specs.declared.catalogue.Catalogue.{Catalogue}
+use Rattle.mv_hub.specs.Listing.{Listing, is_same_listing}
+use Rattle.std.specs.Cmp.{IsEquivalence, and_equiv, on_equiv, nat_eq_equiv}
+
+-- what a table of the batches after says of a batch
+abbrev pub linked_in : List (BatchKey × List BatchKey) → BatchKey → List BatchKey
+linked_in table batch = unwrap_or (lookup (is_same_batch batch) table) []
+
+-- one more batch after, unless it is there
+abbrev pub with_link : List BatchKey → BatchKey → List BatchKey
+with_link batches batch = if list_any (is_same_batch batch) batches then batches else batches ++ batch ∷ []
+
+-- more batches were put behind those of a list, each unless it was there
+pub record Gathers (old more new : List BatchKey) : Type 0 where
+  pub behind : (rest : List BatchKey) × (new ≡ old ++ rest)
+  pub members : (batch : BatchKey) → Contains new batch ↔ (Contains old batch ⊎ Contains more batch)
+
+-- a product is known from now on
+abbrev pub with_product : Option Catalogue → Product → Catalogue
+with_product None product = record { product = Some product; batches = [] }
+with_product (Some catalogue) product = record { product = Some product; batches = catalogue.batches }
+
+-- one more listing, unless it is there
+abbrev pub with_listing : Option Catalogue → Listing → Catalogue
+with_listing None listing = record { product = None; batches = listing ∷ [] }
+with_listing (Some catalogue) listing = record {
+  product = catalogue.product;
+  batches = if list_any (is_same_listing listing) catalogue.batches then catalogue.batches else catalogue.batches ++ listing ∷ [];
+}
+
+-- what a table says of a product
+abbrev pub catalogue_in : List (List ℕ × Catalogue) → List ℕ → Option Catalogue
+catalogue_in table gtin = lookup (is_same_gtin gtin) table
+
+pub listing_equiv : IsEquivalence is_same_listing
+listing_equiv =
+    and_equiv (and_equiv (and_equiv (on_equiv (λ (p : Listing). p.0) nat_list_eq_equiv) (on_equiv (λ (p : Listing). p.1.year) nat_eq_equiv))
+    (on_equiv (λ (p : Listing). p.1.month) nat_eq_equiv)) (on_equiv (λ (p : Listing). p.1.day) nat_eq_equiv)

@@ -1,9 +1,172 @@
--- What `==` says of lists of texts.
-use Rattle.std.proofs.Common.{◌≡◌, List, ℕ, nat_eq, refl}
-use Rattle.std.specs.Bool.{Decides}
+-- What `==` says of the parts of messages: each test passes exactly where both are the same.
+use denote.Struct.Field.{Field}
+use denote.Struct.Values.{Values}
+use denote.Enum.Compared.{Each, by}
+use denote.Enum.Declared.{Record, Choice, values_one}
+use denote.Enum.Bare.{same_true, true_same}
+use Rattle.std.proofs.Common.{◌≡◌, List, [], ◌∷◌, ℕ, Bool, false, nat_eq, refl, ap, rules, ◌&&◌, Decides}
+use Rattle.std.specs.Prelude.{⊤, Option, Some, None}
+use Rattle.std.specs.Option.{option_eq}
+use Rattle.std.specs.Cmp.{booleans_Decides}
 use Rattle.std.specs.Cmp.Lexicographic.{pointwise}
+use Rattle.std.proofs.Common.{inl, inr}
+use Rattle.std.proofs.lemmas.Bool.{false≢true}
+use Rattle.std.proofs.lemmas.Bool.Decides.{Decides-and, Decides-like, Decides-eqb}
 use Rattle.std.proofs.lemmas.Slice.Eq.{slice_eq-Decides, bytes_eq-Decides}
+use Rattle.mv_pack.specs.Expiry.{CivilDate}
+use Rattle.mv_pack.specs.contracts.expiry.ExpiryPartialEq.TheImpl as expiry
+use Rattle.mv_pack.specs.contracts.key.BatchKeyPartialEq.TheImpl as batch
+use Rattle.mv_pack.specs.contracts.key.PackKeyPartialEq.TheImpl as pack
+use Rattle.mv_pack.specs.declared.key.BatchKey.{BatchKey}
+use Rattle.mv_pack.specs.declared.key.PackKey.{PackKey}
+use Rattle.mv_message.specs.contracts.found.Found.{enum as found_enum}
+use Rattle.mv_message.specs.contracts.found.FoundPartialEq.TheImpl as found
+use Rattle.mv_message.specs.contracts.standing.StandingPartialEq.TheImpl as standing
+use Rattle.mv_message.specs.contracts.standing.Standing.{the_type}
+use Rattle.mv_message.specs.declared.found.Found.{Found}
+use Rattle.mv_message.specs.declared.standing.Standing.{Standing}
+use Rattle.mv_message.specs.declared.message.Message.{Message}
+use Rattle.mv_message.specs.declared.message.Product.{Product}
+use Rattle.mv_message.specs.contracts.message.Message.{enum as message_enum}
+use Rattle.mv_message.specs.contracts.message.MessagePartialEq.TheImpl as message
+use Rattle.mv_message.specs.contracts.message.ProductPartialEq.TheImpl as product
 
--- lists of texts pass the test exactly where they are the same
+-- lists of texts
 pub lists_decide : (xs ys : List (List ℕ)) → Decides (pointwise (pointwise nat_eq) xs ys) (xs ≡ ys)
 lists_decide xs ys = slice_eq-Decides bytes_eq-Decides xs ys (pointwise (pointwise nat_eq) xs ys) refl
+
+-- texts
+pub texts_decide : (xs ys : List ℕ) → Decides (pointwise nat_eq xs ys) (xs ≡ ys)
+texts_decide xs ys = bytes_eq-Decides xs ys
+
+-- at each variant of an enum equality decides
+abbrev pub AllDecide : (Fss : List (List Field)) → Each Bool Fss → Type 0
+AllDecide [] each = ⊤
+AllDecide (Fs ∷ Fss) each = ((x y : Values Fs) → Decides (each.0 x y) (x ≡ y)) × AllDecide Fss each.1
+
+choices_decide : (Fss : List (List Field)) (each : Each Bool Fss) → AllDecide Fss each → (c d : Choice Fss) → Decides (by false false Fss each c d) (c ≡ d)
+choices_decide [] each all c d = absurd c
+choices_decide (Fs ∷ Fss) each all (inl x) (inl y) = Decides-like (each.0 x y) (λ e. ap inl e) (λ e. cc) (all.0 x y)
+choices_decide (Fs ∷ Fss) each all (inl x) (inr d) = (λ e. absurd (false≢true e), λ e. cc)
+choices_decide (Fs ∷ Fss) each all (inr c) (inl y) = (λ e. absurd (false≢true e), λ e. cc)
+choices_decide (Fs ∷ Fss) each all (inr c) (inr d) =
+    Decides-like (by false false Fss each.1 c d) (λ e. ap inr e) (λ e. cc) (choices_decide Fss each.1 all.1 c d)
+
+-- so it does at two values of the enum
+pub values_decide : (N : Record) (each : Each Bool N.parts) → AllDecide N.parts each → (x y : N.D)
+    → Decides (by false false N.parts each (N.as_values x) (N.as_values y)) (x ≡ y)
+values_decide N each all x y =
+    Decides-like (by false false N.parts each (N.as_values x) (N.as_values y)) (values_one N x y) (λ e. ap N.as_values e)
+    (choices_decide N.parts each all (N.as_values x) (N.as_values y))
+
+dates_decide : (x y : CivilDate) → Decides ((expiry.ghosts).eq x y) (x ≡ y)
+dates_decide x y = Decides-like _ (λ e. λ i. record { year = e.0 i; month = e.1.0 i; day = e.1.1 i })
+    (λ e. (ap (λ d. d.year) e, (ap (λ d. d.month) e, ap (λ d. d.day) e)))
+    (Decides-and _ _ (Decides-eqb x.year y.year) (Decides-and _ _ (Decides-eqb x.month y.month) (Decides-eqb x.day y.day)))
+
+-- two texts, or none
+options_decide : (x y : Option (List ℕ)) → Decides (option_eq (pointwise nat_eq) x y) (x ≡ y)
+options_decide None None = (λ e. refl, λ e. refl)
+options_decide None (Some y) = (λ e. absurd (false≢true e), λ e. cc)
+options_decide (Some x) None = (λ e. absurd (false≢true e), λ e. cc)
+options_decide (Some x) (Some y) = Decides-like _ (λ e. ap Some e) (λ e. cc) (texts_decide x y)
+
+standings_decide : (x y : Standing) → Decides ((standing.ghosts).eq x y) (x ≡ y)
+standings_decide x y = (same_true the_type (search rules) x y, true_same the_type x y)
+
+pub products_decide : (x y : Product) → Decides ((product.ghosts).eq x y) (x ≡ y)
+products_decide x y = Decides-like _
+    (λ e. λ i. record {
+      scheme = e.0 i;
+      name = e.1.0 i;
+      common = e.1.1.0 i;
+      form = e.1.1.1.0 i;
+      strength = e.1.1.1.1.0 i;
+      pack_type = e.1.1.1.1.1.0 i;
+      pack_size = e.1.1.1.1.1.1.0 i;
+      markets = e.1.1.1.1.1.1.1 i;
+    })
+    (λ e. (
+      ap (λ p. p.scheme) e,
+      (
+        ap (λ p. p.name) e,
+        (
+          ap (λ p. p.common) e,
+          (
+            ap (λ p. p.form) e,
+            (
+              ap (λ p. p.strength) e,
+              (ap (λ p. p.pack_type) e, (ap (λ p. p.pack_size) e, ap (λ p. p.markets) e)),
+            ),
+          ),
+        ),
+      ),
+    ))
+    (Decides-and _ _ (texts_decide x.scheme y.scheme) (Decides-and _ _ (texts_decide x.name y.name)
+    (Decides-and _ _ (texts_decide x.common y.common) (Decides-and _ _ (texts_decide x.form y.form)
+    (Decides-and _ _ (texts_decide x.strength y.strength) (Decides-and _ _ (texts_decide x.pack_type y.pack_type)
+    (Decides-and _ _ (texts_decide x.pack_size y.pack_size) (lists_decide x.markets y.markets))))))))
+
+packs_decide : (x y : PackKey) → Decides ((pack.ghosts).eq x y) (x ≡ y)
+packs_decide x y = Decides-like _ (λ e. λ i. record { gtin = e.0 i; serial = e.1 i })
+    (λ e. (ap (λ k. k.gtin) e, ap (λ k. k.serial) e))
+    (Decides-and _ _ (texts_decide x.gtin y.gtin) (texts_decide x.serial y.serial))
+
+batches_decide : (x y : BatchKey) → Decides ((batch.ghosts).eq x y) (x ≡ y)
+batches_decide x y = Decides-like _ (λ e. λ i. record { gtin = e.0 i; batch = e.1 i })
+    (λ e. (ap (λ k. k.gtin) e, ap (λ k. k.batch) e))
+    (Decides-and _ _ (texts_decide x.gtin y.gtin) (texts_decide x.batch y.batch))
+
+-- the first field of a variant and the rest of them
+first_decides : {A B : Type 0} (x y : A × B) {a b : Bool} → Decides a (x.0 ≡ y.0) → Decides b (x.1 ≡ y.1) → Decides (a && b) (x ≡ y)
+first_decides x y {a} {b} first rest =
+    Decides-like (a && b) (λ e. λ i. (e.0 i, e.1 i)) (λ e. (ap (λ z. z.0) e, ap (λ z. z.1) e)) (Decides-and a b first rest)
+
+-- the last field of a variant
+last_decides : {A : Type 0} (x y : A × Unit {0}) {a : Bool} → Decides a (x.0 ≡ y.0) → Decides a (x ≡ y)
+last_decides x y {a} last = Decides-like a (λ e. λ i. (e i, tt)) (λ e. ap (λ z. z.0) e) last
+
+pub found_decide : (x y : Found) → Decides ((found.ghosts).eq x y) (x ≡ y)
+found_decide x y = values_decide found_enum _ (
+  λ a b. (λ e. refl, λ e. refl),
+  (
+    λ a b. first_decides a b (texts_decide a.0 b.0) (first_decides a.1 b.1 (dates_decide a.1.0 b.1.0)
+        (first_decides a.1.1 b.1.1 (options_decide a.1.1.0 b.1.1.0) (first_decides a.1.1.1 b.1.1.1 (standings_decide a.1.1.1.0 b.1.1.1.0)
+        (first_decides a.1.1.1.1 b.1.1.1.1 (booleans_Decides a.1.1.1.1.0 b.1.1.1.1.0)
+        (last_decides a.1.1.1.1.1 b.1.1.1.1.1 (booleans_Decides a.1.1.1.1.1.0 b.1.1.1.1.1.0)))))),
+    tt,
+  ),
+) x y
+
+pub messages_decide : (x y : Message) → Decides ((message.ghosts).eq x y) (x ≡ y)
+messages_decide x y = values_decide message_enum _ (
+  λ a b. first_decides a b (texts_decide a.0 b.0) (last_decides a.1 b.1 (products_decide a.1.0 b.1.0)),
+  (
+    λ a b. first_decides a b (texts_decide a.0 b.0) (first_decides a.1 b.1 (texts_decide a.1.0 b.1.0)
+        (first_decides a.1.1 b.1.1 (dates_decide a.1.1.0 b.1.1.0) (first_decides a.1.1.1 b.1.1.1 (options_decide a.1.1.1.0 b.1.1.1.0)
+        (last_decides a.1.1.1.1 b.1.1.1.1 (lists_decide a.1.1.1.1.0 b.1.1.1.1.0))))),
+    (
+      λ a b. first_decides a b (packs_decide a.0 b.0) (first_decides a.1 b.1 (standings_decide a.1.0 b.1.0)
+          (first_decides a.1.1 b.1.1 (texts_decide a.1.1.0 b.1.1.0) (last_decides a.1.1.1 b.1.1.1 (Decides-eqb a.1.1.1.0 b.1.1.1.0)))),
+      (
+        λ a b. first_decides a b (batches_decide a.0 b.0) (last_decides a.1 b.1 (Decides-eqb a.1.0 b.1.0)),
+        (
+          λ a b. first_decides a b (batches_decide a.0 b.0) (first_decides a.1 b.1 (lists_decide a.1.0 b.1.0)
+              (first_decides a.1.1 b.1.1 (batches_decide a.1.1.0 b.1.1.0) (first_decides a.1.1.1 b.1.1.1 (lists_decide a.1.1.1.0 b.1.1.1.0)
+              (last_decides a.1.1.1.1 b.1.1.1.1 (Decides-eqb a.1.1.1.1.0 b.1.1.1.1.0))))),
+          (
+            λ a b. first_decides a b (texts_decide a.0 b.0) (last_decides a.1 b.1 (Decides-eqb a.1.0 b.1.0)),
+            (
+              λ a b. last_decides a b (packs_decide a.0 b.0),
+              (
+                λ a b. first_decides a b (Decides-eqb a.0 b.0) (first_decides a.1 b.1 (Decides-eqb a.1.0 b.1.0)
+                    (first_decides a.1.1 b.1.1 (packs_decide a.1.1.0 b.1.1.0) (last_decides a.1.1.1 b.1.1.1 (found_decide a.1.1.1.0 b.1.1.1.0)))),
+                tt,
+              ),
+            ),
+          ),
+        ),
+      ),
+    ),
+  ),
+) x y

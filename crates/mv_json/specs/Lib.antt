@@ -7,6 +7,7 @@ pub mod Reading
 pub mod Numbers
 pub mod Versions
 pub mod Forms
+pub mod Memory
 pub mod Found
 pub mod Readers
 pub mod FieldFaults

@@ -1,9 +1,10 @@
 //! The forms of messages, and the names of the fields of each.
 
-ghost use Rattle.std.specs.Prelude.{◌≡◌, IfErr, IsErr, map};
+ghost use Rattle.std.specs.Prelude.{◌≡◌, ◌≢◌, IfErr, IsSome, map};
 ghost use Rattle.serde_json.specs.View.{view, members_view};
 ghost use Rattle.mv_json.specs.Reading.{Gives};
 ghost use Rattle.mv_json.specs.Forms.{form_named, form_at, names_of, known_form_at};
+ghost use Rattle.mv_json.specs.Members.{first_unknown};
 
 use crate::members::first_unknown;
 use crate::reading::text_at;
@@ -100,7 +101,9 @@ fn form_named(version: Version, name: &str) -> Option<Form>
 /// The form of an object: M3, M5.
 #[tactic(auto, unfolding(crate::specs::Forms::form_at))]
 pub(crate) fn form_at(value: &Value, version: Version) -> Result<Form, MessageFault>
-    ensures { result ≡ form_at version (view value.now) }
+    ensures gives { result ≡ form_at version (view value.now) }
+    // It takes no memory.
+    ensures no_memory { IfErr result (λ fault. fault ≢ MessageFault.Memory) }
 {
     match form_named(version, text_at(value, Field::Msg)?) {
         Some(form) => Ok(form),
@@ -118,7 +121,7 @@ pub(crate) fn known_form_at(
     ensures gives { Gives result (known_form_at version form (members_view members.now.entries)) }
     // Memory is asked for only to name another key.
     ensures memory { IfErr result (λ fault. fault ≡ MessageFault.Memory
-        → IsErr (known_form_at version form (members_view members.now.entries))) }
+        → IsSome (first_unknown (names_of version form) (members_view members.now.entries))) }
 {
     match first_unknown(members, form.names(version)) {
         Some(key) => Err(MessageFault::Unknown(Text::new(String::from_str(alloc, key)?))),

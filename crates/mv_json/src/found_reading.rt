@@ -1,6 +1,6 @@
 //! Reads the field `found` of an answer: `null`, or an object of its own.
 
-ghost use Rattle.std.specs.Prelude.{◌≡◌, map};
+ghost use Rattle.std.specs.Prelude.{◌≡◌, ◌≢◌, map, IfErr};
 ghost use Rattle.serde_json.specs.View.{view};
 ghost use Rattle.mv_json.specs.Found.{present_names, first_present_at, second_present_at, present_at, present_of, found_of, found_at};
 
@@ -15,14 +15,18 @@ use serde_json::Value;
 /// What the field `found` says: M3, M5.
 #[tactic(auto, unfolding(crate::specs::Found::found_at))]
 pub(crate) fn found_at(value: &Value, version: Version) -> Result<Found, MessageFault>
-    ensures { result ≡ found_at version (view value.now) }
+    ensures gives { result ≡ found_at version (view value.now) }
+    // It takes no memory.
+    ensures no_memory { IfErr result (λ fault. fault ≢ MessageFault.Memory) }
 {
     found_of(member_at(value, Field::Found)?, version)
 }
 
 /// What a value says was found: M5 of `found` where it is neither `null` nor a legal pack.
 fn found_of(value: &Value, version: Version) -> Result<Found, MessageFault>
-    ensures { result ≡ found_of version (view value.now) }
+    ensures gives { result ≡ found_of version (view value.now) }
+    // It takes no memory.
+    ensures no_memory { IfErr result (λ fault. fault ≢ MessageFault.Memory) }
 {
     if value.is_null() {
         return Ok(Found::Absent);

@@ -1,6 +1,8 @@
 //! Reads messages, from the bytes of JSON texts and from JSON values.
 
+ghost use Rattle.std.specs.Prelude.{◌≡◌, IfErr};
 ghost use Rattle.serde_json.specs.View.{view};
+ghost use Rattle.mv_json.specs.Memory.{MayTakeMemory};
 ghost use Rattle.mv_json.specs.Messages.{read_bytes, read_message};
 ghost use Rattle.mv_json.specs.Reading.{Gives};
 
@@ -36,10 +38,13 @@ pub fn read(alloc: Global, bytes: &[u8]) -> Result<Message, MessageFault>
 ///
 /// The first of these that holds is the fault: M2, the value is no object; M5 of `v`, which is there and not 2; M3 or M5
 /// of `msg`; M4 with the first key, in byte order, that the message does not have; then the faults of the fields, in byte
-/// order of their names. M9 may stand in place of any answer where memory was refused.
+/// order of their names. M9 may stand, where memory was refused, in place of M4, which names a key, and of what the fields
+/// of a master, an upload, a status or a repack give, which hold texts and lists; in place of nothing else.
 #[tactic(auto, unfolding(crate::specs::Messages::read_message))]
 pub fn from_value(alloc: Global, value: &Value) -> Result<Message, MessageFault>
-    ensures { Gives result (read_message (view value.now)) }
+    ensures gives { Gives result (read_message (view value.now)) }
+    ensures memory { IfErr result (λ fault. fault ≡ MessageFault.Memory
+        → MayTakeMemory (view value.now)) }
 {
     let Some(members) = value.as_object() else {
         return Err(MessageFault::NotObject);

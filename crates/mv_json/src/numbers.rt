@@ -1,6 +1,6 @@
 //! Reads the fields that are whole numbers, or `true` or `false`.
 
-ghost use Rattle.std.specs.Prelude.{◌≡◌};
+ghost use Rattle.std.specs.Prelude.{◌≡◌, ◌≢◌, IfErr};
 ghost use Rattle.serde_json.specs.View.{view};
 ghost use Rattle.mv_json.specs.Numbers.{truth_at, whole_at, moment_at, number_at, count_at};
 
@@ -23,7 +23,9 @@ pub(crate) fn truth_at(value: &Value, field: Field) -> Result<bool, MessageFault
 /// The whole number of a field: M3, M5.
 #[tactic(auto, unfolding(crate::specs::Numbers::whole_at))]
 fn whole_at(value: &Value, field: Field) -> Result<u64, MessageFault>
-    ensures { result ≡ whole_at field (view value.now) }
+    ensures gives { result ≡ whole_at field (view value.now) }
+    // It takes no memory.
+    ensures no_memory { IfErr result (λ fault. fault ≢ MessageFault.Memory) }
 {
     match member_at(value, field)?.as_u64() {
         Some(number) => Ok(number),
@@ -34,7 +36,9 @@ fn whole_at(value: &Value, field: Field) -> Result<u64, MessageFault>
 /// The moment of a field: M3, M5, M6.
 #[tactic(auto, unfolding(crate::specs::Numbers::moment_at))]
 pub(crate) fn moment_at(value: &Value, field: Field) -> Result<Moment, MessageFault>
-    ensures { result ≡ moment_at field (view value.now) }
+    ensures gives { result ≡ moment_at field (view value.now) }
+    // It takes no memory.
+    ensures no_memory { IfErr result (λ fault. fault ≢ MessageFault.Memory) }
 {
     match Moment::of(whole_at(value, field)?) {
         Ok(moment) => Ok(moment),
@@ -45,7 +49,9 @@ pub(crate) fn moment_at(value: &Value, field: Field) -> Result<Moment, MessageFa
 /// The whole number of a field, up to 4,294,967,295: M3, M5.
 #[tactic(auto, unfolding(crate::specs::Numbers::number_at))]
 pub(crate) fn number_at(value: &Value, field: Field) -> Result<u32, MessageFault>
-    ensures { result ≡ number_at field (view value.now) }
+    ensures gives { result ≡ number_at field (view value.now) }
+    // It takes no memory.
+    ensures no_memory { IfErr result (λ fault. fault ≢ MessageFault.Memory) }
 {
     let number = whole_at(value, field)?;
     if number > u64::from(u32::MAX) {
@@ -57,7 +63,9 @@ pub(crate) fn number_at(value: &Value, field: Field) -> Result<u32, MessageFault
 /// The whole number of a field, from 1 to 4,294,967,295: M3, M5.
 #[tactic(auto, unfolding(crate::specs::Numbers::count_at))]
 pub(crate) fn count_at(value: &Value, field: Field) -> Result<u32, MessageFault>
-    ensures { result ≡ count_at field (view value.now) }
+    ensures gives { result ≡ count_at field (view value.now) }
+    // It takes no memory.
+    ensures no_memory { IfErr result (λ fault. fault ≢ MessageFault.Memory) }
 {
     let number = number_at(value, field)?;
     if number == 0 {

@@ -1,7 +1,8 @@
 //! Reads the fields of each form of message, in byte order of their names.
 
-ghost use Rattle.std.specs.Prelude.{◌≡◌};
+ghost use Rattle.std.specs.Prelude.{◌≡◌, ◌≢◌, IfErr, IsTrue};
 ghost use Rattle.serde_json.specs.View.{view};
+ghost use Rattle.mv_json.specs.Memory.{holds_texts};
 ghost use Rattle.mv_json.specs.Reading.{Gives};
 ghost use Rattle.mv_json.specs.Readers.{master_at, upload_national_at, upload_at, status_at, recall_at, repack_at, withdraw_at, query_at, answer_at, message_at};
 
@@ -26,7 +27,10 @@ pub(crate) fn message_at(
     version: Version,
     form: Form,
 ) -> Result<Message, MessageFault>
-    ensures { Gives result (message_at version form (view value.now)) }
+    ensures gives { Gives result (message_at version form (view value.now)) }
+    // Memory is asked for only to keep texts or lists.
+    ensures memory { IfErr result (λ fault. fault ≡ MessageFault.Memory
+        → IsTrue (holds_texts form)) }
 {
     match form {
         Form::Answer => answer_at(value, version),
@@ -119,7 +123,9 @@ fn status_at(alloc: Global, value: &Value) -> Result<Message, MessageFault>
 /// The recall that the fields give.
 #[tactic(auto, unfolding(crate::specs::Readers::recall_at))]
 fn recall_at(value: &Value) -> Result<Message, MessageFault>
-    ensures { result ≡ recall_at (view value.now) }
+    ensures gives { result ≡ recall_at (view value.now) }
+    // It takes no memory.
+    ensures no_memory { IfErr result (λ fault. fault ≢ MessageFault.Memory) }
 {
     let at = moment_at(value, Field::At)?;
     let batch = batch_at(value, Field::Batch)?;
@@ -160,7 +166,9 @@ fn repack_at(alloc: Global, value: &Value) -> Result<Message, MessageFault>
 /// The withdrawal that the fields give.
 #[tactic(auto, unfolding(crate::specs::Readers::withdraw_at))]
 fn withdraw_at(value: &Value) -> Result<Message, MessageFault>
-    ensures { result ≡ withdraw_at (view value.now) }
+    ensures gives { result ≡ withdraw_at (view value.now) }
+    // It takes no memory.
+    ensures no_memory { IfErr result (λ fault. fault ≢ MessageFault.Memory) }
 {
     let at = moment_at(value, Field::At)?;
     let gtin = gtin_at(value, Field::Gtin)?;
@@ -170,7 +178,9 @@ fn withdraw_at(value: &Value) -> Result<Message, MessageFault>
 /// The query that the fields give.
 #[tactic(auto, unfolding(crate::specs::Readers::query_at))]
 fn query_at(value: &Value) -> Result<Message, MessageFault>
-    ensures { result ≡ query_at (view value.now) }
+    ensures gives { result ≡ query_at (view value.now) }
+    // It takes no memory.
+    ensures no_memory { IfErr result (λ fault. fault ≢ MessageFault.Memory) }
 {
     let gtin = gtin_at(value, Field::Gtin)?;
     let serial = serial_at(value, Field::Serial)?;
@@ -182,7 +192,9 @@ fn query_at(value: &Value) -> Result<Message, MessageFault>
 /// The answer that the fields give.
 #[tactic(auto, unfolding(crate::specs::Readers::answer_at))]
 fn answer_at(value: &Value, version: Version) -> Result<Message, MessageFault>
-    ensures { result ≡ answer_at version (view value.now) }
+    ensures gives { result ≡ answer_at version (view value.now) }
+    // It takes no memory.
+    ensures no_memory { IfErr result (λ fault. fault ≢ MessageFault.Memory) }
 {
     let asker = number_at(value, Field::Asker)?;
     let found = found_at(value, version)?;

@@ -30,9 +30,11 @@ pub(crate) fn member_at(value: &Value, field: Field) -> Result<&Value, MessageFa
 
 /// The text of a field: M3, M5.
 pub(crate) fn text_at(value: &Value, field: Field) -> Result<&str, MessageFault>
-    ensures { MatchResult result
+    ensures gives { MatchResult result
         (λ text. text_at field (view value.now) ≡ Ok text.now)
         (λ fault. text_at field (view value.now) ≡ Err fault) }
+    // It takes no memory.
+    ensures no_memory { IfErr result (λ fault. fault ≢ MessageFault.Memory) }
 {
     match member_at(value, field)?.as_str() {
         Some(text) => Ok(text),
@@ -43,7 +45,9 @@ pub(crate) fn text_at(value: &Value, field: Field) -> Result<&str, MessageFault>
 /// The product code of a field: M3, M5, M6.
 #[tactic(auto, unfolding(crate::specs::Reading::gtin_at))]
 pub(crate) fn gtin_at(value: &Value, field: Field) -> Result<Gtin, MessageFault>
-    ensures { result ≡ gtin_at field (view value.now) }
+    ensures gives { result ≡ gtin_at field (view value.now) }
+    // It takes no memory.
+    ensures no_memory { IfErr result (λ fault. fault ≢ MessageFault.Memory) }
 {
     match Gtin::read(text_at(value, field)?) {
         Ok(gtin) => Ok(gtin),
@@ -54,7 +58,9 @@ pub(crate) fn gtin_at(value: &Value, field: Field) -> Result<Gtin, MessageFault>
 /// The serial number of a field: M3, M5, M6.
 #[tactic(auto, unfolding(crate::specs::Reading::code_at))]
 pub(crate) fn serial_at(value: &Value, field: Field) -> Result<Serial, MessageFault>
-    ensures { result ≡ code_at field (view value.now) }
+    ensures gives { result ≡ code_at field (view value.now) }
+    // It takes no memory.
+    ensures no_memory { IfErr result (λ fault. fault ≢ MessageFault.Memory) }
 {
     match Serial::read(text_at(value, field)?) {
         Ok(serial) => Ok(serial),
@@ -65,7 +71,9 @@ pub(crate) fn serial_at(value: &Value, field: Field) -> Result<Serial, MessageFa
 /// The batch number of a field: M3, M5, M6.
 #[tactic(auto, unfolding(crate::specs::Reading::code_at))]
 pub(crate) fn batch_at(value: &Value, field: Field) -> Result<Batch, MessageFault>
-    ensures { result ≡ code_at field (view value.now) }
+    ensures gives { result ≡ code_at field (view value.now) }
+    // It takes no memory.
+    ensures no_memory { IfErr result (λ fault. fault ≢ MessageFault.Memory) }
 {
     match Batch::read(text_at(value, field)?) {
         Ok(batch) => Ok(batch),
@@ -76,7 +84,9 @@ pub(crate) fn batch_at(value: &Value, field: Field) -> Result<Batch, MessageFaul
 /// The expiry date of a field: M3, M5, M6.
 #[tactic(auto, unfolding(crate::specs::Reading::expiry_at))]
 pub(crate) fn expiry_at(value: &Value, field: Field) -> Result<Expiry, MessageFault>
-    ensures { result ≡ expiry_at field (view value.now) }
+    ensures gives { result ≡ expiry_at field (view value.now) }
+    // It takes no memory.
+    ensures no_memory { IfErr result (λ fault. fault ≢ MessageFault.Memory) }
 {
     match Expiry::read(text_at(value, field)?) {
         Ok(expiry) => Ok(expiry),
@@ -87,14 +97,18 @@ pub(crate) fn expiry_at(value: &Value, field: Field) -> Result<Expiry, MessageFa
 /// The national number of a field, or none where there is `null`: M3, M5, M6.
 #[tactic(auto, unfolding(crate::specs::Reading::national_at))]
 pub(crate) fn national_at(value: &Value, field: Field) -> Result<Option<National>, MessageFault>
-    ensures { result ≡ national_at field (view value.now) }
+    ensures gives { result ≡ national_at field (view value.now) }
+    // It takes no memory.
+    ensures no_memory { IfErr result (λ fault. fault ≢ MessageFault.Memory) }
 {
     national_of(member_at(value, field)?, field)
 }
 
 /// The national number that a value is, or none where it is `null`: M5, M6.
 fn national_of(found: &Value, field: Field) -> Result<Option<National>, MessageFault>
-    ensures { result ≡ national_of field (view found.now) }
+    ensures gives { result ≡ national_of field (view found.now) }
+    // It takes no memory.
+    ensures no_memory { IfErr result (λ fault. fault ≢ MessageFault.Memory) }
 {
     if found.is_null() {
         return Ok(None);
@@ -111,7 +125,9 @@ fn national_of(found: &Value, field: Field) -> Result<Option<National>, MessageF
 /// The standing of a field: M3, M5.
 #[tactic(auto, unfolding(crate::specs::Reading::standing_at))]
 pub(crate) fn standing_at(value: &Value, field: Field) -> Result<Standing, MessageFault>
-    ensures { result ≡ standing_at field (view value.now) }
+    ensures gives { result ≡ standing_at field (view value.now) }
+    // It takes no memory.
+    ensures no_memory { IfErr result (λ fault. fault ≢ MessageFault.Memory) }
 {
     match standing_named(text_at(value, field)?) {
         Some(standing) => Ok(standing),

@@ -1,6 +1,6 @@
 //! The versions of the JSON form, told apart by the field `v`.
 
-ghost use Rattle.std.specs.Prelude.{◌≡◌};
+ghost use Rattle.std.specs.Prelude.{◌≡◌, ◌≢◌, IfErr};
 ghost use Rattle.serde_json.specs.View.{view};
 ghost use Rattle.mv_json.specs.Versions.{version_at};
 
@@ -19,7 +19,9 @@ pub(crate) enum Version {
 /// The version of an object: M5 of `v`.
 #[tactic(auto, unfolding(crate::specs::Versions::version_at))]
 pub(crate) fn version_at(value: &Value) -> Result<Version, MessageFault>
-    ensures { result ≡ version_at (view value.now) }
+    ensures gives { result ≡ version_at (view value.now) }
+    // It takes no memory.
+    ensures no_memory { IfErr result (λ fault. fault ≢ MessageFault.Memory) }
 {
     let Some(found) = value.get(Field::V.as_str()) else {
         return Ok(Version::One);

@@ -1,5 +1,5 @@
 -- What a repository's end keeps as it takes frames.
-use Rattle.std.proofs.Common.{◌≡◌, ◌<◌, ◌+◌, ℕ, List, [], ◌∷◌, ◌++◌, length, sym, ◌∙◌, ap, refl, subst, arith, Bool, true, false, cond, eqb, eqb-true, append-nil, Option, Some, Err}
+use Rattle.std.proofs.Common.{◌≡◌, ◌<◌, ◌+◌, ℕ, List, [], ◌∷◌, ◌++◌, length, sym, ◌∙◌, ap, refl, subst, arith, Bool, true, false, cond, eqb, eqb-true, append-nil, Option, Some, None, Err}
 use Rattle.std.specs.Prelude.{nat_le, nat_lt, option_to_list}
 use Rattle.std.proofs.lemmas.Bool.Decides.{nat_tests}
 use Rattle.mv_link.specs.declared.item.Item.{Item}
@@ -13,7 +13,8 @@ use Rattle.mv_repository.specs.Log.{items_from}
 use Rattle.mv_party.specs.declared.fault.SiteFault.{SiteFault}
 use Rattle.mv_party.specs.declared.fault.SiteFault.TheVariants as site_fault
 use Rattle.mv_party.specs.Site.{SiteState, entry_from, count_from}
-use Rattle.mv_party.specs.Calls.{FailsBy, with_taken}
+use Rattle.mv_link.specs.Fault.{FailsBy}
+use Rattle.mv_party.specs.Calls.{with_taken}
 use Rattle.mv_party.proofs.SiteLemmas.{items_from-push}
 use Rattle.mv_machine.specs.Replies.{refusal_of}
 use Rattle.mv_ends.specs.declared.inlets.Inlets.{Inlets}
@@ -23,18 +24,10 @@ use Rattle.mv_ends.specs.Accepted.{AreAccepted}
 use Rattle.mv_ends.specs.RepoEnd.{IsRefusedFor}
 
 -- a fault of the party calls for its refusal
-pub refused_for : (A : Type 0) (expected : Option SiteFault) (fault : SiteFault) → FailsBy {A = A} expected (Err fault) → IsRefusedFor expected (refusal_of fault)
-refused_for A expected fault fails = by fault fails
-  where
-    some : (other : SiteFault) → expected ≡ Some other → IsRefusedFor expected (refusal_of other)
-    some other e = subst (λ o. IsRefusedFor o (refusal_of other)) (sym e) refl
-
-    by : (f : SiteFault) → FailsBy {A = A} expected (Err f) → IsRefusedFor expected (refusal_of f)
-    by site_fault.Memory e = subst (λ o. IsRefusedFor o (refusal_of site_fault.Memory)) (sym e) refl
-    by site_fault.NotYours e = some site_fault.NotYours e
-    by site_fault.UplinkFull e = some site_fault.UplinkFull e
-    by site_fault.SenderFull e = some site_fault.SenderFull e
-    by site_fault.AnswerBusy e = some site_fault.AnswerBusy e
+pub refused_for : (A : Type 0) (expected : Option SiteFault) (fault : SiteFault) → FailsBy {A = A} site_fault.Memory expected (Err fault)
+    → IsRefusedFor expected (refusal_of fault)
+refused_for A None fault is = ap refusal_of is
+refused_for A (Some other) fault is = ap refusal_of is
 
 -- what the party submitted once it took a frame
 pub submitted_by : (site : SiteState) (sender : ℕ) (item : Item) (stands : Look)

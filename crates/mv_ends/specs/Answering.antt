@@ -7,7 +7,7 @@ use Rattle.mv_link.specs.declared.incoming.Look.{Look}
 use Rattle.mv_link.specs.declared.incoming.Look.TheVariants as look
 use Rattle.mv_repository.specs.Query.{answer_to}
 use Rattle.mv_party.specs.Site.{SiteState, entry_from, count_from}
-use Rattle.mv_party.specs.Calls.{look_at}
+use Rattle.mv_link.specs.Receiving.{look_at}
 
 -- the answer that goes on the uplink where a frame from a sender stands so, and bears this item
 abbrev pub answer_by : SiteState → ℕ → Item → Look → Option Message

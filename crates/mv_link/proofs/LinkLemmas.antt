@@ -1,14 +1,17 @@
 -- Lemmas on links.
 use Rattle.std.proofs.Common.{◌≡◌, ℕ, ◌+◌, ◌-◌, List, [], ◌∷◌, ◌++◌, length, take, drop, refl, sym, ◌∙◌, ap, arith, append_assoc, append-nil, length-append, Bool, true, false, cond, suc, add-one, drop-cons}
-use Rattle.std.specs.Prelude.{Some, slice_get, All, ◌==◌}
+use Rattle.std.specs.Prelude.{Some, slice_get, All, ◌==◌, nat_le, nat_lt}
 use Rattle.std.proofs.lemmas.List.{take-append-drop}
 use Rattle.std.proofs.lemmas.List.Elements.{All-tail}
-use Rattle.std.proofs.lemmas.Bool.{eqb-true, eq-eqb, ne_eqb}
+use Rattle.std.proofs.lemmas.Bool.{eqb-true, eq-eqb, ne_eqb, leb-false, ltb-false, leb-true, ltb-true}
 use Rattle.std.proofs.lemmas.Option.{slice_get_within, get_or_from_slice_get}
 use Rattle.circular_buffer.proofs.Places.{slice_get-append_left}
 use Rattle.mv_link.specs.declared.item.Item.{Item}
 use Rattle.mv_link.specs.declared.item.Frame.{Frame}
+use Rattle.mv_link.specs.declared.incoming.Look.{Look}
+use Rattle.mv_link.specs.declared.incoming.Look.TheVariants as look
 use Rattle.mv_link.specs.Frames.{IsFrameOf, accepted_after, accepted, OneMoreFrame}
+use Rattle.mv_link.specs.Receiving.{look_at, AcceptsNext}
 use Rattle.mv_link.specs.Sending.{Sending, with_item, EndsWithHeld}
 
 -- the list with one more item ends with what is held then
@@ -79,3 +82,19 @@ one_more frames frame = record {
   old = λ le. accepted-other frames frame (ne_eqb frame.number (length (accepted frames) + 1) (λ e. omega (arith, e, le)));
   gap = λ lt. accepted-other frames frame (ne_eqb frame.number (length (accepted frames) + 1) (λ e. omega (arith, e, lt)));
 }
+
+-- a number that is the next
+pub next-number : (count number : ℕ) → look_at count number ≡ look.Next → number ≡ count + 1
+next-number count number next = by (nat_le number count) (nat_lt (count + 1) number) refl refl next
+  where
+    by : (below above : Bool) → nat_le number count ≡ below → nat_lt (count + 1) number ≡ above
+        → cond below look.Old (cond above (look.Gap (count + 1)) look.Next) ≡ look.Next → number ≡ count + 1
+    by true above e f next = absurd (cc)
+    by false true e f next = absurd (cc)
+    by false false e f next = omega (arith, leb-false number count e, ltb-false (count + 1) number f)
+
+-- the next frame makes one more
+pub accepts_next : (count more : ℕ) → more ≡ count + 1 → AcceptsNext count more
+accepts_next count more is frames frame counted stands =
+    ap length ((one_more frames frame).next (next-number count frame.number stands ∙ ap (λ n. n + 1) (sym counted)))
+    ∙ length-append (accepted frames) (frame.item ∷ []) ∙ ap (λ n. n + 1) counted ∙ sym is

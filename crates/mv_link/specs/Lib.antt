@@ -1,3 +1,4 @@
 pub mod Frames
+pub mod Receiving
 pub mod Sending
 pub mod Fault

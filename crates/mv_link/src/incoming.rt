@@ -1,7 +1,8 @@
 //! The end of a link that frames come to: it takes each item once and in order.
 
-ghost use Rattle.std.specs.Prelude.{◌≡◌, ◌+◌, ◌<◌, ◌≤◌};
+ghost use Rattle.std.specs.Prelude.{◌≡◌, ◌+◌, ◌<◌};
 ghost use Rattle.mv_link.specs.declared.limits.TheConstants.{NUMBER_LIMIT};
+ghost use Rattle.mv_link.specs.Receiving.{look_at, IsAcceptedAs, AcceptsNext};
 
 use crate::Frame;
 use std::marker::Model;
@@ -51,9 +52,9 @@ impl Incoming {
 
     /// How a frame stands to what was accepted. Nothing changes.
     pub fn look(&self, frame: &Frame) -> Look
-        ensures next { frame.now.number ≡ self.now + 1 → result ≡ Look.Next }
-        ensures old { frame.now.number ≤ self.now → result ≡ Look.Old }
-        ensures gap { self.now + 1 < frame.now.number → result ≡ Look.Gap (self.now + 1) }
+        ensures value { result ≡ look_at self.now frame.now.number }
+        // Where it is the next it is accepted behind what was; where it is not, what is accepted stays as it was.
+        ensures accepted { IsAcceptedAs self.now frame.now result }
     {
         if frame.number <= self.count {
             return Look::Old;
@@ -69,7 +70,9 @@ impl Incoming {
     /// Accepts the next frame.
     pub fn advance(&mut self)
         requires { self.old < NUMBER_LIMIT }
-        ensures { self.new ≡ self.old + 1 }
+        ensures count { self.new ≡ self.old + 1 }
+        // It counts what is accepted, with one more frame that is the next.
+        ensures accepted { AcceptsNext self.old self.new }
     {
         self.count += 1;
     }

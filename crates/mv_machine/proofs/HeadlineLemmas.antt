@@ -12,7 +12,8 @@ use Rattle.mv_repository.specs.declared.verdict.Local.{Local}
 use Rattle.mv_repository.specs.declared.verdict.Local.TheVariants.{Known, Absent}
 use Rattle.mv_repository.specs.Verdict.{local_verdict}
 use Rattle.mv_party.specs.declared.fault.SiteFault.{SiteFault}
-use Rattle.mv_party.specs.Calls.{ask_fault, submit_fault, look_at, apply_fault}
+use Rattle.mv_link.specs.Receiving.{look_at}
+use Rattle.mv_party.specs.Calls.{ask_fault, submit_fault, apply_fault}
 use Rattle.mv_machine.specs.declared.step.Step.{Step}
 use Rattle.mv_machine.specs.declared.step.Step.TheVariants.{Submit, Verify, Route, Relay, Apply, Repeat, Close, Lose, Verdict}
 use Rattle.mv_machine.specs.declared.reply.Reply.{Reply}

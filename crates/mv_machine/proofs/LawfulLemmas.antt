@@ -24,9 +24,11 @@ use Rattle.mv_repository.specs.Query.{answer_to}
 use Rattle.mv_repository.specs.Verdict.{local_verdict}
 use Rattle.mv_party.specs.declared.fault.SiteFault.{SiteFault}
 use Rattle.mv_party.specs.Site.{SiteState, entry_from, with_submission, with_applied, answers_in, IsLawfulParty}
-use Rattle.mv_party.specs.Calls.{ask_fault, submit_fault, look_at, apply_fault}
+use Rattle.mv_link.specs.Receiving.{look_at}
+use Rattle.mv_party.specs.Calls.{ask_fault, submit_fault, apply_fault}
 use Rattle.mv_party.proofs.AnswerLemmas.{no_answer}
-use Rattle.mv_party.proofs.SiteLemmas.{party-submitted, party-applied, submit-free, next-number}
+use Rattle.mv_link.proofs.LinkLemmas.{next-number}
+use Rattle.mv_party.proofs.SiteLemmas.{party-submitted, party-applied, submit-free}
 use Rattle.mv_machine.specs.declared.step.Step.{Step}
 use Rattle.mv_machine.specs.declared.step.Step.TheVariants.{Submit, Verify, Route, Relay, Apply, Repeat, Close, Lose, Verdict}
 use Rattle.mv_machine.specs.declared.reply.Reply.{Reply}

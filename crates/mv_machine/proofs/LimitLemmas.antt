@@ -25,7 +25,8 @@ use Rattle.mv_repository.specs.declared.verdict.Local.TheVariants.{Known, Absent
 use Rattle.mv_repository.specs.Query.{answer_to}
 use Rattle.mv_repository.specs.Verdict.{local_verdict}
 use Rattle.mv_party.specs.Site.{SiteState, entry_from, with_submission, with_applied}
-use Rattle.mv_party.specs.Calls.{ask_fault, submit_fault, answer_fault, look_at, apply_fault}
+use Rattle.mv_link.specs.Receiving.{look_at}
+use Rattle.mv_party.specs.Calls.{ask_fault, submit_fault, answer_fault, apply_fault}
 use Rattle.mv_party.proofs.SiteLemmas.{ask-free, submit-free, answer-free}
 use Rattle.mv_machine.specs.declared.step.Step.{Step}
 use Rattle.mv_machine.specs.declared.step.Step.TheVariants.{Submit, Verify, Route, Relay, Apply, Repeat, Close, Lose, Verdict}

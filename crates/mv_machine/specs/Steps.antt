@@ -20,7 +20,8 @@ use Rattle.mv_repository.specs.Query.{answer_to}
 use Rattle.mv_repository.specs.Verdict.{local_verdict, joint_verdict}
 use Rattle.mv_party.specs.declared.fault.SiteFault.{SiteFault}
 use Rattle.mv_party.specs.Site.{entry_from, answer_number, with_submission, with_applied}
-use Rattle.mv_party.specs.Calls.{ask_fault, submit_fault, look_at, apply_fault}
+use Rattle.mv_link.specs.Receiving.{look_at}
+use Rattle.mv_party.specs.Calls.{ask_fault, submit_fault, apply_fault}
 use Rattle.mv_machine.specs.declared.step.Step.{Step}
 use Rattle.mv_machine.specs.declared.step.Step.TheVariants.{Submit, Verify, Route, Relay, Apply, Repeat, Close, Lose, Verdict}
 use Rattle.mv_machine.specs.declared.reply.Reply.{Reply}

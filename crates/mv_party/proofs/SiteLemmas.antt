@@ -14,7 +14,7 @@ use Rattle.mv_repository.specs.Repository.{RepositoryState, with_applied as repo
 use Rattle.mv_party.specs.declared.fault.SiteFault.{SiteFault}
 use Rattle.mv_party.specs.declared.fault.SiteFault.TheVariants.{NotYours, UplinkFull, SenderFull, AnswerBusy}
 use Rattle.mv_party.specs.Site.{SiteState, entry_from, count_from, is_full, AllFromParties, answers_in, IsLawfulParty}
-use Rattle.mv_party.specs.Calls.{unless_fault, ask_fault, submit_fault, answer_fault, look_at}
+use Rattle.mv_party.specs.Calls.{unless_fault, ask_fault, submit_fault, answer_fault}
 use Rattle.mv_party.specs.Kept.{site_of, IsSite}
 use Rattle.mv_party.proofs.AnswerLemmas.{answers_in-more, answers_in-applied}
 
@@ -142,13 +142,3 @@ applied-kept limit submissions messages old new accepted sender item count full 
       limit = k.limit;
       counts = λ party is_party. accepted-push old.log accepted sender item party lt (k.counts sender lt) (k.counts party is_party);
     }))))
-
--- a number of 32 bits that is the next leaves room to count it
-pub next-number : (count number : ℕ) → look_at count number ≡ look.Next → number ≡ count + 1
-next-number count number next = by (nat_le number count) (nat_lt (count + 1) number) refl refl next
-  where
-    by : (below above : Bool) → nat_le number count ≡ below → nat_lt (count + 1) number ≡ above
-        → cond below look.Old (cond above (look.Gap (count + 1)) look.Next) ≡ look.Next → number ≡ count + 1
-    by true above e f next = absurd (cc)
-    by false true e f next = absurd (cc)
-    by false false e f next = omega (arith, leb-false number count e, ltb-false (count + 1) number f)

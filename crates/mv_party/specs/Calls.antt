@@ -1,5 +1,5 @@
 -- What a party answers to each call, and when it refuses one. Whether its uplink has room is for its caller to say.
-use Rattle.std.specs.Prelude.{◌≡◌, ℕ, ◌+◌, ◌||◌, Bool, nat_le, nat_lt, Option, Some, None, Result, Ok, Err, if◌then◌else◌, ⊤}
+use Rattle.std.specs.Prelude.{ℕ, ◌||◌, Bool, Option, Some, None, Result, Ok, Err, if◌then◌else◌, ⊤}
 use Rattle.mv_message.specs.declared.message.Message.{Message}
 use Rattle.mv_message.specs.Kinds.{is_query_or_answer}
 use Rattle.mv_link.specs.declared.item.Item.{Item}
@@ -8,16 +8,10 @@ use Rattle.mv_link.specs.declared.incoming.Look.TheVariants as look
 use Rattle.mv_repository.specs.Effect.{effect_of}
 use Rattle.mv_repository.specs.Query.{answer_to}
 use Rattle.mv_party.specs.declared.fault.SiteFault.{SiteFault}
-use Rattle.mv_party.specs.declared.fault.SiteFault.TheVariants.{NotYours, UplinkFull, SenderFull, AnswerBusy, Memory}
+use Rattle.mv_party.specs.declared.fault.SiteFault.TheVariants.{NotYours, UplinkFull, SenderFull, AnswerBusy}
 use Rattle.mv_party.specs.declared.taken.Taken.{Taken}
 use Rattle.mv_party.specs.declared.taken.Taken.TheVariants.{Applied, Old, Gap}
 use Rattle.mv_party.specs.Site.{SiteState, entry_from, answer_number, is_full, with_applied}
-
--- a call is refused for this fault, the first that holds; where there is none it may want memory, and nothing else
-abbrev pub FailsBy : {A : Type 0} → Option SiteFault → Result A SiteFault → Type 0
-FailsBy fault (Ok value) = fault ≡ None
-FailsBy fault (Err Memory) = fault ≡ None
-FailsBy fault (Err refused) = fault ≡ Some refused
 
 -- what a call says that only tells whether there is a fault
 abbrev pub unless_fault : Option SiteFault → Result ⊤ SiteFault
@@ -34,13 +28,6 @@ ask_fault uplink_full site =
 -- why a party does not submit a message, memory aside, the first reason that holds
 abbrev pub submit_fault : Bool → SiteState → Message → Option SiteFault
 submit_fault uplink_full site message = if is_query_or_answer message then Some NotYours else ask_fault uplink_full site
-
--- how the number of a frame stands to how many items of its sender were applied
-abbrev pub look_at : ℕ → ℕ → Look
-look_at count number =
-    if nat_le number count then look.Old
-    else (if nat_lt (count + 1) number then look.Gap (count + 1)
-    else look.Next)
 
 -- why a party does not submit the answer that an item calls for, if it does, memory aside
 abbrev pub answer_fault : Bool → SiteState → Option Message → Option SiteFault

@@ -6,11 +6,13 @@ ghost use Rattle.mv_message.specs.Kinds.{is_query_or_answer};
 ghost use Rattle.mv_message.specs.declared.message.Message.TheVariants.{Query};
 ghost use Rattle.mv_link.specs.declared.incoming.Look.TheVariants.{Next};
 ghost use Rattle.mv_link.specs.declared.limits.TheConstants.{NUMBER_LIMIT};
+ghost use Rattle.mv_link.specs.Fault.{FailsBy};
+ghost use Rattle.mv_link.specs.Receiving.{look_at};
 ghost use Rattle.mv_party.specs.declared.limits.TheConstants.{SUBMISSIONS_LIMIT};
 ghost use Rattle.mv_repository.specs.declared.entry.LogEntry.{LogEntry as ALogEntry};
 ghost use Rattle.mv_repository.specs.Query.{answer_after};
 ghost use Rattle.mv_party.specs.Site.{new_site, is_full, with_submission, with_applied, count_from, answer_number, answers_in, IsLawfulParty};
-ghost use Rattle.mv_party.specs.Calls.{FailsBy, unless_fault, submit_fault, ask_fault, look_at, answer_fault, apply_fault, taken_by, with_taken};
+ghost use Rattle.mv_party.specs.Calls.{unless_fault, submit_fault, ask_fault, answer_fault, apply_fault, taken_by, with_taken};
 
 use crate::{SiteFault, Taken};
 use mv_link::{Frame, Incoming, Item, Look};
@@ -115,7 +117,7 @@ impl Site {
         ensures number { IfOk result (λ k. k ≡ length self.old.submissions + 1) }
         ensures ok { OnOk result (self.new ≡ with_submission self.old message.now) }
         ensures err { OnErr result (self.new ≡ self.old) }
-        ensures fault { FailsBy (submit_fault uplink_full self.old message.now) result }
+        ensures fault { FailsBy SiteFault.Memory (submit_fault uplink_full self.old message.now) result }
     {
         self.check(message.get(), uplink_full)?;
         let k = self.put(message)?;
@@ -128,7 +130,7 @@ impl Site {
         ensures number { IfOk result (λ q. q ≡ length self.old.submissions + 1) }
         ensures ok { OnOk result (self.new ≡ with_submission self.old (Query key.now)) }
         ensures err { OnErr result (self.new ≡ self.old) }
-        ensures fault { FailsBy (ask_fault uplink_full self.old) result }
+        ensures fault { FailsBy SiteFault.Memory (ask_fault uplink_full self.old) result }
     {
         self.check_room(uplink_full)?;
         let query = Shared::new(self.alloc, Message::Query { key: key.copy() })?;
@@ -151,7 +153,7 @@ impl Site {
         ensures ok { OnOk result (self.new ≡ with_taken self.old sender frame.now.item
             (look_at (count_from self.old.log sender) frame.now.number)) }
         ensures err { OnErr result (self.new ≡ self.old) }
-        ensures fault { FailsBy (apply_fault uplink_full self.old sender frame.now.item
+        ensures fault { FailsBy SiteFault.Memory (apply_fault uplink_full self.old sender frame.now.item
             (look_at (count_from self.old.log sender) frame.now.number)) result }
         ensures memory { IsErrOf result SiteFault.Memory
             → look_at (count_from self.old.log sender) frame.now.number ≡ Next }
@@ -225,7 +227,7 @@ impl Site {
         ensures value { IfOk result (λ taken. taken ≡ taken_by self.old sender item.now Next) }
         ensures ok { OnOk result (self.new ≡ with_applied self.old sender item.now) }
         ensures err { OnErr result (self.new ≡ self.old) }
-        ensures fault { FailsBy (apply_fault uplink_full self.old sender item.now Next) result }
+        ensures fault { FailsBy SiteFault.Memory (apply_fault uplink_full self.old sender item.now Next) result }
     {
         self.check_answer(item, uplink_full)?;
         self.submissions.reserve(1)?;

@@ -26,8 +26,11 @@ use Rattle.mv_party.specs.declared.fault.SiteFault.{SiteFault}
 use Rattle.mv_party.specs.declared.fault.SiteFault.TheVariants.{Memory}
 use Rattle.mv_party.specs.declared.taken.Taken.{Taken}
 use Rattle.mv_party.specs.Site.{SiteState, new_site, entry_from, count_from, with_submission, with_applied, answers_in}
-use Rattle.mv_party.specs.Calls.{FailsBy, ask_fault, look_at, apply_fault, taken_by, with_taken}
-use Rattle.mv_party.proofs.SiteLemmas.{ask-free, answer-room, next-number}
+use Rattle.mv_link.specs.Fault.{FailsBy}
+use Rattle.mv_link.specs.Receiving.{look_at}
+use Rattle.mv_party.specs.Calls.{ask_fault, apply_fault, taken_by, with_taken}
+use Rattle.mv_link.proofs.LinkLemmas.{next-number}
+use Rattle.mv_party.proofs.SiteLemmas.{ask-free, answer-room}
 use Rattle.mv_machine.specs.State.{State, is_party, are_parties, submissions_of, is_uplink_full, wire_of, log_of, items_on as link_of, site_of, with_site}
 use Rattle.mv_machine.specs.Steps.{next_item}
 use Rattle.mv_machine.proofs.LawfulLemmas.{IsSound, submitted-sound, applied-sound}
@@ -262,17 +265,17 @@ put_kept p site k sound fits =
 -- a party submitted a message, or refused to, as the list machine's does
 pub submits : (p : Parts) (st : State) (party : ℕ) (site new : SiteState) (message : Message) (fault : SiteState → Option SiteFault) (result : Result ℕ SiteFault)
     → state_of p ≡ st → SiteFacts p st party site → IfOk result (λ k. k ≡ length site.submissions + 1) → OnOk result (new ≡ with_submission site message)
-    → OnErr result (new ≡ site) → FailsBy (fault site) result → Submits st party message (fault (site_of st party)) result (state_of (record p { sites = set p.sites party new }))
+    → OnErr result (new ≡ site) → FailsBy Memory (fault site) result → Submits st party message (fault (site_of st party)) result (state_of (record p { sites = set p.sites party new }))
 submits p st party site new message fault result view facts number ok err fails = record {
   number = subst (λ (s : SiteState). IfOk result (λ k. k ≡ length s.submissions + 1)) facts.is number;
   ok = site_ok p st party site new (λ s. with_submission s message) result view facts refl ok;
   err = site_err p st party site new result view facts err;
-  fault = subst (λ s. FailsBy (fault s) result) facts.is fails;
+  fault = subst (λ s. FailsBy Memory (fault s) result) facts.is fails;
 }
 
 -- the system once a party submitted a message, or refused to
 pub submission_kept : {A : Type 0} (p : Parts) (st : State) (party : ℕ) (site new : SiteState) (message : Message) (full : Bool) (fault : Option SiteFault) (result : Result A SiteFault)
-    → IsSystem p → SiteFacts p st party site → OnOk result (new ≡ with_submission site message) → OnErr result (new ≡ site) → FailsBy fault result
+    → IsSystem p → SiteFacts p st party site → OnOk result (new ≡ with_submission site message) → OnErr result (new ≡ site) → FailsBy Memory fault result
     → (fault ≡ None → (answers_in (message ∷ []) ≡ []) × (ask_fault full site ≡ None)) → IsSystem (record p { sites = set p.sites party new })
 submission_kept p st party site new message full fault (Err refused) k facts ok err fails free =
     subst (λ l. IsSystem (record p { sites = l })) (sym (site_same p st party site new facts err)) k
@@ -288,7 +291,7 @@ submission_kept p st party site new message full fault (Ok value) k facts ok err
 -- the system once a party took a frame, or refused it
 pub taken_kept : {A : Type 0} (p : Parts) (st : State) (from to : ℕ) (site new : SiteState) (item : Item) (stands : Look) (full : Bool) (result : Result A SiteFault)
     → IsSystem p → SiteFacts p st to site → from < length p.hub.parties → (stands ≡ look.Next → next_item (state_of p) from to ≡ Some item)
-    → OnOk result (new ≡ with_taken site from item stands) → OnErr result (new ≡ site) → FailsBy (apply_fault full site from item stands) result
+    → OnOk result (new ≡ with_taken site from item stands) → OnErr result (new ≡ site) → FailsBy Memory (apply_fault full site from item stands) result
     → IsSystem (record p { sites = set p.sites to new })
 taken_kept p st from to site new item stands full (Err refused) k facts lt next ok err fails = subst (λ l. IsSystem (record p { sites = l })) (sym (site_same p st to site new facts err)) k
 taken_kept p st from to site new item look.Old full (Ok value) k facts lt next ok err fails = subst (λ l. IsSystem (record p { sites = l })) (sym (site_same p st to site new facts ok)) k
@@ -334,7 +337,7 @@ pub takes : (p : Parts) (st : State) (from to : ℕ) (wire : WireState) (frame :
     → state_of p ≡ st → LinkFacts p st from to wire → SiteFacts p st to site → slice_get wire.frames 0 ≡ Some frame → full ≡ is_uplink_full st to
     → IfOk result (λ taken. taken ≡ taken_by site from frame.item (look_at (count_from site.log from) frame.number))
     → OnOk result (new ≡ with_taken site from frame.item (look_at (count_from site.log from) frame.number))
-    → OnErr result (new ≡ site) → FailsBy (apply_fault full site from frame.item (look_at (count_from site.log from) frame.number)) result
+    → OnErr result (new ≡ site) → FailsBy Memory (apply_fault full site from frame.item (look_at (count_from site.log from) frame.number)) result
     → (IsErrOf result Memory → look_at (count_from site.log from) frame.number ≡ look.Next)
     → TakesFront st from to result (state_of (record p { sites = set p.sites to new }))
 takes p st from to wire frame site new full result view link facts front full_is value ok err fails memory = record {
@@ -346,8 +349,8 @@ takes p st from to wire frame site new full result view link facts front full_is
   ok = site_ok p st to site new (λ s. with_taken s from frame.item (look_at (count_from s.log from) frame.number)) result view facts
       (with_taken-party (site_of st to) from frame.item (look_at (count_from (log_of st to) from) frame.number)) ok;
   err = site_err p st to site new result view facts err;
-  fault = subst (λ b. FailsBy (apply_fault b (site_of st to) from frame.item (look_at (count_from (log_of st to) from) frame.number)) result) full_is
-      (subst (λ (s : SiteState). FailsBy (apply_fault full s from frame.item (look_at (count_from s.log from) frame.number)) result) facts.is fails);
+  fault = subst (λ b. FailsBy Memory (apply_fault b (site_of st to) from frame.item (look_at (count_from (log_of st to) from) frame.number)) result) full_is
+      (subst (λ (s : SiteState). FailsBy Memory (apply_fault full s from frame.item (look_at (count_from s.log from) frame.number)) result) facts.is fails);
   memory = subst (λ (s : SiteState). IsErrOf result Memory → look_at (count_from s.log from) frame.number ≡ look.Next) facts.is memory;
 }
 

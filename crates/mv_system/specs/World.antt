@@ -14,7 +14,9 @@ use Rattle.mv_party.specs.declared.fault.SiteFault.TheVariants.{Memory as SiteMe
 use Rattle.mv_party.specs.declared.taken.Taken.{Taken}
 use Rattle.mv_party.specs.declared.taken.Taken.TheVariants.{Applied, Old, Gap}
 use Rattle.mv_party.specs.Site.{SiteState, new_site, with_submission}
-use Rattle.mv_party.specs.Calls.{FailsBy, look_at, apply_fault, taken_by, with_taken}
+use Rattle.mv_link.specs.Fault.{FailsBy}
+use Rattle.mv_link.specs.Receiving.{look_at}
+use Rattle.mv_party.specs.Calls.{apply_fault, taken_by, with_taken}
 use Rattle.mv_machine.specs.declared.reply.Reply.{Reply}
 use Rattle.mv_machine.specs.declared.reply.Reply.TheVariants as reply
 use Rattle.mv_machine.specs.declared.reply.Refusal.TheVariants.{Busy as BusyLink}
@@ -91,7 +93,7 @@ pub record Submits (old : State) (party : ℕ) (message : Message) (refused_for 
   pub number : IfOk result (λ k. k ≡ length (submissions_of old party) + 1)
   pub ok : OnOk result (new ≡ with_site old (with_submission (site_of old party) message))
   pub err : OnErr result (new ≡ old)
-  pub fault : FailsBy refused_for result
+  pub fault : FailsBy SiteMemory refused_for result
 
 -- A party took the frame in front of a wire, which stays there, or refused it: the frame has this number, and bears this item.
 pub record TakesFront (old : State) (from to : ℕ) (result : Result Taken SiteFault) (new : State) : Type 0 where
@@ -102,7 +104,7 @@ pub record TakesFront (old : State) (from to : ℕ) (result : Result Taken SiteF
   pub answered : IfOk result (λ taken. taken ≡ taken_by (site_of old to) from item (look_at (applied_count old from to) number))
   pub ok : OnOk result (new ≡ with_site old (with_taken (site_of old to) from item (look_at (applied_count old from to) number)))
   pub err : OnErr result (new ≡ old)
-  pub fault : FailsBy (apply_fault (is_uplink_full old to) (site_of old to) from item (look_at (applied_count old from to) number)) result
+  pub fault : FailsBy SiteMemory (apply_fault (is_uplink_full old to) (site_of old to) from item (look_at (applied_count old from to) number)) result
   pub memory : IsErrOf result SiteMemory → look_at (applied_count old from to) number ≡ Next
 
 -- the hub's refusal of the next message of a party is that of the list machine, and nothing changed

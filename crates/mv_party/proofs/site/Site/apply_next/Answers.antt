@@ -21,4 +21,4 @@ invariant_of-self-2 c =
     (c.put_answer-answer.ensures.put ∙ ap (λ l. l ++ option_to_list c.in_ok-effect.answer) c.reserve.ensures.items
     ∙ ap (λ answer. a.submissions.items ++ option_to_list answer) c.in_ok-effect.ensures.answer)
     c.in_ok-effect.ensures.ok
-    (c.advance.ensures ∙ ap (λ n. n + 1) (get_or_read a.accepted.items sender c.index_mut.result.now lt c.index_mut.ensures.value 0))
+    (c.advance.ensures.count ∙ ap (λ n. n + 1) (get_or_read a.accepted.items sender c.index_mut.result.now lt c.index_mut.ensures.value 0))

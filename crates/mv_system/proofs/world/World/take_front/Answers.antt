@@ -3,7 +3,7 @@ use Rattle.std.proofs.Common.{sym, ap, subst, ◌∙◌}
 use Rattle.std.specs.Prelude.{slice_get, option_map, IsSome}
 use Rattle.std.specs.Option.{option_copied}
 use Rattle.mv_party.specs.Site.{count_from}
-use Rattle.mv_party.specs.Calls.{look_at}
+use Rattle.mv_link.specs.Receiving.{look_at}
 use Rattle.mv_system.specs.Wire.{new_wire}
 use Rattle.mv_system.specs.World.{parts_of}
 use Rattle.mv_system.proofs.WireLemmas.{numbers_of-front}

@@ -1,12 +1,10 @@
 -- What a party keeps with one more submission, and with one more item of its repository.
 use Rattle.std.proofs.Common.{◌≡◌, ℕ, ◌+◌, ◌<◌, ◌≤◌, ◌≢◌, Bool, true, false, List, [], ◌∷◌, ◌++◌, length, cond, set, get_or, length-set, eqb, eqb-true, Option, Some, None, Ok, sym, refl, ap, ◌∙◌, subst, arith, add-zero, length-append, get_or-set_same, get_or-set_other}
-use Rattle.std.specs.Prelude.{option_to_list, nat_le, nat_lt, ◌||◌}
-use Rattle.std.proofs.lemmas.Bool.{eqb-false, leb-false, ltb-false, leb-true, ltb-true}
+use Rattle.std.specs.Prelude.{option_to_list, ◌||◌}
+use Rattle.std.proofs.lemmas.Bool.{eqb-false}
 use Rattle.mv_message.specs.declared.message.Message.{Message}
 use Rattle.mv_message.specs.Kinds.{is_query_or_answer}
 use Rattle.mv_link.specs.declared.item.Item.{Item}
-use Rattle.mv_link.specs.declared.incoming.Look.{Look}
-use Rattle.mv_link.specs.declared.incoming.Look.TheVariants as look
 use Rattle.mv_repository.specs.declared.entry.LogEntry.{LogEntry}
 use Rattle.mv_repository.specs.Log.{items_from}
 use Rattle.mv_repository.specs.Query.{answer_to}

@@ -1,5 +1,5 @@
 -- A recall changes no pack of another batch, and a withdrawal none of another product.
-use Rattle.std.proofs.Common.{◌≡◌, ℕ, List, [], ◌∷◌, refl, sym, ◌∙◌, ap, subst, Bool, true, false, cond, ◌&&◌, Option, Some, None, is_some, true≢false, IfSome, find, fold, map}
+use Rattle.std.proofs.Common.{◌≡◌, ℕ, List, [], ◌∷◌, refl, sym, ◌∙◌, ap, subst, Bool, true, false, cond, ◌&&◌, Option, Some, None, is_some, true≢false, IfSome, find, fold, map, take}
 use Rattle.std.specs.Cmp.Lexicographic.{same_text}
 use Rattle.std.specs.Option.{option_map}
 use Rattle.mv_pack.specs.declared.key.PackKey.{PackKey}
@@ -16,12 +16,12 @@ use Rattle.mv_repository.specs.Pack.{KnownPack, pack_after_status}
 use Rattle.mv_repository.specs.PackState.{is_recall_of, is_withdrawal_of, known_pack, held_of}
 use Rattle.mv_repository.specs.Packs.{is_held_in, is_of}
 use Rattle.mv_repository.specs.Stops.{FirstStops, first_stops, standing_at, place_of}
-use Rattle.mv_repository.specs.Track.{Kept, kept_in, AreTracksOf, is_upload_of, is_status_of, first_upload, statuses_of, pack_made_by, uploaded_batch, pack_changed, pack_step, pack_grown, track_of}
+use Rattle.mv_repository.specs.Track.{Kept, kept_in, AreTracksOf, is_upload_of, is_status_of, first_upload, statuses_of, pack_made_by, uploaded_batch, pack_changed, pack_step, pack_grown, pack_marks, track_of}
 use Rattle.mv_repository.proofs.OrderLemmas.{ordered-ascends}
 use Rattle.mv_repository.proofs.StateLemmas.{known-grown}
 use Rattle.mv_repository.proofs.KeptLemmas.{text-self}
 use Rattle.mv_repository.proofs.AgreementLemmas.{batch-status}
-use Rattle.mv_repository.proofs.TableLemmas.{longer, find-none, filter-none}
+use Rattle.mv_repository.proofs.TableLemmas.{longer, find-none, filter-none, parts-same}
 
 -- an entry keeps the batch of a pack, and goes by the standing of that batch alone
 batch-changed : (standing : BatchKey → BatchStanding) (place sender : ℕ) (item : Item) (pack : PackKey) (held : KnownPack) → (pack_changed standing place sender item pack held).batch ≡ held.batch
@@ -77,12 +77,17 @@ pub track-elsewhere : (log : List LogEntry) (entry : LogEntry) (pack : PackKey) 
 track-elsewhere log entry pack n s other =
     let first : first_upload pack (ordered (longer log entry)) ≡ first_upload pack (ordered log) = find-none (λ placed. is_upload_of pack placed.entry.item) log entry n in
     let own : statuses_of pack (ordered (longer log entry)) ≡ statuses_of pack (ordered log) = filter-none (λ placed. is_status_of pack placed.entry.item) log entry s in
+    let parts = parts-same (first_stops (ordered log)) (first_stops (ordered (longer log entry))) pack (first_upload pack (ordered log)) (statuses_of pack (ordered log))
+    (λ count. grown-elsewhere (first_stops (ordered log)) (first_stops (ordered (longer log entry))) pack (first_upload pack (ordered log)) (take count (statuses_of pack (ordered log))) (same (first_upload pack (ordered log)) other)) in
     let known : known_pack pack (ordered (longer log entry)) ≡ known_pack pack (ordered log) =
     known-grown pack (ordered (longer log entry)) (ordered-ascends (longer log entry))
     ∙ (λ i. pack_grown (first_stops (ordered (longer log entry))) pack (first i) (own i))
-    ∙ grown-elsewhere (first_stops (ordered log)) (first_stops (ordered (longer log entry))) pack (first_upload pack (ordered log)) (statuses_of pack (ordered log)) (same (first_upload pack (ordered log)) other)
+    ∙ parts.0
     ∙ sym (known-grown pack (ordered log) (ordered-ascends log)) in
-    λ i. record { birth = option_map place_of (first i); places = map place_of (own i); held = option_map held_of (known i) }
+    let marks : pack_marks (first_stops (ordered (longer log entry))) pack (first_upload pack (ordered (longer log entry))) (statuses_of pack (ordered (longer log entry)))
+    ≡ pack_marks (first_stops (ordered log)) pack (first_upload pack (ordered log)) (statuses_of pack (ordered log)) =
+    (λ i. pack_marks (first_stops (ordered (longer log entry))) pack (first i) (own i)) ∙ parts.1 in
+    λ i. record { birth = option_map place_of (first i); places = map place_of (own i); marks = marks i; held = option_map held_of (known i) }
   where
     same : (birth : Option Placed) → IfSome birth (λ x. (is_recall_of (batch_key pack.gtin (uploaded_batch x.entry.item)) entry.item ≡ false) × (is_withdrawal_of pack.gtin entry.item ≡ false))
         → IfSome birth (λ x. StandsSame (first_stops (ordered log)) (first_stops (ordered (longer log entry))) (batch_key pack.gtin (uploaded_batch x.entry.item)))

@@ -80,7 +80,7 @@ pub tracks_more : (log : List LogEntry) (tables : StopTables) (packs packs' : Li
 tracks_more log tables packs packs' key new t looks p = subst (IsTrack log tables p) (sym (looks p)) (by (is_same_pack key p) refl)
   where
     more : IsTrack log tables key (with_upload log tables key new (kept_in key packs))
-    more = let track = t key in record { places_ascend = track.places_ascend; worked = refl }
+    more = let track = t key in record { places_ascend = track.places_ascend; marked = refl; worked = refl }
 
     by : (b : Bool) → is_same_pack key p ≡ b → IsTrack log tables p (cond b (with_upload log tables key new (kept_in key packs)) (kept_in p packs))
     by true e = subst (λ (q : PackKey). IsTrack log tables q (with_upload log tables key new (kept_in key packs))) (same_pack key p e) more

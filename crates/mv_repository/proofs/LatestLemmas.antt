@@ -1,6 +1,6 @@
 -- An entry that stops a batch or a product changes no pack where its stamp is the greatest so far, nor where it is not the
 -- first that stops it.
-use Rattle.std.proofs.Common.{◌≡◌, ℕ, ◌+◌, ◌<◌, ◌≤◌, max, List, [], ◌∷◌, ◌++◌, refl, sym, ◌∙◌, ap, arith, Bool, true, false, cond, ◌&&◌, ◌||◌, ◌==◌, nat_lt, Option, Some, None, IfSome, true≢false, length, get_or, find, map, fold}
+use Rattle.std.proofs.Common.{◌≡◌, ℕ, ◌+◌, ◌<◌, ◌≤◌, max, List, [], ◌∷◌, ◌++◌, refl, sym, ◌∙◌, ap, arith, Bool, true, false, cond, ◌&&◌, ◌||◌, ◌==◌, nat_lt, Option, Some, None, IfSome, true≢false, length, get_or, find, map, fold, take, zero, suc}
 use Rattle.std.proofs.lemmas.Bool.Decides.{nat_tests}
 use Rattle.std.specs.Bool.{⊤}
 use Rattle.std.specs.Cmp.Lexicographic.{same_text}
@@ -18,11 +18,11 @@ use Rattle.mv_repository.specs.Pack.{KnownPack}
 use Rattle.mv_repository.specs.PackState.{is_recall_of, is_withdrawal_of, known_pack, held_of}
 use Rattle.mv_repository.specs.Stops.{FirstStops, StopTables, AreStopsOf, first_stops, is_before, standing_at, place_of, no_entry, comes_first}
 use Rattle.mv_repository.specs.Tables.{stamp_of, greatest_stamp}
-use Rattle.mv_repository.specs.Track.{Kept, is_upload_of, is_status_of, first_upload, statuses_of, pack_made_by, pack_changed, pack_step, pack_grown, AreTracksOf, track_of}
+use Rattle.mv_repository.specs.Track.{Kept, is_upload_of, is_status_of, first_upload, statuses_of, pack_made_by, pack_changed, pack_step, pack_grown, pack_marks, AreTracksOf, track_of}
 use Rattle.mv_repository.proofs.OrderLemmas.{AreBelow, over, ordered-ascends, ordered-below, still-stand}
 use Rattle.mv_repository.proofs.KeptLemmas.{same_batch}
 use Rattle.mv_repository.proofs.StateLemmas.{known-grown, find-stand}
-use Rattle.mv_repository.proofs.TableLemmas.{earlier, longer, newest, newest-stands, find-more, find-none, filter-none}
+use Rattle.mv_repository.proofs.TableLemmas.{earlier, longer, newest, newest-stands, find-more, find-none, filter-none, parts-same}
 
 -- the greatest stamp of a log with one more entry
 pub latest-longer : (n m : ℕ) (log : List LogEntry) (entry : LogEntry) → m ≡ max n (stamp_of entry.item) → n ≡ greatest_stamp log → m ≡ greatest_stamp (longer log entry)
@@ -83,6 +83,11 @@ before_none pack x n (y ∷ ys) l u d = by (is_status_of pack y.entry.item) refl
     by true e r = let h = status-upto pack n y.entry.item e u.0 in (last_stamps (rank x.entry.item) (rank y.entry.item) x.place y.place (omega (arith, h)) d.0, r)
     by false e r = r
 
+none-take : (x : Placed) (count : ℕ) (xs : List Placed) → StandsBeforeNone x xs → StandsBeforeNone x (take count xs)
+none-take x zero xs n = tt
+none-take x (suc count) [] n = tt
+none-take x (suc count) (y ∷ ys) n = (n.0, none-take x count ys n.1)
+
 -- where x doesn't stand before y, it is not what y sees
 earlier-before : (x y : Placed) (o : Option Placed) → stands_before x y ≡ false → is_before (earlier x o) y ≡ is_before o y
 earlier-before x y None e = e
@@ -122,26 +127,31 @@ grown-same stops stops' pack x (Some birth) own same n =
 
 -- the table of packs after an entry that names none, and that changes none
 tracks-grown : (log : List LogEntry) (entry : LogEntry) (table : List (PackKey × Kept)) → ((pack : PackKey) → is_upload_of pack entry.item ≡ false) → ((pack : PackKey) → is_status_of pack entry.item ≡ false)
-    → ((pack : PackKey) → pack_grown (first_stops (ordered (longer log entry))) pack (first_upload pack (ordered log)) (statuses_of pack (ordered log)) ≡ pack_grown (first_stops (ordered log)) pack (first_upload pack (ordered log)) (statuses_of pack (ordered log)))
+    → ((pack : PackKey) (count : ℕ) → pack_grown (first_stops (ordered (longer log entry))) pack (first_upload pack (ordered log)) (take count (statuses_of pack (ordered log)))
+    ≡ pack_grown (first_stops (ordered log)) pack (first_upload pack (ordered log)) (take count (statuses_of pack (ordered log))))
     → AreTracksOf log table → AreTracksOf (longer log entry) table
 tracks-grown log entry table uploads statuses same tracks pack =
     let first : first_upload pack (ordered (longer log entry)) ≡ first_upload pack (ordered log) = find-none (λ placed. is_upload_of pack placed.entry.item) log entry (uploads pack) in
     let own : statuses_of pack (ordered (longer log entry)) ≡ statuses_of pack (ordered log) = filter-none (λ placed. is_status_of pack placed.entry.item) log entry (statuses pack) in
+    let parts = parts-same (first_stops (ordered log)) (first_stops (ordered (longer log entry))) pack (first_upload pack (ordered log)) (statuses_of pack (ordered log)) (same pack) in
     let known : known_pack pack (ordered (longer log entry)) ≡ known_pack pack (ordered log) =
     known-grown pack (ordered (longer log entry)) (ordered-ascends (longer log entry))
     ∙ (λ i. pack_grown (first_stops (ordered (longer log entry))) pack (first i) (own i))
-    ∙ same pack
+    ∙ parts.0
     ∙ sym (known-grown pack (ordered log) (ordered-ascends log)) in
-    let whole : track_of pack (longer log entry) ≡ track_of pack log = (λ i. record { birth = option_map place_of (first i); places = map place_of (own i); held = option_map held_of (known i) }) in
+    let marks : pack_marks (first_stops (ordered (longer log entry))) pack (first_upload pack (ordered (longer log entry))) (statuses_of pack (ordered (longer log entry)))
+    ≡ pack_marks (first_stops (ordered log)) pack (first_upload pack (ordered log)) (statuses_of pack (ordered log)) =
+    (λ i. pack_marks (first_stops (ordered (longer log entry))) pack (first i) (own i)) ∙ parts.1 in
+    let whole : track_of pack (longer log entry) ≡ track_of pack log = (λ i. record { birth = option_map place_of (first i); places = map place_of (own i); marks = marks i; held = option_map held_of (known i) }) in
     tracks pack ∙ sym whole
 
 -- one whose stamp is the greatest so far
 pub tracks-last : (log : List LogEntry) (entry : LogEntry) (table : List (PackKey × Kept)) → greatest_stamp log ≤ stamp_of entry.item
     → ((pack : PackKey) → is_upload_of pack entry.item ≡ false) → ((pack : PackKey) → is_status_of pack entry.item ≡ false)
     → AreTracksOf log table → AreTracksOf (longer log entry) table
-tracks-last log entry table l uploads statuses = tracks-grown log entry table uploads statuses (λ pack.
-    grown-same (first_stops (ordered log)) (first_stops (ordered (longer log entry))) pack (newest log entry) (first_upload pack (ordered log)) (statuses_of pack (ordered log)) same
-    (before_none pack (newest log entry) (greatest_stamp log) (ordered log) (omega (arith, l, stamp-rank entry.item)) (upto-ordered (greatest_stamp log) [] 0 log tt (omega arith)) (ordered-below log)))
+tracks-last log entry table l uploads statuses = tracks-grown log entry table uploads statuses (λ pack count.
+    grown-same (first_stops (ordered log)) (first_stops (ordered (longer log entry))) pack (newest log entry) (first_upload pack (ordered log)) (take count (statuses_of pack (ordered log))) same
+    (none-take (newest log entry) count (statuses_of pack (ordered log)) (before_none pack (newest log entry) (greatest_stamp log) (ordered log) (omega (arith, l, stamp-rank entry.item)) (upto-ordered (greatest_stamp log) [] 0 log tt (omega arith)) (ordered-below log))))
   where
     same : (y : Placed) → stands_before (newest log entry) y ≡ false → standing_at (first_stops (ordered (longer log entry))) y ≡ standing_at (first_stops (ordered log)) y
     same y e = (λ i batch. record { recalled = sees-before (λ placed. is_recall_of batch placed.entry.item) log entry y e i; withdrawn = sees-before (λ placed. is_withdrawal_of batch.gtin placed.entry.item) log entry y e i })
@@ -195,4 +205,4 @@ pub tracks-later : (log : List LogEntry) (entry : LogEntry) (table : List (PackK
     → ((pack : PackKey) → is_upload_of pack entry.item ≡ false) → ((pack : PackKey) → is_status_of pack entry.item ≡ false)
     → AreTracksOf log table → AreTracksOf (longer log entry) table
 tracks-later log entry table same uploads statuses =
-    tracks-grown log entry table uploads statuses (λ pack. ap (λ (stops : FirstStops). pack_grown stops pack (first_upload pack (ordered log)) (statuses_of pack (ordered log))) same)
+    tracks-grown log entry table uploads statuses (λ pack count. ap (λ (stops : FirstStops). pack_grown stops pack (first_upload pack (ordered log)) (take count (statuses_of pack (ordered log)))) same)

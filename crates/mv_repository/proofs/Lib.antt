@@ -2,6 +2,7 @@ pub mod BeforeLemmas
 pub mod CountLemmas
 pub mod EffectLemmas
 pub mod KeptLemmas
+pub mod StepLemmas
 pub mod LatestLemmas
 pub mod OrderLemmas
 pub mod PlaceLemmas

@@ -24,7 +24,7 @@ use Rattle.mv_repository.specs.Stops.{StopTables}
 use Rattle.mv_repository.specs.Tables.{IsUploadOf}
 use Rattle.mv_repository.specs.Packs.{kept_born, kept_as, kept_table, IsWithin, AreWithin, IsBorn, is_own, is_own_in, IsPut, IsWrittenAnew, FindsTracked, is_in, is_of, refreshed_in, IsSettled, AreSettled}
 use Rattle.mv_repository.specs.Tracked.{serials_in, has_serial, is_tracked, KeepsSerials, KeepsTracked}
-use Rattle.mv_repository.specs.Track.{Kept, nothing_kept, kept_in, pack_made_by, held_made_at, grown_at, with_upload, refreshed, IsTrack, is_made, is_active_kept, one_if, IsTally}
+use Rattle.mv_repository.specs.Track.{Kept, nothing_kept, kept_in, pack_made_by, held_made_at, grown_at, marks_at, with_upload, refreshed, IsTrack, is_made, is_active_kept, one_if, IsTally}
 use Rattle.mv_repository.proofs.KeptLemmas.{same_pack, pack-sym, pack-self, text-self, serials_more}
 use Rattle.mv_repository.proofs.TableLemmas.{longer, newest-stands}
 
@@ -305,7 +305,7 @@ newest-born births birth log entry at made = record {
   there = omega (arith, length-append births (birth ∷ []));
   kept =
       ap (λ (o : Option Birth). unwrap_or (option_map kept_born o) nothing_kept) (get-last births birth)
-      ∙ (λ i. record { birth = Some (at i); places = []; held = (made ∙ ap (λ (e : LogEntry). option_map held_of (pack_made_by e.item)) (sym (newest-stands log entry))) i });
+      ∙ (λ i. record { birth = Some (at i); places = []; marks = []; held = (made ∙ ap (λ (e : LogEntry). option_map held_of (pack_made_by e.item)) (sym (newest-stands log entry))) i });
 }
 
 -- an upload makes packs
@@ -466,8 +466,13 @@ module _ (log : List LogEntry) (tables : StopTables) (batch : Option (List ℕ))
   -- what is worked out by entries that are right is settled
   pub settled-track : (before : StopTables) (p : PackKey) (kept : Kept) → IsTrack log before p kept → IsSettled log tables p kept
   settled-track before p kept track h =
-      (λ i. record { birth = kept.birth; places = kept.places; held = grown_at log tables p kept.birth (h i) })
-      ∙ (λ i. record { birth = kept.birth; places = kept.places; held = (by kept.birth ∙ ap (grown_at log before p kept.birth) (sym h) ∙ sym track.worked) i })
+      (λ i. record { birth = kept.birth; places = kept.places; marks = marks_at log tables p kept.birth (h i); held = grown_at log tables p kept.birth (h i) })
+      ∙ (λ i. record {
+        birth = kept.birth;
+        places = kept.places;
+        marks = (ap (marks_at log before p kept.birth) (sym h) ∙ sym track.marked) i;
+        held = (by kept.birth ∙ ap (grown_at log before p kept.birth) (sym h) ∙ sym track.worked) i;
+      })
     where
       by : (birth : Option ℕ) → grown_at log tables p birth [] ≡ grown_at log before p birth []
       by None = refl
@@ -491,7 +496,7 @@ found-own slots key slot h = ap (λ (o : Option Slot). unwrap_or (option_map is_
 pub born-fresh : (births : List Birth) (log : List LogEntry) (tables : StopTables) (key : PackKey) (new at : ℕ) (kept : Kept) → IsBorn births log new at → kept ≡ nothing_kept
     → kept_as births (Made at) ≡ with_upload log tables key new kept
 born-fresh births log tables key new at kept born none =
-    born.kept ∙ (λ i. record { birth = Some new; places = []; held = same (held_made_at log new) i }) ∙ ap (with_upload log tables key new) (sym none)
+    born.kept ∙ (λ i. record { birth = Some new; places = []; marks = []; held = same (held_made_at log new) i }) ∙ ap (with_upload log tables key new) (sym none)
   where
     same : (o : Option Held) → o ≡ option_map (λ held. held) o
     same None = refl

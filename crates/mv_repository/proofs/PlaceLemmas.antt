@@ -1,5 +1,6 @@
 -- Lemmas on places in the log, where the entries are in the order of stamps.
-use Rattle.std.proofs.Common.{◌≡◌, ℕ, zero, suc, ◌<◌, ◌≤◌, List, [], ◌∷◌, length, map, get_or, insert, take, not, refl, sym, ◌∙◌, ap, arith, Bool, true, false, cond, true≢false}
+use Rattle.std.proofs.Common.{◌≡◌, ℕ, zero, suc, ◌<◌, ◌≤◌, List, [], ◌∷◌, length, map, get_or, insert, take, not, refl, sym, ◌∙◌, ap, arith, Bool, true, false, cond, true≢false, subst, inl, inr}
+use Rattle.std.proofs.lemmas.Bool.{cases_lt}
 use Rattle.mv_repository.specs.declared.entry.LogEntry.{LogEntry}
 use Rattle.mv_repository.specs.Order.{Placed, passes, stands_before, StandsBeforeAll, Ascends}
 use Rattle.mv_repository.specs.Stops.{entry_at}
@@ -10,6 +11,22 @@ before_get : (log : List LogEntry) (x : Placed) (js : List ℕ) (i : ℕ) → St
 before_get log x [] i h l = absurd (omega arith)
 before_get log x (j ∷ js) zero h l = h.0
 before_get log x (j ∷ js) (suc i) h l = before_get log x js i h.1 (omega arith)
+
+between_get : (log : List LogEntry) (places : List ℕ) (i j : ℕ) → Ascends (map (entry_at log) places) → i < j → j < length places → stands_before (entry_at log (get_or places i 0)) (entry_at log (get_or places j 0)) ≡ true
+between_get log [] i j a l h = absurd (omega arith)
+between_get log (first ∷ rest) zero zero a l h = absurd (omega arith)
+between_get log (first ∷ rest) zero (suc j) a l h = before_get log (entry_at log first) rest j a.0 (omega arith)
+between_get log (first ∷ rest) (suc i) zero a l h = absurd (omega arith)
+between_get log (first ∷ rest) (suc i) (suc j) a l h = between_get log rest i j a.1 (omega arith) (omega arith)
+
+-- what passes one passes all from there on
+pub passed_on : (log : List LogEntry) (new : ℕ) (places : List ℕ) (i j : ℕ) → Ascends (map (entry_at log) places) → passes (entry_at log new) (entry_at log (get_or places i 0)) ≡ true → i ≤ j → j < length places
+    → passes (entry_at log new) (entry_at log (get_or places j 0)) ≡ true
+passed_on log new places i j a e l h =
+    elim (cases_lt i j) [
+      | inl behind ↦ passes_behind (entry_at log new) (entry_at log (get_or places i 0)) (entry_at log (get_or places j 0)) e (between_get log places i j a behind h)
+      | inr same ↦ let at : i ≡ j = omega arith in subst (λ (n : ℕ). passes (entry_at log new) (entry_at log (get_or places n 0)) ≡ true) at e
+    ]
 
 -- the first place stays in front where the last in front does
 stays : (log : List LogEntry) (new j : ℕ) (js : List ℕ) → Ascends (map (entry_at log) (j ∷ js)) → (b : Bool) → passes (entry_at log new) (entry_at log j) ≡ b → (k : ℕ) → suc k ≤ length (j ∷ js)

@@ -1,9 +1,10 @@
 -- What the tables are after one more entry of the log.
-use Rattle.std.proofs.Common.{◌≡◌, ℕ, List, [], ◌∷◌, ◌++◌, length, get_or, refl, sym, ◌∙◌, ap, Bool, true, false, cond, Option, Some, None, IfSome, filter, find, map, subst}
+use Rattle.std.proofs.Common.{◌≡◌, ℕ, List, [], ◌∷◌, ◌++◌, length, get_or, refl, sym, ◌∙◌, ap, Bool, true, false, cond, Option, Some, None, IfSome, filter, find, map, subst, take, ◌+◌, arith, zero, suc}
 use Rattle.std.specs.Map.{lookup}
 use Rattle.std.specs.Cmp.Lexicographic.{same_text}
 use Rattle.std.specs.Option.{option_map}
-use Rattle.std.proofs.lemmas.List.{get_or_push}
+use Rattle.std.proofs.lemmas.List.{get_or_push, take-map, take_all, length-map}
+use Rattle.std.specs.List.{range_with_len}
 use Rattle.mv_pack.specs.declared.key.PackKey.{PackKey}
 use Rattle.mv_pack.specs.declared.key.BatchKey.{BatchKey}
 use Rattle.mv_link.specs.declared.item.Item.{Item}
@@ -11,8 +12,8 @@ use Rattle.mv_repository.specs.declared.entry.LogEntry.{LogEntry}
 use Rattle.mv_repository.specs.Keys.{is_same_text, is_same_pack, is_same_batch}
 use Rattle.mv_repository.specs.Order.{Placed, passes, put_in, ordered, StandsBeforeAll, Ascends}
 use Rattle.mv_repository.specs.PackState.{is_recall_of, is_withdrawal_of, held_of, known_pack, pack_state}
-use Rattle.mv_repository.specs.Stops.{StopTables, first_stops, stops_in, entry_at, place_of, no_entry, first_recall, first_withdrawal, AreStopsOf, earlier_place}
-use Rattle.mv_repository.specs.Track.{Kept, is_upload_of, is_status_of, first_upload, statuses_of, pack_grown, grown_at, put_place, worked_out, with_status, with_upload, refreshed, IsTrack, kept_in, track_of, AreTracksOf}
+use Rattle.mv_repository.specs.Stops.{FirstStops, StopTables, first_stops, stops_in, entry_at, place_of, no_entry, first_recall, first_withdrawal, AreStopsOf, earlier_place}
+use Rattle.mv_repository.specs.Track.{Kept, is_upload_of, is_status_of, first_upload, statuses_of, pack_grown, pack_marks, grown_at, marks_at, stands_by, put_place, worked_out, with_status, with_upload, refreshed, IsTrack, kept_in, track_of, AreTracksOf}
 use Rattle.mv_repository.proofs.OrderLemmas.{placed_at, passes_behind, ordered-ascends, ordered-push, Stand, ordered-stand, still-stand}
 use Rattle.mv_repository.proofs.StateLemmas.{known-grown, grown-stands, map-stands, find-stand, find-stands}
 use Rattle.mv_repository.proofs.KeptLemmas.{same_pack, same_batch}
@@ -177,13 +178,46 @@ worked-state whole log tables pack s stops =
     (find-stand (λ placed. is_upload_of pack placed.entry.item) whole (ordered log) s) (filter-stand (λ placed. is_status_of pack placed.entry.item) whole (ordered log) s)
     ∙ ap (option_map held_of) (sym (known-grown pack (ordered log) (ordered-ascends log)))
 
+-- the marks of its statuses are worked out too
+stand-take : (log : List LogEntry) (count : ℕ) (xs : List Placed) → Stand log xs → Stand log (take count xs)
+stand-take log zero xs s = tt
+stand-take log (suc count) [] s = tt
+stand-take log (suc count) (x ∷ xs) s = (s.0, stand-take log count xs s.1)
+
+worked-marks : (whole log : List LogEntry) (tables : StopTables) (pack : PackKey) → Stand whole (ordered log) → AreStopsOf log tables
+    → marks_at whole tables pack (option_map place_of (first_upload pack (ordered log))) (map place_of (statuses_of pack (ordered log)))
+    ≡ pack_marks (first_stops (ordered log)) pack (first_upload pack (ordered log)) (statuses_of pack (ordered log))
+worked-marks whole log tables pack s stops =
+    let birth = first_upload pack (ordered log) in
+    let own = statuses_of pack (ordered log) in
+    let part : (count : ℕ) → grown_at whole tables pack (option_map place_of birth) (take count (map place_of own)) ≡ option_map held_of (pack_grown (first_stops (ordered log)) pack birth (take count own)) =
+    λ count. ap (grown_at whole tables pack (option_map place_of birth)) (take-map place_of count own)
+    ∙ grown-stands whole tables (first_stops (ordered log)) pack birth (take count own) (stops-found whole log tables s stops)
+    (find-stand (λ placed. is_upload_of pack placed.entry.item) whole (ordered log) s)
+    (stand-take whole count own (filter-stand (λ placed. is_status_of pack placed.entry.item) whole (ordered log) s)) in
+    λ i. map (λ count. stands_by (option_map place_of birth) (part (count + 1) i)) (range_with_len 0 (length-map own place_of i))
+
+-- what is the same behind each of the statuses
+pub parts-same : (stops stops' : FirstStops) (pack : PackKey) (birth : Option Placed) (own : List Placed)
+    → ((count : ℕ) → pack_grown stops' pack birth (take count own) ≡ pack_grown stops pack birth (take count own))
+    → (pack_grown stops' pack birth own ≡ pack_grown stops pack birth own) × (pack_marks stops' pack birth own ≡ pack_marks stops pack birth own)
+parts-same stops stops' pack birth own same = (
+  subst (λ (l : List Placed). pack_grown stops' pack birth l ≡ pack_grown stops pack birth l) (take_all (length own) own (omega arith)) (same (length own)),
+  λ i. map (λ count. stands_by (option_map place_of birth) (option_map held_of (same (count + 1) i))) (range_with_len 0 (length own)),
+)
+
 -- a pack worked out anew
 anew : (log : List LogEntry) (tables : StopTables) (pack : PackKey) (birth : Option ℕ) (places : List ℕ) → AreStopsOf log tables
     → birth ≡ option_map place_of (first_upload pack (ordered log)) → places ≡ map place_of (statuses_of pack (ordered log))
     → worked_out log tables pack birth places ≡ track_of pack log
 anew log tables pack birth places stops b q =
     (λ i. worked_out log tables pack (b i) (q i))
-    ∙ (λ i. record { birth = option_map place_of (first_upload pack (ordered log)); places = map place_of (statuses_of pack (ordered log)); held = worked-state log log tables pack (ordered-stand log) stops i })
+    ∙ (λ i. record {
+      birth = option_map place_of (first_upload pack (ordered log));
+      places = map place_of (statuses_of pack (ordered log));
+      marks = worked-marks log log tables pack (ordered-stand log) stops i;
+      held = worked-state log log tables pack (ordered-stand log) stops i;
+    })
 
 -- what is kept of a pack, when the newest entry is in the log and not yet in the tables
 pub is_track : (log : List LogEntry) (entry : LogEntry) (table : List (PackKey × Kept)) (tables : StopTables) (pack : PackKey) → AreTracksOf log table → AreStopsOf log tables
@@ -192,6 +226,7 @@ is_track log entry table tables pack tracks stops =
     let stand = still-stand log entry in
     let track : IsTrack (longer log entry) tables pack (track_of pack log) = record {
       places_ascend = subst Ascends (sym (map-stands (longer log entry) (statuses_of pack (ordered log)) (filter-stand (λ placed. is_status_of pack placed.entry.item) (longer log entry) (ordered log) stand))) (filter-ascends (λ placed. is_status_of pack placed.entry.item) (ordered log) (ordered-ascends log));
+      marked = sym (worked-marks (longer log entry) log tables pack stand stops);
       worked = sym (worked-state (longer log entry) log tables pack stand stops);
     } in
     subst (IsTrack (longer log entry) tables pack) (sym (tracks pack)) track
@@ -218,7 +253,12 @@ untouched log entry pack n s none =
     known-grown pack (ordered (longer log entry)) (ordered-ascends (longer log entry))
     ∙ (λ i. pack_grown (record { recall = λ batch. recall batch i; withdrawal = λ gtin. withdrawal gtin i }) pack (first i) (own i))
     ∙ sym (known-grown pack (ordered log) (ordered-ascends log)) in
-    λ i. record { birth = option_map place_of (first i); places = map place_of (own i); held = option_map held_of (known i) }
+    λ i. record {
+      birth = option_map place_of (first i);
+      places = map place_of (own i);
+      marks = pack_marks (record { recall = λ batch. recall batch i; withdrawal = λ gtin. withdrawal gtin i }) pack (first i) (own i);
+      held = option_map held_of (known i);
+    }
 
 -- an entry that names no pack and stops nothing leaves the table of packs
 pub tracks-stay : (log : List LogEntry) (entry : LogEntry) (table : List (PackKey × Kept)) → ((pack : PackKey) → is_upload_of pack entry.item ≡ false) → ((pack : PackKey) → is_status_of pack entry.item ≡ false) → StopsNone entry.item

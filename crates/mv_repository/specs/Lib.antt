@@ -14,6 +14,7 @@ pub mod Repository
 pub mod Stops
 pub mod Masters
 pub mod Track
+pub mod Steps
 pub mod Tracked
 pub mod Packs
 pub mod Inquiries

@@ -18,7 +18,7 @@ use Rattle.mv_repository.specs.Track.{Kept, nothing_kept, kept_in, held_made_at,
 
 -- what is kept of a pack that is as an upload made it
 abbrev pub kept_born : Birth → Kept
-kept_born birth = record { birth = Some birth.place; places = []; held = Some birth.held }
+kept_born birth = record { birth = Some birth.place; places = []; marks = []; held = Some birth.held }
 
 -- what is kept of a pack, by what stands in the table
 abbrev pub kept_as : List Birth → Slot → Kept
@@ -41,7 +41,7 @@ AreWithin count (entry ∷ rest) = IsWithin count entry.1 × AreWithin count res
 -- the newest entry, an upload, stands at a place among those that made packs
 pub record IsBorn (births : List Birth) (log : List LogEntry) (new at : ℕ) : Type 0 where
   pub there : at < length births
-  pub kept : kept_as births (Made at) ≡ record { birth = Some new; places = []; held = held_made_at log new }
+  pub kept : kept_as births (Made at) ≡ record { birth = Some new; places = []; marks = []; held = held_made_at log new }
 
 -- a pack has a track of its own
 abbrev pub is_own : Slot → Bool

@@ -1,6 +1,6 @@
 -- What is kept of one pack, and that this gives what the pack is.
-use Rattle.std.specs.Prelude.{◌≡◌, ℕ, List, [], ◌∷◌, map, fold, filter, find, get_or, not, is_some, Bool, false, Option, Some, None, if◌then◌else◌}
-use Rattle.std.specs.List.{count_by}
+use Rattle.std.specs.Prelude.{◌≡◌, ◌+◌, ℕ, List, [], ◌∷◌, map, fold, filter, find, get_or, take, length, not, is_some, Bool, false, Option, Some, None, if◌then◌else◌}
+use Rattle.std.specs.List.{count_by, range_with_len}
 use Rattle.std.specs.Map.{lookup}
 use Rattle.mv_repository.specs.declared.tally.Tally.{Tally}
 use Rattle.std.specs.Option.{option_map, unwrap_or}
@@ -21,7 +21,7 @@ use Rattle.mv_repository.specs.Order.{Placed, passes, stands_before, ordered, As
 use Rattle.mv_repository.specs.Pack.{KnownPack, KnownChange, new_pack, pack_after_status, change_effect}
 use Rattle.mv_repository.specs.Counts.{is_held_active}
 use Rattle.mv_repository.specs.PackState.{has_pack, held_of, pack_state}
-use Rattle.mv_repository.specs.Stops.{FirstStops, StopTables, no_entry, entry_at, place_of, standing_at, stops_in, comes_first, earlier_place}
+use Rattle.mv_repository.specs.Stops.{FirstStops, StopTables, no_entry, entry_at, place_of, first_stops, standing_at, stops_in, comes_first, earlier_place}
 
 -- an item is an upload that names a pack
 abbrev pub is_upload_of : PackKey → Item → Bool
@@ -113,10 +113,45 @@ grown_at log tables pack (Some birth) places =
     (λ held. fold (held_step log (stops_in log tables) pack (entry_at log birth)) held (map (entry_at log) places))
     (held_made_at log birth)
 
--- what is kept of a pack: the place of its first upload, the places of its statuses in the order of stamps, and what it is
+-- the place in the log of the status that changed a pack; none where it is as its upload made it, or is not held
+abbrev pub changed_at : Option Held → Option ℕ
+changed_at None = None
+changed_at (Some held) = option_map (λ (change : Change). change.entry) held.change
+
+-- the place of the entry by which a pack stands: of the status that changed it, else of its first upload
+abbrev pub stands_by : Option ℕ → Option Held → ℕ
+stands_by birth held = unwrap_or (changed_at held) (unwrap_or birth 0)
+
+-- by which entry a pack stands behind each of its statuses
+abbrev pub marks_at : List LogEntry → StopTables → PackKey → Option ℕ → List ℕ → List ℕ
+marks_at log tables pack birth places =
+    map (λ count. stands_by birth (grown_at log tables pack birth (take (count + 1) places))) (range_with_len 0 (length places))
+
+-- the same by the first upload and the statuses alone
+abbrev pub pack_marks : FirstStops → PackKey → Option Placed → List Placed → List ℕ
+pack_marks stops pack birth statuses =
+    map
+    (λ count. stands_by (option_map place_of birth) (option_map held_of (pack_grown stops pack birth (take (count + 1) statuses))))
+    (range_with_len 0 (length statuses))
+
+-- a pack that the item of a sender, which stands at a place of the log, has changed, where it is a status
+abbrev pub changed_by : ℕ → ℕ → Item → Held → Held
+changed_by place sender (Carried k stamp (Status key to user at)) held =
+    record held { standing = to; change = Some (record { by = sender; at = at; entry = place }) }
+changed_by place sender _ held = held
+
+-- a pack that stands by the entry at a place of the log
+abbrev pub held_by : List LogEntry → Option ℕ → ℕ → Option Held
+held_by log None place = None
+held_by log (Some birth) place =
+    option_map (changed_by place (entry_at log place).entry.sender (entry_at log place).entry.item) (held_made_at log birth)
+
+-- what is kept of a pack: the place of its first upload, the places of its statuses in the order of stamps, by which entry
+-- it stands behind each of these, and what it is
 pub record Kept : Type 0 where
   pub birth : Option ℕ
   pub places : List ℕ
+  pub marks : List ℕ
   pub held : Option Held
 
 -- the effect of a status of a pack that is held, where the status stands; nothing else has one
@@ -133,7 +168,12 @@ put_place log new (first ∷ rest) =
 -- what is kept, with the pack worked out
 abbrev pub worked_out : List LogEntry → StopTables → PackKey → Option ℕ → List ℕ → Kept
 worked_out log tables pack birth places =
-    record { birth = birth; places = places; held = grown_at log tables pack birth places }
+    record {
+      birth = birth;
+      places = places;
+      marks = marks_at log tables pack birth places;
+      held = grown_at log tables pack birth places;
+    }
 
 abbrev pub with_status : List LogEntry → StopTables → PackKey → ℕ → Kept → Kept
 with_status log tables pack new kept = worked_out log tables pack kept.birth (put_place log new kept.places)
@@ -167,14 +207,15 @@ abbrev pub newest_effect : List LogEntry → StopTables → PackKey → ℕ → 
 newest_effect log tables pack new kept =
     effect_when log (stops_in log tables) pack (held_before log tables pack new kept.birth kept.places) (entry_at log new)
 
--- what is kept stands in order, and the pack is worked out
+-- what is kept stands in order, and the pack is worked out, behind each of its statuses too
 pub record IsTrack (log : List LogEntry) (tables : StopTables) (pack : PackKey) (kept : Kept) : Type 0 where
   pub places_ascend : Ascends (map (entry_at log) kept.places)
+  pub marked : kept.marks ≡ marks_at log tables pack kept.birth kept.places
   pub worked : kept.held ≡ grown_at log tables pack kept.birth kept.places
 
 -- nothing is kept
 abbrev pub nothing_kept : Kept
-nothing_kept = record { birth = None; places = []; held = None }
+nothing_kept = record { birth = None; places = []; marks = []; held = None }
 
 -- what a table keeps of a pack, if only nothing
 abbrev pub kept_in : PackKey → List (PackKey × Kept) → Kept
@@ -185,6 +226,7 @@ abbrev pub track_of : PackKey → List LogEntry → Kept
 track_of pack log = record {
   birth = option_map place_of (first_upload pack (ordered log));
   places = map place_of (statuses_of pack (ordered log));
+  marks = pack_marks (first_stops (ordered log)) pack (first_upload pack (ordered log)) (statuses_of pack (ordered log));
   held = pack_state pack log;
 }
 

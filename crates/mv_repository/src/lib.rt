@@ -31,6 +31,7 @@ mod repository;
 mod sender;
 mod slot;
 mod status;
+mod steps;
 mod stops;
 mod table;
 mod tally;

@@ -196,10 +196,10 @@ pub(crate) fn start(
     ensures log { OnOk result (log.new.items ≡ log.old.items ++ entry ∷ []) }
     ensures kept { IfOk result (λ started. started.track.value
         ≡ with_status (log.old.items ++ entry ∷ []) stops.now pack.now (length log.old.items)
-        (record { birth = birth; places = []; held = held })) }
+        (record { birth = birth; places = []; marks = []; held = held })) }
     ensures effect { IfOk result (λ started. started.effect
         ≡ newest_effect (log.old.items ++ entry ∷ []) stops.now pack.now (length log.old.items)
-        (record { birth = birth; places = []; held = held })) }
+        (record { birth = birth; places = []; marks = []; held = held })) }
     ensures keeps { KeepsTracked tracked.old tracked.new }
     ensures added { OnOk result (is_tracked pack.now tracked.new ≡ true) }
     ensures log_err { OnErr result (log.new.items ≡ log.old.items) }

@@ -6,11 +6,13 @@ ghost use Rattle.std.specs.Option.{option_copied, option_map};
 ghost use Rattle.mv_repository.specs.Order.{Ascends};
 ghost use Rattle.mv_repository.specs.Pack.{pack_after_status};
 ghost use Rattle.mv_repository.specs.PackState.{held_of};
-ghost use Rattle.mv_repository.specs.Stops.{entry_at, stops_in, comes_first};
-ghost use Rattle.mv_repository.specs.Track.{known_of, pack_made_by, held_made_at, held_step, grown_at, put_place, IsTrack, with_status, with_upload, refreshed, places_before, held_before, effect_when, newest_effect, is_made, is_active_kept};
+ghost use Rattle.mv_pack.specs.declared.key.PackKey.{PackKey as APackKey};
+ghost use Rattle.mv_repository.specs.Stops.{StopTables, entry_at, stops_in, comes_first};
+ghost use Rattle.mv_repository.specs.Track.{known_of, pack_made_by, held_made_at, held_step, grown_at, put_place, IsTrack, with_status, with_upload, refreshed, places_before, held_before, effect_when, newest_effect, stands_by, is_made, is_active_kept};
 
-use crate::order::{comes_first, passes, stands_before};
+use crate::order::{comes_first, stands_before};
 use crate::status::{change_effect, is_active};
+use crate::steps::{Step, carry_on, held_by, place_for, stands_by, work_out};
 use crate::stops::{BatchStanding, Stops};
 use crate::tally::Share;
 use crate::{Change, Effect, Held, LogEntry};
@@ -56,7 +58,7 @@ pub(crate) fn made_by(item: &Item) -> Option<Held>
 }
 
 /// The pack that the upload at a place of the log makes.
-fn made_at(log: &[LogEntry], place: usize) -> Option<Held>
+pub(crate) fn made_at(log: &[LogEntry], place: usize) -> Option<Held>
     ensures { result ≡ held_made_at log.now place }
 {
     made_by(&log.get(place)?.item)
@@ -135,40 +137,8 @@ fn advance(
     )
 }
 
-/// A pack by its own entries.
-fn work_out(
-    log: &[LogEntry],
-    stops: &Stops,
-    pack: &PackKey,
-    birth: Option<usize>,
-    places: &[usize],
-) -> Option<Held>
-    ensures { result ≡ grown_at log.now stops.now pack.now birth places.now }
-{
-    let first = birth?;
-    let mut held = made_at(log, first)?;
-    for place in places {
-        held = advance(log, stops, pack, first, held, *place);
-    }
-    Some(held)
-}
-
-/// Where the newest entry goes among places in the order of stamps: behind all that it doesn't pass.
-fn place_for(log: &[LogEntry], places: &[usize], new: usize) -> usize
-    requires ascend { Ascends (map (entry_at log.now) places.now) }
-    ensures within { result ≤ length places.now }
-    ensures put { insert places.now result new ≡ put_place log.now new places.now }
-    ensures before { take result places.now ≡ places_before log.now new places.now }
-{
-    let mut at = places.len();
-    while at > 0 && passes(log, new, places[at - 1]) {
-        at -= 1;
-    }
-    at
-}
-
 /// The same pack after one more status, which stands last.
-fn one_more(
+pub(crate) fn one_more(
     log: &[LogEntry],
     stops: &Stops,
     pack: &PackKey,
@@ -215,31 +185,24 @@ fn effect_on(
     change_effect(log, held, standing, *to, entry.sender, user.as_str(), *at)
 }
 
-/// The effect of the newest entry, a status that goes to a place among those of its pack.
+/// The effect of the newest entry, a status of a pack that was so before it.
 fn newest_effect(
     log: &[LogEntry],
     stops: &Stops,
     pack: &PackKey,
     birth: Option<usize>,
-    places: &[usize],
-    held: &Option<Held>,
+    before: &Option<Held>,
     new: usize,
-    at: usize,
 ) -> Effect
-    requires worked { held.now ≡ grown_at log.now stops.now pack.now birth places.now }
-    requires within { at ≤ length places.now }
-    requires before { take at places.now ≡ places_before log.now new places.now }
-    ensures { result ≡ effect_when log.now (stops_in log.now stops.now) pack.now
-        (held_before log.now stops.now pack.now new birth places.now) (entry_at log.now new) }
+    ensures { (places : List ℕ)
+        → before.now ≡ grown_at log.now stops.now pack.now birth (places_before log.now new places)
+        → result ≡ effect_when log.now (stops_in log.now stops.now) pack.now
+        (held_before log.now stops.now pack.now new birth places) (entry_at log.now new) }
 {
     if comes_first(log, new, birth) {
         return Effect::Unknown;
     }
-    if at == places.len() {
-        return effect_on(log, stops, pack, held, new);
-    }
-    let before = work_out(log, stops, pack, birth, &places[..at]);
-    effect_on(log, stops, pack, &before, new)
+    effect_on(log, stops, pack, before, new)
 }
 
 /// What is kept of a pack.
@@ -247,18 +210,25 @@ fn newest_effect(
 pub(crate) struct Track {
     /// The place of the first upload that names the pack.
     birth: Option<usize>,
-    /// The places of its statuses, in the order of stamps.
-    places: Vec<usize>,
+    /// Its statuses, in the order of stamps.
+    steps: Vec<Step>,
     /// What they make of it.
     held: Option<Held>,
 }
 
 impl Model for Track {
+    ghost use Rattle.std.specs.Prelude.{map};
+    ghost use Rattle.mv_repository.specs.Steps.{step_place, step_mark};
     ghost use Rattle.mv_repository.specs.Track.{Kept};
 
     ghost Value = { Kept };
 
-    ghost view = { λ a. record { birth = a.birth; places = a.places.items; held = a.held } };
+    ghost view = { λ a. record {
+      birth = a.birth;
+      places = map step_place a.steps.items;
+      marks = map step_mark a.steps.items;
+      held = a.held;
+    } };
 }
 
 impl Track {
@@ -272,18 +242,11 @@ impl Track {
         place: usize,
     ) -> Result<Box<Track>, AllocError>
         ensures { IfOk result (λ track. track.value
-            ≡ record { birth = birth; places = place ∷ []; held = held }) }
+            ≡ record { birth = birth; places = place ∷ []; marks = place ∷ []; held = held }) }
     {
-        let mut places = Vec::new(alloc);
-        places.push(place)?;
-        Ok(Box::new(
-            alloc,
-            Track {
-                birth,
-                places,
-                held,
-            },
-        )?)
+        let mut steps = Vec::with_capacity(alloc, 1)?;
+        steps.push_reserved(Step { place, by: place });
+        Ok(Box::new(alloc, Track { birth, steps, held })?)
     }
 
     /// What the pack is; none where no upload names it.
@@ -325,13 +288,42 @@ impl Track {
         requires alone { self.old.places ≡ new ∷ [] }
         requires worked { self.old.held ≡ grown_at log.now stops.now pack.now self.old.birth [] }
         ensures kept { self.new ≡ with_status log.now stops.now pack.now new
-            (record { birth = self.old.birth; places = []; held = self.old.held }) }
+            (record { birth = self.old.birth; places = []; marks = []; held = self.old.held }) }
         ensures effect { result ≡ newest_effect log.now stops.now pack.now new
-            (record { birth = self.old.birth; places = []; held = self.old.held }) }
+            (record { birth = self.old.birth; places = []; marks = []; held = self.old.held }) }
     {
-        let effect = newest_effect(log, stops, pack, self.birth, &[], &self.held, new, 0);
+        let effect = newest_effect(log, stops, pack, self.birth, &self.held, new);
         self.held = one_more(log, stops, pack, self.birth, self.held.take(), new);
+        self.steps[0].by = stands_by(self.birth, &self.held);
         effect
+    }
+
+    /// The place of the entry by which the pack stood before the status at a place among its own.
+    fn mark_before(&self, at: usize) -> usize
+        requires { at ≤ length self.now.places }
+        ensures { (log : List LogEntry) (tables : StopTables) (pack : APackKey) → IsTrack log tables pack self.now
+            → result ≡ stands_by self.now.birth (grown_at log tables pack self.now.birth (take at self.now.places)) }
+    {
+        if at == 0 {
+            self.birth.unwrap_or(0)
+        } else {
+            self.steps[at - 1].by
+        }
+    }
+
+    /// What the pack was before the status at a place among its own.
+    fn before(&self, log: &[LogEntry], at: usize) -> Option<Held>
+        requires { at ≤ length self.now.places }
+        ensures { (tables : StopTables) (pack : APackKey) → IsTrack log.now tables pack self.now
+            → result ≡ grown_at log.now tables pack self.now.birth (take at self.now.places) }
+    {
+        if at < self.steps.len() {
+            return held_by(log, self.birth, self.mark_before(at));
+        }
+        match &self.held {
+            Some(held) => Some(held.copy()),
+            None => None,
+        }
     }
 
     /// Writes a status of the pack into the log, adds it, and gives its effect where it stands. Where memory is refused
@@ -353,23 +345,29 @@ impl Track {
         ensures log_err { OnErr result (log.new.items ≡ log.old.items) }
         ensures err { OnErr result (self.new ≡ self.old) }
     {
-        self.places.reserve(1)?;
+        self.steps.reserve(1)?;
         // All room is got: nothing fails from here on.
         let new = log.len();
         log.push_reserved(entry);
         let log = log.as_slice();
-        let at = place_for(log, self.places.as_slice(), new);
-        let is_last = at == self.places.len();
-        let places = self.places.as_slice();
-        let effect = newest_effect(log, stops, pack, self.birth, places, &self.held, new, at);
-        let Ok(()) = self.places.insert(at, new) else {
+        let at = place_for(log, self.steps.as_slice(), new);
+        let by = self.mark_before(at);
+        let before = self.before(log, at);
+        let effect = newest_effect(log, stops, pack, self.birth, &before, new);
+        let Ok(()) = self.steps.insert(at, Step { place: new, by }) else {
             unreachable!();
         };
-        self.held = if is_last {
-            one_more(log, stops, pack, self.birth, self.held.take(), new)
-        } else {
-            work_out(log, stops, pack, self.birth, self.places.as_slice())
-        };
+        let last = self.held.take();
+        self.held = carry_on(
+            log,
+            stops,
+            pack,
+            self.birth,
+            &mut self.steps,
+            at,
+            before,
+            last,
+        );
         Ok(effect)
     }
 
@@ -389,7 +387,7 @@ impl Track {
             return false;
         }
         self.birth = Some(new);
-        self.held = work_out(log, stops, pack, self.birth, self.places.as_slice());
+        self.held = work_out(log, stops, pack, self.birth, &mut self.steps);
         true
     }
 
@@ -397,6 +395,6 @@ impl Track {
     pub fn refresh(&mut self, log: &[LogEntry], stops: &Stops, pack: &PackKey)
         ensures { self.new ≡ refreshed log.now stops.now pack.now self.old }
     {
-        self.held = work_out(log, stops, pack, self.birth, self.places.as_slice());
+        self.held = work_out(log, stops, pack, self.birth, &mut self.steps);
     }
 }

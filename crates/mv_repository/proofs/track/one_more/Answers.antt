@@ -1,24 +1,20 @@
 -- One more status at the end is one more step.
-use Rattle.std.proofs.Common.{◌≡◌, ◌∙◌, ap, sym, refl, ℕ, List, [], ◌∷◌, ◌++◌, map, fold, Option, Some, None}
+use Rattle.std.proofs.Common.{◌≡◌, ◌∙◌, ap, sym, ℕ, List, [], ◌∷◌, ◌++◌, map, fold, Option, Some, None}
 use Rattle.std.proofs.lemmas.Option.{none-some}
 use Rattle.std.specs.Option.{option_map, unwrap_or}
 use Rattle.mv_repository.specs.declared.held.Held.{Held}
 use Rattle.mv_repository.specs.Order.{Placed}
 use Rattle.mv_repository.specs.Stops.{entry_at, stops_in}
 use Rattle.mv_repository.specs.Track.{held_step, held_made_at}
+use Rattle.mv_repository.proofs.StepLemmas.{fold-push}
 use Rattle.mv_repository.proofs.track.one_more.Goals as goal
-
-fold_push : (step : Held → Placed → Held) (held : Held) (at : ℕ → Placed) (places : List ℕ) (new : ℕ)
-    → step (fold step held (map at places)) (at new) ≡ fold step held (map at (places ++ new ∷ []))
-fold_push step held at [] new = refl
-fold_push step held at (first ∷ rest) new = fold_push step (step held (at first)) at rest new
 
 one_step : (step : Held → Placed → Held) (at : ℕ → Placed) (made : Option Held) (held : Held) (places : List ℕ) (new : ℕ)
     → Some held ≡ option_map (λ first. fold step first (map at places)) made
     → Some (step held (at new)) ≡ option_map (λ first. fold step first (map at (places ++ new ∷ []))) made
 one_step step at None held places new e = absurd (none-some held (sym e))
 one_step step at (Some first) held places new e =
-    ap (λ (o : Option Held). Some (step (unwrap_or o held) (at new))) e ∙ ap Some (fold_push step first at places new)
+    ap (λ (o : Option Held). Some (step (unwrap_or o held) (at new))) e ∙ ap Some (fold-push step first at places new)
 
 pub returns : goal.returns
 returns c places before =

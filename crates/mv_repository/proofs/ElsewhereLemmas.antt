@@ -1,5 +1,5 @@
 -- A recall changes no pack of another batch, and a withdrawal none of another product.
-use Rattle.std.proofs.Common.{◌≡◌, ℕ, List, [], ◌∷◌, refl, sym, ◌∙◌, ap, subst, Bool, true, false, cond, ◌&&◌, Option, Some, None, is_some, true≢false, IfSome, find, fold, map, take}
+use Rattle.std.proofs.Common.{◌≡◌, ℕ, List, [], ◌∷◌, refl, sym, ◌∙◌, ap, subst, Bool, true, false, cond, ◌&&◌, Option, Some, None, is_some, true≢false, IfSome, find, fold, map, take, get_or}
 use Rattle.std.specs.Cmp.Lexicographic.{same_text}
 use Rattle.std.specs.Option.{option_map}
 use Rattle.mv_pack.specs.declared.key.PackKey.{PackKey}
@@ -14,11 +14,11 @@ use Rattle.mv_repository.specs.Keys.{is_same_text, is_same_batch, batch_key}
 use Rattle.mv_repository.specs.Order.{Placed, stands_before, ordered}
 use Rattle.mv_repository.specs.Pack.{KnownPack, pack_after_status}
 use Rattle.mv_repository.specs.PackState.{is_recall_of, is_withdrawal_of, known_pack, held_of}
-use Rattle.mv_repository.specs.Packs.{is_held_in, is_of}
-use Rattle.mv_repository.specs.Stops.{FirstStops, first_stops, standing_at, place_of}
+use Rattle.mv_repository.specs.Packs.{is_held_in, is_of, IsMadeAt, AreMade}
+use Rattle.mv_repository.specs.Stops.{FirstStops, first_stops, standing_at, place_of, no_entry}
 use Rattle.mv_repository.specs.Track.{Kept, kept_in, AreTracksOf, is_upload_of, is_status_of, first_upload, statuses_of, pack_made_by, uploaded_batch, pack_changed, pack_step, pack_grown, pack_marks, track_of}
-use Rattle.mv_repository.proofs.OrderLemmas.{ordered-ascends}
-use Rattle.mv_repository.proofs.StateLemmas.{known-grown}
+use Rattle.mv_repository.proofs.OrderLemmas.{ordered-ascends, still-stand}
+use Rattle.mv_repository.proofs.StateLemmas.{known-grown, find-stand}
 use Rattle.mv_repository.proofs.KeptLemmas.{text-self}
 use Rattle.mv_repository.proofs.AgreementLemmas.{batch-status}
 use Rattle.mv_repository.proofs.TableLemmas.{longer, find-none, filter-none, parts-same}
@@ -33,7 +33,7 @@ changed-by : (standing standing' : BatchKey → BatchStanding) (place sender : �
 changed-by standing standing' place sender (Carried k stamp (Status key to user at)) pack held e = ap (λ (s : BatchStanding). pack_after_status held s to sender user at place) e
 changed-by standing standing' place sender _ pack held e = refl
 
-batch-step : (stops : FirstStops) (pack : PackKey) (birth : Placed) (held : KnownPack) (y : Placed) → (pack_step stops pack birth held y).batch ≡ held.batch
+pub batch-step : (stops : FirstStops) (pack : PackKey) (birth : Placed) (held : KnownPack) (y : Placed) → (pack_step stops pack birth held y).batch ≡ held.batch
 batch-step stops pack birth held y =
     elim (stands_before birth y) as (λ b. (cond b (pack_changed (standing_at stops y) y.place y.entry.sender y.entry.item pack held) held).batch ≡ held.batch) [
       | true ↦ batch-changed (standing_at stops y) y.place y.entry.sender y.entry.item pack held
@@ -98,7 +98,7 @@ track-elsewhere log entry pack n s other =
     }) y (batch_key pack.gtin (uploaded_batch x.entry.item))
 
 -- what is found passes the test
-find-passes : (f : Placed → Bool) (xs : List Placed) → IfSome (find f xs) (λ x. f x ≡ true)
+pub find-passes : (f : Placed → Bool) (xs : List Placed) → IfSome (find f xs) (λ x. f x ≡ true)
 find-passes f [] = tt
 find-passes f (y ∷ ys) = by (f y) refl (find-passes f ys)
   where
@@ -116,7 +116,7 @@ fold-batch stops pack birth held [] = refl
 fold-batch stops pack birth held (y ∷ ys) = fold-batch stops pack birth (pack_step stops pack birth held y) ys ∙ batch-step stops pack birth held y
 
 -- a pack is of the batch that its first upload gives it
-grown-batch : (stops : FirstStops) (pack : PackKey) (birth : Placed) (own : List Placed) → is_upload_of pack birth.entry.item ≡ true
+pub grown-batch : (stops : FirstStops) (pack : PackKey) (birth : Placed) (own : List Placed) → is_upload_of pack birth.entry.item ≡ true
     → is_held_in (uploaded_batch birth.entry.item) (option_map held_of (pack_grown stops pack (Some birth) own)) ≡ true
 grown-batch stops pack birth own e = by (pack_made_by birth.entry.item) (made-batch birth.entry.item) (named-made pack birth.entry.item e)
   where
@@ -162,3 +162,25 @@ withdrawal-elsewhere log entry table key none withdrawals pack other = by (first
     by : (o : Option Placed) → IfSome o (λ x. (is_recall_of (batch_key pack.gtin (uploaded_batch x.entry.item)) entry.item ≡ false) × (is_withdrawal_of pack.gtin entry.item ≡ false))
     by None = tt
     by (Some x) = (none (batch_key pack.gtin (uploaded_batch x.entry.item)), withdrawals pack.gtin ∙ alone (is_same_text key pack.gtin) other)
+
+-- a pack that is held is as the upload made it that names it first, which gave it its batch
+pub are-made : (log : List LogEntry) (entry : LogEntry) (table : List (PackKey × Kept)) → AreTracksOf log table → AreMade (longer log entry) table
+are-made log entry table tracks pack =
+    subst (λ (kept : Kept). IfSome kept.held (λ held. IsMadeAt (longer log entry) pack kept.birth held.batch)) (sym (tracks pack))
+    (subst (λ (known : Option KnownPack). IfSome (option_map held_of known) (λ held. IsMadeAt (longer log entry) pack (option_map place_of (first_upload pack (ordered log))) held.batch)) (sym (known-grown pack (ordered log) (ordered-ascends log)))
+    (by (first_upload pack (ordered log)) (find-passes (λ placed. is_upload_of pack placed.entry.item) (ordered log)) (find-stand (λ placed. is_upload_of pack placed.entry.item) (longer log entry) (ordered log) (still-stand log entry))))
+  where
+    one : (x : Placed) → is_upload_of pack x.entry.item ≡ true → get_or (longer log entry) x.place no_entry ≡ x.entry → (o : Option Held) → is_held_in (uploaded_batch x.entry.item) o ≡ true
+        → IfSome o (λ held. IsMadeAt (longer log entry) pack (Some x.place) held.batch)
+    one x named stands None e = tt
+    one x named stands (Some held) e = record {
+      place = x.place;
+      birth_is = refl;
+      named = ap (λ (entry : LogEntry). is_upload_of pack entry.item) stands ∙ named;
+      batch_is = sym (same_text (uploaded_batch x.entry.item) held.batch (sym e)) ∙ ap (λ (entry : LogEntry). uploaded_batch entry.item) (sym stands);
+    }
+
+    by : (o : Option Placed) → IfSome o (λ x. is_upload_of pack x.entry.item ≡ true) → IfSome o (λ x. get_or (longer log entry) x.place no_entry ≡ x.entry)
+        → IfSome (option_map held_of (pack_grown (first_stops (ordered log)) pack o (statuses_of pack (ordered log)))) (λ held. IsMadeAt (longer log entry) pack (option_map place_of o) held.batch)
+    by None n s = tt
+    by (Some x) n s = one x n s (option_map held_of (pack_grown (first_stops (ordered log)) pack (Some x) (statuses_of pack (ordered log)))) (grown-batch (first_stops (ordered log)) pack x (statuses_of pack (ordered log)) n)

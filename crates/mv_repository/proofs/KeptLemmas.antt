@@ -98,7 +98,7 @@ has_more gtin serials i p l =
     ∙ or_and (is_same_text gtin p.gtin) (list_any (λ s. is_same_text s p.serial) (take i serials)) (is_same_text (get_or serials i []) p.serial)
 
 -- one more of those that are done, where to do it twice is to do it once
-done_more : (f : Kept → Kept) (a b : Bool) (first now : Kept) → f (f first) ≡ f first → now ≡ cond a (f first) first → cond b (f now) now ≡ cond (a || b) (f first) first
+pub done_more : (f : Kept → Kept) (a b : Bool) (first now : Kept) → f (f first) ≡ f first → now ≡ cond a (f first) first → cond b (f now) now ≡ cond (a || b) (f first) first
 done_more f true true first now twice e = ap f e ∙ twice
 done_more f true false first now twice e = e
 done_more f false true first now twice e = ap f e

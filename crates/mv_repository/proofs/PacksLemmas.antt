@@ -6,6 +6,7 @@ use Rattle.std.specs.Option.{option_map, unwrap_or}
 use Rattle.std.proofs.lemmas.Option.{none-some}
 use Rattle.std.specs.Cmp.Lexicographic.{same_text}
 use Rattle.std.proofs.lemmas.List.Sums.{length-filter}
+use Rattle.std.proofs.lemmas.List.Folds.{list_any_more}
 use Rattle.std.proofs.lemmas.Map.Made.{lookup-map_values}
 use Rattle.indexmap.specs.IndexMap.{insert_entry}
 use Rattle.mv_pack.specs.declared.key.PackKey.{PackKey}
@@ -20,12 +21,12 @@ use Rattle.mv_repository.specs.declared.held.Held.{Held}
 use Rattle.mv_repository.specs.declared.tally.Tally.{Tally}
 use Rattle.mv_repository.specs.Keys.{is_same_text, is_same_pack, pack_key}
 use Rattle.mv_repository.specs.PackState.{held_of, has_pack}
-use Rattle.mv_repository.specs.Stops.{StopTables}
+use Rattle.mv_repository.specs.Stops.{StopTables, entry_at}
 use Rattle.mv_repository.specs.Tables.{IsUploadOf}
-use Rattle.mv_repository.specs.Packs.{kept_born, kept_as, kept_table, IsWithin, AreWithin, IsBorn, is_own, is_own_in, IsPut, IsWrittenAnew, FindsTracked, is_in, is_of, refreshed_in, IsSettled, AreSettled}
-use Rattle.mv_repository.specs.Tracked.{serials_in, has_serial, is_tracked, KeepsSerials, KeepsTracked}
-use Rattle.mv_repository.specs.Track.{Kept, nothing_kept, kept_in, pack_made_by, held_made_at, grown_at, marks_at, with_upload, refreshed, IsTrack, is_made, is_active_kept, one_if, IsTally}
-use Rattle.mv_repository.proofs.KeptLemmas.{same_pack, pack-sym, pack-self, text-self, serials_more}
+use Rattle.mv_repository.specs.Packs.{kept_born, kept_as, kept_table, IsWithin, AreWithin, IsBorn, is_own, is_own_in, IsPut, IsWrittenAnew, FindsTracked, is_in, is_of, refreshed_in, IsSettled, AreSettled, is_named_at}
+use Rattle.mv_repository.specs.Tracked.{serials_in, has_serial, is_tracked, KeepsTracked}
+use Rattle.mv_repository.specs.Track.{Kept, nothing_kept, kept_in, pack_made_by, uploaded_serials, held_made_at, grown_at, marks_at, with_upload, refreshed, IsTrack, is_made, is_active_kept, one_if, IsTally}
+use Rattle.mv_repository.proofs.KeptLemmas.{same_pack, pack-sym, pack-self, text-self, serials_more, done_more}
 use Rattle.mv_repository.proofs.TableLemmas.{longer, newest-stands}
 
 module _ {X : Type 0} where
@@ -115,48 +116,48 @@ serial-last (x ∷ xs) serial = by (is_same_text x serial) (serial-last xs seria
     by true r = refl
     by false r = r
 
-module _ {K : Type 0} (other : K → Bool) (q : List ℕ) where
+module _ {K L : Type 0} (none : L) (holds : L → Bool) (absent : holds none ≡ false) (other : K → Bool) where
   -- an entry in front
-  in_front : (e e' : K × List (List ℕ)) (es es' : List (K × List (List ℕ))) → e'.0 ≡ e.0 → (has_serial e.1 q ≡ true → has_serial e'.1 q ≡ true) → (has_serial (serials_in other es) q ≡ true → has_serial (serials_in other es') q ≡ true)
-      → has_serial (serials_in other (e ∷ es)) q ≡ true → has_serial (serials_in other (e' ∷ es')) q ≡ true
+  in_front : (e e' : K × L) (es es' : List (K × L)) → e'.0 ≡ e.0 → (holds e.1 ≡ true → holds e'.1 ≡ true) → (holds (unwrap_or (lookup other es) none) ≡ true → holds (unwrap_or (lookup other es') none) ≡ true)
+      → holds (unwrap_or (lookup other (e ∷ es)) none) ≡ true → holds (unwrap_or (lookup other (e' ∷ es')) none) ≡ true
   in_front e e' es es' same first rest h = by (other e.0) (ap other same) h
     where
-      by : (c : Bool) → other e'.0 ≡ c → has_serial (unwrap_or (cond c (Some e.1) (lookup other es)) []) q ≡ true → has_serial (serials_in other (e' ∷ es')) q ≡ true
-      by true t o = ap (λ c. has_serial (unwrap_or (cond c (Some e'.1) (lookup other es')) []) q) t ∙ first o
-      by false t o = ap (λ c. has_serial (unwrap_or (cond c (Some e'.1) (lookup other es')) []) q) t ∙ rest o
+      by : (c : Bool) → other e'.0 ≡ c → holds (unwrap_or (cond c (Some e.1) (lookup other es)) none) ≡ true → holds (unwrap_or (lookup other (e' ∷ es')) none) ≡ true
+      by true t o = ap (λ c. holds (unwrap_or (cond c (Some e'.1) (lookup other es')) none)) t ∙ first o
+      by false t o = ap (λ c. holds (unwrap_or (cond c (Some e'.1) (lookup other es')) none)) t ∙ rest o
 
-  -- a key that is there gets more serial numbers
-  pub serials-written : (test : K → Bool) (es : List (K × List (List ℕ))) (list list' : List (List ℕ)) → lookup test es ≡ Some list → KeepsSerials list list'
-      → has_serial (serials_in other es) q ≡ true → has_serial (serials_in other (set_value test es list')) q ≡ true
-  serials-written test [] list list' f keeps h = absurd (true≢false (sym h))
-  serials-written test (e ∷ es) list list' f keeps h = by (test e.0) f (λ g. serials-written test es list list' g keeps)
+  -- a key that is there gets more
+  pub holds-written : (test : K → Bool) (es : List (K × L)) (list list' : L) → lookup test es ≡ Some list → (holds list ≡ true → holds list' ≡ true)
+      → holds (unwrap_or (lookup other es) none) ≡ true → holds (unwrap_or (lookup other (set_value test es list')) none) ≡ true
+  holds-written test [] list list' f keeps h = absurd (true≢false (sym h ∙ absent))
+  holds-written test (e ∷ es) list list' f keeps h = by (test e.0) f (λ g. holds-written test es list list' g keeps)
     where
       by : (b : Bool) → cond b (Some e.1) (lookup test es) ≡ Some list
-          → (lookup test es ≡ Some list → has_serial (serials_in other es) q ≡ true → has_serial (serials_in other (set_value test es list')) q ≡ true)
-          → has_serial (serials_in other (cond b ((e.0, list') ∷ es) (e ∷ set_value test es list'))) q ≡ true
-      by true g r = in_front e (e.0, list') es es refl (λ o. keeps q (ap (λ (l : Option (List (List ℕ))). has_serial (unwrap_or l []) q) (sym g) ∙ o)) (λ o. o) h
+          → (lookup test es ≡ Some list → holds (unwrap_or (lookup other es) none) ≡ true → holds (unwrap_or (lookup other (set_value test es list')) none) ≡ true)
+          → holds (unwrap_or (lookup other (cond b ((e.0, list') ∷ es) (e ∷ set_value test es list'))) none) ≡ true
+      by true g r = in_front e (e.0, list') es es refl (λ o. keeps (ap (λ (l : Option L). holds (unwrap_or l none)) (sym g) ∙ o)) (λ o. o) h
       by false g r = in_front e e es (set_value test es list') refl (λ o. o) (r g) h
 
   -- a key that is absent comes last
-  pub serials-inserted : (eq : K → K → Bool) (es : List (K × List (List ℕ))) (key : K) (list : List (List ℕ)) → lookup (eq key) es ≡ None
-      → has_serial (serials_in other es) q ≡ true → has_serial (serials_in other (insert_entry eq es key list)) q ≡ true
-  serials-inserted eq [] key list none h = absurd (true≢false (sym h))
-  serials-inserted eq (e ∷ es) key list none h = by (eq key e.0) none (λ n. serials-inserted eq es key list n)
+  pub holds-inserted : (eq : K → K → Bool) (es : List (K × L)) (key : K) (list : L) → lookup (eq key) es ≡ None
+      → holds (unwrap_or (lookup other es) none) ≡ true → holds (unwrap_or (lookup other (insert_entry eq es key list)) none) ≡ true
+  holds-inserted eq [] key list apart h = absurd (true≢false (sym h ∙ absent))
+  holds-inserted eq (e ∷ es) key list apart h = by (eq key e.0) apart (λ n. holds-inserted eq es key list n)
     where
       by : (b : Bool) → cond b (Some e.1) (lookup (eq key) es) ≡ None
-          → (lookup (eq key) es ≡ None → has_serial (serials_in other es) q ≡ true → has_serial (serials_in other (insert_entry eq es key list)) q ≡ true)
-          → has_serial (serials_in other (cond b ((e.0, list) ∷ es) (e ∷ insert_entry eq es key list))) q ≡ true
+          → (lookup (eq key) es ≡ None → holds (unwrap_or (lookup other es) none) ≡ true → holds (unwrap_or (lookup other (insert_entry eq es key list)) none) ≡ true)
+          → holds (unwrap_or (lookup other (cond b ((e.0, list) ∷ es) (e ∷ insert_entry eq es key list))) none) ≡ true
       by true n r = absurd (none-some _ (sym n))
       by false n r = in_front e e es (insert_entry eq es key list) refl (λ o. o) (r n) h
 
-pub serials-here : {K : Type 0} (test : K → Bool) (es : List (K × List (List ℕ))) (list list' : List (List ℕ)) → lookup test es ≡ Some list → serials_in test (set_value test es list') ≡ list'
-serials-here test [] list list' f = absurd (none-some _ f)
-serials-here test (e ∷ es) list list' f = by (test e.0) refl f (λ g. serials-here test es list list' g)
+pub written-here : {K L : Type 0} (none : L) (test : K → Bool) (es : List (K × L)) (list list' : L) → lookup test es ≡ Some list → unwrap_or (lookup test (set_value test es list')) none ≡ list'
+written-here none test [] list list' f = absurd (none-some _ f)
+written-here none test (e ∷ es) list list' f = by (test e.0) refl f (λ g. written-here none test es list list' g)
   where
-    by : (b : Bool) → test e.0 ≡ b → cond b (Some e.1) (lookup test es) ≡ Some list → (lookup test es ≡ Some list → serials_in test (set_value test es list') ≡ list')
-        → serials_in test (cond b ((e.0, list') ∷ es) (e ∷ set_value test es list')) ≡ list'
-    by true h g r = ap (λ c. unwrap_or (cond c (Some list') (lookup test es)) []) h
-    by false h g r = ap (λ c. unwrap_or (cond c (Some e.1) (lookup test (set_value test es list'))) []) h ∙ r g
+    by : (b : Bool) → test e.0 ≡ b → cond b (Some e.1) (lookup test es) ≡ Some list → (lookup test es ≡ Some list → unwrap_or (lookup test (set_value test es list')) none ≡ list')
+        → unwrap_or (lookup test (cond b ((e.0, list') ∷ es) (e ∷ set_value test es list'))) none ≡ list'
+    by true h g r = ap (λ c. unwrap_or (cond c (Some list') (lookup test es)) none) h
+    by false h g r = ap (λ c. unwrap_or (cond c (Some e.1) (lookup test (set_value test es list'))) none) h ∙ r g
 
 -- what is kept, once a slot is written
 
@@ -411,7 +412,7 @@ module _ (log : List LogEntry) (tables : StopTables) (batch : Option (List ℕ))
   pub refreshed-nothing : (p : PackKey) → refreshed_in log tables batch p nothing_kept ≡ nothing_kept
   refreshed-nothing p = elim (is_in batch nothing_kept) as (λ b. cond b nothing_kept nothing_kept ≡ nothing_kept) [ true ↦ refl | false ↦ refl ]
 
-  refreshed-twice : (p : PackKey) (k : Kept) → refreshed_in log tables batch p (refreshed_in log tables batch p k) ≡ refreshed_in log tables batch p k
+  pub refreshed-twice : (p : PackKey) (k : Kept) → refreshed_in log tables batch p (refreshed_in log tables batch p k) ≡ refreshed_in log tables batch p k
   refreshed-twice p k = by (is_in batch k) refl
     where
       by : (b : Bool) → is_in batch k ≡ b → refreshed_in log tables batch p (cond b (refreshed log tables p k) k) ≡ cond b (refreshed log tables p k) k
@@ -433,6 +434,19 @@ module _ (log : List LogEntry) (tables : StopTables) (batch : Option (List ℕ))
       → (p : PackKey) → kept_in p packs' ≡ cond (has_pack gtin (take (i + 1) serials) p) (refreshed_in log tables batch p (kept_in p first)) (kept_in p first)
   again-more first packs packs' gtin serials i l old step =
       serials_more (λ p k. refreshed_in log tables batch p k) refreshed-twice first packs packs' gtin serials i l old step
+
+  -- the packs of one upload more
+  pub uploads-more : (first packs packs' : List (PackKey × Kept)) (gtin : List ℕ) (places : List ℕ) (i place : ℕ) (serials : List (List ℕ)) → i < length places → place ≡ get_or places i 0
+      → serials ≡ uploaded_serials (entry_at log place).entry.item
+      → ((p : PackKey) → kept_in p packs ≡ cond (is_named_at log gtin (take i places) p) (refreshed_in log tables batch p (kept_in p first)) (kept_in p first))
+      → ((p : PackKey) → kept_in p packs' ≡ cond (has_pack gtin serials p) (refreshed_in log tables batch p (kept_in p packs)) (kept_in p packs))
+      → (p : PackKey) → kept_in p packs' ≡ cond (is_named_at log gtin (take (i + 1) places) p) (refreshed_in log tables batch p (kept_in p first)) (kept_in p first)
+  uploads-more first packs packs' gtin places i place serials l here named looks step p =
+      step p
+      ∙ done_more (λ k. refreshed_in log tables batch p k) (is_named_at log gtin (take i places) p) (has_pack gtin serials p) (kept_in p first) (kept_in p packs) (refreshed-twice p (kept_in p first)) (looks p)
+      ∙ ap (λ b. cond b (refreshed_in log tables batch p (kept_in p first)) (kept_in p first))
+      (ap (λ b. is_named_at log gtin (take i places) p || b) (ap (λ (l : List (List ℕ)). has_pack gtin l p) (named ∙ ap (λ (n : ℕ). uploaded_serials (entry_at log n).entry.item) here))
+      ∙ sym (list_any_more (λ n. has_pack gtin (uploaded_serials (entry_at log n).entry.item) p) places i 0 l))
 
   -- where the packs of a product that statuses name are worked out, all of the product are
   pub again-all : (births : List Birth) (slots : List (PackKey × Slot)) (packs' : List (PackKey × Kept)) (products : List (List ℕ × List (List ℕ))) (gtin : List ℕ) → FindsTracked slots products

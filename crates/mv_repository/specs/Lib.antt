@@ -16,6 +16,7 @@ pub mod Masters
 pub mod Track
 pub mod Steps
 pub mod Tracked
+pub mod Batches
 pub mod Packs
 pub mod Inquiries
 pub mod Tables

@@ -1,6 +1,8 @@
 -- The table of packs: a pack is as an upload made it until a status names it, and has a track of its own from then on.
 use Rattle.std.specs.Bool.{⊤}
-use Rattle.std.specs.Prelude.{◌≡◌, ◌<◌, ℕ, List, [], ◌∷◌, map, length, slice_get, Bool, true, false, ◌&&◌, Option, Some, None, is_some, if◌then◌else◌}
+use Rattle.std.specs.Prelude.{◌≡◌, ◌<◌, ℕ, List, [], ◌∷◌, map, length, slice_get, Bool, true, false, ◌&&◌, Option, Some, None, IfSome, is_some, if◌then◌else◌}
+use Rattle.std.specs.List.{list_any}
+use Rattle.mv_pack.specs.declared.key.BatchKey.{BatchKey}
 use Rattle.std.specs.Map.{lookup, set_value}
 use Rattle.indexmap.specs.IndexMap.{insert_entry}
 use Rattle.std.specs.Option.{option_map, unwrap_or}
@@ -11,10 +13,12 @@ use Rattle.mv_repository.specs.declared.slot.Birth.{Birth}
 use Rattle.mv_repository.specs.declared.slot.Slot.{Slot}
 use Rattle.mv_repository.specs.declared.slot.Slot.TheVariants.{Made, Own}
 use Rattle.mv_repository.specs.declared.tally.Tally.{Tally}
-use Rattle.mv_repository.specs.Keys.{is_same_text, is_same_pack}
-use Rattle.mv_repository.specs.Stops.{StopTables}
+use Rattle.mv_repository.specs.Keys.{is_same_text, is_same_pack, batch_key}
+use Rattle.mv_repository.specs.PackState.{has_pack}
+use Rattle.mv_repository.specs.Batches.{is_listed}
+use Rattle.mv_repository.specs.Stops.{StopTables, entry_at}
 use Rattle.mv_repository.specs.Tracked.{is_tracked}
-use Rattle.mv_repository.specs.Track.{Kept, nothing_kept, kept_in, held_made_at, refreshed, IsTally}
+use Rattle.mv_repository.specs.Track.{Kept, is_upload_of, uploaded_batch, uploaded_serials, nothing_kept, kept_in, held_made_at, refreshed, IsTrack, IsTally}
 
 -- what is kept of a pack that is as an upload made it
 abbrev pub kept_born : Birth → Kept
@@ -71,10 +75,46 @@ pub record IsWrittenAnew (births : List Birth) (old new : List (PackKey × Slot)
   pub within : is_some (lookup (is_same_pack key) old) ≡ true → AreWithin (length births) old → IsWithin (length births) slot
   pub own_is : is_some (lookup (is_same_pack key) old) ≡ true → is_own slot ≡ is_own_in key old
 
+-- the upload that made a pack is listed under the batch of the pack
+abbrev pub IsFound : List (BatchKey × List ℕ) → PackKey → Kept → Type 0
+IsFound uploads pack kept =
+    IfSome kept.held (λ held. IfSome kept.birth (λ place. is_listed (batch_key pack.gtin held.batch) place uploads ≡ true))
+
+-- so it is with each pack
+abbrev pub AreFound : List (BatchKey × List ℕ) → List (PackKey × Kept) → Type 0
+AreFound uploads table = (pack : PackKey) → IsFound uploads pack (kept_in pack table)
+
+-- a pack was kept as it is worked out, by what stopped batches and products then
+pub record WasTrack (log : List LogEntry) (pack : PackKey) (kept : Kept) : Type 0 where
+  pub before : StopTables
+  pub track : IsTrack log before pack kept
+
+-- so it is with each pack
+abbrev pub WereTracks : List LogEntry → List (PackKey × Kept) → Type 0
+WereTracks log table = (pack : PackKey) → WasTrack log pack (kept_in pack table)
+
+-- a pack is held as an upload made it that names it, and gave it its batch
+pub record IsMadeAt (log : List LogEntry) (pack : PackKey) (birth : Option ℕ) (batch : List ℕ) : Type 0 where
+  pub place : ℕ
+  pub birth_is : birth ≡ Some place
+  pub named : is_upload_of pack (entry_at log place).entry.item ≡ true
+  pub batch_is : batch ≡ uploaded_batch (entry_at log place).entry.item
+
+-- so it is with each pack that is held
+abbrev pub AreMade : List LogEntry → List (PackKey × Kept) → Type 0
+AreMade log table = (pack : PackKey) → IfSome (kept_in pack table).held (λ held. IsMadeAt log pack (kept_in pack table).birth held.batch)
+
+-- a pack is named by one of the uploads at these places
+abbrev pub is_named_at : List LogEntry → List ℕ → List ℕ → PackKey → Bool
+is_named_at log gtin places pack =
+    list_any (λ place. has_pack gtin (uploaded_serials (entry_at log place).entry.item) pack) places
+
 -- what stands in the parts of the table belongs together
-pub record IsTable (births : List Birth) (slots : List (PackKey × Slot)) (products : List (List ℕ × List (List ℕ))) (count : Tally) : Type 0 where
+pub record IsTable (births : List Birth) (slots : List (PackKey × Slot)) (products : List (List ℕ × List (List ℕ)))
+    (uploads : List (BatchKey × List ℕ)) (count : Tally) : Type 0 where
   pub within : AreWithin (length births) slots
   pub tracked : FindsTracked slots products
+  pub listed : AreFound uploads (kept_table births slots)
   pub tally : IsTally (kept_table births slots) count
 
 -- a pack is of a batch, where one is named

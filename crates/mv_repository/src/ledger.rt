@@ -372,8 +372,7 @@ impl Ledger {
             return Ok(effect);
         }
         let log = self.log.as_slice();
-        let number = Some(batch.batch.copy());
-        self.packs.refresh(log, &self.stops, &batch.gtin, &number);
+        self.packs.refresh_batch(log, &self.stops, batch);
         Ok(effect)
     }
 
@@ -404,7 +403,7 @@ impl Ledger {
             return Ok(effect);
         }
         let log = self.log.as_slice();
-        self.packs.refresh(log, &self.stops, &gtin, &None);
+        self.packs.refresh_product(log, &self.stops, &gtin);
         Ok(effect)
     }
 }

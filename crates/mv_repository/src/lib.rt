@@ -18,6 +18,7 @@
 //! ```
 #![tactic(auto)]
 
+mod batches;
 mod counts;
 mod effect;
 mod entry;

@@ -12,6 +12,7 @@ ghost use Rattle.mv_repository.specs.Stops.{comes_first};
 ghost use Rattle.mv_repository.specs.Tables.{IsUploadOf};
 ghost use Rattle.mv_repository.specs.Track.{kept_in, IsTrack, AreTracks, with_status, with_upload, newest_effect, made_count, IsTally};
 
+use crate::batches::Batches;
 use crate::slot::{Birth, Slot};
 use crate::stops::Stops;
 use crate::table::Table;
@@ -20,7 +21,7 @@ use crate::track::made_by;
 use crate::tracked::Tracked;
 use crate::{Effect, Held, LogEntry};
 use indexmap::IndexMap;
-use mv_pack::{Batch, Gtin, PackKey, Serial};
+use mv_pack::{BatchKey, Gtin, PackKey, Serial};
 use std::alloc::{AllocError, Global};
 use std::marker::Model;
 
@@ -34,6 +35,8 @@ pub(crate) struct Packs {
     table: Table,
     /// The packs that statuses name.
     tracked: Tracked,
+    /// The uploads of each batch.
+    batches: Batches,
 }
 
 impl Model for Packs {
@@ -46,12 +49,13 @@ impl Model for Packs {
 
     ghost view = { λ a. kept_table a.births.items a.table.slots.entries };
 
-    ghost invariant = { λ a. IsTable a.births.items a.table.slots.entries a.tracked a.table.tally };
+    ghost invariant = { λ a. IsTable a.births.items a.table.slots.entries a.tracked a.batches a.table.tally };
 }
 
 impl Packs {
+    ghost use Rattle.std.specs.Prelude.{Some, None};
     ghost use Rattle.mv_repository.specs.Track.{refreshed};
-    ghost use Rattle.mv_repository.specs.Packs.{is_of, AreSettled};
+    ghost use Rattle.mv_repository.specs.Packs.{is_of, WereTracks, AreMade};
 
     /// A table of no pack.
     pub fn new(alloc: Global) -> Packs
@@ -65,6 +69,7 @@ impl Packs {
                 tally: Tally { held: 0, active: 0 },
             },
             tracked: Tracked::new(alloc),
+            batches: Batches::new(alloc),
         }
     }
 
@@ -114,8 +119,10 @@ impl Packs {
         };
         self.births.reserve(1)?;
         self.table.slots.reserve(serials.len())?;
-        // All room is got: nothing fails from here on.
         let new = log.len();
+        let batch = held.batch.copy();
+        self.batches.add(BatchKey { gtin, batch }, new)?;
+        // All room is got: nothing fails from here on.
         let at = self.births.len();
         log.push_reserved(entry);
         self.births.push_reserved(Birth { place: new, held });
@@ -161,18 +168,33 @@ impl Packs {
         )
     }
 
-    /// Works out again the packs of a product, and of a batch where one is named. Only those are touched that a status
-    /// names.
-    pub fn refresh(&mut self, log: &[LogEntry], stops: &Stops, gtin: &Gtin, batch: &Option<Batch>)
-        requires settled { AreSettled log.now stops.now self.old }
+    /// Works out again the packs of a batch. Only those are looked at that its uploads name.
+    pub fn refresh_batch(&mut self, log: &[LogEntry], stops: &Stops, batch: &BatchKey)
+        requires tracks { WereTracks log.now self.old }
+        requires made { AreMade log.now self.old }
         ensures kept { (pack : APackKey) → kept_in pack self.new
-            ≡ (if is_of gtin.now batch.now pack (kept_in pack self.old)
+            ≡ (if is_of batch.now.gtin (Some batch.now.batch) pack (kept_in pack self.old)
+            then refreshed log.now stops.now pack (kept_in pack self.old)
+            else kept_in pack self.old) }
+    {
+        let births = self.births.as_slice();
+        let places = self.batches.uploads_of(batch);
+        let number = Some(batch.batch.copy());
+        self.table
+            .refresh_uploads(births, log, stops, batch.gtin, &number, places);
+    }
+
+    /// Works out again the packs of a product. Only those are looked at that a status names.
+    pub fn refresh_product(&mut self, log: &[LogEntry], stops: &Stops, gtin: &Gtin)
+        requires tracks { WereTracks log.now self.old }
+        ensures kept { (pack : APackKey) → kept_in pack self.new
+            ≡ (if is_of gtin.now None pack (kept_in pack self.old)
             then refreshed log.now stops.now pack (kept_in pack self.old)
             else kept_in pack self.old) }
     {
         let births = self.births.as_slice();
         let serials = self.tracked.of_product(gtin);
         self.table
-            .refresh_all(births, log, stops, *gtin, batch, serials);
+            .refresh_all(births, log, stops, *gtin, &None, serials);
     }
 }

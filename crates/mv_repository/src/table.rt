@@ -5,10 +5,10 @@ ghost use Rattle.indexmap.specs.IndexMap.{spare};
 ghost use Rattle.mv_pack.specs.declared.key.PackKey.{PackKey as APackKey};
 ghost use Rattle.mv_repository.specs.Keys.{is_same_pack};
 ghost use Rattle.mv_repository.specs.PackState.{has_pack};
-ghost use Rattle.mv_repository.specs.Packs.{kept_table, AreWithin, is_own_in, IsPut, IsWrittenAnew, FindsTracked, IsBorn, IsSettled, AreSettled, refreshed_in};
-ghost use Rattle.mv_repository.specs.Stops.{comes_first};
+ghost use Rattle.mv_repository.specs.Packs.{kept_table, AreWithin, is_own_in, IsPut, IsWrittenAnew, FindsTracked, IsBorn, IsSettled, AreSettled, refreshed_in, is_named_at};
+ghost use Rattle.mv_repository.specs.Stops.{comes_first, entry_at};
 ghost use Rattle.mv_repository.specs.Tracked.{is_tracked, KeepsTracked};
-ghost use Rattle.mv_repository.specs.Track.{kept_in, IsTrack, AreTracks, with_status, with_upload, newest_effect, made_count, is_made, is_active_kept, IsTally};
+ghost use Rattle.mv_repository.specs.Track.{uploaded_serials, kept_in, IsTrack, AreTracks, with_status, with_upload, newest_effect, made_count, is_made, is_active_kept, IsTally};
 
 use crate::slot::{Birth, Slot, start};
 use crate::stops::Stops;
@@ -17,6 +17,8 @@ use crate::tracked::Tracked;
 use crate::{Effect, LogEntry};
 use indexmap::IndexMap;
 use indexmap::map::Entry;
+use mv_link::Item;
+use mv_message::Message;
 use mv_pack::{Batch, Gtin, PackKey, Serial};
 use std::alloc::{AllocError, Global};
 
@@ -204,6 +206,51 @@ impl Table {
             let serial = serial.copy();
             self.refresh(births, log, stops, &PackKey { gtin, serial }, batch);
         }
+    }
+
+    /// Works out again the packs of a product that the uploads at these places of the log name, where they are of a batch,
+    /// if one is named.
+    pub fn refresh_uploads(
+        &mut self,
+        births: &[Birth],
+        log: &[LogEntry],
+        stops: &Stops,
+        gtin: Gtin,
+        batch: &Option<Batch>,
+        places: &[usize],
+    )
+        requires settled { AreSettled log.now stops.now (kept_table births.now self.old.slots.entries) }
+        requires tally { IsTally (kept_table births.now self.old.slots.entries) self.old.tally }
+        requires within { AreWithin (length births.now) self.old.slots.entries }
+        ensures kept { (pack : APackKey) → kept_in pack (kept_table births.now self.new.slots.entries)
+            ≡ (if is_named_at log.now gtin places.now pack
+            then refreshed_in log.now stops.now batch.now pack
+            (kept_in pack (kept_table births.now self.old.slots.entries))
+            else kept_in pack (kept_table births.now self.old.slots.entries)) }
+        ensures tally { IsTally (kept_table births.now self.new.slots.entries) self.new.tally }
+        ensures within { AreWithin (length births.now) self.new.slots.entries }
+        ensures own { (pack : APackKey) → is_own_in pack self.new.slots.entries ≡ is_own_in pack self.old.slots.entries }
+    {
+        for place in places {
+            let serials = serials_at(log, *place);
+            self.refresh_all(births, log, stops, gtin, batch, serials);
+        }
+    }
+}
+
+/// The serial numbers that the upload at a place of the log names.
+fn serials_at(log: &[LogEntry], place: usize) -> &[Serial]
+    ensures { result.now ≡ uploaded_serials (entry_at log.now place).entry.item }
+{
+    let Some(entry) = log.get(place) else {
+        return &[];
+    };
+    let Item::Carried { message, .. } = &entry.item else {
+        return &[];
+    };
+    match message.get() {
+        Message::Upload { serials, .. } => serials.as_slice(),
+        _ => &[],
     }
 }
 

@@ -9,10 +9,9 @@ use Rattle.mv_repository.specs.Tables.{Bears, IsKept, stamp_of}
 use Rattle.mv_repository.proofs.TableLemmas.{longer, is_track, stops-recall}
 use Rattle.mv_repository.specs.Packs.{is_of}
 use Rattle.mv_repository.specs.Track.{kept_in}
-use Rattle.mv_repository.proofs.PacksLemmas.{settled-track}
 use Rattle.mv_repository.proofs.LatestLemmas.{tracks-last, tracks-later, recall-later}
 use Rattle.mv_repository.proofs.KeptLemmas.{batch-self}
-use Rattle.mv_repository.proofs.ElsewhereLemmas.{recall-elsewhere}
+use Rattle.mv_repository.proofs.ElsewhereLemmas.{recall-elsewhere, are-made}
 use Rattle.mv_repository.proofs.EffectLemmas.{recall-effect}
 use Rattle.mv_repository.proofs.LedgerLemmas.{kept-refreshed, kept-stopped}
 use Rattle.mv_repository.proofs.ledger.Ledger.apply_recall.Goals as goal
@@ -58,19 +57,19 @@ invariant_of-self-2 c =
     stops-recall log entry c.self.inside.stops c.add_recall.new.self c.args.batch.now kept.stops bears.recall bears.withdrawal (rw c.copy.ensures at c.in_ok-is_first.ensures.recalls) c.add_recall.ensures.withdrawals in
     let stamp : stamp_of entry.item ≡ c.args.stamp = rw c.in_ok-entry.ensures.entry c.requires.stamp in
     rw c.in_ok-is_first.ensures.log
-    (kept-refreshed log entry c.self.inside.masters.entries c.self.inside.packs c.refresh.new.self c.self.inside.stops c.add_recall.new.self c.self.inside.latest c.self.inside.latest (is_same_batch c.args.batch.now) (λ gtin. false) (λ pack. is_of c.args.batch.now.gtin (Some c.args.batch.now.batch) pack (kept_in pack c.self.inside.packs)) kept
+    (kept-refreshed log entry c.self.inside.masters.entries c.self.inside.packs c.refresh_batch.new.self c.self.inside.stops c.add_recall.new.self c.self.inside.latest c.self.inside.latest (is_same_batch c.args.batch.now) (λ gtin. false) (λ pack. is_of c.args.batch.now.gtin (Some c.args.batch.now.batch) pack (kept_in pack c.self.inside.packs)) kept
     bears (omega (arith, stamp)) stops
     (recall-elsewhere log entry c.self.inside.packs c.args.batch.now kept.tracks bears.recall bears.withdrawal)
-    (rw (c.as_slice-log.ensures.value, c.in_ok-is_first.ensures.log, c.copy-2.ensures) at c.refresh.ensures.kept))
+    (rw (c.as_slice-log.ensures.value, c.in_ok-is_first.ensures.log) at c.refresh_batch.ensures.kept))
 
-pub refresh-requires : goal.refresh-requires
-refresh-requires c =
+pub refresh_batch-requires : goal.refresh_batch-requires
+refresh_batch-requires c =
     let log = c.ready_entry.new.log.items in
     let entry = c.in_ok-entry.entry in
     let kept : IsKept log c.self.inside.masters.entries c.self.inside.packs c.self.inside.stops c.self.inside.latest = rw c.ready_entry.ensures.items c.self.invariant in
     record {
-      settled = λ pack. rw (c.as_slice-log.ensures.value, c.in_ok-is_first.ensures.log)
-          (settled-track (longer log entry) c.add_recall.new.self (Some c.args.batch.now.batch) c.self.inside.stops pack (kept_in pack c.self.inside.packs) (is_track log entry c.self.inside.packs c.self.inside.stops pack kept.tracks kept.stops));
+      tracks = rw (c.as_slice-log.ensures.value, c.in_ok-is_first.ensures.log) (λ pack. record { before = c.self.inside.stops; track = is_track log entry c.self.inside.packs c.self.inside.stops pack kept.tracks kept.stops });
+      made = rw (c.as_slice-log.ensures.value, c.in_ok-is_first.ensures.log) (are-made log entry c.self.inside.packs kept.tracks);
     }
 
 pub returns-then-self-stamp-clause-effect : goal.returns-then-self-stamp-clause-effect

@@ -9,7 +9,6 @@ use Rattle.mv_repository.specs.Tables.{Bears, IsKept, stamp_of}
 use Rattle.mv_repository.proofs.TableLemmas.{longer, is_track, stops-withdrawal}
 use Rattle.mv_repository.specs.Packs.{is_of}
 use Rattle.mv_repository.specs.Track.{kept_in}
-use Rattle.mv_repository.proofs.PacksLemmas.{settled-track}
 use Rattle.mv_repository.proofs.LatestLemmas.{tracks-last, tracks-later, withdrawal-later}
 use Rattle.mv_repository.proofs.KeptLemmas.{text-self}
 use Rattle.mv_repository.proofs.ElsewhereLemmas.{withdrawal-elsewhere}
@@ -58,19 +57,18 @@ invariant_of-self-2 c =
     stops-withdrawal log entry c.self.inside.stops c.add_withdrawal.new.self c.args.gtin kept.stops bears.withdrawal bears.recall c.in_ok-is_first.ensures.withdrawals c.add_withdrawal.ensures.recalls in
     let stamp : stamp_of entry.item ≡ c.args.stamp = rw c.in_ok-entry.ensures.entry c.requires.stamp in
     rw c.in_ok-is_first.ensures.log
-    (kept-refreshed log entry c.self.inside.masters.entries c.self.inside.packs c.refresh.new.self c.self.inside.stops c.add_withdrawal.new.self c.self.inside.latest c.self.inside.latest (λ batch. false) (is_same_text c.args.gtin) (λ pack. is_of c.args.gtin None pack (kept_in pack c.self.inside.packs)) kept
+    (kept-refreshed log entry c.self.inside.masters.entries c.self.inside.packs c.refresh_product.new.self c.self.inside.stops c.add_withdrawal.new.self c.self.inside.latest c.self.inside.latest (λ batch. false) (is_same_text c.args.gtin) (λ pack. is_of c.args.gtin None pack (kept_in pack c.self.inside.packs)) kept
     bears (omega (arith, stamp)) stops
     (withdrawal-elsewhere log entry c.self.inside.packs c.args.gtin bears.recall bears.withdrawal)
-    (rw (c.as_slice-log.ensures.value, c.in_ok-is_first.ensures.log) at c.refresh.ensures.kept))
+    (rw (c.as_slice-log.ensures.value, c.in_ok-is_first.ensures.log) at c.refresh_product.ensures.kept))
 
-pub refresh-requires : goal.refresh-requires
-refresh-requires c =
+pub refresh_product-requires : goal.refresh_product-requires
+refresh_product-requires c =
     let log = c.ready_entry.new.log.items in
     let entry = c.in_ok-entry.entry in
     let kept : IsKept log c.self.inside.masters.entries c.self.inside.packs c.self.inside.stops c.self.inside.latest = rw c.ready_entry.ensures.items c.self.invariant in
     record {
-      settled = λ pack. rw (c.as_slice-log.ensures.value, c.in_ok-is_first.ensures.log)
-          (settled-track (longer log entry) c.add_withdrawal.new.self None c.self.inside.stops pack (kept_in pack c.self.inside.packs) (is_track log entry c.self.inside.packs c.self.inside.stops pack kept.tracks kept.stops));
+      tracks = rw (c.as_slice-log.ensures.value, c.in_ok-is_first.ensures.log) (λ pack. record { before = c.self.inside.stops; track = is_track log entry c.self.inside.packs c.self.inside.stops pack kept.tracks kept.stops });
     }
 
 pub returns-then-self-stamp-clause-effect : goal.returns-then-self-stamp-clause-effect

@@ -1,7 +1,8 @@
 -- What is kept of the pack has the status.
-use Rattle.std.proofs.Common.{◌≡◌, ap}
+use Rattle.std.proofs.Common.{◌≡◌, ◌∷◌, ◌++◌, [], length, ap}
 use Rattle.mv_repository.specs.Packs.{kept_table}
 use Rattle.mv_repository.proofs.PacksLemmas.{on-err}
+use Rattle.mv_repository.proofs.BatchLemmas.{found-status}
 use Rattle.mv_repository.proofs.packs.Packs.add_status.Goals as goal
 
 pub add_status-requires-clause-track : goal.add_status-requires-clause-track
@@ -17,6 +18,10 @@ pub invariant_of-self : goal.invariant_of-self
 invariant_of-self c = record {
   within = rw c.as_slice-births.ensures.value at c.add_status.ensures.within;
   tracked = c.add_status.ensures.tracked;
+  listed = found-status c.self.inside.batches (c.args.log.now.items ++ c.args.entry ∷ []) c.args.stops.now c.args.key.now (length c.args.log.now.items)
+      (kept_table c.self.inside.births.items c.self.inside.table.slots.entries) (kept_table c.self.inside.births.items c.add_status.new.self.slots.entries) (rw (← c.self.view_is) at c.requires.track) c.self.invariant.listed
+      c.add_status.result (rw c.as_slice-births.ensures.value at c.add_status.ensures.kept)
+      (on-err (λ (e : c.add_status.new.self.slots.entries ≡ c.self.inside.table.slots.entries). ap (kept_table c.self.inside.births.items) e) c.add_status.result c.add_status.ensures.err);
   tally = rw c.as_slice-births.ensures.value at c.add_status.ensures.tally;
 }
 

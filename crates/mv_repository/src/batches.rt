@@ -1,0 +1,104 @@
+//! For each batch, the uploads that gave their packs this batch, by their places in the log.
+
+ghost use Rattle.std.specs.Prelude.{◌≡◌, [], true, OnOk, OnErr};
+ghost use Rattle.mv_repository.specs.Keys.{is_same_batch};
+ghost use Rattle.mv_repository.specs.Batches.{uploads_in, has_place, is_listed, KeepsPlaces, KeepsListed};
+
+use indexmap::IndexMap;
+use mv_pack::BatchKey;
+use std::alloc::{AllocError, Global};
+use std::marker::Model;
+
+/// Places in the log, in the order in which they came.
+#[derive(Drop)]
+struct PlaceList {
+    list: Vec<usize>,
+}
+
+impl Model for PlaceList {
+    ghost use Rattle.std.specs.Prelude.{ℕ, List};
+
+    ghost Value = { List ℕ };
+
+    ghost view = { λ a. a.list.items };
+}
+
+impl PlaceList {
+    /// No place.
+    fn new(alloc: Global) -> PlaceList
+        ensures { result ≡ [] }
+    {
+        PlaceList {
+            list: Vec::new(alloc),
+        }
+    }
+
+    /// The places.
+    fn as_slice(&self) -> &[usize]
+        ensures { result.now ≡ self.now }
+    {
+        self.list.as_slice()
+    }
+
+    /// One more place. Where memory is refused nothing has changed.
+    fn add(&mut self, place: usize) -> Result<(), AllocError>
+        ensures keeps { KeepsPlaces self.old self.new }
+        ensures added { OnOk result (has_place self.new place ≡ true) }
+        ensures err { OnErr result (self.new ≡ self.old) }
+    {
+        self.list.push(place)?;
+        Ok(())
+    }
+}
+
+/// For each batch, its uploads.
+#[derive(Drop)]
+pub(crate) struct Batches {
+    alloc: Global,
+    uploads: IndexMap<BatchKey, PlaceList>,
+}
+
+impl Model for Batches {
+    ghost use Rattle.std.specs.Prelude.{ℕ, List};
+    ghost use Rattle.mv_pack.specs.declared.key.BatchKey.{BatchKey};
+
+    ghost Value = { List (BatchKey × List ℕ) };
+
+    ghost view = { λ a. a.uploads.entries };
+}
+
+impl Batches {
+    /// No upload.
+    pub fn new(alloc: Global) -> Batches
+        ensures { result ≡ [] }
+    {
+        Batches {
+            alloc,
+            uploads: IndexMap::new(alloc),
+        }
+    }
+
+    /// The places of the uploads of a batch.
+    pub fn uploads_of(&self, batch: &BatchKey) -> &[usize]
+        ensures { result.now ≡ uploads_in (is_same_batch batch.now) self.now }
+    {
+        match self.uploads.get(batch) {
+            Some(list) => list.as_slice(),
+            None => &[],
+        }
+    }
+
+    /// Adds an upload of a batch. Where memory is refused the uploads are those that there were.
+    pub fn add(&mut self, batch: BatchKey, place: usize) -> Result<(), AllocError>
+        ensures keeps { KeepsListed self.old self.new }
+        ensures added { OnOk result (is_listed batch place self.new ≡ true) }
+    {
+        if let Some(list) = self.uploads.get_mut(&batch) {
+            return list.add(place);
+        }
+        let mut list = PlaceList::new(self.alloc);
+        list.add(place)?;
+        self.uploads.insert(batch, list)?;
+        Ok(())
+    }
+}

@@ -3,23 +3,23 @@
 use crate::link::{Item, Link};
 use crate::message::{Message, Upload};
 use crate::party::{Party, PartySet};
+use crate::shared::Shared;
 use crate::values::{BatchKey, Code, Expiry, Gtin, Market};
 use crate::world::Refusal;
 use rustc_hash::FxHashMap;
 use std::collections::BTreeSet;
-use std::rc::Rc;
 
 /// What happened at the hub.
 #[allow(dead_code)]
 enum Entry {
-    Routed { from: Party, k: u32, message: Rc<Message> },
+    Routed { from: Party, k: u32, message: Shared<Message> },
     Closed { from: Party, to: Party },
 }
 
 /// What the hub knows of a product.
 #[derive(Default)]
 struct Product {
-    master: Option<Rc<Message>>,
+    master: Option<Shared<Message>>,
     /// The parties that serve a market of its last master.
     sold: PartySet,
     /// The batches of its uploads and their dates, numbered in the order in which they were first routed.
@@ -77,7 +77,7 @@ impl Hub {
     pub fn route(
         &mut self,
         from: Party,
-        message: &Rc<Message>,
+        message: &Shared<Message>,
         links: &mut [Link],
     ) -> Result<(u32, PartySet), Refusal> {
         let open = self.open[usize::from(from)];
@@ -137,7 +137,7 @@ impl Hub {
     }
 
     /// Notes what a message says of products and batches.
-    fn note(&mut self, message: &Rc<Message>) {
+    fn note(&mut self, message: &Shared<Message>) {
         match &**message {
             Message::Master(master) => {
                 let sold = self.serving(&master.markets);

@@ -2,9 +2,9 @@
 
 use crate::message::Message;
 use crate::party::PartySet;
+use crate::shared::Shared;
 use crate::world::Refusal;
 use std::collections::VecDeque;
-use std::rc::Rc;
 
 /// What a link carries.
 #[derive(Clone)]
@@ -12,7 +12,7 @@ pub enum Item {
     /// The sender's message of this number was routed, and reached these parties.
     Receipt { k: u32, is_query: bool, reach: PartySet },
     /// A message, with its number and the place of its routing in the record.
-    Carried { k: u32, stamp: u32, message: Rc<Message> },
+    Carried { k: u32, stamp: u32, message: Shared<Message> },
 }
 
 /// One link: the sending end, the wire, and how many frames the receiving end has accepted.

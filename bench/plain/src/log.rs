@@ -24,6 +24,12 @@ impl Log {
         self.0.len() as Place - 1
     }
 
+    /// How many entries there are.
+    #[cfg(feature = "threads")]
+    pub fn len(&self) -> usize {
+        self.0.len()
+    }
+
     /// The entry at a place.
     pub fn entry(&self, place: Place) -> &LogEntry {
         &self.0[place as usize]

@@ -12,16 +12,23 @@ mod message;
 mod own;
 mod packs;
 mod party;
+#[cfg(feature = "threads")]
+mod plan;
 mod repository;
 mod request;
+mod shared;
 mod steps;
 mod stops;
 mod text;
 mod values;
+#[cfg(feature = "threads")]
+mod work;
 mod world;
 
 use lines::{answer_all, Fault};
 use std::fs::File;
+#[cfg(feature = "threads")]
+use std::io::Write;
 use std::io::{self, BufReader};
 use std::mem::ManuallyDrop;
 use std::os::fd::AsFd;
@@ -41,8 +48,10 @@ fn main() -> ExitCode {
             let mut session = ManuallyDrop::new(Session::default());
             run(|line, out| session.answer(line, out))
         }
+        #[cfg(feature = "threads")]
+        ["work", "--turns", _] => run_plan(),
         _ => {
-            eprintln!("plain canon, or plain steps");
+            eprintln!("plain canon, or plain steps; with threads plain work --turns N");
             return ExitCode::from(2);
         }
     };
@@ -53,6 +62,21 @@ fn main() -> ExitCode {
             ExitCode::FAILURE
         }
     }
+}
+
+/// Carries out the plan of standard input, or tells why there is none.
+#[cfg(feature = "threads")]
+fn run_plan() -> Result<(), Fault> {
+    let mut planned = plan::Planned::default();
+    let input = BufReader::with_capacity(BLOCK, io::stdin().lock());
+    answer_all(input, io::sink(), |line, _| planned.take(line))?;
+    let (text, done) = match planned {
+        plan::Planned::Nothing => (b"{\"refused\":\"C1\"}\n".to_vec(), false),
+        plan::Planned::Refused(text) => ([text, vec![b'\n']].concat(), false),
+        plan::Planned::Plan(plan) => (work::carry_out(plan).into_bytes(), true),
+    };
+    io::stdout().write_all(&text).map_err(|_| Fault::Write)?;
+    std::process::exit(if done { 0 } else { 1 })
 }
 
 /// Answers the lines of standard input.

@@ -2,6 +2,8 @@
 
 use crate::log::Place;
 use crate::own::{History, OwnPacks, State};
+#[cfg(feature = "threads")]
+use crate::values::Standing;
 use crate::values::{BatchKey, Code, Gtin, PackKey};
 use rustc_hash::FxHashMap;
 use std::collections::hash_map::Entry;
@@ -30,6 +32,19 @@ impl Packs {
             Kept::Made(birth) => Some((birth, State::MADE)),
             Kept::Own(number) => self.own.get(number),
         }
+    }
+
+    /// How many packs are held, and how many of them are active.
+    #[cfg(feature = "threads")]
+    pub fn counts(&self) -> (usize, usize) {
+        let state = |kept: &Kept| match *kept {
+            Kept::Made(_) => Some(State::MADE),
+            Kept::Own(number) => self.own.get(number).map(|(_, state)| state),
+        };
+        let held = self.table.values().flat_map(|packs| packs.values()).filter_map(state);
+        held.fold((0, 0), |(packs, active), state| {
+            (packs + 1, active + usize::from(state.standing == Standing::Active))
+        })
     }
 
     /// Notes the upload at a place: how many packs no upload before it names.

@@ -47,6 +47,13 @@ impl Repository {
         }
     }
 
+    /// Its entries, products, packs, active packs and recalled batches.
+    #[cfg(feature = "threads")]
+    pub fn counts(&self) -> [usize; 5] {
+        let (packs, active) = self.packs.counts();
+        [self.log.len(), self.masters.len(), packs, active, self.stops.recalled()]
+    }
+
     /// What a query finds of a pack.
     pub fn found(&self, pack: &PackKey) -> Option<Found> {
         let (birth, state) = self.packs.get(pack)?;

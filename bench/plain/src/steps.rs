@@ -39,7 +39,8 @@ impl Session {
 }
 
 impl Text<'_> {
-    fn refusal(&mut self, refusal: &Refusal) {
+    /// A refusal of an opening or a step.
+    pub fn refusal(&mut self, refusal: &Refusal) {
         self.put("{");
         if let Refusal::LinkFull(party) = refusal {
             self.put("\"party\":").number(*party).put(",");

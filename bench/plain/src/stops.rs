@@ -22,6 +22,12 @@ impl Stops {
         add(&mut self.withdrawals, gtin, stamp)
     }
 
+    /// How many batches are recalled.
+    #[cfg(feature = "threads")]
+    pub fn recalled(&self) -> usize {
+        self.recalls.len()
+    }
+
     /// Whether a batch is recalled.
     pub fn is_recalled(&self, batch: &BatchKey) -> bool {
         self.recalls.contains_key(batch)

@@ -7,10 +7,10 @@ use crate::message::{Answer, Message};
 use crate::party::{Party, PartySet, MOST_PARTIES};
 use crate::repository::{Effect, Repository};
 use crate::request::{LinkKey, Opening, Step};
+use crate::shared::Shared;
 use crate::values::PackKey;
 use rustc_hash::FxHashSet;
 use std::collections::VecDeque;
-use std::rc::Rc;
 
 /// Why an opening or a step is refused.
 pub enum Refusal {
@@ -23,6 +23,8 @@ pub enum Refusal {
     Submissions,
     NotOpen,
     AlreadyOpen,
+    #[cfg(feature = "threads")]
+    NotOfAPlan,
     NoSuchParty,
     NotSubmitted,
     UplinkFull,
@@ -70,7 +72,7 @@ pub enum Reply {
 #[derive(Default)]
 struct Submissions {
     /// The messages that are not routed yet; the others are in the record.
-    waiting: VecDeque<Rc<Message>>,
+    waiting: VecDeque<Shared<Message>>,
     count: u32,
 }
 
@@ -159,7 +161,7 @@ impl World {
     /// Adds to what a party submitted: the number of the message.
     fn add(&mut self, party: Party, message: Message) -> u32 {
         let submissions = &mut self.submissions[usize::from(party)];
-        submissions.waiting.push_back(Rc::new(message));
+        submissions.waiting.push_back(Shared::new(message));
         submissions.count += 1;
         submissions.count
     }
@@ -222,7 +224,7 @@ impl World {
 }
 
 /// The query that an item carries, with its number.
-fn query_of(item: &Item) -> Option<(u32, PackKey)> {
+pub fn query_of(item: &Item) -> Option<(u32, PackKey)> {
     match item {
         Item::Carried { k, message, .. } => match **message {
             Message::Query(pack) => Some((*k, pack)),
@@ -233,7 +235,7 @@ fn query_of(item: &Item) -> Option<(u32, PackKey)> {
 }
 
 /// Refuses parties and limits that no system has.
-fn check_opening(opening: &Opening) -> Result<(), Refusal> {
+pub fn check_opening(opening: &Opening) -> Result<(), Refusal> {
     let mut served = FxHashSet::default();
     if opening.parties.is_empty() {
         Err(Refusal::NoParty)
@@ -267,6 +269,8 @@ impl Refusal {
             Refusal::Submissions => "O4",
             Refusal::NotOpen => "C1",
             Refusal::AlreadyOpen => "C2",
+            #[cfg(feature = "threads")]
+            Refusal::NotOfAPlan => "C3",
             Refusal::NoSuchParty => "S1",
             Refusal::NotSubmitted => "S2",
             Refusal::UplinkFull => "S3",

@@ -1,5 +1,5 @@
 -- The words that the command line takes, and what they name.
-use Rattle.std.proofs.Common.{◌≡◌, ◌<◌, ◌==◌, ◌+◌, ◌-◌, ℕ, zero, suc, Bool, List, [], ◌∷◌, codes, true, false, if◌then◌else◌, None, Some, refl, ap, ◌∙◌, option_map, ◌⊎◌, inl, inr, MatchResult, OnOk, IfOk, IfErr, IfSome, Result, Ok, Err, rules, arith, sym, subst}
+use Rattle.std.proofs.Common.{◌≡◌, ◌<◌, ◌==◌, ◌+◌, ◌-◌, ℕ, zero, suc, Bool, List, [], ◌∷◌, ◌++◌, codes, true, false, if◌then◌else◌, None, Some, refl, ap, ◌∙◌, option_map, ◌⊎◌, inl, inr, MatchResult, OnOk, IfOk, IfErr, IfSome, Result, Ok, Err, rules, arith, sym, subst}
 use Rattle.std.specs.Prelude.{⊤, pos, unwrap_or}
 use Rattle.std.specs.Char.{digit_value}
 use Rattle.std.specs.Str.Parse.{ParsesUnsigned, digits_value}
@@ -28,7 +28,7 @@ use Rattle.mv_tool.specs.declared.fault.ServeFault.{ServeFault}
 use Rattle.mv_tool.specs.declared.status.Status.{Status}
 use Rattle.mv_tool.specs.declared.status.Status.TheVariants.{Done, Failed}
 use Rattle.mv_tool.specs.Canon.{IsCanon}
-use Rattle.mv_tool.specs.Commands.{command_line, AsksFor, AsksForWork, IsMistake, RanLines, RanWork, WritesTurns}
+use Rattle.mv_tool.specs.Commands.{command_line, AsksFor, AsksForWork, GiveTurns, IsMistake, RanLines, RanWork, WritesTurns}
 use Rattle.mv_tool.specs.Replies.{ReplyRule}
 use Rattle.mv_tool.specs.Served.{Served, Ended}
 use Rattle.mv_tool.specs.Working.{Worked, Failed as WorkFailed}
@@ -123,9 +123,13 @@ by_digit P at_0 at_1 at_2 at_3 at_4 at_5 at_6 at_7 at_8 at_9 d digit =
     go (suc (suc (suc (suc (suc (suc (suc (suc (suc zero))))))))) low = at_9
     go (suc (suc (suc (suc (suc (suc (suc (suc (suc (suc k)))))))))) low = absurd (omega (arith, low))
 
--- the words of `work`
+-- the words of `work`, with its option in two words
 abbrev work_words : List ℕ → List ℕ → List (List ℕ)
 work_words program text = program ∷ codes "work" ∷ codes "--turns" ∷ text ∷ []
+
+-- and with its option in one
+abbrev joined_words : List ℕ → List ℕ → List (List ℕ)
+joined_words program text = program ∷ codes "work" ∷ (codes "--turns=" ++ text) ∷ []
 
 -- the number that begins by this digit passes
 abbrev Passes : ℕ → List ℕ → Type 0
@@ -156,6 +160,16 @@ unfolding clap_on_literals
 work_met program ds = by_digit (λ d. subcommand_of command_line (work_words program (d ∷ ds)) ≡ Some (codes "work", turns_rows (d ∷ ds)))
     refl refl refl refl refl refl refl refl refl refl
 
+-- the same where the option is one word
+joined_taken : (program : List ℕ) (ds : List ℕ) (d : ℕ) → Passes d ds → takes command_line (joined_words program (d ∷ ds)) ≡ true
+unfolding clap_on_literals
+joined_taken program ds d passes = rw passes refl
+
+joined_met : (program : List ℕ) (ds : List ℕ) (d : ℕ)
+    → subcommand_of command_line (joined_words program (d ∷ ds)) ≡ Some (codes "work", turns_rows (d ∷ ds))
+unfolding clap_on_literals
+joined_met program ds d = refl
+
 -- the same of words that ask for it
 pub steps_passes : (line : App) (words : List (List ℕ)) → line ≡ command_line → AsksFor (codes "steps") words → takes line words ≡ true
 steps_passes line words is (program, e) = rw (is, e) (steps_taken program)
@@ -169,18 +183,34 @@ canon_passes line words is (program, e) = rw (is, e) (canon_taken program)
 pub canon_named : (words : List (List ℕ)) → AsksFor (codes "canon") words → option_map (λ p. p.0) (subcommand_of command_line words) ≡ Some (codes "canon")
 canon_named words (program, e) = rw e (canon_met program)
 
+-- the command line takes the words of `work`, however its option is given
+given_taken : (program text : List ℕ) (option : List (List ℕ)) (turns : ℕ) → WritesTurns turns text → GiveTurns text option
+    → takes command_line (program ∷ codes "work" ∷ option) ≡ true
+given_taken program [] option turns writes gives = absurd (omega (arith, writes.0.0))
+given_taken program (d ∷ ds) option turns writes (inl two) =
+    ap (λ words. takes command_line (program ∷ codes "work" ∷ words)) two
+    ∙ work_taken program ds d writes.0.1.0 (turns_pass turns (d ∷ ds) writes)
+given_taken program (d ∷ ds) option turns writes (inr one) =
+    ap (λ words. takes command_line (program ∷ codes "work" ∷ words)) one ∙ joined_taken program ds d (turns_pass turns (d ∷ ds) writes)
+
+-- and that is the subcommand
+given_met : (program text : List ℕ) (option : List (List ℕ)) (turns : ℕ) → WritesTurns turns text → GiveTurns text option
+    → subcommand_of command_line (program ∷ codes "work" ∷ option) ≡ Some (codes "work", turns_rows text)
+given_met program [] option turns writes gives = absurd (omega (arith, writes.0.0))
+given_met program (d ∷ ds) option turns writes (inl two) =
+    ap (λ words. subcommand_of command_line (program ∷ codes "work" ∷ words)) two ∙ work_met program ds d writes.0.1.0
+given_met program (d ∷ ds) option turns writes (inr one) =
+    ap (λ words. subcommand_of command_line (program ∷ codes "work" ∷ words)) one ∙ joined_met program ds d
+
 pub work_passes : (turns : ℕ) (line : App) (words : List (List ℕ)) → line ≡ command_line → AsksForWork turns words → takes line words ≡ true
-work_passes turns line words is (program, [], writes, e) = absurd (omega (arith, writes.0.0))
-work_passes turns line words is (program, d ∷ ds, writes, e) =
+work_passes turns line words is (program, text, option, writes, gives, e) =
     subst (λ given. takes line given ≡ true) (sym e)
-    (subst (λ app. takes app (work_words program (d ∷ ds)) ≡ true) (sym is)
-    (work_taken program ds d writes.0.1.0 (turns_pass turns (d ∷ ds) writes)))
+    (subst (λ app. takes app (program ∷ codes "work" ∷ option) ≡ true) (sym is) (given_taken program text option turns writes gives))
 
 pub work_named : (turns : ℕ) (words : List (List ℕ)) (asks : AsksForWork turns words)
     → subcommand_of command_line words ≡ Some (codes "work", turns_rows asks.1)
-work_named turns words (program, [], writes, e) = absurd (omega (arith, writes.0.0))
-work_named turns words (program, d ∷ ds, writes, e) =
-    ap (subcommand_of command_line) e ∙ work_met program ds d writes.0.1.0
+work_named turns words (program, text, option, writes, gives, e) =
+    ap (subcommand_of command_line) e ∙ given_met program text option turns writes gives
 
 -- the number of turns is read as it is written
 pub work_turns : (turns : ℕ) (text : List ℕ) → WritesTurns turns text → one_of (codes "turns") (turns_rows text) ≡ Some text

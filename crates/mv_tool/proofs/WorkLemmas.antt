@@ -1,19 +1,21 @@
 -- Lemmas on what `work` writes.
-use Rattle.std.proofs.Common.{◌≡◌, ℕ, List, [], ◌∷◌, ◌++◌, refl, ap, sym, ◌∙◌, subst, true≢false}
+use Rattle.std.proofs.Common.{◌≡◌, ℕ, List, [], ◌∷◌, ◌++◌, refl, ap, sym, ◌∙◌, subst, true≢false, ◌⊎◌, inl, inr}
 use Rattle.std.specs.Prelude.{IfOk, IfSome, Option, Some, None, Result, Ok, Err, Bool, true, false}
 use Rattle.mv_machine.specs.State.{State}
 use Rattle.mv_workers.specs.declared.plan.Plan.{Plan}
 use Rattle.mv_workers.specs.Plans.{KeepsPlan, IsComplete}
 use Rattle.mv_tool.specs.declared.working.Output.{Output}
+use Rattle.mv_tool.specs.declared.fault.ServeFault.{ServeFault}
+use Rattle.mv_tool.specs.declared.fault.ServeFault.TheVariants.{Memory, Start}
 use Rattle.mv_tool.specs.Drafts.{parts_of}
 use Rattle.mv_tool.specs.Report.{report_text}
 use Rattle.mv_tool.specs.Replies.{AreReplies}
 use Rattle.mv_tool.specs.Served.{Served}
 use Rattle.mv_tool.specs.Lines.{pieces, lines_of}
-use Rattle.mv_tool.specs.Planning.{Planned, IsPlanned, plan_lines}
+use Rattle.mv_tool.specs.Planning.{Planned, PlansSome, IsPlanned, plan_lines}
 use Rattle.mv_tool.specs.Output.{WrotePart}
-use Rattle.mv_tool.specs.Working.{end_line, IsReported, IsRead, IsOutput, IsWorked, Worked}
-use Rattle.std.specs.Io.KnownBytes.{Appends}
+use Rattle.mv_tool.specs.Working.{end_line, IsReported, IsRead, IsOutput, IsWorked, Worked, Failed}
+use Rattle.std.specs.Io.KnownBytes.{Appends, Keeps}
 
 -- the report of a complete outcome
 pub finished_output : {E : Type 0} (r : Result Output E) (plan : Plan) (outcome : State) → KeepsPlan plan outcome → IsComplete plan outcome
@@ -81,3 +83,16 @@ pub worked_part : (input : Option (List ℕ)) (planned : Planned) (old new : Opt
 worked_part None planned old new text out finished read output same written = tt
 worked_part (Some bytes) planned old new text out finished read output same written =
     (text, finished, subst (λ p. IsOutput p text finished) read.1 output, subst (λ l. WrotePart l old new) same written)
+
+-- what is not written to is kept
+keeps_itself : (contents : Option (List ℕ)) → Keeps contents contents
+keeps_itself None = tt
+keeps_itself (Some bytes) = refl
+
+-- memory was refused, or a plan could not be started
+pub work_stopped : (fault : ServeFault) (planned : Planned) (input rest contents : Option (List ℕ))
+    → (fault ≡ Memory) ⊎ ((fault ≡ Start) × PlansSome planned) → IfSome input (λ bytes. IsRead bytes planned)
+    → Failed fault input rest contents contents
+work_stopped fault planned input rest contents (inl memory) read = rw memory (keeps_itself contents, tt)
+work_stopped fault planned None rest contents (inr (start, plans)) read = rw start (keeps_itself contents, tt)
+work_stopped fault planned (Some bytes) rest contents (inr (start, plans)) read = rw start (keeps_itself contents, (planned, read, plans))

@@ -1,5 +1,5 @@
 -- The command line of the program, and what comes of the words that it takes.
-use Rattle.std.specs.Prelude.{◌≡◌, ◌≢◌, ◌<◌, ◌^◌, ◌⊎◌, ℕ, pos, List, [], ◌∷◌, codes, true, false, Option, Some, IfSome}
+use Rattle.std.specs.Prelude.{◌≡◌, ◌≢◌, ◌<◌, ◌^◌, ◌⊎◌, ℕ, pos, List, [], ◌∷◌, ◌++◌, codes, true, false, Option, Some, IfSome}
 use Rattle.std.specs.List.{AllByRecursion}
 use Rattle.std.specs.Io.KnownBytes.{Consumes, Keeps}
 use Rattle.std.specs.Str.Parse.{IsNumeral, digits_value}
@@ -47,10 +47,14 @@ AsksFor name words = (program : List ℕ) × (words ≡ program ∷ name ∷ [])
 abbrev pub WritesTurns : ℕ → List ℕ → Type 0
 WritesTurns turns text = IsNumeral 10 text × (digits_value 10 text ≡ turns) × (turns < 2 ^ 32)
 
--- the words are the program's name, `work`, `--turns` and this number
+-- the words are the option of `work` with this text: `--turns` and the text, or both in one word with `=` between them
+abbrev pub GiveTurns : List ℕ → List (List ℕ) → Type 0
+GiveTurns text words = (words ≡ codes "--turns" ∷ text ∷ []) ⊎ (words ≡ (codes "--turns=" ++ text) ∷ [])
+
+-- the words are the program's name, `work` and its option with this number
 abbrev pub AsksForWork : ℕ → List (List ℕ) → Type 0
-AsksForWork turns words = (program : List ℕ) × (text : List ℕ) × WritesTurns turns text
-    × (words ≡ program ∷ codes "work" ∷ codes "--turns" ∷ text ∷ [])
+AsksForWork turns words = (program : List ℕ) × (text : List ℕ) × (option : List (List ℕ)) × WritesTurns turns text
+    × GiveTurns text option × (words ≡ program ∷ codes "work" ∷ option)
 
 -- the command line does not take the words
 abbrev pub AreNotTaken : List (List ℕ) → Type 0

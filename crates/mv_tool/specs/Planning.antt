@@ -25,6 +25,10 @@ use Rattle.mv_tool.specs.Requests.{read_line}
 abbrev pub Planned : Type 0
 Planned = Result (Option Parts) (List ℕ)
 
+-- some lines plan something
+abbrev pub PlansSome : Planned → Type 0
+PlansSome planned = (parts : Parts) × (planned ≡ Ok (Some parts))
+
 -- what is kept of a plan
 abbrev pub planned_of : HeldPlan → Planned
 planned_of held.Nothing = Ok None

@@ -12,7 +12,7 @@ use Rattle.mv_tool.specs.Lines.{pieces, lines_of, KeepLimits}
 use Rattle.mv_tool.specs.Drafts.{Parts, parts_of}
 use Rattle.mv_tool.specs.Openings.{code_of}
 use Rattle.mv_tool.specs.Output.{WrotePart}
-use Rattle.mv_tool.specs.Planning.{Planned, plan_lines}
+use Rattle.mv_tool.specs.Planning.{Planned, PlansSome, plan_lines}
 use Rattle.mv_tool.specs.ReplyLines.{refused}
 use Rattle.mv_tool.specs.Served.{StopsIn}
 use Rattle.mv_tool.specs.Report.{report_text}
@@ -60,10 +60,14 @@ Unread TooManyLines input rest = (bytes : List ℕ) × Consumes input rest bytes
 Unread LineTooLong input rest = (bytes : List ℕ) × Consumes input rest bytes × StopsIn LineTooLong [] 0 bytes
 Unread fault input rest = ⊤
 
+-- an input was read whole, and its lines plan something
+abbrev pub HasPlan : List ℕ → Type 0
+HasPlan bytes = (planned : Planned) × IsRead bytes planned × PlansSome planned
+
 -- What a run that ended by a fault has written. Where a write failed: the first bytes of an output of the input. Else nothing: the
--- input was not read, or memory was refused, or a thread.
+-- input was not read, or memory was refused; or, only where the input is a plan, it could not be started.
 abbrev pub Failed : ServeFault → Option (List ℕ) → Option (List ℕ) → Option (List ℕ) → Option (List ℕ) → Type 0
 Failed Write input rest old new =
     IfSome input (λ bytes. (out : List ℕ) × (finished : Bool) × IsWorked bytes out finished × WrotePart out old new)
-Failed Start input rest old new = Keeps old new
+Failed Start input rest old new = Keeps old new × IfSome input HasPlan
 Failed fault input rest old new = Keeps old new × Unread fault input rest

@@ -3,7 +3,7 @@
 ghost use Rattle.std.specs.Prelude.{◌≡◌, ◌++◌, ◌∷◌, [], ◌⊎◌, false, IfOk, IfErr, IfSome};
 ghost use Rattle.mv_workers.specs.Plans.{IsSound};
 ghost use Rattle.mv_tool.specs.Drafts.{parts_of};
-ghost use Rattle.mv_tool.specs.Planning.{planned_of};
+ghost use Rattle.mv_tool.specs.Planning.{planned_of, PlansSome};
 ghost use Rattle.mv_tool.specs.Report.{report_text};
 ghost use Rattle.mv_tool.specs.Working.{end_line, IsReported, IsOutput, Worked, IsRead, Unread, Failed};
 
@@ -76,7 +76,8 @@ fn carry_out<H: Threads + Wait + Sync, G: Gate>(
     gate: &G,
 ) -> Result<Output, ServeFault>
     ensures ok { IfOk result (λ output. IsOutput (planned_of planned) output.text.items output.finished) }
-    ensures err { IfErr result (λ fault. (fault ≡ ServeFault.Memory) ⊎ (fault ≡ ServeFault.Start)) }
+    ensures err { IfErr result (λ fault. (fault ≡ ServeFault.Memory)
+        ⊎ ((fault ≡ ServeFault.Start) × PlansSome (planned_of planned))) }
 {
     match planned {
         Planned::Nothing => {

@@ -14,4 +14,4 @@ returns-clause-canon g c asks =
 -- the status is that of the run
 pub returns-clause-work : goal.returns-clause-work
 returns-clause-work g c turns asks =
-    (c.run.result, c.code.ensures.code, c.run.ensures.work turns (asks.0, asks.1, asks.2, ap (map string_bytes) c.as_slice.ensures.value ∙ asks.3))
+    (c.run.result, c.code.ensures.code, c.run.ensures.work turns (asks.0, asks.1, asks.2, asks.3, asks.4, ap (map string_bytes) c.as_slice.ensures.value ∙ asks.5))

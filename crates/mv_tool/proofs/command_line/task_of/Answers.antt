@@ -36,7 +36,7 @@ pub returns-clause-work : goal.returns-clause-work
 returns-clause-work c turns asks =
     c.task_named.ensures.work (turns_rows asks.1) turns asks.1
     (rows_named _ _ c.in_ok-matches.matches c.in_ok-line.ensures c.in_ok-matches.ensures.matches ∙ work_named turns _ asks)
-    (work_turns turns asks.1 asks.2) asks.2
+    (work_turns turns asks.1 asks.3) asks.3
 
 -- a parse that succeeds has no fault
 pub returns-clause-taken : goal.returns-clause-taken

@@ -1,6 +1,12 @@
 use Rattle.std.proofs.lemmas.Result.{err_from_is_err_and}
-use Rattle.mv_tool.proofs.WorkLemmas.{worked_whole, worked_part}
+use Rattle.mv_tool.proofs.WorkLemmas.{worked_whole, worked_part, work_stopped}
 use Rattle.mv_tool.proofs.working.work.Goals as goal
+
+-- memory was refused, or a plan could not be started
+pub returns-in_err-output-clause-err : goal.returns-in_err-output-clause-err
+returns-in_err-output-clause-err g c =
+    let p = err_from_is_err_and c.from_residual-in_err-output.result c.from_residual-in_err-output.ensures.1 in
+    rw (p.1, p.2) (work_stopped _ _ _ _ _ c.in_err-output.ensures.err c.in_ok-planned.ensures.ok)
 
 -- the write failed
 pub returns-in_err-put_out-clause-err : goal.returns-in_err-put_out-clause-err

@@ -1,4 +1,9 @@
-"""Messages as values of JSON, for the random runs and for the loads of bench/run."""
+"""Messages as values of JSON, for the random runs, the storms and the loads of bench/run; and names of markets."""
+
+
+def market_of(number):
+    """Market names: AA, AB and so on."""
+    return chr(ord("A") + number // 26) + chr(ord("A") + number % 26)
 
 
 def master_of(gtin, markets, texts):

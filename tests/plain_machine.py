@@ -184,6 +184,21 @@ def effect_of(log, sender, item):
     return {"effect": "E11"}
 
 
+def is_about(message, pack, held):
+    """Whether a message bears on a pack that is held so, or not at all: a recall does where it is of the pack's batch."""
+    if message["msg"] == "recall":
+        return held is not None and (message["gtin"], message["batch"]) == (pack[0], held.batch)
+    if message["msg"] == "withdraw":
+        return message["gtin"] == pack[0]
+    return names(message, pack) or is_status(message, pack)
+
+
+def about(pack, entries):
+    """The carried items among the entries that bear on a pack, each with its sender."""
+    held = pack_of(pack, entries)
+    return [(sender, item) for sender, item in entries if is_about(item.message, pack, held)]
+
+
 def counts_of(log):
     """How much a log has, each thing counted once: entries, products with a master, packs, those active, batches recalled."""
     entries = in_order(log)
@@ -247,6 +262,44 @@ def joint_verdict(party, log, q):
     if left:
         return {"left": len(left), "verdict": "pending"}
     return verdict_by([message["found"] for _, message in answers])
+
+
+# What the record means for the hub.
+
+
+def routed_messages(record, kind):
+    """The routed messages of a kind, the first first."""
+    return [entry.message for entry in record if isinstance(entry, Routed) and entry.message["msg"] == kind]
+
+
+def catalogue_of(gtin, record):
+    """The last master of a product, if it has one, and the batches of its uploads with their dates, each once; nothing if neither is."""
+    masters = [message for message in routed_messages(record, "master") if message["gtin"] == gtin]
+    uploads = [message for message in routed_messages(record, "upload") if message["gtin"] == gtin]
+    if not masters and not uploads:
+        return None
+    batches = []
+    for message in uploads:
+        if (message["batch"], message["expiry"]) not in batches:
+            batches.append((message["batch"], message["expiry"]))
+    return masters[-1] if masters else None, batches
+
+
+def linked_to(batch, record):
+    """The batches to which a batch was repackaged, ascending."""
+    repacks = routed_messages(record, "repack")
+    return sorted({(m["after_gtin"], m["after_batch"]) for m in repacks if (m["before_gtin"], m["before_batch"]) == batch})
+
+
+def descendants_of(batch, record):
+    """The batches to which one or more repackagings lead from a batch, ascending."""
+    found, todo = [], linked_to(batch, record)
+    while todo:
+        other = todo.pop()
+        if other not in found:
+            found.append(other)
+            todo += linked_to(other, record)
+    return sorted(found)
 
 
 class Machine:

@@ -1,9 +1,9 @@
 //! What each repository of a system shows, party by party. Each line is the text of one JSON object, its keys in byte order.
 
+use crate::items::{item_value, master_value};
 use crate::named::Named;
 use crate::page::Page;
-use mv_link::Item;
-use mv_message::{Message, Party, Product};
+use mv_message::Party;
 use mv_pack::{BatchKey, Gtin, PackKey};
 use mv_repository::{Change, Held, LogEntry, Repository};
 use mv_system::World;
@@ -73,31 +73,6 @@ fn entry_value(alloc: Global, party: Party, place: usize, entry: &LogEntry) -> O
     value.ok()
 }
 
-/// An item: a receipt, or a message with its number and its stamp.
-fn item_value(alloc: Global, item: &Item) -> Option<Value> {
-    match item {
-        Item::Receipt { k, reach, query } => { receipt_value(alloc, *k, reach.as_slice(), *query) }
-        Item::Carried { k, stamp, message } => { carried_value(alloc, *k, *stamp, message.get()) }
-    }
-}
-
-/// The receipt of a message.
-fn receipt_value(alloc: Global, k: u32, reached: &[Party], query: bool) -> Option<Value> {
-    let mut reach = Vec::new(alloc);
-    for party in reached {
-        reach.push(Value::from(*party)).ok()?;
-    }
-    let value = json!(in alloc; { "k": k, "query": query, "reach": reach });
-    value.ok()
-}
-
-/// A message as it was carried.
-fn carried_value(alloc: Global, k: u32, stamp: u32, message: &Message) -> Option<Value> {
-    let message = mv_json::to_value(alloc, message).ok()?;
-    let value = json!(in alloc; { "k": k, "message": message, "stamp": stamp });
-    value.ok()
-}
-
 /// A product that a repository knows or not, and whether it is withdrawn.
 fn product_value(alloc: Global, repository: &Repository, gtin: &Gtin) -> Option<Value> {
     let product = match repository.product(gtin) {
@@ -111,15 +86,6 @@ fn product_value(alloc: Global, repository: &Repository, gtin: &Gtin) -> Option<
         "withdrawn": repository.withdrawn(gtin)
     });
     value.ok()
-}
-
-/// A product as its master says it.
-fn master_value(alloc: Global, gtin: &Gtin, product: &Product) -> Option<Value> {
-    let master = Message::Master {
-        gtin: *gtin,
-        product: product.copy(alloc).ok()?,
-    };
-    mv_json::to_value(alloc, &master).ok()
 }
 
 /// Whether a batch is recalled.

@@ -63,6 +63,32 @@ impl Write for Sink {
     }
 }
 
+/// Keeps what is written, and passes it on only once it is flushed. The flush number `fails_at` fails.
+#[derive(Drop)]
+struct Tray {
+    kept: Vec<u8>,
+    bytes: Vec<u8>,
+    flushes: u32,
+    fails_at: u32,
+}
+
+impl Write for Tray {
+    fn write(&mut self, buf: &[u8]) -> io::Result<usize> {
+        self.kept.extend_from_slice(buf)?;
+        Ok(buf.len())
+    }
+
+    fn flush(&mut self) -> io::Result<()> {
+        self.flushes = self.flushes.saturating_add(1);
+        if self.flushes == self.fails_at {
+            return Err(io::Error::other("the flush fails"));
+        }
+        self.bytes.extend_from_slice(self.kept.as_slice())?;
+        self.kept.clear();
+        Ok(())
+    }
+}
+
 /// Which function answers the lines.
 #[derive(Clone, Copy)]
 enum Task {
@@ -196,4 +222,40 @@ fn ends_at_the_first_write(alloc: Global, task: Task) -> bool {
 fn writes_the_replies_to_what_one_read_gave_before_the_next(rt: HostRuntime) {
     assert!(rt; ends_at_the_first_write(rt.alloc(), Task::Steps));
     assert!(rt; ends_at_the_first_write(rt.alloc(), Task::Canon));
+}
+
+/// Whether a run whose flush number `fails_at` fails ends so, after so many reads and with so many bytes passed on.
+fn is_flushed(
+    alloc: Global,
+    task: Task,
+    fails_at: u32,
+    ended: Result<(), ServeFault>,
+    reads: u32,
+    count: usize,
+) -> bool {
+    let mut reader = script_of(100, 0, 0);
+    let mut tray = Tray {
+        kept: Vec::new(alloc),
+        bytes: Vec::new(alloc),
+        flushes: 0,
+        fails_at,
+    };
+    let answered = match task {
+        Task::Steps => serve(alloc, &mut reader, &mut tray),
+        Task::Canon => canon(alloc, &mut reader, &mut tray),
+    };
+    let passed = tray.bytes.as_slice();
+    answered == ended
+        && reader.reads == reads
+        && passed.len() == count
+        && REPLIES.starts_with(passed)
+}
+
+#[test]
+fn flushes_the_replies_to_each_block_and_stops_at_a_flush_that_fails(rt: HostRuntime) {
+    for task in [Task::Steps, Task::Canon] {
+        assert!(rt; is_flushed(rt.alloc(), task, 0, Ok(()), 2, 68));
+        assert!(rt; is_flushed(rt.alloc(), task, 1, Err(ServeFault::Write), 1, 0));
+        assert!(rt; is_flushed(rt.alloc(), task, 2, Err(ServeFault::Write), 2, 51));
+    }
 }

@@ -1,9 +1,9 @@
 -- Lemmas on plans that grow.
-use Rattle.std.proofs.Common.{inl, inr, ◌≡◌, ℕ, ◌+◌, ◌<◌, List, [], ◌∷◌, ◌++◌, ap, sym, ◌∙◌, arith, length, map, replicate, slice_index_or, slice_set, subst}
+use Rattle.std.proofs.Common.{inl, inr, ◌≡◌, ℕ, ◌<◌, List, [], ◌∷◌, ◌++◌, ap, sym, ◌∙◌, arith, length, map, slice_index_or, slice_set, subst}
 use Rattle.std.specs.declared.alloc.Global.{Global}
 use Rattle.std.specs.declared.vec.Vec.{Vec}
 use Rattle.std.proofs.lemmas.Bool.Decides.{eqb_tells}
-use Rattle.std.proofs.lemmas.List.{length-map, length-replicate, get_or-replicate, map_push, map-set, length-set, get_or-set_same, get_or-set_other, replicate-append-replicate, get_or-map}
+use Rattle.std.proofs.lemmas.List.{length-map, map-set, length-set, get_or-set_same, get_or-set_other, get_or-map}
 use Rattle.mv_message.specs.declared.message.Message.{Message}
 use Rattle.mv_party.specs.Site.{answers_in}
 use Rattle.mv_party.proofs.AnswerLemmas.{answers_in-append}

@@ -1,11 +1,11 @@
 -- What the taking of bytes makes ready and writes: words of the inside.
-use Rattle.std.specs.Prelude.{◌≡◌, ◌≢◌, ℕ, ◌+◌, ◌<◌, List, [], ◌∷◌, ◌++◌, length, Option, ⊤}
+use Rattle.std.specs.Prelude.{◌≡◌, ℕ, ◌+◌, List, [], ◌++◌, length, Option}
 use Rattle.std.specs.Io.KnownBytes.{Appends}
 use Rattle.mv_tool.specs.declared.fault.ServeFault.{ServeFault}
-use Rattle.mv_tool.specs.declared.fault.ServeFault.TheVariants.{Read, Write, Memory, TooManyLines, LineTooLong, Start}
-use Rattle.mv_tool.specs.Lines.{whole_from, rest_from, pieces, lines_of, line_limit, lines_limit, KeepLimits}
+use Rattle.mv_tool.specs.declared.fault.ServeFault.TheVariants.{Write, Memory}
+use Rattle.mv_tool.specs.Lines.{whole_from, rest_from, lines_of, KeepLimits}
 use Rattle.mv_tool.specs.Replies.{ReplyRule, IsReplies}
-use Rattle.mv_tool.specs.Served.{Wrote, StopsAt, StopsIn, Stopped, WroteReplies, Served, Ended}
+use Rattle.mv_tool.specs.Served.{Wrote, Stopped, WroteReplies}
 
 -- some bytes came behind the ones that stand ready to be written, and the fact holds of them
 abbrev pub Readied : List ℕ → List ℕ → (List ℕ → Type 0) → Type 0

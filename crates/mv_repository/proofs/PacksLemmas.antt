@@ -10,6 +10,7 @@ use Rattle.std.proofs.lemmas.List.Folds.{list_any_more}
 use Rattle.std.proofs.lemmas.Map.Made.{lookup-map_values}
 use Rattle.indexmap.specs.IndexMap.{insert_entry}
 use Rattle.mv_pack.specs.declared.key.PackKey.{PackKey}
+use Rattle.mv_pack.specs.declared.key.BatchKey.{BatchKey}
 use Rattle.mv_message.specs.declared.message.Message.TheVariants.{Upload}
 use Rattle.mv_link.specs.declared.item.Item.{Item}
 use Rattle.mv_link.specs.declared.item.Item.TheVariants.{Carried}
@@ -23,10 +24,10 @@ use Rattle.mv_repository.specs.Keys.{is_same_text, is_same_pack, pack_key}
 use Rattle.mv_repository.specs.PackState.{held_of, has_pack}
 use Rattle.mv_repository.specs.Stops.{StopTables, entry_at}
 use Rattle.mv_repository.specs.Tables.{IsUploadOf}
-use Rattle.mv_repository.specs.Packs.{kept_born, kept_as, kept_table, IsWithin, AreWithin, IsBorn, is_own, is_own_in, IsPut, IsWrittenAnew, FindsTracked, is_in, is_of, refreshed_in, IsSettled, AreSettled, is_named_at}
+use Rattle.mv_repository.specs.Packs.{kept_born, kept_as, kept_table, IsWithin, AreWithin, IsBorn, is_own, is_own_in, IsPut, IsWrittenAnew, FindsTracked, is_in, is_of, batch_serials, is_birth, is_made_at, is_made_there, refreshed_in, IsSettled, AreSettled}
 use Rattle.mv_repository.specs.Tracked.{serials_in, has_serial, is_tracked, KeepsTracked}
-use Rattle.mv_repository.specs.Track.{Kept, nothing_kept, kept_in, pack_made_by, uploaded_serials, held_made_at, grown_at, marks_at, with_upload, refreshed, IsTrack, is_made, is_active_kept, one_if, IsTally}
-use Rattle.mv_repository.proofs.KeptLemmas.{same_pack, pack-sym, pack-self, text-self, serials_more, done_more}
+use Rattle.mv_repository.specs.Track.{Kept, nothing_kept, kept_in, pack_made_by, held_made_at, grown_at, marks_at, with_upload, refreshed, IsTrack, is_made, is_active_kept, one_if, IsTally}
+use Rattle.mv_repository.proofs.KeptLemmas.{same_pack, pack-sym, pack-self, text-self, serials_more}
 use Rattle.mv_repository.proofs.TableLemmas.{longer, newest-stands}
 
 module _ {X : Type 0} where
@@ -158,6 +159,24 @@ written-here none test (e ∷ es) list list' f = by (test e.0) refl f (λ g. wri
         → unwrap_or (lookup test (cond b ((e.0, list') ∷ es) (e ∷ set_value test es list'))) none ≡ list'
     by true h g r = ap (λ c. unwrap_or (cond c (Some list') (lookup test es)) none) h
     by false h g r = ap (λ c. unwrap_or (cond c (Some e.1) (lookup test (set_value test es list'))) none) h ∙ r g
+
+pub inserted-here : {K L : Type 0} (none : L) (eq : K → K → Bool) (es : List (K × L)) (key : K) (list : L) → eq key key ≡ true → lookup (eq key) es ≡ None → unwrap_or (lookup (eq key) (insert_entry eq es key list)) none ≡ list
+inserted-here none eq [] key list self n = ap (λ c. unwrap_or (cond c (Some list) None) none) self
+inserted-here none eq (e ∷ es) key list self n = by (eq key e.0) refl n (λ m. inserted-here none eq es key list self m)
+  where
+    by : (b : Bool) → eq key e.0 ≡ b → cond b (Some e.1) (lookup (eq key) es) ≡ None → (lookup (eq key) es ≡ None → unwrap_or (lookup (eq key) (insert_entry eq es key list)) none ≡ list)
+        → unwrap_or (lookup (eq key) (cond b ((e.0, list) ∷ es) (e ∷ insert_entry eq es key list))) none ≡ list
+    by true h m r = absurd (none-some _ (sym m))
+    by false h m r = ap (λ c. unwrap_or (cond c (Some e.1) (lookup (eq key) (insert_entry eq es key list))) none) h ∙ r m
+
+-- what is written under one key is not found under another
+pub written-apart : {K L : Type 0} (test other : K → Bool) (es : List (K × L)) (list : L) → ((key : K) → test key ≡ true → other key ≡ false) → lookup other (set_value test es list) ≡ lookup other es
+written-apart test other [] list apart = refl
+written-apart {K} {L} test other (e ∷ es) list apart = by (test e.0) refl (written-apart test other es list apart)
+  where
+    by : (b : Bool) → test e.0 ≡ b → lookup other (set_value test es list) ≡ lookup other es → lookup other (cond b ((e.0, list) ∷ es) (e ∷ set_value test es list)) ≡ lookup other (e ∷ es)
+    by true h r = ap (λ c. cond c (Some list) (lookup other es)) (apart e.0 h) ∙ ap (λ c. cond c (Some e.1) (lookup other es)) (sym (apart e.0 h))
+    by false h r = ap (λ (o : Option L). cond (other e.0) (Some e.1) o) r
 
 -- what is kept, once a slot is written
 
@@ -408,20 +427,20 @@ unowned births slots p h = ap (λ (k : Kept). k.places) (kept-by births slots p)
     by (Some (Made place)) e = made (slice_get births place)
     by (Some (Own track)) e = absurd (true≢false e)
 
-module _ (log : List LogEntry) (tables : StopTables) (batch : Option (List ℕ)) where
-  pub refreshed-nothing : (p : PackKey) → refreshed_in log tables batch p nothing_kept ≡ nothing_kept
-  refreshed-nothing p = elim (is_in batch nothing_kept) as (λ b. cond b nothing_kept nothing_kept ≡ nothing_kept) [ true ↦ refl | false ↦ refl ]
+module _ (log : List LogEntry) (tables : StopTables) (maker : Option ℕ) where
+  pub refreshed-nothing : (p : PackKey) → refreshed_in log tables maker p nothing_kept ≡ nothing_kept
+  refreshed-nothing p = elim (is_made_there maker nothing_kept) as (λ b. cond b nothing_kept nothing_kept ≡ nothing_kept) [ true ↦ refl | false ↦ refl ]
 
-  pub refreshed-twice : (p : PackKey) (k : Kept) → refreshed_in log tables batch p (refreshed_in log tables batch p k) ≡ refreshed_in log tables batch p k
-  refreshed-twice p k = by (is_in batch k) refl
+  pub refreshed-twice : (p : PackKey) (k : Kept) → refreshed_in log tables maker p (refreshed_in log tables maker p k) ≡ refreshed_in log tables maker p k
+  refreshed-twice p k = by (is_made_there maker k) refl
     where
-      by : (b : Bool) → is_in batch k ≡ b → refreshed_in log tables batch p (cond b (refreshed log tables p k) k) ≡ cond b (refreshed log tables p k) k
-      by true e = elim (is_in batch (refreshed log tables p k)) as (λ c. cond c (refreshed log tables p k) (refreshed log tables p k) ≡ refreshed log tables p k) [ true ↦ refl | false ↦ refl ]
+      by : (b : Bool) → is_made_there maker k ≡ b → refreshed_in log tables maker p (cond b (refreshed log tables p k) k) ≡ cond b (refreshed log tables p k) k
+      by true e = elim (is_made_there maker (refreshed log tables p k)) as (λ c. cond c (refreshed log tables p k) (refreshed log tables p k) ≡ refreshed log tables p k) [ true ↦ refl | false ↦ refl ]
       by false e = ap (λ b. cond b (refreshed log tables p k) k) e
 
   pub settled-more : (first packs : List (PackKey × Kept)) (touched : PackKey → Bool) → AreSettled log tables first
-      → ((p : PackKey) → kept_in p packs ≡ cond (touched p) (refreshed_in log tables batch p (kept_in p first)) (kept_in p first)) → AreSettled log tables packs
-  settled-more first packs touched settled looks p = subst (IsSettled log tables p) (sym (looks p)) (by (touched p) (is_in batch (kept_in p first)))
+      → ((p : PackKey) → kept_in p packs ≡ cond (touched p) (refreshed_in log tables maker p (kept_in p first)) (kept_in p first)) → AreSettled log tables packs
+  settled-more first packs touched settled looks p = subst (IsSettled log tables p) (sym (looks p)) (by (touched p) (is_made_there maker (kept_in p first)))
     where
       by : (b c : Bool) → IsSettled log tables p (cond b (cond c (refreshed log tables p (kept_in p first)) (kept_in p first)) (kept_in p first))
       by true true = λ h. refl
@@ -429,30 +448,49 @@ module _ (log : List LogEntry) (tables : StopTables) (batch : Option (List ℕ))
       by false c = settled p
 
   pub again-more : (first packs packs' : List (PackKey × Kept)) (gtin : List ℕ) (serials : List (List ℕ)) (i : ℕ) → i < length serials
-      → ((p : PackKey) → kept_in p packs ≡ cond (has_pack gtin (take i serials) p) (refreshed_in log tables batch p (kept_in p first)) (kept_in p first))
-      → ((p : PackKey) → kept_in p packs' ≡ cond (is_same_pack (pack_key gtin (get_or serials i [])) p) (refreshed_in log tables batch (pack_key gtin (get_or serials i [])) (kept_in (pack_key gtin (get_or serials i [])) packs)) (kept_in p packs))
-      → (p : PackKey) → kept_in p packs' ≡ cond (has_pack gtin (take (i + 1) serials) p) (refreshed_in log tables batch p (kept_in p first)) (kept_in p first)
+      → ((p : PackKey) → kept_in p packs ≡ cond (has_pack gtin (take i serials) p) (refreshed_in log tables maker p (kept_in p first)) (kept_in p first))
+      → ((p : PackKey) → kept_in p packs' ≡ cond (is_same_pack (pack_key gtin (get_or serials i [])) p) (refreshed_in log tables maker (pack_key gtin (get_or serials i [])) (kept_in (pack_key gtin (get_or serials i [])) packs)) (kept_in p packs))
+      → (p : PackKey) → kept_in p packs' ≡ cond (has_pack gtin (take (i + 1) serials) p) (refreshed_in log tables maker p (kept_in p first)) (kept_in p first)
   again-more first packs packs' gtin serials i l old step =
-      serials_more (λ p k. refreshed_in log tables batch p k) refreshed-twice first packs packs' gtin serials i l old step
+      serials_more (λ p k. refreshed_in log tables maker p k) refreshed-twice first packs packs' gtin serials i l old step
 
+module _ (log : List LogEntry) (tables : StopTables) where
   -- the packs of one upload more
-  pub uploads-more : (first packs packs' : List (PackKey × Kept)) (gtin : List ℕ) (places : List ℕ) (i place : ℕ) (serials : List (List ℕ)) → i < length places → place ≡ get_or places i 0
-      → serials ≡ uploaded_serials (entry_at log place).entry.item
-      → ((p : PackKey) → kept_in p packs ≡ cond (is_named_at log gtin (take i places) p) (refreshed_in log tables batch p (kept_in p first)) (kept_in p first))
-      → ((p : PackKey) → kept_in p packs' ≡ cond (has_pack gtin serials p) (refreshed_in log tables batch p (kept_in p packs)) (kept_in p packs))
-      → (p : PackKey) → kept_in p packs' ≡ cond (is_named_at log gtin (take (i + 1) places) p) (refreshed_in log tables batch p (kept_in p first)) (kept_in p first)
-  uploads-more first packs packs' gtin places i place serials l here named looks step p =
+  pub uploads-more : (first packs packs' : List (PackKey × Kept)) (batch : BatchKey) (places : List ℕ) (i place : ℕ) (serials : List (List ℕ)) → i < length places → place ≡ get_or places i 0
+      → serials ≡ batch_serials batch.batch (entry_at log place).entry.item
+      → ((p : PackKey) → kept_in p packs ≡ cond (is_made_at log batch (take i places) p (kept_in p first).birth) (refreshed log tables p (kept_in p first)) (kept_in p first))
+      → ((p : PackKey) → kept_in p packs' ≡ cond (has_pack batch.gtin serials p) (refreshed_in log tables (Some place) p (kept_in p packs)) (kept_in p packs))
+      → (p : PackKey) → kept_in p packs' ≡ cond (is_made_at log batch (take (i + 1) places) p (kept_in p first).birth) (refreshed log tables p (kept_in p first)) (kept_in p first)
+  uploads-more first packs packs' batch places i place serials l here named looks step p =
       step p
-      ∙ done_more (λ k. refreshed_in log tables batch p k) (is_named_at log gtin (take i places) p) (has_pack gtin serials p) (kept_in p first) (kept_in p packs) (refreshed-twice p (kept_in p first)) (looks p)
-      ∙ ap (λ b. cond b (refreshed_in log tables batch p (kept_in p first)) (kept_in p first))
-      (ap (λ b. is_named_at log gtin (take i places) p || b) (ap (λ (l : List (List ℕ)). has_pack gtin l p) (named ∙ ap (λ (n : ℕ). uploaded_serials (entry_at log n).entry.item) here))
-      ∙ sym (list_any_more (λ n. has_pack gtin (uploaded_serials (entry_at log n).entry.item) p) places i 0 l))
+      ∙ ap (λ k. cond (has_pack batch.gtin serials p) (refreshed_in log tables (Some place) p k) k) (looks p)
+      ∙ by (is_made_at log batch (take i places) p old.birth) (has_pack batch.gtin serials p)
+      ∙ ap (λ b. cond b (refreshed log tables p old) old)
+      (ap (λ b. is_made_at log batch (take i places) p old.birth || b)
+      (ap (λ (l : List (List ℕ)). has_pack batch.gtin l p && is_birth place old.birth) named
+      ∙ ap (λ (n : ℕ). has_pack batch.gtin (batch_serials batch.batch (entry_at log n).entry.item) p && is_birth n old.birth) here)
+      ∙ sym (list_any_more (λ n. has_pack batch.gtin (batch_serials batch.batch (entry_at log n).entry.item) p && is_birth n old.birth) places i 0 l))
+    where
+      old : Kept
+      old = kept_in p first
+
+      again : (b : Bool) → cond b (refreshed log tables p old) (refreshed log tables p old) ≡ refreshed log tables p old
+      again true = refl
+      again false = refl
+
+      by : (t h : Bool)
+          → cond h (cond (is_birth place (cond t (refreshed log tables p old) old).birth) (refreshed log tables p (cond t (refreshed log tables p old) old)) (cond t (refreshed log tables p old) old)) (cond t (refreshed log tables p old) old)
+          ≡ cond (t || (h && is_birth place old.birth)) (refreshed log tables p old) old
+      by true true = again (is_birth place old.birth)
+      by true false = refl
+      by false true = refl
+      by false false = refl
 
   -- where the packs of a product that statuses name are worked out, all of the product are
   pub again-all : (births : List Birth) (slots : List (PackKey × Slot)) (packs' : List (PackKey × Kept)) (products : List (List ℕ × List (List ℕ))) (gtin : List ℕ) → FindsTracked slots products
       → AreSettled log tables (kept_table births slots)
-      → ((p : PackKey) → kept_in p packs' ≡ cond (has_pack gtin (serials_in (is_same_text gtin) products) p) (refreshed_in log tables batch p (kept_in p (kept_table births slots))) (kept_in p (kept_table births slots)))
-      → (p : PackKey) → kept_in p packs' ≡ cond (is_of gtin batch p (kept_in p (kept_table births slots))) (refreshed log tables p (kept_in p (kept_table births slots))) (kept_in p (kept_table births slots))
+      → ((p : PackKey) → kept_in p packs' ≡ cond (has_pack gtin (serials_in (is_same_text gtin) products) p) (refreshed_in log tables None p (kept_in p (kept_table births slots))) (kept_in p (kept_table births slots)))
+      → (p : PackKey) → kept_in p packs' ≡ cond (is_of gtin None p (kept_in p (kept_table births slots))) (refreshed log tables p (kept_in p (kept_table births slots))) (kept_in p (kept_table births slots))
   again-all births slots packs' products gtin finds settled looks p = looks p ∙ by (is_same_text gtin p.gtin) refl
     where
       kept : Kept
@@ -469,12 +507,12 @@ module _ (log : List LogEntry) (tables : StopTables) (batch : Option (List ℕ))
       own true e n = absurd (true≢false (sym (finds p e) ∙ n))
       own false e n = e
 
-      here : (b : Bool) → is_tracked p products ≡ b → cond b (refreshed_in log tables batch p kept) kept ≡ cond (is_in batch kept) (refreshed log tables p kept) kept
+      here : (b : Bool) → is_tracked p products ≡ b → cond b (refreshed_in log tables None p kept) kept ≡ cond (is_in None kept) (refreshed log tables p kept) kept
       here true e = refl
-      here false e = still (own (is_own_in p slots) refl e) (is_in batch kept)
+      here false e = still (own (is_own_in p slots) refl e) (is_in None kept)
 
-      by : (b : Bool) → is_same_text gtin p.gtin ≡ b → cond (b && among gtin) (refreshed_in log tables batch p kept) kept ≡ cond (b && is_in batch kept) (refreshed log tables p kept) kept
-      by true e = ap (λ (named : List ℕ). cond (among named) (refreshed_in log tables batch p kept) kept) (same_text gtin p.gtin (sym e)) ∙ here (is_tracked p products) refl
+      by : (b : Bool) → is_same_text gtin p.gtin ≡ b → cond (b && among gtin) (refreshed_in log tables None p kept) kept ≡ cond (b && is_in None kept) (refreshed log tables p kept) kept
+      by true e = ap (λ (named : List ℕ). cond (among named) (refreshed_in log tables None p kept) kept) (same_text gtin p.gtin (sym e)) ∙ here (is_tracked p products) refl
       by false e = refl
 
   -- what is worked out by entries that are right is settled

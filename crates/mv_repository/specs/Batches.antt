@@ -18,10 +18,6 @@ has_place places place = list_any (λ known. nat_eq known place) places
 abbrev pub is_listed : BatchKey → ℕ → List (BatchKey × List ℕ) → Bool
 is_listed batch place uploads = has_place (uploads_in (is_same_batch batch) uploads) place
 
--- each place of a list is still there
-abbrev pub KeepsPlaces : List ℕ → List ℕ → Type 0
-KeepsPlaces old new = (place : ℕ) → has_place old place ≡ true → has_place new place ≡ true
-
 -- each upload that was listed still is
 abbrev pub KeepsListed : List (BatchKey × List ℕ) → List (BatchKey × List ℕ) → Type 0
 KeepsListed old new = (batch : BatchKey) (place : ℕ) → is_listed batch place old ≡ true → is_listed batch place new ≡ true

@@ -1,12 +1,15 @@
 -- The table of packs: a pack is as an upload made it until a status names it, and has a track of its own from then on.
 use Rattle.std.specs.Bool.{⊤}
-use Rattle.std.specs.Prelude.{◌≡◌, ◌<◌, ℕ, List, [], ◌∷◌, map, length, slice_get, Bool, true, false, ◌&&◌, Option, Some, None, IfSome, is_some, if◌then◌else◌}
+use Rattle.std.specs.Prelude.{◌≡◌, ◌<◌, ℕ, List, [], ◌∷◌, map, length, slice_get, Bool, true, false, nat_eq, ◌&&◌, Option, Some, None, IfSome, is_some, if◌then◌else◌}
 use Rattle.std.specs.List.{list_any}
 use Rattle.mv_pack.specs.declared.key.BatchKey.{BatchKey}
 use Rattle.std.specs.Map.{lookup, set_value}
 use Rattle.indexmap.specs.IndexMap.{insert_entry}
 use Rattle.std.specs.Option.{option_map, unwrap_or}
 use Rattle.mv_pack.specs.declared.key.PackKey.{PackKey}
+use Rattle.mv_message.specs.declared.message.Message.TheVariants.{Upload}
+use Rattle.mv_link.specs.declared.item.Item.{Item}
+use Rattle.mv_link.specs.declared.item.Item.TheVariants.{Carried}
 use Rattle.mv_repository.specs.declared.entry.LogEntry.{LogEntry}
 use Rattle.mv_repository.specs.declared.held.Held.{Held}
 use Rattle.mv_repository.specs.declared.slot.Birth.{Birth}
@@ -18,7 +21,7 @@ use Rattle.mv_repository.specs.PackState.{has_pack}
 use Rattle.mv_repository.specs.Batches.{is_listed}
 use Rattle.mv_repository.specs.Stops.{StopTables, entry_at}
 use Rattle.mv_repository.specs.Tracked.{is_tracked}
-use Rattle.mv_repository.specs.Track.{Kept, is_upload_of, uploaded_batch, uploaded_serials, nothing_kept, kept_in, held_made_at, refreshed, IsTrack, IsTally}
+use Rattle.mv_repository.specs.Track.{Kept, is_upload_of, uploaded_batch, nothing_kept, kept_in, held_made_at, refreshed, IsTrack, IsTally}
 
 -- what is kept of a pack that is as an upload made it
 abbrev pub kept_born : Birth → Kept
@@ -104,10 +107,23 @@ pub record IsMadeAt (log : List LogEntry) (pack : PackKey) (birth : Option ℕ) 
 abbrev pub AreMade : List LogEntry → List (PackKey × Kept) → Type 0
 AreMade log table = (pack : PackKey) → IfSome (kept_in pack table).held (λ held. IsMadeAt log pack (kept_in pack table).birth held.batch)
 
--- a pack is named by one of the uploads at these places
-abbrev pub is_named_at : List LogEntry → List ℕ → List ℕ → PackKey → Bool
-is_named_at log gtin places pack =
-    list_any (λ place. has_pack gtin (uploaded_serials (entry_at log place).entry.item) pack) places
+-- the serial numbers that an upload of a batch names
+abbrev pub batch_serials : List ℕ → Item → List (List ℕ)
+batch_serials number (Carried k stamp (Upload gtin batch expiry national serials)) =
+    if is_same_text number batch then serials else []
+batch_serials number _ = []
+
+-- a pack was made by the upload at a place
+abbrev pub is_birth : ℕ → Option ℕ → Bool
+is_birth place None = false
+is_birth place (Some birth) = nat_eq place birth
+
+-- a pack was made by one of the uploads at these places, an upload of the batch that names it
+abbrev pub is_made_at : List LogEntry → BatchKey → List ℕ → PackKey → Option ℕ → Bool
+is_made_at log batch places pack birth =
+    list_any
+    (λ place. has_pack batch.gtin (batch_serials batch.batch (entry_at log place).entry.item) pack && is_birth place birth)
+    places
 
 -- what stands in the parts of the table belongs together
 pub record IsTable (births : List Birth) (slots : List (PackKey × Slot)) (products : List (List ℕ × List (List ℕ)))
@@ -130,9 +146,14 @@ is_in (Some batch) kept = is_held_in batch kept.held
 abbrev pub is_of : List ℕ → Option (List ℕ) → PackKey → Kept → Bool
 is_of gtin batch pack kept = is_same_text gtin pack.gtin && is_in batch kept
 
--- a pack of a batch worked out again
-abbrev pub refreshed_in : List LogEntry → StopTables → Option (List ℕ) → PackKey → Kept → Kept
-refreshed_in log tables batch pack kept = if is_in batch kept then refreshed log tables pack kept else kept
+-- an upload made a pack, where one is named by its place
+abbrev pub is_made_there : Option ℕ → Kept → Bool
+is_made_there None kept = true
+is_made_there (Some place) kept = is_birth place kept.birth
+
+-- a pack worked out again, where an upload made it, if one is named
+abbrev pub refreshed_in : List LogEntry → StopTables → Option ℕ → PackKey → Kept → Kept
+refreshed_in log tables maker pack kept = if is_made_there maker kept then refreshed log tables pack kept else kept
 
 -- working a pack out again that no status names changes nothing
 abbrev pub IsSettled : List LogEntry → StopTables → PackKey → Kept → Type 0

@@ -45,11 +45,6 @@ first_upload pack entries = find (λ placed. is_upload_of pack placed.entry.item
 abbrev pub statuses_of : PackKey → List Placed → List Placed
 statuses_of pack entries = filter (λ placed. is_status_of pack placed.entry.item) entries
 
--- the serial numbers that an upload names
-abbrev pub uploaded_serials : Item → List (List ℕ)
-uploaded_serials (Carried k stamp (Upload gtin batch expiry national serials)) = serials
-uploaded_serials _ = []
-
 -- the pack that an upload makes; none where an item is no upload
 abbrev pub pack_made_by : Item → Option KnownPack
 pack_made_by (Carried k stamp (Upload gtin batch expiry national serials)) = Some (new_pack batch expiry national)

@@ -1,8 +1,9 @@
-//! For each batch, the uploads that gave their packs this batch, by their places in the log.
+//! For each batch, the uploads that made packs of it, by their places in the log.
 
-ghost use Rattle.std.specs.Prelude.{◌≡◌, [], true, OnOk, OnErr};
+ghost use Rattle.std.specs.Prelude.{◌≡◌, ◌∷◌, ◌++◌, [], ℕ, List, true, false, OnOk, OnErr};
+ghost use Rattle.mv_pack.specs.declared.key.BatchKey.{BatchKey as ABatchKey};
 ghost use Rattle.mv_repository.specs.Keys.{is_same_batch};
-ghost use Rattle.mv_repository.specs.Batches.{uploads_in, has_place, is_listed, KeepsPlaces, KeepsListed};
+ghost use Rattle.mv_repository.specs.Batches.{uploads_in, KeepsListed};
 
 use indexmap::IndexMap;
 use mv_pack::BatchKey;
@@ -42,12 +43,18 @@ impl PlaceList {
 
     /// One more place. Where memory is refused nothing has changed.
     fn add(&mut self, place: usize) -> Result<(), AllocError>
-        ensures keeps { KeepsPlaces self.old self.new }
-        ensures added { OnOk result (has_place self.new place ≡ true) }
+        ensures ok { OnOk result (self.new ≡ self.old ++ place ∷ []) }
         ensures err { OnErr result (self.new ≡ self.old) }
     {
         self.list.push(place)?;
         Ok(())
+    }
+
+    /// Without the place that came last.
+    fn take_last(&mut self)
+        ensures { (places : List ℕ) (place : ℕ) → self.old ≡ places ++ place ∷ [] → self.new ≡ places }
+    {
+        self.list.pop();
     }
 }
 
@@ -91,7 +98,8 @@ impl Batches {
     /// Adds an upload of a batch. Where memory is refused the uploads are those that there were.
     pub fn add(&mut self, batch: BatchKey, place: usize) -> Result<(), AllocError>
         ensures keeps { KeepsListed self.old self.new }
-        ensures added { OnOk result (is_listed batch place self.new ≡ true) }
+        ensures last { OnOk result (uploads_in (is_same_batch batch) self.new
+            ≡ uploads_in (is_same_batch batch) self.old ++ place ∷ []) }
     {
         if let Some(list) = self.uploads.get_mut(&batch) {
             return list.add(place);
@@ -100,5 +108,21 @@ impl Batches {
         list.add(place)?;
         self.uploads.insert(batch, list)?;
         Ok(())
+    }
+
+    /// Takes the upload of a batch that was added last off again, unless it stays.
+    pub fn settle_last(&mut self, batch: &BatchKey, stays: bool)
+        ensures stays { stays ≡ true → self.new ≡ self.old }
+        ensures gone { stays ≡ false → (before : List (ABatchKey × List ℕ)) (place : ℕ)
+            → uploads_in (is_same_batch batch.now) self.old ≡ uploads_in (is_same_batch batch.now) before ++ place ∷ []
+            → KeepsListed before self.old → KeepsListed before self.new }
+    {
+        if stays {
+            return;
+        }
+        let Some(list) = self.uploads.get_mut(batch) else {
+            return;
+        };
+        list.take_last();
     }
 }

@@ -120,8 +120,11 @@ impl Packs {
         self.births.reserve(1)?;
         self.table.slots.reserve(serials.len())?;
         let new = log.len();
-        let batch = held.batch.copy();
-        self.batches.add(BatchKey { gtin, batch }, new)?;
+        let batch = BatchKey {
+            gtin,
+            batch: held.batch.copy(),
+        };
+        self.batches.add(batch.copy(), new)?;
         // All room is got: nothing fails from here on.
         let at = self.births.len();
         log.push_reserved(entry);
@@ -130,6 +133,7 @@ impl Packs {
         let count = self
             .table
             .add_uploads(births, log.as_slice(), stops, gtin, serials, new, at);
+        self.batches.settle_last(&batch, count > 0);
         Ok(count)
     }
 
@@ -168,7 +172,7 @@ impl Packs {
         )
     }
 
-    /// Works out again the packs of a batch. Only those are looked at that its uploads name.
+    /// Works out again the packs of a batch, each once. Only those are looked at that its uploads name.
     pub fn refresh_batch(&mut self, log: &[LogEntry], stops: &Stops, batch: &BatchKey)
         requires tracks { WereTracks log.now self.old }
         requires made { AreMade log.now self.old }
@@ -179,9 +183,8 @@ impl Packs {
     {
         let births = self.births.as_slice();
         let places = self.batches.uploads_of(batch);
-        let number = Some(batch.batch.copy());
         self.table
-            .refresh_uploads(births, log, stops, batch.gtin, &number, places);
+            .refresh_uploads(births, log, stops, batch, places);
     }
 
     /// Works out again the packs of a product. Only those are looked at that a status names.
@@ -195,6 +198,6 @@ impl Packs {
         let births = self.births.as_slice();
         let serials = self.tracked.of_product(gtin);
         self.table
-            .refresh_all(births, log, stops, *gtin, &None, serials);
+            .refresh_all(births, log, stops, *gtin, None, serials);
     }
 }

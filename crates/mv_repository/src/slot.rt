@@ -15,7 +15,7 @@ use crate::tally::Share;
 use crate::track::Track;
 use crate::tracked::Tracked;
 use crate::{Effect, Held, LogEntry};
-use mv_pack::{Batch, PackKey};
+use mv_pack::PackKey;
 use std::alloc::{AllocError, Global};
 
 /// An upload that made packs.
@@ -134,23 +134,24 @@ impl Slot {
         }
     }
 
-    /// Works the pack out again, where it is of a batch, if one is named. A pack that no status names stays as it is.
+    /// Works the pack out again, where an upload made it, if one is named by its place in the log. A pack that no status
+    /// names stays as it is.
     pub fn refresh(
         &mut self,
         births: &[Birth],
         log: &[LogEntry],
         stops: &Stops,
         pack: &PackKey,
-        batch: &Option<Batch>,
+        maker: Option<usize>,
     )
         requires settled { IsSettled log.now stops.now pack.now (kept_as births.now self.old) }
         ensures kept { kept_as births.now self.new
-            ≡ refreshed_in log.now stops.now batch.now pack.now (kept_as births.now self.old) }
+            ≡ refreshed_in log.now stops.now maker pack.now (kept_as births.now self.old) }
         ensures within { IsWithin (length births.now) self.old → IsWithin (length births.now) self.new }
         ensures own { is_own self.new ≡ is_own self.old }
     {
         if let Slot::Own(track) = self {
-            if track.is_in(batch) {
+            if track.is_made_by(maker) {
                 track.refresh(log, stops, pack);
             }
         }

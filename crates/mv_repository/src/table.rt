@@ -5,10 +5,10 @@ ghost use Rattle.indexmap.specs.IndexMap.{spare};
 ghost use Rattle.mv_pack.specs.declared.key.PackKey.{PackKey as APackKey};
 ghost use Rattle.mv_repository.specs.Keys.{is_same_pack};
 ghost use Rattle.mv_repository.specs.PackState.{has_pack};
-ghost use Rattle.mv_repository.specs.Packs.{kept_table, AreWithin, is_own_in, IsPut, IsWrittenAnew, FindsTracked, IsBorn, IsSettled, AreSettled, refreshed_in, is_named_at};
+ghost use Rattle.mv_repository.specs.Packs.{kept_table, AreWithin, is_own_in, IsPut, IsWrittenAnew, FindsTracked, IsBorn, IsSettled, AreSettled, refreshed_in, is_made_at, batch_serials};
 ghost use Rattle.mv_repository.specs.Stops.{comes_first, entry_at};
 ghost use Rattle.mv_repository.specs.Tracked.{is_tracked, KeepsTracked};
-ghost use Rattle.mv_repository.specs.Track.{uploaded_serials, kept_in, IsTrack, AreTracks, with_status, with_upload, newest_effect, made_count, is_made, is_active_kept, IsTally};
+ghost use Rattle.mv_repository.specs.Track.{kept_in, IsTrack, AreTracks, with_status, with_upload, newest_effect, made_count, refreshed, is_made, is_active_kept, IsTally};
 
 use crate::slot::{Birth, Slot, start};
 use crate::stops::Stops;
@@ -19,7 +19,7 @@ use indexmap::IndexMap;
 use indexmap::map::Entry;
 use mv_link::Item;
 use mv_message::Message;
-use mv_pack::{Batch, Gtin, PackKey, Serial};
+use mv_pack::{Batch, BatchKey, Gtin, PackKey, Serial};
 use std::alloc::{AllocError, Global};
 
 /// The slots of the packs, with their tally.
@@ -152,21 +152,21 @@ impl Table {
         Ok(noted.effect)
     }
 
-    /// Works out again one pack, where it is of a batch, if one is named.
+    /// Works out again one pack, where an upload made it, if one is named by its place in the log.
     fn refresh(
         &mut self,
         births: &[Birth],
         log: &[LogEntry],
         stops: &Stops,
         key: &PackKey,
-        batch: &Option<Batch>,
+        maker: Option<usize>,
     )
         requires settled { IsSettled log.now stops.now key.now
             (kept_in key.now (kept_table births.now self.old.slots.entries)) }
         requires tally { IsTally (kept_table births.now self.old.slots.entries) self.old.tally }
         ensures kept { (pack : APackKey) → kept_in pack (kept_table births.now self.new.slots.entries)
             ≡ (if is_same_pack key.now pack
-            then refreshed_in log.now stops.now batch.now key.now
+            then refreshed_in log.now stops.now maker key.now
             (kept_in key.now (kept_table births.now self.old.slots.entries))
             else kept_in pack (kept_table births.now self.old.slots.entries)) }
         ensures tally { IsTally (kept_table births.now self.new.slots.entries) self.new.tally }
@@ -175,19 +175,19 @@ impl Table {
         ensures own { (pack : APackKey) → is_own_in pack self.new.slots.entries ≡ is_own_in pack self.old.slots.entries }
     {
         prove!(self.slots.len() <= usize::MAX / 2);
-        let again = put_refreshed(&mut self.slots, births, log, stops, key, batch);
+        let again = put_refreshed(&mut self.slots, births, log, stops, key, maker);
         let tally = self.tally.moved(again.was, again.is);
         self.tally = tally;
     }
 
-    /// Works out again these packs of a product, where they are of a batch, if one is named.
+    /// Works out again these packs of a product, where an upload made them, if one is named by its place in the log.
     pub fn refresh_all(
         &mut self,
         births: &[Birth],
         log: &[LogEntry],
         stops: &Stops,
         gtin: Gtin,
-        batch: &Option<Batch>,
+        maker: Option<usize>,
         serials: &[Serial],
     )
         requires settled { AreSettled log.now stops.now (kept_table births.now self.old.slots.entries) }
@@ -195,7 +195,7 @@ impl Table {
         requires within { AreWithin (length births.now) self.old.slots.entries }
         ensures kept { (pack : APackKey) → kept_in pack (kept_table births.now self.new.slots.entries)
             ≡ (if has_pack gtin serials.now pack
-            then refreshed_in log.now stops.now batch.now pack
+            then refreshed_in log.now stops.now maker pack
             (kept_in pack (kept_table births.now self.old.slots.entries))
             else kept_in pack (kept_table births.now self.old.slots.entries)) }
         ensures tally { IsTally (kept_table births.now self.new.slots.entries) self.new.tally }
@@ -204,43 +204,42 @@ impl Table {
     {
         for serial in serials {
             let serial = serial.copy();
-            self.refresh(births, log, stops, &PackKey { gtin, serial }, batch);
+            self.refresh(births, log, stops, &PackKey { gtin, serial }, maker);
         }
     }
 
-    /// Works out again the packs of a product that the uploads at these places of the log name, where they are of a batch,
-    /// if one is named.
+    /// Works out again the packs that the uploads at these places of the log made, where these are uploads of the batch; each
+    /// once, by its own upload, though others name it too.
     pub fn refresh_uploads(
         &mut self,
         births: &[Birth],
         log: &[LogEntry],
         stops: &Stops,
-        gtin: Gtin,
-        batch: &Option<Batch>,
+        batch: &BatchKey,
         places: &[usize],
     )
         requires settled { AreSettled log.now stops.now (kept_table births.now self.old.slots.entries) }
         requires tally { IsTally (kept_table births.now self.old.slots.entries) self.old.tally }
         requires within { AreWithin (length births.now) self.old.slots.entries }
         ensures kept { (pack : APackKey) → kept_in pack (kept_table births.now self.new.slots.entries)
-            ≡ (if is_named_at log.now gtin places.now pack
-            then refreshed_in log.now stops.now batch.now pack
-            (kept_in pack (kept_table births.now self.old.slots.entries))
+            ≡ (if is_made_at log.now batch.now places.now pack
+            (kept_in pack (kept_table births.now self.old.slots.entries)).birth
+            then refreshed log.now stops.now pack (kept_in pack (kept_table births.now self.old.slots.entries))
             else kept_in pack (kept_table births.now self.old.slots.entries)) }
         ensures tally { IsTally (kept_table births.now self.new.slots.entries) self.new.tally }
         ensures within { AreWithin (length births.now) self.new.slots.entries }
         ensures own { (pack : APackKey) → is_own_in pack self.new.slots.entries ≡ is_own_in pack self.old.slots.entries }
     {
         for place in places {
-            let serials = serials_at(log, *place);
-            self.refresh_all(births, log, stops, gtin, batch, serials);
+            let serials = serials_at(log, *place, &batch.batch);
+            self.refresh_all(births, log, stops, batch.gtin, Some(*place), serials);
         }
     }
 }
 
-/// The serial numbers that the upload at a place of the log names.
-fn serials_at(log: &[LogEntry], place: usize) -> &[Serial]
-    ensures { result.now ≡ uploaded_serials (entry_at log.now place).entry.item }
+/// The serial numbers that the upload at a place of the log names, where it is an upload of the batch.
+fn serials_at<'a>(log: &'a [LogEntry], place: usize, batch: &Batch) -> &'a [Serial]
+    ensures { result.now ≡ batch_serials batch.now (entry_at log.now place).entry.item }
 {
     let Some(entry) = log.get(place) else {
         return &[];
@@ -249,7 +248,17 @@ fn serials_at(log: &[LogEntry], place: usize) -> &[Serial]
         return &[];
     };
     match message.get() {
-        Message::Upload { serials, .. } => serials.as_slice(),
+        Message::Upload {
+            batch: named,
+            serials,
+            ..
+        } => {
+            if *batch == *named {
+                serials.as_slice()
+            } else {
+                &[]
+            }
+        }
         _ => &[],
     }
 }
@@ -398,30 +407,30 @@ struct Again {
     is: Share,
 }
 
-/// Works out again one pack, where it is of a batch, if one is named.
+/// Works out again one pack, where an upload made it, if one is named by its place in the log.
 fn put_refreshed(
     slots: &mut IndexMap<PackKey, Slot>,
     births: &[Birth],
     log: &[LogEntry],
     stops: &Stops,
     key: &PackKey,
-    batch: &Option<Batch>,
+    maker: Option<usize>,
 ) -> Again
     requires settled { IsSettled log.now stops.now key.now (kept_in key.now (kept_table births.now slots.old.entries)) }
     ensures written { IsWrittenAnew births.now slots.old.entries slots.new.entries key.now
-        (refreshed_in log.now stops.now batch.now key.now (kept_in key.now (kept_table births.now slots.old.entries))) }
+        (refreshed_in log.now stops.now maker key.now (kept_in key.now (kept_table births.now slots.old.entries))) }
     ensures was_held { result.was.held ≡ is_made (kept_in key.now (kept_table births.now slots.old.entries)) }
     ensures was_active { result.was.active
         ≡ is_active_kept (kept_in key.now (kept_table births.now slots.old.entries)) }
     ensures held { result.is.held ≡ is_made
-        (refreshed_in log.now stops.now batch.now key.now (kept_in key.now (kept_table births.now slots.old.entries))) }
+        (refreshed_in log.now stops.now maker key.now (kept_in key.now (kept_table births.now slots.old.entries))) }
     ensures active { result.is.active ≡ is_active_kept
-        (refreshed_in log.now stops.now batch.now key.now (kept_in key.now (kept_table births.now slots.old.entries))) }
+        (refreshed_in log.now stops.now maker key.now (kept_in key.now (kept_table births.now slots.old.entries))) }
 {
     match slots.get_mut(key) {
         Some(slot) => {
             let was = slot.share(births);
-            slot.refresh(births, log, stops, key, batch);
+            slot.refresh(births, log, stops, key, maker);
             let is = slot.share(births);
             Again { was, is }
         }

@@ -18,7 +18,7 @@ use crate::tally::Share;
 use crate::{Change, Effect, Held, LogEntry};
 use mv_link::Item;
 use mv_message::{Message, Party, Standing};
-use mv_pack::{Batch, BatchKey, Moment, National, PackKey};
+use mv_pack::{BatchKey, Moment, National, PackKey};
 use std::alloc::{AllocError, Global};
 use std::marker::Model;
 
@@ -232,7 +232,7 @@ impl Model for Track {
 }
 
 impl Track {
-    ghost use Rattle.mv_repository.specs.Packs.{is_in};
+    ghost use Rattle.mv_repository.specs.Packs.{is_made_there};
 
     /// A track of a pack that has one status, which is not worked in yet.
     pub fn named(
@@ -270,16 +270,14 @@ impl Track {
         }
     }
 
-    /// Whether the pack is of a batch, where one is named.
-    pub fn is_in(&self, batch: &Option<Batch>) -> bool
-        ensures { result ≡ is_in batch.now self.now }
+    /// Whether the upload at a place of the log made the pack, where one is named.
+    pub fn is_made_by(&self, maker: Option<usize>) -> bool
+        ensures { result ≡ is_made_there maker self.now }
     {
-        let Some(batch) = batch else {
-            return true;
-        };
-        match &self.held {
-            Some(held) => *batch == held.batch,
-            None => false,
+        match (maker, self.birth) {
+            (Some(maker), Some(birth)) => maker == birth,
+            (Some(_), None) => false,
+            (None, _) => true,
         }
     }
 

@@ -22,7 +22,7 @@ returns-in-Some-clause-written c =
     record {
       slot = c.refresh.new.self;
       entries = search rules;
-      kept_is = λ h. c.refresh.ensures.kept ∙ ap (refreshed_in c.args.log.now c.args.stops.now c.args.batch.now c.args.key.now) (sym kept);
+      kept_is = λ h. c.refresh.ensures.kept ∙ ap (refreshed_in c.args.log.now c.args.stops.now c.args.maker c.args.key.now) (sym kept);
       within = λ h w. c.refresh.ensures.within (within-found _ c.args.slots.now.entries c.args.key.now c.in-Some.slot.now w found);
       own_is = λ h. c.refresh.ensures.own ∙ sym (found-own c.args.slots.now.entries c.args.key.now c.in-Some.slot.now found);
     }
@@ -41,13 +41,13 @@ pub returns-in-Some-clause-held : goal.returns-in-Some-clause-held
 returns-in-Some-clause-held c =
     let found : lookup (is_same_pack c.args.key.now) c.args.slots.now.entries ≡ Some c.in-Some.slot.now = search rules in
     let kept = found-kept c.args.births.now c.args.slots.now.entries c.args.key.now c.in-Some.slot.now found in
-    c.share-is.ensures.held ∙ ap is_made (c.refresh.ensures.kept ∙ ap (refreshed_in c.args.log.now c.args.stops.now c.args.batch.now c.args.key.now) (sym kept))
+    c.share-is.ensures.held ∙ ap is_made (c.refresh.ensures.kept ∙ ap (refreshed_in c.args.log.now c.args.stops.now c.args.maker c.args.key.now) (sym kept))
 
 pub returns-in-Some-clause-active : goal.returns-in-Some-clause-active
 returns-in-Some-clause-active c =
     let found : lookup (is_same_pack c.args.key.now) c.args.slots.now.entries ≡ Some c.in-Some.slot.now = search rules in
     let kept = found-kept c.args.births.now c.args.slots.now.entries c.args.key.now c.in-Some.slot.now found in
-    c.share-is.ensures.active ∙ ap is_active_kept (c.refresh.ensures.kept ∙ ap (refreshed_in c.args.log.now c.args.stops.now c.args.batch.now c.args.key.now) (sym kept))
+    c.share-is.ensures.active ∙ ap is_active_kept (c.refresh.ensures.kept ∙ ap (refreshed_in c.args.log.now c.args.stops.now c.args.maker c.args.key.now) (sym kept))
 
 pub returns-in-None-clause-written : goal.returns-in-None-clause-written
 returns-in-None-clause-written c =
@@ -73,11 +73,11 @@ returns-in-None-clause-was_active c =
 pub returns-in-None-clause-held : goal.returns-in-None-clause-held
 returns-in-None-clause-held c =
     let none : lookup (is_same_pack c.args.key.now) c.args.slots.now.entries ≡ None = search rules in
-    ap is_made (sym (refreshed-nothing c.args.log.now c.args.stops.now c.args.batch.now c.args.key.now)
-    ∙ ap (refreshed_in c.args.log.now c.args.stops.now c.args.batch.now c.args.key.now) (sym (absent-kept c.args.births.now c.args.slots.now.entries c.args.key.now none)))
+    ap is_made (sym (refreshed-nothing c.args.log.now c.args.stops.now c.args.maker c.args.key.now)
+    ∙ ap (refreshed_in c.args.log.now c.args.stops.now c.args.maker c.args.key.now) (sym (absent-kept c.args.births.now c.args.slots.now.entries c.args.key.now none)))
 
 pub returns-in-None-clause-active : goal.returns-in-None-clause-active
 returns-in-None-clause-active c =
     let none : lookup (is_same_pack c.args.key.now) c.args.slots.now.entries ≡ None = search rules in
-    ap is_active_kept (sym (refreshed-nothing c.args.log.now c.args.stops.now c.args.batch.now c.args.key.now)
-    ∙ ap (refreshed_in c.args.log.now c.args.stops.now c.args.batch.now c.args.key.now) (sym (absent-kept c.args.births.now c.args.slots.now.entries c.args.key.now none)))
+    ap is_active_kept (sym (refreshed-nothing c.args.log.now c.args.stops.now c.args.maker c.args.key.now)
+    ∙ ap (refreshed_in c.args.log.now c.args.stops.now c.args.maker c.args.key.now) (sym (absent-kept c.args.births.now c.args.slots.now.entries c.args.key.now none)))

@@ -1,17 +1,18 @@
 -- The newest upload stands last among those that made packs, and nothing that stood before points at it.
-use Rattle.std.proofs.Common.{◌≡◌, ◌≤◌, ◌∙◌, ◌∷◌, ◌++◌, [], ℕ, List, ap, sym, subst, cond, rules, arith, length, length-append, true, Some, None}
+use Rattle.std.proofs.Common.{◌≡◌, ◌≤◌, ◌∙◌, ◌∷◌, ◌++◌, [], ℕ, List, ap, sym, subst, cond, rules, arith, length, length-append, nat_lt, Some, None}
 use Rattle.std.specs.Option.{option_map}
 use Rattle.mv_pack.specs.declared.key.PackKey.{PackKey}
+use Rattle.mv_pack.specs.declared.key.BatchKey.{BatchKey}
 use Rattle.mv_repository.specs.declared.slot.Birth.{Birth}
 use Rattle.mv_repository.specs.declared.entry.LogEntry.{LogEntry}
-use Rattle.mv_repository.specs.Keys.{batch_key}
-use Rattle.mv_repository.specs.Batches.{is_listed}
+use Rattle.mv_repository.specs.Keys.{is_same_batch, batch_key}
+use Rattle.mv_repository.specs.Batches.{uploads_in}
 use Rattle.mv_repository.specs.PackState.{has_pack, held_of}
 use Rattle.mv_repository.specs.Packs.{kept_table, AreWithin, AreFound, IsBorn, is_own_in}
 use Rattle.mv_repository.specs.Track.{Kept, kept_in, pack_made_by, IsTrack, IsTally, with_upload, made_count}
 use Rattle.mv_repository.proofs.PacksLemmas.{upload-made, newest-born, table-more, within-more}
 use Rattle.mv_repository.proofs.TableLemmas.{newest-stands}
-use Rattle.mv_repository.proofs.BatchLemmas.{found-upload}
+use Rattle.mv_repository.proofs.BatchLemmas.{found-settled, last-listed, not-any}
 use Rattle.mv_repository.proofs.packs.Packs.add_upload.Goals as goal
 
 pub unreachable-requires : goal.unreachable-requires
@@ -111,7 +112,11 @@ invariant_of-self-2 c =
     let new_is : c.len-new.result ≡ length log = search rules in
     let same : kept_table c.as_slice-births.result.now c.reserve-2.new.self.entries ≡ kept_table items slots = (λ i. kept_table (births_is i) (slots_are i)) ∙ table-more items birth slots c.self.invariant.within in
     let made : Some c.in-Some.held ≡ option_map held_of (pack_made_by c.args.entry.item) = search rules in
-    let listed : is_listed (batch_key c.args.gtin c.in-Some.held.batch) (length log) c.add.new.self ≡ true = (λ i. is_listed (batch_key c.args.gtin (sym c.copy-batch.ensures i)) (sym new_is i) c.add.new.self) ∙ c.in_ok-add.ensures.added in
+    let key : BatchKey = batch_key c.args.gtin c.in-Some.held.batch in
+    let key_is : c.copy-2.result ≡ key = search rules in
+    let last : uploads_in (is_same_batch key) c.add.new.self ≡ uploads_in (is_same_batch key) c.self.inside.batches ++ length log ∷ [] =
+    subst (λ (named : BatchKey). uploads_in (is_same_batch named) c.add.new.self ≡ uploads_in (is_same_batch named) c.self.inside.batches ++ length log ∷ []) key_is
+    (c.in_ok-add.ensures.last ∙ ap (λ (n : ℕ). uploads_in (is_same_batch c.copy-2.result) c.self.inside.batches ++ n ∷ []) new_is) in
     let looks : (pack : PackKey) → kept_in pack (kept_table c.as_slice-births.result.now c.add_uploads-count.new.self.slots.entries)
     ≡ cond (has_pack c.args.gtin c.args.serials.now pack) (with_upload (log ++ c.args.entry ∷ []) c.args.stops.now pack (length log) (kept_in pack (kept_table items slots))) (kept_in pack (kept_table items slots)) =
     λ pack. c.add_uploads-count.ensures.kept pack
@@ -119,9 +124,14 @@ invariant_of-self-2 c =
     record {
       within = subst (λ (births : List Birth). AreWithin (length births) c.add_uploads-count.new.self.slots.entries) c.as_slice-births.ensures.value c.add_uploads-count.ensures.within;
       tracked = λ pack h. c.self.invariant.tracked pack (sym (ap (is_own_in pack) slots_are) ∙ sym (c.add_uploads-count.ensures.own pack) ∙ h);
-      listed = subst (λ (births : List Birth). AreFound c.add.new.self (kept_table births c.add_uploads-count.new.self.slots.entries)) c.as_slice-births.ensures.value
-          (found-upload c.self.inside.batches c.add.new.self (log ++ c.args.entry ∷ []) c.args.stops.now c.args.gtin c.args.serials.now (length log) c.in-Some.held (kept_table items slots) (kept_table c.as_slice-births.result.now c.add_uploads-count.new.self.slots.entries)
+      listed = subst (λ (births : List Birth). AreFound c.settle_last.new.self (kept_table births c.add_uploads-count.new.self.slots.entries)) c.as_slice-births.ensures.value
+          (found-settled c.self.inside.batches c.add.new.self c.settle_last.new.self (log ++ c.args.entry ∷ []) c.args.stops.now c.args.gtin c.args.serials.now (length log) c.in-Some.held (kept_table items slots) (kept_table c.as_slice-births.result.now c.add_uploads-count.new.self.slots.entries)
+          (nat_lt 0 c.add_uploads-count.result) c.settle_last.ensures.stays
+          (λ none. c.settle_last.ensures.gone none c.self.inside.batches (length log)
+          (subst (λ (named : BatchKey). uploads_in (is_same_batch named) c.add.new.self ≡ uploads_in (is_same_batch named) c.self.inside.batches ++ length log ∷ []) (λ i. batch_key c.args.gtin (sym c.copy.ensures i)) last)
+          c.add.ensures.keeps)
+          (λ none. sym (c.add_uploads-count.ensures.count ∙ (λ i. made_count (log_is i) (new_is i) (same i) c.args.gtin c.args.serials.now)) ∙ not-any c.add_uploads-count.result none)
           (made ∙ ap (λ (entry : LogEntry). option_map held_of (pack_made_by entry.item)) (sym (newest-stands log c.args.entry)))
-          listed c.add.ensures.keeps (rw (← c.self.view_is) at c.requires.tracks) c.self.invariant.listed looks);
+          (last-listed c.self.inside.batches c.add.new.self key (length log) last) c.add.ensures.keeps (rw (← c.self.view_is) at c.requires.tracks) c.self.invariant.listed looks);
       tally = subst (λ (births : List Birth). IsTally (kept_table births c.add_uploads-count.new.self.slots.entries) c.add_uploads-count.new.self.tally) c.as_slice-births.ensures.value c.add_uploads-count.ensures.tally;
     }

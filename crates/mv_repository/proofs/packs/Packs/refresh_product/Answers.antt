@@ -1,5 +1,5 @@
 -- The packs that no status names are settled.
-use Rattle.std.proofs.Common.{◌∙◌, sym, subst, None}
+use Rattle.std.proofs.Common.{◌∙◌, sym, subst}
 use Rattle.mv_repository.specs.Keys.{is_same_text}
 use Rattle.mv_repository.specs.PackState.{has_pack}
 use Rattle.mv_repository.specs.Packs.{kept_table, IsFound}
@@ -13,7 +13,7 @@ pub refresh_all-requires-clause-settled : goal.refresh_all-requires-clause-settl
 refresh_all-requires-clause-settled c =
     let tracks = rw (← c.self.view_is) at c.requires.tracks in
     rw c.as_slice-births.ensures.value
-    (λ pack. settled-track c.args.log.now c.args.stops.now None (tracks pack).before pack (kept_in pack (kept_table c.self.inside.births.items c.self.inside.table.slots.entries)) (tracks pack).track)
+    (λ pack. settled-track c.args.log.now c.args.stops.now (tracks pack).before pack (kept_in pack (kept_table c.self.inside.births.items c.self.inside.table.slots.entries)) (tracks pack).track)
 
 pub refresh_all-requires-clause-tally : goal.refresh_all-requires-clause-tally
 refresh_all-requires-clause-tally c = rw c.as_slice-births.ensures.value c.self.invariant.tally
@@ -29,7 +29,7 @@ invariant_of-self c =
       within = rw c.as_slice-births.ensures.value at c.refresh_all.ensures.within;
       tracked = λ pack h. c.self.invariant.tracked pack (sym (c.refresh_all.ensures.own pack) ∙ h);
       listed = λ pack. subst (IsFound c.self.inside.batches pack) (sym (looks pack))
-          (found-refreshed c.self.inside.batches c.args.log.now c.args.stops.now None pack (kept_in pack (kept_table c.self.inside.births.items c.self.inside.table.slots.entries)) (tracks pack) (c.self.invariant.listed pack)
+          (found-refreshed c.self.inside.batches c.args.log.now c.args.stops.now pack (kept_in pack (kept_table c.self.inside.births.items c.self.inside.table.slots.entries)) (tracks pack) (c.self.invariant.listed pack)
           (has_pack c.args.gtin.now (serials_in (is_same_text c.args.gtin.now) c.self.inside.tracked) pack));
       tally = rw c.as_slice-births.ensures.value at c.refresh_all.ensures.tally;
     }
@@ -39,8 +39,8 @@ returns c =
     let tracks = rw (← c.self.view_is) at c.requires.tracks in
     record {
       kept = rw (← c.self.view_is)
-          (again-all c.args.log.now c.args.stops.now None c.self.inside.births.items c.self.inside.table.slots.entries (kept_table c.self.inside.births.items c.refresh_all.new.self.slots.entries) c.self.inside.tracked c.args.gtin.now
+          (again-all c.args.log.now c.args.stops.now c.self.inside.births.items c.self.inside.table.slots.entries (kept_table c.self.inside.births.items c.refresh_all.new.self.slots.entries) c.self.inside.tracked c.args.gtin.now
           c.self.invariant.tracked
-          (λ pack. settled-track c.args.log.now c.args.stops.now None (tracks pack).before pack (kept_in pack (kept_table c.self.inside.births.items c.self.inside.table.slots.entries)) (tracks pack).track)
+          (λ pack. settled-track c.args.log.now c.args.stops.now (tracks pack).before pack (kept_in pack (kept_table c.self.inside.births.items c.self.inside.table.slots.entries)) (tracks pack).track)
           (rw (c.as_slice-births.ensures.value, c.of_product-serials.ensures) at c.refresh_all.ensures.kept));
     }

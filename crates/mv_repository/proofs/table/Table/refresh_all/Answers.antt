@@ -9,7 +9,7 @@ use Rattle.mv_repository.proofs.table.Table.refresh_all.Goals as goal
 
 pub refresh-requires-clause-settled : goal.refresh-requires-clause-settled
 refresh-requires-clause-settled c =
-    settled-more c.args.log.now c.args.stops.now c.args.batch.now (kept_table c.args.births.now c.args.self.now.slots.entries) (kept_table c.args.births.now c.loop-serial.self.slots.entries)
+    settled-more c.args.log.now c.args.stops.now c.args.maker (kept_table c.args.births.now c.args.self.now.slots.entries) (kept_table c.args.births.now c.loop-serial.self.slots.entries)
     (has_pack c.args.gtin (take c.loop-serial.serial-index c.args.serials.now)) c.requires.settled c.loop-serial.invariant.looks (pack_key c.args.gtin c.copy-serial.result)
 
 pub loop-serial-preserved : goal.loop-serial-preserved
@@ -17,7 +17,7 @@ loop-serial-preserved c =
     let place = c.loop-serial.serial-index in
     let serial : c.copy-serial.result ≡ get_or c.args.serials.now place [] = c.copy-serial.ensures ∙ c.serial-item.is ∙ get_or_default c.args.serials.now place _ [] c.loop-serial-test.true in
     record {
-      looks = again-more c.args.log.now c.args.stops.now c.args.batch.now (kept_table c.args.births.now c.args.self.now.slots.entries) (kept_table c.args.births.now c.loop-serial.self.slots.entries) (kept_table c.args.births.now c.refresh.new.self.slots.entries)
+      looks = again-more c.args.log.now c.args.stops.now c.args.maker (kept_table c.args.births.now c.args.self.now.slots.entries) (kept_table c.args.births.now c.loop-serial.self.slots.entries) (kept_table c.args.births.now c.refresh.new.self.slots.entries)
           c.args.gtin c.args.serials.now place c.loop-serial-test.true c.loop-serial.invariant.looks (rw serial at c.refresh.ensures.kept);
       tally = c.refresh.ensures.tally;
       within = c.refresh.ensures.within c.loop-serial.invariant.within;

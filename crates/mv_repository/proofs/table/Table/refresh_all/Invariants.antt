@@ -8,7 +8,7 @@ use Rattle.mv_repository.proofs.table.Table.refresh_all.Given as goal
 -- the packs so far are worked out again
 abbrev pub invariant-loop-serial : goal.invariant-loop-serial
 invariant-loop-serial l = record {
-  looks : (pack : PackKey) → kept_in pack (kept_table l.births l.self.slots.entries) ≡ cond (has_pack l.gtin (take l.serial-index l.serials) pack) (refreshed_in l.log l.stops l.batch pack (kept_in pack (kept_table l.births l.fn.self.slots.entries))) (kept_in pack (kept_table l.births l.fn.self.slots.entries));
+  looks : (pack : PackKey) → kept_in pack (kept_table l.births l.self.slots.entries) ≡ cond (has_pack l.gtin (take l.serial-index l.serials) pack) (refreshed_in l.log l.stops l.maker pack (kept_in pack (kept_table l.births l.fn.self.slots.entries))) (kept_in pack (kept_table l.births l.fn.self.slots.entries));
   tally : IsTally (kept_table l.births l.self.slots.entries) l.self.tally;
   within : AreWithin (length l.births) l.self.slots.entries;
   own : (pack : PackKey) → is_own_in pack l.self.slots.entries ≡ is_own_in pack l.fn.self.slots.entries;

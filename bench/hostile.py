@@ -3,7 +3,7 @@ every line is refused."""
 
 import random
 from functools import partial
-from itertools import count, islice, product, repeat
+from itertools import chain, count, islice, product, repeat
 from string import ascii_letters, digits
 from typing import Callable, NamedTuple
 
@@ -31,7 +31,7 @@ from messages import recall_of, repack_of, status_of, upload_of, withdrawal_of
 
 LINE = 65_536  # bytes of the longest line
 LINES = 200  # of a run of long lines
-SENDERS = [party for party in range(PARTIES) if party != KEEPER]
+SENDERS = [party for party in range(PARTIES) if party not in (MAKER, KEEPER)]  # of what comes late: their links have nothing else
 LATE = 40  # as many come in time for each that comes late
 PRODUCT = gtin_of(1)
 
@@ -46,7 +46,7 @@ class Hostile(NamedTuple):
     texts: Callable
 
 
-# What comes late. One party keeps the packs, and all others may send.
+# What comes late. One party keeps the packs, one uploads them, and all others may send.
 
 
 def many_senders():
@@ -113,6 +113,13 @@ def uploads_of_the_same(uploads):
         yield from carried(numbered_upload(PRODUCT, "L1", 0))
     for number in range(2 * PACKS):
         yield from carried(change(number))
+
+
+def late_for_one(uploads):
+    """Uploads of the same packs, and as many statuses of one of them; for so many of them a recall comes late."""
+    yield from many_senders()
+    between = chain(uploads_of_the_same(uploads), *map(carried, changes(uploads)))
+    yield from turned(map(recall, range(uploads // LATE)), between)
 
 
 def one_pack():
@@ -299,6 +306,7 @@ def all_loads():
         ("uploads of the same packs, late recalls", "uploads", 8_000, partial(late, recall)),
         ("uploads of the same packs, late withdrawals", "uploads", 8_000, partial(late, withdrawal)),
         ("uploads of the same packs, late statuses", "uploads", 8_000, partial(late, change)),
+        ("uploads, as many statuses of one pack, late recalls", "uploads", 4_000, late_for_one),
         ("statuses of one pack, in order", "statuses", 40_000, in_order),
         ("statuses of one pack, against order", "statuses", 5_000, against_order),
         ("statuses of one pack, one in 40 late", "statuses", 10_000, late_among_many),

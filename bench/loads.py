@@ -9,11 +9,11 @@ from pathlib import Path
 
 sys.path.insert(0, str(Path(__file__).resolve().parent.parent / "tests"))
 
-from messages import answer_of, master_of, query_of, recall_of, repack_of, status_of, upload_of, withdrawal_of
+from messages import answer_of, market_of, master_of, query_of, recall_of, repack_of, status_of, upload_of, withdrawal_of
 
 PARTIES = 64  # at most
 UPLINK, WINDOW, WIRE = 64, 256, 64  # at most
-NAMES = [chr(ord("A") + party // 26) + chr(ord("A") + party % 26) for party in range(PARTIES)]
+NAMES = [market_of(party) for party in range(PARTIES)]
 MARKETS = ["AT", "BE", "DE", "DK", "ES", "FI", "FR", "SE"]
 STANDINGS = ["active", "supplied", "exported", "destruction", "sample", "free_sample", "stolen", "repackaged"]
 CODE = "ABCDEFGHJKLMNPQRSTUVWXYZ0123456789"

@@ -1,9 +1,9 @@
 //! The hub: it routes each message to the parties that it is for, and keeps the record of what it did.
 //!
-//! The system is its only user. The contract: the hub is seen as its parties, its window, its record and how many items
-//! of each link were relayed; the record says whom a message reached, what stands on each link, what is known of each
-//! product and which batches are linked, by the definitions in `specs/`. A refused call has changed nothing. This crate
-//! knows no JSON, no repository and no thread.
+//! A system and the end of the hub among running threads own one each. The contract: the hub is seen as its parties, its
+//! window, its record and how many items of each link were relayed; the record says whom a message reached, what stands
+//! on each link, what is known of each product and which batches are linked, by the definitions in `specs/`. A refused
+//! call has changed nothing. This crate knows no JSON, no repository and no thread.
 //!
 //! It can be used alone, with the crates that its line of crates.txt names.
 //! A caller that routes a message and looks whom it reached, proved in the gate (`mv_rows`):

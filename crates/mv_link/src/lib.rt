@@ -1,7 +1,7 @@
 //! Numbered links: what is pushed at one end is accepted at the other in order, each item once.
 //!
-//! There is a link for each ordered pair of parties, a party and itself included. The hub keeps the sending ends, the
-//! system the receiving ends. The contract: each frame that is relayed is a frame of every list that ends with what the
+//! There is a link for each ordered pair of parties, a party and itself included. The hub keeps the sending ends, each
+//! party its receiving ends. The contract: each frame that is relayed is a frame of every list that ends with what the
 //! sending end holds, and frames that come in any order are accepted as a prefix of their list. This crate knows no hub.
 //!
 //! It can be used alone, with the crates that its line of crates.txt names.

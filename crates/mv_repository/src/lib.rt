@@ -1,8 +1,8 @@
 //! A national repository: its log, and the copy that the log means.
 //!
-//! The system is its only user. The contract: a repository is seen as its party and its log; whatever it answers is the
-//! meaning of that log in the order of the hub's stamps, by the definitions in `specs/`. A refused call has changed
-//! nothing. This crate knows no hub, no JSON and no thread.
+//! A party owns one. The contract: a repository is seen as its party and its log; whatever it answers is the meaning of
+//! that log in the order of the hub's stamps, by the definitions in `specs/`. A refused call has changed nothing. This
+//! crate knows no hub, no JSON and no thread.
 //!
 //! It can be used alone, with the crates that its line of crates.txt names.
 //! A caller that looks at what came from one sender, proved in the gate (`mv_rows`):

@@ -82,11 +82,13 @@ def turned(messages, between=()):
             yield {"do": "apply", "from": sender, "to": KEEPER}
 
 
-def recall(number):
+def recall(_number):
+    """A recall of the batch, each time the same."""
     return recall_of(PRODUCT, "L1", START)
 
 
-def withdrawal(number):
+def withdrawal(_number):
+    """A withdrawal of the product, each time the same."""
     return withdrawal_of(PRODUCT, START)
 
 
@@ -245,13 +247,13 @@ def keys():
 
 def object_of(members, size):
     """An object of members, at most so many bytes: the line."""
-    taken, length = [], 2
+    fitting, length = [], 2
     for member in members:
         length += len(member) + 1
         if length > size:
             break
-        taken.append(member)
-    return "{" + ",".join(taken) + "}"
+        fitting.append(member)
+    return "{" + ",".join(fitting) + "}"
 
 
 def many_keys(order, size):
@@ -261,6 +263,7 @@ def many_keys(order, size):
 
 
 def shuffled(members):
+    """The members in an order that is the same each time, and no other."""
     return random.Random(2016).sample(members, len(members))
 
 

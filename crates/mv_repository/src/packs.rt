@@ -172,7 +172,7 @@ impl Packs {
         )
     }
 
-    /// Works out again the packs of a batch, each once. Only those are looked at that its uploads name.
+    /// Works out again the packs of a batch, each by the upload that made it. Only those are looked at that its uploads name.
     pub fn refresh_batch(&mut self, log: &[LogEntry], stops: &Stops, batch: &BatchKey)
         requires tracks { WereTracks log.now self.old }
         requires made { AreMade log.now self.old }

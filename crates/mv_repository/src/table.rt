@@ -209,7 +209,7 @@ impl Table {
     }
 
     /// Works out again the packs that the uploads at these places of the log made, where these are uploads of the batch; each
-    /// once, by its own upload, though others name it too.
+    /// by its own upload alone, though others name it too.
     pub fn refresh_uploads(
         &mut self,
         births: &[Birth],

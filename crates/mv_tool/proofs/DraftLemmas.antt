@@ -1,5 +1,5 @@
 -- Lemmas on plans that grow.
-use Rattle.std.proofs.Common.{inl, inr, ◌≡◌, ℕ, ◌<◌, List, [], ◌∷◌, ◌++◌, ap, sym, ◌∙◌, arith, length, map, slice_index_or, slice_set, subst}
+use Rattle.std.proofs.Common.{inl, inr, ◌≡◌, ℕ, ◌<◌, List, [], ◌∷◌, ◌++◌, ap, sym, ◌∙◌, arith, length, map, slice_index_or, slice_set}
 use Rattle.std.specs.declared.alloc.Global.{Global}
 use Rattle.std.specs.declared.vec.Vec.{Vec}
 use Rattle.std.proofs.lemmas.Bool.Decides.{eqb_tells}
@@ -30,16 +30,17 @@ pub more_is_sound : (old new : Plan) (party : ℕ) (message : Message) → IsSou
 more_is_sound old new party message sound same below own grown =
     let lists = map items_of old.work.items in
     let list = slice_index_or lists party [] ++ message ∷ [] in
-    let count : length lists ≡ length old.parties = length-map old.work.items items_of ∙ sound.each in
+    let count : length lists ≡ length old.work.items = length-map old.work.items items_of in
+    let counts : length new.work.items ≡ length old.work.items = sym (length-map new.work.items items_of) ∙ ap length grown ∙ length-set lists party list ∙ count in
     record {
-      each = sym (length-map new.work.items items_of) ∙ ap length grown ∙ length-set lists party list ∙ count ∙ ap length (sym same);
+      each = counts ∙ sound.each ∙ ap length (sym same);
       no_answers = λ other is_one. ap (λ l. answers_in (slice_index_or l other [])) grown ∙ elim (eqb_tells other party) [
         | inl (test, at) ↦
             ap (λ k. answers_in (slice_index_or (slice_set lists party list) k [])) at
-            ∙ ap answers_in (get_or-set_same lists party list [] (omega (arith, below, count)))
+            ∙ ap answers_in (get_or-set_same lists party list [] (omega (arith, below, count, sound.each)))
             ∙ answers_in-append (slice_index_or lists party []) (message ∷ [])
-            ∙ ap (λ l. l ++ answers_in (message ∷ [])) (sound.no_answers party below) ∙ own
+            ∙ ap (λ l. l ++ answers_in (message ∷ [])) (sound.no_answers party (omega (arith, below, sound.each))) ∙ own
         | inr (test, apart) ↦
-            ap answers_in (get_or-set_other lists party other list [] apart) ∙ sound.no_answers other (subst (λ (l : List (List (List ℕ))). other < length l) same is_one)
+            ap answers_in (get_or-set_other lists party other list [] apart) ∙ sound.no_answers other (omega (arith, is_one, counts))
       ];
     }

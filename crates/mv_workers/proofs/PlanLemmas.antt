@@ -4,7 +4,6 @@ use Rattle.mv_message.specs.declared.message.Message.{Message}
 use Rattle.mv_hub.specs.Hub.{HubState}
 use Rattle.mv_party.specs.Site.{SiteState}
 use Rattle.mv_machine.specs.Limits.{Bounds}
-use Rattle.mv_machine.specs.State.{State}
 use Rattle.mv_ends.specs.declared.hub_end.HubEnd.{HubEnd}
 use Rattle.mv_ends.specs.declared.repo_end.RepoEnd.{RepoEnd}
 use Rattle.mv_ends.specs.HubEnd.{SameHubEnd}
@@ -14,10 +13,9 @@ use Rattle.mv_ends.specs.Outcome.{state_of}
 use Rattle.mv_ends.proofs.OpeningLemmas.{some_of}
 use Rattle.mv_ends.proofs.OutcomeLemmas.{at_site}
 use Rattle.mv_workers.specs.declared.plan.Plan.{Plan}
-use Rattle.mv_workers.specs.Work.{list_at, own_among, Begins, PlansNoAnswer}
+use Rattle.mv_workers.specs.Work.{list_at, own_among, Begins}
 use Rattle.mv_workers.specs.Crews.{AllUnused, AllBegin}
-use Rattle.mv_workers.specs.Done.{AreDone, HaveBegun}
-use Rattle.mv_workers.specs.Plans.{parties_of, limits_of, work_of, IsSound, KeepsPlan, IsComplete}
+use Rattle.mv_workers.specs.Plans.{parties_of, limits_of, work_of, KeepsPlan}
 
 -- there is an end for each party
 pub fresh_each : (parties : List (List (List ℕ))) (limits : Bounds) (hub : HubEnd) (repos : List RepoEnd) → AreEnds hub repos → AreFresh parties limits hub repos
@@ -31,33 +29,15 @@ fresh_unused parties limits hub repos fresh = λ party absent below. record { no
 -- ends that were opened for a plan keep it, where each party's list was begun at its end
 pub keeps_plan : (plan : Plan) (hub new_hub : HubEnd) (repos new_repos : List RepoEnd) → AreEnds hub repos → AreFresh (parties_of plan) (limits_of plan) hub repos
     → SameHubEnd hub new_hub → AreSameRepos repos new_repos → AllBegin (work_of plan) new_repos → KeepsPlan plan (state_of new_hub new_repos)
-keeps_plan plan hub new_hub repos new_repos ends fresh same same_repos begun = record {
-  parties = same.parties ∙ ap (λ (h : HubState). h.parties) fresh.hub_is;
-  limits = same.limits ∙ fresh.limits_are;
-  submitted = λ party below.
-      let among : party < length new_repos = omega (arith, below, same_repos.0, fresh_each (parties_of plan) (limits_of plan) hub repos ends fresh) in
-      let repo = some_of new_repos party among in
-      let P : List Message → Type 0 = λ submissions. Begins (own_among submissions) (list_at (work_of plan) party) in
-      subst P (sym (at_site (λ site. site.submissions) new_repos party repo among)) (begun party repo among);
-}
-
--- each party has begun with its list where an outcome keeps the plan
-pub keeps_begun : (plan : Plan) (outcome : State) → KeepsPlan plan outcome → HaveBegun outcome (work_of plan)
-keeps_begun plan outcome keeps = λ party below. keeps.submitted party (omega (arith, below, ap length keeps.parties))
-
--- an outcome is complete where each party is done
-pub complete_done : (plan : Plan) (outcome : State) → KeepsPlan plan outcome → AreDone outcome (work_of plan) → IsComplete plan outcome
-complete_done plan outcome keeps done = record {
-  submitted = λ party below. (done party (omega (arith, below, ap length keeps.parties))).submitted;
-  routed = λ party below. (done party (omega (arith, below, ap length keeps.parties))).routed;
-  applied = λ from to from_below to_below.
-      (done to (omega (arith, to_below, ap length keeps.parties))).applied from (omega (arith, from_below, ap length keeps.parties));
-}
-
-pub done_complete : (plan : Plan) (outcome : State) → KeepsPlan plan outcome → IsComplete plan outcome → AreDone outcome (work_of plan)
-done_complete plan outcome keeps complete = λ party below. record {
-  submitted = complete.submitted party (omega (arith, below, ap length keeps.parties));
-  routed = complete.routed party (omega (arith, below, ap length keeps.parties));
-  applied = λ from from_below.
-      complete.applied from party (omega (arith, from_below, ap length keeps.parties)) (omega (arith, below, ap length keeps.parties));
-}
+keeps_plan plan hub new_hub repos new_repos ends fresh same same_repos begun =
+    let kept : (state_of new_hub new_repos).parties ≡ parties_of plan = same.parties ∙ ap (λ (h : HubState). h.parties) fresh.hub_is in
+    record {
+      parties = kept;
+      limits = same.limits ∙ fresh.limits_are;
+      submitted = λ party below.
+          let among : party < length new_repos =
+          omega (arith, below, ap length kept, same_repos.0, fresh_each (parties_of plan) (limits_of plan) hub repos ends fresh) in
+          let repo = some_of new_repos party among in
+          let P : List Message → Type 0 = λ submissions. Begins (own_among submissions) (list_at (work_of plan) party) in
+          subst P (sym (at_site (λ site. site.submissions) new_repos party repo among)) (begun party repo among);
+    }

@@ -1,15 +1,12 @@
 -- What a run leaves, by its plan.
-use Rattle.std.specs.Prelude.{◌≡◌, ℕ, ◌<◌, List, [], length}
-use Rattle.mv_hub.specs.Record.{routed_from}
-use Rattle.mv_hub.specs.Links.{link_items}
-use Rattle.mv_repository.specs.Log.{items_from}
-use Rattle.mv_party.specs.Site.{answers_in}
+use Rattle.std.specs.Prelude.{◌≡◌, ℕ, List, length}
 use Rattle.mv_machine.specs.Limits.{Bounds}
-use Rattle.mv_machine.specs.State.{State, submissions_of, log_of}
+use Rattle.mv_machine.specs.State.{State}
 use Rattle.mv_workers.specs.declared.plan.Plan.{Plan}
 use Rattle.mv_workers.specs.declared.plan.WorkFault.{WorkFault}
 use Rattle.mv_workers.specs.declared.plan.WorkFault.TheVariants as fault
-use Rattle.mv_workers.specs.Work.{Work, list_at, own_among, Begins}
+use Rattle.mv_workers.specs.Work.{Work, PlansNoAnswer}
+use Rattle.mv_workers.specs.Done.{AreDone, HaveBegun}
 
 -- the plan's parties, limits and work
 abbrev pub parties_of : Plan → List (List (List ℕ))
@@ -24,22 +21,19 @@ work_of plan = plan.work.items
 -- A plan can be run: it has a list for each party, and no answer is planned.
 pub record IsSound (plan : Plan) : Type 0 where
   pub each : length (work_of plan) ≡ length (parties_of plan)
-  pub no_answers : (party : ℕ) → party < length (parties_of plan) → answers_in (list_at (work_of plan) party) ≡ []
+  pub no_answers : PlansNoAnswer (work_of plan)
 
 -- An outcome is one of a plan: it has the plan's parties and limits, and what each party submitted of its own is where its list
 -- begins.
 pub record KeepsPlan (plan : Plan) (outcome : State) : Type 0 where
   pub parties : outcome.parties ≡ parties_of plan
   pub limits : outcome.limits ≡ limits_of plan
-  pub submitted : (party : ℕ) → party < length (parties_of plan) → Begins (own_among (submissions_of outcome party)) (list_at (work_of plan) party)
+  pub submitted : HaveBegun outcome (work_of plan)
 
 -- An outcome is complete: every planned message was submitted in order, all that was submitted was routed, and all that was routed was
 -- applied.
-pub record IsComplete (plan : Plan) (outcome : State) : Type 0 where
-  pub submitted : (party : ℕ) → party < length (parties_of plan) → own_among (submissions_of outcome party) ≡ list_at (work_of plan) party
-  pub routed : (party : ℕ) → party < length (parties_of plan) → routed_from outcome.entries party ≡ submissions_of outcome party
-  pub applied : (from to : ℕ) → from < length (parties_of plan) → to < length (parties_of plan)
-      → items_from (log_of outcome to) from ≡ link_items outcome.parties outcome.entries from to
+abbrev pub IsComplete : Plan → State → Type 0
+IsComplete plan outcome = AreDone outcome (work_of plan)
 
 -- why a run has no complete outcome
 abbrev pub Faults : Plan → WorkFault → Type 0

@@ -4,7 +4,7 @@ use Rattle.mv_workers.specs.Work.{Work}
 use Rattle.mv_workers.specs.Crews.{AllUnused, AllBegin}
 use Rattle.mv_workers.specs.Done.{HaveBegun, AreDone}
 use Rattle.mv_workers.specs.Plans.{IsSound, KeepsPlan, work_of}
-use Rattle.mv_workers.proofs.PlanLemmas.{fresh_each, fresh_unused, keeps_plan, keeps_begun, complete_done, done_complete}
+use Rattle.mv_workers.proofs.PlanLemmas.{fresh_each, fresh_unused, keeps_plan}
 use Rattle.mv_workers.proofs.run.run_workers.Goals as goal
 
 -- the ends that were opened are unused, one for each list
@@ -31,7 +31,7 @@ is_complete-requires-clause-begun g c =
     subst (λ (work : Work). AllBegin work after.repos.items) c.as_slice-work.ensures.value c.in-Some.ensures.1.2 in
     let keeps : KeepsPlan plan c.gather-outcome.result = subst (KeepsPlan plan) (sym c.gather-outcome.ensures)
     (keeps_plan plan hub after.hub repos after.repos.items c.in-Ok-open.ensures.ends c.in-Ok-open.ensures.fresh c.in-Some.ensures.1.0 c.in-Some.ensures.1.1 begun) in
-    subst (λ (work : Work). HaveBegun c.gather-outcome.result work) (sym c.as_slice-work.ensures.value) (keeps_begun plan c.gather-outcome.result keeps)
+    subst (λ (work : Work). HaveBegun c.gather-outcome.result work) (sym c.as_slice-work.ensures.value) keeps.submitted
 
 -- the outcome keeps the plan, and is complete
 pub returns-then-is_complete-clause-complete : goal.returns-then-is_complete-clause-complete
@@ -44,7 +44,7 @@ returns-then-is_complete-clause-complete g c =
     (keeps_plan plan hub after.hub repos after.repos.items c.in-Ok-open.ensures.ends c.in-Ok-open.ensures.fresh c.in-Some.ensures.1.0 c.in-Some.ensures.1.1 begun) in
     let done : AreDone outcome (work_of plan) =
     subst (λ (work : Work). AreDone outcome work) c.as_slice-work.ensures.value (c.if-is_complete.ensures.0 refl) in
-    (c.if-not-is_sound.ensures.0 refl, keeps, complete_done plan outcome keeps done)
+    (c.if-not-is_sound.ensures.0 refl, keeps, done)
 
 -- the outcome keeps the plan, and is not complete
 pub returns-then-short-clause-fault : goal.returns-then-short-clause-fault
@@ -57,7 +57,7 @@ returns-then-short-clause-fault g c =
     (keeps_plan plan hub after.hub repos after.repos.items c.in-Ok-open.ensures.ends c.in-Ok-open.ensures.fresh c.in-Some.ensures.1.0 c.in-Some.ensures.1.1 begun) in
     let undone : AreDone outcome (work_of plan) → ⊥ = λ done.
     let told = c.if-is_complete.ensures.1 (subst (λ (work : Work). AreDone outcome work) (sym c.as_slice-work.ensures.value) done) in absurd (cc) in
-    (c.if-not-is_sound.ensures.0 refl, keeps, λ complete. undone (done_complete plan outcome keeps complete))
+    (c.if-not-is_sound.ensures.0 refl, keeps, undone)
 
 pub returns-clause-fault : goal.returns-clause-fault
 returns-clause-fault g c =
@@ -69,4 +69,4 @@ returns-clause-fault g c =
     (keeps_plan plan hub after.hub repos after.repos.items c.in-Ok-open.ensures.ends c.in-Ok-open.ensures.fresh c.in-Some.ensures.1.0 c.in-Some.ensures.1.1 begun) in
     let undone : AreDone outcome (work_of plan) → ⊥ = λ done.
     let told = c.if-is_complete.ensures.1 (subst (λ (work : Work). AreDone outcome work) (sym c.as_slice-work.ensures.value) done) in absurd (cc) in
-    (c.if-not-is_sound.ensures.0 refl, keeps, λ complete. undone (done_complete plan outcome keeps complete))
+    (c.if-not-is_sound.ensures.0 refl, keeps, undone)

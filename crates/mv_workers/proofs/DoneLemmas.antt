@@ -1,5 +1,6 @@
 -- Lengths decide what is carried out.
-use Rattle.std.proofs.Common.{◌≡◌, ◌<◌, ◌+◌, ℕ, Bool, true, false, List, [], ◌∷◌, ◌++◌, length, get_or, take, cond, eqb, sym, ap, ◌∙◌, arith, append-nil, length-append}
+use Rattle.std.proofs.Common.{◌≡◌, ◌<◌, ◌+◌, ℕ, Bool, true, false, List, [], ◌∷◌, ◌++◌, length, get_or, take, cond, eqb, sym, refl, ap, ◌∙◌, arith, append-nil, length-append}
+use Rattle.std.proofs.lemmas.List.{take_more}
 use mathlib.Core.List.{IsPrefix}
 use Rattle.mv_hub.specs.Record.{routed_from}
 use Rattle.mv_hub.specs.Links.{link_items}
@@ -9,7 +10,6 @@ use Rattle.mv_party.proofs.SiteLemmas.{items_from-push}
 use Rattle.mv_machine.specs.State.{State, submissions_of, log_of}
 use Rattle.mv_machine.specs.Lawful.{IsLawful}
 use Rattle.mv_workers.specs.Done.{IsRouted}
-use Rattle.mv_workers.proofs.WorkLemmas.{one_more}
 
 -- a front that is as long as the whole is the whole
 pub front-whole : {A : Type 0} (front whole : List A) → IsPrefix front whole → length front ≡ length whole → front ≡ whole
@@ -33,19 +33,15 @@ applied_by_count outcome from to applied total lawful from_below to_below is put
     front-whole (items_from (log_of outcome to) from) (link_items outcome.parties outcome.entries from to) (lawful.of_link from to from_below to_below).applied
     (sym is ∙ same ∙ put)
 
--- one more entry of a log is of a party or not
-pub count_entry : (log : List LogEntry) (place : ℕ) (entry : LogEntry) (party : ℕ) → place < length log → entry ≡ get_or log place entry → eqb entry.sender party ≡ true
-    → length (items_from (take (place + 1) log) party) ≡ length (items_from (take place log) party) + 1
-count_entry log place entry party below here own =
-    ap (λ l. length (items_from l party)) (one_more log place entry below here)
+-- one more entry of a log counts where it is of a party
+pub count_entry : (log : List LogEntry) (place : ℕ) (entry : LogEntry) (party : ℕ) (own : Bool) → place < length log → entry ≡ get_or log place entry
+    → eqb entry.sender party ≡ own → length (items_from (take (place + 1) log) party) ≡ length (items_from (take place log) party) + cond own 1 0
+count_entry log place entry party own below here is =
+    ap (λ l. length (items_from l party)) (take_more log place entry below ∙ ap (λ e. take place log ++ e ∷ []) (sym here))
     ∙ ap length (items_from-push (take place log) entry party)
-    ∙ ap (λ (b : Bool). length (items_from (take place log) party ++ cond b (entry.item ∷ []) [])) own
-    ∙ length-append (items_from (take place log) party) (entry.item ∷ [])
-
-pub count_other : (log : List LogEntry) (place : ℕ) (entry : LogEntry) (party : ℕ) → place < length log → entry ≡ get_or log place entry → eqb entry.sender party ≡ false
-    → length (items_from (take (place + 1) log) party) ≡ length (items_from (take place log) party)
-count_other log place entry party below here other =
-    ap (λ l. length (items_from l party)) (one_more log place entry below here)
-    ∙ ap length (items_from-push (take place log) entry party)
-    ∙ ap (λ (b : Bool). length (items_from (take place log) party ++ cond b (entry.item ∷ []) [])) other
-    ∙ ap length (append-nil (items_from (take place log) party))
+    ∙ length-append (items_from (take place log) party) (cond (eqb entry.sender party) (entry.item ∷ []) [])
+    ∙ ap (λ n. length (items_from (take place log) party) + n) (by (eqb entry.sender party) ∙ ap (λ (b : Bool). cond b 1 0) is)
+  where
+    by : (own : Bool) → length (cond own (entry.item ∷ []) []) ≡ cond own 1 0
+    by true = refl
+    by false = refl

@@ -1,5 +1,6 @@
 -- What the tries of a turn leave of what a party submitted of its own.
-use Rattle.std.proofs.Common.{◌≡◌, ◌<◌, ◌+◌, ℕ, false, List, [], ◌∷◌, ◌++◌, length, get_or, append-nil, sym, refl, ap, ◌∙◌, inl, inr}
+use Rattle.std.proofs.Common.{◌≡◌, ◌<◌, ◌+◌, ℕ, false, List, [], ◌∷◌, ◌++◌, length, get_or, take, append-nil, sym, refl, ap, ◌∙◌, inl, inr}
+use Rattle.std.proofs.lemmas.List.{take_more}
 use Rattle.std.specs.Prelude.{option_to_list}
 use Rattle.mv_message.specs.declared.message.Message.{Message}
 use Rattle.mv_message.specs.declared.message.Message.TheVariants.{Master, Upload, Status, Recall, Repack, Withdraw, Query, Answer}
@@ -15,11 +16,11 @@ use Rattle.mv_machine.specs.declared.reply.Reply.{Reply}
 use Rattle.mv_machine.specs.declared.reply.Reply.TheVariants.{Submitted, Asked}
 use Rattle.mv_ends.specs.declared.repo_end.RepoEnd.{RepoEnd}
 use Rattle.mv_ends.specs.Answering.{answer_by, stands_to}
-use Rattle.mv_ends.specs.RepoEnd.{site_of, Puts, Submits, Applies}
+use Rattle.mv_ends.specs.RepoEnd.{site_of, Puts, Applies}
 use Rattle.mv_ends.proofs.SiteEndLemmas.{submitted_by}
 use Rattle.mv_workers.specs.Work.{own_among}
 use Rattle.mv_workers.specs.Turns.{own_of, HasSubmitted, Tries}
-use Rattle.mv_workers.proofs.WorkLemmas.{one_more, own_among-append, own_alone}
+use Rattle.mv_workers.proofs.WorkLemmas.{own_among-append}
 
 -- what an item calls for is an answer
 called_for : (log : List LogEntry) (sender : ℕ) (item : Item) → own_among (option_to_list (answer_after log sender item)) ≡ []
@@ -58,20 +59,17 @@ puts_own message old new number puts own =
     ∙ own_among-append (site_of old).submissions (message ∷ [])
     ∙ ap (λ l. own_of old ++ l) own
 
-submits_own : (message : Message) (old new : RepoEnd) (k : ℕ) → Submits message old new (Submitted k) → own_of new ≡ own_of old ++ message ∷ []
-submits_own message old new k submits =
-    puts_own message old new k submits.0 (own_alone message (submit-free false (site_of old) message submits.1).0)
-
 -- what was submitted by a try is the message
 own_submitted : (message : Message) (old new : RepoEnd) (k : ℕ) → Tries message old new (Submitted k) → own_of new ≡ own_of old ++ message ∷ []
 own_submitted (Query key) old new k tries = absurd tries
-own_submitted (Answer asker q key found) old new k tries = submits_own (Answer asker q key found) old new k tries
-own_submitted (Master gtin product) old new k tries = submits_own (Master gtin product) old new k tries
-own_submitted (Upload gtin batch expiry national serials) old new k tries = submits_own (Upload gtin batch expiry national serials) old new k tries
-own_submitted (Status key to user at) old new k tries = submits_own (Status key to user at) old new k tries
-own_submitted (Recall key at) old new k tries = submits_own (Recall key at) old new k tries
-own_submitted (Repack before before_serials after after_serials at) old new k tries = submits_own (Repack before before_serials after after_serials at) old new k tries
-own_submitted (Withdraw gtin at) old new k tries = submits_own (Withdraw gtin at) old new k tries
+own_submitted (Answer asker q key found) old new k tries =
+    let taken = (submit-free false (site_of old) (Answer asker q key found) tries.1).0 in absurd (cc)
+own_submitted (Master gtin product) old new k tries = puts_own (Master gtin product) old new k tries.0 refl
+own_submitted (Upload gtin batch expiry national serials) old new k tries = puts_own (Upload gtin batch expiry national serials) old new k tries.0 refl
+own_submitted (Status key to user at) old new k tries = puts_own (Status key to user at) old new k tries.0 refl
+own_submitted (Recall key at) old new k tries = puts_own (Recall key at) old new k tries.0 refl
+own_submitted (Repack before before_serials after after_serials at) old new k tries = puts_own (Repack before before_serials after after_serials at) old new k tries.0 refl
+own_submitted (Withdraw gtin at) old new k tries = puts_own (Withdraw gtin at) old new k tries.0 refl
 
 own_asked : (message : Message) (old new : RepoEnd) (q : ℕ) → Tries message old new (Asked q) → own_of new ≡ own_of old ++ message ∷ []
 own_asked (Query key) old new q tries = puts_own (Query key) old new q tries.0 refl
@@ -85,7 +83,8 @@ own_asked (Withdraw gtin at) old new q tries = absurd tries
 
 next_more : (message : Message) (list : List Message) (old new : RepoEnd) (count : ℕ) → HasSubmitted old count list → count < length list
     → message ≡ get_or list count message → own_of new ≡ own_of old ++ message ∷ [] → HasSubmitted new (count + 1) list
-next_more message list old new count was below here more = more ∙ ap (λ l. l ++ message ∷ []) was ∙ sym (one_more list count message below here)
+next_more message list old new count was below here more =
+    more ∙ ap (λ l. l ++ message ∷ []) was ∙ sym (take_more list count message below ∙ ap (λ m. take count list ++ m ∷ []) (sym here))
 
 -- the next message of a list was submitted, and so one more of it
 pub more_submitted : (message : Message) (list : List Message) (old new : RepoEnd) (count k : ℕ) → HasSubmitted old count list → count < length list

@@ -1,5 +1,5 @@
 -- What parties are to submit.
-use Rattle.std.specs.Prelude.{◌≡◌, ◌<◌, ℕ, Bool, true, false, List, [], ◌∷◌, length, map, take, slice_index_or}
+use Rattle.std.specs.Prelude.{◌≡◌, ◌<◌, ℕ, Bool, true, false, List, [], length, map, filter, not, take, slice_index_or}
 use Rattle.std.specs.declared.alloc.Global.{Global}
 use Rattle.std.specs.declared.vec.Vec.{Vec}
 use Rattle.mv_message.specs.declared.message.Message.{Message}
@@ -14,16 +14,14 @@ Work = List (Vec Message Global)
 abbrev pub list_at : Work → ℕ → List Message
 list_at work party = slice_index_or (map (λ (list : Vec Message Global). list.items) work) party []
 
--- what a party submits of its own: all but the answers to queries
-abbrev pub own_among : List Message → List Message
-own_among [] = []
-own_among (Answer asker q key found ∷ messages) = own_among messages
-own_among (message ∷ messages) = message ∷ own_among messages
-
 -- a message is the answer to a query
 abbrev pub is_answer : Message → Bool
 is_answer (Answer asker q key found) = true
 is_answer message = false
+
+-- what a party submits of its own: all but the answers to queries
+abbrev pub own_among : List Message → List Message
+own_among messages = filter (λ message. not (is_answer message)) messages
 
 -- no answer is among what parties are to submit
 abbrev pub PlansNoAnswer : Work → Type 0

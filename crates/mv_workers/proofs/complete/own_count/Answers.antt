@@ -1,6 +1,6 @@
 use Rattle.std.proofs.Common.{◌≡◌, ◌<◌, ◌∙◌, true, false, length, sym, ap, arith, rules}
 use Rattle.mv_workers.specs.Work.{is_answer}
-use Rattle.mv_workers.proofs.WorkLemmas.{count_own, count_answer}
+use Rattle.mv_workers.proofs.WorkLemmas.{count_more}
 use Rattle.mv_workers.proofs.complete.own_count.Goals.{then-not-is_answer, else-not-is_answer}
 use Rattle.mv_workers.proofs.complete.own_count.Goals as goal
 
@@ -16,8 +16,8 @@ loop-place-preserved c =
     elim c.if-not-is_answer.branch [
       | then-not-is_answer w ↦
           let own : is_answer message ≡ false = sym answer ∙ (let h = w.if-not-is_answer.true in search rules) in
-          (omega (arith, w.count-is, was.0, count_own messages place message below c.index-messages-place.is own), omega (arith, w.count-is, was.1))
+          (omega (arith, w.count-is, was.0, count_more messages place message false below c.index-messages-place.is own), omega (arith, w.count-is, was.1))
       | else-not-is_answer w ↦
           let is : is_answer message ≡ true = sym answer ∙ (let h = w.if-not-is_answer.false in search rules) in
-          (omega (arith, w.count-is, was.0, count_answer messages place message below c.index-messages-place.is is), omega (arith, w.count-is, was.1))
+          (omega (arith, w.count-is, was.0, count_more messages place message true below c.index-messages-place.is is), omega (arith, w.count-is, was.1))
     ]

@@ -3,11 +3,11 @@ use Rattle.std.specs.declared.alloc.Global.{Global}
 use Rattle.std.specs.declared.vec.Vec.{Vec}
 use Rattle.std.proofs.lemmas.Bool.{cases_lt}
 use Rattle.std.proofs.lemmas.Bool.Decides.{nat_tests}
-use Rattle.std.proofs.lemmas.List.{get_or-map}
+use Rattle.std.proofs.lemmas.List.{get_or-map, nil_from_length}
 use Rattle.mv_message.specs.declared.message.Message.{Message}
 use Rattle.mv_party.specs.Site.{answers_in}
 use Rattle.mv_workers.specs.Work.{list_at, own_among}
-use Rattle.mv_workers.proofs.WorkLemmas.{answers_and_own, no_length}
+use Rattle.mv_workers.proofs.WorkLemmas.{answers_and_own}
 use Rattle.mv_workers.proofs.run.plans_no_answer.Goals as goal
 
 -- a party's list has an answer
@@ -39,5 +39,5 @@ loop-party-preserved c = λ party below.
       | inl before ↦ c.loop-party.invariant party before
       | inr after ↦
           let here : party ≡ at = omega arith in
-          subst (λ p. answers_in (list_at work p) ≡ []) (sym here) (no_length (answers_in (list_at work at)) none)
+          subst (λ p. answers_in (list_at work p) ≡ []) (sym here) (nil_from_length (answers_in (list_at work at)) none)
     ]

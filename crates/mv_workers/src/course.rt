@@ -6,6 +6,33 @@ use crate::start::Start;
 use std::alloc::{AllocError, Global};
 use std::sync::Wait;
 
+/// What came of a worker's turn.
+#[derive(Clone, Copy)]
+pub(crate) enum Turn {
+    /// Something was done.
+    Moved,
+    /// Each call was refused.
+    Rested,
+    /// Memory was refused to a call.
+    Refused,
+}
+
+impl Turn {
+    /// By whether something was done, or that memory was refused.
+    pub(crate) fn of(done: Result<bool, AllocError>) -> Turn {
+        match done {
+            Ok(true) => Turn::Moved,
+            Ok(false) => Turn::Rested,
+            Err(_) => Turn::Refused,
+        }
+    }
+
+    /// Whether memory was refused.
+    pub(crate) fn is_refused(self) -> bool {
+        matches!(self, Turn::Refused)
+    }
+}
+
 /// What the workers of a run share: nothing of what they carry.
 #[derive(Drop)]
 pub(crate) struct Course {
@@ -13,7 +40,9 @@ pub(crate) struct Course {
     pub parties: u32,
     /// How many turns each worker takes at most.
     pub turns: u32,
+    /// When all may take their first turn.
     pub start: Start,
+    /// When nothing more can come.
     pub standstill: Standstill,
 }
 
@@ -28,18 +57,18 @@ impl Course {
         })
     }
 
-    /// Ends the turn of a worker, which began behind so many moves, and waits for its next. False where the worker takes no
+    /// Notes the turn of a worker, which began behind so many moves, and waits for its next. False where the worker takes no
     /// further one: memory was refused to it, or no worker can do anything any more.
-    pub(crate) fn ends_turn(
+    pub(crate) fn goes_on(
         &self,
         rt: &impl Wait,
         worker: u32,
         moves: u64,
-        done: &Result<bool, AllocError>,
+        turn: Turn,
         pause: &mut Pause,
     ) -> bool {
-        match done {
-            Ok(false) => {
+        match turn {
+            Turn::Rested => {
                 if self.standstill.rested(worker, moves) {
                     self.standstill.gone(worker);
                     return false;
@@ -47,12 +76,12 @@ impl Course {
                 pause.wait(rt);
                 true
             }
-            Ok(true) => {
+            Turn::Moved => {
                 self.standstill.moved();
                 pause.reset();
                 true
             }
-            Err(_) => {
+            Turn::Refused => {
                 self.standstill.moved();
                 self.standstill.gone(worker);
                 false

@@ -6,7 +6,7 @@ ghost use Rattle.mv_ends.specs.RepoEnd.{SameRepoEnd};
 ghost use Rattle.mv_workers.specs.Work.{Begins};
 ghost use Rattle.mv_workers.specs.Turns.{own_of, IsUnused, HasSubmitted, Tries};
 
-use crate::course::Course;
+use crate::course::{Course, Turn};
 use crate::gate::Gate;
 use crate::pause::Pause;
 use mv_ends::{HubEnd, RepoEnd};
@@ -119,8 +119,9 @@ pub(crate) fn repo_turns<R: Wait, G: Gate>(
         let moves = course.standstill.moves();
         let (after, done) = repo_turn(&mut end, list, count, course.parties, gate);
         count = after;
-        if !course.ends_turn(rt, worker, moves, &done, &mut pause) {
-            return (end, done.is_err());
+        let turn = Turn::of(done);
+        if !course.goes_on(rt, worker, moves, turn, &mut pause) {
+            return (end, turn.is_refused());
         }
     }
     course.standstill.gone(worker);
@@ -176,9 +177,9 @@ pub(crate) fn hub_turns<R: Wait>(rt: &R, hub: HubEnd, course: &Course) -> (HubEn
     let mut pause = Pause::new();
     for _turn in 0..course.turns {
         let moves = course.standstill.moves();
-        let done = hub_turn(&mut hub, course.parties);
-        if !course.ends_turn(rt, worker, moves, &done, &mut pause) {
-            return (hub, done.is_err());
+        let turn = Turn::of(hub_turn(&mut hub, course.parties));
+        if !course.goes_on(rt, worker, moves, turn, &mut pause) {
+            return (hub, turn.is_refused());
         }
     }
     course.standstill.gone(worker);

@@ -23,13 +23,18 @@ use std::thread::{Promise, PromisedHandle, Scope, Threads};
 /// of memory.
 #[derive(Drop)]
 pub(crate) struct RepoPromise<'a> {
+    /// The end as the worker gets it.
     was: Snapshot<RepoEnd>,
+    /// What its party is to submit.
     list: &'a [Shared<Message>],
 }
 
 impl<'a> Promise<(RepoEnd, bool)> for RepoPromise<'a> {
     ghost kept_by = { λ p r. SameRepoEnd p.was.value r.0 × Begins (own_of r.0) p.list.now };
 }
+
+/// The handle of a repository's worker.
+type RepoHandle<'a> = PromisedHandle<(RepoEnd, bool), RepoPromise<'a>>;
 
 /// What the hub's worker gives back: that end, and whether it ended for want of memory.
 #[derive(Drop)]
@@ -42,8 +47,11 @@ impl Promise<(HubEnd, bool)> for HubPromise {
 /// The ends behind the turns of all workers, and whether one ended for want of memory.
 #[derive(Drop)]
 pub(crate) struct CrewEnds {
+    /// The hub's end.
     pub hub: HubEnd,
+    /// The end of each party's repository, party 0 first.
     pub repos: Vec<RepoEnd>,
+    /// Whether memory was refused to a worker.
     pub short: bool,
 }
 
@@ -56,7 +64,7 @@ fn start_repos<'s, E, R: Wait + Sync, G: Gate>(
     work: &'s [Vec<Shared<Message>>],
     gate: &'s G,
     course: &'s Course,
-) -> Option<Vec<PromisedHandle<(RepoEnd, bool), RepoPromise<'s>>>>
+) -> Option<Vec<RepoHandle<'s>>>
     requires each { vec_len repos ≡ length work.now }
     requires unused { AllUnused repos.items }
     ensures { IfSome result (λ handles. AllPromised repos.items work.entry.now handles.items) }
@@ -88,7 +96,7 @@ fn start_repos<'s, E, R: Wait + Sync, G: Gate>(
 /// Joins the repositories' workers, in order. The flag says whether one ended for want of memory.
 fn join_repos<'s, R: Threads>(
     rt: &R,
-    handles: Vec<PromisedHandle<(RepoEnd, bool), RepoPromise<'s>>>,
+    handles: Vec<RepoHandle<'s>>,
     into: Vec<RepoEnd>,
 ) -> (Vec<RepoEnd>, bool)
     requires empty { vec_len into ≡ 0 }

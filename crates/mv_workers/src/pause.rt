@@ -14,13 +14,17 @@ const YIELDS: u32 = 64;
 /// How long its first sleep is, in microseconds. Each further one is twice as long, up to the longest.
 const FIRST_SLEEP: u64 = 50;
 
+/// How long it sleeps at most, in microseconds.
 const LONGEST_SLEEP: u64 = 12_800;
 
 /// How a worker waits between turns in which it does nothing: the longer the more of them there are in a row.
 #[derive(Drop)]
 pub(crate) struct Pause {
+    /// How many rests in a row there were, up to [`YIELDS`].
     rests: u32,
+    /// How long the next sleep is, in microseconds.
     micros: u64,
+    /// What it sleeps on.
     parker: Parker,
 }
 

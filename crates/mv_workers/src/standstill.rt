@@ -60,6 +60,7 @@ impl Standstill {
         self.note(worker, GONE);
     }
 
+    /// Writes down what stands for a worker from now on.
     fn note(&self, worker: u32, rest: u64) {
         if let Some(noted) = self.rests.get(worker as usize) {
             noted.store(rest, Ordering::SeqCst);

@@ -5,15 +5,20 @@ use std::sync::{Condvar, Mutex, Wait};
 /// What the workers of a run are told.
 #[derive(Clone, Copy)]
 enum Signal {
+    /// Not all have started yet.
     Wait,
+    /// All have started.
     Go,
+    /// One could not be started.
     End,
 }
 
 /// Tells the workers that all have started, or that one could not be. It holds no message.
 #[derive(Drop)]
 pub(crate) struct Start {
+    /// What the workers are told now.
     signal: Mutex<Signal>,
+    /// Wakes the workers that wait for it.
     given: Condvar,
 }
 

@@ -6,7 +6,7 @@ ghost use Rattle.mv_ends.specs.RepoEnd.{SameRepoEnd};
 ghost use Rattle.mv_ends.specs.Laws.{AreSameRepos};
 ghost use Rattle.mv_workers.specs.Work.{Begins};
 ghost use Rattle.mv_workers.specs.Turns.{own_of, IsUnused};
-ghost use Rattle.mv_workers.specs.Crews.{AllUnused, AllBegin, AllPromised, AllKept};
+ghost use Rattle.mv_workers.specs.Crews.{AllUnused, AllBegin, IsPromised, AllPromised, AllKept};
 
 use crate::course::Course;
 use crate::gate::Gate;
@@ -44,6 +44,9 @@ impl Promise<(HubEnd, bool)> for HubPromise {
     ghost kept_by = { λ p r. SameHubEnd p.0.value r.0 };
 }
 
+/// The handle of the hub's worker.
+type HubHandle = PromisedHandle<(HubEnd, bool), HubPromise>;
+
 /// The ends behind the turns of all workers, and whether one ended for want of memory.
 #[derive(Drop)]
 pub(crate) struct CrewEnds {
@@ -53,6 +56,45 @@ pub(crate) struct CrewEnds {
     pub repos: Vec<RepoEnd>,
     /// Whether memory was refused to a worker.
     pub short: bool,
+}
+
+/// Starts the worker of a repository. None where it can't be started.
+fn start_repo<'s, E, R: Wait + Sync, G: Gate>(
+    scope: &Scope<'s, E>,
+    rt: &'s R,
+    end: RepoEnd,
+    list: &'s [Shared<Message>],
+    gate: &'s G,
+    course: &'s Course,
+) -> Option<RepoHandle<'s>>
+    requires { IsUnused end }
+    ensures { IfSome result (λ handle. IsPromised end list.entry.now handle) }
+{
+    let promise = RepoPromise {
+        was: Snapshot::of(&end),
+        list,
+    };
+    let worker = move || -> (RepoEnd, bool)
+        requires { IsUnused end }
+        ensures { SameRepoEnd end result.0 × Begins (own_of result.0) list.entry.now }
+    { repo_turns(rt, end, list, gate, course) };
+    scope.spawn_with(promise, worker).ok()
+}
+
+/// Starts the hub's worker. None where it can't be started.
+fn start_hub<'s, E, R: Wait + Sync>(
+    scope: &Scope<'s, E>,
+    rt: &'s R,
+    hub: HubEnd,
+    course: &'s Course,
+) -> Option<HubHandle>
+    ensures { IfSome result (λ handle. handle.promise.0.value ≡ hub) }
+{
+    let promise = HubPromise(Snapshot::of(&hub));
+    let worker = move || -> (HubEnd, bool)
+        ensures { SameHubEnd hub result.0 }
+    { hub_turns(rt, hub, course) };
+    scope.spawn_with(promise, worker).ok()
 }
 
 /// Starts a worker for each repository. None where one can't be started.
@@ -76,17 +118,7 @@ fn start_repos<'s, E, R: Wait + Sync, G: Gate>(
     let mut place = 0;
     for end in repos {
         let list = work[place].as_slice();
-        let promise = RepoPromise {
-            was: Snapshot::of(&end),
-            list,
-        };
-        let worker = move || -> (RepoEnd, bool)
-            requires { IsUnused end }
-            ensures { SameRepoEnd end result.0 × Begins (own_of result.0) list.entry.now }
-        { repo_turns(rt, end, list, gate, course) };
-        let Ok(handle) = scope.spawn_with(promise, worker) else {
-            return None;
-        };
+        let handle = start_repo(scope, rt, end, list, gate, course)?;
         handles.push_reserved(handle);
         place += 1;
     }
@@ -138,11 +170,7 @@ pub(crate) fn work_in<'s, E, R: Threads + Wait + Sync, G: Gate>(
         course.start.end(rt);
         return None;
     };
-    let promise = HubPromise(Snapshot::of(&hub));
-    let worker = move || -> (HubEnd, bool)
-        ensures { SameHubEnd hub result.0 }
-    { hub_turns(rt, hub, course) };
-    let Ok(handle) = scope.spawn_with(promise, worker) else {
+    let Some(handle) = start_hub(scope, rt, hub, course) else {
         course.start.end(rt);
         return None;
     };

@@ -4,10 +4,9 @@ use Rattle.std.specs.declared.vec.Vec.{Vec}
 use Rattle.mv_ends.specs.declared.repo_end.RepoEnd.{RepoEnd}
 use Rattle.mv_workers.specs.Turns.{IsUnused}
 use Rattle.std.proofs.lemmas.List.{get_or-map}
-use Rattle.mv_workers.specs.declared.crew.RepoPromise.{RepoPromise}
 use Rattle.mv_message.specs.declared.message.Message.{Message}
 use Rattle.mv_workers.specs.Work.{list_at}
-use Rattle.mv_workers.specs.Crews.{Handle}
+use Rattle.mv_workers.specs.Crews.{Handle, IsPromised}
 use Rattle.mv_workers.proofs.PushLemmas.{each_push}
 use Rattle.mv_workers.proofs.crew.start_repos.Goals as goal
 
@@ -17,14 +16,11 @@ loop-end-preserved g c =
     let step = c.in-Some.ensures.steps in
     let repos = vec_items c.args.repos in let work = c.args.work.now in
     let at : (r : RepoEnd) → c.in-Some.end ≡ get_or repos c.loop-end.place r = λ r. let h = was.5 0 r in grind rules in
-    let P : ℕ → Handle → Type 0 = λ s h. (r : RepoEnd) → (h.promise.was.value ≡ get_or repos s r) × (h.promise.list.now ≡ list_at work s) in
+    let P : ℕ → Handle → Type 0 = λ s h. (r : RepoEnd) → IsPromised (get_or repos s r) (list_at work s) h in
     let before : (s : ℕ) (h : Handle) → s < length (vec_items c.loop-end.handles) → P s (get_or (vec_items c.loop-end.handles) s h) = λ s h below r. was.6 s h r (search rules) in
     let here : c.index-work-place.result.items ≡ list_at work c.loop-end.place =
     ap (λ (v : Vec Message Global). v.items) c.index-work-place.is ∙ sym (get_or-map (λ (v : Vec Message Global). v.items) work c.loop-end.place c.index-work-place.result [] (search rules)) in
-    let now : P c.loop-end.place c.in-Ok.handle = λ r. (
-      ap (λ (p : RepoPromise). p.was.value) c.in-Ok.ensures.ok ∙ (c.of.ensures ∙ at r),
-      ap (λ (p : RepoPromise). p.list.now) c.in-Ok.ensures.ok ∙ (c.as_slice-list.ensures.value ∙ here),
-    ) in (
+    let now : P c.loop-end.place c.in_ok-handle.handle = λ r. (c.in_ok-handle.ensures.0 ∙ at r, c.in_ok-handle.ensures.1 ∙ (c.as_slice-list.ensures.value ∙ here)) in (
       search rules,
       search rules,
       search rules,
@@ -32,8 +28,8 @@ loop-end-preserved g c =
       search rules,
       (λ k r below. let h = was.5 (k + 1) r in grind rules),
       λ s h r below. rw c.push_reserved.ensures.items
-          (each_push P (vec_items c.loop-end.handles) c.in-Ok.handle before (let len : c.loop-end.place ≡ length (vec_items c.loop-end.handles) = search rules in rw (← len) now)
-          s h (omega (arith, length-append (vec_items c.loop-end.handles) (c.in-Ok.handle ∷ []), was.3)) r),
+          (each_push P (vec_items c.loop-end.handles) c.in_ok-handle.handle before (let len : c.loop-end.place ≡ length (vec_items c.loop-end.handles) = search rules in rw (← len) now)
+          s h (omega (arith, length-append (vec_items c.loop-end.handles) (c.in_ok-handle.handle ∷ []), was.3)) r),
     )
 
 pub returns : goal.returns
@@ -41,12 +37,11 @@ returns g c =
     let was = c.loop-end.invariant in (search rules, λ s h r below. was.6 s h r (search rules))
 
 -- nothing was submitted at the next end
-pub spawn_with-requires-clause-runs : goal.spawn_with-requires-clause-runs
-spawn_with-requires-clause-runs g c =
-    let unused : IsUnused c.in-Some.end =
-    (let was = c.loop-end.invariant in
+pub start_repo-requires : goal.start_repo-requires
+start_repo-requires g c =
+    let was = c.loop-end.invariant in
     let step = c.in-Some.ensures.steps in
     let at : c.in-Some.end ≡ get_or (vec_items c.args.repos) c.loop-end.place c.in-Some.end = let h = was.5 0 c.in-Some.end in grind rules in
     let below : c.loop-end.place < length (vec_items c.args.repos) = search rules in
-    subst IsUnused (sym at) (c.requires.unused c.loop-end.place c.in-Some.end below)) in
+    let unused : IsUnused c.in-Some.end = subst IsUnused (sym at) (c.requires.unused c.loop-end.place c.in-Some.end below) in
     search (unused, c.type_bounds.sync-R, c.type_bounds.sync-G)

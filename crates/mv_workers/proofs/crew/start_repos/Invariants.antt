@@ -3,7 +3,7 @@ use Rattle.std.specs.Vec.{vec_capacity}
 use Rattle.std.specs.Vec.Iter.{into_iter_items, into_iter_len}
 use Rattle.mv_workers.specs.Work.{list_at}
 use Rattle.mv_ends.specs.declared.repo_end.RepoEnd.{RepoEnd}
-use Rattle.mv_workers.specs.Crews.{Handle}
+use Rattle.mv_workers.specs.Crews.{Handle, IsPromised}
 use Rattle.mv_workers.proofs.crew.start_repos.Given as goal
 
 abbrev pub invariant-loop-end : goal.invariant-loop-end
@@ -16,5 +16,4 @@ invariant-loop-end g l =
     × (length l.work ≤ vec_capacity l.handles)
     × ((k : ℕ) (r : RepoEnd) → k < into_iter_len rest → get_or (into_iter_items rest) k r ≡ get_or (vec_items l.fn.repos) (l.place + k) r)
     × ((s : ℕ) (h : Handle) (r : RepoEnd) → s < l.place
-    → ((get_or (vec_items l.handles) s h).promise.was.value ≡ get_or (vec_items l.fn.repos) s r)
-    × ((get_or (vec_items l.handles) s h).promise.list.now ≡ list_at l.work s))
+    → IsPromised (get_or (vec_items l.fn.repos) s r) (list_at l.work s) (get_or (vec_items l.handles) s h))

@@ -1,7 +1,6 @@
-use Rattle.std.proofs.Common.{◌≡◌, ◌∙◌, ap, subst, rules}
+use Rattle.std.proofs.Common.{subst, rules}
 use Rattle.mv_ends.specs.HubEnd.{SameHubEnd}
 use Rattle.mv_ends.specs.declared.hub_end.HubEnd.{HubEnd}
-use Rattle.mv_workers.specs.declared.crew.HubPromise.{HubPromise}
 use Rattle.mv_workers.proofs.CrewLemmas.{same_back, begun_back}
 use Rattle.mv_workers.proofs.crew.work_in.Goals as goal
 
@@ -12,9 +11,8 @@ join_repos-repos-requires-clause-room g c = let each = c.in-Some.ensures.0 in se
 pub returns : goal.returns
 returns g c =
     let repos = c.args.repos.items in let after = c.join_repos-repos.result.0.items in let work = c.args.work.now in let handles = c.in-Some.handles.items in
-    let hub : c.in-Ok.handle.promise.0.value ≡ c.args.hub = ap (λ (p : HubPromise). p.0.value) c.in-Ok.ensures.ok ∙ c.of.ensures in
     let P : HubEnd → Type 0 = λ h. SameHubEnd h c.join-hub.result.0 in (
-      subst P hub c.join-hub.ensures,
+      subst P c.in-Some-start_hub.ensures c.join-hub.ensures,
       same_back repos after work handles c.in-Some.ensures c.join_repos-repos.ensures,
       begun_back repos after work handles c.in-Some.ensures c.join_repos-repos.ensures,
     )

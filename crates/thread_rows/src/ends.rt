@@ -1,134 +1,77 @@
-//! The ends of a system of three parties, each at hand.
+//! The ends of a system, all at hand.
 
 use crate::hands::Hand;
-use crate::threes::{list_of, three_of};
 use mv_ends::{HubEnd, Outcome, RepoEnd, gather, open};
 use mv_hub::Parties;
-use mv_machine::{Limits, Reply, Step};
+use mv_machine::{Limits, Refusal, Reply, Step};
 use mv_message::Party;
 use std::alloc::Global;
 use std::marker::Model;
 
-/// The ends of one opening.
+/// The ends of one opening, those of the repositories in order of party.
 #[derive(Drop)]
-pub struct Ends {
+pub(crate) struct Ends {
     hub: HubEnd,
-    maker: RepoEnd,
-    finland: RepoEnd,
-    sweden: RepoEnd,
+    repos: Vec<RepoEnd>,
 }
 
 impl Model for Ends {
-    ghost use Rattle.std.specs.Prelude.{[], ◌∷◌};
     ghost use Rattle.mv_machine.specs.State.{State};
     ghost use Rattle.mv_ends.specs.Whole.{AreEnds};
     ghost use Rattle.mv_ends.specs.Outcome.{state_of};
 
     ghost Value = { State };
 
-    ghost view = { λ e. state_of e.hub (e.maker ∷ e.finland ∷ e.sweden ∷ []) };
+    ghost view = { λ e. state_of e.hub e.repos.items };
 
-    ghost invariant = { λ e. AreEnds e.hub (e.maker ∷ e.finland ∷ e.sweden ∷ []) };
+    ghost invariant = { λ e. AreEnds e.hub e.repos.items };
 }
 
 impl Ends {
-    /// The ends of a system of three parties with these markets.
-    pub fn open(alloc: Global, parties: Parties, limits: Limits) -> Option<Ends> {
+    /// The ends of a system of parties with these markets; none where memory was refused.
+    pub(crate) fn open(alloc: Global, parties: Parties, limits: Limits) -> Option<Ends> {
         let Ok((hub, repos)) = open(alloc, parties, limits) else {
             return None;
         };
-        let (maker, finland, sweden) = three_of(repos)?;
-        Some(Ends {
-            hub,
-            maker,
-            finland,
-            sweden,
-        })
+        Some(Ends { hub, repos })
     }
 
-    /// A call of the maker's end.
-    pub fn at_maker<H: Hand>(self, hand: &H, step: Step) -> (Ends, Reply) {
-        let Ends {
-            hub,
-            maker,
-            finland,
-            sweden,
-        } = self;
-        let (maker, reply) = hand.call(maker, step);
-        let ends = Ends {
-            hub,
-            maker,
-            finland,
-            sweden,
+    /// Takes a step at the end of a party, which goes to the hand and comes back.
+    pub(crate) fn at<H: Hand>(&mut self, hand: &H, party: Party, step: Step) -> Reply {
+        let place = party as usize;
+        if place >= self.repos.len() {
+            return Reply::Refused(Refusal::Party);
+        }
+        let (end, reply) = hand.call(self.repos.remove(place), step);
+        let Ok(()) = self.repos.insert(place, end) else {
+            unreachable!()
         };
-        (ends, reply)
-    }
-
-    /// A call of Finland's end.
-    pub fn at_finland<H: Hand>(self, hand: &H, step: Step) -> (Ends, Reply) {
-        let Ends {
-            hub,
-            maker,
-            finland,
-            sweden,
-        } = self;
-        let (finland, reply) = hand.call(finland, step);
-        let ends = Ends {
-            hub,
-            maker,
-            finland,
-            sweden,
-        };
-        (ends, reply)
-    }
-
-    /// A call of Sweden's end.
-    pub fn at_sweden<H: Hand>(self, hand: &H, step: Step) -> (Ends, Reply) {
-        let Ends {
-            hub,
-            maker,
-            finland,
-            sweden,
-        } = self;
-        let (sweden, reply) = hand.call(sweden, step);
-        let ends = Ends {
-            hub,
-            maker,
-            finland,
-            sweden,
-        };
-        (ends, reply)
+        reply
     }
 
     /// The hub routes the next message of a party.
-    pub fn route(&mut self, from: Party) -> Reply {
+    pub(crate) fn route(&mut self, from: Party) -> Reply {
         self.hub.route(from)
     }
 
     /// The hub relays the next frame of a link.
-    pub fn relay(&mut self, from: Party, to: Party) -> Reply {
+    pub(crate) fn relay(&mut self, from: Party, to: Party) -> Reply {
         self.hub.relay(from, to)
     }
 
     /// The hub repeats a frame of a link.
-    pub fn repeat(&mut self, from: Party, to: Party, number: u32) -> Reply {
+    pub(crate) fn repeat(&mut self, from: Party, to: Party, number: u32) -> Reply {
         self.hub.repeat(from, to, number)
     }
 
     /// The hub closes a link.
-    pub fn close(&mut self, from: Party, to: Party) -> Reply {
+    pub(crate) fn close(&mut self, from: Party, to: Party) -> Reply {
         self.hub.close(from, to)
     }
 
     /// All ends, gathered.
-    pub fn gather(self, alloc: Global) -> Option<Outcome> {
-        let Ends {
-            hub,
-            maker,
-            finland,
-            sweden,
-        } = self;
-        let repos = list_of(alloc, maker, finland, sweden)?;
-        Some(gather(hub, repos))
+    pub(crate) fn gather(self) -> Outcome {
+        let Ends { hub, repos } = self;
+        gather(hub, repos)
     }
 }

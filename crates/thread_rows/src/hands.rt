@@ -9,7 +9,7 @@ use std::thread;
 use std::thread::{Promise, Threads};
 
 /// Makes a call of the end of a repository, and gives the end back with the reply.
-pub trait Hand {
+pub(crate) trait Hand {
     fn call(&self, end: RepoEnd, step: Step) -> (RepoEnd, Reply)
         ensures { SameRepoEnd end result.0 };
 }
@@ -39,7 +39,7 @@ fn called(end: RepoEnd, step: Step) -> (RepoEnd, Reply)
 
 /// Calls where it stands.
 #[derive(Drop)]
-pub struct Here;
+pub(crate) struct Here;
 
 impl Hand for Here {
     fn call(&self, end: RepoEnd, step: Step) -> (RepoEnd, Reply) {
@@ -57,7 +57,7 @@ impl Promise<(RepoEnd, Reply)> for ComesBack {
 
 /// Calls in a thread into which the end is moved, and which is joined; where no thread can be had, it calls where it stands.
 #[derive(Drop)]
-pub struct Apart<'a, R>(pub &'a R);
+pub(crate) struct Apart<'a, R>(pub(crate) &'a R);
 
 impl<'a, R: Threads> Hand for Apart<'a, R> {
     fn call(&self, end: RepoEnd, step: Step) -> (RepoEnd, Reply) {

@@ -13,5 +13,3 @@ mod hands;
 mod plans;
 #[cfg(test)]
 mod rows;
-#[cfg(test)]
-mod threes;

@@ -68,42 +68,41 @@ fn is_closed(ends: &mut Ends, from: Party, to: Party) -> bool {
         && ends.close(from, to) == Reply::Refused(Refusal::AlreadyClosed)
 }
 
-/// Finland takes a frame from a party; whether this is its reply.
-fn applied<H: Hand>(ends: Ends, hand: &H, from: Party, reply: &Reply) -> (Ends, bool) {
-    let (ends, given) = ends.at_finland(hand, Step::Apply { from, to: 1 });
-    (ends, given == *reply)
+/// Whether Finland gives this reply as it takes a frame from a party.
+fn is_applied<H: Hand>(ends: &mut Ends, hand: &H, from: Party, reply: &Reply) -> bool {
+    ends.at(hand, 1, Step::Apply { from, to: 1 }) == *reply
 }
 
-/// The maker submits the master, and the hub sends it to Finland, twice.
-fn launched<H: Hand>(ends: Ends, hand: &H, message: Shared<Message>) -> (Ends, bool) {
+/// Whether the maker submits the master, and the hub sends it to Finland, twice.
+fn is_launched<H: Hand>(ends: &mut Ends, hand: &H, message: Shared<Message>) -> bool {
     let done = Reply::Applied {
         number: 1,
         effect: Effect::Done,
         answer: None,
     };
-    let (mut ends, reply) = ends.at_maker(hand, Step::Submit { from: 0, message });
-    let sent = is_routed(&mut ends, 0, 1) && is_relayed(&mut ends, 0, 1);
-    let (mut ends, first) = applied(ends, hand, 0, &done);
+    let reply = ends.at(hand, 0, Step::Submit { from: 0, message });
+    let sent = is_routed(ends, 0, 1) && is_relayed(ends, 0, 1);
+    let first = is_applied(ends, hand, 0, &done);
     let again = ends.repeat(0, 1, 1) == Reply::Repeated { number: 1 };
-    let (ends, second) = applied(ends, hand, 0, &Reply::Old { number: 1 });
+    let second = is_applied(ends, hand, 0, &Reply::Old { number: 1 });
     let submitted = reply == Reply::Submitted { k: 1 };
-    (ends, submitted && sent && first && again && second)
+    submitted && sent && first && again && second
 }
 
-/// Sweden asks for the pack, the link from the maker to Finland is closed, and Finland answers.
-fn answered<H: Hand>(ends: Ends, hand: &H, key: PackKey) -> (Ends, bool) {
+/// Whether Sweden asks for the pack, the link from the maker to Finland is closed, and Finland answers.
+fn is_answered<H: Hand>(ends: &mut Ends, hand: &H, key: PackKey) -> bool {
     let noted = Reply::Applied {
         number: 1,
         effect: Effect::Noted,
         answer: Some(1),
     };
-    let (mut ends, reply) = ends.at_sweden(hand, Step::Verify { party: 2, key });
-    let closed = is_closed(&mut ends, 0, 1);
-    let sent = is_routed(&mut ends, 2, 1) && is_relayed(&mut ends, 2, 1);
-    let (mut ends, applied) = applied(ends, hand, 2, &noted);
-    let back = is_routed(&mut ends, 1, 2);
+    let reply = ends.at(hand, 2, Step::Verify { party: 2, key });
+    let closed = is_closed(ends, 0, 1);
+    let sent = is_routed(ends, 2, 1) && is_relayed(ends, 2, 1);
+    let applied = is_applied(ends, hand, 2, &noted);
+    let back = is_routed(ends, 1, 2);
     let asked = reply == Reply::Asked { q: 1 };
-    (ends, asked && closed && sent && applied && back)
+    asked && closed && sent && applied && back
 }
 
 /// Whether an entry says that the first message of a party was routed.
@@ -138,19 +137,18 @@ fn is_shown(outcome: &Outcome) -> bool {
         && outcome.hub().routed_count(2) == 1
 }
 
-/// The ends behind all of it, by such a hand, and whether it went so.
-fn carried<H: Hand>(ends: Ends, hand: &H, message: Shared<Message>, key: PackKey) -> (Ends, bool) {
-    let (ends, first) = launched(ends, hand, message);
-    let (ends, second) = answered(ends, hand, key);
-    (ends, first && second)
-}
-
-/// What is gathered behind all of it, where it went so.
+/// What is gathered behind all of it, where it went so by such a hand.
 fn gathered<H: Hand>(alloc: Global, hand: &H) -> Option<Outcome> {
     let (message, key) = (master(alloc)?, pack()?);
-    let (ends, went) = carried(opened(alloc)?, hand, message, key);
-    let outcome = ends.gather(alloc);
-    if went { outcome } else { None }
+    let mut ends = opened(alloc)?;
+    let launched = is_launched(&mut ends, hand, message);
+    let answered = is_answered(&mut ends, hand, key);
+    let outcome = ends.gather();
+    if launched && answered {
+        Some(outcome)
+    } else {
+        None
+    }
 }
 
 /// Whether all of it goes so.

@@ -49,24 +49,9 @@ impl Ends {
         reply
     }
 
-    /// The hub routes the next message of a party.
-    pub(crate) fn route(&mut self, from: Party) -> Reply {
-        self.hub.route(from)
-    }
-
-    /// The hub relays the next frame of a link.
-    pub(crate) fn relay(&mut self, from: Party, to: Party) -> Reply {
-        self.hub.relay(from, to)
-    }
-
-    /// The hub repeats a frame of a link.
-    pub(crate) fn repeat(&mut self, from: Party, to: Party, number: u32) -> Reply {
-        self.hub.repeat(from, to, number)
-    }
-
-    /// The hub closes a link.
-    pub(crate) fn close(&mut self, from: Party, to: Party) -> Reply {
-        self.hub.close(from, to)
+    /// Takes a step at the hub's end.
+    pub(crate) fn at_hub<H: Hand>(&mut self, hand: &H, step: Step) -> Reply {
+        hand.call_hub(&mut self.hub, step)
     }
 
     /// All ends, gathered.

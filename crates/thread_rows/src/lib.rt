@@ -1,5 +1,5 @@
-//! The ends of a system, opened, called and gathered, on one thread and with each call of a repository's end in a thread of its own; and
-//! plans that are run in threads.
+//! The ends of a system, opened, called and gathered, on one thread, also with refused calls made again, and with each call of a
+//! repository's end in a thread of its own; and plans that are run in threads.
 //!
 //! Nothing stands on this crate. To drop an end, or an outcome, is dear to prove: so none is let go on the way, and each row says by
 //! a truth value how it went.

@@ -1,7 +1,7 @@
 //! A pack is asked for abroad, over a link that is closed meanwhile; and calls that are refused.
 
 use crate::ends::Ends;
-use crate::hands::{Apart, Hand, Here};
+use crate::hands::{Again, Apart, Hand, Here};
 use mv_ends::{HubEnd, Outcome, RepoEnd, open};
 use mv_hub::{Entry, Parties};
 use mv_machine::{Limits, Refusal, Reply, Step};
@@ -53,19 +53,25 @@ fn is_routed_to(reply: &Reply, party: Party) -> bool {
 }
 
 /// Whether the hub routes the first message of a party to another alone.
-fn is_routed(ends: &mut Ends, from: Party, to: Party) -> bool {
-    is_routed_to(&ends.route(from), to)
+fn is_routed<H: Hand>(ends: &mut Ends, hand: &H, from: Party, to: Party) -> bool {
+    is_routed_to(&ends.at_hub(hand, Step::Route { from }), to)
 }
 
 /// Whether the hub relays the first frame of a link.
-fn is_relayed(ends: &mut Ends, from: Party, to: Party) -> bool {
-    ends.relay(from, to) == Reply::Relayed { number: 1 }
+fn is_relayed<H: Hand>(ends: &mut Ends, hand: &H, from: Party, to: Party) -> bool {
+    ends.at_hub(hand, Step::Relay { from, to }) == Reply::Relayed { number: 1 }
+}
+
+/// Whether the hub repeats the first frame of a link.
+fn is_repeated<H: Hand>(ends: &mut Ends, hand: &H, from: Party, to: Party) -> bool {
+    let number = 1;
+    ends.at_hub(hand, Step::Repeat { from, to, number }) == Reply::Repeated { number }
 }
 
 /// Whether the hub closes a link, once.
-fn is_closed(ends: &mut Ends, from: Party, to: Party) -> bool {
-    ends.close(from, to) == Reply::Closed
-        && ends.close(from, to) == Reply::Refused(Refusal::AlreadyClosed)
+fn is_closed<H: Hand>(ends: &mut Ends, hand: &H, from: Party, to: Party) -> bool {
+    ends.at_hub(hand, Step::Close { from, to }) == Reply::Closed
+        && ends.at_hub(hand, Step::Close { from, to }) == Reply::Refused(Refusal::AlreadyClosed)
 }
 
 /// Whether Finland gives this reply as it takes a frame from a party.
@@ -81,9 +87,9 @@ fn is_launched<H: Hand>(ends: &mut Ends, hand: &H, message: Shared<Message>) -> 
         answer: None,
     };
     let reply = ends.at(hand, 0, Step::Submit { from: 0, message });
-    let sent = is_routed(ends, 0, 1) && is_relayed(ends, 0, 1);
+    let sent = is_routed(ends, hand, 0, 1) && is_relayed(ends, hand, 0, 1);
     let first = is_applied(ends, hand, 0, &done);
-    let again = ends.repeat(0, 1, 1) == Reply::Repeated { number: 1 };
+    let again = is_repeated(ends, hand, 0, 1);
     let second = is_applied(ends, hand, 0, &Reply::Old { number: 1 });
     let submitted = reply == Reply::Submitted { k: 1 };
     submitted && sent && first && again && second
@@ -97,10 +103,10 @@ fn is_answered<H: Hand>(ends: &mut Ends, hand: &H, key: PackKey) -> bool {
         answer: Some(1),
     };
     let reply = ends.at(hand, 2, Step::Verify { party: 2, key });
-    let closed = is_closed(ends, 0, 1);
-    let sent = is_routed(ends, 2, 1) && is_relayed(ends, 2, 1);
+    let closed = is_closed(ends, hand, 0, 1);
+    let sent = is_routed(ends, hand, 2, 1) && is_relayed(ends, hand, 2, 1);
     let applied = is_applied(ends, hand, 2, &noted);
-    let back = is_routed(ends, 1, 2);
+    let back = is_routed(ends, hand, 1, 2);
     let asked = reply == Reply::Asked { q: 1 };
     asked && closed && sent && applied && back
 }
@@ -137,10 +143,33 @@ fn is_shown(outcome: &Outcome) -> bool {
         && outcome.hub().routed_count(2) == 1
 }
 
-/// What is gathered behind all of it, where it went so by such a hand.
-fn gathered<H: Hand>(alloc: Global, hand: &H) -> Option<Outcome> {
+/// What the row begins with.
+#[derive(Drop)]
+struct Beginning {
+    ends: Ends,
+    message: Shared<Message>,
+    key: PackKey,
+}
+
+/// The ends, opened, with the master and the pack; none where memory was refused.
+fn begun(alloc: Global) -> Option<Beginning> {
     let (message, key) = (master(alloc)?, pack()?);
-    let mut ends = opened(alloc)?;
+    let ends = opened(alloc)?;
+    Some(Beginning { ends, message, key })
+}
+
+/// The same, made again where memory was refused once.
+fn begun_at_last(alloc: Global) -> Option<Beginning> {
+    match begun(alloc) {
+        Some(beginning) => Some(beginning),
+        None => begun(alloc),
+    }
+}
+
+/// What is gathered behind all of it, where it went so by such a hand.
+fn gathered<H: Hand>(beginning: Option<Beginning>, hand: &H) -> Option<Outcome> {
+    let Beginning { ends, message, key } = beginning?;
+    let mut ends = ends;
     let launched = is_launched(&mut ends, hand, message);
     let answered = is_answered(&mut ends, hand, key);
     let outcome = ends.gather();
@@ -152,18 +181,23 @@ fn gathered<H: Hand>(alloc: Global, hand: &H) -> Option<Outcome> {
 }
 
 /// Whether all of it goes so.
-fn is_carried<H: Hand>(alloc: Global, hand: &H) -> bool {
-    gathered(alloc, hand).is_some_and(|outcome| is_recorded(&outcome) && is_shown(&outcome))
+fn is_carried<H: Hand>(beginning: Option<Beginning>, hand: &H) -> bool {
+    gathered(beginning, hand).is_some_and(|outcome| is_recorded(&outcome) && is_shown(&outcome))
 }
 
 #[test]
 fn carries_a_query_and_its_answer(rt: HostRuntime) {
-    assert!(rt; is_carried(rt.alloc(), &Here));
+    assert!(rt; is_carried(begun(rt.alloc()), &Here));
 }
 
 #[test]
 fn carries_them_with_each_call_in_a_thread(rt: HostRuntime) {
-    assert!(rt; is_carried(rt.alloc(), &Apart(&rt)));
+    assert!(rt; is_carried(begun(rt.alloc()), &Apart(&rt)));
+}
+
+#[test]
+fn carries_them_with_refused_calls_made_again(rt: HostRuntime) {
+    assert!(rt; is_carried(begun_at_last(rt.alloc()), &Again));
 }
 
 /// Whether the hub refuses calls for their own reasons.

@@ -1,4 +1,4 @@
-"""What tests share: they give a program an input, and look where what it writes is not what is expected."""
+"""What the random runs and the storms share: they give a program an input, and look where what it writes is not what is expected."""
 
 import subprocess
 import sys
@@ -32,18 +32,3 @@ def name_of(task, reply):
         return " ".join([where, reply["verdict"], str(reply.get("falsification", ""))]).strip()
     names = ("opened", "submitted", "asked", "routed", "relayed", "repeated", "old", "gap", "closed", "lost")
     return next(name for name in names if name in reply)
-
-
-def says_no_more(line, expected):
-    """Whether a line of a report has the words of another, and where that has a count at most that."""
-    entries, others = line.split(), expected.split()
-    if line[:10] != expected[:10] or len(entries) != len(others):
-        return False
-    return all(int(entry) <= int(other) if entry.isdigit() and other.isdigit() else entry == other for entry, other in zip(entries, others))
-
-
-def is_unfinished(report, expected):
-    """Whether a report ends by `unfinished`, and says nowhere more than another and somewhere less."""
-    *lines, end = report.splitlines() or [b""]
-    *others, _ = expected.splitlines()
-    return end == b"unfinished" and len(lines) == len(others) and lines != others and all(map(says_no_more, lines, others))

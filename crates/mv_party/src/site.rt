@@ -120,8 +120,7 @@ impl Site {
         ensures fault { FailsBy SiteFault.Memory (submit_fault uplink_full self.old message.now) result }
     {
         self.check(message.get(), uplink_full)?;
-        let k = self.put(message)?;
-        Ok(k)
+        Ok(self.put(message)?)
     }
 
     /// Submits a query of a pack, and answers its number among the submissions. Refused by [`Site::check_room`] or for want of
@@ -134,8 +133,7 @@ impl Site {
     {
         self.check_room(uplink_full)?;
         let query = Shared::new(self.alloc, Message::Query { key: key.copy() })?;
-        let q = self.put(&query)?;
-        Ok(q)
+        Ok(self.put(&query)?)
     }
 
     /// Takes a frame from a party: where it is the next, its item is applied, and the answer that this calls for is submitted,

@@ -19,7 +19,7 @@ use Rattle.mv_machine.specs.declared.step.Step.TheVariants.{Submit, Verify, Rout
 use Rattle.mv_machine.specs.declared.reply.Reply.{Reply}
 use Rattle.mv_machine.specs.Replies.{changes_nothing, takes_memory, wants_memory}
 use Rattle.mv_machine.specs.State.{State, is_party, are_parties, submissions_of, is_uplink_full, site_of, sent_of, wire_of, log_of, items_on, applied_count}
-use Rattle.mv_machine.specs.Steps.{Outcome, unless, submit, ask, verify_by, verify, verdict, is_full, route_unless, route_front, route, relay, apply_next, apply_by, apply_front, apply, is_unsent, is_gone, repeat, close, lose_front, lose, outcome}
+use Rattle.mv_machine.specs.Steps.{Answered, unless, submit, ask, verify_by, verify, verdict, is_full, route_unless, route_front, route, relay, apply_next, apply_by, apply_front, apply, is_unsent, is_gone, repeat, close, lose_front, lose, outcome}
 use Rattle.mv_machine.specs.Runs.{Meets, Allows}
 use Rattle.mv_machine.specs.Lawful.{IsLawful, IsWellFormed}
 use Rattle.mv_machine.specs.Headline.{Follows, HeadlineHolds}
@@ -49,17 +49,17 @@ headline-further first second third a b =
     headline first third a.began b.well_formed b.lawful (follows-further first second third a.follows b.follows)
 
 -- where the reply of an outcome says that nothing changed, nothing has
-abbrev IsUnchanged : State → Outcome → Type 0
+abbrev IsUnchanged : State → Answered → Type 0
 IsUnchanged st expected = IsTrue (changes_nothing expected.reply) → expected.state ≡ st
 
-either : (P : Outcome → Type 0) (b : Bool) (x y : Outcome) → P x → P y → P (cond b x y)
+either : (P : Answered → Type 0) (b : Bool) (x y : Answered) → P x → P y → P (cond b x y)
 either P true x y p q = p
 either P false x y p q = q
 
 no_such : {P : Type 0} → false ≡ true → P
 no_such said = absurd (true≢false (sym said))
 
-unless-unchanged : (fault : Option SiteFault) (st : State) (done : Outcome) → IsUnchanged st done → IsUnchanged st (unless fault st done)
+unless-unchanged : (fault : Option SiteFault) (st : State) (done : Answered) → IsUnchanged st done → IsUnchanged st (unless fault st done)
 unless-unchanged None st done there = there
 unless-unchanged (Some fault) st done there = λ _. refl
 
@@ -157,7 +157,7 @@ outcome-unchanged st (Lose from to) = lose-unchanged st from to
 outcome-unchanged st (Verdict party q) = verdict-unchanged st party q
 
 -- and where the outcome is met, want of memory included
-meets-unchanged : (old : State) (expected : Outcome) (reply : Reply) (new : State) → IsUnchanged old expected → Meets old expected reply new
+meets-unchanged : (old : State) (expected : Answered) (reply : Reply) (new : State) → IsUnchanged old expected → Meets old expected reply new
     → IsTrue (changes_nothing reply) → new ≡ old
 unfolding Meets
 meets-unchanged old expected reply new unchanged met said = by (wants_memory reply) met

@@ -35,7 +35,7 @@ use Rattle.mv_machine.specs.declared.reply.Reply.{Reply}
 use Rattle.mv_machine.specs.Limits.{Bounds}
 use Rattle.mv_machine.specs.Replies.{wants_memory}
 use Rattle.mv_machine.specs.State.{State, is_party, are_parties, submissions_of, is_uplink_full, site_of, with_site, sent_of, wire_of, log_of, items_on, applied_count, opening}
-use Rattle.mv_machine.specs.Steps.{Outcome, unless, submit, ask, verify_by, verify, verdict, next_entry, is_full, route_unless, route_front, route, relay, next_item, apply_next, apply_by, apply_front, apply, is_unsent, is_gone, repeat, close, lose_front, lose, outcome}
+use Rattle.mv_machine.specs.Steps.{Answered, unless, submit, ask, verify_by, verify, verdict, next_entry, is_full, route_unless, route_front, route, relay, next_item, apply_next, apply_by, apply_front, apply, is_unsent, is_gone, repeat, close, lose_front, lose, outcome}
 use Rattle.mv_machine.specs.Runs.{Meets, Allows, Runs}
 use Rattle.mv_machine.specs.Lawful.{Fits, NamesParties, IsLawful, IsWellFormed}
 use Rattle.mv_machine.proofs.PrefixLemmas.{prefix-grows, prefix-push}
@@ -47,7 +47,7 @@ pub record IsSound (st : State) : Type 0 where
   pub lawful : IsLawful st
 
 -- what holds of what both sides of a choice leave holds of what the choice leaves
-pub choose : (P : State → Type 0) (b : Bool) (x y : Outcome) → (b ≡ true → P x.state) → (b ≡ false → P y.state) → P (cond b x y).state
+pub choose : (P : State → Type 0) (b : Bool) (x y : Answered) → (b ≡ true → P x.state) → (b ≡ false → P y.state) → P (cond b x y).state
 choose P true x y f g = f refl
 choose P false x y f g = g refl
 
@@ -177,7 +177,7 @@ closed-sound st from to sound from_is_party to_is_party still_open =
     (λ party is_party. subst (λ l. IsPrefix l (submissions_of st party)) (sym (append-nil (routed_from st.entries party))) (routed_order st sound.lawful party is_party))
 
 -- what holds where a party refuses, and where it does not, holds of what the call leaves
-pub choose_unless : (P : State → Type 0) (fault : Option SiteFault) (st : State) (done : Outcome) → P st → (fault ≡ None → P done.state) → P (unless fault st done).state
+pub choose_unless : (P : State → Type 0) (fault : Option SiteFault) (st : State) (done : Answered) → P st → (fault ≡ None → P done.state) → P (unless fault st done).state
 choose_unless P None st done here there = there refl
 choose_unless P (Some fault) st done here there = here
 
@@ -323,7 +323,7 @@ either_way P true old new next X Y here there a = subst P (sym a.0) here
 either_way P false old new next X Y here there a = subst P (sym a.1) there
 
 -- what holds before, and of what an outcome leaves, holds where the outcome is met
-pub meets-case : (P : State → Type 0) (old : State) (expected : Outcome) (reply : Reply) (new : State) → Meets old expected reply new → P old → P expected.state → P new
+pub meets-case : (P : State → Type 0) (old : State) (expected : Answered) (reply : Reply) (new : State) → Meets old expected reply new → P old → P expected.state → P new
 unfolding Meets
 meets-case P old expected reply new met here there = either_way P (wants_memory reply) old new expected.state _ _ here there met
 

@@ -4,11 +4,11 @@ use Rattle.mv_machine.specs.declared.step.Step.{Step}
 use Rattle.mv_machine.specs.declared.reply.Reply.{Reply}
 use Rattle.mv_machine.specs.Replies.{takes_memory, wants_memory}
 use Rattle.mv_machine.specs.State.{State}
-use Rattle.mv_machine.specs.Steps.{Outcome, outcome}
+use Rattle.mv_machine.specs.Steps.{Answered, outcome}
 
 -- This reply and this state are those of an outcome; or, where what is done takes memory, the refusal for want of memory with
 -- nothing changed.
-unfoldable pub Meets : State → Outcome → Reply → State → Type 0
+unfoldable pub Meets : State → Answered → Reply → State → Type 0
 Meets old expected reply new =
     MatchBool (wants_memory reply)
     ((new ≡ old) × IsTrue (takes_memory expected.reply))

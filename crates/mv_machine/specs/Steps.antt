@@ -32,21 +32,21 @@ use Rattle.mv_machine.specs.Replies.{refusal_of}
 use Rattle.mv_machine.specs.State.{State, is_party, are_parties, submissions_of, is_uplink_full, sent_of, wire_of, log_of, items_on, applied_count, site_of, with_site, with_wire}
 
 -- a reply and the state that the step leaves
-pub record Outcome : Type 0 where
+pub record Answered : Type 0 where
   pub reply : Reply
   pub state : State
 
 -- a refused step changes nothing
-abbrev pub refused : Refusal → State → Outcome
+abbrev pub refused : Refusal → State → Answered
 refused refusal st = record { reply = Refused refusal; state = st }
 
 -- what a party does, unless it refuses that for a fault
-abbrev pub unless : Option SiteFault → State → Outcome → Outcome
+abbrev pub unless : Option SiteFault → State → Answered → Answered
 unless (Some fault) st done = refused (refusal_of fault) st
 unless None st done = done
 
 -- a party submits a message: it is the last of the party's submissions. Queries and answers are submitted by the system itself
-unfoldable pub submit : State → ℕ → Message → Outcome
+unfoldable pub submit : State → ℕ → Message → Answered
 submit st from message =
     if not (is_party st from) then refused Party st
     else unless (submit_fault (is_uplink_full st from) (site_of st from) message) st (record {
@@ -55,7 +55,7 @@ submit st from message =
     })
 
 -- a party asks the other repositories about a pack: the query is the last of its submissions
-unfoldable pub ask : State → ℕ → PackKey → Outcome
+unfoldable pub ask : State → ℕ → PackKey → Answered
 ask st party key =
     if not (is_party st party) then refused Party st
     else unless (ask_fault (is_uplink_full st party) (site_of st party)) st (record {
@@ -64,12 +64,12 @@ ask st party key =
     })
 
 -- a party verifies a pack, on which its own repository has this verdict: where it has none, the others are asked
-abbrev pub verify_by : State → ℕ → PackKey → Local → Outcome
+abbrev pub verify_by : State → ℕ → PackKey → Local → Answered
 verify_by st party key (KnownPack verdict) = record { reply = Known verdict; state = st }
 verify_by st party key Absent = ask st party key
 
 -- a party verifies a pack
-unfoldable pub verify : State → ℕ → PackKey → Outcome
+unfoldable pub verify : State → ℕ → PackKey → Answered
 verify st party key =
     if not (is_party st party) then refused Party st
     else verify_by st party key (local_verdict key (log_of st party))
@@ -86,7 +86,7 @@ is_full st from message to =
     + length (gained st.parties st.entries (next_entry st from message) from to))
 
 -- the hub routes a message unless a link is full, of which the least is named
-abbrev pub route_unless : State → ℕ → Message → Option ℕ → Outcome
+abbrev pub route_unless : State → ℕ → Message → Option ℕ → Answered
 route_unless st from message (Some to) = refused (Busy to) st
 route_unless st from message None = record {
   reply = Routed (routed_count st.entries from + 1) (reach st.parties st.entries from message);
@@ -94,19 +94,19 @@ route_unless st from message None = record {
 }
 
 -- the hub routes the front of an uplink, where there is one
-abbrev pub route_front : State → ℕ → Option Message → Outcome
+abbrev pub route_front : State → ℕ → Option Message → Answered
 route_front st from None = refused UplinkEmpty st
 route_front st from (Some message) =
     route_unless st from message (find (is_full st from message) (range_with_len 0 (length st.parties)))
 
 -- the hub routes the next message of a party
-unfoldable pub route : State → ℕ → Outcome
+unfoldable pub route : State → ℕ → Answered
 route st from =
     if not (is_party st from) then refused Party st
     else route_front st from (slice_get (submissions_of st from) (routed_count st.entries from))
 
 -- the next frame of a link goes on its wire
-unfoldable pub relay : State → ℕ → ℕ → Outcome
+unfoldable pub relay : State → ℕ → ℕ → Answered
 relay st from to =
     if not (are_parties st from to) then refused Party st
     else (if nat_le st.limits.wire (length (wire_of st from to)) then refused WireFull st
@@ -125,7 +125,7 @@ next_item st from to = slice_get (items_on st from to) (applied_count st from to
 
 -- a repository applies the member of the link that the next frame bears, and its party submits the answer that this calls for, if
 -- it does: both, or neither. A link always has that member; a frame of no member would be dropped, as one behind a gap is
-abbrev pub apply_next : State → ℕ → ℕ → ℕ → List ℕ → Option Item → Outcome
+abbrev pub apply_next : State → ℕ → ℕ → ℕ → List ℕ → Option Item → Answered
 apply_next st from to number rest (Some item) = unless (apply_fault (is_uplink_full st to) (site_of st to) from item look.Next) st (record {
   reply = Applied number (effect_of (log_of st to) (entry_from from item)) (answer_number (submissions_of st to) (answer_to (log_of st to) (entry_from from item)));
   state = with_wire (with_site st (with_applied (site_of st to) from item)) from to rest;
@@ -133,18 +133,18 @@ apply_next st from to number rest (Some item) = unless (apply_fault (is_uplink_f
 apply_next st from to number rest None = record { reply = Gap number number; state = with_wire st from to rest }
 
 -- a frame is taken that stands so: it is old, it is behind a gap, or it is the next
-abbrev pub apply_by : State → ℕ → ℕ → ℕ → List ℕ → Look → Outcome
+abbrev pub apply_by : State → ℕ → ℕ → ℕ → List ℕ → Look → Answered
 apply_by st from to number rest look.Old = record { reply = Old number; state = with_wire st from to rest }
 apply_by st from to number rest (look.Gap expected) = record { reply = Gap number expected; state = with_wire st from to rest }
 apply_by st from to number rest look.Next = apply_next st from to number rest (slice_get (items_on st from to) (number - 1))
 
 -- the frame in front of a wire is taken
-abbrev pub apply_front : State → ℕ → ℕ → List ℕ → Outcome
+abbrev pub apply_front : State → ℕ → ℕ → List ℕ → Answered
 apply_front st from to [] = refused WireEmpty st
 apply_front st from to (number ∷ rest) = apply_by st from to number rest (look_at (applied_count st from to) number)
 
 -- a repository takes the front frame of a link
-unfoldable pub apply : State → ℕ → ℕ → Outcome
+unfoldable pub apply : State → ℕ → ℕ → Answered
 apply st from to =
     if not (are_parties st from to) then refused Party st
     else apply_front st from to (wire_of st from to)
@@ -158,7 +158,7 @@ abbrev pub is_gone : State → ℕ → ℕ → ℕ → Bool
 is_gone st from to number = nat_le number (length (items_on st from to) - st.limits.window)
 
 -- a frame that was relayed, and whose item its link still keeps, goes on the wire again
-unfoldable pub repeat : State → ℕ → ℕ → ℕ → Outcome
+unfoldable pub repeat : State → ℕ → ℕ → ℕ → Answered
 repeat st from to number =
     if not (are_parties st from to) then refused Party st
     else (if nat_le st.limits.wire (length (wire_of st from to)) then refused WireFull st
@@ -167,31 +167,31 @@ repeat st from to number =
     else record { reply = Repeated number; state = with_wire st from to (wire_of st from to ++ number ∷ []) })))
 
 -- a link is closed: that goes into the record
-unfoldable pub close : State → ℕ → ℕ → Outcome
+unfoldable pub close : State → ℕ → ℕ → Answered
 close st from to =
     if not (are_parties st from to) then refused Party st
     else (if not (is_open st.entries from to) then refused AlreadyClosed st
     else record { reply = Closed; state = record st { entries = st.entries ++ ClosedEntry from to ∷ [] } })
 
 -- the frame in front of a wire is lost
-abbrev pub lose_front : State → ℕ → ℕ → List ℕ → Outcome
+abbrev pub lose_front : State → ℕ → ℕ → List ℕ → Answered
 lose_front st from to [] = refused WireEmpty st
 lose_front st from to (number ∷ rest) = record { reply = Lost number; state = with_wire st from to rest }
 
 -- the front frame of a link is lost
-unfoldable pub lose : State → ℕ → ℕ → Outcome
+unfoldable pub lose : State → ℕ → ℕ → Answered
 lose st from to =
     if not (are_parties st from to) then refused Party st
     else lose_front st from to (wire_of st from to)
 
 -- a party takes the verdict on a query of its own
-unfoldable pub verdict : State → ℕ → ℕ → Outcome
+unfoldable pub verdict : State → ℕ → ℕ → Answered
 verdict st party q =
     if not (is_party st party) then refused Party st
     else record { reply = JointVerdict (joint_verdict party (log_of st party) q); state = st }
 
 -- what a step answers and leaves where there is memory
-abbrev pub outcome : State → Step → Outcome
+abbrev pub outcome : State → Step → Answered
 outcome st (Submit from message) = submit st from message
 outcome st (Verify party key) = verify st party key
 outcome st (Route from) = route st from

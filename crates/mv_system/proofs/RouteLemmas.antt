@@ -17,7 +17,7 @@ use Rattle.mv_machine.specs.declared.reply.Reply.TheVariants.{Routed}
 use Rattle.mv_machine.specs.declared.reply.Refusal.TheVariants.{Party}
 use Rattle.mv_machine.specs.Replies.{takes_memory}
 use Rattle.mv_machine.specs.State.{State, is_party, submissions_of}
-use Rattle.mv_machine.specs.Steps.{Outcome, refused, is_full, route_unless, route_front, route}
+use Rattle.mv_machine.specs.Steps.{Answered, refused, is_full, route_unless, route_front, route}
 use Rattle.mv_machine.proofs.BoundLemmas.{routed_count-few}
 use Rattle.mv_system.specs.World.{Parts, state_of, IsSystem, RouteRefuses}
 use Rattle.mv_system.proofs.SystemLemmas.{submissions-few}
@@ -71,7 +71,7 @@ not_busy (Some to) e = absurd (cc)
 refuses : (st : State) (from : ℕ) (message : Message) (full : Option ℕ) (fault : RouteFault)
     → route st from ≡ route_unless st from message full → fault ≡ unwrap_or (busy_fault full) Memory → RouteRefuses st from fault st
 refuses st from message None fault row e =
-    subst (λ f. RouteRefuses st from f st) (sym e) (subst (λ (x : Outcome). IsTrue (takes_memory x.reply)) (sym row) refl, refl)
+    subst (λ f. RouteRefuses st from f st) (sym e) (subst (λ (x : Answered). IsTrue (takes_memory x.reply)) (sym row) refl, refl)
 refuses st from message (Some to) fault row e = subst (λ f. RouteRefuses st from f st) (sym e) (row, refl)
 
 -- the hub routes the message that waits as the row does
@@ -88,9 +88,9 @@ routes p from message new (Ok routed) k place next number reached ok fails =
     sym (busy_party_is_full p from message k place)
     ∙ not_busy (busy_party p.hub from message) (sym (route_fault-party p.hub from message party) ∙ fails) in
     route_waiting (state_of p) from message party next ∙ ap (route_unless (state_of p) from message) free
-    ∙ ap {A = ℕ} {B = Outcome} (λ k. record { reply = Routed k (reach p.hub.parties p.hub.entries from message); state = state_of (record p { hub = with_routed p.hub from message }) }) (sym number)
-    ∙ ap {A = List ℕ} {B = Outcome} (λ l. record { reply = Routed routed.0 l; state = state_of (record p { hub = with_routed p.hub from message }) }) (sym reached)
-    ∙ ap {A = HubState} {B = Outcome} (λ h. record { reply = Routed routed.0 routed.1; state = state_of (record p { hub = h }) }) (sym ok)
+    ∙ ap {A = ℕ} {B = Answered} (λ k. record { reply = Routed k (reach p.hub.parties p.hub.entries from message); state = state_of (record p { hub = with_routed p.hub from message }) }) (sym number)
+    ∙ ap {A = List ℕ} {B = Answered} (λ l. record { reply = Routed routed.0 l; state = state_of (record p { hub = with_routed p.hub from message }) }) (sym reached)
+    ∙ ap {A = HubState} {B = Answered} (λ h. record { reply = Routed routed.0 routed.1; state = state_of (record p { hub = h }) }) (sym ok)
 
 -- the hub refuses the message that waits as the row does
 pub route_refused : (p : Parts) (from : ℕ) (message : Message) (new : HubState) (result : Result (ℕ × List ℕ) RouteFault) → IsSystem p → from < length p.hub.parties

@@ -7,7 +7,6 @@ ghost use Rattle.mv_ends.specs.Outcome.{state_of};
 use crate::hub_end::HubEnd;
 use crate::outcome::Outcome;
 use crate::repo_end::RepoEnd;
-use mv_message::Party;
 
 /// Gathers all ends of one opening, the repositories in order of party, whatever their calls and however these followed one another:
 /// the outcome has the lists of the ends, unchanged, and is lawful. It takes no memory.

@@ -1,6 +1,6 @@
 //! The ends of one opening.
 
-ghost use Rattle.std.specs.Prelude.{◌≡◌, ◌≤◌, length, IfOk};
+ghost use Rattle.std.specs.Prelude.{◌≡◌, length, IfOk};
 ghost use Rattle.mv_ends.specs.Outlets.{ends_of};
 ghost use Rattle.mv_ends.specs.Rings.{AreJoined, IsUnused, IsUntaken};
 ghost use Rattle.mv_ends.specs.Whole.{AreEnds, AreFresh};

@@ -2,7 +2,7 @@
 use Rattle.std.proofs.Common.{◌≡◌, ◌≤◌, ◌<◌, ◌+◌, ℕ, List, [], ◌∷◌, ◌++◌, length, sym, ◌∙◌, ap, refl, subst, arith, Bool, true, false, cond, eqb, append-nil, Some, slice_index_or, length-append, ◌-◌, eqb-true}
 use Rattle.std.specs.List.{All}
 use Rattle.std.proofs.lemmas.List.Elements.{All-nil, All-cons, All-head, All-tail}
-use Rattle.std.proofs.lemmas.Bool.{eqb-false}
+use Rattle.std.proofs.lemmas.Bool.{eqb-false, lt-ltb}
 use Rattle.std.proofs.lemmas.Grind.{common_steps}
 use mathlib.Core.List.{IsPrefix}
 use Rattle.mv_message.specs.declared.message.Message.{Message}
@@ -14,13 +14,17 @@ use Rattle.mv_link.specs.Frames.{IsFrameOf}
 use Rattle.mv_hub.specs.declared.entry.Entry.{Entry}
 use Rattle.mv_hub.specs.declared.entry.Entry.TheVariants.{Routed, Closed}
 use Rattle.mv_hub.specs.Record.{routed_from, routed_count, is_open}
-use Rattle.std.specs.Prelude.{Option, None, Result, Ok, Err, OnOk, OnErr, nat_lt, not, ◌&&◌}
+use Rattle.std.specs.Prelude.{Option, None, Result, Ok, Err, OnOk, OnErr, nat_lt, not, ◌&&◌, unwrap_or}
 use Rattle.mv_hub.specs.declared.fault.HubFault.{HubFault}
 use Rattle.mv_hub.specs.declared.fault.HubFault.TheVariants as hub_fault
+use Rattle.mv_hub.specs.declared.fault.RouteFault.{RouteFault}
+use Rattle.mv_hub.specs.declared.fault.RouteFault.TheVariants as routing
 use Rattle.mv_link.specs.Fault.{FailsBy}
-use Rattle.mv_ends.specs.Refusals.{refusal_of, IsRefusedBy}
+use Rattle.mv_machine.specs.declared.reply.Reply.TheVariants.{Refused}
+use Rattle.mv_machine.specs.Replies.{hub_refusal_of, route_refusal_of}
+use Rattle.mv_ends.specs.Refusals.{IsRefusedBy}
 use Rattle.mv_hub.specs.Links.{gained}
-use Rattle.mv_hub.specs.Hub.{HubState, items_on, close_fault, with_closed}
+use Rattle.mv_hub.specs.Hub.{HubState, items_on, busy_party, busy_fault, route_fault, close_fault, with_closed}
 use Rattle.std.proofs.lemmas.Bool.Decides.{nat_tests}
 use Rattle.mv_hub.proofs.RecordLemmas.{routed_from-append, link_items-push}
 use Rattle.mv_machine.specs.Lawful.{IsLawfulRecord}
@@ -29,6 +33,8 @@ use Rattle.mv_machine.proofs.PartLemmas.{record-entered}
 use Rattle.mv_machine.proofs.PrefixLemmas.{slice_get-append}
 use Rattle.mv_ends.specs.declared.inlets.Inlets.{Inlets}
 use Rattle.mv_ends.specs.declared.wires.Wires.{Wires}
+use Rattle.mv_ends.specs.declared.hub_end.HubEnd.{HubEnd}
+use Rattle.mv_ends.specs.HubEnd.{hub_of, is_party, IsUnchanged, Routes}
 use Rattle.mv_ends.specs.Inlets.{starts_of, SameInlets, TakesNothing, Takes}
 use Rattle.mv_ends.specs.Outlets.{ends_of}
 use Rattle.mv_ends.specs.Wires.{outlets_of, wire_of, SameWires, PutsNoFrame, PutsFrame}
@@ -155,9 +161,22 @@ takes_after sender message first second third same nothing takes from absent bel
     takes from absent (subst (λ n. from < n) (sym same.0) below) ∙ ap (λ l. l ++ cond (eqb from sender) (message ∷ []) []) (nothing from absent below)
 
 -- a fault of the hub calls for its refusal
-pub refused_by : (expected : Option HubFault) (fault : HubFault) → FailsBy {A = Frame} hub_fault.Memory expected (Err fault) → IsRefusedBy expected (refusal_of fault)
-refused_by None fault e = ap refusal_of e
-refused_by (Some other) fault e = ap refusal_of e
+pub refused_by : (expected : Option HubFault) (fault : HubFault) → FailsBy {A = Frame} hub_fault.Memory expected (Err fault) → IsRefusedBy hub_refusal_of expected (hub_refusal_of fault)
+refused_by None fault e = ap hub_refusal_of e
+refused_by (Some other) fault e = ap hub_refusal_of e
+
+-- where the hub does not route a message of a party, the refusal is its fault's
+pub route_refused : (old new : HubEnd) (from : ℕ) (message : Message) (fault : RouteFault) → is_party old from → IsUnchanged old new
+    → FailsBy {A = ℕ × List ℕ} routing.Memory (route_fault (hub_of old) from message) (Err fault) → Routes from old new (Refused (route_refusal_of fault))
+unfolding route_fault
+route_refused old new from message fault party unchanged fails =
+    let busy = busy_fault (busy_party (hub_of old) from message) in
+    by (busy_party (hub_of old) from message) (ap (λ b. cond b busy (Some routing.StrangerParty)) (lt-ltb from (length (hub_of old).parties) party)) fails
+  where
+    by : (full : Option ℕ) → route_fault (hub_of old) from message ≡ busy_fault full → fault ≡ unwrap_or (route_fault (hub_of old) from message) routing.Memory
+        → Routes from old new (Refused (route_refusal_of fault))
+    by None is e = subst (λ f. Routes from old new (Refused (route_refusal_of f))) (sym (e ∙ ap (λ f. unwrap_or f routing.Memory) is)) (unchanged, party)
+    by (Some to) is e = subst (λ f. Routes from old new (Refused (route_refusal_of f))) (sym (e ∙ ap (λ f. unwrap_or f routing.Memory) is)) (unchanged, (message, is))
 
 -- the ends of the same rings are as many
 pub for_same : (count : ℕ) (old new : Wires) → SameWires old new → IsFor count old → IsFor count new

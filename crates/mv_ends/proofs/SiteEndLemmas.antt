@@ -21,11 +21,11 @@ use Rattle.mv_ends.specs.declared.inlets.Inlets.{Inlets}
 use Rattle.mv_ends.specs.Inlets.{starts_of, taken_of, SameInlets, TakesNothing, Takes}
 use Rattle.mv_ends.specs.Answering.{answer_by, stands_to}
 use Rattle.mv_ends.specs.Accepted.{AreAccepted}
-use Rattle.mv_ends.specs.RepoEnd.{IsRefusedFor}
+use Rattle.mv_ends.specs.Refusals.{IsRefusedBy}
 
 -- a fault of the party calls for its refusal
 pub refused_for : (A : Type 0) (expected : Option SiteFault) (fault : SiteFault) → FailsBy {A = A} site_fault.Memory expected (Err fault)
-    → IsRefusedFor expected (refusal_of fault)
+    → IsRefusedBy refusal_of expected (refusal_of fault)
 refused_for A None fault is = ap refusal_of is
 refused_for A (Some other) fault is = ap refusal_of is
 

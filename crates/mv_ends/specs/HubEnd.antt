@@ -11,6 +11,7 @@ use Rattle.mv_machine.specs.declared.reply.Reply.{Reply}
 use Rattle.mv_machine.specs.declared.reply.Reply.TheVariants.{Routed, Relayed, Repeated, Closed, Refused}
 use Rattle.mv_machine.specs.declared.reply.Refusal.{Refusal}
 use Rattle.mv_machine.specs.declared.reply.Refusal.TheVariants.{Party, UplinkEmpty, Busy, WireFull, Memory}
+use Rattle.mv_machine.specs.Replies.{hub_refusal_of}
 use Rattle.mv_ends.specs.declared.inlets.Inlets.{Inlets}
 use Rattle.mv_ends.specs.declared.wires.Wires.{Wires}
 use Rattle.mv_ends.specs.declared.hub_end.HubEnd.{HubEnd}
@@ -82,7 +83,7 @@ abbrev pub Relays : ℕ → ℕ → HubEnd → HubEnd → Reply → Type 0
 Relays from to old new (Relayed number) =
     PutsOf from to number old new × (hub_of new ≡ with_relayed (hub_of old) from to)
     × (number ≡ sent_of (hub_of old) from to + 1) × (relay_fault (hub_of old) from to ≡ None)
-Relays from to old new (Refused refusal) = IsUnchanged old new × (IsWireFull old from to refusal ⊎ IsRefusedBy (relay_fault (hub_of old) from to) refusal)
+Relays from to old new (Refused refusal) = IsUnchanged old new × (IsWireFull old from to refusal ⊎ IsRefusedBy hub_refusal_of (relay_fault (hub_of old) from to) refusal)
 Relays from to old new reply = ⊥
 
 -- what `repeat` leaves, by its reply: the frame that is put is the one that was asked for
@@ -90,7 +91,7 @@ abbrev pub Repeats : ℕ → ℕ → ℕ → HubEnd → HubEnd → Reply → Typ
 Repeats from to number old new (Repeated again) =
     PutsOf from to number old new × (hub_of new ≡ hub_of old) × (again ≡ number) × (repeat_fault (hub_of old) from to number ≡ None)
 Repeats from to number old new (Refused refusal) =
-    IsUnchanged old new × (IsWireFull old from to refusal ⊎ IsRefusedBy (repeat_fault (hub_of old) from to number) refusal)
+    IsUnchanged old new × (IsWireFull old from to refusal ⊎ IsRefusedBy hub_refusal_of (repeat_fault (hub_of old) from to number) refusal)
 Repeats from to number old new reply = ⊥
 
 -- what `close` leaves, by its reply
@@ -98,5 +99,5 @@ abbrev pub Closes : ℕ → ℕ → HubEnd → HubEnd → Reply → Type 0
 Closes from to old new Closed =
     (hub_of new ≡ with_closed (hub_of old) from to) × TakesNothing (uplinks_of old) (uplinks_of new)
     × PutsNoFrame (wires_of old) (wires_of new) × (close_fault (hub_of old) from to ≡ None)
-Closes from to old new (Refused refusal) = IsUnchanged old new × IsRefusedBy (close_fault (hub_of old) from to) refusal
+Closes from to old new (Refused refusal) = IsUnchanged old new × IsRefusedBy hub_refusal_of (close_fault (hub_of old) from to) refusal
 Closes from to old new reply = ⊥

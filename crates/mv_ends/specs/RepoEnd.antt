@@ -1,5 +1,5 @@
 -- What a contract sees of a repository's end, and what its calls leave, by their replies.
-use Rattle.std.specs.Prelude.{◌≡◌, ◌⊎◌, ℕ, ◌+◌, ◌<◌, List, [], ◌∷◌, ◌++◌, length, Bool, false, Option, Some, None, option_to_list}
+use Rattle.std.specs.Prelude.{◌≡◌, ◌⊎◌, ℕ, ◌+◌, ◌<◌, List, [], ◌∷◌, ◌++◌, length, Bool, false, None, option_to_list}
 use Rattle.rtrb.specs.Ring.{sent, SameProducer}
 use Rattle.mv_pack.specs.declared.key.PackKey.{PackKey}
 use Rattle.mv_message.specs.declared.message.Message.{Message}
@@ -7,17 +7,17 @@ use Rattle.mv_message.specs.declared.message.Message.TheVariants.{Query}
 use Rattle.mv_link.specs.declared.item.Frame.{Frame}
 use Rattle.mv_repository.specs.declared.verdict.Local.TheVariants.{Known as KnownPack, Absent}
 use Rattle.mv_repository.specs.Verdict.{local_verdict}
-use Rattle.mv_party.specs.declared.fault.SiteFault.{SiteFault}
 use Rattle.mv_party.specs.Site.{SiteState, with_submission}
 use Rattle.mv_party.specs.Calls.{ask_fault, submit_fault, apply_fault, taken_by, with_taken}
 use Rattle.mv_machine.specs.declared.reply.Reply.{Reply}
 use Rattle.mv_machine.specs.declared.reply.Reply.TheVariants.{Submitted, Known, Asked, Refused}
 use Rattle.mv_machine.specs.declared.reply.Refusal.{Refusal}
-use Rattle.mv_machine.specs.declared.reply.Refusal.TheVariants.{Party, WireEmpty, Memory}
+use Rattle.mv_machine.specs.declared.reply.Refusal.TheVariants.{Party, WireEmpty}
 use Rattle.mv_machine.specs.Replies.{refusal_of, reply_to}
 use Rattle.mv_ends.specs.declared.inlets.Inlets.{Inlets}
 use Rattle.mv_ends.specs.declared.repo_end.RepoEnd.{RepoEnd}
 use Rattle.mv_ends.specs.Answering.{answer_by, stands_to}
+use Rattle.mv_ends.specs.Refusals.{IsRefusedBy}
 use Rattle.mv_ends.specs.Inlets.{SameInlets, TakesNothing, Takes}
 
 -- the party of an end
@@ -46,11 +46,6 @@ pub record IsRepoUnchanged (old new : RepoEnd) : Type 0 where
   pub pushed : pushed_of new ≡ pushed_of old
   pub taken : TakesNothing (inlets_of old) (inlets_of new)
 
--- a call is refused for the fault that the party finds; where it finds none, for want of memory alone
-abbrev pub IsRefusedFor : Option SiteFault → Refusal → Type 0
-IsRefusedFor (Some fault) refusal = refusal ≡ refusal_of fault
-IsRefusedFor None refusal = refusal ≡ Memory
-
 -- The party submitted just this message, and just this was put on its uplink.
 pub record Puts (message : Message) (old new : RepoEnd) (number : ℕ) : Type 0 where
   pub site : site_of new ≡ with_submission (site_of old) message
@@ -61,13 +56,13 @@ pub record Puts (message : Message) (old new : RepoEnd) (number : ℕ) : Type 0 
 -- what `submit` leaves, by its reply: whether the uplink was full is for the ring to say
 abbrev pub Submits : Message → RepoEnd → RepoEnd → Reply → Type 0
 Submits message old new (Submitted k) = Puts message old new k × (submit_fault false (site_of old) message ≡ None)
-Submits message old new (Refused refusal) = IsRepoUnchanged old new × ((full : Bool) × IsRefusedFor (submit_fault full (site_of old) message) refusal)
+Submits message old new (Refused refusal) = IsRepoUnchanged old new × ((full : Bool) × IsRefusedBy refusal_of (submit_fault full (site_of old) message) refusal)
 Submits message old new reply = ⊥
 
 -- what `ask` leaves, by its reply
 abbrev pub Asks : PackKey → RepoEnd → RepoEnd → Reply → Type 0
 Asks key old new (Asked q) = Puts (Query key) old new q × (ask_fault false (site_of old) ≡ None)
-Asks key old new (Refused refusal) = IsRepoUnchanged old new × ((full : Bool) × IsRefusedFor (ask_fault full (site_of old)) refusal)
+Asks key old new (Refused refusal) = IsRepoUnchanged old new × ((full : Bool) × IsRefusedBy refusal_of (ask_fault full (site_of old)) refusal)
 Asks key old new reply = ⊥
 
 -- what `verify` leaves, by its reply
@@ -92,7 +87,7 @@ abbrev pub IsFrameRefused : ℕ → RepoEnd → Refusal → Type 0
 IsFrameRefused from end refusal =
     ((refusal ≡ Party) × (from < (site_of end).parties → ⊥))
     ⊎ ((refusal ≡ WireEmpty) × (from < (site_of end).parties))
-    ⊎ ((full : Bool) × (frame : Frame) × IsRefusedFor (apply_fault full (site_of end) from frame.item (stands_to (site_of end) from frame)) refusal)
+    ⊎ ((full : Bool) × (frame : Frame) × IsRefusedBy refusal_of (apply_fault full (site_of end) from frame.item (stands_to (site_of end) from frame)) refusal)
 
 -- no frame was taken, and the reply says why
 pub record RefusedFrame (from : ℕ) (old new : RepoEnd) (reply : Reply) : Type 0 where

@@ -7,10 +7,9 @@ ghost use Rattle.mv_ends.specs.Inlets.{starts_of};
 
 use crate::inlets::Inlets;
 use crate::parcel::{FrameParcel, MessageParcel};
-use crate::refusal::refusal_of;
 use crate::repo_end::RepoEnd;
 use crate::wires::Wires;
-use mv_hub::{Entry, Hub, RouteFault};
+use mv_hub::{Entry, Hub};
 use mv_machine::{Limits, Refusal, Reply};
 use mv_message::Party;
 use std::alloc::Global;
@@ -89,7 +88,7 @@ impl HubEnd {
     /// Answers `Routed`, or the first of these refusals that holds: S1, there is no such party; S5, no message of the party
     /// is there to be routed, or as many of its messages were routed as it may submit; S6, a link has no room; S14, memory was
     /// refused. S5 may be told though a message was just put on the uplink.
-    #[tactic(auto, using(crate::proofs::EndLemmas::of_links_entered, crate::proofs::EndLemmas::took_routed, crate::proofs::EndLemmas::took_same, crate::proofs::EndLemmas::within_routed, crate::proofs::EndLemmas::room_left, crate::proofs::EndLemmas::lawful_routed))]
+    #[tactic(auto, using(crate::proofs::EndLemmas::of_links_entered, crate::proofs::EndLemmas::took_routed, crate::proofs::EndLemmas::took_same, crate::proofs::EndLemmas::within_routed, crate::proofs::EndLemmas::room_left, crate::proofs::EndLemmas::lawful_routed, crate::proofs::EndLemmas::route_refused))]
     pub fn route(&mut self, from: Party) -> Reply
         ensures same { SameHubEnd self.old self.new }
         ensures reply { Routes from self.old self.new result }
@@ -108,8 +107,7 @@ impl HubEnd {
                 let _parcel = self.uplinks.take(from);
                 Reply::Routed { k, reach }
             }
-            Err(RouteFault::Busy(to)) => Reply::Refused(Refusal::Busy(to)),
-            Err(_) => Reply::Refused(Refusal::Memory),
+            Err(fault) => Reply::Refused(Refusal::from(fault)),
         }
     }
 
@@ -130,7 +128,7 @@ impl HubEnd {
         }
         let frame = match self.hub.next_frame(from, to) {
             Ok(frame) => frame,
-            Err(fault) => return Reply::Refused(refusal_of(fault)),
+            Err(fault) => return Reply::Refused(Refusal::from(fault)),
         };
         let Ok(parcel) = FrameParcel::of(self.alloc, &frame) else {
             return Reply::Refused(Refusal::Memory);
@@ -162,7 +160,7 @@ impl HubEnd {
         }
         let frame = match self.hub.repeat(from, to, number) {
             Ok(frame) => frame,
-            Err(fault) => return Reply::Refused(refusal_of(fault)),
+            Err(fault) => return Reply::Refused(Refusal::from(fault)),
         };
         let Ok(again) = FrameParcel::of(self.alloc, &frame) else {
             return Reply::Refused(Refusal::Memory);
@@ -181,7 +179,7 @@ impl HubEnd {
         ensures reply { Closes from to self.old self.new result }
     {
         if let Err(fault) = self.hub.close(from, to) {
-            return Reply::Refused(refusal_of(fault));
+            return Reply::Refused(Refusal::from(fault));
         }
         Reply::Closed
     }

@@ -15,7 +15,6 @@ mod opening;
 mod outcome;
 mod outlets;
 mod parcel;
-mod refusal;
 mod repo_end;
 mod wires;
 

@@ -1,5 +1,10 @@
--- The numbers by which replies name refusals, which faults of a party they answer, and where want of memory may stand in place of a reply.
+-- The numbers by which replies name refusals, which faults of a party and of the hub they answer, and where want of memory may stand in place
+-- of a reply.
 use Rattle.std.specs.Prelude.{ℕ, List, codes, Bool, true, false}
+use Rattle.mv_hub.specs.declared.fault.HubFault.{HubFault}
+use Rattle.mv_hub.specs.declared.fault.HubFault.TheVariants as hub
+use Rattle.mv_hub.specs.declared.fault.RouteFault.{RouteFault}
+use Rattle.mv_hub.specs.declared.fault.RouteFault.TheVariants as route
 use Rattle.mv_party.specs.declared.fault.SiteFault.{SiteFault}
 use Rattle.mv_party.specs.declared.fault.SiteFault.TheVariants as fault
 use Rattle.mv_party.specs.declared.taken.Taken.{Taken}
@@ -33,6 +38,24 @@ refusal_of fault.UplinkFull = UplinkFull
 refusal_of fault.SenderFull = SenderFull
 refusal_of fault.AnswerBusy = AnswerBusy
 refusal_of fault.Memory = Memory
+
+-- the refusal that a fault of the hub is answered by; those of making parties never come from a hub, and have no refusal of their own
+abbrev pub hub_refusal_of : HubFault → Refusal
+hub_refusal_of hub.NoParty = Memory
+hub_refusal_of hub.TooMany = Memory
+hub_refusal_of hub.ServedTwice = Memory
+hub_refusal_of hub.StrangerParty = Party
+hub_refusal_of hub.AlreadyClosed = AlreadyClosed
+hub_refusal_of hub.Memory = Memory
+hub_refusal_of hub.Nothing = Nothing
+hub_refusal_of hub.NotSent = NotSent
+hub_refusal_of hub.Gone = Gone
+
+-- the refusal that is answered where the hub does not route a message
+abbrev pub route_refusal_of : RouteFault → Refusal
+route_refusal_of route.StrangerParty = Party
+route_refusal_of (route.Busy to) = Busy to
+route_refusal_of route.Memory = Memory
 
 -- the reply to a frame of a number that was taken
 abbrev pub reply_to : ℕ → Taken → Reply

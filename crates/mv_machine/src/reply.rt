@@ -2,6 +2,7 @@
 
 ghost use Rattle.std.specs.Prelude.{◌≡◌};
 
+use mv_hub::{HubFault, RouteFault};
 use mv_link::Reach;
 use mv_message::Party;
 use mv_party::{SiteFault, Taken};
@@ -152,6 +153,41 @@ impl From<SiteFault> for Refusal {
             SiteFault::SenderFull => Refusal::SenderFull,
             SiteFault::AnswerBusy => Refusal::AnswerBusy,
             SiteFault::Memory => Refusal::Memory,
+        }
+    }
+}
+
+impl From<HubFault> for Refusal {
+    ghost use Rattle.std.specs.Prelude.{◌≡◌};
+    ghost use Rattle.mv_machine.specs.Replies.{hub_refusal_of};
+
+    ghost from_gives = { λ fault refusal. refusal ≡ hub_refusal_of fault };
+
+    fn from(fault: HubFault) -> Refusal {
+        match fault {
+            HubFault::StrangerParty => Refusal::Party,
+            HubFault::NotSent => Refusal::NotSent,
+            HubFault::Gone => Refusal::Gone,
+            HubFault::Nothing => Refusal::Nothing,
+            HubFault::AlreadyClosed => Refusal::AlreadyClosed,
+            // Nobody meets the first three at a hub: they come of making its parties.
+            HubFault::NoParty | HubFault::TooMany | HubFault::ServedTwice | HubFault::Memory =>
+                Refusal::Memory,
+        }
+    }
+}
+
+impl From<RouteFault> for Refusal {
+    ghost use Rattle.std.specs.Prelude.{◌≡◌};
+    ghost use Rattle.mv_machine.specs.Replies.{route_refusal_of};
+
+    ghost from_gives = { λ fault refusal. refusal ≡ route_refusal_of fault };
+
+    fn from(fault: RouteFault) -> Refusal {
+        match fault {
+            RouteFault::StrangerParty => Refusal::Party,
+            RouteFault::Busy(to) => Refusal::Busy(to),
+            RouteFault::Memory => Refusal::Memory,
         }
     }
 }

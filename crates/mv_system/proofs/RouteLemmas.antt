@@ -1,6 +1,6 @@
 -- The hub's routing against the row of the list machine.
 use Rattle.std.proofs.Common.{◌≡◌, ℕ, ◌+◌, ◌-◌, ◌<◌, Bool, true, false, List, [], ◌∷◌, length, cond, Some, None, Option, Ok, Err, sym, refl, ap, ◌∙◌, subst, arith}
-use Rattle.std.specs.Prelude.{slice_get, IsTrue, find, nat_lt, not, ◌||◌, ◌&&◌, unwrap_or, Result, IfOk, IfErr, OnOk, OnErr}
+use Rattle.std.specs.Prelude.{slice_get, find, nat_lt, not, ◌||◌, ◌&&◌, unwrap_or, Result, IfOk, IfErr, OnOk, OnErr}
 use Rattle.std.specs.List.{range_with_len}
 use Rattle.std.proofs.lemmas.Bool.{le-ltb, lt-ltb}
 use Rattle.mv_message.specs.declared.message.Message.{Message}
@@ -13,13 +13,14 @@ use Rattle.mv_link.specs.declared.limits.TheConstants.{NUMBER_LIMIT}
 use Rattle.mv_hub.specs.Targets.{reach}
 use Rattle.mv_hub.specs.Hub.{HubState, with_routed, sent_of, items_on, next_items, is_busy, busy_party, busy_fault, route_fault, close_fault}
 use Rattle.mv_hub.proofs.RecordLemmas.{link_items-few, gained-few}
-use Rattle.mv_machine.specs.declared.reply.Reply.TheVariants.{Routed}
+use Rattle.mv_machine.specs.declared.reply.Reply.TheVariants.{Routed, Refused}
 use Rattle.mv_machine.specs.declared.reply.Refusal.TheVariants.{Party}
-use Rattle.mv_machine.specs.Replies.{takes_memory}
+use Rattle.mv_machine.specs.Replies.{route_refusal_of}
+use Rattle.mv_machine.specs.Runs.{Meets}
 use Rattle.mv_machine.specs.State.{State, is_party, submissions_of}
 use Rattle.mv_machine.specs.Steps.{Answered, refused, is_full, route_unless, route_front, route}
 use Rattle.mv_machine.proofs.BoundLemmas.{routed_count-few}
-use Rattle.mv_system.specs.World.{Parts, state_of, IsSystem, RouteRefuses}
+use Rattle.mv_system.specs.World.{Parts, state_of, IsSystem}
 use Rattle.mv_system.proofs.SystemLemmas.{submissions-few}
 
 -- the row of a party with a message that waits
@@ -69,10 +70,14 @@ not_busy (Some to) e = absurd (cc)
 
 -- the hub's refusal is the row's
 refuses : (st : State) (from : ℕ) (message : Message) (full : Option ℕ) (fault : RouteFault)
-    → route st from ≡ route_unless st from message full → fault ≡ unwrap_or (busy_fault full) Memory → RouteRefuses st from fault st
+    → route st from ≡ route_unless st from message full → fault ≡ unwrap_or (busy_fault full) Memory → Meets st (route st from) (Refused (route_refusal_of fault)) st
+unfolding Meets
 refuses st from message None fault row e =
-    subst (λ f. RouteRefuses st from f st) (sym e) (subst (λ (x : Answered). IsTrue (takes_memory x.reply)) (sym row) refl, refl)
-refuses st from message (Some to) fault row e = subst (λ f. RouteRefuses st from f st) (sym e) (row, refl)
+    subst (λ (x : Answered). Meets st x (Refused (route_refusal_of fault)) st) (sym row)
+    (subst (λ f. Meets st (route_unless st from message None) (Refused (route_refusal_of f)) st) (sym e) (refl, refl))
+refuses st from message (Some to) fault row e =
+    subst (λ (x : Answered). Meets st x (Refused (route_refusal_of fault)) st) (sym row)
+    (subst (λ f. Meets st (route_unless st from message (Some to)) (Refused (route_refusal_of f)) st) (sym e) (refl, refl))
 
 -- the hub routes the message that waits as the row does
 pub routes : (p : Parts) (from : ℕ) (message : Message) (new : HubState) (result : Result (ℕ × List ℕ) RouteFault) → IsSystem p → from < length p.hub.parties
@@ -96,12 +101,12 @@ routes p from message new (Ok routed) k place next number reached ok fails =
 pub route_refused : (p : Parts) (from : ℕ) (message : Message) (new : HubState) (result : Result (ℕ × List ℕ) RouteFault) → IsSystem p → from < length p.hub.parties
     → slice_get (submissions_of (state_of p) from) (routed_count p.hub.entries from) ≡ Some message
     → OnErr result (new ≡ p.hub) → FailsBy Memory (route_fault p.hub from message) result
-    → IfErr result (λ fault. RouteRefuses (state_of p) from fault (state_of (record p { hub = new })))
+    → IfErr result (λ fault. Meets (state_of p) (route (state_of p) from) (Refused (route_refusal_of fault)) (state_of (record p { hub = new })))
 route_refused p from message new (Ok routed) k place next err fails = tt
 route_refused p from message new (Err fault) k place next err fails =
     let party : is_party (state_of p) from ≡ true = lt-ltb from (length p.hub.parties) place in
     let row = route_waiting (state_of p) from message party next ∙ ap (route_unless (state_of p) from message) (sym (busy_party_is_full p from message k place)) in
-    subst (λ (h : HubState). RouteRefuses (state_of p) from fault (state_of (record p { hub = h }))) (sym err)
+    subst (λ (h : HubState). Meets (state_of p) (route (state_of p) from) (Refused (route_refusal_of fault)) (state_of (record p { hub = h }))) (sym err)
     (refuses (state_of p) from message (busy_party p.hub from message) fault row
     (fails ∙ ap (λ f. unwrap_or f Memory) (route_fault-party p.hub from message party)))
 

@@ -1,29 +1,21 @@
 -- What the system is seen as, the state of the list machine, and what it keeps beside that.
-use Rattle.std.specs.Prelude.{◌≡◌, All, ◌<◌, ◌≤◌, ◌+◌, ◌-◌, ◌==◌, ℕ, List, [], ◌∷◌, length, map, slice_index_or, slice_get, IsTrue, Bool, true, false, Option, Some, Result, Ok, Err, IfOk, OnOk, OnErr, IsErrOf}
+use Rattle.std.specs.Prelude.{◌≡◌, All, ◌<◌, ◌≤◌, ◌+◌, ◌-◌, ℕ, List, length, map, slice_index_or, slice_get, Option, Some, Result, IfOk, OnOk, OnErr, IsErrOf}
 use Rattle.mv_message.specs.declared.message.Message.{Message}
 use Rattle.mv_link.specs.Frames.{IsFrameOf}
 use Rattle.mv_link.specs.declared.limits.TheConstants.{PARTIES_LIMIT}
 use Rattle.mv_pairs.specs.Pairs.{cell, IsSquare}
 use Rattle.mv_hub.specs.Hub.{HubState, items_on}
-use Rattle.mv_hub.specs.declared.fault.RouteFault.{RouteFault}
-use Rattle.mv_hub.specs.declared.fault.RouteFault.TheVariants.{StrangerParty, Busy, Memory}
 use Rattle.mv_link.specs.declared.item.Item.{Item}
 use Rattle.mv_link.specs.declared.incoming.Look.TheVariants.{Next}
 use Rattle.mv_party.specs.declared.fault.SiteFault.{SiteFault}
 use Rattle.mv_party.specs.declared.fault.SiteFault.TheVariants.{Memory as SiteMemory}
 use Rattle.mv_party.specs.declared.taken.Taken.{Taken}
-use Rattle.mv_party.specs.declared.taken.Taken.TheVariants.{Applied, Old, Gap}
 use Rattle.mv_party.specs.Site.{SiteState, new_site, with_submission}
 use Rattle.mv_link.specs.Fault.{FailsBy}
 use Rattle.mv_link.specs.Receiving.{look_at}
 use Rattle.mv_party.specs.Calls.{apply_fault, taken_by, with_taken}
-use Rattle.mv_machine.specs.declared.reply.Reply.{Reply}
-use Rattle.mv_machine.specs.declared.reply.Reply.TheVariants as reply
-use Rattle.mv_machine.specs.declared.reply.Refusal.TheVariants.{Busy as BusyLink}
 use Rattle.mv_machine.specs.Limits.{Bounds, AreBounds}
-use Rattle.mv_machine.specs.Replies.{takes_memory}
 use Rattle.mv_machine.specs.State.{State, submissions_of, is_uplink_full, wire_of, items_on as items_on_link, applied_count, site_of, with_site}
-use Rattle.mv_machine.specs.Steps.{refused, route}
 use Rattle.mv_machine.specs.Lawful.{IsLawful, IsWellFormed}
 use Rattle.mv_system.specs.Wire.{WireState, new_wire, numbers_of}
 
@@ -106,9 +98,3 @@ pub record TakesFront (old : State) (from to : ℕ) (result : Result Taken SiteF
   pub err : OnErr result (new ≡ old)
   pub fault : FailsBy SiteMemory (apply_fault (is_uplink_full old to) (site_of old to) from item (look_at (applied_count old from to) number)) result
   pub memory : IsErrOf result SiteMemory → look_at (applied_count old from to) number ≡ Next
-
--- the hub's refusal of the next message of a party is that of the list machine, and nothing changed
-abbrev pub RouteRefuses : State → ℕ → RouteFault → State → Type 0
-RouteRefuses old from StrangerParty new = ⊥
-RouteRefuses old from (Busy to) new = (route old from ≡ refused (BusyLink to) old) × (new ≡ old)
-RouteRefuses old from Memory new = IsTrue (takes_memory (route old from).reply) × (new ≡ old)

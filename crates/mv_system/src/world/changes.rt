@@ -11,8 +11,10 @@ ghost use Rattle.mv_hub.specs.Record.{routed_count};
 ghost use Rattle.mv_party.specs.Calls.{submit_fault, ask_fault};
 ghost use Rattle.mv_machine.specs.State.{is_party, are_parties, is_uplink_full, submissions_of, site_of, sent_of, wire_of, items_on, with_wire};
 ghost use Rattle.mv_machine.specs.Steps.{route};
-ghost use Rattle.mv_machine.specs.declared.reply.Reply.TheVariants.{Routed};
-ghost use Rattle.mv_system.specs.World.{RouteRefuses, Submits, TakesFront, hub_of};
+ghost use Rattle.mv_machine.specs.Replies.{route_refusal_of};
+ghost use Rattle.mv_machine.specs.Runs.{Meets};
+ghost use Rattle.mv_machine.specs.declared.reply.Reply.TheVariants.{Routed, Refused};
+ghost use Rattle.mv_system.specs.World.{Submits, TakesFront, hub_of};
 
 use crate::world::World;
 use mv_hub::{HubFault, RouteFault};
@@ -54,7 +56,7 @@ impl World {
         requires some { IsSome (slice_get (submissions_of self.old from) (routed_count self.old.entries from)) }
         ensures ok { IfOk result (λ routed. route self.old from
             ≡ record { reply = Routed routed.0 routed.1; state = self.new }) }
-        ensures err { IfErr result (λ fault. RouteRefuses self.old from fault self.new) }
+        ensures err { IfErr result (λ fault. Meets self.old (route self.old from) (Refused (route_refusal_of fault)) self.new) }
     {
         let place = self.hub.routed_count(from) as usize;
         let site = &self.sites[from as usize];

@@ -1,16 +1,13 @@
 //! The steps: each asks the readers and makes one change. No step opens a field.
 
-ghost use Rattle.std.specs.Prelude.{◌≡◌};
 ghost use Rattle.mv_machine.specs.Runs.{Meets, Allows};
 ghost use Rattle.mv_machine.specs.Steps.{ask};
 ghost use Rattle.mv_machine.specs.declared.step.Step.{Step as AStep};
 
 use crate::world::World;
-use mv_hub::{HubFault, RouteFault};
 use mv_machine::{Refusal, Reply, Step};
 use mv_message::{Message, Party, Shared};
 use mv_pack::PackKey;
-use mv_party::Taken;
 use mv_repository::Local;
 
 impl World {
@@ -83,8 +80,7 @@ impl World {
         }
         match self.put_routed(from) {
             Ok((k, reach)) => Reply::Routed { k, reach },
-            Err(RouteFault::Busy(to)) => Reply::Refused(Refusal::Busy(to)),
-            Err(_) => Reply::Refused(Refusal::Memory),
+            Err(fault) => Reply::Refused(Refusal::from(fault)),
         }
     }
 
@@ -100,8 +96,7 @@ impl World {
         }
         match self.put_relayed(from, to) {
             Ok(number) => Reply::Relayed { number },
-            Err(HubFault::Nothing) => Reply::Refused(Refusal::Nothing),
-            Err(_) => Reply::Refused(Refusal::Memory),
+            Err(fault) => Reply::Refused(Refusal::from(fault)),
         }
     }
 
@@ -136,9 +131,7 @@ impl World {
         }
         match self.put_repeated(from, to, number) {
             Ok(()) => Reply::Repeated { number },
-            Err(HubFault::NotSent) => Reply::Refused(Refusal::NotSent),
-            Err(HubFault::Gone) => Reply::Refused(Refusal::Gone),
-            Err(_) => Reply::Refused(Refusal::Memory),
+            Err(fault) => Reply::Refused(Refusal::from(fault)),
         }
     }
 
@@ -151,8 +144,7 @@ impl World {
         }
         match self.put_closed(from, to) {
             Ok(()) => Reply::Closed,
-            Err(HubFault::AlreadyClosed) => Reply::Refused(Refusal::AlreadyClosed),
-            Err(_) => Reply::Refused(Refusal::Memory),
+            Err(fault) => Reply::Refused(Refusal::from(fault)),
         }
     }
 

@@ -5,10 +5,11 @@ use Rattle.rtrb.specs.Ring.{sent}
 use Rattle.mv_party.specs.declared.taken.Taken.{Taken}
 use Rattle.mv_party.specs.Site.{SiteState}
 use Rattle.mv_machine.specs.declared.reply.Refusal.TheVariants.{Memory}
+use Rattle.mv_machine.specs.Replies.{refusal_of}
 use Rattle.mv_ends.specs.Inlets.{Takes}
 use Rattle.mv_ends.specs.Answering.{stands_to}
 use Rattle.mv_ends.specs.Accepted.{AreAccepted}
-use Rattle.mv_ends.specs.RepoEnd.{IsRefusedFor}
+use Rattle.mv_ends.specs.Refusals.{IsRefusedBy}
 use Rattle.mv_ends.proofs.SiteEndLemmas.{refused_for, submitted_by, accepted_taken, accepted_same}
 use Rattle.mv_ends.proofs.repo_end.RepoEnd.apply.Goals as goal
 
@@ -16,7 +17,7 @@ pub returns-in_default-clause-reply : goal.returns-in_default-clause-reply
 returns-in_default-clause-reply c = inr (record {
   refusal = Memory;
   unchanged = search rules;
-  why = inr (inr (c.is_full-full.result, c.frame-frame.result.now, subst (λ o. IsRefusedFor o Memory) (sym c.in_default.ensures.free) refl));
+  why = inr (inr (c.is_full-full.result, c.frame-frame.result.now, subst (λ o. IsRefusedBy refusal_of o Memory) (sym c.in_default.ensures.free) refl));
   reply_is = refl;
 })
 
@@ -24,7 +25,7 @@ pub returns-in-Err-clause-reply : goal.returns-in-Err-clause-reply
 returns-in-Err-clause-reply c = inr (record {
   refusal = c.from.result;
   unchanged = search rules;
-  why = inr (inr (c.is_full-full.result, c.frame-frame.result.now, subst (IsRefusedFor _) (sym c.from.ensures) (refused_for Taken _ c.in-Err.fault c.in-Err.ensures.fault)));
+  why = inr (inr (c.is_full-full.result, c.frame-frame.result.now, subst (IsRefusedBy refusal_of _) (sym c.from.ensures) (refused_for Taken _ c.in-Err.fault c.in-Err.ensures.fault)));
   reply_is = refl;
 })
 

@@ -7,10 +7,12 @@ use Rattle.mv_hub.specs.Record.{routed_count}
 use Rattle.mv_hub.specs.Hub.{next_entry, with_routed}
 use Rattle.mv_party.specs.Site.{SiteState}
 use Rattle.mv_machine.specs.State.{State, submissions_of}
-use Rattle.mv_machine.specs.declared.reply.Reply.TheVariants.{Routed}
+use Rattle.mv_machine.specs.declared.reply.Reply.TheVariants.{Routed, Refused}
+use Rattle.mv_machine.specs.Replies.{route_refusal_of}
+use Rattle.mv_machine.specs.Runs.{Meets}
 use Rattle.mv_machine.specs.Steps.{route}
 use Rattle.mv_machine.proofs.LawfulLemmas.{routed-sound}
-use Rattle.mv_system.specs.World.{Parts, parts_of, state_of, RouteRefuses}
+use Rattle.mv_system.specs.World.{Parts, parts_of, state_of}
 use Rattle.mv_system.proofs.SystemLemmas.{sound_of, party-place, site_facts, entered_kept, entries-short, hub_kept}
 use Rattle.mv_system.proofs.RouteLemmas.{routes, route_refused}
 use Rattle.mv_system.proofs.world.World.put_routed.Goals as goal
@@ -56,5 +58,5 @@ returns-clause-ok c =
 pub returns-clause-err : goal.returns-clause-err
 returns-clause-err c =
     let p = parts c in
-    subst (λ (t : State). IfErr c.route.result (λ fault. RouteRefuses t c.args.from fault (state_of (record p { hub = c.route.new.self })))) c.self.view_is
+    subst (λ (t : State). IfErr c.route.result (λ fault. Meets t (route t c.args.from) (Refused (route_refusal_of fault)) (state_of (record p { hub = c.route.new.self })))) c.self.view_is
     (route_refused p c.args.from c.in-Some.message.now c.route.new.self c.route.result c.self.invariant (place c) (waits c) c.route.ensures.err c.route.ensures.fault)

@@ -125,6 +125,27 @@ fn start_repos<'s, E, R: Wait + Sync, G: Gate>(
     Some(handles)
 }
 
+/// Starts a worker for the hub and one for each repository. None where one can't be started.
+fn start_crew<'s, E, R: Wait + Sync, G: Gate>(
+    scope: &Scope<'s, E>,
+    rt: &'s R,
+    alloc: Global,
+    hub: HubEnd,
+    repos: Vec<RepoEnd>,
+    work: &'s [Vec<Shared<Message>>],
+    gate: &'s G,
+    course: &'s Course,
+) -> Option<(HubHandle, Vec<RepoHandle<'s>>)>
+    requires each { vec_len repos ≡ length work.now }
+    requires unused { AllUnused repos.items }
+    ensures { IfSome result (λ handles. (handles.0.promise.0.value ≡ hub)
+        × AllPromised repos.items work.entry.now handles.1.items) }
+{
+    let repos = start_repos(scope, rt, alloc, repos, work, gate, course)?;
+    let hub = start_hub(scope, rt, hub, course)?;
+    Some((hub, repos))
+}
+
 /// Joins the repositories' workers, in order. The flag says whether one ended for want of memory.
 fn join_repos<'s, R: Threads>(
     rt: &R,
@@ -166,11 +187,8 @@ pub(crate) fn work_in<'s, E, R: Threads + Wait + Sync, G: Gate>(
     if back.reserve(repos.len()).is_err() {
         return None;
     }
-    let Some(handles) = start_repos(scope, rt, alloc, repos, work, gate, course) else {
-        course.start.end(rt);
-        return None;
-    };
-    let Some(handle) = start_hub(scope, rt, hub, course) else {
+    let Some((handle, handles)) = start_crew(scope, rt, alloc, hub, repos, work, gate, course)
+    else {
         course.start.end(rt);
         return None;
     };

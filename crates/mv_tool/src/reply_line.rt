@@ -51,7 +51,10 @@ pub fn reply_text(alloc: Global, reply: &Reply) -> Result<String, AllocError>
 {
     let mut writer = Writer::new(Vec::new(alloc));
     reply.write(&mut writer)?;
-    Ok(unsafe { String::from_utf8_unchecked(writer.into_inner()) })
+    let Ok(text) = String::from_utf8(writer.into_inner()) else {
+        unreachable!();
+    };
+    Ok(text)
 }
 
 /// The reply to a step.

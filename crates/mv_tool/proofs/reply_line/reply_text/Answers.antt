@@ -5,6 +5,6 @@ use Rattle.mv_tool.proofs.reply_line.reply_text.Goals as goal
 
 pub returns : goal.returns
 returns c =
-    ap (λ v. v.items) c.from_utf8_unchecked.ensures.value ∙ c.into_inner.ensures.items
+    ap (λ v. v.items) c.in-Ok.ensures.ok ∙ c.into_inner.ensures.items
     ∙ ap (λ l. l ++ print c.write.new.writer.tokens) (c.in_ok-write.ensures.before ∙ c.new-writer.ensures.before ∙ c.new.ensures.items)
     ∙ text_written _ _ (rw c.new-writer.ensures.tokens at c.in_ok-write.ensures.added)

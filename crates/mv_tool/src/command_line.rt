@@ -106,6 +106,7 @@ pub fn command<H: Threads + Wait + Sync, R: Read, W: Write, F: Write>(
     ensures unread { AreNotTaken (map string_bytes words.items)
         → Keeps (R.remaining reader.old) (R.remaining reader.new) }
     ensures unwritten { result ≡ 2 → Keeps (W.contents writer.old) (W.contents writer.new) }
+    ensures quiet { result ≡ 0 → Keeps (F.contents faults.old) (F.contents faults.new) }
 {
     run(rt, alloc, words.as_slice(), reader, writer, faults).code()
 }
@@ -133,6 +134,7 @@ fn run<H: Threads + Wait + Sync, R: Read, W: Write, F: Write>(
         → Keeps (R.remaining reader.old) (R.remaining reader.new) }
     ensures unwritten { result ≡ Status.Refused
         → Keeps (W.contents writer.old) (W.contents writer.new) }
+    ensures quiet { result ≡ Status.Done → Keeps (F.contents faults.old) (F.contents faults.new) }
 {
     match task_of(alloc, words) {
         Ok(Some(Task::Steps)) => status_of(serve_last(alloc, reader, writer), faults),
@@ -229,6 +231,7 @@ fn explain<W: Write, F: Write>(
     ensures mistaken { IsMistake (kind_of error.now) → result ≡ Status.Refused }
     ensures unwritten { result ≡ Status.Refused
         → Keeps (W.contents writer.old) (W.contents writer.new) }
+    ensures quiet { result ≡ Status.Done → Keeps (F.contents faults.old) (F.contents faults.new) }
 {
     if error.use_stderr() {
         let _ = write!(faults, "{error}");
@@ -248,9 +251,10 @@ fn explain<W: Write, F: Write>(
 
 /// The status of a run of `work` that has ended.
 fn status_of_work<F: Write>(ended: Result<bool, ServeFault>, faults: &mut F) -> Status
-    ensures { MatchResult ended
+    ensures status { MatchResult ended
         (λ finished. result ≡ (if finished then Status.Done else Status.Failed))
         (λ _. result ≡ Status.Failed) }
+    ensures quiet { result ≡ Status.Done → Keeps (F.contents faults.old) (F.contents faults.new) }
 {
     match ended {
         Ok(true) => Status::Done,
@@ -261,7 +265,8 @@ fn status_of_work<F: Write>(ended: Result<bool, ServeFault>, faults: &mut F) -> 
 
 /// The status of a run that has ended. A fault is told by its number.
 fn status_of<F: Write>(ended: Result<(), ServeFault>, faults: &mut F) -> Status
-    ensures { MatchResult ended (λ _. result ≡ Status.Done) (λ _. result ≡ Status.Failed) }
+    ensures status { MatchResult ended (λ _. result ≡ Status.Done) (λ _. result ≡ Status.Failed) }
+    ensures quiet { result ≡ Status.Done → Keeps (F.contents faults.old) (F.contents faults.new) }
 {
     match ended {
         Ok(()) => Status::Done,

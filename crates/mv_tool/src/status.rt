@@ -8,7 +8,8 @@ ghost use Rattle.mv_tool.specs.Statuses.{status_code};
 pub enum Status {
     /// 0: what was asked for is done, help included.
     Done,
-    /// 1: the run ended early, and its fault stands on standard error.
+    /// 1: the run ended early, by a fault that stands on standard error, or the plan of `work` was not finished, as its
+    /// report says.
     Failed,
     /// 2: the command line was refused, and the reason stands on standard error.
     Refused,

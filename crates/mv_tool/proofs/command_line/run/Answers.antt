@@ -4,12 +4,12 @@ use Rattle.mv_tool.proofs.command_line.run.Goals as goal
 
 -- steps were answered
 pub returns-in-Ok-Some-Steps-clause-steps : goal.returns-in-Ok-Some-Steps-clause-steps
-returns-in-Ok-Some-Steps-clause-steps g c asks = ran_lines _ _ _ _ _ _ c.serve_last.result _ c.status_of.ensures c.serve_last.ensures.ok c.serve_last.ensures.err
+returns-in-Ok-Some-Steps-clause-steps g c asks = ran_lines _ _ _ _ _ _ c.serve_last.result _ c.status_of.ensures.status c.serve_last.ensures.ok c.serve_last.ensures.err
 
 -- messages were answered
 pub returns-in-Ok-Some-Canon-clause-canon : goal.returns-in-Ok-Some-Canon-clause-canon
 returns-in-Ok-Some-Canon-clause-canon g c asks =
-    ran_lines _ _ _ _ _ _ c.canon.result _ c.status_of-in-Ok-Some-Canon.ensures (some_after c.canon.result _ _ _ c.canon.ensures.ok) c.canon.ensures.err
+    ran_lines _ _ _ _ _ _ c.canon.result _ c.status_of-in-Ok-Some-Canon.ensures.status (some_after c.canon.result _ _ _ c.canon.ensures.ok) c.canon.ensures.err
 
 -- other words name another task
 pub returns-in-Ok-Some-Steps-clause-work : goal.returns-in-Ok-Some-Steps-clause-work
@@ -34,7 +34,7 @@ returns-in-Err-clause-work g c turns asks =
 -- a plan was carried out
 pub returns-in-Ok-Some-Work-clause-work : goal.returns-in-Ok-Some-Work-clause-work
 returns-in-Ok-Some-Work-clause-work g c turns asks =
-    ran_work c.work.result _ _ _ _ _ c.status_of_work.ensures c.work.ensures.ok c.work.ensures.err
+    ran_work c.work.result _ _ _ _ _ c.status_of_work.ensures.status c.work.ensures.ok c.work.ensures.err
 
 -- the words are mistaken
 pub returns-in-Err-clause-mistaken : goal.returns-in-Err-clause-mistaken

@@ -1,5 +1,5 @@
 -- The words that the command line takes, and what they name.
-use Rattle.std.proofs.Common.{◌≡◌, ◌<◌, ◌==◌, ◌+◌, ◌-◌, ℕ, zero, suc, Bool, List, [], ◌∷◌, ◌++◌, codes, true, false, if◌then◌else◌, None, Some, refl, ap, ◌∙◌, option_map, ◌⊎◌, inl, inr, MatchResult, OnOk, IfOk, IfErr, IfSome, Result, Ok, Err, rules, arith, sym, subst}
+use Rattle.std.proofs.Common.{◌≡◌, ◌<◌, ◌==◌, ◌+◌, ◌-◌, ℕ, zero, suc, Bool, List, [], ◌∷◌, ◌++◌, codes, true, false, if◌then◌else◌, None, Some, refl, ap, ◌∙◌, option_map, ◌⊎◌, inl, inr, MatchResult, OnOk, IfOk, IfErr, IfSome, Result, Ok, Err, rules, arith, subst}
 use Rattle.std.specs.Prelude.{⊤, pos, unwrap_or}
 use Rattle.std.specs.Char.{digit_value}
 use Rattle.std.specs.Str.Parse.{ParsesUnsigned, digits_value}
@@ -16,7 +16,7 @@ use Rattle.clap.specs.declared.parser.matches.ValueSource.TheVariants.{CommandLi
 use Rattle.clap.specs.declared.parser.matches.Found.{Found}
 use Rattle.clap.proofs.WalkLemmas.{one_text-rows}
 use Rattle.clap.proofs.ValueTestLemmas.{Accepts-accepts}
-use Rattle.clap.specs.Words.{App, HasMatchesOf, ReadsOne, Row, one_of, one_text, rows_of, takes, is_simple, subcommand_of, is_simple_and_free, subcommand_name_of, subcommand_rows_of, subcommand_rows, fault_of}
+use Rattle.clap.specs.Words.{App, HasMatchesOf, ReadsOne, Row, one_of, one_text, rows_of, is_simple, subcommand_of, is_simple_and_free, subcommand_name_of, subcommand_rows_of, subcommand_rows, fault_of}
 use Rattle.std.specs.Box.{box_value}
 use Rattle.clap.specs.declared.parser.matches.ArgMatches.{ArgMatches}
 use Rattle.clap.specs.declared.parser.matches.ArgMatches.TheViews.{out-ArgMatches, out-SubCommand}
@@ -28,7 +28,7 @@ use Rattle.mv_tool.specs.declared.fault.ServeFault.{ServeFault}
 use Rattle.mv_tool.specs.declared.status.Status.{Status}
 use Rattle.mv_tool.specs.declared.status.Status.TheVariants.{Done, Failed}
 use Rattle.mv_tool.specs.Canon.{IsCanon}
-use Rattle.mv_tool.specs.Commands.{command_line, AsksFor, AsksForWork, GiveTurns, IsMistake, RanLines, RanWork, WritesTurns}
+use Rattle.mv_tool.specs.Commands.{command_line, GiveTurns, IsMistake, NameAsks, OptionAsks, RanLines, RanWork, WritesTurns}
 use Rattle.mv_tool.specs.Replies.{ReplyRule}
 use Rattle.mv_tool.specs.Served.{Served, Ended}
 use Rattle.mv_tool.specs.Working.{Worked, Failed as WorkFailed}
@@ -55,6 +55,15 @@ pub faultless : (line : App) (words : List (List ℕ)) → line ≡ command_line
     → (is_simple_and_free line ≡ true → fault_of line words ≡ []) → fault_of command_line words ≡ []
 faultless line words is taken = (rw is at taken) line_free
 
+-- a parse of words that have no fault fails only for want of memory
+pub wanting : (line : App) (words : List (List ℕ)) (kind : ErrorKind) → line ≡ command_line → fault_of command_line words ≡ []
+    → (is_simple_and_free line ≡ true → (kind ≡ OutOfMemory) ⊎ IsAmong kind (fault_of line words)) → kind ≡ OutOfMemory
+wanting line words kind is none kinds =
+    elim (subst (λ kinds. (kind ≡ OutOfMemory) ⊎ IsAmong kind kinds) none ((rw is at kinds) line_free)) [
+      | inl memory ↦ memory
+      | inr among ↦ absurd among
+    ]
+
 -- the subcommand that a parse met, with its matches, is that of the words
 pub rows_named : (line : App) (words : List (List ℕ)) (m : ArgMatches) → line ≡ command_line → HasMatchesOf line words m
     → subcommand_rows_of m ≡ subcommand_of command_line words
@@ -67,7 +76,7 @@ named line words m is matches =
     name_of_rows m ∙ ap (option_map (λ p. p.0)) (rows_named line words m is matches)
 
 -- the command line takes the word `steps`
-steps_taken : (program : List ℕ) → takes command_line (program ∷ codes "steps" ∷ []) ≡ true
+steps_taken : (program : List ℕ) → fault_of command_line (program ∷ codes "steps" ∷ []) ≡ []
 unfolding clap_on_literals
 steps_taken program = refl
 
@@ -77,7 +86,7 @@ unfolding clap_on_literals
 steps_met program = refl
 
 -- the command line takes the word `canon`
-canon_taken : (program : List ℕ) → takes command_line (program ∷ codes "canon" ∷ []) ≡ true
+canon_taken : (program : List ℕ) → fault_of command_line (program ∷ codes "canon" ∷ []) ≡ []
 unfolding clap_on_literals
 canon_taken program = refl
 
@@ -137,14 +146,14 @@ Passes d ds = accepts false (Signed (pos 0) (pos 4294967295)) (d ∷ ds) ≡ tru
 
 -- the command line takes the words of `work`
 work_taken : (program : List ℕ) (ds : List ℕ) (d : ℕ) → digit_value d < 10 → Passes d ds
-    → takes command_line (work_words program (d ∷ ds)) ≡ true
+    → fault_of command_line (work_words program (d ∷ ds)) ≡ []
 unfolding clap_on_literals
-work_taken program ds = by_digit (λ d. Passes d ds → takes command_line (work_words program (d ∷ ds)) ≡ true)
+work_taken program ds = by_digit (λ d. Passes d ds → fault_of command_line (work_words program (d ∷ ds)) ≡ [])
     (λ e. rw e refl) (λ e. rw e refl) (λ e. rw e refl) (λ e. rw e refl) (λ e. rw e refl)
     (λ e. rw e refl) (λ e. rw e refl) (λ e. rw e refl) (λ e. rw e refl) (λ e. rw e refl)
 
 -- the matches of `work`: its option with this value
-abbrev pub turns_rows : List ℕ → List Row
+abbrev turns_rows : List ℕ → List Row
 turns_rows text = record {
   id = codes "turns";
   values = text ∷ [];
@@ -161,7 +170,7 @@ work_met program ds = by_digit (λ d. subcommand_of command_line (work_words pro
     refl refl refl refl refl refl refl refl refl refl
 
 -- the same where the option is one word
-joined_taken : (program : List ℕ) (ds : List ℕ) (d : ℕ) → Passes d ds → takes command_line (joined_words program (d ∷ ds)) ≡ true
+joined_taken : (program : List ℕ) (ds : List ℕ) (d : ℕ) → Passes d ds → fault_of command_line (joined_words program (d ∷ ds)) ≡ []
 unfolding clap_on_literals
 joined_taken program ds d passes = rw passes refl
 
@@ -170,28 +179,22 @@ joined_met : (program : List ℕ) (ds : List ℕ) (d : ℕ)
 unfolding clap_on_literals
 joined_met program ds d = refl
 
--- the same of words that ask for it
-pub steps_passes : (line : App) (words : List (List ℕ)) → line ≡ command_line → AsksFor (codes "steps") words → takes line words ≡ true
-steps_passes line words is (program, e) = rw (is, e) (steps_taken program)
+-- so the program's name and one of these words ask for it
+pub steps_asks : NameAsks (codes "steps")
+steps_asks program = (steps_taken program, steps_met program)
 
-pub steps_named : (words : List (List ℕ)) → AsksFor (codes "steps") words → option_map (λ p. p.0) (subcommand_of command_line words) ≡ Some (codes "steps")
-steps_named words (program, e) = rw e (steps_met program)
-
-pub canon_passes : (line : App) (words : List (List ℕ)) → line ≡ command_line → AsksFor (codes "canon") words → takes line words ≡ true
-canon_passes line words is (program, e) = rw (is, e) (canon_taken program)
-
-pub canon_named : (words : List (List ℕ)) → AsksFor (codes "canon") words → option_map (λ p. p.0) (subcommand_of command_line words) ≡ Some (codes "canon")
-canon_named words (program, e) = rw e (canon_met program)
+pub canon_asks : NameAsks (codes "canon")
+canon_asks program = (canon_taken program, canon_met program)
 
 -- the command line takes the words of `work`, however its option is given
 given_taken : (program text : List ℕ) (option : List (List ℕ)) (turns : ℕ) → WritesTurns turns text → GiveTurns text option
-    → takes command_line (program ∷ codes "work" ∷ option) ≡ true
+    → fault_of command_line (program ∷ codes "work" ∷ option) ≡ []
 given_taken program [] option turns writes gives = absurd (omega (arith, writes.0.0))
 given_taken program (d ∷ ds) option turns writes (inl two) =
-    ap (λ words. takes command_line (program ∷ codes "work" ∷ words)) two
+    ap (λ words. fault_of command_line (program ∷ codes "work" ∷ words)) two
     ∙ work_taken program ds d writes.0.1.0 (turns_pass turns (d ∷ ds) writes)
 given_taken program (d ∷ ds) option turns writes (inr one) =
-    ap (λ words. takes command_line (program ∷ codes "work" ∷ words)) one ∙ joined_taken program ds d (turns_pass turns (d ∷ ds) writes)
+    ap (λ words. fault_of command_line (program ∷ codes "work" ∷ words)) one ∙ joined_taken program ds d (turns_pass turns (d ∷ ds) writes)
 
 -- and that is the subcommand
 given_met : (program text : List ℕ) (option : List (List ℕ)) (turns : ℕ) → WritesTurns turns text → GiveTurns text option
@@ -202,20 +205,21 @@ given_met program (d ∷ ds) option turns writes (inl two) =
 given_met program (d ∷ ds) option turns writes (inr one) =
     ap (λ words. subcommand_of command_line (program ∷ codes "work" ∷ words)) one ∙ joined_met program ds d
 
-pub work_passes : (turns : ℕ) (line : App) (words : List (List ℕ)) → line ≡ command_line → AsksForWork turns words → takes line words ≡ true
-work_passes turns line words is (program, text, option, writes, gives, e) =
-    subst (λ given. takes line given ≡ true) (sym e)
-    (subst (λ app. takes app (program ∷ codes "work" ∷ option) ≡ true) (sym is) (given_taken program text option turns writes gives))
-
-pub work_named : (turns : ℕ) (words : List (List ℕ)) (asks : AsksForWork turns words)
-    → subcommand_of command_line words ≡ Some (codes "work", turns_rows asks.1)
-work_named turns words (program, text, option, writes, gives, e) =
-    ap (subcommand_of command_line) e ∙ given_met program text option turns writes gives
-
 -- the number of turns is read as it is written
-pub work_turns : (turns : ℕ) (text : List ℕ) → WritesTurns turns text → one_of (codes "turns") (turns_rows text) ≡ Some text
+work_turns : (turns : ℕ) (text : List ℕ) → WritesTurns turns text → one_of (codes "turns") (turns_rows text) ≡ Some text
 work_turns turns [] writes = absurd (omega (arith, writes.0.0))
 work_turns turns (d ∷ ds) writes = rw (no_minus d writes.0.1.0) refl
+
+-- so these words ask for `work` with this number
+pub option_asks : OptionAsks
+option_asks program text option turns writes gives = (
+  given_taken program text option turns writes gives,
+  turns_rows text,
+  text,
+  given_met program text option turns writes gives,
+  work_turns turns text writes,
+  writes,
+)
 
 -- the matches of a subcommand have the option that its rows have
 pub turns_given : (found : Found) (met : Option (List ℕ × List Row)) (rows : List Row) (text : List ℕ)

@@ -1,9 +1,9 @@
 -- The command line of the program, and what comes of the words that it takes.
-use Rattle.std.specs.Prelude.{◌≡◌, ◌≢◌, ◌<◌, ◌^◌, ◌⊎◌, ℕ, pos, List, [], ◌∷◌, ◌++◌, codes, true, false, Option, Some, IfSome}
+use Rattle.std.specs.Prelude.{◌≡◌, ◌≢◌, ◌<◌, ◌^◌, ◌⊎◌, ℕ, pos, List, [], ◌∷◌, ◌++◌, codes, true, false, Option, Some, IfSome, option_map}
 use Rattle.std.specs.List.{AllByRecursion}
 use Rattle.std.specs.Io.KnownBytes.{Consumes, Keeps}
 use Rattle.std.specs.Str.Parse.{IsNumeral, digits_value}
-use Rattle.clap.specs.Words.{App, Rule, new_app, new_rule, with_rule, with_subcommand, fault_of}
+use Rattle.clap.specs.Words.{App, Row, Rule, new_app, new_rule, with_rule, with_subcommand, fault_of, one_of, subcommand_of}
 use Rattle.clap.specs.declared.builder.value_parser.ValueParser.TheVariants.{Signed}
 use Rattle.clap.specs.Simple.{new_shape, on_top}
 use Rattle.clap.specs.declared.error.kind.ErrorKind.{ErrorKind}
@@ -39,9 +39,10 @@ abbrev pub command_line : App
 command_line =
     with_subcommand (with_subcommand (with_subcommand mvhub (new_shape (codes "steps"))) (new_shape (codes "canon"))) work_app.top
 
--- the words are the program's name and this one
+-- the command line takes the words, and this is the name of the subcommand that they name
 abbrev pub AsksFor : List ℕ → List (List ℕ) → Type 0
-AsksFor name words = (program : List ℕ) × (words ≡ program ∷ name ∷ [])
+AsksFor name words =
+    (fault_of command_line words ≡ []) × (option_map (λ p. p.0) (subcommand_of command_line words) ≡ Some name)
 
 -- the text is decimal digits, and they write this number, which is one of 32 bits
 abbrev pub WritesTurns : ℕ → List ℕ → Type 0
@@ -51,10 +52,20 @@ WritesTurns turns text = IsNumeral 10 text × (digits_value 10 text ≡ turns) �
 abbrev pub GiveTurns : List ℕ → List (List ℕ) → Type 0
 GiveTurns text words = (words ≡ codes "--turns" ∷ text ∷ []) ⊎ (words ≡ (codes "--turns=" ++ text) ∷ [])
 
--- the words are the program's name, `work` and its option with this number
+-- the command line takes the words, which name `work`, and the text of its option writes this number
 abbrev pub AsksForWork : ℕ → List (List ℕ) → Type 0
-AsksForWork turns words = (program : List ℕ) × (text : List ℕ) × (option : List (List ℕ)) × WritesTurns turns text
-    × GiveTurns text option × (words ≡ program ∷ codes "work" ∷ option)
+AsksForWork turns words = (fault_of command_line words ≡ []) × (rows : List Row) × (text : List ℕ)
+    × (subcommand_of command_line words ≡ Some (codes "work", rows)) × (one_of (codes "turns") rows ≡ Some text)
+    × WritesTurns turns text
+
+-- the program's name and this word ask for the subcommand of this name
+abbrev pub NameAsks : List ℕ → Type 0
+NameAsks name = (program : List ℕ) → AsksFor name (program ∷ name ∷ [])
+
+-- the program's name, `work` and its option ask for `work` with the number that the option gives
+abbrev pub OptionAsks : Type 0
+OptionAsks = (program text : List ℕ) (option : List (List ℕ)) (turns : ℕ) → WritesTurns turns text → GiveTurns text option
+    → AsksForWork turns (program ∷ codes "work" ∷ option)
 
 -- the command line does not take the words
 abbrev pub AreNotTaken : List (List ℕ) → Type 0

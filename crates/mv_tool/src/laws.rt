@@ -1,9 +1,26 @@
-//! Laws of the replies, over the definitions alone.
+//! Laws over the definitions alone: of the replies, and of the words of the command line.
 
+ghost use Rattle.std.specs.Prelude.{codes};
+ghost use Rattle.mv_tool.specs.Commands.{NameAsks, OptionAsks};
 ghost use Rattle.mv_tool.specs.KeyOrder.{RepliesAreOrdered};
 
 /// Each reply is a JSON object whose keys ascend in byte order, so that there is one text of it.
 #[tactic(auto, using(crate::proofs::KeyOrderLemmas::replies_are_ordered))]
 pub fn replies_are_ordered()
     ensures { RepliesAreOrdered }
+{}
+
+/// The words `mvhub steps` ask for `steps`, whatever the program's name is.
+pub fn steps_named()
+    ensures { NameAsks (codes "steps") }
+{}
+
+/// The words `mvhub canon` ask for `canon`, whatever the program's name is.
+pub fn canon_named()
+    ensures { NameAsks (codes "canon") }
+{}
+
+/// The words `mvhub work --turns N` and `mvhub work --turns=N` ask for `work` with the number that N writes.
+pub fn work_named()
+    ensures { OptionAsks }
 {}

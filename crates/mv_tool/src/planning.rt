@@ -1,6 +1,6 @@
 //! What a line adds to a plan.
 
-ghost use Rattle.std.specs.Prelude.{◌≡◌, [], ◌∷◌, false, IfOk, Ok, Some, option_map};
+ghost use Rattle.std.specs.Prelude.{◌≡◌, [], ◌∷◌, false, IfOk, Ok, Some};
 ghost use Rattle.mv_message.specs.Kinds.{is_query_or_answer};
 ghost use Rattle.mv_party.specs.Site.{answers_in};
 ghost use Rattle.mv_tool.specs.Openings.{of_parties, code_of};

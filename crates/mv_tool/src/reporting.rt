@@ -1,6 +1,6 @@
 //! The report of a run, as a table of texts.
 
-ghost use Rattle.std.specs.Prelude.{◌≡◌, ◌++◌, ◌∷◌, [], IfOk, IsTrue, string_bytes, decimal};
+ghost use Rattle.std.specs.Prelude.{◌≡◌, ◌++◌, IfOk, IsTrue, string_bytes};
 ghost use Rattle.mv_machine.specs.State.{is_party};
 ghost use Rattle.mv_tool.specs.Report.{closed_count, in_ten_places, entries_text, party_line, report_text};
 

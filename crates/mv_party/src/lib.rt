@@ -14,5 +14,5 @@ mod taken;
 pub use fault::SiteFault;
 pub use laws::parties_stay_lawful;
 pub use limits::SUBMISSIONS_LIMIT;
-pub use site::Site;
+pub use site::{Site, is_query_or_answer};
 pub use taken::Taken;

@@ -277,8 +277,8 @@ fn is_query(item: &Item) -> bool
     }
 }
 
-/// Whether a message is a query or an answer, which the system submits by itself.
-fn is_query_or_answer(message: &Message) -> bool
+/// Whether a message is a query or an answer, which no party submits of its own.
+pub fn is_query_or_answer(message: &Message) -> bool
     ensures value { result ≡ is_query_or_answer message.now }
     ensures other { result ≡ false → answers_in (message.now ∷ []) ≡ [] }
 {

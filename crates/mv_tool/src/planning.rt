@@ -1,8 +1,6 @@
 //! What a line adds to a plan.
 
-ghost use Rattle.std.specs.Prelude.{◌≡◌, [], ◌∷◌, false, IfOk, Ok, Some};
-ghost use Rattle.mv_message.specs.Kinds.{is_query_or_answer};
-ghost use Rattle.mv_party.specs.Site.{answers_in};
+ghost use Rattle.std.specs.Prelude.{◌≡◌, IfOk};
 ghost use Rattle.mv_tool.specs.Openings.{of_parties, code_of};
 ghost use Rattle.mv_hub.specs.Parties.{parties_of};
 ghost use Rattle.mv_tool.specs.ReplyLines.{refused};
@@ -15,6 +13,7 @@ use crate::reply_line::{Refused, ReplyLine, append};
 use crate::{LineFault, MarketLists, OpenFault, Request};
 use mv_machine::{Limits, Refusal, Reply, Step};
 use mv_message::{Message, Shared};
+use mv_party::is_query_or_answer;
 use std::alloc::{AllocError, Global};
 
 /// What is planned behind a line. Behind one that is refused nothing changes any more.
@@ -103,14 +102,6 @@ fn plan_step(alloc: Global, draft: Draft, step: Step) -> Result<Planned, AllocEr
         }
         _ => refuse(alloc, &Refused { code: "C3" }),
     }
-}
-
-/// A message is none that a party submits of its own.
-fn is_query_or_answer(message: &Message) -> bool
-    ensures value { result ≡ is_query_or_answer message.now }
-    ensures own { result ≡ false → answers_in (message.now ∷ []) ≡ [] }
-{
-    matches!(message, Message::Query { .. } | Message::Answer { .. })
 }
 
 /// A line is refused by what is open.

@@ -198,6 +198,6 @@ pub(crate) fn work_in<'s, E, R: Threads + Wait + Sync, G: Gate>(
     Some(CrewEnds {
         hub,
         repos,
-        short: short | ended,
+        short: short || ended,
     })
 }

@@ -12,6 +12,7 @@ use std::marker::Model;
 /// The frames under way on one link.
 #[derive(Drop)]
 pub(crate) struct Wire {
+    /// The frames, the front first.
     frames: HeapCircularBuffer<Frame>,
 }
 
@@ -60,10 +61,7 @@ impl Wire {
     pub(crate) fn front_number(&self) -> Option<u32>
         ensures { result ≡ slice_get (numbers_of self.now.frames) 0 }
     {
-        match self.frames.front() {
-            None => None,
-            Some(frame) => Some(frame.number),
-        }
+        self.frames.front().map(|frame| frame.number)
     }
 
     /// Takes the frame in front away.

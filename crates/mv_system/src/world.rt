@@ -28,10 +28,15 @@ mod steps;
 /// The system, seen as the state of the list machine.
 #[derive(Drop)]
 pub struct World {
+    /// Where the replies of a run get their memory.
     alloc: Global,
+    /// How much is under way at most, and how much each party submits.
     limits: Limits,
+    /// The hub, with the sending end of each link.
     hub: Hub,
+    /// The parties, party 0 first.
     sites: Vec<Site>,
+    /// What is under way on each link.
     wires: PairTable<Wire>,
 }
 

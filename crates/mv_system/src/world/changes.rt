@@ -1,6 +1,7 @@
 //! The changes of the system, each one equation on the lists. Only these open the fields of the system to write.
 
-ghost use Rattle.std.specs.Prelude.{◌≡◌, ◌<◌, ◌+◌, ◌∷◌, [], ◌++◌, length, IfOk, IfErr, IsSome, OnOk, OnErr, IsTrue, slice_get, drop};
+ghost use Rattle.std.specs.Prelude.{◌≡◌, ◌<◌, ◌+◌, ◌∷◌, [], ◌++◌, length, IfOk, IfErr, IsSome};
+ghost use Rattle.std.specs.Prelude.{OnOk, OnErr, IsTrue, slice_get, drop};
 ghost use Rattle.mv_message.specs.declared.message.Message.TheVariants.{Query};
 ghost use Rattle.mv_pairs.specs.Pairs.{put};
 ghost use Rattle.mv_link.specs.Frames.{IsFrameOf};
@@ -9,7 +10,8 @@ ghost use Rattle.mv_hub.specs.Hub.{relay_fault, repeat_fault, close_fault};
 ghost use Rattle.mv_hub.specs.declared.entry.Entry.TheVariants.{Closed};
 ghost use Rattle.mv_hub.specs.Record.{routed_count};
 ghost use Rattle.mv_party.specs.Calls.{submit_fault, ask_fault};
-ghost use Rattle.mv_machine.specs.State.{is_party, are_parties, is_uplink_full, submissions_of, site_of, sent_of, wire_of, items_on, with_wire};
+ghost use Rattle.mv_machine.specs.State.{is_party, are_parties, is_uplink_full, submissions_of};
+ghost use Rattle.mv_machine.specs.State.{site_of, sent_of, wire_of, items_on, with_wire};
 ghost use Rattle.mv_machine.specs.Steps.{route};
 ghost use Rattle.mv_machine.specs.Replies.{route_refusal_of};
 ghost use Rattle.mv_machine.specs.Runs.{Meets};
@@ -32,7 +34,8 @@ impl World {
     ) -> Result<u32, SiteFault>
         requires { IsTrue (is_party self.old from) }
         ensures { Submits self.old from message.now
-            (submit_fault (is_uplink_full self.old from) (site_of self.old from) message.now) result self.new }
+            (submit_fault (is_uplink_full self.old from) (site_of self.old from) message.now)
+            result self.new }
     {
         let uplink_full = self.is_uplink_full(from);
         let site = &mut self.sites[from as usize];
@@ -53,10 +56,12 @@ impl World {
     /// Routes the front of an uplink.
     pub(super) fn put_routed(&mut self, from: Party) -> Result<(u32, Reach), RouteFault>
         requires party { IsTrue (is_party self.old from) }
-        requires some { IsSome (slice_get (submissions_of self.old from) (routed_count self.old.entries from)) }
+        requires some { IsSome
+            (slice_get (submissions_of self.old from) (routed_count self.old.entries from)) }
         ensures ok { IfOk result (λ routed. route self.old from
             ≡ record { reply = Routed routed.0 routed.1; state = self.new }) }
-        ensures err { IfErr result (λ fault. Meets self.old (route self.old from) (Refused (route_refusal_of fault)) self.new) }
+        ensures err { IfErr result (λ fault.
+            Meets self.old (route self.old from) (Refused (route_refusal_of fault)) self.new) }
     {
         let place = self.hub.routed_count(from) as usize;
         let site = &self.sites[from as usize];
@@ -86,7 +91,8 @@ impl World {
         requires parties { IsTrue (are_parties self.old from to) }
         requires room { length (wire_of self.old from to) < self.old.limits.wire }
         requires frame { IsFrameOf (items_on self.old from to) frame }
-        ensures { self.new ≡ with_wire self.old from to (wire_of self.old from to ++ frame.number ∷ []) }
+        ensures { self.new
+            ≡ with_wire self.old from to (wire_of self.old from to ++ frame.number ∷ []) }
     {
         let wire = self.wires.at_mut(from, to);
         wire.push(frame);
@@ -99,7 +105,8 @@ impl World {
         ensures number { IfOk result (λ number. number ≡ sent_of self.old from to + 1) }
         ensures ok { OnOk result (self.new ≡ record self.old {
           sent = put self.old.sent from to (sent_of self.old from to + 1);
-          wires = put self.old.wires from to (wire_of self.old from to ++ (sent_of self.old from to + 1) ∷ []);
+          wires = put self.old.wires from to
+              (wire_of self.old from to ++ (sent_of self.old from to + 1) ∷ []);
         }) }
         ensures err { OnErr result (self.new ≡ self.old) }
         ensures fault { FailsBy HubFault.Memory (relay_fault (hub_of self.old) from to) result }
@@ -115,7 +122,8 @@ impl World {
         requires { IsTrue (are_parties self.now from to) }
         ensures number { IfOk result (λ frame. frame.number ≡ number) }
         ensures frame { IfOk result (λ frame. IsFrameOf (items_on self.now from to) frame) }
-        ensures fault { FailsBy HubFault.Memory (repeat_fault (hub_of self.now) from to number) result }
+        ensures fault { FailsBy HubFault.Memory
+            (repeat_fault (hub_of self.now) from to number) result }
     {
         self.hub.repeat(from, to, number)
     }
@@ -132,7 +140,8 @@ impl World {
         ensures ok { OnOk result
             (self.new ≡ with_wire self.old from to (wire_of self.old from to ++ number ∷ [])) }
         ensures err { OnErr result (self.new ≡ self.old) }
-        ensures fault { FailsBy HubFault.Memory (repeat_fault (hub_of self.old) from to number) result }
+        ensures fault { FailsBy HubFault.Memory
+            (repeat_fault (hub_of self.old) from to number) result }
     {
         let frame = self.frame_again(from, to, number)?;
         self.push_frame(from, to, frame);

@@ -3,7 +3,8 @@
 ghost use Rattle.std.specs.Prelude.{◌≡◌, length, nat_le, IsTrue, slice_get};
 ghost use Rattle.mv_machine.specs.Limits.{AreBounds};
 ghost use Rattle.mv_repository.specs.Verdict.{local_verdict, joint_verdict};
-ghost use Rattle.mv_machine.specs.State.{is_uplink_full, log_of, is_party, are_parties, waiting_of, wire_of};
+ghost use Rattle.mv_machine.specs.State.{is_uplink_full, log_of, is_party, are_parties, waiting_of};
+ghost use Rattle.mv_machine.specs.State.{wire_of};
 ghost use Rattle.mv_system.specs.Wire.{numbers_of};
 
 use crate::wire::Wire;

@@ -28,6 +28,7 @@ impl World {
         }
     }
 
+    /// A party submits a message, and is told its number.
     #[tactic(auto, unfolding(mv_machine::specs::Runs::Allows, mv_machine::specs::Runs::Meets, mv_machine::specs::Steps::submit))]
     fn submit(&mut self, from: Party, message: &Shared<Message>) -> Reply
         ensures { Allows self.old (Step.Submit from message.now) result self.new }
@@ -41,6 +42,7 @@ impl World {
         }
     }
 
+    /// A party verifies a pack: its own repository gives the verdict where it holds the pack, else the others are asked.
     #[tactic(auto, unfolding(mv_machine::specs::Runs::Allows, mv_machine::specs::Runs::Meets, mv_machine::specs::Steps::verify))]
     fn verify(&mut self, party: Party, key: &PackKey) -> Reply
         ensures { Allows self.old (Step.Verify party key.now) result self.new }
@@ -68,6 +70,7 @@ impl World {
         }
     }
 
+    /// The hub routes the message in front of an uplink.
     #[tactic(auto, unfolding(mv_machine::specs::Runs::Allows, mv_machine::specs::Runs::Meets, mv_machine::specs::Steps::route))]
     fn route(&mut self, from: Party) -> Reply
         ensures { Allows self.old (Step.Route from) result self.new }
@@ -84,6 +87,7 @@ impl World {
         }
     }
 
+    /// The next frame of a link goes on its wire.
     #[tactic(auto, unfolding(mv_machine::specs::Runs::Allows, mv_machine::specs::Runs::Meets, mv_machine::specs::Steps::relay))]
     fn relay(&mut self, from: Party, to: Party) -> Reply
         ensures { Allows self.old (Step.Relay from to) result self.new }
@@ -100,6 +104,7 @@ impl World {
         }
     }
 
+    /// A party takes the frame in front of a wire. Where it refuses, the frame stays there.
     #[tactic(auto, unfolding(mv_machine::specs::Runs::Allows, mv_machine::specs::Runs::Meets, mv_machine::specs::Steps::apply))]
     fn apply(&mut self, from: Party, to: Party) -> Reply
         ensures { Allows self.old (Step.Apply from to) result self.new }
@@ -119,6 +124,7 @@ impl World {
         }
     }
 
+    /// A frame of a link that was relayed goes on its wire again.
     #[tactic(auto, unfolding(mv_machine::specs::Runs::Allows, mv_machine::specs::Runs::Meets, mv_machine::specs::Steps::repeat))]
     fn repeat(&mut self, from: Party, to: Party, number: u32) -> Reply
         ensures { Allows self.old (Step.Repeat from to number) result self.new }
@@ -135,6 +141,7 @@ impl World {
         }
     }
 
+    /// A link is closed.
     #[tactic(auto, unfolding(mv_machine::specs::Runs::Allows, mv_machine::specs::Runs::Meets, mv_machine::specs::Steps::close))]
     fn close(&mut self, from: Party, to: Party) -> Reply
         ensures { Allows self.old (Step.Close from to) result self.new }
@@ -148,6 +155,7 @@ impl World {
         }
     }
 
+    /// The frame in front of a wire is lost.
     #[tactic(auto, unfolding(mv_machine::specs::Runs::Allows, mv_machine::specs::Runs::Meets, mv_machine::specs::Steps::lose))]
     fn lose(&mut self, from: Party, to: Party) -> Reply
         ensures { Allows self.old (Step.Lose from to) result self.new }
@@ -164,6 +172,7 @@ impl World {
         }
     }
 
+    /// The verdict of all repositories that were asked, on a query of a party.
     #[tactic(auto, unfolding(mv_machine::specs::Runs::Allows, mv_machine::specs::Runs::Meets, mv_machine::specs::Steps::verdict))]
     fn verdict(&mut self, party: Party, q: u32) -> Reply
         ensures { Allows self.old (Step.Verdict party q) result self.new }

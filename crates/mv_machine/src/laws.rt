@@ -1,8 +1,11 @@
 //! Laws of the list machine, over the definitions alone.
 
-ghost use Rattle.mv_machine.specs.Laws.{RunsAreLawful, ClosedLinksStayClosed, StampsFit, LawfulStampsAreDistinct, LawfulRepositoriesAgree};
-ghost use Rattle.mv_machine.specs.Laws.{LawfulClosingsHold, LawfulItemsAreSubmitted, FollowsIsTransitive, LawfulStatesKeepHeadline};
-ghost use Rattle.mv_machine.specs.Laws.{HeadlinesJoin, StepsFollow, RefusalsChangeNothing, LimitsAreKept, RecordsDecide};
+ghost use Rattle.mv_machine.specs.Laws.{RunsAreLawful, ClosedLinksStayClosed, StampsFit};
+ghost use Rattle.mv_machine.specs.Laws.{LawfulStampsAreDistinct, LawfulRepositoriesAgree};
+ghost use Rattle.mv_machine.specs.Laws.{LawfulClosingsHold, LawfulItemsAreSubmitted};
+ghost use Rattle.mv_machine.specs.Laws.{FollowsIsTransitive, LawfulStatesKeepHeadline};
+ghost use Rattle.mv_machine.specs.Laws.{HeadlinesJoin, StepsFollow, RefusalsChangeNothing};
+ghost use Rattle.mv_machine.specs.Laws.{LimitsAreKept, RecordsDecide};
 
 /// Whatever the steps and whatever their order: what each repository applied from each sender is a prefix of what the record
 /// put on their link, in order and each once, and what was routed is a prefix of what its sender submitted.

@@ -1,8 +1,7 @@
 //! The list machine: the whole system as plain lists, with a row for each step, and its laws.
 //!
 //! To be believed, and hardly any code: the system is proved to answer as this machine does, and the laws say what every run
-//! of the machine keeps. It stands on the definitions of the hub, and of a party with its
-//! repository.
+//! of the machine keeps. It stands on the definitions of the hub, and of a party with its repository.
 #![tactic(auto)]
 
 mod laws;

@@ -16,9 +16,13 @@ pub const UPLINK_LIMIT: u32 = 64;
 /// How much a system holds at most.
 #[derive(Clone, Copy, Debug, PartialEq, Eq)]
 pub struct Limits {
+    /// How many items each link keeps.
     window: u32,
+    /// How many frames are under way on each link at most.
     wire: u32,
+    /// How many messages of each party are under way to the hub at most.
     uplink: u32,
+    /// How many messages each party submits at most.
     submissions: u32,
 }
 
@@ -27,11 +31,26 @@ impl Model for Limits {
 
     ghost Value = { Bounds };
 
-    ghost view = { λ l. record { window = l.window; wire = l.wire; uplink = l.uplink; submissions = l.submissions } };
+    ghost view = { λ l. record {
+      window = l.window;
+      wire = l.wire;
+      uplink = l.uplink;
+      submissions = l.submissions;
+    } };
 
-    ghost invariant = { λ l. AreBounds (record { window = l.window; wire = l.wire; uplink = l.uplink; submissions = l.submissions }) };
+    ghost invariant = { λ l. AreBounds (record {
+      window = l.window;
+      wire = l.wire;
+      uplink = l.uplink;
+      submissions = l.submissions;
+    }) };
 
-    ghost inverse = { λ b. record { window = b.window; wire = b.wire; uplink = b.uplink; submissions = b.submissions } };
+    ghost inverse = { λ b. record {
+      window = b.window;
+      wire = b.wire;
+      uplink = b.uplink;
+      submissions = b.submissions;
+    } };
 }
 
 impl Limits {

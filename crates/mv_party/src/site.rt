@@ -1,6 +1,8 @@
 //! One party of a system.
 
-ghost use Rattle.std.specs.Prelude.{◌≡◌, ◌<◌, ◌≤◌, ◌+◌, ◌∷◌, [], ◌++◌, List, ℕ, length, replicate, slice_get, vec_capacity, option_to_list, IfOk, OnOk, OnErr, IsErrOf, is_some, false};
+ghost use Rattle.std.specs.Prelude.{◌≡◌, ◌<◌, ◌≤◌, ◌+◌, ◌∷◌, [], ◌++◌, List, ℕ, length, replicate};
+ghost use Rattle.std.specs.Prelude.{slice_get, vec_capacity, option_to_list, IfOk, OnOk, OnErr};
+ghost use Rattle.std.specs.Prelude.{IsErrOf, is_some, false};
 ghost use Rattle.std.specs.Option.{option_copied};
 ghost use Rattle.mv_message.specs.Kinds.{is_query_or_answer};
 ghost use Rattle.mv_message.specs.declared.message.Message.TheVariants.{Query};
@@ -11,8 +13,10 @@ ghost use Rattle.mv_link.specs.Receiving.{look_at};
 ghost use Rattle.mv_party.specs.declared.limits.TheConstants.{SUBMISSIONS_LIMIT};
 ghost use Rattle.mv_repository.specs.declared.entry.LogEntry.{LogEntry as ALogEntry};
 ghost use Rattle.mv_repository.specs.Query.{answer_after};
-ghost use Rattle.mv_party.specs.Site.{new_site, is_full, with_submission, with_applied, count_from, answer_number, answers_in, IsLawfulParty};
-ghost use Rattle.mv_party.specs.Calls.{unless_fault, submit_fault, ask_fault, answer_fault, apply_fault, taken_by, with_taken};
+ghost use Rattle.mv_party.specs.Site.{new_site, is_full, with_submission, with_applied, count_from};
+ghost use Rattle.mv_party.specs.Site.{answer_number, answers_in, IsLawfulParty};
+ghost use Rattle.mv_party.specs.Calls.{unless_fault, submit_fault, ask_fault, answer_fault};
+ghost use Rattle.mv_party.specs.Calls.{apply_fault, taken_by, with_taken};
 
 use crate::{SiteFault, Taken};
 use mv_link::{Frame, Incoming, Item, Look};
@@ -25,10 +29,15 @@ use std::marker::Model;
 /// One party of a system: what it submitted, its repository, and the receiving ends of the links to it.
 #[derive(Drop)]
 pub struct Site {
+    /// Where queries get their memory.
     alloc: Global,
+    /// How many messages it submits in all, at most.
     limit: u32,
+    /// What it submitted, the oldest message first.
     submissions: Vec<Shared<Message>>,
+    /// What it applied, and what that means.
     repository: Repository,
+    /// The receiving end of the link from each party, that from party 0 first.
     accepted: Vec<Incoming>,
 }
 
@@ -39,9 +48,12 @@ impl Model for Site {
 
     ghost Value = { SiteState };
 
-    ghost view = { λ s. site_of s.limit s.submissions.items s.repository (length s.accepted.items) };
+    ghost view = { λ s.
+        site_of s.limit s.submissions.items s.repository (length s.accepted.items) };
 
-    ghost invariant = { λ s. IsSite (site_of s.limit s.submissions.items s.repository (length s.accepted.items)) s.accepted.items };
+    ghost invariant = { λ s. IsSite
+        (site_of s.limit s.submissions.items s.repository (length s.accepted.items))
+        s.accepted.items };
 }
 
 impl Site {
@@ -117,7 +129,8 @@ impl Site {
         ensures number { IfOk result (λ k. k ≡ length self.old.submissions + 1) }
         ensures ok { OnOk result (self.new ≡ with_submission self.old message.now) }
         ensures err { OnErr result (self.new ≡ self.old) }
-        ensures fault { FailsBy SiteFault.Memory (submit_fault uplink_full self.old message.now) result }
+        ensures fault { FailsBy SiteFault.Memory
+            (submit_fault uplink_full self.old message.now) result }
     {
         self.check(message.get(), uplink_full)?;
         Ok(self.put(message)?)
@@ -151,7 +164,8 @@ impl Site {
         ensures ok { OnOk result (self.new ≡ with_taken self.old sender frame.now.item
             (look_at (count_from self.old.log sender) frame.now.number)) }
         ensures err { OnErr result (self.new ≡ self.old) }
-        ensures fault { FailsBy SiteFault.Memory (apply_fault uplink_full self.old sender frame.now.item
+        ensures fault { FailsBy SiteFault.Memory
+            (apply_fault uplink_full self.old sender frame.now.item
             (look_at (count_from self.old.log sender) frame.now.number)) result }
         ensures memory { IsErrOf result SiteFault.Memory
             → look_at (count_from self.old.log sender) frame.now.number ≡ Next }
@@ -164,6 +178,32 @@ impl Site {
                 self.apply_next(sender, &frame.item, uplink_full)
             }
         }
+    }
+
+    /// How a frame from a party stands to what was accepted from it. Nothing changes.
+    pub fn look(&self, sender: Party, frame: &Frame) -> Look
+        requires { sender < self.now.parties }
+        ensures { result ≡ look_at (count_from self.now.log sender) frame.now.number }
+    {
+        self.accepted[sender as usize].look(frame)
+    }
+
+    /// The answer that an item from a party calls for, if it does. Nothing changes.
+    pub fn answer(&self, sender: Party, item: &Item) -> Option<Message>
+        ensures { result ≡ answer_after self.now.log sender item.now }
+    {
+        self.repository.answer(sender, item)
+    }
+
+    /// Whether it can submit the answer that an item from a party calls for, if it does.
+    pub fn check_answer(&self, item: &Item, uplink_full: bool) -> Result<(), SiteFault>
+        ensures { (sender : ℕ) → result ≡ unless_fault
+            (answer_fault uplink_full self.now (answer_after self.now.log sender item.now)) }
+    {
+        if is_query(item) && (uplink_full || self.is_full()) {
+            return Err(SiteFault::AnswerBusy);
+        }
+        Ok(())
     }
 
     /// Whether it submitted as many messages as it may.
@@ -187,32 +227,6 @@ impl Site {
         Ok(count + 1)
     }
 
-    /// How a frame from a party stands to what was accepted from it. Nothing changes.
-    pub fn look(&self, sender: Party, frame: &Frame) -> Look
-        requires { sender < self.now.parties }
-        ensures { result ≡ look_at (count_from self.now.log sender) frame.now.number }
-    {
-        self.accepted[sender as usize].look(frame)
-    }
-
-    /// The answer that an item from a party calls for, if it does. Nothing changes.
-    pub fn answer(&self, sender: Party, item: &Item) -> Option<Message>
-        ensures { result ≡ answer_after self.now.log sender item.now }
-    {
-        self.repository.answer(sender, item)
-    }
-
-    /// Whether it can submit the answer that an item from a party calls for, if it does.
-    pub fn check_answer(&self, item: &Item, uplink_full: bool) -> Result<(), SiteFault>
-        ensures { (sender : ℕ) → result
-            ≡ unless_fault (answer_fault uplink_full self.now (answer_after self.now.log sender item.now)) }
-    {
-        if is_query(item) && (uplink_full || self.is_full()) {
-            return Err(SiteFault::AnswerBusy);
-        }
-        Ok(())
-    }
-
     /// Applies the item of the next frame from a party, and submits the answer that it calls for: both, or neither.
     fn apply_next(
         &mut self,
@@ -225,7 +239,8 @@ impl Site {
         ensures value { IfOk result (λ taken. taken ≡ taken_by self.old sender item.now Next) }
         ensures ok { OnOk result (self.new ≡ with_applied self.old sender item.now) }
         ensures err { OnErr result (self.new ≡ self.old) }
-        ensures fault { FailsBy SiteFault.Memory (apply_fault uplink_full self.old sender item.now Next) result }
+        ensures fault { FailsBy SiteFault.Memory
+            (apply_fault uplink_full self.old sender item.now Next) result }
     {
         self.check_answer(item, uplink_full)?;
         self.submissions.reserve(1)?;
@@ -266,13 +281,11 @@ fn no_frames(alloc: Global, parties: u32) -> Result<Vec<Incoming>, AllocError>
 
 /// Whether an item carries a query, which alone calls for an answer.
 fn is_query(item: &Item) -> bool
-    ensures { (log : List ALogEntry) (sender : ℕ) → result ≡ is_some (answer_after log sender item.now) }
+    ensures { (log : List ALogEntry) (sender : ℕ) →
+        result ≡ is_some (answer_after log sender item.now) }
 {
     match item {
-        Item::Carried { message, .. } => match message.get() {
-            Message::Query { .. } => true,
-            _ => false,
-        },
+        Item::Carried { message, .. } => matches!(message.get(), Message::Query { .. }),
         Item::Receipt { .. } => false,
     }
 }

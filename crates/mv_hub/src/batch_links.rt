@@ -1,6 +1,7 @@
 //! The links between batches that routed repacks make.
 
-ghost use Rattle.std.specs.Prelude.{◌≡◌, ◌↔◌, ◌∷◌, [], ℕ, List, Contains, OnOk, OnErr, IfOk, if◌then◌else◌};
+ghost use Rattle.std.specs.Prelude.{◌≡◌, ◌↔◌, ◌∷◌, [], ℕ, List, Contains, OnOk, OnErr, IfOk};
+ghost use Rattle.std.specs.Prelude.{if◌then◌else◌};
 ghost use Rattle.std.specs.List.Sorted.{IsStrictlySortedBy};
 ghost use Rattle.mv_pack.specs.declared.key.BatchKey.{BatchKey as ABatch};
 ghost use Rattle.mv_hub.specs.BatchLinks.{is_same_batch, batch_cmp, IsReachedFrom};
@@ -14,6 +15,7 @@ use std::marker::Model;
 /// The batches after of one batch, each once, in the order of their first link.
 #[derive(Drop)]
 struct BatchesAfter {
+    /// The batches, found without a walk.
     set: IndexSet<BatchKey>,
 }
 
@@ -58,7 +60,9 @@ impl BatchesAfter {
 /// The batches after of each batch.
 #[derive(Drop)]
 pub(crate) struct BatchLinks {
+    /// Where the batches after of a new batch get their memory.
     alloc: Global,
+    /// The batches after, by the batch before.
     table: IndexMap<BatchKey, BatchesAfter>,
 }
 
@@ -172,12 +176,11 @@ fn copies(alloc: Global, batches: &[BatchKey]) -> Result<Vec<BatchKey>, AllocErr
 }
 
 /// The batches, ascending and each once.
-fn ascending(batches: Vec<BatchKey>) -> Vec<BatchKey>
+fn ascending(mut batches: Vec<BatchKey>) -> Vec<BatchKey>
     ensures order { IsStrictlySortedBy batch_cmp result.items }
     ensures members { (batch : ABatch)
         → Contains result.items batch ↔ Contains batches.items batch }
 {
-    let mut batches = batches;
     batches.sort_unstable();
     batches.dedup();
     batches

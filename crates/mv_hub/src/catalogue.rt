@@ -17,6 +17,7 @@ use std::marker::Model;
 /// Batches of a product, each with its expiry: a small type over `Vec`, which contracts see as a list.
 #[derive(Debug, Drop)]
 pub struct Pairs {
+    /// The pairs, in order.
     list: Vec<(Batch, Expiry)>,
 }
 
@@ -71,6 +72,7 @@ impl Eq for Pairs {
 /// The product of a master, if there is one. It is lent from the master, which is kept once with all others that hold it.
 #[derive(Debug, Drop)]
 pub struct MasterProduct {
+    /// The master that the product is lent from.
     master: Option<Shared<Message>>,
 }
 

@@ -1,6 +1,7 @@
 //! What the hub knows of each product, by the masters and uploads that it routed.
 
-ghost use Rattle.std.specs.Prelude.{◌≡◌, ℕ, [], List, Option, Some, None, if◌then◌else◌, option_map, OnOk, OnErr, IfOk};
+ghost use Rattle.std.specs.Prelude.{◌≡◌, ℕ, [], List, Option, Some, None, if◌then◌else◌};
+ghost use Rattle.std.specs.Prelude.{option_map, OnOk, OnErr, IfOk};
 ghost use Rattle.std.specs.Option.{option_copied};
 ghost use Rattle.mv_message.specs.declared.message.Product.{Product as AProduct};
 ghost use Rattle.mv_hub.specs.Record.{is_same_gtin, product_of};
@@ -16,7 +17,9 @@ use std::marker::Model;
 /// A catalogue, and its batches as a set.
 #[derive(Drop)]
 struct Listed {
+    /// What the hub shows of the product.
     catalogue: Catalogue,
+    /// Its pairs once more, so that one is found without a walk.
     known: IndexSet<(Batch, Expiry)>,
 }
 
@@ -32,9 +35,9 @@ impl Model for Listed {
 }
 
 impl Listed {
-    /// What is known of a product that has a master and no batch.
-    fn of_product(alloc: Global, product: MasterProduct) -> Listed
-        ensures { (known : AProduct) → product ≡ Some known → result ≡ with_product None known }
+    /// What is known of a product that has no batch.
+    fn new(alloc: Global, product: MasterProduct) -> Listed
+        ensures { result ≡ record { product = product; batches = [] } }
     {
         Listed {
             catalogue: Catalogue {
@@ -49,13 +52,7 @@ impl Listed {
     fn of_batch(alloc: Global, batch: &Batch, expiry: Expiry) -> Result<Listed, AllocError>
         ensures { IfOk result (λ listed. listed ≡ with_listing None (batch.now, expiry)) }
     {
-        let mut listed = Listed {
-            catalogue: Catalogue {
-                product: MasterProduct::new(None),
-                batches: Pairs::new(Vec::new(alloc)),
-            },
-            known: IndexSet::new(alloc),
-        };
+        let mut listed = Listed::new(alloc, MasterProduct::new(None));
         listed.add(batch, expiry)?;
         Ok(listed)
     }
@@ -82,7 +79,9 @@ impl Listed {
 /// What is known of each product.
 #[derive(Drop)]
 pub(crate) struct Catalogues {
+    /// Where the entries of a new product get their memory.
     alloc: Global,
+    /// What is known of a product, by its code.
     table: IndexMap<Gtin, Listed>,
 }
 
@@ -136,8 +135,8 @@ impl Catalogues {
             listed.catalogue.product = product;
             return Ok(());
         }
-        self.table
-            .insert(gtin, Listed::of_product(self.alloc, product))?;
+        let listed = Listed::new(self.alloc, product);
+        self.table.insert(gtin, listed)?;
         Ok(())
     }
 

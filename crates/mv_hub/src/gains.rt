@@ -1,6 +1,7 @@
 //! What the routing of a message puts on links, and how that is pushed.
 
-ghost use Rattle.std.specs.Prelude.{◌≡◌, ◌+◌, ◌<◌, ℕ, [], ◌∷◌, length, replicate, slice_index_or, ◌==◌, if◌then◌else◌};
+ghost use Rattle.std.specs.Prelude.{◌≡◌, ◌+◌, ◌<◌, ℕ, [], ◌∷◌, length, replicate, slice_index_or};
+ghost use Rattle.std.specs.Prelude.{◌==◌, if◌then◌else◌};
 ghost use Rattle.std.specs.Option.{option_to_list};
 ghost use Rattle.std.specs.List.{list_any};
 ghost use Rattle.std.specs.List.Sorted.{IsStrictlyIncreasing};
@@ -30,6 +31,7 @@ fn put_one(link: &mut Outgoing, item: Item)
 {
     match link.push(item) {
         Ok(()) => {}
+        // A push is always taken.
         Err(_) => unreachable!(),
     }
 }
@@ -39,28 +41,34 @@ fn put_receipt(links: &mut PairTable<Outgoing>, from: Party, receipt: Option<Ite
     requires square { IsSquare (length links.old) links.old }
     requires from { from < length links.old }
     requires room { HasRoom (link_at links.old from from) (length (option_to_list receipt)) }
-    ensures { GainsRow (length links.old) from (λ to. if to == from then option_to_list receipt else []) links.old links.new }
+    ensures { GainsRow (length links.old) from
+        (λ to. if to == from then option_to_list receipt else []) links.old links.new }
 {
-    match receipt {
-        Some(item) => put_one(links.at_mut(from, from), item),
-        None => {}
+    if let Some(item) = receipt {
+        put_one(links.at_mut(from, from), item);
     }
 }
 
 /// Pushes on the link to each of these parties an item, the last first.
-fn put_carried(links: &mut PairTable<Outgoing>, from: Party, reached: &[Party], carried: Vec<Item>)
+fn put_carried(
+    links: &mut PairTable<Outgoing>,
+    from: Party,
+    reached: &[Party],
+    mut carried: Vec<Item>,
+)
     requires square { IsSquare (length links.old) links.old }
     requires from { from < length links.old }
     requires ascending { IsStrictlyIncreasing reached.now }
-    requires within { (place : ℕ) → place < length reached.now → slice_index_or reached.now place 0 < length links.old }
+    requires within { (place : ℕ) → place < length reached.now
+        → slice_index_or reached.now place 0 < length links.old }
     requires each { length carried.items ≡ length reached.now }
     requires room { (place : ℕ) → place < length reached.now
         → HasRoom (link_at links.old from (slice_index_or reached.now place 0)) 1 }
     ensures { (item : AnItem) → carried.items ≡ replicate (length reached.now) item
-        → GainsRow (length links.old) from (λ to. if list_any (λ other. other == to) reached.now then item ∷ [] else [])
+        → GainsRow (length links.old) from
+        (λ to. if list_any (λ other. other == to) reached.now then item ∷ [] else [])
         links.old links.new }
 {
-    let mut carried = carried;
     while let Some(item) = carried.pop() {
         let to = reached[carried.len()];
         put_one(links.at_mut(from, to), item);
@@ -78,12 +86,15 @@ pub(crate) fn put_gains(
     requires square { IsSquare (length links.old) links.old }
     requires from { from < length links.old }
     requires ascending { IsStrictlyIncreasing reached.now }
-    requires within { (place : ℕ) → place < length reached.now → slice_index_or reached.now place 0 < length links.old }
+    requires within { (place : ℕ) → place < length reached.now
+        → slice_index_or reached.now place 0 < length links.old }
     requires each { length gains.carried.items ≡ length reached.now }
     requires room { (to : ℕ) → to < length links.old
-        → HasRoom (link_at links.old from to) (gain_count from reached.now (option_to_list gains.receipt) to) }
+        → HasRoom (link_at links.old from to)
+        (gain_count from reached.now (option_to_list gains.receipt) to) }
     ensures { (item : AnItem) → gains.carried.items ≡ replicate (length reached.now) item
-        → GainsRow (length links.old) from (gain_of from reached.now (option_to_list gains.receipt) item) links.old links.new }
+        → GainsRow (length links.old) from
+        (gain_of from reached.now (option_to_list gains.receipt) item) links.old links.new }
 {
     let Gains { receipt, carried } = gains;
     put_receipt(links, from, receipt);

@@ -1,6 +1,7 @@
 //! The hub: its record, a link for each ordered pair of parties, and which links are open.
 
-ghost use Rattle.std.specs.Prelude.{◌≡◌, ◌+◌, ◌<◌, ◌≤◌, length, ◌↔◌, Contains, IfOk, option_map, true};
+ghost use Rattle.std.specs.Prelude.{◌≡◌, ◌+◌, ◌<◌, ◌≤◌, length, ◌↔◌, Contains, IfOk, option_map};
+ghost use Rattle.std.specs.Prelude.{true};
 ghost use Rattle.std.specs.Option.{option_copied};
 ghost use Rattle.std.specs.List.Sorted.{IsStrictlySortedBy};
 ghost use Rattle.mv_pack.specs.declared.key.BatchKey.{BatchKey as ABatch};
@@ -26,10 +27,13 @@ mod targets;
 /// The hub: the parties, the record of what it did, and what waits on each link to be relayed.
 #[derive(Drop)]
 pub struct Hub {
+    /// Where what a routing puts on links gets its memory.
     alloc: Global,
+    /// The parties, and the markets that each serves.
     parties: Parties,
     /// How many items each link keeps.
     window: u32,
+    /// The record of what was routed and closed.
     trail: AuditTrail,
     /// How many messages of each party were routed, party 0 first.
     counts: Vec<u32>,
@@ -52,7 +56,8 @@ impl Model for Hub {
       sent = sent_table a.links;
     } };
 
-    ghost invariant = { λ a. IsKept a.parties a.window a.trail a.counts.items a.open_links a.links };
+    ghost invariant = { λ a.
+        IsKept a.parties a.window a.trail a.counts.items a.open_links a.links };
 }
 
 impl Hub {
@@ -140,7 +145,8 @@ impl Hub {
 
     /// The markets that the last routed master of a product names, `None` where no master of it was routed.
     pub fn markets(&self, gtin: &Gtin) -> Option<&[Market]>
-        ensures { option_map (λ markets. markets.now) result ≡ last_markets self.now.entries gtin.now }
+        ensures { option_map (λ markets. markets.now) result
+            ≡ last_markets self.now.entries gtin.now }
     {
         self.trail.markets(gtin)
     }

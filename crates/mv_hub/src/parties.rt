@@ -1,9 +1,11 @@
 //! The parties and the markets that each serves.
 
-ghost use Rattle.std.specs.Prelude.{◌≡◌, ◌<◌, ◌≤◌, ◌++◌, ◌==◌, ◌||◌, ℕ, Bool, List, map, length, true, false, Some, if◌then◌else◌, IfOk, OnOk};
+ghost use Rattle.std.specs.Prelude.{◌≡◌, ◌<◌, ◌≤◌, ◌++◌, ◌==◌, ◌||◌, ℕ, Bool, List, map, length};
+ghost use Rattle.std.specs.Prelude.{true, false, Some, if◌then◌else◌, IfOk, OnOk};
 ghost use Rattle.std.specs.Map.{lookup};
 ghost use Rattle.mv_hub.specs.Fault.{Gives};
-ghost use Rattle.mv_hub.specs.Parties.{parties_of, serving, serves_one, served_by, is_same_market, has_market, has_twice, all_markets};
+ghost use Rattle.mv_hub.specs.Parties.{parties_of, serving, serves_one, served_by, is_same_market};
+ghost use Rattle.mv_hub.specs.Parties.{has_market, has_twice, all_markets};
 ghost use Rattle.mv_hub.specs.PartySets.{FindsParties, those};
 
 use crate::HubFault;
@@ -36,7 +38,8 @@ impl Model for Parties {
     ghost view = { λ p. p.lists.items };
 
     ghost invariant = { λ p. (1 ≤ length p.lists.items) × (length p.lists.items ≤ PARTIES_LIMIT)
-        × (has_twice (all_markets p.lists.items) ≡ false) × FindsParties p.lists.items p.by_market.entries };
+        × (has_twice (all_markets p.lists.items) ≡ false)
+        × FindsParties p.lists.items p.by_market.entries };
 }
 
 impl fmt::Debug for Parties {
@@ -79,7 +82,8 @@ impl Parties {
     /// The party that serves a market, if one does.
     fn party_of(&self, market: &Market) -> Option<Party>
         ensures serves { (party : ℕ) → result ≡ Some party
-            → (party < length self.now) × (has_market (served_by self.now party) market.now ≡ true) }
+            → (party < length self.now)
+            × (has_market (served_by self.now party) market.now ≡ true) }
         ensures all { (party : ℕ) → party < length self.now
             → has_market (served_by self.now party) market.now ≡ true → result ≡ Some party }
     {
@@ -103,7 +107,9 @@ impl Parties {
     fn add_serving(&self, found: &mut ArrayVec<Party, PARTIES_LIMIT>, wanted: &[Market])
         requires { (test : ℕ → Bool) × (found.old.items ≡ those test (length self.now)) }
         ensures { (test : ℕ → Bool) → found.old.items ≡ those test (length self.now)
-            → found.new.items ≡ those (λ party. test party || serves_one (served_by self.now party) wanted.now) (length self.now) }
+            → found.new.items
+            ≡ those (λ party. test party || serves_one (served_by self.now party) wanted.now)
+            (length self.now) }
     {
         for market in wanted {
             if let Some(party) = self.party_of(market) {
@@ -200,7 +206,8 @@ fn repeats(before: &[Vec<Market>], list: &[Market]) -> bool
 
 /// Whether a market stands in one of the lists or in the last one.
 fn stands(lists: &[Vec<Market>], last: &[Market], market: Market) -> bool
-    ensures { result ≡ has_market (all_markets (map (λ list. list.items) lists.now) ++ last.now) market }
+    ensures { result
+        ≡ has_market (all_markets (map (λ list. list.items) lists.now) ++ last.now) market }
 {
     is_served(lists, market) || has_market(last, market)
 }

@@ -1,7 +1,8 @@
 //! The audit trail: the record of what the hub did, and tables of what it says of products and batches, so that no call
 //! walks the record.
 
-ghost use Rattle.std.specs.Prelude.{◌≡◌, ◌↔◌, ◌++◌, ◌∷◌, [], List, Contains, IfOk, OnOk, OnErr, option_map};
+ghost use Rattle.std.specs.Prelude.{◌≡◌, ◌↔◌, ◌++◌, ◌∷◌, [], List, Contains, IfOk, OnOk, OnErr};
+ghost use Rattle.std.specs.Prelude.{option_map};
 ghost use Rattle.std.specs.Option.{option_copied};
 ghost use Rattle.std.specs.List.Sorted.{IsStrictlySortedBy};
 ghost use Rattle.mv_pack.specs.declared.key.BatchKey.{BatchKey as ABatch};
@@ -19,11 +20,14 @@ use mv_pack::{BatchKey, Gtin, Market};
 use std::alloc::{AllocError, Global};
 use std::marker::Model;
 
-/// The record, the oldest entry first.
+/// The record and its tables. Contracts see the record, the oldest entry first.
 #[derive(Drop)]
 pub(crate) struct AuditTrail {
+    /// The record, the oldest entry first.
     entries: Vec<Entry>,
+    /// What it says of each product.
     catalogues: Catalogues,
+    /// What it says of the batches that were repackaged.
     batch_links: BatchLinks,
 }
 

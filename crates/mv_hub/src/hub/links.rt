@@ -1,9 +1,11 @@
 //! What the hub does with its links: it relays, repeats and closes.
 
-ghost use Rattle.std.specs.Prelude.{◌≡◌, ◌+◌, ◌<◌, length, IfOk, OnOk, OnErr};
+ghost use Rattle.std.specs.Prelude.{◌≡◌, ◌+◌, ◌<◌, length, IsTrue, IfOk, OnOk, OnErr};
 ghost use Rattle.mv_link.specs.Frames.{IsFrameOf};
 ghost use Rattle.mv_link.specs.Fault.{FailsBy};
-ghost use Rattle.mv_hub.specs.Hub.{sent_of, items_on, relay_fault, repeat_fault, close_fault, with_relayed, with_closed};
+ghost use Rattle.mv_hub.specs.Hub.{are_parties, sent_of, items_on, relay_fault, repeat_fault};
+ghost use Rattle.mv_hub.specs.Hub.{close_fault};
+ghost use Rattle.mv_hub.specs.Hub.{with_relayed, with_closed};
 
 use crate::hub::Hub;
 use crate::{Entry, HubFault};
@@ -11,6 +13,16 @@ use mv_link::Frame;
 use mv_message::Party;
 
 impl Hub {
+    /// Whether both are parties.
+    fn are_parties(&self, from: Party, to: Party) -> bool
+        ensures value { result ≡ are_parties self.now from to }
+        ensures from { IsTrue result → from < length self.now.parties }
+        ensures to { IsTrue result → to < length self.now.parties }
+    {
+        let count = self.parties().len();
+        from < count && to < count
+    }
+
     /// How many items were put on the link from one party to another.
     pub fn total(&self, from: Party, to: Party) -> u32
         requires from { from < length self.now.parties }
@@ -29,8 +41,7 @@ impl Hub {
         ensures frame { IfOk result (λ frame. IsFrameOf (items_on self.now from to) frame) }
         ensures fault { FailsBy HubFault.Memory (relay_fault self.now from to) result }
     {
-        let count = self.parties().len();
-        if from >= count || to >= count {
+        if !self.are_parties(from, to) {
             return Err(HubFault::StrangerParty);
         }
         Ok(self.link(from, to).next()?)
@@ -43,13 +54,13 @@ impl Hub {
     pub fn relay(&mut self, from: Party, to: Party) -> Result<Frame, HubFault>
         ensures number { IfOk result (λ frame. frame.number ≡ sent_of self.old from to + 1) }
         ensures frame { IfOk result (λ frame. IsFrameOf (items_on self.old from to) frame) }
-        ensures waiting { OnOk result (sent_of self.old from to < length (items_on self.old from to)) }
+        ensures waiting { OnOk result
+            (sent_of self.old from to < length (items_on self.old from to)) }
         ensures ok { OnOk result (self.new ≡ with_relayed self.old from to) }
         ensures err { OnErr result (self.new ≡ self.old) }
         ensures fault { FailsBy HubFault.Memory (relay_fault self.old from to) result }
     {
-        let count = self.parties().len();
-        if from >= count || to >= count {
+        if !self.are_parties(from, to) {
             return Err(HubFault::StrangerParty);
         }
         let link = self.links.at_mut(from, to);
@@ -67,8 +78,7 @@ impl Hub {
         ensures frame { IfOk result (λ frame. IsFrameOf (items_on self.now from to) frame) }
         ensures fault { FailsBy HubFault.Memory (repeat_fault self.now from to number) result }
     {
-        let count = self.parties().len();
-        if from >= count || to >= count {
+        if !self.are_parties(from, to) {
             return Err(HubFault::StrangerParty);
         }
         Ok(self.link(from, to).again(number)?)
@@ -84,8 +94,7 @@ impl Hub {
         ensures err { OnErr result (self.new ≡ self.old) }
         ensures fault { FailsBy HubFault.Memory (close_fault self.old from to) result }
     {
-        let count = self.parties().len();
-        if from >= count || to >= count {
+        if !self.are_parties(from, to) {
             return Err(HubFault::StrangerParty);
         }
         if !self.is_open(from, to) {

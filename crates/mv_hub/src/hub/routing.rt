@@ -1,7 +1,8 @@
 //! How a message is routed. Only the links that gain something are looked at: those to the parties that it reaches, and
 //! that of its sender to itself.
 
-ghost use Rattle.std.specs.Prelude.{◌≡◌, ◌+◌, ◌<◌, ◌==◌, ℕ, length, replicate, true, false, IfOk, OnOk, OnErr, None};
+ghost use Rattle.std.specs.Prelude.{◌≡◌, ◌+◌, ◌<◌, ◌==◌, ℕ, length, replicate, true, false, IfOk};
+ghost use Rattle.std.specs.Prelude.{OnOk, OnErr, None};
 ghost use Rattle.std.specs.Option.{option_to_list};
 ghost use Rattle.std.specs.List.{list_any};
 ghost use Rattle.mv_hub.specs.Record.{routed_count};
@@ -26,6 +27,7 @@ use std::alloc::AllocError;
 struct Routing<'a> {
     /// Whose message it is.
     from: Party,
+    /// The message.
     message: &'a Shared<Message>,
     /// Its number among the messages of the party, from one.
     k: u32,
@@ -57,7 +59,8 @@ impl Hub {
     fn gaining(&self, routing: &Routing<'_>) -> Reach
         requires { IsRouting self.now routing.now }
         ensures those { result ≡ those (is_gaining self.now routing.now) (length self.now.parties) }
-        ensures others { (to : ℕ) → to < length self.now.parties → is_gaining self.now routing.now to ≡ false
+        ensures others { (to : ℕ) → to < length self.now.parties
+            → is_gaining self.now routing.now to ≡ false
             → is_busy self.now routing.now.from routing.now.message.now to ≡ false }
     {
         let mut found: ArrayVec<Party, PARTIES_LIMIT> = ArrayVec::new();
@@ -73,7 +76,8 @@ impl Hub {
         requires routing { IsRouting self.now routing.now }
         requires to { to < length self.now.parties }
         requires gains { is_gaining self.now routing.now to ≡ true }
-        ensures { result ≡ length (next_items self.now routing.now.from routing.now.message.now to) }
+        ensures { result
+            ≡ length (next_items self.now routing.now.from routing.now.message.now to) }
     {
         if to != routing.from {
             return 1;
@@ -109,7 +113,8 @@ impl Hub {
     /// The receipt of the routing, unless the link of its sender to itself is closed.
     fn receipt(&self, routing: &Routing<'_>) -> Result<Option<Item>, AllocError>
         requires { routing.now.from < length self.now.parties }
-        ensures { IfOk result (λ receipt. option_to_list receipt ≡ receipt_of self.now routing.now) }
+        ensures { IfOk result (λ receipt.
+            option_to_list receipt ≡ receipt_of self.now routing.now) }
     {
         if !self.is_open(routing.from, routing.from) {
             return Ok(None);
@@ -141,7 +146,8 @@ impl Hub {
     /// What the routing puts on the links of its sender.
     fn gains(&self, routing: &Routing<'_>) -> Result<Gains, AllocError>
         requires { routing.now.from < length self.now.parties }
-        ensures receipt { IfOk result (λ gains. option_to_list gains.receipt ≡ receipt_of self.now routing.now) }
+        ensures receipt { IfOk result (λ gains.
+            option_to_list gains.receipt ≡ receipt_of self.now routing.now) }
         ensures carried { IfOk result (λ gains.
             gains.carried.items ≡ replicate (length routing.now.reached) (carried_by routing.now)) }
     {
@@ -156,8 +162,10 @@ impl Hub {
         requires few { length self.old.entries < NUMBER_LIMIT }
         requires room { busy_party self.old routing.now.from routing.now.message.now ≡ None }
         requires receipt { option_to_list gains.receipt ≡ receipt_of self.old routing.now }
-        requires carried { gains.carried.items ≡ replicate (length routing.now.reached) (carried_by routing.now) }
-        ensures ok { OnOk result (self.new ≡ with_routed self.old routing.now.from routing.now.message.now) }
+        requires carried { gains.carried.items
+            ≡ replicate (length routing.now.reached) (carried_by routing.now) }
+        ensures ok { OnOk result
+            (self.new ≡ with_routed self.old routing.now.from routing.now.message.now) }
         ensures err { OnErr result (self.new ≡ self.old) }
     {
         let (from, k) = (routing.from, routing.k);

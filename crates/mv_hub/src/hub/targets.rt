@@ -3,8 +3,7 @@
 ghost use Rattle.std.specs.Prelude.{◌≡◌, ◌<◌, ◌==◌, ◌&&◌, not, length};
 ghost use Rattle.mv_hub.specs.Record.{market_table, is_open};
 ghost use Rattle.mv_hub.specs.Targets.{reach, is_query};
-ghost use Rattle.mv_hub.specs.PartySets.{is_candidate};
-ghost use Rattle.mv_hub.specs.PartySets.{those};
+ghost use Rattle.mv_hub.specs.PartySets.{is_candidate, those};
 
 use crate::hub::Hub;
 use arrayvec::ArrayVec;
@@ -26,7 +25,8 @@ impl Hub {
     /// The parties that a message may be for, whoever sends it.
     #[tactic(auto, unfolding(crate::specs::Targets::is_target))]
     fn candidates(&self, message: &Message) -> Reach
-        ensures { result ≡ those (is_candidate self.now.parties self.now.entries message.now) (length self.now.parties) }
+        ensures { result ≡ those (is_candidate self.now.parties self.now.entries message.now)
+            (length self.now.parties) }
     {
         let parties = self.parties();
         match message {

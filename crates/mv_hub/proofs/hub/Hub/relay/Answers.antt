@@ -1,4 +1,4 @@
-use Rattle.std.proofs.Common.{length, arith, ◌+◌, ◌∙◌, ap}
+use Rattle.std.proofs.Common.{◌+◌, ◌∙◌, IsTrue, ap, rules}
 use Rattle.std.proofs.lemmas.Result.{err_from_is_err_and}
 use Rattle.mv_link.specs.Sending.{new_sending}
 use Rattle.mv_hub.proofs.HubLemmas.{LinkFacts, link_facts, view_relayed, view_put_back}
@@ -8,9 +8,9 @@ use Rattle.mv_hub.proofs.hub.Hub.relay.Goals as goal
 facts : (c : In_ok-relay) → LinkFacts c.args.self.now c.args.from c.args.to c.at_mut-link.result.now
 facts c =
     let a = c.self.inside in
-    let count = ap length c.parties.ensures.value in
+    let among : IsTrue c.are_parties.result = let h = c.if-not-are_parties.false in search rules in
     link_facts a.parties a.window a.trail a.links c.args.self.now c.args.from c.args.to c.at_mut-link.result.now c.self.invariant.are_links c.self.view_is
-    (omega (arith, c.len-count.ensures.value, c.if-from-count.false)) (omega (arith, c.len-count.ensures.value, c.if-to-count.false)) (c.at_mut-link.ensures.value (new_sending 0))
+    (c.are_parties.ensures.from among) (c.are_parties.ensures.to among) (c.at_mut-link.ensures.value (new_sending 0))
 
 pub returns-in_err-relay-clause-err : goal.returns-in_err-relay-clause-err
 returns-in_err-relay-clause-err c =

@@ -1,8 +1,9 @@
 //! The end of a link that items are pushed at. It keeps the last of them in a ring of the window's size.
 
-ghost use Rattle.std.specs.Prelude.{◌≡◌, ◌+◌, ◌-◌, ◌<◌, ◌≤◌, ◌↔◌, List, [], ◌∷◌, ◌++◌, length, IsTrue, IsOk, OnOk, OnErr, IfOk, IfErr};
+ghost use Rattle.std.specs.Prelude.{◌≡◌, ◌+◌, ◌-◌, ◌<◌, ◌≤◌, ◌↔◌, List, [], ◌∷◌, ◌++◌, length};
+ghost use Rattle.std.specs.Prelude.{IsTrue, IsOk, OnOk, OnErr, IfOk, IfErr};
 
-use crate::{Frame, Item, LinkFault};
+use crate::{Frame, Item, LinkFault, NUMBER_LIMIT};
 use circular_buffer::HeapCircularBuffer;
 use std::alloc::{AllocError, Global};
 use std::marker::Model;
@@ -23,14 +24,25 @@ impl Model for Outgoing {
 
     ghost Value = { Sending };
 
-    ghost view = { λ a. record { window = a.held.capacity; total = a.total; sent = a.sent; held = a.held.items } };
+    ghost view = { λ a. record {
+      window = a.held.capacity;
+      total = a.total;
+      sent = a.sent;
+      held = a.held.items;
+    } };
 
-    ghost invariant = { λ a. IsSending (record { window = a.held.capacity; total = a.total; sent = a.sent; held = a.held.items }) };
+    ghost invariant = { λ a. IsSending (record {
+      window = a.held.capacity;
+      total = a.total;
+      sent = a.sent;
+      held = a.held.items;
+    }) };
 }
 
 impl Outgoing {
     ghost use Rattle.mv_link.specs.declared.item.Item.{Item as AnItem};
-    ghost use Rattle.mv_link.specs.Sending.{IsWindow, new_sending, with_item, with_relayed, HasRoom, EndsWithHeld};
+    ghost use Rattle.mv_link.specs.Sending.{IsWindow, new_sending, with_item, with_relayed};
+    ghost use Rattle.mv_link.specs.Sending.{HasRoom, EndsWithHeld};
     ghost use Rattle.mv_link.specs.Sending.{IsFrameOfAll, relay_fault, again_fault};
     ghost use Rattle.mv_link.specs.Fault.{FailsBy};
 
@@ -68,7 +80,7 @@ impl Outgoing {
         let waiting = u64::from(self.total - self.sent);
         let window = self.held.capacity() as u64;
         let more = u64::from(count);
-        waiting + more <= window && u64::from(self.total) + more <= u64::from(u32::MAX)
+        waiting + more <= window && u64::from(self.total) + more <= u64::from(NUMBER_LIMIT)
     }
 
     /// Pushes an item. It is always taken: what it pushes out of a full window was relayed.
@@ -110,7 +122,7 @@ impl Outgoing {
         if self.sent == self.total {
             return Err(LinkFault::Nothing);
         }
-        Ok(self.frame(self.sent + 1)?)
+        self.frame(self.sent + 1)
     }
 
     /// The next frame that was not relayed yet.

@@ -15,6 +15,7 @@ use std::marker::Model;
 /// list.
 #[derive(Debug, Drop)]
 pub struct SharedReach {
+    /// The parties, ascending.
     parties: Shared<Vec<Party>>,
 }
 
@@ -27,7 +28,8 @@ impl Model for SharedReach {
 
     ghost view = { λ reach. reach.parties.items };
 
-    ghost invariant = { λ reach. IsStrictlyIncreasing reach.parties.items × (length reach.parties.items ≤ PARTIES_LIMIT) };
+    ghost invariant = { λ reach. IsStrictlyIncreasing reach.parties.items
+        × (length reach.parties.items ≤ PARTIES_LIMIT) };
 }
 
 impl SharedReach {

@@ -37,10 +37,7 @@ impl SharedReach {
     pub fn of(alloc: Global, reach: &Reach) -> Result<SharedReach, AllocError>
         ensures { IfOk result (λ kept. kept ≡ reach.now) }
     {
-        let parties = reach.as_slice().to_vec(alloc)?;
-        Ok(SharedReach {
-            parties: Shared::new(alloc, parties)?,
-        })
+        SharedReach::kept(alloc, reach.as_slice())
     }
 
     /// The same once more. Refused where so many hold it that they cannot be counted.
@@ -56,10 +53,7 @@ impl SharedReach {
     pub fn copy(&self, alloc: Global) -> Result<SharedReach, AllocError>
         ensures { IfOk result (λ copied. copied ≡ self.now) }
     {
-        let parties = self.as_slice().to_vec(alloc)?;
-        Ok(SharedReach {
-            parties: Shared::new(alloc, parties)?,
-        })
+        SharedReach::kept(alloc, self.as_slice())
     }
 
     /// The parties, ascending.
@@ -69,6 +63,18 @@ impl SharedReach {
         ensures few { length result.now ≤ PARTIES_LIMIT }
     {
         self.parties.get().as_slice()
+    }
+
+    /// These parties, which ascend, in memory of their own. Refused for want of memory.
+    fn kept(alloc: Global, parties: &[Party]) -> Result<SharedReach, AllocError>
+        requires ascending { IsStrictlyIncreasing parties.now }
+        requires few { length parties.now ≤ PARTIES_LIMIT }
+        ensures { IfOk result (λ kept. kept ≡ parties.now) }
+    {
+        let parties = parties.to_vec(alloc)?;
+        Ok(SharedReach {
+            parties: Shared::new(alloc, parties)?,
+        })
     }
 }
 

@@ -12,5 +12,5 @@ mod verdicts;
 
 pub use applied::{know_lawful, submission_at};
 pub use calls::{ask_and_run, run_twice, step_twice};
-pub use refusals::{ask_twice_at_most, step_twice_at_most};
+pub use refusals::{ask_twice_at_most, step_twice_at_most, submit_twice_at_most};
 pub use verdicts::{verdicts_after_two_runs, verdicts_in_one_system, verdicts_in_two_systems};

@@ -6,6 +6,8 @@
 #[cfg(test)]
 mod hub;
 #[cfg(test)]
+mod lines;
+#[cfg(test)]
 mod link;
 #[cfg(test)]
 mod message;
@@ -15,5 +17,3 @@ mod pack;
 mod pairs;
 #[cfg(test)]
 mod repository;
-#[cfg(test)]
-mod tool;

@@ -24,13 +24,13 @@ use Rattle.clap.proofs.OnLiterals.{clap_on_literals}
 use Rattle.clap.specs.Words.{IsAmong}
 use Rattle.clap.specs.declared.error.kind.ErrorKind.{ErrorKind}
 use Rattle.clap.specs.declared.error.kind.ErrorKind.TheVariants.{OutOfMemory}
-use Rattle.mv_tool.specs.declared.fault.ServeFault.{ServeFault}
+use Rattle.mv_lines.specs.declared.fault.ServeFault.{ServeFault}
 use Rattle.mv_tool.specs.declared.status.Status.{Status}
 use Rattle.mv_tool.specs.declared.status.Status.TheVariants.{Done, Failed}
-use Rattle.mv_tool.specs.Canon.{IsCanon}
+use Rattle.mv_lines.specs.Canon.{IsCanon}
 use Rattle.mv_tool.specs.Commands.{command_line, GiveTurns, IsMistake, NameAsks, OptionAsks, RanLines, RanWork, WritesTurns}
-use Rattle.mv_tool.specs.Replies.{ReplyRule}
-use Rattle.mv_tool.specs.Served.{Served, Ended}
+use Rattle.mv_lines.specs.Replies.{ReplyRule}
+use Rattle.mv_lines.specs.Served.{Served, Ended}
 use Rattle.mv_tool.specs.Working.{Worked, Failed as WorkFailed}
 
 -- the name of the subcommand, by the rows

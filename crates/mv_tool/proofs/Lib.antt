@@ -1,14 +1,4 @@
-pub mod PartLemmas
-pub mod InputLemmas
-pub mod OutputLemmas
-pub mod RepliesLemmas
-pub mod ListLemmas
-pub mod WritingLemmas
-pub mod KeyOrderLemmas
-pub mod ServedLemmas
-pub mod CanonLemmas
 pub mod CommandLemmas
-pub mod PlainLineLemmas
 pub mod ReportLemmas
 pub mod DraftLemmas
 pub mod WorkLemmas

@@ -1,26 +1,26 @@
 -- Lemmas on what `work` writes.
-use Rattle.std.proofs.Common.{◌≡◌, ℕ, List, [], ◌∷◌, ◌++◌, refl, ap, sym, ◌∙◌, subst, true≢false, ◌⊎◌, inl, inr}
+use Rattle.std.proofs.Common.{◌≡◌, ℕ, List, [], ◌∷◌, ◌++◌, refl, ap, sym, ◌∙◌, subst, true≢false, ◌⊎◌, inl, inr, string_bytes}
 use Rattle.std.specs.Prelude.{IfOk, IfSome, Option, Some, None, Result, Ok, Err, Bool, true, false}
 use Rattle.mv_machine.specs.State.{State}
 use Rattle.mv_workers.specs.declared.plan.Plan.{Plan}
 use Rattle.mv_workers.specs.Plans.{KeepsPlan, IsComplete}
 use Rattle.mv_tool.specs.declared.working.Output.{Output}
-use Rattle.mv_tool.specs.declared.fault.ServeFault.{ServeFault}
-use Rattle.mv_tool.specs.declared.fault.ServeFault.TheVariants.{Memory, Start}
+use Rattle.mv_lines.specs.declared.fault.ServeFault.{ServeFault}
+use Rattle.mv_lines.specs.declared.fault.ServeFault.TheVariants.{Memory, Start}
 use Rattle.mv_tool.specs.Drafts.{parts_of}
 use Rattle.mv_tool.specs.Report.{report_text}
-use Rattle.mv_tool.specs.Replies.{AreReplies}
-use Rattle.mv_tool.specs.Served.{Served}
-use Rattle.mv_tool.specs.Lines.{pieces, lines_of}
+use Rattle.mv_lines.specs.Replies.{AreReplies}
+use Rattle.mv_lines.specs.Served.{Served}
+use Rattle.mv_lines.specs.Lines.{pieces, lines_of}
 use Rattle.mv_tool.specs.Planning.{Planned, PlansSome, IsPlanned, plan_lines}
-use Rattle.mv_tool.specs.Output.{WrotePart}
+use Rattle.mv_lines.specs.Output.{WrotePart}
 use Rattle.mv_tool.specs.Working.{end_line, IsReported, IsRead, IsOutput, IsWorked, Worked, Failed}
 use Rattle.std.specs.Io.KnownBytes.{Appends, Keeps}
 
 -- the report of a complete outcome
 pub finished_output : {E : Type 0} (r : Result Output E) (plan : Plan) (outcome : State) → KeepsPlan plan outcome → IsComplete plan outcome
-    → IfOk r (λ output. output.text.items ≡ report_text outcome ++ end_line true) → IfOk r (λ output. output.finished ≡ true)
-    → IfOk r (λ output. IsReported (parts_of plan) output.text.items output.finished)
+    → IfOk r (λ output. string_bytes output.text ≡ report_text outcome ++ end_line true) → IfOk r (λ output. output.finished ≡ true)
+    → IfOk r (λ output. IsReported (parts_of plan) (string_bytes output.text) output.finished)
 finished_output (Ok output) plan outcome keeps complete text done = record {
   plan = plan;
   planned = refl;
@@ -34,8 +34,8 @@ finished_output (Err e) plan outcome keeps complete text done = tt
 
 -- the report of an outcome that is not complete
 pub unfinished_output : {E : Type 0} (r : Result Output E) (plan : Plan) (outcome : State) → KeepsPlan plan outcome → (IsComplete plan outcome → ⊥)
-    → IfOk r (λ output. output.text.items ≡ report_text outcome ++ end_line false) → IfOk r (λ output. output.finished ≡ false)
-    → IfOk r (λ output. IsReported (parts_of plan) output.text.items output.finished)
+    → IfOk r (λ output. string_bytes output.text ≡ report_text outcome ++ end_line false) → IfOk r (λ output. output.finished ≡ false)
+    → IfOk r (λ output. IsReported (parts_of plan) (string_bytes output.text) output.finished)
 unfinished_output (Ok output) plan outcome keeps incomplete text left = record {
   plan = plan;
   planned = refl;

@@ -8,11 +8,11 @@ use Rattle.clap.specs.declared.builder.value_parser.ValueParser.TheVariants.{Sig
 use Rattle.clap.specs.Simple.{new_shape, on_top}
 use Rattle.clap.specs.declared.error.kind.ErrorKind.{ErrorKind}
 use Rattle.clap.specs.declared.error.kind.ErrorKind.TheVariants.{DisplayHelp, DisplayVersion}
-use Rattle.mv_tool.specs.declared.fault.ServeFault.{ServeFault}
+use Rattle.mv_lines.specs.declared.fault.ServeFault.{ServeFault}
 use Rattle.mv_tool.specs.declared.status.Status.{Status}
 use Rattle.mv_tool.specs.declared.status.Status.TheVariants.{Done, Failed, Refused}
-use Rattle.mv_tool.specs.Replies.{ReplyRule}
-use Rattle.mv_tool.specs.Served.{Served, Ended}
+use Rattle.mv_lines.specs.Replies.{ReplyRule}
+use Rattle.mv_lines.specs.Served.{Served, Ended}
 use Rattle.mv_tool.specs.Working.{Worked, Failed as WorkFailed}
 
 -- `mvhub`, of which a subcommand is required; it tells its version, and without words how it is called

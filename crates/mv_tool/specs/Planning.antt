@@ -1,5 +1,5 @@
 -- What lines plan: a plan, once a line has opened it, or the refusal of the first line that is refused.
-use Rattle.std.specs.Prelude.{◌≡◌, ℕ, List, [], ◌∷◌, length, nat_lt, codes, if◌then◌else◌, Option, Some, None, Result, Ok, Err}
+use Rattle.std.specs.Prelude.{◌≡◌, ℕ, List, [], ◌∷◌, length, nat_lt, codes, string_bytes, if◌then◌else◌, Option, Some, None, Result, Ok, Err}
 use Rattle.serde_json.specs.Data.{Data}
 use Rattle.serde_json.specs.Written.{compact_text}
 use Rattle.mv_message.specs.declared.message.Message.TheVariants.{Query}
@@ -9,17 +9,17 @@ use Rattle.mv_machine.specs.Limits.{Bounds, limits_of}
 use Rattle.mv_machine.specs.declared.reply.Refusal.TheVariants.{Party, NotYours}
 use Rattle.mv_machine.specs.declared.step.Step.{Step}
 use Rattle.mv_machine.specs.declared.step.Step.TheVariants.{Submit, Verify}
-use Rattle.mv_tool.specs.declared.line_fault.LineFault.{LineFault}
-use Rattle.mv_tool.specs.declared.open_fault.OpenFault.{OpenFault}
-use Rattle.mv_tool.specs.declared.open_fault.OpenFault.TheVariants.{NotOpen, AlreadyOpen}
+use Rattle.mv_lines.specs.declared.line_fault.LineFault.{LineFault}
+use Rattle.mv_lines.specs.declared.open_fault.OpenFault.{OpenFault}
+use Rattle.mv_lines.specs.declared.open_fault.OpenFault.TheVariants.{NotOpen, AlreadyOpen}
 use Rattle.mv_tool.specs.declared.planned.Planned.{Planned as HeldPlan}
 use Rattle.mv_tool.specs.declared.planned.Planned.TheVariants as held
-use Rattle.mv_tool.specs.declared.request.Request.{Request}
-use Rattle.mv_tool.specs.declared.request.Request.TheVariants as requests
+use Rattle.mv_lines.specs.declared.request.Request.{Request}
+use Rattle.mv_lines.specs.declared.request.Request.TheVariants as requests
 use Rattle.mv_tool.specs.Drafts.{Parts, new_parts, with_message}
-use Rattle.mv_tool.specs.Openings.{code_of, of_parties, of_limits}
-use Rattle.mv_tool.specs.ReplyLines.{refused, line_fault_value, refusal_value}
-use Rattle.mv_tool.specs.Requests.{read_line}
+use Rattle.mv_lines.specs.Openings.{code_of, of_parties, of_limits}
+use Rattle.mv_lines.specs.ReplyLines.{refused, line_fault_value, refusal_value}
+use Rattle.mv_lines.specs.Requests.{read_line}
 
 -- what some lines plan: nothing yet, a plan, or the text of a refusal
 abbrev pub Planned : Type 0
@@ -33,7 +33,7 @@ PlansSome planned = (parts : Parts) × (planned ≡ Ok (Some parts))
 abbrev pub planned_of : HeldPlan → Planned
 planned_of held.Nothing = Ok None
 planned_of (held.Plan plan) = Ok (Some plan)
-planned_of (held.Refused text) = Err text.items
+planned_of (held.Refused text) = Err (string_bytes text)
 
 -- a line is refused by this value
 abbrev pub refuses : Data → Planned

@@ -5,16 +5,16 @@ use Rattle.serde_json.specs.Written.{compact_text}
 use Rattle.mv_machine.specs.State.{State}
 use Rattle.mv_workers.specs.declared.plan.Plan.{Plan}
 use Rattle.mv_workers.specs.Plans.{KeepsPlan, IsComplete}
-use Rattle.mv_tool.specs.declared.fault.ServeFault.{ServeFault}
-use Rattle.mv_tool.specs.declared.fault.ServeFault.TheVariants.{Write, TooManyLines, LineTooLong, Start}
-use Rattle.mv_tool.specs.declared.open_fault.OpenFault.TheVariants.{NotOpen}
-use Rattle.mv_tool.specs.Lines.{pieces, lines_of, KeepLimits}
+use Rattle.mv_lines.specs.declared.fault.ServeFault.{ServeFault}
+use Rattle.mv_lines.specs.declared.fault.ServeFault.TheVariants.{Write, TooManyLines, LineTooLong, Start}
+use Rattle.mv_lines.specs.declared.open_fault.OpenFault.TheVariants.{NotOpen}
+use Rattle.mv_lines.specs.Lines.{pieces, lines_of, KeepLimits}
 use Rattle.mv_tool.specs.Drafts.{Parts, parts_of}
-use Rattle.mv_tool.specs.Openings.{code_of}
-use Rattle.mv_tool.specs.Output.{WrotePart}
+use Rattle.mv_lines.specs.Openings.{code_of}
+use Rattle.mv_lines.specs.Output.{WrotePart}
 use Rattle.mv_tool.specs.Planning.{Planned, PlansSome, plan_lines}
-use Rattle.mv_tool.specs.ReplyLines.{refused}
-use Rattle.mv_tool.specs.Served.{StopsIn}
+use Rattle.mv_lines.specs.ReplyLines.{refused}
+use Rattle.mv_lines.specs.Served.{StopsIn}
 use Rattle.mv_tool.specs.Report.{report_text}
 
 -- the last line: whether the plan was finished

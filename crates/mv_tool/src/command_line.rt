@@ -6,16 +6,15 @@ ghost use Rattle.clap.specs.Words.{app_of, fault_of, FailsBy, new_app, one_of, r
 ghost use Rattle.clap.specs.Values.{kind_of};
 ghost use Rattle.clap.specs.declared.builder.command.Command.TheViews.{out-Command as fields_of};
 ghost use Rattle.clap.specs.declared.error.kind.ErrorKind.TheVariants.{OutOfMemory};
-ghost use Rattle.mv_tool.specs.Canon.{IsCanon};
+ghost use Rattle.mv_lines.specs.Canon.{IsCanon};
 ghost use Rattle.mv_tool.specs.Commands.{command_line, turns_rule, AsksFor, AsksForWork, AreNotTaken, AreMistaken, IsMistake, RanLines, RanWork, WritesTurns};
-ghost use Rattle.mv_tool.specs.Sessions.{IsReply};
+ghost use Rattle.mv_lines.specs.Sessions.{IsReply};
 ghost use Rattle.mv_tool.specs.Statuses.{status_code};
 ghost use Rattle.mv_tool.specs.declared.status.Status.{Status as AStatus};
 
-use crate::output::put_out;
-use crate::steps::serve_last;
-use crate::{ServeFault, Status, canon, work};
+use crate::{Status, work};
 use clap::{Arg, ArgMatches, Command, Error, value_parser};
+use mv_lines::{ServeFault, canon, put_out, serve_last};
 use mv_workers::NoGate;
 use std::alloc::{AllocError, Global};
 use std::io::{Read, Write};

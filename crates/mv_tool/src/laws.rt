@@ -1,14 +1,7 @@
-//! Laws over the definitions alone: of the replies, and of the words of the command line.
+//! Laws over the definitions alone, of the words of the command line.
 
 ghost use Rattle.std.specs.Prelude.{codes};
 ghost use Rattle.mv_tool.specs.Commands.{NameAsks, OptionAsks};
-ghost use Rattle.mv_tool.specs.KeyOrder.{RepliesAreOrdered};
-
-/// Each reply is a JSON object whose keys ascend in byte order, so that there is one text of it.
-#[tactic(auto, using(crate::proofs::KeyOrderLemmas::replies_are_ordered))]
-pub fn replies_are_ordered()
-    ensures { RepliesAreOrdered }
-{}
 
 /// The words `mvhub steps` ask for `steps`, whatever the program's name is.
 pub fn steps_named()

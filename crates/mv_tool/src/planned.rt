@@ -10,5 +10,5 @@ pub(crate) enum Planned {
     /// This plan.
     Plan(Draft),
     /// A line was refused, the first of all by this text.
-    Refused(Vec<u8>),
+    Refused(String),
 }

@@ -2,9 +2,9 @@
 
 ghost use Rattle.std.specs.Prelude.{◌≡◌, Ok, None};
 
-use crate::answering::Answering;
 use crate::planned::Planned;
 use crate::planning::plan_line;
+use mv_lines::Answering;
 use std::alloc::{AllocError, Global};
 use std::marker::Model;
 use std::mem;

@@ -1,16 +1,17 @@
 //! What a line adds to a plan.
 
 ghost use Rattle.std.specs.Prelude.{◌≡◌, IfOk};
-ghost use Rattle.mv_tool.specs.Openings.{of_parties, code_of};
+ghost use Rattle.mv_lines.specs.Openings.{of_parties, code_of};
 ghost use Rattle.mv_hub.specs.Parties.{parties_of};
-ghost use Rattle.mv_tool.specs.ReplyLines.{refused};
+ghost use Rattle.mv_lines.specs.ReplyLines.{refused, refusal_value};
 ghost use Rattle.mv_tool.specs.Planning.{planned_of, refuses, begins, plan_step, plan_request, plan_line};
 
 use crate::draft::Draft;
-use crate::opening::{limits_of, parties_of};
 use crate::planned::Planned;
-use crate::reply_line::{Refused, ReplyLine, append};
-use crate::{LineFault, MarketLists, OpenFault, Request};
+use mv_lines::{
+    LineFault, MarketLists, OpenFault, Request, fault_text, limits_of, parties_of, refusal_text,
+    reply_text,
+};
 use mv_machine::{Limits, Refusal, Reply, Step};
 use mv_message::{Message, Shared};
 use mv_party::is_query_or_answer;
@@ -28,7 +29,7 @@ pub(crate) fn plan_line(alloc: Global, planned: Planned, line: &[u8]) -> Result<
     match Request::read(alloc, line) {
         Ok(request) => plan_request(alloc, draft, request),
         Err(LineFault::Memory) => Err(AllocError),
-        Err(fault) => refuse(alloc, &fault),
+        Err(fault) => Ok(Planned::Refused(fault_text(alloc, &fault)?)),
     }
 }
 
@@ -86,36 +87,41 @@ fn plan_step(alloc: Global, draft: Draft, step: Step) -> Result<Planned, AllocEr
     match step {
         Step::Submit { from, message } => {
             if !draft.is_party(from) {
-                return refuse(alloc, &Reply::Refused(Refusal::Party));
+                return refuse_step(alloc, Refusal::Party);
             }
             if is_query_or_answer(message.get()) {
-                return refuse(alloc, &Reply::Refused(Refusal::NotYours));
+                return refuse_step(alloc, Refusal::NotYours);
             }
             Ok(Planned::Plan(draft.with_message(from, message)?))
         }
         Step::Verify { party, key } => {
             if !draft.is_party(party) {
-                return refuse(alloc, &Reply::Refused(Refusal::Party));
+                return refuse_step(alloc, Refusal::Party);
             }
             let query = Shared::new(alloc, Message::Query { key })?;
             Ok(Planned::Plan(draft.with_message(party, query)?))
         }
-        _ => refuse(alloc, &Refused { code: "C3" }),
+        _ => refuse(alloc, "C3"),
     }
+}
+
+/// A line is refused as such a step is.
+fn refuse_step(alloc: Global, refusal: Refusal) -> Result<Planned, AllocError>
+    ensures { IfOk result (λ after. planned_of after ≡ refuses (refusal_value refusal)) }
+{
+    Ok(Planned::Refused(reply_text(alloc, &Reply::Refused(refusal))?))
 }
 
 /// A line is refused by what is open.
 fn refuse_opening(alloc: Global, fault: OpenFault) -> Result<Planned, AllocError>
     ensures { IfOk result (λ after. planned_of after ≡ refuses (refused (code_of fault))) }
 {
-    refuse(alloc, &Refused { code: fault.code() })
+    refuse(alloc, fault.code())
 }
 
-/// A line is refused.
-fn refuse<T: ReplyLine>(alloc: Global, reply: &T) -> Result<Planned, AllocError>
-    ensures { IfOk result (λ after. planned_of after ≡ refuses (T.value reply.now)) }
+/// A line is refused by this number.
+fn refuse(alloc: Global, code: &'static str) -> Result<Planned, AllocError>
+    ensures { IfOk result (λ after. planned_of after ≡ refuses (refused code.now)) }
 {
-    let mut text = Vec::new(alloc);
-    append(alloc, &mut text, reply)?;
-    Ok(Planned::Refused(text))
+    Ok(Planned::Refused(refusal_text(alloc, code)?))
 }

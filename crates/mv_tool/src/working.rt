@@ -1,20 +1,18 @@
 //! Carries out a plan, and reports.
 
-ghost use Rattle.std.specs.Prelude.{◌≡◌, ◌++◌, ◌∷◌, [], ◌⊎◌, false, IfOk, IfErr, IfSome};
+ghost use Rattle.std.specs.Prelude.{◌≡◌, ◌++◌, ◌∷◌, [], ◌⊎◌, false, IfOk, IfErr, IfSome, string_bytes};
 ghost use Rattle.mv_workers.specs.Plans.{IsSound};
 ghost use Rattle.mv_tool.specs.Drafts.{parts_of};
 ghost use Rattle.mv_tool.specs.Planning.{planned_of, PlansSome};
 ghost use Rattle.mv_tool.specs.Report.{report_text};
 ghost use Rattle.mv_tool.specs.Working.{end_line, IsReported, IsOutput, Worked, IsRead, Unread, Failed};
 
-use crate::engine::answer_lines;
-use crate::output::put_out;
 use crate::planned::Planned;
 use crate::planner::Planner;
-use crate::reply_line::{Refused, append};
+use crate::report;
 use crate::unwritten::Unwritten;
-use crate::{OpenFault, ServeFault, report};
 use mv_ends::Outcome;
+use mv_lines::{OpenFault, ServeFault, answer_lines, put_out, refusal_text};
 use mv_workers::{Gate, Plan, WorkFault, run_workers};
 use std::alloc::Global;
 use std::io::{Read, Write};
@@ -25,7 +23,7 @@ use std::thread::Threads;
 /// What is written at the end, and whether the plan was finished.
 #[derive(Drop)]
 struct Output {
-    text: Vec<u8>,
+    text: String,
     finished: bool,
 }
 
@@ -49,7 +47,7 @@ pub fn work<H: Threads + Wait + Sync, R: Read, W: Write, G: Gate>(
 {
     let planned = read_plan(alloc, reader)?;
     let output = carry_out(rt, alloc, planned, turns, gate)?;
-    put_out(writer, output.text.as_slice())?;
+    put_out(writer, output.text.as_bytes())?;
     Ok(output.finished)
 }
 
@@ -75,35 +73,26 @@ fn carry_out<H: Threads + Wait + Sync, G: Gate>(
     turns: u32,
     gate: &G,
 ) -> Result<Output, ServeFault>
-    ensures ok { IfOk result (λ output. IsOutput (planned_of planned) output.text.items output.finished) }
+    ensures ok { IfOk result (λ output.
+        IsOutput (planned_of planned) (string_bytes output.text) output.finished) }
     ensures err { IfErr result (λ fault. (fault ≡ ServeFault.Memory)
         ⊎ ((fault ≡ ServeFault.Start) × PlansSome (planned_of planned))) }
 {
     match planned {
-        Planned::Nothing => {
-            let mut text = Vec::new(alloc);
-            append(
-                alloc,
-                &mut text,
-                &Refused {
-                    code: OpenFault::NotOpen.code(),
-                },
-            )?;
-            refusal(text)
-        }
+        Planned::Nothing => refusal(refusal_text(alloc, OpenFault::NotOpen.code())?),
         Planned::Refused(text) => refusal(text),
         Planned::Plan(draft) => run(rt, alloc, draft.into_plan(), turns, gate),
     }
 }
 
 /// The output of a refusal.
-fn refusal(text: Vec<u8>) -> Result<Output, ServeFault>
-    ensures text { IfOk result (λ output. output.text.items ≡ text.items ++ 10 ∷ []) }
+fn refusal(text: String) -> Result<Output, ServeFault>
+    ensures text { IfOk result (λ output. string_bytes output.text ≡ string_bytes text ++ 10 ∷ []) }
     ensures unfinished { IfOk result (λ output. output.finished ≡ false) }
     ensures err { IfErr result (λ fault. fault ≡ ServeFault.Memory) }
 {
     let mut text = text;
-    text.push(b'\n')?;
+    text.push_str("\n")?;
     Ok(Output {
         text,
         finished: false,
@@ -119,7 +108,7 @@ fn run<H: Threads + Wait + Sync, G: Gate>(
     gate: &G,
 ) -> Result<Output, ServeFault>
     requires sound { IsSound plan }
-    ensures ok { IfOk result (λ output. IsReported (parts_of plan) output.text.items output.finished) }
+    ensures ok { IfOk result (λ output. IsReported (parts_of plan) (string_bytes output.text) output.finished) }
     ensures err { IfErr result (λ fault. (fault ≡ ServeFault.Memory) ⊎ (fault ≡ ServeFault.Start)) }
 {
     match run_workers(rt, alloc, plan, turns, gate) {
@@ -133,7 +122,7 @@ fn run<H: Threads + Wait + Sync, G: Gate>(
 
 /// The report of an outcome, and whether it is complete.
 fn reported(alloc: Global, outcome: &Outcome, finished: bool) -> Result<Output, ServeFault>
-    ensures text { IfOk result (λ output. output.text.items ≡ report_text outcome.now ++ end_line finished) }
+    ensures text { IfOk result (λ output. string_bytes output.text ≡ report_text outcome.now ++ end_line finished) }
     ensures finished { IfOk result (λ output. output.finished ≡ finished) }
     ensures err { IfErr result (λ fault. fault ≡ ServeFault.Memory) }
 {
@@ -143,8 +132,5 @@ fn reported(alloc: Global, outcome: &Outcome, finished: bool) -> Result<Output, 
     } else {
         text.push_str("unfinished\n")?;
     }
-    Ok(Output {
-        text: text.into_bytes(),
-        finished,
-    })
+    Ok(Output { text, finished })
 }

@@ -13,9 +13,9 @@ pub returns-in_err-put_out-clause-err : goal.returns-in_err-put_out-clause-err
 returns-in_err-put_out-clause-err g c =
     let p = err_from_is_err_and c.from_residual-in_err-put_out.result c.from_residual-in_err-put_out.ensures.1 in
     rw (p.1, p.2, c.in_err-put_out.ensures.fault)
-    (worked_part _ _ _ _ _ _ c.in_ok-output.output.finished c.in_ok-planned.ensures.ok c.in_ok-output.ensures.ok c.as_slice.ensures.value c.in_err-put_out.ensures.err)
+    (worked_part _ _ _ _ _ _ c.in_ok-output.output.finished c.in_ok-planned.ensures.ok c.in_ok-output.ensures.ok c.as_bytes.ensures.value c.in_err-put_out.ensures.err)
 
 -- the output went out
 pub returns-clause-ok : goal.returns-clause-ok
 returns-clause-ok g c =
-    worked_whole _ _ _ _ _ _ c.in_ok-output.output.finished c.in_ok-planned.ensures.ok c.in_ok-output.ensures.ok c.as_slice.ensures.value c.in_ok-put_out.ensures.ok
+    worked_whole _ _ _ _ _ _ c.in_ok-output.output.finished c.in_ok-planned.ensures.ok c.in_ok-output.ensures.ok c.as_bytes.ensures.value c.in_ok-put_out.ensures.ok

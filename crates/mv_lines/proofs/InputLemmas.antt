@@ -1,0 +1,180 @@
+-- Lemmas on an input that comes in parts.
+use Rattle.std.proofs.Common.{◌≡◌, ℕ, ◌+◌, ◌<◌, ◌≤◌, List, [], ◌∷◌, ◌++◌, length, refl, sym, ◌∙◌, ap, subst, arith, append_assoc, append-nil, length-append, true, false, rules}
+use Rattle.std.proofs.lemmas.List.{map-append}
+use Rattle.std.proofs.lemmas.List.Elements.{All-append, filter-append}
+use Rattle.std.specs.Prelude.{cond, ◌==◌, map, filter, Result, Ok, Err, OnOk, IfErr}
+use Rattle.std.specs.Io.BufRead.{strip_last}
+use Rattle.mv_lines.specs.declared.fault.ServeFault.{ServeFault}
+use Rattle.mv_lines.specs.declared.fault.ServeFault.TheVariants.{Read, Write, Memory, TooManyLines, LineTooLong, Start}
+use Rattle.mv_lines.specs.Lines.{whole_from, rest_from, lines_of, has_byte, line_limit, lines_limit, IsUnended, IsShort, KeepLimits}
+use Rattle.mv_lines.specs.Replies.{IsReplies}
+use Rattle.mv_lines.specs.Served.{StopsAt, StopsIn, Stopped}
+use Rattle.mv_lines.specs.Taking.{Taken}
+use Rattle.mv_lines.proofs.PartLemmas.{unended_whole, unended_rest, unended_front}
+use Rattle.mv_lines.proofs.RepliesLemmas.{IsReplies-append, IsReplies-nil}
+
+-- the whole pieces of two parts
+pub whole_from-append : (begun xs ys : List ℕ) → whole_from begun (xs ++ ys) ≡ whole_from begun xs ++ whole_from (rest_from begun xs) ys
+whole_from-append begun [] ys = refl
+whole_from-append begun (x ∷ xs) ys =
+    elim (x == 10) as (λ b. cond b (begun ∷ whole_from [] (xs ++ ys)) (whole_from (begun ++ x ∷ []) (xs ++ ys))
+    ≡ cond b (begun ∷ whole_from [] xs) (whole_from (begun ++ x ∷ []) xs) ++ whole_from (cond b (rest_from [] xs) (rest_from (begun ++ x ∷ []) xs)) ys) [
+      | true ↦ ap (λ l. begun ∷ l) (whole_from-append [] xs ys)
+      | false ↦ whole_from-append (begun ++ x ∷ []) xs ys
+    ]
+
+-- what two parts leave begun
+pub rest_from-append : (begun xs ys : List ℕ) → rest_from begun (xs ++ ys) ≡ rest_from (rest_from begun xs) ys
+rest_from-append begun [] ys = refl
+rest_from-append begun (x ∷ xs) ys =
+    elim (x == 10) as (λ b. cond b (rest_from [] (xs ++ ys)) (rest_from (begun ++ x ∷ []) (xs ++ ys))
+    ≡ rest_from (cond b (rest_from [] xs) (rest_from (begun ++ x ∷ []) xs)) ys) [
+      | true ↦ rest_from-append [] xs ys
+      | false ↦ rest_from-append (begun ++ x ∷ []) xs ys
+    ]
+
+-- the lines of two lists of pieces
+pub lines_of-append : (ps qs : List (List ℕ)) → lines_of (ps ++ qs) ≡ lines_of ps ++ lines_of qs
+lines_of-append ps qs = ap (filter has_byte) (map-append (strip_last 13) ps qs) ∙ filter-append has_byte (map (strip_last 13) ps) (map (strip_last 13) qs)
+
+-- the lines that end in two parts
+pub whole_lines-append : (begun xs ys : List ℕ) → lines_of (whole_from begun (xs ++ ys)) ≡ lines_of (whole_from begun xs) ++ lines_of (whole_from (rest_from begun xs) ys)
+whole_lines-append begun xs ys = ap lines_of (whole_from-append begun xs ys) ∙ lines_of-append (whole_from begun xs) (whole_from (rest_from begun xs) ys)
+
+-- no piece keeps the limits, wherever a run has come
+pub KeepLimits-nil : (count : ℕ) → count ≤ lines_limit → KeepLimits count []
+KeepLimits-nil count few = record { few = omega (arith, few); short = search rules }
+
+-- pieces keep the limits where those of both parts do
+pub KeepLimits-append : (count : ℕ) (ps qs : List (List ℕ)) → KeepLimits count ps → KeepLimits (count + length ps) qs → KeepLimits count (ps ++ qs)
+KeepLimits-append count ps qs first next = record {
+  few = rw length-append (omega (arith, next.few));
+  short = All-append IsShort ps qs first.short next.short;
+}
+
+-- the place where a later part stops is one of the whole
+pub stops_later : (fault : ServeFault) (begun : List ℕ) (count : ℕ) (front good bad tail : List ℕ)
+    → StopsAt fault (rest_from begun front) (count + length (whole_from begun front)) good bad → StopsAt fault begun count (front ++ good) (bad ++ tail)
+stops_later Read begun count front good bad tail why = why
+stops_later Write begun count front good bad tail why = why
+stops_later Start begun count front good bad tail why = why
+stops_later Memory begun count front good bad tail why = why
+stops_later TooManyLines begun count front good bad tail why =
+    (rw (whole_from-append begun front good, length-append) (omega (arith, why.0)), rw length-append (omega (arith, why.1)))
+stops_later LineTooLong begun count front good bad tail (behind, full, next, more, e, other) = (
+  rw (whole_from-append begun front good, length-append) (omega (arith, behind)),
+  rw (rest_from-append begun front good) full,
+  next,
+  more ++ tail,
+  ap (λ l. l ++ tail) e,
+  other,
+)
+
+-- no bytes are added
+pub none_added : (kept kept' : List ℕ) → kept' ≡ kept → kept' ≡ kept ++ []
+none_added kept kept' same = same ∙ sym (append-nil kept)
+
+module _ {S : Type 0} (Reply : S → List ℕ → List ℕ → S → Type 0) where
+  -- bytes that end no line are taken
+  pub part_taken : (begun part begun' : List ℕ) (count count' : ℕ) (a : S) → IsUnended part → count ≤ lines_limit → begun' ≡ begun ++ part → count' ≡ count
+      → Taken Reply begun count a part begun' count' a []
+  part_taken begun part begun' count count' a unended few grown same = record {
+    rest = grown ∙ sym (unended_rest begun part unended);
+    counted = rw (unended_whole begun part unended) (omega (arith, same));
+    kept = rw (unended_whole begun part unended) (KeepLimits-nil count few);
+    replied = rw (unended_whole begun part unended) (IsReplies-nil Reply a);
+  }
+
+  -- one part is taken, and then the next
+  pub taken_more : {begun xs begun' ys begun'' out other : List ℕ} {count count' count'' : ℕ} {a b c : S}
+      → Taken Reply begun count a xs begun' count' b out → Taken Reply begun' count' b ys begun'' count'' c other
+      → Taken Reply begun count a (xs ++ ys) begun'' count'' c (out ++ other)
+  taken_more {begun = begun} {xs = xs} {ys = ys} {out = out} {other = other} {count = count} {a = a} {b = b} {c = c} first next = record {
+    rest = next.rest ∙ ap (λ l. rest_from l ys) first.rest ∙ sym (rest_from-append begun xs ys);
+    counted = rw (whole_from-append begun xs ys, length-append, ← first.rest) (omega (arith, first.counted, next.counted));
+    kept = rw (whole_from-append begun xs ys, ← first.rest) (KeepLimits-append count _ _ first.kept (rw first.counted at next.kept));
+    replied = rw (whole_lines-append begun xs ys, ← first.rest) (IsReplies-append Reply a b c _ _ out other first.replied next.replied);
+  }
+
+  -- where the taking of a middle part stopped, it stopped in the whole
+  pub stopped_later : {begun front begun' out other back all : List ℕ} {count count' : ℕ} {a b : S} (fault : ServeFault) (tail : List ℕ)
+      → all ≡ front ++ (back ++ tail) → Taken Reply begun count a front begun' count' b out → Stopped Reply fault begun' count' b back other
+      → Stopped Reply fault begun count a all (out ++ other)
+  stopped_later {begun = begun} {front = front} {out = out} {other = other} {count = count} {a = a} {b = b} fault tail cut first stopped = record {
+    good = front ++ stopped.good;
+    bad = stopped.bad ++ tail;
+    cut = cut ∙ ap (λ l. front ++ (l ++ tail)) stopped.cut ∙ simp append_assoc;
+    why = stops_later fault begun count front stopped.good stopped.bad tail (rw (first.rest, first.counted) at stopped.why);
+    kept = rw (whole_from-append begun front stopped.good, ← first.rest) (KeepLimits-append count _ _ first.kept (rw first.counted at stopped.kept));
+    after = stopped.after;
+    replied = rw (whole_lines-append begun front stopped.good, ← first.rest) (IsReplies-append Reply a b stopped.after _ _ out other first.replied stopped.replied);
+  }
+
+  -- the taking of bytes that end no line stops
+  pub part_stopped : (fault : ServeFault) (begun part tail : List ℕ) (count : ℕ) (a : S) → IsUnended part → count ≤ lines_limit → StopsIn fault begun count part
+      → Stopped Reply fault begun count a (part ++ tail) []
+  part_stopped fault begun part tail count a unended few (good, bad, cut, why) = record {
+    good = good;
+    bad = bad ++ tail;
+    cut = ap (λ l. l ++ tail) cut ∙ append_assoc good bad tail;
+    why = stops_later fault begun count [] good bad tail (subst (λ n. StopsAt fault begun n good bad) (omega arith) why);
+    kept = rw (unended_whole begun good (unended_front good bad (rw cut at unended))) (KeepLimits-nil count few);
+    after = a;
+    replied = rw (unended_whole begun good (unended_front good bad (rw cut at unended))) (IsReplies-nil Reply a);
+  }
+
+  -- a line feed is taken, and the line that it ends is answered; `kept` are the replies before
+  pub feed_taken : (kept kept' begun begun' : List ℕ) (count count' : ℕ) (a b : S) → count < lines_limit → length begun ≤ line_limit
+      → begun' ≡ [] → count' ≡ count + 1
+      → (out : List ℕ) × (kept' ≡ kept ++ out) × IsReplies Reply a (lines_of (begun ∷ [])) out b
+      → (out : List ℕ) × (kept' ≡ kept ++ out) × Taken Reply begun count a (10 ∷ []) begun' count' b out
+  feed_taken kept kept' begun begun' count count' a b few short none more (out, grown, replied) = (
+    out,
+    grown,
+    record { rest = none; counted = omega (arith, more); kept = record { few = omega (arith, few); short = search rules }; replied = replied },
+  )
+
+  -- the taking stops before one byte
+  pub stopped_here : (kept begun : List ℕ) (count byte : ℕ) (a : S) (fault : ServeFault) → count ≤ lines_limit → StopsAt fault begun count [] (byte ∷ [])
+      → (out : List ℕ) × (kept ≡ kept ++ out) × Stopped Reply fault begun count a (byte ∷ []) out
+  stopped_here kept begun count byte a fault few why = (
+    [],
+    sym (append-nil kept),
+    record { good = []; bad = byte ∷ []; cut = refl; why = why; kept = KeepLimits-nil count few; after = a; replied = IsReplies-nil Reply a },
+  )
+
+  -- what stopped a later part of the bytes, stopped their taking; `kept` are the replies before
+  pub grown_stopped : (kept kept' kept'' : List ℕ) {begun front begun' out back all : List ℕ} {count count' : ℕ} {a b : S} (fault : ServeFault) (tail : List ℕ)
+      → all ≡ front ++ (back ++ tail) → kept' ≡ kept ++ out → Taken Reply begun count a front begun' count' b out
+      → (other : List ℕ) × (kept'' ≡ kept' ++ other) × Stopped Reply fault begun' count' b back other
+      → (whole : List ℕ) × (kept'' ≡ kept ++ whole) × Stopped Reply fault begun count a all whole
+  grown_stopped kept kept' kept'' {out = out} fault tail cut grown first (other, more, stopped) =
+      (out ++ other, more ∙ ap (λ l. l ++ other) grown ∙ append_assoc kept out other, stopped_later fault tail cut first stopped)
+
+  -- one part is taken and then the next; `kept` are the replies before
+  pub grown_taken : (kept kept' kept'' : List ℕ) {begun xs begun' ys begun'' : List ℕ} {count count' count'' : ℕ} {a b c : S}
+      → (out : List ℕ) × (kept' ≡ kept ++ out) × Taken Reply begun count a xs begun' count' b out
+      → (other : List ℕ) × (kept'' ≡ kept' ++ other) × Taken Reply begun' count' b ys begun'' count'' c other
+      → (whole : List ℕ) × (kept'' ≡ kept ++ whole) × Taken Reply begun count a (xs ++ ys) begun'' count'' c whole
+  grown_taken kept kept' kept'' (out, grown, first) (other, more, next) =
+      (out ++ other, more ∙ ap (λ l. l ++ other) grown ∙ append_assoc kept out other, taken_more first next)
+
+  -- the rest of the bytes, which ends no line, is taken; `kept` are the replies before
+  pub rest_taken : {A : Type 0} (ended : Result A ServeFault) (kept kept' kept'' begun front begun' rest begun'' all : List ℕ) (count count' count'' : ℕ) (a b : S)
+      → all ≡ front ++ rest → IsUnended rest → count' ≤ lines_limit → kept'' ≡ kept' → count'' ≡ count'
+      → (out : List ℕ) × (kept' ≡ kept ++ out) × Taken Reply begun count a front begun' count' b out
+      → OnOk ended (begun'' ≡ begun' ++ rest)
+      → OnOk ended ((whole : List ℕ) × (kept'' ≡ kept ++ whole) × Taken Reply begun count a all begun'' count'' b whole)
+  rest_taken (Ok u) kept kept' kept'' begun front begun' rest begun'' all count count' count'' a b cut unended few same counted first grown =
+      rw cut (grown_taken kept kept' kept'' first ([], none_added kept' kept'' same, part_taken begun' rest begun'' count' count'' b unended few grown counted))
+  rest_taken (Err e) kept kept' kept'' begun front begun' rest begun'' all count count' count'' a b cut unended few same counted first grown = grown
+
+  -- or stops the taking
+  pub rest_stopped : {A : Type 0} (ended : Result A ServeFault) (kept kept' kept'' begun front begun' rest all : List ℕ) (count count' : ℕ) (a b : S)
+      → all ≡ front ++ rest → IsUnended rest → count' ≤ lines_limit → kept'' ≡ kept'
+      → (out : List ℕ) × (kept' ≡ kept ++ out) × Taken Reply begun count a front begun' count' b out
+      → IfErr ended (λ fault. StopsIn fault begun' count' rest)
+      → IfErr ended (λ fault. (whole : List ℕ) × (kept'' ≡ kept ++ whole) × Stopped Reply fault begun count a all whole)
+  rest_stopped (Ok u) kept kept' kept'' begun front begun' rest all count count' a b cut unended few same first stops = stops
+  rest_stopped (Err fault) kept kept' kept'' begun front begun' rest all count count' a b cut unended few same (out, grown, first) stops =
+      grown_stopped kept kept' kept'' fault [] (simp append-nil cut) grown first ([], none_added kept' kept'' same, part_stopped fault begun' rest [] count' b unended few stops)

@@ -1,0 +1,10 @@
+pub mod PartLemmas
+pub mod InputLemmas
+pub mod OutputLemmas
+pub mod RepliesLemmas
+pub mod ListLemmas
+pub mod WritingLemmas
+pub mod KeyOrderLemmas
+pub mod ServedLemmas
+pub mod CanonLemmas
+pub mod PlainLineLemmas

@@ -1,0 +1,144 @@
+-- Lemmas on what a run over lines has written.
+use Rattle.std.proofs.Common.{◌≡◌, ℕ, ◌<◌, ◌≤◌, List, [], ◌∷◌, ◌++◌, length, refl, sym, ◌∙◌, ap, arith, append_assoc, append-nil, take, subst, rules}
+use Rattle.std.specs.Prelude.{Option, Result, Ok, Err, OnOk, IfErr}
+use Rattle.std.specs.Io.KnownBytes.{Appends, Consumes}
+use Rattle.std.proofs.KnownBytes.{Appends-trans, Consumes-trans}
+use Rattle.mv_lines.specs.declared.fault.ServeFault.{ServeFault}
+use Rattle.mv_lines.specs.declared.fault.ServeFault.TheVariants.{Read, Write, Memory, TooManyLines, LineTooLong, Start}
+use Rattle.mv_lines.specs.Lines.{whole_from, rest_from, pieces, last_piece, lines_of, line_limit, lines_limit, KeepLimits}
+use Rattle.mv_lines.specs.Output.{WrotePart}
+use Rattle.mv_lines.specs.Replies.{IsReplies}
+use Rattle.mv_lines.specs.Served.{Stopped, WroteReplies, Served, Ended}
+use Rattle.mv_lines.specs.Taking.{Taken, Halted, HaltedLast}
+use Rattle.mv_lines.proofs.RepliesLemmas.{IsReplies-append, IsReplies-nil}
+use Rattle.mv_lines.proofs.InputLemmas.{whole_from-append, lines_of-append, KeepLimits-nil, KeepLimits-append, stopped_later}
+
+-- a last piece keeps the limits
+last_kept : (begun : List ℕ) (count : ℕ) → count ≤ lines_limit → (0 < length begun → count < lines_limit) → length begun ≤ line_limit
+    → KeepLimits count (last_piece begun)
+last_kept [] count few behind short = KeepLimits-nil count few
+last_kept (x ∷ xs) count few behind short = record { few = omega (arith, behind (omega arith)); short = search rules }
+
+-- nothing more was read
+pub read_none : (a b c : Option (List ℕ)) (xs block : List ℕ) (n : ℕ) → Consumes a b xs → Consumes b c (take n block) → n ≡ 0 → Consumes a c xs
+read_none a b c xs block n p q e = subst (λ l. Consumes a c l) (append-nil xs) (Consumes-trans a b c xs [] p (rw e at q))
+
+module _ {S : Type 0} (Reply : S → List ℕ → List ℕ → S → Type 0) where
+  -- all pieces that came keep the limits
+  all_kept : {bytes begun' out : List ℕ} {count' : ℕ} {before between : S} → Taken Reply [] 0 before bytes begun' count' between out
+      → count' ≤ lines_limit → (0 < length begun' → count' < lines_limit) → length begun' ≤ line_limit → KeepLimits 0 (pieces bytes)
+  all_kept {begun' = begun'} {count' = count'} taken few behind short =
+      KeepLimits-append 0 _ _ taken.kept (rw (taken.rest, taken.counted) at (last_kept begun' count' few behind short))
+
+  -- a read failed, and the bytes before it are taken
+  pub unread : (before between : S) (bytes begun' out : List ℕ) (count' : ℕ) (old new : Option (List ℕ)) → Appends old new out
+      → Taken Reply [] 0 before bytes begun' count' between out
+      → count' ≤ lines_limit → (0 < length begun' → count' < lines_limit) → length begun' ≤ line_limit → Ended Reply Read before bytes old new
+  unread before between bytes begun' out count' old new written taken few behind short =
+      (all_kept taken few behind short, (out, written, (between, taken.replied)))
+
+  -- the replies to some first pieces stand ready, and their first bytes went out
+  wrote_replies : (count : ℕ) (before after : S) (ps answered unanswered : List (List ℕ)) (ready : List ℕ) (old new : Option (List ℕ))
+      → ps ≡ answered ++ unanswered → KeepLimits count answered → IsReplies Reply before (lines_of answered) ready after → WrotePart ready old new
+      → WroteReplies Reply count before ps old new
+  wrote_replies count before after ps answered unanswered ready old new cut kept replied (out, more, e, written) = record {
+    answered = answered;
+    unanswered = unanswered;
+    cut = cut;
+    kept = kept;
+    out = out;
+    unwritten = more;
+    after = after;
+    replied = rw e at replied;
+    written = written;
+  }
+
+  -- the write of a block's replies failed
+  pub block_broken : {A : Type 0} (taken : Result A ServeFault) (kept ready begun bytes begun' : List ℕ) (count count' : ℕ) (before after : S) (old new : Option (List ℕ)) → kept ≡ []
+      → OnOk taken ((out : List ℕ) × (ready ≡ kept ++ out) × Taken Reply begun count before bytes begun' count' after out)
+      → IfErr taken (λ fault. (out : List ℕ) × (ready ≡ kept ++ out) × Stopped Reply fault begun count before bytes out)
+      → WrotePart ready old new → WroteReplies Reply count before (whole_from begun bytes) old new
+  block_broken (Ok u) kept ready begun bytes begun' count count' before after old new none (out, grown, t) stopped part =
+      wrote_replies count before after _ (whole_from begun bytes) [] ready old new (sym (append-nil _)) t.kept (rw (grown, none) t.replied) part
+  block_broken (Err e) kept ready begun bytes begun' count count' before after old new none taken (out, grown, s) part =
+      wrote_replies count before s.after _ (whole_from begun s.good) (whole_from (rest_from begun s.good) s.bad) ready old new
+      (ap (λ l. whole_from begun l) s.cut ∙ whole_from-append begun s.good s.bad) s.kept (rw (grown, none) s.replied) part
+
+  -- the write of the last line's reply failed
+  pub last_broken : {A : Type 0} (answered : Result A ServeFault) (kept ready begun : List ℕ) (count : ℕ) (before after : S) (old new : Option (List ℕ)) → kept ≡ []
+      → count ≤ lines_limit → (0 < length begun → count < lines_limit) → length begun ≤ line_limit
+      → OnOk answered ((out : List ℕ) × (ready ≡ kept ++ out) × IsReplies Reply before (lines_of (last_piece begun)) out after)
+      → IfErr answered (λ _. ready ≡ kept)
+      → WrotePart ready old new → WroteReplies Reply count before (last_piece begun) old new
+  last_broken (Ok u) kept ready begun count before after old new none few behind short (out, grown, replied) same part =
+      wrote_replies count before after _ (last_piece begun) [] ready old new (sym (append-nil _)) (last_kept begun count few behind short) (rw (grown, none) replied) part
+  last_broken (Err e) kept ready begun count before after old new none few behind short replied same part =
+      wrote_replies count before before _ [] (last_piece begun) ready old new refl (KeepLimits-nil count few) (rw (same, none) (IsReplies-nil Reply before)) part
+
+  -- the replies to a later part of the input broke off
+  wrote_later : (before between : S) (front back : List ℕ) (begun' out : List ℕ) (count' : ℕ) (a b c : Option (List ℕ)) → Appends a b out
+      → Taken Reply [] 0 before front begun' count' between out → WroteReplies Reply count' between (whole_from begun' back) b c
+      → WroteReplies Reply 0 before (pieces (front ++ back)) a c
+  wrote_later before between front back begun' out count' a b c written taken broken = record {
+    answered = whole_from [] front ++ broken.answered;
+    unanswered = broken.unanswered ++ last_piece (rest_from [] (front ++ back));
+    cut = ap (λ l. l ++ last_piece (rest_from [] (front ++ back))) (whole_from-append [] front back ∙ ap (λ l. whole_from [] front ++ l) (rw taken.rest at broken.cut))
+        ∙ simp append_assoc;
+    kept = KeepLimits-append 0 _ _ taken.kept (rw taken.counted at broken.kept);
+    out = out ++ broken.out;
+    unwritten = broken.unwritten;
+    after = broken.after;
+    replied = rw (lines_of-append (whole_from [] front) broken.answered, append_assoc out broken.out broken.unwritten) (IsReplies-append Reply before between broken.after _ _ out (broken.out ++ broken.unwritten) taken.replied broken.replied);
+    written = Appends-trans a b c out broken.out written broken.written;
+  }
+
+  stop_later : (fault : ServeFault) (before between : S) (front back : List ℕ) (begun' out : List ℕ) (count' : ℕ) (a b c : Option (List ℕ)) → Appends a b out
+      → Taken Reply [] 0 before front begun' count' between out → (other : List ℕ) × Appends b c other × Stopped Reply fault begun' count' between back other
+      → (whole : List ℕ) × Appends a c whole × Stopped Reply fault [] 0 before (front ++ back) whole
+  stop_later fault before between front back begun' out count' a b c written taken (other, more, stopped) =
+      (out ++ other, Appends-trans a b c out other written more, stopped_later Reply fault [] (ap (λ l. front ++ l) (sym (append-nil back))) taken stopped)
+
+  -- the taking of a later part of the input ended, and so the run
+  pub halted_later : (fault : ServeFault) (before between : S) (front back : List ℕ) (begun' out : List ℕ) (count' : ℕ) (a b c : Option (List ℕ)) → Appends a b out
+      → Taken Reply [] 0 before front begun' count' between out → Halted Reply fault begun' count' between back b c
+      → Ended Reply fault before (front ++ back) a c
+  halted_later Read before between front back begun' out count' a b c written taken (other, more, stopped) = absurd stopped.why
+  halted_later Write before between front back begun' out count' a b c written taken broken = wrote_later before between front back begun' out count' a b c written taken broken
+  halted_later Start before between front back begun' out count' a b c written taken (other, more, stopped) = absurd stopped.why
+  halted_later Memory before between front back begun' out count' a b c written taken h = stop_later Memory before between front back begun' out count' a b c written taken h
+  halted_later TooManyLines before between front back begun' out count' a b c written taken h = stop_later TooManyLines before between front back begun' out count' a b c written taken h
+  halted_later LineTooLong before between front back begun' out count' a b c written taken h = stop_later LineTooLong before between front back begun' out count' a b c written taken h
+
+  -- the answering of the last line ended, and so the run
+  pub halted_last : (fault : ServeFault) (before between : S) (bytes begun' out : List ℕ) (count' : ℕ) (a b c : Option (List ℕ)) → Appends a b out
+      → Taken Reply [] 0 before bytes begun' count' between out → HaltedLast Reply fault count' between (last_piece begun') b c
+      → Ended Reply fault before bytes a c
+  halted_last Read before between bytes begun' out count' a b c written taken h = absurd h
+  halted_last Start before between bytes begun' out count' a b c written taken h = absurd h
+  halted_last TooManyLines before between bytes begun' out count' a b c written taken h = absurd h
+  halted_last LineTooLong before between bytes begun' out count' a b c written taken h = absurd h
+  halted_last Memory before between bytes begun' out count' a b c written taken h =
+      (out, subst (λ l. Appends a c l) (append-nil out) (Appends-trans a b c out [] written h), record { good = bytes; bad = []; cut = sym (append-nil bytes); why = tt; kept = taken.kept; after = between; replied = taken.replied })
+  halted_last Write before between bytes begun' out count' a b c written taken broken = record {
+    answered = whole_from [] bytes ++ broken.answered;
+    unanswered = broken.unanswered;
+    cut = ap (λ l. whole_from [] bytes ++ l) (rw taken.rest at broken.cut) ∙ simp append_assoc;
+    kept = KeepLimits-append 0 _ _ taken.kept (rw taken.counted at broken.kept);
+    out = out ++ broken.out;
+    unwritten = broken.unwritten;
+    after = broken.after;
+    replied = rw (lines_of-append (whole_from [] bytes) broken.answered, append_assoc out broken.out broken.unwritten) (IsReplies-append Reply before between broken.after _ _ out (broken.out ++ broken.unwritten) taken.replied broken.replied);
+    written = Appends-trans a b c out broken.out written broken.written;
+  }
+
+  -- the last line is answered, and so the input
+  pub served_whole : (before between after : S) (bytes begun' out other : List ℕ) (count' : ℕ) (a b c : Option (List ℕ)) → Appends a b out
+      → Taken Reply [] 0 before bytes begun' count' between out → count' ≤ lines_limit → (0 < length begun' → count' < lines_limit) → length begun' ≤ line_limit
+      → Appends b c other → IsReplies Reply between (lines_of (last_piece begun')) other after
+      → Served Reply before bytes after a c
+  served_whole before between after bytes begun' out other count' a b c written taken few behind short more replied = record {
+    kept = all_kept taken few behind short;
+    out = out ++ other;
+    replied = rw (lines_of-append (whole_from [] bytes) (last_piece (rest_from [] bytes))) (IsReplies-append Reply before between after _ _ out other taken.replied (rw taken.rest at replied));
+    written = Appends-trans a b c out other written more;
+  }

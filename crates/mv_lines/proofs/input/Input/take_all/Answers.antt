@@ -1,0 +1,29 @@
+use Rattle.std.proofs.Common.{refl, append_assoc}
+use Rattle.std.proofs.lemmas.Result.{err_from_is_err_and}
+use Rattle.mv_lines.proofs.PartLemmas.{cut_line, absent_unended}
+use Rattle.mv_lines.proofs.InputLemmas.{grown_stopped, grown_taken, rest_taken, rest_stopped}
+use Rattle.mv_lines.proofs.input.Input.take_all.Goals as goal
+
+-- this line stopped it
+pub returns-in_err-take_line-clause-err : goal.returns-in_err-take_line-clause-err
+returns-in_err-take_line-clause-err g c =
+    let p = err_from_is_err_and c.from_residual.result c.from_residual.ensures.1 in
+    let cut = cut_line c.loop-end.invariant.0 c.loop-end.rest.now _ c.args.bytes.now c.in-Some.end c.in-Some.ensures refl c.loop-end.invariant.1 in
+    rw (p.1, p.2) (grown_stopped g.S.Answering.replies _ _ _ _ _ cut c.loop-end.invariant.3 c.loop-end.invariant.4 c.in_err-take_line.ensures.err)
+
+-- one more line is taken
+pub loop-end-preserved : goal.loop-end-preserved
+loop-end-preserved g c =
+    let cut = cut_line c.loop-end.invariant.0 c.loop-end.rest.now _ c.args.bytes.now c.in-Some.end c.in-Some.ensures refl c.loop-end.invariant.1 in
+    let taken = grown_taken g.S.Answering.replies _ _ _ (c.loop-end.invariant.2, c.loop-end.invariant.3, c.loop-end.invariant.4) c.in_ok-take_line.ensures.ok in
+    (_, rw append_assoc cut, taken.0, taken.1, taken.2)
+
+-- the rest is taken
+pub returns-clause-ok : goal.returns-clause-ok
+returns-clause-ok g c =
+    rest_taken g.S.Answering.replies c.take_part.result _ _ _ _ _ _ _ _ _ _ _ _ _ _ c.loop-end.invariant.1 (absent_unended _ c.in_default.ensures) c.loop-end.self.few c.take_part.ensures.replies c.take_part.ensures.lines (c.loop-end.invariant.2, c.loop-end.invariant.3, c.loop-end.invariant.4) c.take_part.ensures.ok
+
+-- the rest stopped it
+pub returns-clause-err : goal.returns-clause-err
+returns-clause-err g c =
+    rest_stopped g.S.Answering.replies c.take_part.result _ _ _ _ _ _ _ _ _ _ _ _ c.loop-end.invariant.1 (absent_unended _ c.in_default.ensures) c.loop-end.self.few c.take_part.ensures.replies (c.loop-end.invariant.2, c.loop-end.invariant.3, c.loop-end.invariant.4) c.take_part.ensures.err

@@ -1,0 +1,16 @@
+pub mod Lines
+pub mod Output
+pub mod Replies
+pub mod Served
+pub mod Taking
+pub mod Fields
+pub mod Reading
+pub mod Kinds
+pub mod Requests
+pub mod PlainLines
+pub mod ReplyLines
+pub mod Writing
+pub mod KeyOrder
+pub mod Openings
+pub mod Sessions
+pub mod Canon

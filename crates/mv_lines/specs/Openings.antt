@@ -1,0 +1,31 @@
+-- What an opening gives.
+use Rattle.std.specs.Prelude.{◌≡◌, ◌≢◌, ℕ, List, codes, Result, Ok, Err}
+use Rattle.mv_hub.specs.Fault.{code_of as hub_code}
+use Rattle.mv_hub.specs.declared.fault.HubFault.{HubFault}
+use Rattle.mv_machine.specs.Limits.{Bounds, code_of as limits_code}
+use Rattle.mv_machine.specs.declared.limits.LimitsFault.{LimitsFault}
+use Rattle.mv_lines.specs.declared.open_fault.OpenFault.{OpenFault}
+use Rattle.mv_lines.specs.declared.open_fault.OpenFault.TheVariants.{NotOpen, AlreadyOpen, Parties, Limits, Memory}
+
+-- the number of a fault
+abbrev pub code_of : OpenFault → List ℕ
+code_of NotOpen = codes "C1"
+code_of AlreadyOpen = codes "C2"
+code_of (Parties fault) = hub_code fault
+code_of (Limits fault) = limits_code fault
+code_of Memory = codes "H7"
+
+-- the parties of lists of markets, or why there are none
+abbrev pub of_parties : Result (List (List (List ℕ))) HubFault → Result (List (List (List ℕ))) OpenFault
+of_parties (Ok parties) = Ok parties
+of_parties (Err fault) = Err (Parties fault)
+
+-- the limits of numbers, or why there are none
+abbrev pub of_limits : Result Bounds LimitsFault → Result Bounds OpenFault
+of_limits (Ok limits) = Ok limits
+of_limits (Err fault) = Err (Limits fault)
+
+-- A function returned what an opening gives, or memory was refused.
+abbrev pub Gives : {A : Type 0} → Result A OpenFault → Result A OpenFault → Type 0
+Gives (Ok value) opening = opening ≡ Ok value
+Gives (Err fault) opening = fault ≢ Memory → opening ≡ Err fault

@@ -1,0 +1,27 @@
+-- The replies to lines, by a rule that says what a reply to one line may be.
+use Rattle.std.specs.Prelude.{◌≡◌, ℕ, List, [], ◌∷◌, ◌++◌, flat_map}
+
+-- Which replies to a line are right: what answers before the line, the line, the reply's text, and what answers the next line.
+abbrev pub ReplyRule : Type 0 → Type 1
+ReplyRule S = S → List ℕ → List ℕ → S → Type 0
+
+-- some bytes came behind the ones that stand ready to be written, and the fact holds of them
+abbrev pub Readied : List ℕ → List ℕ → (List ℕ → Type 0) → Type 0
+Readied old new Fact = (out : List ℕ) × (new ≡ old ++ out) × Fact out
+
+-- each text is a right reply to the line at its place
+abbrev pub AreReplies : {S : Type 0} → ReplyRule S → S → List (List ℕ) → List (List ℕ) → S → Type 0
+AreReplies rule before [] [] after = after ≡ before
+AreReplies rule before [] (text ∷ texts) after = ⊥
+AreReplies rule before (line ∷ lines) [] after = ⊥
+AreReplies {S = S} rule before (line ∷ lines) (text ∷ texts) after =
+    (between : S) × rule before line text between × AreReplies rule between lines texts after
+
+-- the bytes of texts that each end by a line feed (10)
+abbrev pub text_lines : List (List ℕ) → List ℕ
+text_lines texts = flat_map (λ text. text ++ 10 ∷ []) texts
+
+-- these bytes are right replies to the lines, each ended by a line feed
+abbrev pub IsReplies : {S : Type 0} → ReplyRule S → S → List (List ℕ) → List ℕ → S → Type 0
+IsReplies rule before lines out after =
+    (texts : List (List ℕ)) × (out ≡ text_lines texts) × AreReplies rule before lines texts after

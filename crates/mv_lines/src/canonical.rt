@@ -1,0 +1,62 @@
+//! Runs messages, a line each.
+
+ghost use Rattle.std.specs.Prelude.{◌≡◌, ℕ, List, OnOk, IfErr, IfSome};
+ghost use Rattle.std.specs.Io.KnownBytes.{Consumes, Appends};
+ghost use Rattle.mv_lines.specs.Canon.{IsCanon, canon_of};
+ghost use Rattle.mv_lines.specs.Served.{Served, Ended};
+
+use crate::reply_line::append;
+use crate::{Answering, ServeFault, answer_lines};
+use mv_json::MessageFault;
+use std::alloc::{AllocError, Global};
+use std::io::{Read, Write};
+use std::marker::Model;
+
+/// What answers messages. It keeps nothing from line to line.
+#[derive(Drop)]
+struct Canonizer {
+    alloc: Global,
+}
+
+impl Model for Canonizer {
+    ghost use Rattle.std.specs.Prelude.{⊤};
+
+    ghost Value = { ⊤ };
+
+    ghost view = { λ _. tt };
+}
+
+impl Answering for Canonizer {
+    ghost replies = { IsCanon };
+
+    fn answer(&mut self, line: &[u8], out: &mut Vec<u8>) -> Result<(), AllocError> {
+        match mv_json::read(self.alloc, line) {
+            Ok(message) => mv_json::write_text(self.alloc, &message, out),
+            Err(MessageFault::Memory) => Err(AllocError),
+            Err(fault) => append(self.alloc, out, &fault),
+        }
+    }
+}
+
+/// Writes the canonical text of the message that each line is, or its refusal, in order, each ended by a line feed, and
+/// nothing else. An empty line gets none.
+///
+/// The lines, their limits, and what a fault leaves are as for `serve`. Want of memory is V3, also within a message.
+pub fn canon<R: Read, W: Write>(
+    alloc: Global,
+    reader: &mut R,
+    writer: &mut W,
+) -> Result<(), ServeFault>
+    ensures texts { OnOk result (IfSome (R.remaining reader.old) (λ bytes.
+        Appends (W.contents writer.old) (W.contents writer.new) (canon_of bytes))) }
+    // The input had no line over the limits.
+    ensures ok { OnOk result (IfSome (R.remaining reader.old) (λ bytes.
+        Served IsCanon tt bytes tt (W.contents writer.old) (W.contents writer.new))) }
+    // The bytes are those that were read. The texts to which of their lines went out, the fault says.
+    ensures err { IfErr result (λ fault. (bytes : List ℕ)
+        × Consumes (R.remaining reader.old) (R.remaining reader.new) bytes
+        × Ended IsCanon fault tt bytes (W.contents writer.old) (W.contents writer.new)) }
+{
+    let mut canonizer = Canonizer { alloc };
+    answer_lines(alloc, &mut canonizer, reader, writer)
+}

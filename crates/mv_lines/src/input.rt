@@ -1,0 +1,188 @@
+//! The line that is being read, and the replies that are still to be written.
+
+ghost use Rattle.std.specs.Prelude.{◌≡◌, ℕ, ◌<◌, ◌≤◌, List, [], ◌∷◌, ◌++◌, length, OnOk, IfErr, vec_items};
+ghost use Rattle.std.specs.Io.BufRead.{strip_last};
+ghost use Rattle.mv_lines.specs.Lines.{IsUnended, last_piece, lines_of, line_limit, lines_limit};
+ghost use Rattle.mv_lines.specs.Replies.{IsReplies, Readied};
+ghost use Rattle.std.specs.Io.KnownBytes.{Appends};
+ghost use Rattle.mv_lines.specs.Served.{Wrote, StopsIn, Stopped};
+ghost use Rattle.mv_lines.specs.Taking.{Taken, Halted, HaltedLast};
+
+use crate::limits::{LINE_LIMIT, LINES_LIMIT};
+use crate::{Answering, ServeFault, put_out};
+use memchr::memchr;
+use std::alloc::Global;
+use std::io::Write;
+
+/// What has come of the line that is being read, how many lines came before it, and the replies to write.
+#[derive(Drop)]
+pub(crate) struct Input {
+    pub(crate) begun: Vec<u8>,
+    pub(crate) lines: u32,
+    pub(crate) replies: Vec<u8>,
+    ghost few: { lines ≤ lines_limit },
+    ghost not_behind: { 0 < length (vec_items begun) → lines < lines_limit },
+    ghost short: { length (vec_items begun) ≤ line_limit },
+}
+
+impl Input {
+    /// Nothing has come.
+    pub(crate) fn new(alloc: Global) -> Input
+        ensures begun { result.begun.items ≡ [] }
+        ensures lines { result.lines ≡ 0 }
+        ensures replies { result.replies.items ≡ [] }
+    {
+        Input {
+            begun: Vec::new(alloc),
+            lines: 0,
+            replies: Vec::new(alloc),
+        }
+    }
+
+    /// Takes the next bytes, and writes the replies to the lines that end in them.
+    pub(crate) fn answer_block<S: Answering, W: Write>(
+        &mut self,
+        answering: &mut S,
+        writer: &mut W,
+        bytes: &[u8],
+    ) -> Result<(), ServeFault>
+        ensures ok { OnOk result (Wrote (W.contents writer.old) (W.contents writer.new) (λ out.
+            Taken S.replies self.old.begun.items self.old.lines answering.old bytes.now
+            self.new.begun.items self.new.lines answering.new out)) }
+        ensures err { IfErr result (λ fault.
+            Halted S.replies fault self.old.begun.items self.old.lines answering.old bytes.now
+            (W.contents writer.old) (W.contents writer.new)) }
+    {
+        self.replies.clear();
+        let taken = self.take_all(answering, bytes);
+        put_out(writer, self.replies.as_slice())?;
+        taken
+    }
+
+    /// Writes the reply to the last line, where the input doesn't end by a line feed.
+    pub(crate) fn answer_last<S: Answering, W: Write>(
+        &mut self,
+        answering: &mut S,
+        writer: &mut W,
+    ) -> Result<(), ServeFault>
+        ensures ok { OnOk result (Wrote (W.contents writer.old) (W.contents writer.new) (λ out.
+            IsReplies S.replies answering.old (lines_of (last_piece self.old.begun.items))
+            out answering.new)) }
+        ensures err { IfErr result (λ fault.
+            HaltedLast S.replies fault self.old.lines answering.old (last_piece self.old.begun.items)
+            (W.contents writer.old) (W.contents writer.new)) }
+    {
+        self.replies.clear();
+        let answered = self.finish(answering);
+        put_out(writer, self.replies.as_slice())?;
+        answered
+    }
+
+    /// Takes the next bytes, and answers the lines that end in them.
+    fn take_all<S: Answering>(&mut self, answering: &mut S, bytes: &[u8]) -> Result<(), ServeFault>
+        ensures ok { OnOk result (Readied self.old.replies.items self.new.replies.items (λ out.
+            Taken S.replies self.old.begun.items self.old.lines answering.old bytes.now
+            self.new.begun.items self.new.lines answering.new out)) }
+        ensures err { IfErr result (λ fault.
+            Readied self.old.replies.items self.new.replies.items (λ out.
+            Stopped S.replies fault self.old.begun.items self.old.lines answering.old
+            bytes.now out)) }
+    {
+        let mut rest = bytes;
+        while let Some(end) = memchr(b'\n', rest) {
+            self.take_line(answering, &rest[..end])?;
+            rest = &rest[end + 1..];
+        }
+        self.take_part(rest)
+    }
+
+    /// Takes what is left of a line, but for its line feed, and answers the line.
+    fn take_line<S: Answering>(&mut self, answering: &mut S, part: &[u8]) -> Result<(), ServeFault>
+        requires unended { IsUnended part.now }
+        ensures ok { OnOk result (Readied self.old.replies.items self.new.replies.items (λ out.
+            Taken S.replies self.old.begun.items self.old.lines answering.old
+            (part.now ++ 10 ∷ []) self.new.begun.items self.new.lines answering.new out)) }
+        ensures err { IfErr result (λ fault.
+            Readied self.old.replies.items self.new.replies.items (λ out.
+            Stopped S.replies fault self.old.begun.items self.old.lines answering.old
+            (part.now ++ 10 ∷ []) out)) }
+    {
+        self.take_part(part)?;
+        if self.lines == LINES_LIMIT {
+            return Err(ServeFault::TooManyLines);
+        }
+        self.answer(answering)?;
+        self.begun.clear();
+        self.lines += 1;
+        Ok(())
+    }
+
+    /// Takes the next bytes of a line, of which none ends it.
+    fn take_part(&mut self, part: &[u8]) -> Result<(), ServeFault>
+        requires unended { IsUnended part.now }
+        ensures ok { OnOk result (self.new.begun.items ≡ self.old.begun.items ++ part.now) }
+        ensures err { IfErr result (λ fault.
+            StopsIn fault self.old.begun.items self.old.lines part.now) }
+        ensures lines { self.new.lines ≡ self.old.lines }
+        ensures replies { self.new.replies.items ≡ self.old.replies.items }
+    {
+        if part.is_empty() {
+            return Ok(());
+        }
+        if self.lines == LINES_LIMIT {
+            return Err(ServeFault::TooManyLines);
+        }
+        if part.len() > LINE_LIMIT - self.begun.len() {
+            return Err(ServeFault::LineTooLong);
+        }
+        self.begun.extend_from_slice(part)?;
+        Ok(())
+    }
+
+    /// Answers the line that has come, where it isn't empty.
+    fn answer<S: Answering>(&mut self, answering: &mut S) -> Result<(), ServeFault>
+        ensures ok { OnOk result (Readied self.old.replies.items self.new.replies.items (λ out.
+            IsReplies S.replies answering.old (lines_of (self.old.begun.items ∷ []))
+            out answering.new)) }
+        ensures fault { IfErr result (λ fault. fault ≡ ServeFault.Memory) }
+        ensures err { IfErr result (λ _. self.new.replies.items ≡ self.old.replies.items) }
+        ensures begun { self.new.begun ≡ self.old.begun }
+        ensures lines { self.new.lines ≡ self.old.lines }
+    {
+        let line = without_return(self.begun.as_slice());
+        if line.is_empty() {
+            return Ok(());
+        }
+        let kept = self.replies.len();
+        answering.answer(line, &mut self.replies)?;
+        if self.replies.push(b'\n').is_err() {
+            self.replies.truncate(kept);
+            return Err(ServeFault::Memory);
+        }
+        Ok(())
+    }
+
+    /// Answers the last line, if the input doesn't end by a line feed.
+    fn finish<S: Answering>(&mut self, answering: &mut S) -> Result<(), ServeFault>
+        ensures ok { OnOk result (Readied self.old.replies.items self.new.replies.items (λ out.
+            IsReplies S.replies answering.old (lines_of (last_piece self.old.begun.items))
+            out answering.new)) }
+        ensures fault { IfErr result (λ fault. fault ≡ ServeFault.Memory) }
+        ensures err { IfErr result (λ _. self.new.replies.items ≡ self.old.replies.items) }
+    {
+        if self.begun.is_empty() {
+            return Ok(());
+        }
+        self.answer(answering)
+    }
+}
+
+/// The bytes without a carriage return at their end.
+fn without_return(piece: &[u8]) -> &[u8]
+    ensures { result.now ≡ strip_last 13 piece.now }
+{
+    match piece {
+        [head @ .., b'\r'] => head,
+        _ => piece,
+    }
+}

@@ -1,0 +1,102 @@
+//! The kinds of lines, and the names of the fields of each.
+
+ghost use Rattle.std.specs.Prelude.{◌≡◌, map};
+ghost use Rattle.serde_json.specs.View.{view, members_view};
+ghost use Rattle.mv_lines.specs.Reading.{Gives};
+ghost use Rattle.mv_lines.specs.Kinds.{kind_named, kind_at, names_of, known_kind_at};
+
+use crate::reading::text_of;
+use crate::{LineFault, LineField};
+use mv_json::members::first_unknown;
+use mv_message::Text;
+use serde_json::{Map, Value};
+use std::alloc::Global;
+
+/// What a line asks, which its field `do` names.
+#[derive(Clone, Copy, Debug, PartialEq, Eq)]
+pub(crate) enum LineKind {
+    /// `open`: a system of these parties and limits.
+    Open,
+    /// `submit`: a party submits a message.
+    Submit,
+    /// `route`: the hub routes the next message of a party.
+    Route,
+    /// `relay`: the next frame of a link goes on its wire.
+    Relay,
+    /// `apply`: a repository takes the front frame of a wire.
+    Apply,
+    /// `repeat`: a frame of a link goes on its wire again.
+    Repeat,
+    /// `close`: a link is closed.
+    Close,
+    /// `lose`: the front frame of a wire is lost.
+    Lose,
+    /// `verify`: a party verifies a pack.
+    Verify,
+    /// `verdict`: a party takes the verdict on a query.
+    Verdict,
+}
+
+impl LineKind {
+    /// The names of the fields of such a line, in byte order.
+    fn names(self) -> &'static [&'static str]
+        ensures { map (λ name. name.now) result.now ≡ names_of self }
+    {
+        match self {
+            LineKind::Open => &["do", "parties", "submissions", "uplink", "window", "wire"],
+            LineKind::Submit => &["do", "from", "message"],
+            LineKind::Route => &["do", "from"],
+            LineKind::Relay => &["do", "from", "to"],
+            LineKind::Apply => &["do", "from", "to"],
+            LineKind::Repeat => &["do", "from", "number", "to"],
+            LineKind::Close => &["do", "from", "to"],
+            LineKind::Lose => &["do", "from", "to"],
+            LineKind::Verify => &["do", "gtin", "party", "serial"],
+            LineKind::Verdict => &["do", "party", "q"],
+        }
+    }
+}
+
+/// The kind of that name.
+pub(crate) fn kind_called(name: &str) -> Option<LineKind>
+    ensures { result ≡ kind_named name.now }
+{
+    match name {
+        "open" => Some(LineKind::Open),
+        "submit" => Some(LineKind::Submit),
+        "route" => Some(LineKind::Route),
+        "relay" => Some(LineKind::Relay),
+        "apply" => Some(LineKind::Apply),
+        "repeat" => Some(LineKind::Repeat),
+        "close" => Some(LineKind::Close),
+        "lose" => Some(LineKind::Lose),
+        "verify" => Some(LineKind::Verify),
+        "verdict" => Some(LineKind::Verdict),
+        _ => None,
+    }
+}
+
+/// The kind of an object: M3, M5.
+#[tactic(auto, unfolding(crate::specs::Kinds::kind_at))]
+pub(crate) fn kind_of(value: &Value) -> Result<LineKind, LineFault>
+    ensures { result ≡ kind_at (view value.now) }
+{
+    match kind_called(text_of(value, LineField::Do)?) {
+        Some(kind) => Ok(kind),
+        None => Err(LineFault::Kind(LineField::Do)),
+    }
+}
+
+/// The kind, where its lines have all keys of the object; else M4 with the first other one.
+pub(crate) fn known_kind(
+    alloc: Global,
+    members: &Map<String, Value>,
+    kind: LineKind,
+) -> Result<LineKind, LineFault>
+    ensures { Gives result (known_kind_at kind (members_view members.now.entries)) }
+{
+    match first_unknown(members, kind.names()) {
+        Some(key) => Err(LineFault::Unknown(Text::new(String::from_str(alloc, key)?))),
+        None => Ok(kind),
+    }
+}

@@ -1,0 +1,32 @@
+//! What a line that opens gives: the parties and the limits.
+
+ghost use Rattle.std.specs.Prelude.{◌≡◌};
+ghost use Rattle.mv_hub.specs.Parties.{parties_of};
+ghost use Rattle.mv_machine.specs.Limits.{limits_of};
+ghost use Rattle.mv_lines.specs.Openings.{Gives, of_parties, of_limits};
+
+use crate::{MarketLists, OpenFault};
+use mv_hub::{HubFault, Parties};
+use mv_machine::Limits;
+use std::alloc::Global;
+
+/// The parties of lists of markets: H1 to H3.
+pub fn parties_of(alloc: Global, lists: MarketLists) -> Result<Parties, OpenFault>
+    ensures { Gives result (of_parties (parties_of lists)) }
+{
+    match Parties::new(alloc, lists.into_lists()) {
+        Ok(parties) => Ok(parties),
+        Err(HubFault::Memory) => Err(OpenFault::Memory),
+        Err(fault) => Err(OpenFault::Parties(fault)),
+    }
+}
+
+/// The limits of numbers: O1 to O4.
+pub fn limits_of(window: u32, wire: u32, uplink: u32, submissions: u32) -> Result<Limits, OpenFault>
+    ensures { result ≡ of_limits (limits_of window wire uplink submissions) }
+{
+    match Limits::of(window, wire, uplink, submissions) {
+        Ok(limits) => Ok(limits),
+        Err(fault) => Err(OpenFault::Limits(fault)),
+    }
+}

@@ -1,0 +1,363 @@
+//! The replies, each written as the canonical text of one JSON object.
+
+ghost use Rattle.std.specs.Prelude.{◌≡◌, IfOk, string_bytes};
+ghost use Rattle.serde_json.specs.Data.{Data};
+ghost use Rattle.serde_json.specs.Written.{compact_text};
+ghost use Rattle.mv_lines.specs.Writing.{Appended, Adds};
+ghost use Rattle.mv_lines.specs.ReplyLines.{refused, refused_field, refused_pack, message_fault_value, line_fault_value, refusal_value, opened_value, verdict_value, joint_value, reply_value};
+
+use crate::LineFault;
+use crate::members::{Member, write_object};
+use json::Writer;
+use mv_json::MessageFault;
+use mv_machine::{Refusal, Reply};
+use mv_pack::PackFault;
+use mv_repository::{Effect, Joint, Verdict};
+use std::alloc::{AllocError, Global};
+use std::mem;
+
+/// What answers a line. It is written as one JSON object.
+pub(crate) trait ReplyLine {
+    /// The value of the object.
+    ghost value: { Self → Data };
+
+    /// Writes the object.
+    fn write(&self, writer: &mut Writer) -> Result<(), AllocError>
+        ensures before { writer.new.before ≡ writer.old.before }
+        ensures added { Adds result writer.old writer.new (value self.now) };
+}
+
+/// Writes the canonical text of a reply behind what the buffer holds. Where memory is refused the buffer is as it was.
+pub(crate) fn append<T: ReplyLine>(
+    alloc: Global,
+    out: &mut Vec<u8>,
+    reply: &T,
+) -> Result<(), AllocError>
+    ensures { Appended result out.old.items out.new.items (T.value reply.now) }
+{
+    let kept = out.len();
+    let mut writer = Writer::new(mem::replace(out, Vec::new(alloc)));
+    let written = reply.write(&mut writer);
+    *out = writer.into_inner();
+    if written.is_err() {
+        out.truncate(kept);
+    }
+    written
+}
+
+/// The text of the reply to a step.
+pub fn reply_text(alloc: Global, reply: &Reply) -> Result<String, AllocError>
+    ensures { IfOk result (λ text. string_bytes text ≡ compact_text (reply_value reply.now)) }
+{
+    text_of(alloc, reply)
+}
+
+/// The text of the refusal of a line that asks nothing.
+pub fn fault_text(alloc: Global, fault: &LineFault) -> Result<String, AllocError>
+    ensures { IfOk result (λ text. string_bytes text ≡ compact_text (line_fault_value fault.now)) }
+{
+    text_of(alloc, fault)
+}
+
+/// The text of a refusal by its number, as `C1`.
+pub fn refusal_text(alloc: Global, code: &'static str) -> Result<String, AllocError>
+    ensures { IfOk result (λ text. string_bytes text ≡ compact_text (refused code.now)) }
+{
+    text_of(alloc, &Refused { code })
+}
+
+/// The text of a reply.
+fn text_of<T: ReplyLine>(alloc: Global, reply: &T) -> Result<String, AllocError>
+    ensures { IfOk result (λ text. string_bytes text ≡ compact_text (T.value reply.now)) }
+{
+    let mut writer = Writer::new(Vec::new(alloc));
+    reply.write(&mut writer)?;
+    let Ok(text) = String::from_utf8(writer.into_inner()) else {
+        unreachable!();
+    };
+    Ok(text)
+}
+
+/// The reply to a step.
+impl ReplyLine for Reply {
+    ghost value = { reply_value };
+
+    fn write(&self, writer: &mut Writer) -> Result<(), AllocError> {
+        match self {
+            Reply::Submitted { k } => write_object(
+                writer,
+                &[Member::Number("submitted", u64::from(*k))],
+            ),
+            Reply::Routed { k, reach } => write_object(
+                writer,
+                &[
+                    Member::Parties("reach", reach.as_slice()),
+                    Member::Number("routed", u64::from(*k)),
+                ],
+            ),
+            Reply::Relayed { number } => write_object(
+                writer,
+                &[Member::Number("relayed", u64::from(*number))],
+            ),
+            Reply::Known(verdict) => write_verdict(writer, *verdict),
+            Reply::Asked { q } => write_object(writer, &[Member::Number("asked", u64::from(*q))]),
+            Reply::Applied {
+                number,
+                effect,
+                answer: None,
+            } => write_applied(writer, *number, *effect),
+            Reply::Applied {
+                number,
+                effect,
+                answer: Some(answer),
+            } => write_answered(writer, *number, *effect, *answer),
+            Reply::Old { number } => write_object(
+                writer,
+                &[Member::Number("old", u64::from(*number))],
+            ),
+            Reply::Gap { number, expected } => write_object(
+                writer,
+                &[
+                    Member::Number("expected", u64::from(*expected)),
+                    Member::Number("gap", u64::from(*number)),
+                ],
+            ),
+            Reply::Repeated { number } => write_object(
+                writer,
+                &[Member::Number("repeated", u64::from(*number))],
+            ),
+            Reply::Closed => write_object(writer, &[Member::Flag("closed", true)]),
+            Reply::Lost { number } => write_object(
+                writer,
+                &[Member::Number("lost", u64::from(*number))],
+            ),
+            Reply::Joint(verdict) => write_joint(writer, *verdict),
+            Reply::Refused(refusal) => write_refusal(writer, *refusal),
+        }
+    }
+}
+
+/// The refusal of a line that asks nothing.
+impl ReplyLine for LineFault {
+    ghost value = { line_fault_value };
+
+    fn write(&self, writer: &mut Writer) -> Result<(), AllocError> {
+        match self {
+            LineFault::NotJson => write_refused(writer, "M1"),
+            LineFault::NotObject => write_refused(writer, "M2"),
+            LineFault::Missing(field) => write_refused_field(writer, field.as_str(), "M3"),
+            LineFault::Unknown(key) => write_refused_field(writer, key.as_str(), "M4"),
+            LineFault::Kind(field) => write_refused_field(writer, field.as_str(), "M5"),
+            LineFault::Pack(field, fault) => write_refused_pack(writer, *fault, field.as_str()),
+            LineFault::Message(fault) => fault.write(writer),
+            LineFault::Memory => write_refused(writer, "M9"),
+        }
+    }
+}
+
+/// The refusal of a message.
+impl ReplyLine for MessageFault {
+    ghost value = { message_fault_value };
+
+    fn write(&self, writer: &mut Writer) -> Result<(), AllocError> {
+        let code = self.code();
+        match self {
+            MessageFault::Missing(field) => write_refused_field(writer, field.as_str(), code),
+            MessageFault::Unknown(key) => write_refused_field(writer, key.as_str(), code),
+            MessageFault::Kind(field) => write_refused_field(writer, field.as_str(), code),
+            MessageFault::Pack(field, fault) => write_refused_pack(writer, *fault, field.as_str()),
+            MessageFault::Count(field) => write_refused_field(writer, field.as_str(), code),
+            MessageFault::TextLength(field) => write_refused_field(writer, field.as_str(), code),
+            MessageFault::NotJson => write_refused(writer, code),
+            MessageFault::NotObject => write_refused(writer, code),
+            MessageFault::Memory => write_refused(writer, code),
+        }
+    }
+}
+
+/// The reply to an opening with so many parties.
+#[derive(Clone, Copy, Drop)]
+pub(crate) struct Opened {
+    pub(crate) count: u32,
+}
+
+impl ReplyLine for Opened {
+    ghost value = { λ opened. opened_value opened.count };
+
+    fn write(&self, writer: &mut Writer) -> Result<(), AllocError> {
+        write_object(writer, &[Member::Number("opened", u64::from(self.count))])
+    }
+}
+
+/// A refusal by its number.
+#[derive(Clone, Copy, Drop)]
+pub(crate) struct Refused {
+    pub(crate) code: &'static str,
+}
+
+impl ReplyLine for Refused {
+    ghost value = { λ refusal. refused refusal.code.now };
+
+    fn write(&self, writer: &mut Writer) -> Result<(), AllocError> {
+        write_refused(writer, self.code)
+    }
+}
+
+/// Writes the reply that a frame was applied.
+fn write_applied(writer: &mut Writer, number: u32, effect: Effect) -> Result<(), AllocError>
+    ensures before { writer.new.before ≡ writer.old.before }
+    ensures added { Adds result writer.old writer.new (reply_value (Reply.Applied number effect None)) }
+{
+    let code = effect.code();
+    match effect {
+        Effect::Uploaded { new, old } => write_object(
+            writer,
+            &[
+                Member::Number("applied", u64::from(number)),
+                Member::Text("effect", code),
+                Member::Number("new", new),
+                Member::Number("old", old),
+            ],
+        ),
+        _ => write_object(
+            writer,
+            &[
+                Member::Number("applied", u64::from(number)),
+                Member::Text("effect", code),
+            ],
+        ),
+    }
+}
+
+/// Writes the reply that a frame was applied, and called for an answer.
+fn write_answered(
+    writer: &mut Writer,
+    number: u32,
+    effect: Effect,
+    answer: u32,
+) -> Result<(), AllocError>
+    ensures before { writer.new.before ≡ writer.old.before }
+    ensures added { Adds result writer.old writer.new
+        (reply_value (Reply.Applied number effect (Some answer))) }
+{
+    let code = effect.code();
+    match effect {
+        Effect::Uploaded { new, old } => write_object(
+            writer,
+            &[
+                Member::Number("answer", u64::from(answer)),
+                Member::Number("applied", u64::from(number)),
+                Member::Text("effect", code),
+                Member::Number("new", new),
+                Member::Number("old", old),
+            ],
+        ),
+        _ => write_object(
+            writer,
+            &[
+                Member::Number("answer", u64::from(answer)),
+                Member::Number("applied", u64::from(number)),
+                Member::Text("effect", code),
+            ],
+        ),
+    }
+}
+
+/// Writes a verdict on a pack.
+fn write_verdict(writer: &mut Writer, verdict: Verdict) -> Result<(), AllocError>
+    ensures before { writer.new.before ≡ writer.old.before }
+    ensures added { Adds result writer.old writer.new (verdict_value verdict) }
+{
+    match verdict {
+        Verdict::Authentic => write_object(writer, &[Member::Text("verdict", "authentic")]),
+        Verdict::NotAuthentic { falsification } => write_object(
+            writer,
+            &[
+                Member::Flag("falsification", falsification),
+                Member::Text("verdict", "not authentic"),
+            ],
+        ),
+    }
+}
+
+/// Writes the verdict of all that were asked.
+fn write_joint(writer: &mut Writer, verdict: Joint) -> Result<(), AllocError>
+    ensures before { writer.new.before ≡ writer.old.before }
+    ensures added { Adds result writer.old writer.new (joint_value verdict) }
+{
+    match verdict {
+        Joint::NotAsked => write_object(writer, &[Member::Text("verdict", "not asked")]),
+        Joint::Pending { left } => write_object(
+            writer,
+            &[
+                Member::Number("left", u64::from(left)),
+                Member::Text("verdict", "pending"),
+            ],
+        ),
+        Joint::Decided(verdict) => write_verdict(writer, verdict),
+    }
+}
+
+/// Writes the refusal of a step.
+fn write_refusal(writer: &mut Writer, refusal: Refusal) -> Result<(), AllocError>
+    ensures before { writer.new.before ≡ writer.old.before }
+    ensures added { Adds result writer.old writer.new (refusal_value refusal) }
+{
+    let code = refusal.code();
+    match refusal {
+        Refusal::Busy(party) => write_object(
+            writer,
+            &[
+                Member::Number("party", u64::from(party)),
+                Member::Text("refused", code),
+            ],
+        ),
+        _ => write_refused(writer, code),
+    }
+}
+
+/// Writes a refusal by its number.
+fn write_refused(writer: &mut Writer, code: &str) -> Result<(), AllocError>
+    ensures before { writer.new.before ≡ writer.old.before }
+    ensures added { Adds result writer.old writer.new (refused code.now) }
+{
+    write_object(writer, &[Member::Text("refused", code)])
+}
+
+/// Writes a refusal that names a field.
+fn write_refused_field(writer: &mut Writer, field: &str, code: &str) -> Result<(), AllocError>
+    ensures before { writer.new.before ≡ writer.old.before }
+    ensures added { Adds result writer.old writer.new (refused_field field.now code.now) }
+{
+    write_object(
+        writer,
+        &[Member::Text("field", field), Member::Text("refused", code)],
+    )
+}
+
+/// Writes the refusal of a text that is no value (M6). That of P6 has the place of the character.
+fn write_refused_pack(writer: &mut Writer, fault: PackFault, field: &str) -> Result<(), AllocError>
+    ensures before { writer.new.before ≡ writer.old.before }
+    ensures added { Adds result writer.old writer.new (refused_pack fault field.now) }
+{
+    let code = fault.code();
+    match fault {
+        PackFault::Character(place) => write_object(
+            writer,
+            &[
+                Member::Text("fault", code),
+                Member::Text("field", field),
+                Member::Number("place", u64::from(place)),
+                Member::Text("refused", "M6"),
+            ],
+        ),
+        _ => write_object(
+            writer,
+            &[
+                Member::Text("fault", code),
+                Member::Text("field", field),
+                Member::Text("refused", "M6"),
+            ],
+        ),
+    }
+}

@@ -1,0 +1,204 @@
+//! What a line asks.
+
+ghost use Rattle.std.specs.Prelude.{◌≡◌};
+ghost use Rattle.serde_json.specs.View.{view};
+ghost use Rattle.mv_lines.specs.Reading.{Gives};
+ghost use Rattle.mv_lines.specs.Requests.{open_at, submit_at, route_at, link_at, relay_at, apply_at, repeat_at, close_at, lose_at, verify_at, verdict_at, request_at, read_request, read_line};
+
+use crate::kind::{LineKind, kind_of, known_kind};
+use crate::market_lists::market_lists_of;
+use crate::reading::{gtin_of, message_of, number_of, serial_of};
+use crate::{LineFault, LineField, MarketLists};
+use mv_machine::Step;
+use mv_message::{Party, Shared};
+use mv_pack::PackKey;
+use serde_json::Value;
+use std::alloc::Global;
+
+/// What a line asks.
+#[derive(Debug, Drop)]
+pub enum Request {
+    /// To open a system of these parties and limits, which are as the line has them.
+    Open {
+        parties: MarketLists,
+        submissions: u32,
+        uplink: u32,
+        window: u32,
+        wire: u32,
+    },
+    /// To make a step.
+    Step(Step),
+}
+
+impl Request {
+    /// Reads a line.
+    ///
+    /// The first of these that holds is the fault: M1, the bytes are no JSON; M2, the value is no object; M3 or M5 of
+    /// `do`; M4 with the first key, in byte order, that such lines do not have; then the faults of the fields, in byte
+    /// order of their names. Want of memory may stand in place of any answer.
+    #[tactic(auto, using(mv_json::proofs::ValueLemmas::utf8_test, mv_json::proofs::ValueLemmas::utf8_fact))]
+    pub fn read(alloc: Global, line: &[u8]) -> Result<Request, LineFault>
+        ensures { Gives result (read_line line.now) }
+    {
+        match Value::from_slice(alloc, line) {
+            Ok(value) => Request::from_value(alloc, &value),
+            Err(error) => {
+                if error.is_memory() {
+                    Err(LineFault::Memory)
+                } else {
+                    Err(LineFault::NotJson)
+                }
+            }
+        }
+    }
+
+    /// What the value of a line asks.
+    #[tactic(auto, unfolding(crate::specs::Requests::read_request))]
+    fn from_value(alloc: Global, value: &Value) -> Result<Request, LineFault>
+        ensures { Gives result (read_request (view value.now)) }
+    {
+        let Some(members) = value.as_object() else {
+            return Err(LineFault::NotObject);
+        };
+        let kind = known_kind(alloc, members, kind_of(value)?)?;
+        Request::of_kind(alloc, kind, value)
+    }
+
+    /// What the fields of a line of that kind ask.
+    fn of_kind(alloc: Global, kind: LineKind, value: &Value) -> Result<Request, LineFault>
+        ensures { Gives result (request_at kind (view value.now)) }
+    {
+        match kind {
+            LineKind::Open => Request::open_of(alloc, value),
+            LineKind::Submit => Request::submit_of(alloc, value),
+            LineKind::Route => Request::route_of(value),
+            LineKind::Relay => Request::relay_of(value),
+            LineKind::Apply => Request::apply_of(value),
+            LineKind::Repeat => Request::repeat_of(value),
+            LineKind::Close => Request::close_of(value),
+            LineKind::Lose => Request::lose_of(value),
+            LineKind::Verify => Request::verify_of(value),
+            LineKind::Verdict => Request::verdict_of(value),
+        }
+    }
+
+    /// The opening that the fields of a line ask.
+    #[tactic(auto, unfolding(crate::specs::Requests::open_at))]
+    fn open_of(alloc: Global, value: &Value) -> Result<Request, LineFault>
+        ensures { Gives result (open_at (view value.now)) }
+    {
+        let parties = market_lists_of(alloc, value, LineField::Parties)?;
+        let submissions = number_of(value, LineField::Submissions)?;
+        let uplink = number_of(value, LineField::Uplink)?;
+        let window = number_of(value, LineField::Window)?;
+        let wire = number_of(value, LineField::Wire)?;
+        Ok(Request::Open {
+            parties,
+            submissions,
+            uplink,
+            window,
+            wire,
+        })
+    }
+
+    /// The submission that the fields of a line ask.
+    #[tactic(auto, unfolding(crate::specs::Requests::submit_at))]
+    fn submit_of(alloc: Global, value: &Value) -> Result<Request, LineFault>
+        ensures { Gives result (submit_at (view value.now)) }
+    {
+        let from = number_of(value, LineField::From)?;
+        let message = message_of(alloc, value)?;
+        let Ok(message) = Shared::new(alloc, message) else {
+            return Err(LineFault::Memory);
+        };
+        Ok(Request::Step(Step::Submit { from, message }))
+    }
+
+    /// The routing that the fields of a line ask.
+    #[tactic(auto, unfolding(crate::specs::Requests::route_at))]
+    fn route_of(value: &Value) -> Result<Request, LineFault>
+        ensures { Gives result (route_at (view value.now)) }
+    {
+        let from = number_of(value, LineField::From)?;
+        Ok(Request::Step(Step::Route { from }))
+    }
+
+    /// The relay that the fields of a line ask.
+    #[tactic(auto, unfolding(crate::specs::Requests::relay_at))]
+    fn relay_of(value: &Value) -> Result<Request, LineFault>
+        ensures { Gives result (relay_at (view value.now)) }
+    {
+        let (from, to) = link_of(value)?;
+        Ok(Request::Step(Step::Relay { from, to }))
+    }
+
+    /// The taking of a frame that the fields of a line ask.
+    #[tactic(auto, unfolding(crate::specs::Requests::apply_at))]
+    fn apply_of(value: &Value) -> Result<Request, LineFault>
+        ensures { Gives result (apply_at (view value.now)) }
+    {
+        let (from, to) = link_of(value)?;
+        Ok(Request::Step(Step::Apply { from, to }))
+    }
+
+    /// The repetition of a frame that the fields of a line ask.
+    #[tactic(auto, unfolding(crate::specs::Requests::repeat_at))]
+    fn repeat_of(value: &Value) -> Result<Request, LineFault>
+        ensures { Gives result (repeat_at (view value.now)) }
+    {
+        let from = number_of(value, LineField::From)?;
+        let number = number_of(value, LineField::Number)?;
+        let to = number_of(value, LineField::To)?;
+        Ok(Request::Step(Step::Repeat { from, to, number }))
+    }
+
+    /// The closing of a link that the fields of a line ask.
+    #[tactic(auto, unfolding(crate::specs::Requests::close_at))]
+    fn close_of(value: &Value) -> Result<Request, LineFault>
+        ensures { Gives result (close_at (view value.now)) }
+    {
+        let (from, to) = link_of(value)?;
+        Ok(Request::Step(Step::Close { from, to }))
+    }
+
+    /// The loss of a frame that the fields of a line ask.
+    #[tactic(auto, unfolding(crate::specs::Requests::lose_at))]
+    fn lose_of(value: &Value) -> Result<Request, LineFault>
+        ensures { Gives result (lose_at (view value.now)) }
+    {
+        let (from, to) = link_of(value)?;
+        Ok(Request::Step(Step::Lose { from, to }))
+    }
+
+    /// The verifying of a pack that the fields of a line ask.
+    #[tactic(auto, unfolding(crate::specs::Requests::verify_at))]
+    fn verify_of(value: &Value) -> Result<Request, LineFault>
+        ensures { Gives result (verify_at (view value.now)) }
+    {
+        let gtin = gtin_of(value, LineField::Gtin)?;
+        let party = number_of(value, LineField::Party)?;
+        let serial = serial_of(value, LineField::Serial)?;
+        let key = PackKey { gtin, serial };
+        Ok(Request::Step(Step::Verify { party, key }))
+    }
+
+    /// The taking of a verdict that the fields of a line ask.
+    #[tactic(auto, unfolding(crate::specs::Requests::verdict_at))]
+    fn verdict_of(value: &Value) -> Result<Request, LineFault>
+        ensures { Gives result (verdict_at (view value.now)) }
+    {
+        let party = number_of(value, LineField::Party)?;
+        let q = number_of(value, LineField::Q)?;
+        Ok(Request::Step(Step::Verdict { party, q }))
+    }
+}
+
+/// The two parties of the link that the fields of a line name.
+#[tactic(auto, unfolding(crate::specs::Requests::link_at))]
+fn link_of(value: &Value) -> Result<(Party, Party), LineFault>
+    ensures { result ≡ link_at (view value.now) }
+{
+    let from = number_of(value, LineField::From)?;
+    let to = number_of(value, LineField::To)?;
+    Ok((from, to))
+}

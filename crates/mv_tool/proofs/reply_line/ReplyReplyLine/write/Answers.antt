@@ -1,4 +1,0 @@
-use Rattle.mv_tool.proofs.reply_line.ReplyReplyLine.write.Goals as goal
-
-pub returns-in-Submitted-clause-added : goal.returns-in-Submitted-clause-added
-returns-in-Submitted-clause-added c = rw c.in-Submitted.is (rw c.from.ensures at c.write_object.ensures.added)

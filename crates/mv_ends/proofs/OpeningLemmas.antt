@@ -1,5 +1,12 @@
 -- Lists of ends that grow together.
-use Rattle.std.proofs.Common.{◌≡◌, ◌<◌, ℕ, List, [], ◌∷◌, ◌++◌, length, get_or, arith, inl, inr, subst, sym, length-append}
+use Rattle.std.proofs.Common.{◌≡◌, ◌<◌, ◌∙◌, ◌+◌, ℕ, List, [], ◌∷◌, ◌++◌, length, get_or, arith, inl, inr, subst, sym, ap, length-append}
+use Rattle.std.specs.declared.alloc.Global.{Global}
+use Rattle.rtrb.specs.declared.consumer.Consumer.{Consumer}
+use Rattle.rtrb.specs.declared.AnyItems.{AnyItems}
+use Rattle.mv_message.specs.declared.message.Message.{Message}
+use Rattle.mv_ends.specs.declared.outlets.Outlets.{Outlets}
+use Rattle.mv_ends.specs.declared.repo_end.RepoEnd.{RepoEnd}
+use Rattle.mv_ends.specs.Opened.{IsOpened, AreOpened}
 use Rattle.std.proofs.Math.ListN.{get_or-append}
 use Rattle.std.proofs.lemmas.List.{get_or_push}
 use Rattle.std.proofs.lemmas.Bool.{cases_lt}
@@ -20,6 +27,22 @@ triples_push P xs ys zs x y z same other all here k a b c below =
           let two : length ys ≡ k = omega arith in
           rw (get_or_push xs x a k one, get_or_push ys y b k two, get_or_push zs z c k (sym at)) (subst (λ n. P n x y z) (sym at) here)
     ]
+
+-- the ends that are opened, with those of the next party
+pub opened_more : (count limit opened : ℕ) (uplinks : List (Consumer Message Global AnyItems)) (outlets : List Outlets) (repos : List RepoEnd)
+    (uplink : Consumer Message Global AnyItems) (out : Outlets) (repo : RepoEnd) → AreOpened count limit opened uplinks outlets repos
+    → IsOpened count limit opened uplink out repo
+    → AreOpened count limit (opened + 1) (uplinks ++ uplink ∷ []) (outlets ++ out ∷ []) (repos ++ repo ∷ [])
+opened_more count limit opened uplinks outlets repos uplink out repo was here = record {
+  uplinks_each = length-append uplinks (uplink ∷ []) ∙ ap (λ n. n + 1) was.uplinks_each;
+  outlets_each = length-append outlets (out ∷ []) ∙ ap (λ n. n + 1) was.outlets_each;
+  repos_each = length-append repos (repo ∷ []) ∙ ap (λ n. n + 1) was.repos_each;
+  each = λ party u o r below.
+      triples_push (IsOpened count limit) uplinks outlets repos uplink out repo (was.uplinks_each ∙ sym was.repos_each) (was.outlets_each ∙ sym was.repos_each)
+      (λ k a b c within. was.each k a b c (omega (arith, within, was.repos_each)))
+      (subst (λ n. IsOpened count limit n uplink out repo) (sym was.repos_each) here)
+      party u o r (omega (arith, below, was.repos_each, length-append repos (repo ∷ [])));
+}
 
 -- a member of a list that has one
 pub some_of : {A : Type 0} (xs : List A) (n : ℕ) → n < length xs → A

@@ -1,5 +1,5 @@
--- What is opened for one party: the hub's ends of its rings, and the party's end.
-use Rattle.std.specs.Prelude.{◌≡◌, ℕ, [], length}
+-- What is opened for one party, the hub's ends of its rings and the party's end, and for some.
+use Rattle.std.specs.Prelude.{◌≡◌, ℕ, ◌<◌, List, [], length, slice_index_or}
 use Rattle.std.specs.declared.alloc.Global.{Global}
 use Rattle.rtrb.specs.Ring.{received, IsPair}
 use Rattle.rtrb.specs.declared.consumer.Consumer.{Consumer}
@@ -20,3 +20,11 @@ pub record IsOpened (count limit party : ℕ) (uplink : Consumer Message Global 
   pub joined : AreJoined outlets (inlets_of repo)
   pub wide : length (ends_of outlets) ≡ count
   pub unused : IsUnused outlets
+
+-- the same of so many parties, one of so many each, place by place
+pub record AreOpened (count limit opened : ℕ) (uplinks : List (Consumer Message Global AnyItems)) (outlets : List Outlets) (repos : List RepoEnd) : Type 0 where
+  pub uplinks_each : length uplinks ≡ opened
+  pub outlets_each : length outlets ≡ opened
+  pub repos_each : length repos ≡ opened
+  pub each : (party : ℕ) (uplink : Consumer Message Global AnyItems) (none : Outlets) (repo : RepoEnd) → party < opened
+      → IsOpened count limit party (slice_index_or uplinks party uplink) (slice_index_or outlets party none) (slice_index_or repos party repo)

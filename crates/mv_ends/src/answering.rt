@@ -1,4 +1,4 @@
-//! The answer that a frame calls for: its copy for the uplink, made before anything changes.
+//! The answer that a frame calls for: its parcel for the uplink, made before anything changes.
 
 ghost use Rattle.std.specs.Prelude.{◌≡◌, ◌<◌, ◌++◌, true, None, is_some, option_to_list, IfOk, OnErr};
 ghost use Rattle.rtrb.specs.Ring.{sent, known_free, SameProducer};
@@ -12,7 +12,7 @@ use mv_party::Site;
 use rtrb::Producer;
 use std::alloc::{AllocError, Global};
 
-/// A copy for the uplink of the answer that a frame from a party calls for, where the frame is the next and the party can
+/// What goes on the uplink of the answer that a frame from a party calls for, where the frame is the next and the party can
 /// submit it. Refused for want of memory, where it calls for one.
 pub(crate) fn answer_parcel(
     alloc: Global,
@@ -33,7 +33,7 @@ pub(crate) fn answer_parcel(
         return Ok(None);
     }
     match site.answer(from, &frame.item) {
-        Some(answer) => Ok(Some(MessageParcel::of(alloc, &answer)?)),
+        Some(answer) => Ok(Some(MessageParcel::new(alloc, answer)?)),
         None => Ok(None),
     }
 }

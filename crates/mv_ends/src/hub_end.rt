@@ -1,6 +1,6 @@
 //! The hub's end: the hub, the ends of the uplinks that it takes messages from, and those of the links that it puts frames on.
 
-ghost use Rattle.std.specs.Prelude.{◌≡◌, ◌<◌, ◌&&◌, length, nat_lt};
+ghost use Rattle.std.specs.Prelude.{◌≡◌, ◌<◌, ◌&&◌, length, nat_lt, IfOk};
 ghost use Rattle.mv_machine.specs.Lawful.{IsLawfulRecord};
 ghost use Rattle.mv_ends.specs.Valid.{TookAll, IsFor, AreUnused, AreOfLinks, AreWithin, IsLawfulRecord-prop};
 ghost use Rattle.mv_ends.specs.Inlets.{starts_of};
@@ -9,10 +9,10 @@ use crate::inlets::Inlets;
 use crate::parcel::{FrameParcel, MessageParcel};
 use crate::repo_end::RepoEnd;
 use crate::wires::Wires;
-use mv_hub::{Entry, Hub};
+use mv_hub::{Entry, Hub, Parties};
 use mv_machine::{Limits, Refusal, Reply};
 use mv_message::Party;
-use std::alloc::Global;
+use std::alloc::{AllocError, Global};
 
 /// The hub's end of all rings, with the hub.
 #[derive(Drop)]
@@ -41,31 +41,31 @@ impl HubEnd {
     ghost use Rattle.mv_ends.specs.Whole.{IsEndOf};
     ghost use Rattle.mv_ends.specs.Looking.{IsLawfulAt};
 
-    /// The end of a hub where nothing has happened, with its ends of rings that were not used yet.
+    /// The end of a hub where nothing has happened, with its ends of rings that were not used yet. Refused for want of memory.
     pub(crate) fn new(
         alloc: Global,
+        parties: Parties,
         limits: Limits,
-        hub: Hub,
         uplinks: Inlets<MessageParcel>,
         wires: Wires,
-    ) -> HubEnd
-        requires hub { hub ≡ new_hub hub.parties limits.window }
-        requires each { length (starts_of uplinks) ≡ length hub.parties }
-        requires square { IsFor (length hub.parties) wires }
+    ) -> Result<HubEnd, AllocError>
+        requires each { length (starts_of uplinks) ≡ length parties }
+        requires square { IsFor (length parties) wires }
         requires untaken { IsUntaken uplinks }
         requires unused { AreUnused wires }
-        ensures hub { hub_of result ≡ hub }
-        ensures limits { result.limits ≡ limits }
-        ensures uplinks { uplinks_of result ≡ uplinks }
-        ensures wires { wires_of result ≡ wires }
+        ensures hub { IfOk result (λ end. hub_of end ≡ new_hub parties limits.window) }
+        ensures limits { IfOk result (λ end. end.limits ≡ limits) }
+        ensures uplinks { IfOk result (λ end. uplinks_of end ≡ uplinks) }
+        ensures wires { IfOk result (λ end. wires_of end ≡ wires) }
     {
-        HubEnd {
+        let hub = Hub::new(alloc, parties, limits.window())?;
+        Ok(HubEnd {
             alloc,
             limits,
             hub,
             uplinks,
             wires,
-        }
+        })
     }
 
     /// The hub.

@@ -1,10 +1,10 @@
 //! The ends of one opening.
 
-ghost use Rattle.std.specs.Prelude.{◌≡◌, length, IfOk};
+ghost use Rattle.std.specs.Prelude.{◌≡◌, ◌<◌, ◌≤◌, ◌++◌, ◌∷◌, [], length, vec_len, vec_capacity, IfOk};
 ghost use Rattle.mv_ends.specs.Outlets.{ends_of};
 ghost use Rattle.mv_ends.specs.Rings.{AreJoined, IsUnused, IsUntaken};
 ghost use Rattle.mv_ends.specs.Whole.{AreEnds, AreFresh};
-ghost use Rattle.mv_ends.specs.Opened.{IsOpened};
+ghost use Rattle.mv_ends.specs.Opened.{IsOpened, AreOpened};
 
 use crate::hub_end::HubEnd;
 use crate::inlets::Inlets;
@@ -12,10 +12,9 @@ use crate::outlets::Outlets;
 use crate::parcel::{FrameParcel, MessageParcel};
 use crate::repo_end::RepoEnd;
 use crate::wires::Wires;
-use mv_hub::{Hub, Parties};
+use mv_hub::Parties;
 use mv_machine::Limits;
 use mv_message::Party;
-use mv_party::Site;
 use rtrb::{Consumer, RingBuffer};
 use std::alloc::{AllocError, Global};
 
@@ -25,6 +24,51 @@ struct Opened {
     uplink: Consumer<MessageParcel>,
     outlets: Outlets,
     repo: RepoEnd,
+}
+
+/// What is opened for some parties, in order of party.
+#[derive(Drop)]
+struct Openings {
+    uplinks: Vec<Consumer<MessageParcel>>,
+    outlets: Vec<Outlets>,
+    repos: Vec<RepoEnd>,
+}
+
+impl Openings {
+    /// Nothing is opened yet, and there is room for so many parties. Refused for want of memory.
+    fn with_room(alloc: Global, count: u32) -> Result<Openings, AllocError>
+        ensures uplinks { IfOk result (λ made. (made.uplinks.items ≡ []) × (count ≤ vec_capacity made.uplinks)) }
+        ensures outlets { IfOk result (λ made. (made.outlets.items ≡ []) × (count ≤ vec_capacity made.outlets)) }
+        ensures repos { IfOk result (λ made. (made.repos.items ≡ []) × (count ≤ vec_capacity made.repos)) }
+    {
+        Ok(Openings {
+            uplinks: Vec::with_capacity(alloc, count as usize)?,
+            outlets: Vec::with_capacity(alloc, count as usize)?,
+            repos: Vec::with_capacity(alloc, count as usize)?,
+        })
+    }
+
+    /// Adds what is opened for one more party.
+    fn add(&mut self, opened: Opened)
+        requires uplinks { vec_len self.old.uplinks < vec_capacity self.old.uplinks }
+        requires outlets { vec_len self.old.outlets < vec_capacity self.old.outlets }
+        requires repos { vec_len self.old.repos < vec_capacity self.old.repos }
+        ensures uplinks { self.new.uplinks.items ≡ self.old.uplinks.items ++ opened.uplink ∷ [] }
+        ensures outlets { self.new.outlets.items ≡ self.old.outlets.items ++ opened.outlets ∷ [] }
+        ensures repos { self.new.repos.items ≡ self.old.repos.items ++ opened.repo ∷ [] }
+        ensures uplink_room { vec_capacity self.new.uplinks ≡ vec_capacity self.old.uplinks }
+        ensures outlet_room { vec_capacity self.new.outlets ≡ vec_capacity self.old.outlets }
+        ensures repo_room { vec_capacity self.new.repos ≡ vec_capacity self.old.repos }
+    {
+        let Opened {
+            uplink,
+            outlets,
+            repo,
+        } = opened;
+        self.uplinks.push_reserved(uplink);
+        self.outlets.push_reserved(outlets);
+        self.repos.push_reserved(repo);
+    }
 }
 
 /// The ends of a system where nothing has happened: the hub's, and that of each repository, in order of party. There is a ring
@@ -37,38 +81,44 @@ pub fn open(
     ensures ends { IfOk result (λ ends. AreEnds ends.0 ends.1.items) }
     ensures fresh { IfOk result (λ ends. AreFresh parties limits ends.0 ends.1.items) }
 {
-    let count = parties.len();
-    let mut uplinks = Vec::new(alloc);
-    let mut outlets = Vec::new(alloc);
-    let mut repos = Vec::new(alloc);
-    for party in 0..count {
-        let opened = open_one(alloc, party, count, limits)?;
-        uplinks.push(opened.uplink)?;
-        outlets.push(opened.outlets)?;
-        repos.push(opened.repo)?;
-    }
-    let hub = Hub::new(alloc, parties, limits.window())?;
+    let Openings {
+        uplinks,
+        outlets,
+        repos,
+    } = open_each(alloc, parties.len(), limits)?;
     let hub = HubEnd::new(
         alloc,
+        parties,
         limits,
-        hub,
         Inlets::new(uplinks),
         Wires::new(outlets),
-    );
+    )?;
     Ok((hub, repos))
+}
+
+/// The ends of the rings of each of so many parties.
+fn open_each(alloc: Global, count: u32, limits: Limits) -> Result<Openings, AllocError>
+    ensures { IfOk result (λ opened. AreOpened count limits.submissions count opened.uplinks.items opened.outlets.items opened.repos.items) }
+{
+    let mut openings = Openings::with_room(alloc, count)?;
+    for party in 0..count {
+        let opened = open_one(alloc, party, count, limits)?;
+        openings.add(opened);
+    }
+    Ok(openings)
 }
 
 /// The ends of the rings of one party, one of so many.
 fn open_one(alloc: Global, party: Party, count: u32, limits: Limits) -> Result<Opened, AllocError>
     ensures { IfOk result (λ opened. IsOpened count limits.submissions party opened.uplink opened.outlets opened.repo) }
 {
-    let site = Site::new(alloc, party, count, limits.submissions())?;
-    let (producer, uplink) = RingBuffer::<MessageParcel>::new(alloc, limits.uplink() as usize)?;
     let (outlets, inlets) = open_links(alloc, count, limits.wire())?;
+    let (producer, uplink) = RingBuffer::<MessageParcel>::new(alloc, limits.uplink() as usize)?;
+    let repo = RepoEnd::new(alloc, party, count, limits, producer, inlets)?;
     Ok(Opened {
         uplink,
         outlets,
-        repo: RepoEnd::new(alloc, site, producer, inlets),
+        repo,
     })
 }
 

@@ -1,7 +1,8 @@
 //! What crosses a ring: a message, or a frame, in memory of its own.
 //!
 //! Whoever puts something on a ring keeps what it has, and what it has may be shared with other lists of its own. So a parcel
-//! is made by a copy alone: nothing in it is held by anyone else. Whoever takes it from the ring owns all of it.
+//! is made of a copy, or of a message that was made for it: nothing in it is held by anyone else. Whoever takes it from the ring
+//! owns all of it.
 
 ghost use Rattle.std.specs.Prelude.{◌≡◌, IfOk};
 
@@ -25,6 +26,15 @@ impl Model for MessageParcel {
 }
 
 impl MessageParcel {
+    /// A message that nobody else holds. Refused for want of memory.
+    pub(crate) fn new(alloc: Global, message: Message) -> Result<MessageParcel, AllocError>
+        ensures { IfOk result (λ parcel. parcel ≡ message) }
+    {
+        Ok(MessageParcel {
+            message: Shared::new(alloc, message)?,
+        })
+    }
+
     /// A copy of a message. Refused for want of memory.
     pub fn of(alloc: Global, message: &Message) -> Result<MessageParcel, AllocError>
         ensures { IfOk result (λ parcel. parcel ≡ message.now) }

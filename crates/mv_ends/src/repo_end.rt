@@ -1,23 +1,23 @@
 //! A repository's end: the party, the end of its uplink that it puts messages on, and those of the links that it takes frames
 //! from.
 
-ghost use Rattle.std.specs.Prelude.{◌≡◌, [], length};
+ghost use Rattle.std.specs.Prelude.{◌≡◌, [], length, IfOk};
 ghost use Rattle.rtrb.specs.Ring.{sent};
 ghost use Rattle.mv_ends.specs.Inlets.{starts_of};
 ghost use Rattle.mv_ends.specs.Accepted.{AreAccepted};
 ghost use Rattle.mv_repository.specs.Verdict.{joint_verdict};
-ghost use Rattle.mv_party.specs.Site.{IsLawfulParty};
+ghost use Rattle.mv_party.specs.Site.{IsLawfulParty, new_site};
 
 use crate::answering::{answer_parcel, put_answer};
 use crate::inlets::Inlets;
 use crate::parcel::{FrameParcel, MessageParcel};
-use mv_machine::{Refusal, Reply};
+use mv_machine::{Limits, Refusal, Reply};
 use mv_message::{Message, Party, Shared};
 use mv_pack::PackKey;
 use mv_party::Site;
 use mv_repository::{Local, LogEntry, Repository};
 use rtrb::Producer;
-use std::alloc::Global;
+use std::alloc::{AllocError, Global};
 
 mod looking;
 
@@ -39,27 +39,30 @@ impl RepoEnd {
     ghost use Rattle.mv_ends.specs.Rings.{IsUntaken};
     ghost use Rattle.mv_ends.specs.RepoEnd.{site_of, inlets_of, SameRepoEnd, Submits, Asks, Verifies, Applies};
 
-    /// The end of a party that did nothing yet, with its ends of rings that were not used yet.
+    /// The end of a party that did nothing yet, one of so many, with its ends of rings that were not used yet. Refused for want of
+    /// memory.
     pub(crate) fn new(
         alloc: Global,
-        site: Site,
+        party: Party,
+        count: u32,
+        limits: Limits,
         uplink: Producer<MessageParcel>,
         inlets: Inlets<FrameParcel>,
-    ) -> RepoEnd
-        requires site { (site.submissions ≡ []) × (site.log ≡ []) }
+    ) -> Result<RepoEnd, AllocError>
         requires pushed { sent uplink ≡ [] }
-        requires each { length (starts_of inlets) ≡ site.parties }
+        requires each { length (starts_of inlets) ≡ count }
         requires untaken { IsUntaken inlets }
-        ensures site { site_of result ≡ site }
-        ensures uplink { result.uplink ≡ uplink }
-        ensures inlets { inlets_of result ≡ inlets }
+        ensures site { IfOk result (λ end. site_of end ≡ new_site party count limits.submissions) }
+        ensures uplink { IfOk result (λ end. end.uplink ≡ uplink) }
+        ensures inlets { IfOk result (λ end. inlets_of end ≡ inlets) }
     {
-        RepoEnd {
+        let site = Site::new(alloc, party, count, limits.submissions())?;
+        Ok(RepoEnd {
             alloc,
             site,
             uplink,
             inlets,
-        }
+        })
     }
 
     /// The party.
@@ -129,7 +132,7 @@ impl RepoEnd {
         if let Err(fault) = self.site.check_room(full) {
             return Reply::Refused(Refusal::from(fault));
         }
-        let Ok(asked) = MessageParcel::of(self.alloc, &Message::Query { key: key.copy() }) else {
+        let Ok(asked) = MessageParcel::new(self.alloc, Message::Query { key: key.copy() }) else {
             return Reply::Refused(Refusal::Memory);
         };
         match self.site.ask(key, full) {

@@ -1,12 +1,13 @@
 -- Lengths decide what is carried out.
-use Rattle.std.proofs.Common.{◌≡◌, ◌<◌, ◌+◌, ℕ, Bool, true, false, List, [], ◌∷◌, ◌++◌, length, get_or, take, cond, eqb, sym, refl, ap, ◌∙◌, arith, append-nil, length-append}
-use Rattle.std.proofs.lemmas.List.{take_more}
+use Rattle.std.proofs.Common.{◌≡◌, ◌<◌, ◌+◌, ℕ, Bool, true, false, List, [], ◌∷◌, ◌++◌, length, cond, eqb, sym, refl, ap, ◌∙◌, arith, append-nil, length-append}
+use Rattle.std.specs.List.{count_by}
+use Rattle.std.proofs.lemmas.List.Recursion.{is_count_by}
 use mathlib.Core.List.{IsPrefix}
 use Rattle.mv_hub.specs.Record.{routed_from}
 use Rattle.mv_hub.specs.Links.{link_items}
+use Rattle.mv_link.specs.declared.item.Item.{Item}
 use Rattle.mv_repository.specs.declared.entry.LogEntry.{LogEntry}
 use Rattle.mv_repository.specs.Log.{items_from}
-use Rattle.mv_party.proofs.SiteLemmas.{items_from-push}
 use Rattle.mv_machine.specs.State.{State, submissions_of, log_of}
 use Rattle.mv_machine.specs.Lawful.{IsLawful}
 use Rattle.mv_workers.specs.Done.{IsRouted}
@@ -33,15 +34,11 @@ applied_by_count outcome from to applied total lawful from_below to_below is put
     front-whole (items_from (log_of outcome to) from) (link_items outcome.parties outcome.entries from to) (lawful.of_link from to from_below to_below).applied
     (sym is ∙ same ∙ put)
 
--- one more entry of a log counts where it is of a party
-pub count_entry : (log : List LogEntry) (place : ℕ) (entry : LogEntry) (party : ℕ) (own : Bool) → place < length log → entry ≡ get_or log place entry
-    → eqb entry.sender party ≡ own → length (items_from (take (place + 1) log) party) ≡ length (items_from (take place log) party) + cond own 1 0
-count_entry log place entry party own below here is =
-    ap (λ l. length (items_from l party)) (take_more log place entry below ∙ ap (λ e. take place log ++ e ∷ []) (sym here))
-    ∙ ap length (items_from-push (take place log) entry party)
-    ∙ length-append (items_from (take place log) party) (cond (eqb entry.sender party) (entry.item ∷ []) [])
-    ∙ ap (λ n. length (items_from (take place log) party) + n) (by (eqb entry.sender party) ∙ ap (λ (b : Bool). cond b 1 0) is)
+-- the items of a party are as many as the entries that are from it
+pub from_counted : (party : ℕ) (log : List LogEntry) → length (items_from log party) ≡ count_by (λ (entry : LogEntry). eqb entry.sender party) log
+from_counted party = is_count_by (λ log. length (items_from log party)) (λ entry. eqb entry.sender party) refl
+    (λ entry log. by (eqb entry.sender party) entry.item (items_from log party))
   where
-    by : (own : Bool) → length (cond own (entry.item ∷ []) []) ≡ cond own 1 0
-    by true = refl
-    by false = refl
+    by : (own : Bool) (item : Item) (rest : List Item) → length (cond own (item ∷ rest) rest) ≡ cond own (1 + length rest) (length rest)
+    by true item rest = omega arith
+    by false item rest = refl

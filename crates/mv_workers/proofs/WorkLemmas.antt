@@ -1,7 +1,6 @@
 -- What a party submits of its own, and where one list begins another.
-use Rattle.std.proofs.Common.{◌≡◌, ◌+◌, ◌<◌, ℕ, Bool, List, [], ◌∷◌, ◌++◌, length, get_or, take, not, cond, sym, refl, ap, ◌∙◌, zero, suc, arith}
+use Rattle.std.proofs.Common.{◌≡◌, ◌+◌, ℕ, List, [], ◌∷◌, ◌++◌, length, take, not, sym, refl, ap, ◌∙◌, zero, suc, arith}
 use Rattle.std.proofs.lemmas.List.Elements.{filter-append}
-use Rattle.std.proofs.lemmas.List.Filters.{length-filter_more}
 use Rattle.mv_message.specs.declared.message.Message.{Message}
 use Rattle.mv_message.specs.declared.message.Message.TheVariants.{Master, Upload, Status, Recall, Repack, Withdraw, Query, Answer}
 use Rattle.mv_party.specs.Site.{answers_in}
@@ -9,13 +8,6 @@ use Rattle.mv_workers.specs.Work.{own_among, is_answer, Begins}
 
 pub own_among-append : (xs ys : List Message) → own_among (xs ++ ys) ≡ own_among xs ++ own_among ys
 own_among-append xs ys = filter-append (λ (message : Message). not (is_answer message)) xs ys
-
--- one more message counts where it is no answer
-pub count_more : (messages : List Message) (place : ℕ) (message : Message) (answer : Bool) → place < length messages → message ≡ get_or messages place message
-    → is_answer message ≡ answer → length (own_among (take (place + 1) messages)) ≡ length (own_among (take place messages)) + cond (not answer) 1 0
-count_more messages place message answer below here is =
-    length-filter_more (λ (m : Message). not (is_answer m)) messages place message below
-    ∙ ap (λ (a : Bool). length (own_among (take place messages)) + cond (not a) 1 0) (ap is_answer (sym here) ∙ is)
 
 -- messages are answers and others
 pub answers_and_own : (messages : List Message) → length (answers_in messages) + length (own_among messages) ≡ length messages

@@ -24,26 +24,17 @@ fn is_answer(message: &Message) -> bool
 pub(crate) fn own_count(messages: &[Shared<Message>]) -> usize
     ensures { result ≡ length (own_among messages.now) }
 {
-    let mut count = 0;
-    for place in 0..messages.len() {
-        if !is_answer(messages[place].get()) {
-            count += 1;
-        }
-    }
-    count
+    messages
+        .iter()
+        .filter(|message| !is_answer(message.get()))
+        .count()
 }
 
 /// How many entries of a log came from a party.
 fn entries_from(log: &[LogEntry], party: Party) -> usize
     ensures { result ≡ length (items_from log.now party) }
 {
-    let mut count = 0;
-    for place in 0..log.len() {
-        if log[place].sender == party {
-            count += 1;
-        }
-    }
-    count
+    log.iter().filter(|entry| entry.sender == party).count()
 }
 
 /// Whether a repository applied all that was routed to it.

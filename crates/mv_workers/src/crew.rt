@@ -115,12 +115,11 @@ fn start_repos<'s, E, R: Wait + Sync, G: Gate>(
     if handles.reserve(repos.len()).is_err() {
         return None;
     }
-    let mut place = 0;
     for end in repos {
+        let place = handles.len();
         let list = work[place].as_slice();
         let handle = start_repo(scope, rt, end, list, gate, course)?;
         handles.push_reserved(handle);
-        place += 1;
     }
     Some(handles)
 }
@@ -180,7 +179,8 @@ pub(crate) fn work_in<'s, E, R: Threads + Wait + Sync, G: Gate>(
 ) -> Option<CrewEnds>
     requires each { vec_len repos ≡ length work.now }
     requires unused { AllUnused repos.items }
-    ensures { IfSome result (λ ends. SameHubEnd hub ends.hub × AreSameRepos repos.items ends.repos.items
+    ensures { IfSome result (λ ends. SameHubEnd hub ends.hub
+        × AreSameRepos repos.items ends.repos.items
         × AllBegin work.entry.now ends.repos.items) }
 {
     let mut back = Vec::new(alloc);

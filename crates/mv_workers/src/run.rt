@@ -55,7 +55,8 @@ pub fn run_workers<R: Threads + Wait + Sync, G: Gate>(
     turns: u32,
     gate: &G,
 ) -> Result<Outcome, WorkFault>
-    ensures complete { IfOk result (λ outcome. IsSound plan × KeepsPlan plan outcome × IsComplete plan outcome) }
+    ensures complete { IfOk result (λ outcome. IsSound plan
+        × KeepsPlan plan outcome × IsComplete plan outcome) }
     ensures fault { IfErr result (λ fault. Faults plan fault) }
 {
     if !is_sound(&plan) {
@@ -74,7 +75,8 @@ pub fn run_workers<R: Threads + Wait + Sync, G: Gate>(
         rt,
         |scope| -> Option<CrewEnds>
             requires { (vec_len repos ≡ length work.now) × AllUnused repos.items }
-            ensures { IfSome result (λ ends. SameHubEnd hub ends.hub × AreSameRepos repos.items ends.repos.items
+            ensures { IfSome result (λ ends. SameHubEnd hub ends.hub
+                × AreSameRepos repos.items ends.repos.items
                 × AllBegin work.entry.now ends.repos.items) }
         { work_in(scope, rt, alloc, hub, repos, work, gate, shared) },
     );

@@ -9,11 +9,11 @@ use Rattle.mv_workers.proofs.crew.start_repos.Given as goal
 abbrev pub invariant-loop-end : goal.invariant-loop-end
 invariant-loop-end g l =
     let rest = l.end-iterator in
+    let done = vec_len l.handles in
     (goal.iterator-loop-end g).can_next rest
     × (goal.iterator-loop-end g).is_finite rest
-    × (l.place + into_iter_len rest ≡ length l.work)
-    × (vec_len l.handles ≡ l.place)
+    × (done + into_iter_len rest ≡ length l.work)
     × (length l.work ≤ vec_capacity l.handles)
-    × ((k : ℕ) (r : RepoEnd) → k < into_iter_len rest → get_or (into_iter_items rest) k r ≡ get_or (vec_items l.fn.repos) (l.place + k) r)
-    × ((s : ℕ) (h : Handle) (r : RepoEnd) → s < l.place
+    × ((k : ℕ) (r : RepoEnd) → k < into_iter_len rest → get_or (into_iter_items rest) k r ≡ get_or (vec_items l.fn.repos) (done + k) r)
+    × ((s : ℕ) (h : Handle) (r : RepoEnd) → s < done
     → IsPromised (get_or (vec_items l.fn.repos) s r) (list_at l.work s) (get_or (vec_items l.handles) s h))

@@ -1,8 +1,9 @@
 //! Messages: that copies equal what was copied, and that values are read back. Which lines are read, why others are not, and
 //! what is written is shown by the examples of `mvhub canon`.
 
+use mv_json::MessageFault;
 use mv_message::{Found, Markets, Message, Serials, Shared, Standing, Text, laws};
-use mv_pack::{Batch, Expiry, Market, Serial};
+use mv_pack::{Batch, BatchKey, Expiry, Gtin, Market, Moment, Serial};
 use std::alloc::Global;
 
 const MASTER: &str =
@@ -76,9 +77,29 @@ fn is_written_behind(alloc: Global, before: &str, text: &str) -> Option<bool> {
     Some(written.as_str().strip_prefix(before) == Some(text))
 }
 
+/// The canonical text of the message that a text is, or the message's first fault.
+fn canonical_text(alloc: Global, text: &str) -> Result<String, MessageFault> {
+    let message = mv_json::read(alloc, text.as_bytes())?;
+    mv_json::text(alloc, &message)
+}
+
 fn is_own_text(alloc: Global, text: &str) -> Option<bool> {
-    let message = message(alloc, text)?;
-    Some(mv_json::text(alloc, &message).ok()?.as_str() == text)
+    Some(canonical_text(alloc, text).ok()?.as_str() == text)
+}
+
+/// The recall of a batch, to be shared by all that hold it.
+fn recall(alloc: Global, gtin: &str, batch: &str, at: u64) -> Option<Shared<Message>> {
+    let gtin = Gtin::read(gtin).ok()?;
+    let batch = Batch::read(batch).ok()?;
+    let at = Moment::of(at).ok()?;
+    let key = BatchKey { gtin, batch };
+    Shared::new(alloc, Message::Recall { key, at }).ok()
+}
+
+/// Whether the recall that is made of its values is the one that is read from a text.
+fn is_recall_made(alloc: Global) -> Option<bool> {
+    let recall = recall(alloc, "9506000134352", "B1", 1_800_000_010)?;
+    Some(*recall.get() == message(alloc, RECALL)?)
 }
 
 fn shared(alloc: Global, text: &str) -> Option<Shared<Message>> {
@@ -211,6 +232,11 @@ fn writes_canonical_texts(rt: HostRuntime) {
             "at {text}"
         );
     }
+}
+
+#[test]
+fn makes_a_message_of_its_values(rt: HostRuntime) {
+    assert_eq!(rt; is_recall_made(rt.alloc()), Some(true));
 }
 
 #[test]

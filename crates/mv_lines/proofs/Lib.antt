@@ -5,6 +5,7 @@ pub mod RepliesLemmas
 pub mod ListLemmas
 pub mod WritingLemmas
 pub mod KeyOrderLemmas
+pub mod LineLawsLemmas
 pub mod ServedLemmas
 pub mod CanonLemmas
 pub mod PlainLineLemmas

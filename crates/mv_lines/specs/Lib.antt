@@ -11,6 +11,7 @@ pub mod PlainLines
 pub mod ReplyLines
 pub mod Writing
 pub mod KeyOrder
+pub mod LineLaws
 pub mod Openings
 pub mod Sessions
 pub mod Canon

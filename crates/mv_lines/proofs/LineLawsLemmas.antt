@@ -1,0 +1,335 @@
+-- The laws of lines: of the pieces of an input, and of the line that asks a request.
+use Rattle.std.proofs.Common.{◌≡◌, ◌∙◌, ℕ, ◌<◌, ◌^◌, suc, List, [], ◌∷◌, ◌++◌, refl, sym, ap, subst, arith, append_assoc, append-nil, true, false, lt-ltb}
+use Rattle.std.specs.Prelude.{cond, ◌==◌, nat_lt, All, Option, Some, None, option_and_then, Result, Ok, Err, IfOk}
+use Rattle.std.specs.List.{AllByRecursion}
+use Rattle.std.proofs.lemmas.Bool.{eqb-true, eqb-false, ltb-true}
+use Rattle.std.proofs.lemmas.Grind.{common_steps}
+use Rattle.std.proofs.lemmas.List.Elements.{All-nil, All-cons, All-append}
+use Rattle.serde_json.specs.Data.{Data, Items, no_items, item}
+use Rattle.serde_json.specs.Find.{as_object, as_array, as_str, as_number, as_u64}
+use Rattle.mv_pack.specs.Code.{IsCode, read_code}
+use Rattle.mv_pack.specs.Gtin.{IsGtin, read_gtin}
+use Rattle.mv_pack.specs.Market.{IsMarket, read_market}
+use Rattle.mv_pack.specs.declared.fault.PackFault.{PackFault}
+use Rattle.mv_pack.specs.declared.key.PackKey.{PackKey}
+use Rattle.mv_pack.proofs.CodeLemmas.{read_code_of, read_code_is_code}
+use Rattle.mv_pack.proofs.GtinLemmas.{read_gtin_of, read_gtin_is_gtin}
+use Rattle.mv_pack.proofs.MarketLemmas.{read_market_of, read_market_is_market}
+use Rattle.mv_message.specs.declared.message.Message.{Message}
+use Rattle.mv_json.specs.Legal.{IsLegal, IsPackKey}
+use Rattle.mv_json.specs.Messages.{read_message}
+use Rattle.mv_json.specs.Reading.{are_texts}
+use Rattle.mv_json.specs.Values.{strings}
+use Rattle.mv_json.specs.declared.fault.MessageFault.{MessageFault}
+use Rattle.mv_json.proofs.LegalLemmas.{reads_back, read_is_legal}
+use Rattle.mv_machine.specs.declared.step.Step.{Step as AnyStep}
+use Rattle.mv_machine.specs.declared.step.Step.TheVariants as steps
+use Rattle.mv_lines.specs.Kinds.{kind_at, known_kind_at}
+use Rattle.mv_lines.specs.LineLaws.{markets_value, step_value, request_value, Has32Bits, IsLegalStep, IsLegalRequest}
+use Rattle.mv_lines.specs.Lines.{whole_from, rest_from, last_piece, pieces, lines_of, IsUnended}
+use Rattle.mv_lines.specs.Reading.{◌and_then◌, some_or, member_at, text_at, of_field, of_32_bits, of_message, market_item, market_list, text_lists, are_text_lists, gtin_at, serial_at, number_at, message_at, market_lists_at, read_markets, read_market_lists}
+use Rattle.mv_lines.specs.Replies.{text_lines}
+use Rattle.mv_lines.specs.Requests.{read_request, request_at, open_at, submit_at, route_at, link_at, relay_at, apply_at, repeat_at, close_at, lose_at, verify_at, verdict_at}
+use Rattle.mv_lines.specs.declared.field.LineField.{LineField}
+use Rattle.mv_lines.specs.declared.field.LineField.TheVariants as fields
+use Rattle.mv_lines.specs.declared.kind.LineKind.{LineKind}
+use Rattle.mv_lines.specs.declared.kind.LineKind.TheVariants as kinds
+use Rattle.mv_lines.specs.declared.line_fault.LineFault.{LineFault}
+use Rattle.mv_lines.specs.declared.line_fault.LineFault.TheVariants.{NotObject, Kind}
+use Rattle.mv_lines.specs.declared.request.Request.{Request}
+use Rattle.mv_lines.specs.declared.request.Request.TheVariants.{Open, Step}
+use Rattle.mv_lines.proofs.InputLemmas.{whole_from-append, rest_from-append, lines_of-append}
+use Rattle.mv_lines.proofs.PartLemmas.{unended_whole, unended_rest}
+
+-- ---- the pieces of an input
+
+-- The bytes behind what had begun are its pieces, each with its line feed, and what stands behind the last one.
+rejoined : (begun xs : List ℕ) → text_lines (whole_from begun xs) ++ rest_from begun xs ≡ begun ++ xs
+rejoined begun [] = sym (append-nil begun)
+rejoined begun (x ∷ xs) =
+    (elim (x == 10) as (λ b. (x == 10) ≡ b → text_lines (cond b (begun ∷ whole_from [] xs) (whole_from (begun ++ x ∷ []) xs))
+    ++ cond b (rest_from [] xs) (rest_from (begun ++ x ∷ []) xs) ≡ begun ++ x ∷ xs) [
+      | true ↦ λ feed. append_assoc (begun ++ 10 ∷ []) (text_lines (whole_from [] xs)) (rest_from [] xs)
+          ∙ ap (λ l. (begun ++ 10 ∷ []) ++ l) (rejoined [] xs) ∙ append_assoc begun (10 ∷ []) xs
+          ∙ ap (λ byte. begun ++ byte ∷ xs) (sym (eqb-true x 10 feed))
+      | false ↦ λ other. rejoined (begun ++ x ∷ []) xs ∙ append_assoc begun (x ∷ []) xs
+    ]) refl
+
+-- so nothing is lost of an input, and nothing put to it
+pub pieces_rejoin : (bytes : List ℕ) → text_lines (whole_from [] bytes) ++ rest_from [] bytes ≡ bytes
+pieces_rejoin bytes = rejoined [] bytes
+
+-- one more byte that is no line feed
+unended_more : (begun : List ℕ) (x : ℕ) → IsUnended begun → (x ≡ 10 → ⊥) → IsUnended (begun ++ x ∷ [])
+unended_more begun x unended other = λ k within. grind (arith, common_steps, unended k, other)
+
+-- nothing ends no line
+unended_nil : IsUnended []
+unended_nil k within = absurd (omega arith)
+
+-- no whole piece has a line feed in it
+whole_unended : (begun xs : List ℕ) → IsUnended begun → All IsUnended (whole_from begun xs)
+whole_unended begun [] unended = All-nil IsUnended
+whole_unended begun (x ∷ xs) unended =
+    (elim (x == 10) as (λ b. (x == 10) ≡ b → All IsUnended (cond b (begun ∷ whole_from [] xs) (whole_from (begun ++ x ∷ []) xs))) [
+      | true ↦ λ feed. All-cons IsUnended begun (whole_from [] xs) unended (whole_unended [] xs unended_nil)
+      | false ↦ λ other. whole_unended (begun ++ x ∷ []) xs (unended_more begun x unended (eqb-false x 10 other))
+    ]) refl
+
+-- and none stands behind the last one
+rest_unended : (begun xs : List ℕ) → IsUnended begun → IsUnended (rest_from begun xs)
+rest_unended begun [] unended = unended
+rest_unended begun (x ∷ xs) unended =
+    (elim (x == 10) as (λ b. (x == 10) ≡ b → IsUnended (cond b (rest_from [] xs) (rest_from (begun ++ x ∷ []) xs))) [
+      | true ↦ λ feed. rest_unended [] xs unended_nil
+      | false ↦ λ other. rest_unended (begun ++ x ∷ []) xs (unended_more begun x unended (eqb-false x 10 other))
+    ]) refl
+
+last_unended : (rest : List ℕ) → IsUnended rest → All IsUnended (last_piece rest)
+last_unended [] unended = All-nil IsUnended
+last_unended (x ∷ xs) unended = All-cons IsUnended (x ∷ xs) [] unended (All-nil IsUnended)
+
+-- no piece has a line feed in it
+pub pieces_are_unended : (bytes : List ℕ) → All IsUnended (pieces bytes)
+pieces_are_unended bytes =
+    All-append IsUnended (whole_from [] bytes) (last_piece (rest_from [] bytes)) (whole_unended [] bytes unended_nil)
+    (last_unended (rest_from [] bytes) (rest_unended [] bytes unended_nil))
+
+-- a first piece, with its line feed behind it
+first_piece : (piece more : List ℕ) → IsUnended piece → pieces (piece ++ 10 ∷ more) ≡ piece ∷ pieces more
+first_piece piece more unended =
+    rw (whole_from-append [] piece (10 ∷ more), rest_from-append [] piece (10 ∷ more), unended_whole [] piece unended, unended_rest [] piece unended)
+
+-- texts without line feeds, written with one behind each, and a last one with none behind it
+pub pieces_read_back : (texts : List (List ℕ)) (last : List ℕ) → All IsUnended texts → IsUnended last
+    → pieces (text_lines texts ++ last) ≡ texts ++ last_piece last
+pieces_read_back [] last all unended = rw (unended_whole [] last unended, unended_rest [] last unended)
+pieces_read_back (text ∷ texts) last all unended =
+    ap pieces (append_assoc (text ++ 10 ∷ []) (text_lines texts) last ∙ append_assoc text (10 ∷ []) (text_lines texts ++ last))
+    ∙ first_piece text (text_lines texts ++ last) (all 0 text (omega arith))
+    ∙ ap (λ ps. text ∷ ps) (pieces_read_back texts last (λ k d within. all (suc k) d (omega arith)) unended)
+
+-- the pieces of two parts with a line feed between them
+between : (front back : List ℕ) → pieces (front ++ 10 ∷ back) ≡ whole_from [] front ++ (rest_from [] front ∷ pieces back)
+between front back =
+    rw (whole_from-append [] front (10 ∷ back), rest_from-append [] front (10 ∷ back))
+    (append_assoc (whole_from [] front) (rest_from [] front ∷ whole_from [] back) (last_piece (rest_from [] back)))
+
+-- behind a line feed the pieces begin anew
+pub pieces_compose : (front back : List ℕ) → pieces (front ++ 10 ∷ back) ≡ pieces (front ++ 10 ∷ []) ++ pieces back
+pieces_compose front back =
+    between front back ∙ sym (append_assoc (whole_from [] front) (rest_from [] front ∷ []) (pieces back))
+    ∙ ap (λ ps. ps ++ pieces back) (sym (between front []))
+
+-- an empty piece is no line
+first_line : (piece : List ℕ) (ps : List (List ℕ)) → lines_of (piece ∷ ps) ≡ lines_of (last_piece piece) ++ lines_of ps
+first_line [] ps = refl
+first_line (x ∷ xs) ps = lines_of-append ((x ∷ xs) ∷ []) ps
+
+-- the lines of two parts with a line feed between them
+pub lines_compose : (front back : List ℕ) → lines_of (pieces (front ++ 10 ∷ back)) ≡ lines_of (pieces front) ++ lines_of (pieces back)
+lines_compose front back =
+    let whole = lines_of (whole_from [] front) in
+    let last = lines_of (last_piece (rest_from [] front)) in
+    ap lines_of (between front back) ∙ lines_of-append (whole_from [] front) (rest_from [] front ∷ pieces back)
+    ∙ ap (λ ls. whole ++ ls) (first_line (rest_from [] front) (pieces back)) ∙ sym (append_assoc whole last (lines_of (pieces back)))
+    ∙ ap (λ ls. ls ++ lines_of (pieces back)) (sym (lines_of-append (whole_from [] front) (last_piece (rest_from [] front))))
+
+-- ---- the line that asks a request
+
+relay_back : (from to : ℕ) → from < 2 ^ 32 → to < 2 ^ 32 → read_request (step_value (steps.Relay from to)) ≡ Ok (Step (steps.Relay from to))
+unfolding read_request kind_at relay_at link_at number_at
+relay_back from to hf ht = rw (lt-ltb _ _ hf, lt-ltb _ _ ht)
+
+route_back : (from : ℕ) → from < 2 ^ 32 → read_request (step_value (steps.Route from)) ≡ Ok (Step (steps.Route from))
+unfolding read_request kind_at route_at number_at
+route_back from hf = rw (lt-ltb _ _ hf)
+
+apply_back : (from to : ℕ) → from < 2 ^ 32 → to < 2 ^ 32 → read_request (step_value (steps.Apply from to)) ≡ Ok (Step (steps.Apply from to))
+unfolding read_request kind_at apply_at link_at number_at
+apply_back from to hf ht = rw (lt-ltb _ _ hf, lt-ltb _ _ ht)
+
+repeat_back : (from to number : ℕ) → from < 2 ^ 32 → to < 2 ^ 32 → number < 2 ^ 32
+    → read_request (step_value (steps.Repeat from to number)) ≡ Ok (Step (steps.Repeat from to number))
+unfolding read_request kind_at repeat_at number_at
+repeat_back from to number hf ht hn = rw (lt-ltb _ _ hf, lt-ltb _ _ hn, lt-ltb _ _ ht)
+
+close_back : (from to : ℕ) → from < 2 ^ 32 → to < 2 ^ 32 → read_request (step_value (steps.Close from to)) ≡ Ok (Step (steps.Close from to))
+unfolding read_request kind_at close_at link_at number_at
+close_back from to hf ht = rw (lt-ltb _ _ hf, lt-ltb _ _ ht)
+
+lose_back : (from to : ℕ) → from < 2 ^ 32 → to < 2 ^ 32 → read_request (step_value (steps.Lose from to)) ≡ Ok (Step (steps.Lose from to))
+unfolding read_request kind_at lose_at link_at number_at
+lose_back from to hf ht = rw (lt-ltb _ _ hf, lt-ltb _ _ ht)
+
+verdict_back : (party q : ℕ) → party < 2 ^ 32 → q < 2 ^ 32 → read_request (step_value (steps.Verdict party q)) ≡ Ok (Step (steps.Verdict party q))
+unfolding read_request kind_at verdict_at number_at
+verdict_back party q hp hq = rw (lt-ltb _ _ hp, lt-ltb _ _ hq)
+
+verify_back : (party : ℕ) (key : PackKey) → party < 2 ^ 32 → IsPackKey key → read_request (step_value (steps.Verify party key)) ≡ Ok (Step (steps.Verify party key))
+unfolding read_request kind_at verify_at gtin_at serial_at number_at
+verify_back party key hp legal = rw (read_gtin_of key.gtin legal.0, lt-ltb _ _ hp, read_code_of key.serial legal.1)
+
+submit_back : (from : ℕ) (message : Message) → from < 2 ^ 32 → IsLegal message → read_request (step_value (steps.Submit from message)) ≡ Ok (Step (steps.Submit from message))
+unfolding read_request kind_at submit_at message_at number_at
+submit_back from message hf legal = rw (lt-ltb _ _ hf, reads_back message legal)
+
+-- each list of markets is a list of texts, and is read as it stands
+markets_are_texts : (markets : List (List ℕ)) → are_texts (strings markets) ≡ true
+markets_are_texts [] = refl
+markets_are_texts (market ∷ markets) = markets_are_texts markets
+
+markets_back : (markets : List (List ℕ)) → AllByRecursion IsMarket markets → read_markets fields.Parties (strings markets) ≡ Ok markets
+markets_back [] legal = refl
+markets_back (market ∷ markets) legal = rw (read_market_of market legal.0, markets_back markets legal.1)
+
+lists_are_texts : (lists : List (List (List ℕ))) → are_text_lists (markets_value lists) ≡ true
+lists_are_texts [] = refl
+lists_are_texts (markets ∷ lists) = rw (markets_are_texts markets) (lists_are_texts lists)
+
+lists_back : (lists : List (List (List ℕ))) → AllByRecursion (AllByRecursion IsMarket) lists → read_market_lists fields.Parties (markets_value lists) ≡ Ok lists
+lists_back [] legal = refl
+lists_back (markets ∷ lists) legal = rw (markets_back markets legal.0, lists_back lists legal.1)
+
+open_back : (parties : List (List (List ℕ))) (submissions uplink window wire : ℕ)
+    → IsLegalRequest (Open parties submissions uplink window wire)
+    → read_request (request_value (Open parties submissions uplink window wire)) ≡ Ok (Open parties submissions uplink window wire)
+unfolding read_request kind_at open_at market_lists_at number_at
+open_back parties submissions uplink window wire legal =
+    rw (lists_are_texts parties, lists_back parties legal.0, lt-ltb _ _ legal.1, lt-ltb _ _ legal.2, lt-ltb _ _ legal.3, lt-ltb _ _ legal.4)
+
+-- each step is read back from its line
+steps_back : (step : AnyStep) → IsLegalStep step → read_request (step_value step) ≡ Ok (Step step)
+steps_back (steps.Submit from message) legal = submit_back from message legal.0 legal.1
+steps_back (steps.Verify party key) legal = verify_back party key legal.0 legal.1
+steps_back (steps.Route from) legal = route_back from legal
+steps_back (steps.Relay from to) legal = relay_back from to legal.0 legal.1
+steps_back (steps.Apply from to) legal = apply_back from to legal.0 legal.1
+steps_back (steps.Repeat from to number) legal = repeat_back from to number legal.0 legal.1 legal.2
+steps_back (steps.Close from to) legal = close_back from to legal.0 legal.1
+steps_back (steps.Lose from to) legal = lose_back from to legal.0 legal.1
+steps_back (steps.Verdict party q) legal = verdict_back party q legal.0 legal.1
+
+-- each request is read back from its line
+pub requests_read_back : (request : Request) → IsLegalRequest request → read_request (request_value request) ≡ Ok request
+requests_read_back (Open parties submissions uplink window wire) legal = open_back parties submissions uplink window wire legal
+requests_read_back (Step step) legal = steps_back step legal
+
+-- ---- what is read is legal
+
+-- what holds of what a reading gives, where the next step sees to it
+then_gave : {A B : Type 0} (P : A → Type 0) (Q : B → Type 0) (reading : Result A LineFault) (next : A → Result B LineFault)
+    → IfOk reading P → ((x : A) → P x → IfOk (next x) Q) → IfOk (reading and_then next) Q
+then_gave P Q (Ok x) next gave step = step x gave
+then_gave P Q (Err fault) next gave step = tt
+
+-- the same where nothing is known of what was read
+then_any : {A B : Type 0} (Q : B → Type 0) (reading : Result A LineFault) (next : A → Result B LineFault)
+    → ((x : A) → IfOk (next x) Q) → IfOk (reading and_then next) Q
+then_any Q (Ok x) next step = step x
+then_any Q (Err fault) next step = tt
+
+field_gave : {A : Type 0} (P : A → Type 0) (field : LineField) (reading : Result A PackFault) → ((x : A) → reading ≡ Ok x → P x)
+    → IfOk (of_field field reading) P
+field_gave P field (Ok x) legal = legal x refl
+field_gave P field (Err fault) legal = tt
+
+of_message_gave : (reading : Result Message MessageFault) → ((message : Message) → reading ≡ Ok message → IsLegal message)
+    → IfOk (of_message reading) IsLegal
+of_message_gave (Ok message) legal = legal message refl
+of_message_gave (Err fault) legal = tt
+
+small_gave : (fault : LineFault) (n : Option ℕ) → IfOk (some_or fault (option_and_then of_32_bits n)) Has32Bits
+small_gave fault None = tt
+small_gave fault (Some n) =
+    (elim (nat_lt n (2 ^ 32)) as (λ b. nat_lt n (2 ^ 32) ≡ b → IfOk (some_or fault (cond b (Some n) None)) Has32Bits) [
+      | true ↦ λ less. ltb-true n (2 ^ 32) less
+      | false ↦ λ _. tt
+    ]) refl
+
+number_gave : (field : LineField) (value : Data) → IfOk (number_at field value) Has32Bits
+unfolding number_at
+number_gave field value = then_any Has32Bits (member_at field value) _ (λ found. small_gave (Kind field) (option_and_then as_u64 (as_number found)))
+
+gtin_gave : (field : LineField) (value : Data) → IfOk (gtin_at field value) IsGtin
+unfolding gtin_at
+gtin_gave field value = then_any IsGtin (text_at field value) _ (λ text. field_gave IsGtin field (read_gtin text) (read_gtin_is_gtin text))
+
+serial_gave : (field : LineField) (value : Data) → IfOk (serial_at field value) IsCode
+unfolding serial_at
+serial_gave field value = then_any IsCode (text_at field value) _ (λ text. field_gave IsCode field (read_code text) (read_code_is_code text))
+
+message_gave : (value : Data) → IfOk (message_at value) IsLegal
+unfolding message_at
+message_gave value = then_any IsLegal (member_at fields.Message value) _ (λ found. of_message_gave (read_message found) (read_is_legal found))
+
+markets_gave : (field : LineField) (items : Items) → IfOk (read_markets field items) (AllByRecursion IsMarket)
+markets_gave field no_items = tt
+markets_gave field (item value items) =
+    then_gave IsMarket (AllByRecursion IsMarket) (market_item field value) _
+    (then_any IsMarket (some_or (Kind field) (as_str value)) _ (λ text. field_gave IsMarket field (read_market text) (read_market_is_market text)))
+    (λ market legal. then_gave (AllByRecursion IsMarket) (AllByRecursion IsMarket) (read_markets field items) _ (markets_gave field items) (λ rest are. (legal, are)))
+
+lists_gave : (field : LineField) (items : Items) → IfOk (read_market_lists field items) (AllByRecursion (AllByRecursion IsMarket))
+lists_gave field no_items = tt
+lists_gave field (item value items) =
+    then_gave (AllByRecursion IsMarket) (AllByRecursion (AllByRecursion IsMarket)) (market_list field value) _
+    (then_any (AllByRecursion IsMarket) (some_or (Kind field) (as_array value)) _ (markets_gave field))
+    (λ markets legal. then_gave (AllByRecursion (AllByRecursion IsMarket)) (AllByRecursion (AllByRecursion IsMarket)) (read_market_lists field items) _
+    (lists_gave field items) (λ rest are. (legal, are)))
+
+market_lists_gave : (field : LineField) (value : Data) → IfOk (market_lists_at field value) (AllByRecursion (AllByRecursion IsMarket))
+unfolding market_lists_at
+market_lists_gave field value =
+    then_any (AllByRecursion (AllByRecursion IsMarket)) (member_at field value) _
+    (λ found. then_any (AllByRecursion (AllByRecursion IsMarket)) (some_or (Kind field) (as_array found)) _
+    (λ items. then_any (AllByRecursion (AllByRecursion IsMarket)) (text_lists field items) _ (lists_gave field)))
+
+-- a number of a field, and then the rest
+with_number : {B : Type 0} (Q : B → Type 0) (field : LineField) (value : Data) (next : ℕ → Result B LineFault)
+    → ((n : ℕ) → Has32Bits n → IfOk (next n) Q) → IfOk (number_at field value and_then next) Q
+with_number Q field value next step = then_gave Has32Bits Q (number_at field value) next (number_gave field value) step
+
+-- a link, and then the step
+with_link : (value : Data) (make : ℕ → ℕ → AnyStep) → ((from to : ℕ) → Has32Bits from → Has32Bits to → IsLegalStep (make from to))
+    → IfOk (link_at value and_then λ (from, to). Ok (Step (make from to))) IsLegalRequest
+unfolding link_at
+with_link value make legal =
+    then_gave (λ (p : ℕ × ℕ). Has32Bits p.0 × Has32Bits p.1) IsLegalRequest (link_at value) _
+    (with_number (λ (p : ℕ × ℕ). Has32Bits p.0 × Has32Bits p.1) fields.From value _
+    (λ from small. with_number (λ (p : ℕ × ℕ). Has32Bits p.0 × Has32Bits p.1) fields.To value _ (λ to less. (small, less))))
+    (λ p small. legal p.0 p.1 small.0 small.1)
+
+request_gave : (kind : LineKind) (value : Data) → IfOk (request_at kind value) IsLegalRequest
+unfolding open_at submit_at route_at relay_at apply_at repeat_at close_at lose_at verify_at verdict_at
+request_gave kinds.Open value =
+    then_gave (AllByRecursion (AllByRecursion IsMarket)) IsLegalRequest (market_lists_at fields.Parties value) _ (market_lists_gave fields.Parties value)
+    (λ parties legal. with_number IsLegalRequest fields.Submissions value _ (λ submissions s. with_number IsLegalRequest fields.Uplink value _
+    (λ uplink u. with_number IsLegalRequest fields.Window value _ (λ window w. with_number IsLegalRequest fields.Wire value _ (λ wire i. (legal, s, u, w, i))))))
+request_gave kinds.Submit value =
+    with_number IsLegalRequest fields.From value _ (λ from small. then_gave IsLegal IsLegalRequest (message_at value) _ (message_gave value)
+    (λ message legal. (small, legal)))
+request_gave kinds.Route value = with_number IsLegalRequest fields.From value _ (λ from small. small)
+request_gave kinds.Relay value = with_link value (λ from to. steps.Relay from to) (λ from to small less. (small, less))
+request_gave kinds.Apply value = with_link value (λ from to. steps.Apply from to) (λ from to small less. (small, less))
+request_gave kinds.Repeat value =
+    with_number IsLegalRequest fields.From value _ (λ from small. with_number IsLegalRequest fields.Number value _
+    (λ number less. with_number IsLegalRequest fields.To value _ (λ to few. (small, few, less))))
+request_gave kinds.Close value = with_link value (λ from to. steps.Close from to) (λ from to small less. (small, less))
+request_gave kinds.Lose value = with_link value (λ from to. steps.Lose from to) (λ from to small less. (small, less))
+request_gave kinds.Verify value =
+    then_gave IsGtin IsLegalRequest (gtin_at fields.Gtin value) _ (gtin_gave fields.Gtin value)
+    (λ gtin legal. with_number IsLegalRequest fields.Party value _ (λ party small. then_gave IsCode IsLegalRequest (serial_at fields.Serial value) _
+    (serial_gave fields.Serial value) (λ serial coded. (small, (legal, coded)))))
+request_gave kinds.Verdict value =
+    with_number IsLegalRequest fields.Party value _ (λ party small. with_number IsLegalRequest fields.Q value _ (λ q less. (small, less)))
+
+read_gave : (value : Data) → IfOk (read_request value) IsLegalRequest
+unfolding read_request
+read_gave value =
+    then_any IsLegalRequest (some_or NotObject (as_object value)) _ (λ members. then_any IsLegalRequest (kind_at value) _
+    (λ kind. then_any IsLegalRequest (known_kind_at kind members) _ (λ known. request_gave known value)))
+
+-- what a line asks is legal
+pub read_requests_are_legal : (value : Data) (request : Request) → read_request value ≡ Ok request → IsLegalRequest request
+read_requests_are_legal value request read = subst (λ r. IfOk r IsLegalRequest) read (read_gave value)

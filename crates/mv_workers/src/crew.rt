@@ -165,6 +165,27 @@ fn join_repos<'s, R: Threads>(
     (into, short)
 }
 
+/// Joins all workers: the repositories' ends come back into a list that has room for them.
+fn join_crew<'s, R: Threads>(
+    rt: &R,
+    handle: HubHandle,
+    handles: Vec<RepoHandle<'s>>,
+    into: Vec<RepoEnd>,
+) -> CrewEnds
+    requires empty { vec_len into ≡ 0 }
+    requires room { vec_len handles ≤ vec_capacity into }
+    ensures hub { SameHubEnd handle.promise.0.value result.hub }
+    ensures repos { AllKept handles.entry.items result.repos.items }
+{
+    let (hub, ended) = handle.join(rt);
+    let (repos, short) = join_repos(rt, handles, into);
+    CrewEnds {
+        hub,
+        repos,
+        short: short || ended,
+    }
+}
+
 /// Runs a worker for the hub and one for each repository. None where one can't be started: the others end before their first
 /// turn. All room is got before the first starts.
 pub(crate) fn work_in<'s, E, R: Threads + Wait + Sync, G: Gate>(
@@ -193,11 +214,5 @@ pub(crate) fn work_in<'s, E, R: Threads + Wait + Sync, G: Gate>(
         return None;
     };
     course.start.go(rt);
-    let (hub, ended) = handle.join(rt);
-    let (repos, short) = join_repos(rt, handles, back);
-    Some(CrewEnds {
-        hub,
-        repos,
-        short: short || ended,
-    })
+    Some(join_crew(rt, handle, handles, back))
 }

@@ -5,14 +5,14 @@ use Rattle.mv_workers.proofs.CrewLemmas.{same_back, begun_back}
 use Rattle.mv_workers.proofs.crew.work_in.Goals as goal
 
 -- there is room for each end that comes back
-pub join_repos-repos-requires-clause-room : goal.join_repos-repos-requires-clause-room
-join_repos-repos-requires-clause-room g c = let each = c.in-Some.ensures.1.0 in search rules
+pub join_crew-requires-clause-room : goal.join_crew-requires-clause-room
+join_crew-requires-clause-room g c = let each = c.in-Some.ensures.1.0 in search rules
 
 pub returns : goal.returns
 returns g c =
-    let repos = c.args.repos.items in let after = c.join_repos-repos.result.0.items in let work = c.args.work.now in let handles = c.in-Some.handles.items in
-    let P : HubEnd → Type 0 = λ h. SameHubEnd h c.join-hub.result.0 in (
-      subst P c.in-Some.ensures.0 c.join-hub.ensures,
-      same_back repos after work handles c.in-Some.ensures.1 c.join_repos-repos.ensures,
-      begun_back repos after work handles c.in-Some.ensures.1 c.join_repos-repos.ensures,
+    let repos = c.args.repos.items in let after = c.join_crew.result.repos.items in let work = c.args.work.now in let handles = c.in-Some.handles.items in
+    let P : HubEnd → Type 0 = λ h. SameHubEnd h c.join_crew.result.hub in (
+      subst P c.in-Some.ensures.0 c.join_crew.ensures.hub,
+      same_back repos after work handles c.in-Some.ensures.1 c.join_crew.ensures.repos,
+      begun_back repos after work handles c.in-Some.ensures.1 c.join_crew.ensures.repos,
     )

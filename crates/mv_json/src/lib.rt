@@ -3,6 +3,16 @@
 //! Used by the program alone. Its contract: a value is read as a message exactly where the definitions in `specs/` say
 //! so, else the first fault in their order is answered; what is written is read back. This crate knows no link, no hub
 //! and no line of the program.
+//!
+//! It can be used alone, with the crates that its line of crates.txt names.
+//! A caller that reads a message and writes its canonical text, proved in the gate (`mv_rows`):
+//!
+//! ```rust
+//! fn canonical_text(alloc: Global, text: &str) -> Result<String, MessageFault> {
+//!     let message = mv_json::read(alloc, text.as_bytes())?;
+//!     mv_json::text(alloc, &message)
+//! }
+//! ```
 #![tactic(auto)]
 
 mod fault;

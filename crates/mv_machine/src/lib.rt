@@ -2,6 +2,22 @@
 //!
 //! To be believed, and hardly any code: the system is proved to answer as this machine does, and the laws say what every run
 //! of the machine keeps. It stands on the definitions of the hub, and of a party with its repository.
+//!
+//! It can be used alone, with the crates that its line of crates.txt names. A system that takes its steps is
+//! `mv_system`. A caller that takes two and joins what they promise by a law, proved in the gate (`mv_uses`):
+//!
+//! ```rust
+//! pub fn step_twice(world: &mut World, first: &Step, second: &Step) -> (Reply, Reply)
+//!     ensures ran { Runs world.old (first.now ∷ second.now ∷ []) (result.0 ∷ result.1 ∷ []) world.new }
+//!     ensures closed { NothingSubmittedLater world.old world.new }
+//!     ensures headline { HeadlineHolds world.old world.new }
+//! {
+//!     headlines_join();
+//!     let one = world.step(first);
+//!     let two = world.step(second);
+//!     (one, two)
+//! }
+//! ```
 #![tactic(auto)]
 
 mod laws;

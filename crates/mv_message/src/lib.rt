@@ -2,6 +2,19 @@
 //!
 //! Used by every crate above. A message is what it holds, and messages are compared by that. This crate knows no JSON, no
 //! link, no hub and no line of the program.
+//!
+//! It can be used alone, with the crates that its line of crates.txt names.
+//! A caller that makes a message of its values, to be shared, proved in the gate (`mv_rows`):
+//!
+//! ```rust
+//! fn recall(alloc: Global, gtin: &str, batch: &str, at: u64) -> Option<Shared<Message>> {
+//!     let gtin = Gtin::read(gtin).ok()?;
+//!     let batch = Batch::read(batch).ok()?;
+//!     let at = Moment::of(at).ok()?;
+//!     let key = BatchKey { gtin, batch };
+//!     Shared::new(alloc, Message::Recall { key, at }).ok()
+//! }
+//! ```
 #![tactic(auto)]
 
 mod found;

@@ -4,6 +4,26 @@
 //! status that it answers. The contract: `command` runs the one of `steps`, `canon` and `work` that its words name; `work`
 //! writes the first refusal of the lines, or the report of what became of the plan that they are. How lines are read and
 //! answered is `mv_lines`, and how a plan is run `mv_workers`; neither stands on the other.
+//!
+//! It can be used alone, with the crates that its line of crates.txt names.
+//! A caller that carries out a plan, proved in the gate (`thread_rows`):
+//!
+//! ```rust
+//! fn comes_to<R: Threads + Wait + Sync, G: Gate>(
+//!     rt: &R,
+//!     alloc: Global,
+//!     turns: u32,
+//!     gate: &G,
+//!     report: &str,
+//!     answer: bool,
+//! ) -> bool {
+//!     let mut lines = PLAN.as_bytes();
+//!     let mut out = Cursor::new(Vec::new(alloc));
+//!     let answered = work(rt, alloc, &mut lines, &mut out, turns, gate);
+//!     let text = out.into_inner();
+//!     answered == Ok(answer) && is_joined(text.as_slice(), HEAD, report)
+//! }
+//! ```
 #![tactic(auto)]
 
 mod command_line;

@@ -4,6 +4,27 @@
 //! each: one for each party's uplink to the hub, and one for each ordered pair of parties, which is the wire of their link.
 //! What crosses a ring is a copy in memory of its own (a parcel). The contract: each call is the step of its name, over the
 //! lists that the end itself keeps. No call waits, and none takes a lock. This crate knows no thread and no JSON.
+//!
+//! It can be used alone, with the crates that its line of crates.txt names.
+//! A caller that opens the ends, submits at the first party's (`submit_first` calls `submit` of it), routes, and gathers all,
+//! proved in the gate (`thread_rows`):
+//!
+//! ```rust
+//! fn routed_at_once(
+//!     alloc: Global,
+//!     parties: Parties,
+//!     limits: Limits,
+//!     message: &Shared<Message>,
+//! ) -> Option<Outcome> {
+//!     let Ok((mut hub, mut repos)) = open(alloc, parties, limits) else {
+//!         return None;
+//!     };
+//!     submit_first(&mut repos, message);
+//!     hub.route(0);
+//!     ends_stay_ends();
+//!     Some(gather(hub, repos))
+//! }
+//! ```
 #![tactic(auto)]
 
 mod answering;

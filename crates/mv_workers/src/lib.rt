@@ -2,21 +2,26 @@
 //!
 //! This crate is the only one below the program that starts threads and waits. It adds nothing to what the ends do: a worker
 //! owns one end, and tries its calls turn by turn; what they leave is gathered once all workers have ended, and is lawful in
-//! whatever order they ran. The contract of [`run_workers`] says what an outcome is beside the plan. A caller:
-//!
-//! ```text
-//! let plan = Plan { parties, limits, work };
-//! match run_workers(&rt, alloc, plan, turns, &NoGate) {
-//!     Ok(outcome) => report(&outcome),
-//!     Err(WorkFault::Unfinished(outcome)) => report(&outcome),
-//!     Err(WorkFault::Memory(outcome)) => try again with more memory,
-//!     Err(WorkFault::Start) => nothing was submitted,
-//!     Err(WorkFault::Plan) => the plan is malformed,
-//! }
-//! ```
+//! whatever order they ran. The contract of [`run_workers`] says what an outcome is beside the plan.
 //!
 //! What no contract says: that a run finishes, how long it takes, and that workers run at once. A run whose calls would all be
 //! refused for ever ends before its turns are used up.
+//!
+//! It can be used alone, with the crates that its line of crates.txt names, by a program that has handles to start threads and to
+//! wait (HANDLES). A caller that runs a plan of empty lists, proved in the gate (`thread_rows`):
+//!
+//! ```rust
+//! fn is_run<R: Threads + Wait + Sync>(rt: &R, alloc: Global, lists: usize, complete: bool) -> bool {
+//!     let Some(plan) = empty_plan(alloc, lists) else {
+//!         return false;
+//!     };
+//!     match run_workers(rt, alloc, plan, 0, &NoGate) {
+//!         Ok(_) => complete,
+//!         Err(WorkFault::Plan) => !complete,
+//!         Err(_) => false,
+//!     }
+//! }
+//! ```
 #![tactic(auto)]
 
 mod complete;

@@ -1,8 +1,10 @@
 //! A pack is asked for abroad, over a link that is closed meanwhile; and calls that are refused.
 
+ghost use Rattle.mv_ends.specs.Laws.{AreSameRepos};
+
 use crate::ends::Ends;
 use crate::hands::{Again, Apart, Hand, Here};
-use mv_ends::{HubEnd, Outcome, RepoEnd, open};
+use mv_ends::{HubEnd, Outcome, RepoEnd, ends_stay_ends, gather, open};
 use mv_hub::{Entry, Parties};
 use mv_machine::{Limits, Refusal, Reply, Step};
 use mv_message::{Message, Party, Shared};
@@ -236,4 +238,31 @@ fn are_refused(alloc: Global) -> Option<bool> {
 #[test]
 fn refuses_what_the_ends_lists_say(rt: HostRuntime) {
     assert!(rt; are_refused(rt.alloc()) == Some(true));
+}
+
+/// Submits a message at the first of the ends of repositories.
+#[tactic(auto, using(mv_ends::proofs::LookLemmas::same_but_one, mv_ends::proofs::LookLemmas::repo_itself))]
+fn submit_first(repos: &mut Vec<RepoEnd>, message: &Shared<Message>)
+    ensures { AreSameRepos repos.old.items repos.new.items }
+{
+    if repos.is_empty() {
+        return;
+    }
+    repos[0].submit(message);
+}
+
+/// What is gathered of a system in which party 0 submits a message, and the hub routes it.
+fn routed_at_once(
+    alloc: Global,
+    parties: Parties,
+    limits: Limits,
+    message: &Shared<Message>,
+) -> Option<Outcome> {
+    let Ok((mut hub, mut repos)) = open(alloc, parties, limits) else {
+        return None;
+    };
+    submit_first(&mut repos, message);
+    hub.route(0);
+    ends_stay_ends();
+    Some(gather(hub, repos))
 }

@@ -1,9 +1,15 @@
 -- What is read as a serial, batch or national number.
-use Rattle.std.proofs.Common.{◌≡◌, ℕ, ◌+◌, List, [], ◌∷◌, Bool, true, false, cond, not, ◌&&◌, length, refl, subst, arith}
-use Rattle.std.specs.Prelude.{◌==◌, nat_lt, Option, None, Some, Result, Ok, Err}
-use Rattle.std.specs.List.{list_all, position_from}
+use Rattle.std.proofs.Common.{◌≡◌, ◌∙◌, ℕ, zero, suc, ◌<◌, ◌+◌, ◌-◌, ◌++◌, List, [], ◌∷◌, Bool, true, false, cond, not, ◌&&◌, length, take, replicate, refl, sym, ap, subst, arith}
+use Rattle.std.proofs.Math.Dec.{ltb}
+use Rattle.std.specs.Prelude.{◌==◌, nat_lt, IsUtf8, Option, None, Some, Result, Ok, Err}
+use Rattle.std.specs.List.{list_all, position_from, position_or_len, prefix_len}
+use Rattle.std.specs.Option.{unwrap_or}
+use Rattle.std.proofs.lemmas.Bool.{and_parts}
+use Rattle.std.proofs.lemmas.List.{take_all}
+use Rattle.std.proofs.lemmas.Iterator.Adapters.{position_from-zero}
+use Rattle.mv_pack.proofs.TextLemmas.{text_of_ascii}
 use Rattle.std.proofs.lemmas.Bool.Decides.{nat_tests}
-use Rattle.mv_pack.specs.Code.{is_code_character, first_wrong, read_characters, read_code, IsCode, most_code_bytes}
+use Rattle.mv_pack.specs.Code.{is_code_character, is_zero, first_wrong, read_characters, read_code, filled_up, text_before, IsCode, IsFilledUp, most_code_bytes}
 use Rattle.mv_pack.specs.declared.fault.PackFault.{PackFault}
 use Rattle.mv_pack.specs.declared.fault.PackFault.TheVariants.{Empty, TooLong}
 
@@ -49,3 +55,47 @@ read_code_is_code t c h =
     let tests = read_chosen (length t == 0) (nat_lt most_code_bytes (length t)) (first_wrong t) t c h in
     subst IsCode tests.3
     (grind (arith, nat_tests, tests.0), grind (arith, nat_tests, tests.1), no_wrong_byte t tests.2)
+
+-- what stands before the first zero, by its place
+pub found_zero : (bytes : List ℕ) (place : ℕ) → position_from is_zero 0 bytes ≡ Some place → take place bytes ≡ text_before bytes
+found_zero bytes place h = by (ltb (position_or_len is_zero bytes) (length bytes)) (position_from-zero is_zero bytes ∙ h)
+  where
+    by : (b : Bool) → cond b (Some (position_or_len is_zero bytes)) None ≡ Some place → take place bytes ≡ text_before bytes
+    by true e = ap (λ (o : Option ℕ). take (unwrap_or o 0) bytes) (sym e)
+    by false e = cc
+
+pub no_zero : (bytes : List ℕ) → position_from is_zero 0 bytes ≡ None → bytes ≡ text_before bytes
+no_zero bytes h = by (ltb (position_or_len is_zero bytes) (length bytes)) refl (position_from-zero is_zero bytes ∙ h)
+  where
+    by : (b : Bool) → ltb (position_or_len is_zero bytes) (length bytes) ≡ b → cond b (Some (position_or_len is_zero bytes)) None ≡ None → bytes ≡ text_before bytes
+    by true t e = cc
+    by false t e = sym (take_all (position_or_len is_zero bytes) bytes (grind (arith, nat_tests)))
+
+character_below : (byte : ℕ) → is_code_character byte ≡ true → byte < 128
+character_below byte h = grind (arith, nat_tests)
+
+-- codes are text
+pub codes_are_text : (text : List ℕ) → IsCode text → IsUtf8 text
+codes_are_text text code = text_of_ascii is_code_character character_below text code.2
+
+no_zero_character : (byte : ℕ) → is_code_character byte ≡ true → is_zero byte ≡ false
+no_zero_character zero h = cc
+no_zero_character (suc byte) h = grind (arith, nat_tests)
+
+-- a text is what stands before the zeros behind it
+before_zeros : (text : List ℕ) (count : ℕ) → list_all is_code_character text ≡ true → text_before (text ++ replicate count 0) ≡ text
+before_zeros [] zero all = refl
+before_zeros [] (suc count) all = refl
+before_zeros (byte ∷ text) count all =
+    let parts = and_parts (is_code_character byte) (list_all is_code_character text) all in
+    let behind = text ++ replicate count 0 in
+    let most = prefix_len (λ x. not (is_zero x)) behind in
+    let one : 1 + most ≡ suc most = omega arith in
+    ap (λ k. take k (byte ∷ behind)) (ap (λ b. cond (not b) (1 + most) 0) (no_zero_character byte parts.0) ∙ one)
+    ∙ ap (λ (rest : List ℕ). byte ∷ rest) (before_zeros text count parts.1)
+
+pub text_filled_up : (text : List ℕ) → IsCode text → text_before (filled_up text) ≡ text
+text_filled_up text code = before_zeros text (most_code_bytes - length text) code.2
+
+pub code_filled_up : (text : List ℕ) → IsCode text → IsFilledUp (filled_up text)
+code_filled_up text code = (subst IsCode (sym (text_filled_up text code)) code, ap filled_up (sym (text_filled_up text code)))

@@ -2,21 +2,20 @@
 //!
 //! The three are one type with a marker, so that reading, equality, order and hash are written once.
 
-ghost use Rattle.std.specs.Prelude.{◌≡◌, ◌<◌, ◌↔◌, length, nat_eq, refl, IsOk, IfSome, MatchResult, Ok, Err, Some};
+ghost use Rattle.std.specs.Prelude.{◌≡◌, ◌<◌, ◌≤◌, ◌↔◌, ◌∷◌, [], length, nat_eq, refl, IsOk, IfSome, MatchResult, Ok, Err, Some};
 ghost use Rattle.std.specs.Ordering.{nat_cmp};
 ghost use Rattle.std.specs.Cmp.{partial_equiv_from_equiv};
 ghost use Rattle.std.specs.Cmp.Lexicographic.{pointwise, slice_cmp, nat_list_eq_equiv, nat_list_cmp_total, texts_po, texts_ties};
 ghost use Rattle.std.specs.Cmp.Rules.{hashing};
-ghost use Rattle.std.specs.Hash as fed;
 ghost use Rattle.std.proofs.Common.{rules};
-ghost use Rattle.mv_pack.specs.Code.{is_code_character, first_wrong, read_code, IsCode};
+ghost use Rattle.std.specs.List.{position_from};
+ghost use Rattle.mv_pack.specs.Code.{is_code_character, is_zero, first_wrong, filled_up, most_code_bytes, read_code, text_before, IsCode};
 
 use crate::PackFault;
-use arrayvec::ArrayString;
 use std::cmp::Ordering;
-use std::fmt;
 use std::hash::{Hash, Hasher};
 use std::marker::{Model, PhantomData};
+use std::{fmt, str};
 
 /// The most bytes of a serial, batch or national number.
 pub const MOST_CODE_BYTES: usize = 20;
@@ -57,19 +56,20 @@ pub struct NationalKind;
 /// A text of 1 to 20 characters of codes, of the kind `K`.
 #[derive(Drop)]
 pub struct Code<K> {
-    text: ArrayString<MOST_CODE_BYTES>,
+    /// The characters, and zeros behind them.
+    bytes: [u8; MOST_CODE_BYTES],
     kind: PhantomData<K>,
 }
 
 impl<K> Model for Code<K> {
     ghost use Rattle.std.specs.Prelude.{List, ℕ};
-    ghost use Rattle.mv_pack.specs.Code.{IsCode};
+    ghost use Rattle.mv_pack.specs.Code.{text_before, IsFilledUp};
 
     ghost Value = { List ℕ };
 
-    ghost view = { λ c. c.text.bytes };
+    ghost view = { λ c. text_before c.bytes };
 
-    ghost invariant = { λ c. IsCode c.text.bytes };
+    ghost invariant = { λ c. IsFilledUp c.bytes };
 }
 
 impl<K> Code<K> {
@@ -83,19 +83,21 @@ impl<K> Code<K> {
         ensures accepted { IsOk result ↔ IsCode text.now }
     {
         check_code(text)?;
-        let mut held = ArrayString::new();
-        held.push_str(text);
         Ok(Code {
-            text: held,
+            bytes: filled_up(text.as_bytes()),
             kind: PhantomData,
         })
     }
 
     /// The text that was read.
+    #[tactic(auto, using(crate::proofs::CodeLemmas::codes_are_text))]
     pub fn as_str(&self) -> &str
         ensures { result.now ≡ self.now }
     {
-        self.text.as_str()
+        let Ok(text) = str::from_utf8(text_before(&self.bytes)) else {
+            unreachable!();
+        };
+        text
     }
 
     /// The same once more; it takes no memory.
@@ -103,10 +105,39 @@ impl<K> Code<K> {
         ensures { result ≡ self.now }
     {
         Code {
-            text: self.text,
+            bytes: self.bytes,
             kind: PhantomData,
         }
     }
+}
+
+/// The text with zeros behind it.
+fn filled_up(text: &[u8]) -> [u8; MOST_CODE_BYTES]
+    requires { length text.now ≤ most_code_bytes }
+    ensures { result ≡ filled_up text.now }
+{
+    let mut bytes = [0; MOST_CODE_BYTES];
+    bytes[..text.len()].copy_from_slice(text);
+    bytes
+}
+
+/// What stands before the first zero.
+#[tactic(auto, using(crate::proofs::CodeLemmas::found_zero, crate::proofs::CodeLemmas::no_zero))]
+fn text_before(bytes: &[u8]) -> &[u8]
+    ensures { result.now ≡ text_before bytes.now }
+{
+    match first_zero(bytes) {
+        Some(place) => &bytes[..place],
+        None => bytes,
+    }
+}
+
+/// The place of the first zero.
+fn first_zero(bytes: &[u8]) -> Option<usize>
+    ensures place { result ≡ position_from is_zero 0 bytes.now }
+    ensures bound { IfSome result (λ i. i < length bytes.now) }
+{
+    bytes.iter().position(|byte| *byte == 0)
 }
 
 /// Whether the text is a code, or its first fault.
@@ -147,7 +178,7 @@ impl<K> PartialEq for Code<K> {
     ghost laws = { partial_equiv_from_equiv nat_list_eq_equiv };
 
     fn eq(&self, other: &Self) -> bool {
-        self.as_str() == other.as_str()
+        self.bytes == other.bytes
     }
 }
 
@@ -180,13 +211,14 @@ impl<K> Ord for Code<K> {
     }
 }
 
+/// By all its bytes, in one write: each write costs a hasher a step.
 impl<K> Hash for Code<K> {
-    ghost hash_input = { fed.str };
+    ghost hash_input = { λ text. filled_up text ∷ [] };
 
     ghost respects_eq = { Prim.search (hashing, rules) };
 
     fn hash<H: Hasher>(&self, state: &mut H) {
-        self.as_str().hash(state);
+        state.write(&self.bytes);
     }
 }
 

@@ -58,6 +58,7 @@ pub struct NationalKind;
 pub struct Code<K> {
     /// The characters, and zeros behind them.
     bytes: [u8; MOST_CODE_BYTES],
+    /// Which of the three it is.
     kind: PhantomData<K>,
 }
 

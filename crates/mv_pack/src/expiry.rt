@@ -1,9 +1,11 @@
 //! Expiry dates.
 
-ghost use Rattle.std.specs.Prelude.{◌≡◌, ◌+◌, ◌*◌, ◌-◌, ◌++◌, ◌<◌, ◌≤◌, ◌/◌, ◌↔◌, length, IsOk, IsTrue, pos, ◌≤ℤ◌};
+ghost use Rattle.std.specs.Prelude.{◌≡◌, ◌+◌, ◌*◌, ◌-◌, ◌++◌, ◌<◌, ◌≤◌, ◌/◌, ◌↔◌, length, IsOk};
+ghost use Rattle.std.specs.Prelude.{IsTrue, pos, ◌≤ℤ◌};
 ghost use Rattle.std.specs.List.{list_all};
 ghost use Rattle.mv_pack.specs.Gtin.{is_digit};
-ghost use Rattle.mv_pack.specs.Expiry.{read_expiry, dated, day_of, is_expired_at, two_digits_at, two_digits, expiry_text, IsDayOrZero, IsExpiryText};
+ghost use Rattle.mv_pack.specs.Expiry.{read_expiry, dated, day_of, is_expired_at, two_digits_at};
+ghost use Rattle.mv_pack.specs.Expiry.{two_digits, expiry_text, IsDayOrZero, IsExpiryText};
 
 use crate::gtin::are_digits;
 use crate::{Moment, PackFault};
@@ -12,13 +14,16 @@ use jiff::civil::{Date, date};
 use std::marker::Model;
 
 /// The seconds of a day.
-pub const SECONDS_OF_DAY: u64 = 86_400;
+const SECONDS_OF_DAY: u64 = 86_400;
 
 /// The last day on which a pack may be supplied (Delegated Regulation (EU) 2016/161, Article 4(b)(v)).
 #[derive(Clone, Copy, Debug, PartialEq, Eq, PartialOrd, Ord, Hash)]
 pub struct Expiry {
+    /// 2000 to 2099.
     year: u16,
+    /// 1 to 12.
     month: u8,
+    /// 1 to the last of the month.
     day: u8,
 }
 

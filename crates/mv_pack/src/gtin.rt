@@ -1,9 +1,12 @@
 //! Product codes.
-ghost use Rattle.std.specs.Prelude.{◌≡◌, ◌+◌, ◌*◌, ◌-◌, ◌≤◌, ◌↔◌, [], ◌∷◌, length, map, IsOk, IsTrue};
+
+ghost use Rattle.std.specs.Prelude.{◌≡◌, ◌+◌, ◌*◌, ◌-◌, ◌≤◌, ◌↔◌, [], ◌∷◌, length, map, IsOk};
+ghost use Rattle.std.specs.Prelude.{IsTrue};
 ghost use Rattle.std.specs.List.{list_all};
 ghost use Rattle.std.specs.Cmp.Rules.{hashing};
 ghost use Rattle.std.proofs.Common.{rules};
-ghost use Rattle.mv_pack.specs.Gtin.{is_digit, check_sum, padded, read_gtin, IsGtinText, digit_values};
+ghost use Rattle.mv_pack.specs.Gtin.{is_digit, check_sum, padded, read_gtin, IsGtinText};
+ghost use Rattle.mv_pack.specs.Gtin.{digit_values};
 
 use crate::PackFault;
 use std::hash::{Hash, Hasher};
@@ -13,6 +16,7 @@ use std::str;
 /// A Global Trade Item Number, by its 14 digits.
 #[derive(Clone, Copy, Debug, PartialEq, Eq, PartialOrd, Ord)]
 pub struct Gtin {
+    /// The digits, as text.
     bytes: [u8; 14],
 }
 
@@ -83,6 +87,7 @@ impl Hash for Gtin {
     }
 }
 
+/// Whether all bytes are digits.
 pub(crate) fn are_digits(text: &[u8]) -> bool
     ensures { result ≡ list_all is_digit text.now }
 {

@@ -3,7 +3,10 @@
 ghost use Rattle.std.specs.Prelude.{◌≡◌, ◌↔◌, IsTrue};
 ghost use Rattle.std.specs.Ordering.{nat_cmp, ordering_then};
 ghost use Rattle.std.specs.Cmp.Lexicographic.{slice_cmp};
-ghost use Rattle.mv_pack.specs.Laws.{ReadGtinIsGtin, GtinReadsAsItself, ReadMarketIsMarket, MarketReadsAsItself, ReadCodeIsCode, CodeReadsAsItself, ReadExpiryIsExpiry, ExpiryReadsAsItself, ReadMomentIsMoment, MomentReadsAsItself};
+ghost use Rattle.mv_pack.specs.Laws.{ReadGtinIsGtin, GtinReadsAsItself, ReadMarketIsMarket};
+ghost use Rattle.mv_pack.specs.Laws.{MarketReadsAsItself, ReadCodeIsCode, CodeReadsAsItself};
+ghost use Rattle.mv_pack.specs.Laws.{ReadExpiryIsExpiry, ExpiryReadsAsItself, ReadMomentIsMoment};
+ghost use Rattle.mv_pack.specs.Laws.{MomentReadsAsItself};
 
 use crate::code::Code;
 use crate::{BatchKey, Expiry, Gtin, Market, Moment, PackKey};

@@ -11,6 +11,7 @@ use std::str;
 /// A Member State where a product is sold, by its two capital letters, as `FI`.
 #[derive(Clone, Copy, Debug, PartialEq, Eq, PartialOrd, Ord, Hash)]
 pub struct Market {
+    /// The letters, `A` to `Z`.
     letters: [u8; 2],
 }
 

@@ -1,5 +1,5 @@
 -- The ends of each party are those that were opened for it.
-use Rattle.std.proofs.Common.{◌≤◌, vec_capacity, ap, subst, sym, length, arith}
+use Rattle.std.proofs.Common.{◌≤◌, ap, subst, sym, length, arith}
 use Rattle.mv_ends.proofs.OpeningLemmas.{opened_more}
 use Rattle.mv_ends.proofs.opening.open_each.Goals as goal
 

@@ -178,8 +178,10 @@ impl<K> PartialEq for Code<K> {
 
     ghost laws = { partial_equiv_from_equiv nat_list_eq_equiv };
 
+    // As slices, which a function of the library compares: arrays are compared in place, for which a look-up takes the bytes of
+    // its key apart before it knows whether there is anything to compare it with.
     fn eq(&self, other: &Self) -> bool {
-        self.bytes == other.bytes
+        self.bytes.as_slice() == other.bytes.as_slice()
     }
 }
 

@@ -24,7 +24,7 @@ from plain_machine import (
     product_of,
 )
 
-FIRST_FOUND = ("batch", "expiry", "recalled", "standing")
+FOUND_IN_VERSION_ONE = ("batch", "expiry", "recalled", "standing")
 
 
 class Named:
@@ -73,7 +73,7 @@ def found_value(found):
     if found is None:
         return None
     value = {**found, "expiry": date_text(found["expiry"])}
-    return value if needs_two(found) else {name: value[name] for name in FIRST_FOUND}
+    return value if needs_two(found) else {name: value[name] for name in FOUND_IN_VERSION_ONE}
 
 
 def needs_two(fields):

@@ -5,7 +5,7 @@ ghost use Rattle.std.specs.Prelude.{◌≡◌};
 /// What a pack may be used for. All but the first say that it was decommissioned, and why.
 #[derive(Clone, Copy, Debug, PartialEq, Eq, PartialOrd, Ord, Hash)]
 pub enum Standing {
-    /// `active`: it may be supplied.
+    /// `active`: no change took it out of supply. A recall, a withdrawal or its last day may still keep it from being supplied.
     Active,
     /// `supplied`: it was supplied to the public.
     Supplied,

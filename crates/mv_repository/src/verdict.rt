@@ -8,7 +8,7 @@ use mv_message::Standing;
 /// Whether a pack is authentic.
 #[derive(Clone, Copy, Debug, PartialEq, Eq)]
 pub enum Verdict {
-    /// The pack may be supplied.
+    /// The pack stands active: its identifier is a right one. A recall of its batch, or a withdrawal of its product, does not change that.
     Authentic,
     /// The pack may not be supplied; `falsification` says that nothing else than a falsification explains it.
     NotAuthentic { falsification: bool },

@@ -10,6 +10,7 @@ pub mod LedgerLemmas
 pub mod StateLemmas
 pub mod TableLemmas
 pub mod PacksLemmas
+pub mod SlotsLemmas
 pub mod BatchLemmas
 pub mod ElsewhereLemmas
 pub mod ProductLemmas

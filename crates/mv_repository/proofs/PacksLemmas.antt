@@ -306,7 +306,7 @@ get-more [] x n l = absurd (omega arith)
 get-more (y ∷ ys) x zero l = refl
 get-more (y ∷ ys) x (suc n) l = get-more ys x n (omega arith)
 
-get-last : {A : Type 0} (xs : List A) (x : A) → slice_get (xs ++ x ∷ []) (length xs) ≡ Some x
+pub get-last : {A : Type 0} (xs : List A) (x : A) → slice_get (xs ++ x ∷ []) (length xs) ≡ Some x
 get-last [] x = refl
 get-last (y ∷ ys) x = get-last ys x
 
@@ -318,7 +318,7 @@ table-more births birth (e ∷ es) w = λ i. (e.0, one e.1 w.0 i) ∷ table-more
     one (Made place) h = ap (λ (o : Option Birth). unwrap_or (option_map kept_born o) nothing_kept) (get-more births birth place h)
     one (Own track) h = refl
 
--- the newest upload is the last that made packs
+-- the newest upload stands last among the uploads
 pub newest-born : (births : List Birth) (birth : Birth) (log : List LogEntry) (entry : LogEntry) → birth.place ≡ length log → Some birth.held ≡ option_map held_of (pack_made_by entry.item)
     → IsBorn (births ++ birth ∷ []) (longer log entry) (length log) (length births)
 newest-born births birth log entry at made = record {

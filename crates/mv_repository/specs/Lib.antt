@@ -17,6 +17,7 @@ pub mod Track
 pub mod Steps
 pub mod Tracked
 pub mod Batches
+pub mod Slots
 pub mod Packs
 pub mod Inquiries
 pub mod Tables

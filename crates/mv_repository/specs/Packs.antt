@@ -45,7 +45,7 @@ abbrev pub AreWithin : ℕ → List (PackKey × Slot) → Type 0
 AreWithin count [] = ⊤
 AreWithin count (entry ∷ rest) = IsWithin count entry.1 × AreWithin count rest
 
--- the newest entry, an upload, stands at a place among those that made packs
+-- the newest entry, an upload, stands at a place among the uploads
 pub record IsBorn (births : List Birth) (log : List LogEntry) (new at : ℕ) : Type 0 where
   pub there : at < length births
   pub kept : kept_as births (Made at) ≡ record { birth = Some new; places = []; marks = []; held = held_made_at log new }

@@ -31,6 +31,7 @@ mod packs;
 mod repository;
 mod sender;
 mod slot;
+mod slots;
 mod status;
 mod steps;
 mod stops;

@@ -1,7 +1,6 @@
 //! The table of packs: for each pack that an entry names, what is kept of it.
 
 ghost use Rattle.std.specs.Prelude.{◌≡◌, ◌<◌, ◌≤◌, ◌+◌, ◌∷◌, ◌++◌, ℕ, [], length, get_or, vec_len, vec_capacity, OnOk, OnErr, IfOk, if◌then◌else◌};
-ghost use Rattle.indexmap.specs.IndexMap.{spare};
 ghost use Rattle.std.specs.List.{IsDistinct};
 ghost use Rattle.std.specs.Map.{keys_of};
 ghost use Rattle.std.specs.Option.{option_copied};
@@ -13,14 +12,14 @@ ghost use Rattle.mv_repository.specs.Tables.{IsUploadOf};
 ghost use Rattle.mv_repository.specs.Track.{kept_in, IsTrack, AreTracks, with_status, with_upload, newest_effect, made_count, IsTally};
 
 use crate::batches::Batches;
-use crate::slot::{Birth, Slot};
+use crate::slot::Birth;
+use crate::slots::Slots;
 use crate::stops::Stops;
 use crate::table::Table;
 use crate::tally::Tally;
 use crate::track::made_by;
 use crate::tracked::Tracked;
 use crate::{Effect, Held, LogEntry};
-use indexmap::IndexMap;
 use mv_pack::{BatchKey, Gtin, PackKey, Serial};
 use std::alloc::{AllocError, Global};
 use std::marker::Model;
@@ -29,7 +28,7 @@ use std::marker::Model;
 #[derive(Drop)]
 pub(crate) struct Packs {
     alloc: Global,
-    /// The uploads that made packs, in the order in which they came.
+    /// The uploads in the order in which they came, also those that made no pack.
     births: Vec<Birth>,
     /// What stands for each pack.
     table: Table,
@@ -65,7 +64,7 @@ impl Packs {
             alloc,
             births: Vec::new(alloc),
             table: Table {
-                slots: IndexMap::new(alloc),
+                slots: Slots::new(alloc),
                 tally: Tally { held: 0, active: 0 },
             },
             tracked: Tracked::new(alloc),
@@ -119,6 +118,7 @@ impl Packs {
         };
         self.births.reserve(1)?;
         self.table.slots.reserve(serials.len())?;
+        let product = self.table.slots.add_product(gtin)?;
         let new = log.len();
         let batch = BatchKey {
             gtin,
@@ -130,9 +130,16 @@ impl Packs {
         log.push_reserved(entry);
         self.births.push_reserved(Birth { place: new, held });
         let births = self.births.as_slice();
-        let count = self
-            .table
-            .add_uploads(births, log.as_slice(), stops, gtin, serials, new, at);
+        let count = self.table.add_uploads(
+            births,
+            log.as_slice(),
+            stops,
+            product,
+            gtin,
+            serials,
+            new,
+            at,
+        );
         self.batches.settle_last(&batch, count > 0);
         Ok(count)
     }

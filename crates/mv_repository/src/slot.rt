@@ -18,19 +18,19 @@ use crate::{Effect, Held, LogEntry};
 use mv_pack::PackKey;
 use std::alloc::{AllocError, Global};
 
-/// An upload that made packs.
+/// An upload, by its place in the log and what it makes of packs.
 #[derive(Drop)]
 pub(crate) struct Birth {
     /// Its place in the log.
     pub place: usize,
-    /// What each pack is that it made.
+    /// What each pack is that it makes.
     pub held: Held,
 }
 
 /// What stands in the table for a pack.
 #[derive(Drop)]
 pub(crate) enum Slot {
-    /// The pack is as an upload made it, which stands at this place among those that made packs.
+    /// The pack is as an upload made it, which stands at this place among the uploads.
     Made(usize),
     /// The pack has a track of its own, since a status names it.
     Own(Box<Track>),
@@ -64,7 +64,7 @@ impl Slot {
     }
 
     /// Adds the newest entry, an upload that names the pack; whether it is the first such by stamp. The upload stands at a
-    /// place among those that made packs.
+    /// place among the uploads.
     pub fn add_upload(
         &mut self,
         births: &[Birth],
@@ -158,14 +158,14 @@ impl Slot {
     }
 }
 
-/// The place in the log of an upload that made packs.
+/// The place in the log of an upload.
 fn birth_at(births: &[Birth], place: usize) -> Option<usize>
     ensures { result ≡ (kept_as births.now (Made place)).birth }
 {
     Some(births.get(place)?.place)
 }
 
-/// What each pack is that an upload made.
+/// What each pack is that an upload makes.
 fn made_at(births: &[Birth], place: usize) -> Option<Held>
     ensures { result ≡ (kept_as births.now (Made place)).held }
 {

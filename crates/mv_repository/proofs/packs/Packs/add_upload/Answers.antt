@@ -1,4 +1,4 @@
--- The newest upload stands last among those that made packs, and nothing that stood before points at it.
+-- The newest upload stands last among the uploads, and nothing that stood before points at it.
 use Rattle.std.proofs.Common.{◌≡◌, ◌≤◌, ◌∙◌, ◌∷◌, ◌++◌, [], ℕ, List, ap, sym, subst, cond, rules, arith, length, length-append, nat_lt, Some, None}
 use Rattle.std.specs.Option.{option_map}
 use Rattle.mv_pack.specs.declared.key.PackKey.{PackKey}
@@ -26,10 +26,10 @@ add_uploads-count-requires-clause-born c =
     let slots = c.self.inside.table.slots.entries in
     let birth : Birth = record { place = c.len-new.result; held = c.in-Some.held } in
     let births_is : c.as_slice-births.result.now ≡ items ++ birth ∷ [] = search rules in
-    let slots_are : c.reserve-2.new.self.entries ≡ slots = search rules in
+    let slots_are : c.add_product.new.self.entries ≡ slots = search rules in
     let log_is : c.as_slice.result.now ≡ c.args.log.now.items ++ c.args.entry ∷ [] = search rules in
     let new_is : c.len-new.result ≡ length c.args.log.now.items = search rules in
-    let same : kept_table c.as_slice-births.result.now c.reserve-2.new.self.entries ≡ kept_table items slots = (λ i. kept_table (births_is i) (slots_are i)) ∙ table-more items birth slots c.self.invariant.within in
+    let same : kept_table c.as_slice-births.result.now c.add_product.new.self.entries ≡ kept_table items slots = (λ i. kept_table (births_is i) (slots_are i)) ∙ table-more items birth slots c.self.invariant.within in
     let at_is : c.len-at.result ≡ length items = search rules in
     let made : Some c.in-Some.held ≡ option_map held_of (pack_made_by c.args.entry.item) = search rules in
     rw (births_is, log_is, at_is)
@@ -41,10 +41,10 @@ add_uploads-count-requires-clause-tracks c pack =
     let slots = c.self.inside.table.slots.entries in
     let birth : Birth = record { place = c.len-new.result; held = c.in-Some.held } in
     let births_is : c.as_slice-births.result.now ≡ items ++ birth ∷ [] = search rules in
-    let slots_are : c.reserve-2.new.self.entries ≡ slots = search rules in
+    let slots_are : c.add_product.new.self.entries ≡ slots = search rules in
     let log_is : c.as_slice.result.now ≡ c.args.log.now.items ++ c.args.entry ∷ [] = search rules in
     let new_is : c.len-new.result ≡ length c.args.log.now.items = search rules in
-    let same : kept_table c.as_slice-births.result.now c.reserve-2.new.self.entries ≡ kept_table items slots = (λ i. kept_table (births_is i) (slots_are i)) ∙ table-more items birth slots c.self.invariant.within in
+    let same : kept_table c.as_slice-births.result.now c.add_product.new.self.entries ≡ kept_table items slots = (λ i. kept_table (births_is i) (slots_are i)) ∙ table-more items birth slots c.self.invariant.within in
     subst (λ (t : List (PackKey × Kept)). IsTrack c.as_slice.result.now c.args.stops.now pack (kept_in pack t)) (sym (same ∙ c.self.view_is)) (rw log_is (c.requires.tracks pack))
 
 pub add_uploads-count-requires-clause-tally : goal.add_uploads-count-requires-clause-tally
@@ -53,10 +53,10 @@ add_uploads-count-requires-clause-tally c =
     let slots = c.self.inside.table.slots.entries in
     let birth : Birth = record { place = c.len-new.result; held = c.in-Some.held } in
     let births_is : c.as_slice-births.result.now ≡ items ++ birth ∷ [] = search rules in
-    let slots_are : c.reserve-2.new.self.entries ≡ slots = search rules in
+    let slots_are : c.add_product.new.self.entries ≡ slots = search rules in
     let log_is : c.as_slice.result.now ≡ c.args.log.now.items ++ c.args.entry ∷ [] = search rules in
     let new_is : c.len-new.result ≡ length c.args.log.now.items = search rules in
-    let same : kept_table c.as_slice-births.result.now c.reserve-2.new.self.entries ≡ kept_table items slots = (λ i. kept_table (births_is i) (slots_are i)) ∙ table-more items birth slots c.self.invariant.within in
+    let same : kept_table c.as_slice-births.result.now c.add_product.new.self.entries ≡ kept_table items slots = (λ i. kept_table (births_is i) (slots_are i)) ∙ table-more items birth slots c.self.invariant.within in
     subst (λ (t : List (PackKey × Kept)). IsTally t c.self.inside.table.tally) (sym same) c.self.invariant.tally
 
 pub add_uploads-count-requires-clause-within : goal.add_uploads-count-requires-clause-within
@@ -65,10 +65,10 @@ add_uploads-count-requires-clause-within c =
     let slots = c.self.inside.table.slots.entries in
     let birth : Birth = record { place = c.len-new.result; held = c.in-Some.held } in
     let births_is : c.as_slice-births.result.now ≡ items ++ birth ∷ [] = search rules in
-    let slots_are : c.reserve-2.new.self.entries ≡ slots = search rules in
+    let slots_are : c.add_product.new.self.entries ≡ slots = search rules in
     let log_is : c.as_slice.result.now ≡ c.args.log.now.items ++ c.args.entry ∷ [] = search rules in
     let new_is : c.len-new.result ≡ length c.args.log.now.items = search rules in
-    let same : kept_table c.as_slice-births.result.now c.reserve-2.new.self.entries ≡ kept_table items slots = (λ i. kept_table (births_is i) (slots_are i)) ∙ table-more items birth slots c.self.invariant.within in
+    let same : kept_table c.as_slice-births.result.now c.add_product.new.self.entries ≡ kept_table items slots = (λ i. kept_table (births_is i) (slots_are i)) ∙ table-more items birth slots c.self.invariant.within in
     let more : length items ≤ length c.as_slice-births.result.now = omega (arith, ap length births_is, length-append items (birth ∷ [])) in
     rw slots_are (within-more (length items) (length c.as_slice-births.result.now) slots more c.self.invariant.within)
 
@@ -78,10 +78,10 @@ returns-clause-kept c pack =
     let slots = c.self.inside.table.slots.entries in
     let birth : Birth = record { place = c.len-new.result; held = c.in-Some.held } in
     let births_is : c.as_slice-births.result.now ≡ items ++ birth ∷ [] = search rules in
-    let slots_are : c.reserve-2.new.self.entries ≡ slots = search rules in
+    let slots_are : c.add_product.new.self.entries ≡ slots = search rules in
     let log_is : c.as_slice.result.now ≡ c.args.log.now.items ++ c.args.entry ∷ [] = search rules in
     let new_is : c.len-new.result ≡ length c.args.log.now.items = search rules in
-    let same : kept_table c.as_slice-births.result.now c.reserve-2.new.self.entries ≡ kept_table items slots = (λ i. kept_table (births_is i) (slots_are i)) ∙ table-more items birth slots c.self.invariant.within in
+    let same : kept_table c.as_slice-births.result.now c.add_product.new.self.entries ≡ kept_table items slots = (λ i. kept_table (births_is i) (slots_are i)) ∙ table-more items birth slots c.self.invariant.within in
     let seen = same ∙ c.self.view_is in
     (λ i. kept_in pack (kept_table (sym c.as_slice-births.ensures.value i) c.add_uploads-count.new.self.slots.entries))
     ∙ c.add_uploads-count.ensures.kept pack
@@ -93,10 +93,10 @@ returns-clause-count c =
     let slots = c.self.inside.table.slots.entries in
     let birth : Birth = record { place = c.len-new.result; held = c.in-Some.held } in
     let births_is : c.as_slice-births.result.now ≡ items ++ birth ∷ [] = search rules in
-    let slots_are : c.reserve-2.new.self.entries ≡ slots = search rules in
+    let slots_are : c.add_product.new.self.entries ≡ slots = search rules in
     let log_is : c.as_slice.result.now ≡ c.args.log.now.items ++ c.args.entry ∷ [] = search rules in
     let new_is : c.len-new.result ≡ length c.args.log.now.items = search rules in
-    let same : kept_table c.as_slice-births.result.now c.reserve-2.new.self.entries ≡ kept_table items slots = (λ i. kept_table (births_is i) (slots_are i)) ∙ table-more items birth slots c.self.invariant.within in
+    let same : kept_table c.as_slice-births.result.now c.add_product.new.self.entries ≡ kept_table items slots = (λ i. kept_table (births_is i) (slots_are i)) ∙ table-more items birth slots c.self.invariant.within in
     let seen = same ∙ c.self.view_is in
     c.add_uploads-count.ensures.count ∙ (λ i. made_count (log_is i) (new_is i) (seen i) c.args.gtin c.args.serials.now)
 
@@ -107,10 +107,10 @@ invariant_of-self-2 c =
     let birth : Birth = record { place = c.len-new.result; held = c.in-Some.held } in
     let log = c.args.log.now.items in
     let births_is : c.as_slice-births.result.now ≡ items ++ birth ∷ [] = search rules in
-    let slots_are : c.reserve-2.new.self.entries ≡ slots = search rules in
+    let slots_are : c.add_product.new.self.entries ≡ slots = search rules in
     let log_is : c.as_slice.result.now ≡ log ++ c.args.entry ∷ [] = search rules in
     let new_is : c.len-new.result ≡ length log = search rules in
-    let same : kept_table c.as_slice-births.result.now c.reserve-2.new.self.entries ≡ kept_table items slots = (λ i. kept_table (births_is i) (slots_are i)) ∙ table-more items birth slots c.self.invariant.within in
+    let same : kept_table c.as_slice-births.result.now c.add_product.new.self.entries ≡ kept_table items slots = (λ i. kept_table (births_is i) (slots_are i)) ∙ table-more items birth slots c.self.invariant.within in
     let made : Some c.in-Some.held ≡ option_map held_of (pack_made_by c.args.entry.item) = search rules in
     let key : BatchKey = batch_key c.args.gtin c.in-Some.held.batch in
     let key_is : c.copy-2.result ≡ key = search rules in

@@ -1,5 +1,5 @@
 -- One serial number more.
-use Rattle.std.proofs.Common.{◌≡◌, ◌∙◌, ◌+◌, ◌≤◌, [], get_or, Bool, true, false, cond, arith}
+use Rattle.std.proofs.Common.{◌≡◌, ◌∙◌, ◌+◌, ◌≤◌, [], ℕ, List, ap, get_or, slice_get, Bool, true, false, cond, arith}
 use Rattle.std.proofs.lemmas.List.{get_or_default}
 use Rattle.mv_repository.specs.Keys.{pack_key}
 use Rattle.mv_repository.specs.Packs.{kept_table}
@@ -23,6 +23,7 @@ loop-serial-preserved c =
     let kept = rw serial at c.add_upload-is_new.ensures.kept in
     record {
       room = omega (arith, c.loop-serial.invariant.room, c.add_upload-is_new.ensures.room);
+      product = ap (λ (l : List (List ℕ)). slice_get l c.args.product) c.add_upload-is_new.ensures.products ∙ c.loop-serial.invariant.product;
       tracks = tracks_more c.args.log.now c.args.stops.now before after (pack_key c.args.gtin (get_or c.args.serials.now place [])) c.args.new c.loop-serial.invariant.tracks kept;
       looks = looks_more c.args.log.now c.args.stops.now first before after c.args.gtin c.args.serials.now place c.args.new c.loop-serial-test.true c.loop-serial.invariant.looks kept;
       count = c.one_more_if-count.ensures ∙ made-more c.args.log.now c.args.stops.now first before c.args.gtin c.args.serials.now place c.args.new c.loop-serial.count c.add_upload-is_new.result c.loop-serial-test.true c.loop-serial.invariant.looks (rw serial at c.add_upload-is_new.ensures.first) c.loop-serial.invariant.count;

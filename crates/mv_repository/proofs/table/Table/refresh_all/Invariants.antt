@@ -1,4 +1,4 @@
-use Rattle.std.proofs.Common.{◌≡◌, take, cond, length}
+use Rattle.std.proofs.Common.{◌≡◌, take, cond, length, slice_get, Some}
 use Rattle.mv_pack.specs.declared.key.PackKey.{PackKey}
 use Rattle.mv_repository.specs.PackState.{has_pack}
 use Rattle.mv_repository.specs.Packs.{kept_table, AreWithin, is_own_in, refreshed_in}
@@ -8,6 +8,7 @@ use Rattle.mv_repository.proofs.table.Table.refresh_all.Given as goal
 -- the packs so far are worked out again
 abbrev pub invariant-loop-serial : goal.invariant-loop-serial
 invariant-loop-serial l = record {
+  product : slice_get l.self.slots.products l.product ≡ Some l.gtin;
   looks : (pack : PackKey) → kept_in pack (kept_table l.births l.self.slots.entries) ≡ cond (has_pack l.gtin (take l.serial-index l.serials) pack) (refreshed_in l.log l.stops l.maker pack (kept_in pack (kept_table l.births l.fn.self.slots.entries))) (kept_in pack (kept_table l.births l.fn.self.slots.entries));
   tally : IsTally (kept_table l.births l.self.slots.entries) l.self.tally;
   within : AreWithin (length l.births) l.self.slots.entries;

@@ -1,6 +1,6 @@
 -- The laws of lines: of the pieces of an input, and of the line that asks a request.
 use Rattle.std.proofs.Common.{◌≡◌, ◌∙◌, ℕ, ◌<◌, ◌^◌, suc, List, [], ◌∷◌, ◌++◌, refl, sym, ap, subst, arith, append_assoc, append-nil, true, false, lt-ltb}
-use Rattle.std.specs.Prelude.{cond, ◌==◌, nat_lt, All, Option, Some, None, option_and_then, Result, Ok, Err, IfOk}
+use Rattle.std.specs.Prelude.{cond, ◌==◌, nat_lt, codes, All, Option, Some, None, option_and_then, Result, Ok, Err, IfOk}
 use Rattle.std.specs.List.{AllByRecursion}
 use Rattle.std.proofs.lemmas.Bool.{eqb-true, eqb-false, ltb-true}
 use Rattle.std.proofs.lemmas.Grind.{common_steps}
@@ -40,6 +40,7 @@ use Rattle.mv_lines.specs.declared.request.Request.{Request}
 use Rattle.mv_lines.specs.declared.request.Request.TheVariants.{Open, Step}
 use Rattle.mv_lines.proofs.InputLemmas.{whole_from-append, rest_from-append, lines_of-append}
 use Rattle.mv_lines.proofs.PartLemmas.{unended_whole, unended_rest}
+use Rattle.mv_lines.proofs.PlainLineLemmas.{route_request, relay_request, apply_request, repeat_request, close_request, lose_request, verdict_request}
 
 -- ---- the pieces of an input
 
@@ -137,35 +138,6 @@ lines_compose front back =
 
 -- ---- the line that asks a request
 
-relay_back : (from to : ℕ) → from < 2 ^ 32 → to < 2 ^ 32 → read_request (step_value (steps.Relay from to)) ≡ Ok (Step (steps.Relay from to))
-unfolding read_request kind_at relay_at link_at number_at
-relay_back from to hf ht = rw (lt-ltb _ _ hf, lt-ltb _ _ ht)
-
-route_back : (from : ℕ) → from < 2 ^ 32 → read_request (step_value (steps.Route from)) ≡ Ok (Step (steps.Route from))
-unfolding read_request kind_at route_at number_at
-route_back from hf = rw (lt-ltb _ _ hf)
-
-apply_back : (from to : ℕ) → from < 2 ^ 32 → to < 2 ^ 32 → read_request (step_value (steps.Apply from to)) ≡ Ok (Step (steps.Apply from to))
-unfolding read_request kind_at apply_at link_at number_at
-apply_back from to hf ht = rw (lt-ltb _ _ hf, lt-ltb _ _ ht)
-
-repeat_back : (from to number : ℕ) → from < 2 ^ 32 → to < 2 ^ 32 → number < 2 ^ 32
-    → read_request (step_value (steps.Repeat from to number)) ≡ Ok (Step (steps.Repeat from to number))
-unfolding read_request kind_at repeat_at number_at
-repeat_back from to number hf ht hn = rw (lt-ltb _ _ hf, lt-ltb _ _ hn, lt-ltb _ _ ht)
-
-close_back : (from to : ℕ) → from < 2 ^ 32 → to < 2 ^ 32 → read_request (step_value (steps.Close from to)) ≡ Ok (Step (steps.Close from to))
-unfolding read_request kind_at close_at link_at number_at
-close_back from to hf ht = rw (lt-ltb _ _ hf, lt-ltb _ _ ht)
-
-lose_back : (from to : ℕ) → from < 2 ^ 32 → to < 2 ^ 32 → read_request (step_value (steps.Lose from to)) ≡ Ok (Step (steps.Lose from to))
-unfolding read_request kind_at lose_at link_at number_at
-lose_back from to hf ht = rw (lt-ltb _ _ hf, lt-ltb _ _ ht)
-
-verdict_back : (party q : ℕ) → party < 2 ^ 32 → q < 2 ^ 32 → read_request (step_value (steps.Verdict party q)) ≡ Ok (Step (steps.Verdict party q))
-unfolding read_request kind_at verdict_at number_at
-verdict_back party q hp hq = rw (lt-ltb _ _ hp, lt-ltb _ _ hq)
-
 verify_back : (party : ℕ) (key : PackKey) → party < 2 ^ 32 → IsPackKey key → read_request (step_value (steps.Verify party key)) ≡ Ok (Step (steps.Verify party key))
 unfolding read_request kind_at verify_at gtin_at serial_at number_at
 verify_back party key hp legal = rw (read_gtin_of key.gtin legal.0, lt-ltb _ _ hp, read_code_of key.serial legal.1)
@@ -202,13 +174,13 @@ open_back parties submissions uplink window wire legal =
 steps_back : (step : AnyStep) → IsLegalStep step → read_request (step_value step) ≡ Ok (Step step)
 steps_back (steps.Submit from message) legal = submit_back from message legal.0 legal.1
 steps_back (steps.Verify party key) legal = verify_back party key legal.0 legal.1
-steps_back (steps.Route from) legal = route_back from legal
-steps_back (steps.Relay from to) legal = relay_back from to legal.0 legal.1
-steps_back (steps.Apply from to) legal = apply_back from to legal.0 legal.1
-steps_back (steps.Repeat from to number) legal = repeat_back from to number legal.0 legal.1 legal.2
-steps_back (steps.Close from to) legal = close_back from to legal.0 legal.1
-steps_back (steps.Lose from to) legal = lose_back from to legal.0 legal.1
-steps_back (steps.Verdict party q) legal = verdict_back party q legal.0 legal.1
+steps_back (steps.Route from) legal = route_request (codes "route") from refl legal
+steps_back (steps.Relay from to) legal = relay_request (codes "relay") from to refl legal.0 legal.1
+steps_back (steps.Apply from to) legal = apply_request (codes "apply") from to refl legal.0 legal.1
+steps_back (steps.Repeat from to number) legal = repeat_request (codes "repeat") from number to refl legal.0 legal.2 legal.1
+steps_back (steps.Close from to) legal = close_request (codes "close") from to refl legal.0 legal.1
+steps_back (steps.Lose from to) legal = lose_request (codes "lose") from to refl legal.0 legal.1
+steps_back (steps.Verdict party q) legal = verdict_request (codes "verdict") party q refl legal.0 legal.1
 
 -- each request is read back from its line
 pub requests_read_back : (request : Request) → IsLegalRequest request → read_request (request_value request) ≡ Ok request

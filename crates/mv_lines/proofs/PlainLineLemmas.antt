@@ -79,37 +79,37 @@ link_asks name ts m n step (rest, from, to) asks = (
   asks from.1.1 to.1.1,
 )
 
-route_request : (name : List ℕ) (m : ℕ) → kind_named name ≡ Some kinds.Route → m < 2 ^ 32
+pub route_request : (name : List ℕ) (m : ℕ) → kind_named name ≡ Some kinds.Route → m < 2 ^ 32
     → read_request (route_line name m) ≡ Ok (Step (steps.Route m))
 unfolding read_request route_at number_at kind_at
 route_request name m named hm = rw (named, lt-ltb _ _ hm)
 
-relay_request : (name : List ℕ) (m n : ℕ) → kind_named name ≡ Some kinds.Relay → m < 2 ^ 32 → n < 2 ^ 32
+pub relay_request : (name : List ℕ) (m n : ℕ) → kind_named name ≡ Some kinds.Relay → m < 2 ^ 32 → n < 2 ^ 32
     → read_request (link_line name m n) ≡ Ok (Step (steps.Relay m n))
 unfolding read_request relay_at link_at number_at kind_at
 relay_request name m n named hm hn = rw (named, lt-ltb _ _ hm, lt-ltb _ _ hn)
 
-apply_request : (name : List ℕ) (m n : ℕ) → kind_named name ≡ Some kinds.Apply → m < 2 ^ 32 → n < 2 ^ 32
+pub apply_request : (name : List ℕ) (m n : ℕ) → kind_named name ≡ Some kinds.Apply → m < 2 ^ 32 → n < 2 ^ 32
     → read_request (link_line name m n) ≡ Ok (Step (steps.Apply m n))
 unfolding read_request apply_at link_at number_at kind_at
 apply_request name m n named hm hn = rw (named, lt-ltb _ _ hm, lt-ltb _ _ hn)
 
-repeat_request : (name : List ℕ) (m n o : ℕ) → kind_named name ≡ Some kinds.Repeat → m < 2 ^ 32 → n < 2 ^ 32 → o < 2 ^ 32
+pub repeat_request : (name : List ℕ) (m n o : ℕ) → kind_named name ≡ Some kinds.Repeat → m < 2 ^ 32 → n < 2 ^ 32 → o < 2 ^ 32
     → read_request (repeat_line name m n o) ≡ Ok (Step (steps.Repeat m o n))
 unfolding read_request repeat_at number_at kind_at
 repeat_request name m n o named hm hn ho = rw (named, lt-ltb _ _ hm, lt-ltb _ _ hn, lt-ltb _ _ ho)
 
-close_request : (name : List ℕ) (m n : ℕ) → kind_named name ≡ Some kinds.Close → m < 2 ^ 32 → n < 2 ^ 32
+pub close_request : (name : List ℕ) (m n : ℕ) → kind_named name ≡ Some kinds.Close → m < 2 ^ 32 → n < 2 ^ 32
     → read_request (link_line name m n) ≡ Ok (Step (steps.Close m n))
 unfolding read_request close_at link_at number_at kind_at
 close_request name m n named hm hn = rw (named, lt-ltb _ _ hm, lt-ltb _ _ hn)
 
-lose_request : (name : List ℕ) (m n : ℕ) → kind_named name ≡ Some kinds.Lose → m < 2 ^ 32 → n < 2 ^ 32
+pub lose_request : (name : List ℕ) (m n : ℕ) → kind_named name ≡ Some kinds.Lose → m < 2 ^ 32 → n < 2 ^ 32
     → read_request (link_line name m n) ≡ Ok (Step (steps.Lose m n))
 unfolding read_request lose_at link_at number_at kind_at
 lose_request name m n named hm hn = rw (named, lt-ltb _ _ hm, lt-ltb _ _ hn)
 
-verdict_request : (name : List ℕ) (m n : ℕ) → kind_named name ≡ Some kinds.Verdict → m < 2 ^ 32 → n < 2 ^ 32
+pub verdict_request : (name : List ℕ) (m n : ℕ) → kind_named name ≡ Some kinds.Verdict → m < 2 ^ 32 → n < 2 ^ 32
     → read_request (verdict_line name m n) ≡ Ok (Step (steps.Verdict m n))
 unfolding read_request verdict_at number_at kind_at
 verdict_request name m n named hm hn = rw (named, lt-ltb _ _ hm, lt-ltb _ _ hn)

@@ -5,7 +5,7 @@ ghost use Rattle.serde_json.specs.View.{view, members_view};
 ghost use Rattle.mv_lines.specs.Reading.{Gives};
 ghost use Rattle.mv_lines.specs.Kinds.{kind_named, kind_at, names_of, known_kind_at};
 
-use crate::reading::text_of;
+use crate::field_reading::text_of;
 use crate::{LineFault, LineField};
 use mv_json::members::first_unknown;
 use mv_message::Text;

@@ -7,7 +7,7 @@ ghost use Rattle.serde_json.specs.View.{view, items_view};
 ghost use Rattle.mv_json.specs.Reading.{are_texts};
 ghost use Rattle.mv_lines.specs.Reading.{Gives, is_text_list, are_text_lists, text_lists, market_item, read_markets, market_list, read_market_lists, market_lists_at};
 
-use crate::reading::member_of;
+use crate::field_reading::member_of;
 use crate::{LineFault, LineField};
 use mv_pack::Market;
 use serde_json::Value;

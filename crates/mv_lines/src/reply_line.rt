@@ -49,25 +49,25 @@ pub(crate) fn append<T: ReplyLine>(
 pub fn reply_text(alloc: Global, reply: &Reply) -> Result<String, AllocError>
     ensures { IfOk result (λ text. string_bytes text ≡ compact_text (reply_value reply.now)) }
 {
-    text_of(alloc, reply)
+    line_text(alloc, reply)
 }
 
 /// The text of the refusal of a line that asks nothing.
 pub fn fault_text(alloc: Global, fault: &LineFault) -> Result<String, AllocError>
     ensures { IfOk result (λ text. string_bytes text ≡ compact_text (line_fault_value fault.now)) }
 {
-    text_of(alloc, fault)
+    line_text(alloc, fault)
 }
 
 /// The text of a refusal by its number, as `C1`.
 pub fn refusal_text(alloc: Global, code: &'static str) -> Result<String, AllocError>
     ensures { IfOk result (λ text. string_bytes text ≡ compact_text (refused code.now)) }
 {
-    text_of(alloc, &Refused { code })
+    line_text(alloc, &Refused { code })
 }
 
-/// The text of a reply.
-fn text_of<T: ReplyLine>(alloc: Global, reply: &T) -> Result<String, AllocError>
+/// The text of a reply line.
+fn line_text<T: ReplyLine>(alloc: Global, reply: &T) -> Result<String, AllocError>
     ensures { IfOk result (λ text. string_bytes text ≡ compact_text (T.value reply.now)) }
 {
     let mut writer = Writer::new(Vec::new(alloc));

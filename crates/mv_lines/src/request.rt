@@ -5,9 +5,9 @@ ghost use Rattle.serde_json.specs.View.{view};
 ghost use Rattle.mv_lines.specs.Reading.{Gives};
 ghost use Rattle.mv_lines.specs.Requests.{open_at, submit_at, route_at, link_at, relay_at, apply_at, repeat_at, close_at, lose_at, verify_at, verdict_at, request_at, read_request, read_line};
 
+use crate::field_reading::{gtin_of, message_of, number_of, serial_of};
 use crate::kind::{LineKind, kind_of, known_kind};
 use crate::market_lists::market_lists_of;
-use crate::reading::{gtin_of, message_of, number_of, serial_of};
 use crate::{LineFault, LineField, MarketLists};
 use mv_machine::Step;
 use mv_message::{Party, Shared};

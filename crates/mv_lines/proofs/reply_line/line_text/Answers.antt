@@ -1,7 +1,7 @@
 use Rattle.std.proofs.Common.{◌∙◌, ◌++◌, ap}
 use Rattle.json.specs.Print.{print}
 use Rattle.mv_lines.proofs.WritingLemmas.{text_written}
-use Rattle.mv_lines.proofs.reply_line.text_of.Goals as goal
+use Rattle.mv_lines.proofs.reply_line.line_text.Goals as goal
 
 pub returns : goal.returns
 returns g c =

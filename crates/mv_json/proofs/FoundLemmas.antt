@@ -12,7 +12,7 @@ use Rattle.mv_message.specs.declared.found.Found.TheVariants.{Absent, Present}
 use Rattle.mv_message.specs.declared.standing.Standing.{Standing}
 use Rattle.mv_json.specs.declared.version.Version.{Version}
 use Rattle.mv_json.specs.declared.version.Version.TheVariants.{One, Two}
-use Rattle.mv_json.specs.Found.{present_names, first_present_at, second_present_at, present_at, present_of, illegal_found, found_of, found_at}
+use Rattle.mv_json.specs.Found.{present_names, present_in_version_one, present_in_version_two, present_at, present_of, illegal_found, found_of, found_at}
 use Rattle.mv_json.specs.Members.{keys_of, first_unknown}
 use Rattle.mv_json.specs.Reading.{◌and_then◌, some_or, member_at, code_at, expiry_at, national_at, standing_at}
 use Rattle.mv_json.specs.Numbers.{truth_at}
@@ -23,17 +23,17 @@ use Rattle.mv_json.proofs.ChainLemmas.{four_ok, four_read, six_ok, six_read}
 use Rattle.mv_json.proofs.FormLemmas.{all_known, none_unknown}
 
 -- the pack of version 1 and of version 2 that these parts make
-abbrev first_present : List ℕ → CivilDate → Bool → Standing → Found
-first_present batch expiry recalled standing = Present batch expiry None standing recalled false
+abbrev pack_of_version_one : List ℕ → CivilDate → Bool → Standing → Found
+pack_of_version_one batch expiry recalled standing = Present batch expiry None standing recalled false
 
-abbrev second_present : List ℕ → CivilDate → Option (List ℕ) → Bool → Standing → Bool → Found
-second_present batch expiry national recalled standing withdrawn = Present batch expiry national standing recalled withdrawn
+abbrev pack_of_version_two : List ℕ → CivilDate → Option (List ℕ) → Bool → Standing → Bool → Found
+pack_of_version_two batch expiry national recalled standing withdrawn = Present batch expiry national standing recalled withdrawn
 
 -- the fields of an object gave a pack, so they spell it
 fields_spelled : (version : Version) (part : Data) (found : Found) → HasOnly (present_names version) part → present_at version part ≡ Ok found → SpellsFound version part found
-unfolding first_present_at second_present_at
+unfolding present_in_version_one present_in_version_two
 fields_spelled One part found only h =
-    let p = four_ok (code_at fields.Batch part) (expiry_at fields.Expiry part) (truth_at fields.Recalled part) (standing_at fields.Standing part) first_present found h in
+    let p = four_ok (code_at fields.Batch part) (expiry_at fields.Expiry part) (truth_at fields.Recalled part) (standing_at fields.Standing part) pack_of_version_one found h in
     subst (SpellsFound One part) p.8 (
       only,
       code_ok fields.Batch part p.0 p.4,
@@ -43,7 +43,7 @@ fields_spelled One part found only h =
       (refl, refl),
     )
 fields_spelled Two part found only h =
-    let p = six_ok (code_at fields.Batch part) (expiry_at fields.Expiry part) (national_at fields.National part) (truth_at fields.Recalled part) (standing_at fields.Standing part) (truth_at fields.Withdrawn part) second_present found h in
+    let p = six_ok (code_at fields.Batch part) (expiry_at fields.Expiry part) (national_at fields.National part) (truth_at fields.Recalled part) (standing_at fields.Standing part) (truth_at fields.Withdrawn part) pack_of_version_two found h in
     subst (SpellsFound Two part) p.12 (
       only,
       code_ok fields.Batch part p.0 p.6,
@@ -91,14 +91,14 @@ found_ok version d found h =
 
 -- the fields of an object spell a pack, so they give it
 fields_read : (version : Version) (part : Data) (batch : List ℕ) (expiry : CivilDate) (national : Option (List ℕ)) (standing : Standing) (recalled withdrawn : Bool) → SpellsFound version part (Present batch expiry national standing recalled withdrawn) → present_at version part ≡ Ok (Present batch expiry national standing recalled withdrawn)
-unfolding first_present_at second_present_at
+unfolding present_in_version_one present_in_version_two
 fields_read One part batch expiry national standing recalled withdrawn h =
-    four_read (code_at fields.Batch part) (expiry_at fields.Expiry part) (truth_at fields.Recalled part) (standing_at fields.Standing part) first_present batch expiry recalled standing
+    four_read (code_at fields.Batch part) (expiry_at fields.Expiry part) (truth_at fields.Recalled part) (standing_at fields.Standing part) pack_of_version_one batch expiry recalled standing
     (code_read fields.Batch part batch h.1) (expiry_read fields.Expiry part expiry h.2) (truth_read fields.Recalled part recalled h.4) (standing_read fields.Standing part standing h.3)
     ∙ ap (λ n. Ok (Present batch expiry n standing recalled false)) (sym h.5.0)
     ∙ ap (λ w. Ok (Present batch expiry national standing recalled w)) (sym h.5.1)
 fields_read Two part batch expiry national standing recalled withdrawn h =
-    six_read (code_at fields.Batch part) (expiry_at fields.Expiry part) (national_at fields.National part) (truth_at fields.Recalled part) (standing_at fields.Standing part) (truth_at fields.Withdrawn part) second_present batch expiry national recalled standing withdrawn
+    six_read (code_at fields.Batch part) (expiry_at fields.Expiry part) (national_at fields.National part) (truth_at fields.Recalled part) (standing_at fields.Standing part) (truth_at fields.Withdrawn part) pack_of_version_two batch expiry national recalled standing withdrawn
     (code_read fields.Batch part batch h.1) (expiry_read fields.Expiry part expiry h.2) (national_read fields.National part national h.5.0)
     (truth_read fields.Recalled part recalled h.4) (standing_read fields.Standing part standing h.3) (truth_read fields.Withdrawn part withdrawn h.5.1)
 

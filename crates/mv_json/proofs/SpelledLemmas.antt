@@ -131,11 +131,11 @@ repack_spelled version d m of_form h =
 
 withdraw_spelled : (version : Version) (d : Data) (m : Message) → IsOfForm version forms.Withdraw d → version ≡ Two → withdraw_at d ≡ Ok m → ReadsIn version d m
 unfolding withdraw_at
-withdraw_spelled version d m of_form second h =
+withdraw_spelled version d m of_form of_version_two h =
     let p = two_ok (moment_at fields.At d) (gtin_at fields.Gtin d) withdraw_made m h in
     subst (ReadsIn version d) p.4 (
       of_form,
-      second,
+      of_version_two,
       gtin_ok fields.Gtin d p.1 p.3,
       moment_ok fields.At d p.0 p.2,
     )

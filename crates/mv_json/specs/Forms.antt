@@ -25,14 +25,14 @@ form_name forms.Upload = codes "upload"
 form_name forms.Withdraw = codes "withdraw"
 
 -- the forms of version 1
-abbrev pub first_forms : List Form
-first_forms =
+abbrev pub forms_of_version_one : List Form
+forms_of_version_one =
     forms.Answer ∷ forms.Master ∷ forms.Query ∷ forms.Recall ∷ forms.Repack ∷ forms.Status ∷ forms.Upload ∷ []
 
 -- the forms of a version: a withdrawal came with the second
 abbrev pub forms_of : Version → List Form
-forms_of One = first_forms
-forms_of Two = first_forms ++ forms.Withdraw ∷ []
+forms_of One = forms_of_version_one
+forms_of Two = forms_of_version_one ++ forms.Withdraw ∷ []
 
 -- the form of a version that a text of `msg` names
 abbrev pub form_named : Version → List ℕ → Option Form

@@ -26,8 +26,8 @@ abbrev pub present_names : Version → List (List ℕ)
 present_names version = map field_name (present_fields version)
 
 -- the pack that the fields of an object give, in version 1
-unfoldable pub first_present_at : Data → Result Found MessageFault
-first_present_at value =
+unfoldable pub present_in_version_one : Data → Result Found MessageFault
+present_in_version_one value =
     code_at fields.Batch value and_then λ batch.
     expiry_at fields.Expiry value and_then λ expiry.
     truth_at fields.Recalled value and_then λ recalled.
@@ -35,8 +35,8 @@ first_present_at value =
     Ok (Present batch expiry None standing recalled false)
 
 -- the pack that the fields of an object give, in version 2
-unfoldable pub second_present_at : Data → Result Found MessageFault
-second_present_at value =
+unfoldable pub present_in_version_two : Data → Result Found MessageFault
+present_in_version_two value =
     code_at fields.Batch value and_then λ batch.
     expiry_at fields.Expiry value and_then λ expiry.
     national_at fields.National value and_then λ national.
@@ -47,8 +47,8 @@ second_present_at value =
 
 -- the pack that the fields of an object give
 abbrev pub present_at : Version → Data → Result Found MessageFault
-present_at One value = first_present_at value
-present_at Two value = second_present_at value
+present_at One value = present_in_version_one value
+present_at Two value = present_in_version_two value
 
 -- the pack that an object is, which has no other key than its fields
 unfoldable pub present_of : Version → Data → Result Found MessageFault

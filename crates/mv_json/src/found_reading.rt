@@ -2,7 +2,7 @@
 
 ghost use Rattle.std.specs.Prelude.{◌≡◌, ◌≢◌, map, IfErr};
 ghost use Rattle.serde_json.specs.View.{view};
-ghost use Rattle.mv_json.specs.Found.{present_names, first_present_at, second_present_at, present_at, present_of, found_of, found_at};
+ghost use Rattle.mv_json.specs.Found.{present_names, present_in_version_one, present_in_version_two, present_at, present_of, found_of, found_at};
 
 use crate::members::first_unknown;
 use crate::numbers::truth_at;
@@ -49,8 +49,8 @@ fn present_of(value: &Value, version: Version) -> Result<Found, MessageFault>
         return Err(MessageFault::Kind(Field::Found));
     }
     match version {
-        Version::One => first_present_at(value),
-        Version::Two => second_present_at(value),
+        Version::One => present_in_version_one(value),
+        Version::Two => present_in_version_two(value),
     }
 }
 
@@ -72,9 +72,9 @@ fn present_names(version: Version) -> &'static [&'static str]
 }
 
 /// The pack that the fields of an object give, in version 1.
-#[tactic(auto, unfolding(crate::specs::Found::first_present_at))]
-fn first_present_at(value: &Value) -> Result<Found, MessageFault>
-    ensures { result ≡ first_present_at (view value.now) }
+#[tactic(auto, unfolding(crate::specs::Found::present_in_version_one))]
+fn present_in_version_one(value: &Value) -> Result<Found, MessageFault>
+    ensures { result ≡ present_in_version_one (view value.now) }
 {
     let batch = batch_at(value, Field::Batch)?;
     let expiry = expiry_at(value, Field::Expiry)?;
@@ -91,9 +91,9 @@ fn first_present_at(value: &Value) -> Result<Found, MessageFault>
 }
 
 /// The pack that the fields of an object give, in version 2.
-#[tactic(auto, unfolding(crate::specs::Found::second_present_at))]
-fn second_present_at(value: &Value) -> Result<Found, MessageFault>
-    ensures { result ≡ second_present_at (view value.now) }
+#[tactic(auto, unfolding(crate::specs::Found::present_in_version_two))]
+fn present_in_version_two(value: &Value) -> Result<Found, MessageFault>
+    ensures { result ≡ present_in_version_two (view value.now) }
 {
     let batch = batch_at(value, Field::Batch)?;
     let expiry = expiry_at(value, Field::Expiry)?;

@@ -23,8 +23,8 @@ use Rattle.mv_hub.specs.PartySets.{is_candidate}
 use Rattle.mv_hub.specs.Links.{gained, link_items}
 use Rattle.mv_hub.specs.Hub.{HubState, new_hub, sent_of, items_on, next_items, is_busy, busy_party, busy_fault, route_fault, with_relayed}
 use Rattle.mv_hub.specs.declared.fault.RouteFault.TheVariants.{StrangerParty}
-use Rattle.mv_hub.specs.Kept.{link_at, sent_table, AreCounts, AreOpen, Carries, AreLinks, IsKept}
-use Rattle.mv_hub.specs.Gains.{Gains, GainsRow, IsRouting, receipt_of, carried_by, gain_of, gain_count}
+use Rattle.mv_hub.specs.Kept.{link_at, sent_table, AreRoutedCounts, AreOpen, Carries, AreLinks, IsKept}
+use Rattle.mv_hub.specs.Gains.{PushesItems, PushesRow, IsRouting, receipt_of, carried_by, gain_of, gain_count}
 use Rattle.mv_hub.proofs.LinksLemmas.{room-after}
 use Rattle.mv_hub.proofs.RecordLemmas.{routed_from-append, link_items-push, gained_other, gained-closed}
 use Rattle.mv_hub.proofs.NumberLemmas.{any-filter_range, find-none_at}
@@ -258,28 +258,28 @@ rooms parties window entries links from message are is_from none to is_to =
     (find-none_at (is_busy (view parties window entries links) from message) to (length parties) is_to none)
 
 -- the counts once a message was routed
-counts-routed : (n : ℕ) (entries : List Entry) (counts : List ℕ) (from : ℕ) (message : Message) → AreCounts n entries counts → from < n
-    → AreCounts n (entries ++ Routed from (routed_count entries from + 1) message ∷ []) (set counts from (routed_count entries from + 1))
-counts-routed n entries counts from message are lt =
+routed_counts-routed : (n : ℕ) (entries : List Entry) (routed_counts : List ℕ) (from : ℕ) (message : Message) → AreRoutedCounts n entries routed_counts → from < n
+    → AreRoutedCounts n (entries ++ Routed from (routed_count entries from + 1) message ∷ []) (set routed_counts from (routed_count entries from + 1))
+routed_counts-routed n entries routed_counts from message are lt =
     let k = routed_count entries from + 1 in
     let more = λ (party : ℕ). ap length (routed_from-append entries (Routed from k message ∷ []) party) in
     record {
-      each = length-set counts from k ∙ are.each;
-      values = λ party below. elim (cases_eq party from) as (λ _. get_or (set counts from k) party 0 ≡ routed_count (entries ++ Routed from k message ∷ []) party) [
+      each = length-set routed_counts from k ∙ are.each;
+      values = λ party below. elim (cases_eq party from) as (λ _. get_or (set routed_counts from k) party 0 ≡ routed_count (entries ++ Routed from k message ∷ []) party) [
         | inl same ↦
-            let here : get_or (set counts from k) from 0 ≡ routed_count (entries ++ Routed from k message ∷ []) from =
-            get_or-set_same counts from k 0 (omega (arith, are.each))
+            let here : get_or (set routed_counts from k) from 0 ≡ routed_count (entries ++ Routed from k message ∷ []) from =
+            get_or-set_same routed_counts from k 0 (omega (arith, are.each))
             ∙ sym (more from ∙ ap (λ b. length (routed_from entries from ++ cond b (message ∷ []) [])) (eq-eqb from from refl)
             ∙ length-append (routed_from entries from) (message ∷ [])) in
-            subst (λ p. get_or (set counts from k) p 0 ≡ routed_count (entries ++ Routed from k message ∷ []) p) (sym same) here
+            subst (λ p. get_or (set routed_counts from k) p 0 ≡ routed_count (entries ++ Routed from k message ∷ []) p) (sym same) here
         | inr other ↦
-            get_or-set_other counts from party k 0 other ∙ are.values party below
+            get_or-set_other routed_counts from party k 0 other ∙ are.values party below
             ∙ sym (more party ∙ ap (λ b. length (routed_from entries party ++ cond b (message ∷ []) [])) (ne_eqb from party (λ e. other (sym e)))
             ∙ ap length (append-nil (routed_from entries party)))
       ];
     }
 
-carries-gain : (window : ℕ) (items more : List Item) (old new : Sending) → Carries window items old → Gains more old new
+carries-gain : (window : ℕ) (items more : List Item) (old new : Sending) → Carries window items old → PushesItems more old new
     → HasRoom old (length more) → Carries window (items ++ more) new
 carries-gain window items more old new carries gains room = record {
   window = gains.window ∙ carries.window;
@@ -291,7 +291,7 @@ carries-gain window items more old new carries gains room = record {
 links-routed : (parties : List (List (List ℕ))) (window : ℕ) (entries : List Entry) (old new : List (List Sending)) (from : ℕ) (message : Message)
     → AreLinks parties window entries old
     → ((to : ℕ) → to < length parties → HasRoom (link_at old from to) (length (next_items (view parties window entries old) from message to)))
-    → GainsRow (length parties) from (next_items (view parties window entries old) from message) old new
+    → PushesRow (length parties) from (next_items (view parties window entries old) from message) old new
     → AreLinks parties window (entries ++ Routed from (routed_count entries from + 1) message ∷ []) new
 links-routed parties window entries old new from message are free row =
     let entry = Routed from (routed_count entries from + 1) message in
@@ -315,17 +315,17 @@ links-routed parties window entries old new from message are free row =
     }
 
 -- all that the hub keeps, once a message was routed
-pub kept-routed : (parties : List (List (List ℕ))) (window : ℕ) (entries : List Entry) (counts : List ℕ)
+pub kept-routed : (parties : List (List (List ℕ))) (window : ℕ) (entries : List Entry) (routed_counts : List ℕ)
     (open_links : List (List Bool)) (old new : List (List Sending)) (from : ℕ) (message : Message)
-    → IsKept parties window entries counts open_links old → from < length parties
+    → IsKept parties window entries routed_counts open_links old → from < length parties
     → busy_party (view parties window entries old) from message ≡ None
-    → GainsRow (length parties) from (next_items (view parties window entries old) from message) old new
-    → IsKept parties window (entries ++ Routed from (routed_count entries from + 1) message ∷ []) (set counts from (routed_count entries from + 1)) open_links new
-kept-routed parties window entries counts open_links old new from message kept lt none row = record {
+    → PushesRow (length parties) from (next_items (view parties window entries old) from message) old new
+    → IsKept parties window (entries ++ Routed from (routed_count entries from + 1) message ∷ []) (set routed_counts from (routed_count entries from + 1)) open_links new
+kept-routed parties window entries routed_counts open_links old new from message kept lt none row = record {
   some = kept.some;
   few = kept.few;
   is_window = kept.is_window;
-  are_counts = counts-routed (length parties) entries counts from message kept.are_counts lt;
+  are_routed_counts = routed_counts-routed (length parties) entries routed_counts from message kept.are_routed_counts lt;
   are_open = record {
     square = kept.are_open.square;
     values = λ a b is_a is_b. kept.are_open.values a b is_a is_b ∙ sym (is_open-routed entries from (routed_count entries from + 1) message a b);
@@ -335,8 +335,8 @@ kept-routed parties window entries counts open_links old new from message kept l
 }
 
 -- the counts, the closed link and the links, once a link was closed
-counts-closed : (n : ℕ) (entries : List Entry) (counts : List ℕ) (from to : ℕ) → AreCounts n entries counts → AreCounts n (entries ++ Closed from to ∷ []) counts
-counts-closed n entries counts from to are = record {
+routed_counts-closed : (n : ℕ) (entries : List Entry) (routed_counts : List ℕ) (from to : ℕ) → AreRoutedCounts n entries routed_counts → AreRoutedCounts n (entries ++ Closed from to ∷ []) routed_counts
+routed_counts-closed n entries routed_counts from to are = record {
   each = are.each;
   values = λ party below. are.values party below
       ∙ sym (ap length (routed_from-append entries (Closed from to ∷ []) party ∙ append-nil (routed_from entries party)));
@@ -379,15 +379,15 @@ links-closed parties window entries links from to are = record {
 }
 
 -- all that the hub keeps, once a link was closed
-pub kept-closed : (parties : List (List (List ℕ))) (window : ℕ) (entries : List Entry) (counts : List ℕ)
+pub kept-closed : (parties : List (List (List ℕ))) (window : ℕ) (entries : List Entry) (routed_counts : List ℕ)
     (open_links : List (List Bool)) (links : List (List Sending)) (from to : ℕ)
-    → IsKept parties window entries counts open_links links → from < length parties → to < length parties
-    → IsKept parties window (entries ++ Closed from to ∷ []) counts (put open_links from to false) links
-kept-closed parties window entries counts open_links links from to kept is_from is_to = record {
+    → IsKept parties window entries routed_counts open_links links → from < length parties → to < length parties
+    → IsKept parties window (entries ++ Closed from to ∷ []) routed_counts (put open_links from to false) links
+kept-closed parties window entries routed_counts open_links links from to kept is_from is_to = record {
   some = kept.some;
   few = kept.few;
   is_window = kept.is_window;
-  are_counts = counts-closed (length parties) entries counts from to kept.are_counts;
+  are_routed_counts = routed_counts-closed (length parties) entries routed_counts from to kept.are_routed_counts;
   are_open = open-closed (length parties) entries open_links from to kept.are_open is_from is_to;
   are_links = links-closed parties window entries links from to kept.are_links;
 }
@@ -433,7 +433,7 @@ kept-new parties window open_links links some few is_window open_square all_open
   some = some;
   few = few;
   is_window = is_window;
-  are_counts = record { each = length-replicate (length parties) 0; values = λ party lt. get_or-replicate (length parties) party 0 0 lt };
+  are_routed_counts = record { each = length-replicate (length parties) 0; values = λ party lt. get_or-replicate (length parties) party 0 0 lt };
   are_open = record { square = open_square; values = λ from to p q. cell-all (λ b. b ≡ true) (length parties) open_links from to true open_square all_open p q };
   are_links = record {
     square = square;

@@ -11,7 +11,7 @@ use Rattle.mv_link.specs.Sending.{Sending, HasRoom, EndsWithHeld, new_sending}
 use Rattle.mv_pairs.specs.Pairs.{put, IsSquare}
 use Rattle.mv_pairs.proofs.PairsLemmas.{cell-put_same, cell-put_other, square-put, put-map_same}
 use Rattle.mv_hub.specs.Kept.{link_at}
-use Rattle.mv_hub.specs.Gains.{Gains, GainsRow}
+use Rattle.mv_hub.specs.Gains.{PushesItems, PushesRow}
 
 -- what was taken off the end of a front of a list stands behind what is left
 pub last-of_front : {A : Type 0} (whole old new : List A) (last d : A) → old ≡ take (length old) whole → old ≡ new ++ last ∷ []
@@ -26,16 +26,16 @@ last-of_front whole old new last d front popped =
     )
 
 -- a link that gains nothing, and one that gains twice
-pub gains-none : (link : Sending) → Gains [] link link
-gains-none link = record {
+pub pushes-none : (link : Sending) → PushesItems [] link link
+pushes-none link = record {
   window = refl;
   total = omega arith;
   sent = refl;
   ends = λ list ends. subst (EndsWithHeld link) (sym (append-nil list)) ends;
 }
 
-pub gains-then : (xs ys : List Item) (old mid new : Sending) → Gains xs old mid → Gains ys mid new → Gains (xs ++ ys) old new
-gains-then xs ys old mid new first second = record {
+pub pushes-then : (xs ys : List Item) (old mid new : Sending) → PushesItems xs old mid → PushesItems ys mid new → PushesItems (xs ++ ys) old new
+pushes-then xs ys old mid new first second = record {
   window = second.window ∙ first.window;
   total = omega (arith, first.total, second.total, length-append xs ys);
   sent = second.sent ∙ first.sent;
@@ -43,53 +43,53 @@ gains-then xs ys old mid new first second = record {
 }
 
 -- room for more than it gained is left
-pub room-after : (xs : List Item) (old new : Sending) (count : ℕ) → Gains xs old new → HasRoom old (length xs + count) → HasRoom new count
+pub room-after : (xs : List Item) (old new : Sending) (count : ℕ) → PushesItems xs old new → HasRoom old (length xs + count) → HasRoom new count
 room-after xs old new count gains room =
     (omega (arith, gains.total, gains.sent, gains.window, room.0), omega (arith, gains.total, room.1))
 
 -- no link has gained anything
-pub row-none : (n from : ℕ) (old : List (List Sending)) → IsSquare n old → GainsRow n from (λ to. []) old old
+pub row-none : (n from : ℕ) (old : List (List Sending)) → IsSquare n old → PushesRow n from (λ to. []) old old
 row-none n from old square = record {
   square = square;
-  gained = λ to below. gains-none (link_at old from to);
+  gained = λ to below. pushes-none (link_at old from to);
   others = λ party to other. refl;
   sent = refl;
 }
 
 -- what is gained first, and then
-pub row-then : (n from : ℕ) (g h : ℕ → List Item) (old mid new : List (List Sending)) → GainsRow n from g old mid → GainsRow n from h mid new
-    → GainsRow n from (λ to. g to ++ h to) old new
+pub row-then : (n from : ℕ) (g h : ℕ → List Item) (old mid new : List (List Sending)) → PushesRow n from g old mid → PushesRow n from h mid new
+    → PushesRow n from (λ to. g to ++ h to) old new
 row-then n from g h old mid new first second = record {
   square = second.square;
-  gained = λ to below. gains-then (g to) (h to) (link_at old from to) (link_at mid from to) (link_at new from to) (first.gained to below) (second.gained to below);
+  gained = λ to below. pushes-then (g to) (h to) (link_at old from to) (link_at mid from to) (link_at new from to) (first.gained to below) (second.gained to below);
   others = λ party to other. second.others party to other ∙ first.others party to other;
   sent = second.sent ∙ first.sent;
 }
 
 -- one link gains these items
 pub row-one : (n from to : ℕ) (items : List Item) (now : List (List Sending)) (link : Sending) → IsSquare n now → from < n → to < n
-    → Gains items (link_at now from to) link → GainsRow n from (λ other. cond (other == to) items []) now (put now from to link)
+    → PushesItems items (link_at now from to) link → PushesRow n from (λ other. cond (other == to) items []) now (put now from to link)
 row-one n from to items now link square is_from is_to gains = record {
   square = square-put n now from to link square;
-  gained = λ other below. elim (cases_eq other to) as (λ _. Gains (cond (other == to) items []) (link_at now from other) (link_at (put now from to link) from other)) [
+  gained = λ other below. elim (cases_eq other to) as (λ _. PushesItems (cond (other == to) items []) (link_at now from other) (link_at (put now from to link) from other)) [
     | inl same ↦
-        subst (λ t. Gains (cond (t == to) items []) (link_at now from t) (link_at (put now from to link) from t)) (sym same)
-        (subst (λ b. Gains (cond b items []) (link_at now from to) (link_at (put now from to link) from to)) (sym (eq-eqb to to refl))
-        (subst (Gains items (link_at now from to)) (sym (cell-put_same n now from to link (new_sending 0) square is_from is_to)) gains))
+        subst (λ t. PushesItems (cond (t == to) items []) (link_at now from t) (link_at (put now from to link) from t)) (sym same)
+        (subst (λ b. PushesItems (cond b items []) (link_at now from to) (link_at (put now from to link) from to)) (sym (eq-eqb to to refl))
+        (subst (PushesItems items (link_at now from to)) (sym (cell-put_same n now from to link (new_sending 0) square is_from is_to)) gains))
     | inr apart ↦
-        subst (λ b. Gains (cond b items []) (link_at now from other) (link_at (put now from to link) from other)) (sym (ne_eqb other to apart))
-        (subst (Gains [] (link_at now from other)) (sym (cell-put_other now from to from other link (new_sending 0) (inr apart))) (gains-none (link_at now from other)))
+        subst (λ b. PushesItems (cond b items []) (link_at now from other) (link_at (put now from to link) from other)) (sym (ne_eqb other to apart))
+        (subst (PushesItems [] (link_at now from other)) (sym (cell-put_other now from to from other link (new_sending 0) (inr apart))) (pushes-none (link_at now from other)))
   ];
   others = λ party other apart. cell-put_other now from to party other link (new_sending 0) (inl apart);
   sent = put-map_same (λ v. v.sent) now from to link (new_sending 0) gains.sent;
 }
 
 -- the same, said in other words
-pub row-same : (n from : ℕ) (g h : ℕ → List Item) (old new : List (List Sending)) → ((to : ℕ) → to < n → g to ≡ h to) → GainsRow n from g old new
-    → GainsRow n from h old new
+pub row-same : (n from : ℕ) (g h : ℕ → List Item) (old new : List (List Sending)) → ((to : ℕ) → to < n → g to ≡ h to) → PushesRow n from g old new
+    → PushesRow n from h old new
 row-same n from g h old new same row = record {
   square = row.square;
-  gained = λ to below. subst (λ l. Gains l (link_at old from to) (link_at new from to)) (same to below) (row.gained to below);
+  gained = λ to below. subst (λ l. PushesItems l (link_at old from to) (link_at new from to)) (same to below) (row.gained to below);
   others = row.others;
   sent = row.sent;
 }

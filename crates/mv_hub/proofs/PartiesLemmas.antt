@@ -47,15 +47,15 @@ has_twice-longer (x ∷ xs) ys twice =
     next false false c d e f = f e
 
 -- with one more of the list behind it, a list has a market twice if that market stands in what is before
-pub repeats-more : (before list : List (List ℕ)) (i : ℕ) (d : List ℕ) → i < length list → has_twice (before ++ take i list) ≡ false
+pub repeats_market-more : (before list : List (List ℕ)) (i : ℕ) (d : List ℕ) → i < length list → has_twice (before ++ take i list) ≡ false
     → has_twice (before ++ take (i + 1) list) ≡ has_market (before ++ take i list) (get_or list i d)
-repeats-more before list i d lt none =
+repeats_market-more before list i d lt none =
     ap (λ l. has_twice (before ++ l)) (take_more list i d lt) ∙ ap has_twice (sym (append_assoc before (take i list) (get_or list i d ∷ [])))
     ∙ has_twice-push (before ++ take i list) (get_or list i d) ∙ ap (λ b. b || has_market (before ++ take i list) (get_or list i d)) none
 
 -- what the front has twice, the whole has twice
-pub repeats-found : (before list : List (List ℕ)) (i : ℕ) → has_twice (before ++ take i list) ≡ true → has_twice (before ++ list) ≡ true
-repeats-found before list i twice =
+pub repeats_market-found : (before list : List (List ℕ)) (i : ℕ) → has_twice (before ++ take i list) ≡ true → has_twice (before ++ list) ≡ true
+repeats_market-found before list i twice =
     ap has_twice (ap (λ l. before ++ l) (sym (take-append-drop i list)) ∙ sym (append_assoc before (take i list) (drop i list)))
     ∙ has_twice-longer (before ++ take i list) (drop i list) twice
 
@@ -191,21 +191,21 @@ finds-more lists n old new once finds updates = record {
         elsewhere (inr other) = omega (arith, other)
 
 -- who serves one more market
-pub serves_one-push : (served wanted : List (List ℕ)) (market : List ℕ)
-    → serves_one served (wanted ++ market ∷ []) ≡ (serves_one served wanted || has_market served market)
-serves_one-push [] wanted market = refl
-serves_one-push (s ∷ served) wanted market =
-    ap (λ b. b || serves_one served (wanted ++ market ∷ [])) (list_any-append (λ m. is_same_market m s) wanted (market ∷ [])
-    ∙ ap (λ b. has_market wanted s || b) (or-false (is_same_market market s) ∙ nat_list_eq_equiv.symm market s))
-    ∙ ap (λ b. (has_market wanted s || is_same_market s market) || b) (serves_one-push served wanted market)
-    ∙ or-regroup (has_market wanted s) (is_same_market s market) (serves_one served wanted) (has_market served market)
+pub serves_one-push : (served markets : List (List ℕ)) (market : List ℕ)
+    → serves_one served (markets ++ market ∷ []) ≡ (serves_one served markets || has_market served market)
+serves_one-push [] markets market = refl
+serves_one-push (s ∷ served) markets market =
+    ap (λ b. b || serves_one served (markets ++ market ∷ [])) (list_any-append (λ m. is_same_market m s) markets (market ∷ [])
+    ∙ ap (λ b. has_market markets s || b) (or-false (is_same_market market s) ∙ nat_list_eq_equiv.symm market s))
+    ∙ ap (λ b. (has_market markets s || is_same_market s market) || b) (serves_one-push served markets market)
+    ∙ or-regroup (has_market markets s) (is_same_market s market) (serves_one served markets) (has_market served market)
 
 -- none serves no market
 serves_one-none : (served : List (List ℕ)) → serves_one served [] ≡ false
 serves_one-none [] = refl
 serves_one-none (s ∷ served) = serves_one-none served
 
--- the parties that pass a test or serve one of the first wanted markets: of none of them
+-- the parties that pass a test or serve one of the first markets of a list: of none of them
 pub serving-none : (parties : List (List (List ℕ))) (test : ℕ → Bool) (n : ℕ)
     → those test n ≡ those (λ party. test party || serves_one (served_by parties party) []) n
 serving-none parties test n =
@@ -213,20 +213,20 @@ serving-none parties test n =
     (λ x lt. sym (or-false (test x)) ∙ ap (λ b. test x || b) (sym (serves_one-none (served_by parties x))))
 
 -- of one more, for which a look-up gives a party
-pub serving-more : (parties : List (List (List ℕ))) (test : ℕ → Bool) (wanted : List (List ℕ)) (i : ℕ) (market : List ℕ) (n : ℕ) (found : Option ℕ)
-    → i < length wanted → market ≡ get_or wanted i market
+pub serving-more : (parties : List (List (List ℕ))) (test : ℕ → Bool) (markets : List (List ℕ)) (i : ℕ) (market : List ℕ) (n : ℕ) (found : Option ℕ)
+    → i < length markets → market ≡ get_or markets i market
     → ((party : ℕ) → found ≡ Some party → (party < n) × (has_market (served_by parties party) market ≡ true))
     → ((party : ℕ) → party < n → has_market (served_by parties party) market ≡ true → found ≡ Some party)
-    → those (λ party. (test party || serves_one (served_by parties party) (take i wanted)) || is_found found party) n
-    ≡ those (λ party. test party || serves_one (served_by parties party) (take (i + 1) wanted)) n
-serving-more parties test wanted i market n found lt at serves all =
+    → those (λ party. (test party || serves_one (served_by parties party) (take i markets)) || is_found found party) n
+    ≡ those (λ party. test party || serves_one (served_by parties party) (take (i + 1) markets)) n
+serving-more parties test markets i market n found lt at serves all =
     those-agree _ _ n (λ x below.
-    ap (λ b. (test x || serves_one (served_by parties x) (take i wanted)) || b) (agrees x below)
-    ∙ or_assoc (test x) (serves_one (served_by parties x) (take i wanted)) (has_market (served_by parties x) market)
-    ∙ ap (λ b. test x || b) (sym (ap (serves_one (served_by parties x)) front ∙ serves_one-push (served_by parties x) (take i wanted) market)))
+    ap (λ b. (test x || serves_one (served_by parties x) (take i markets)) || b) (agrees x below)
+    ∙ or_assoc (test x) (serves_one (served_by parties x) (take i markets)) (has_market (served_by parties x) market)
+    ∙ ap (λ b. test x || b) (sym (ap (serves_one (served_by parties x)) front ∙ serves_one-push (served_by parties x) (take i markets) market)))
   where
-    front : take (i + 1) wanted ≡ take i wanted ++ market ∷ []
-    front = take_more wanted i market lt ∙ ap (λ m. take i wanted ++ m ∷ []) (sym at)
+    front : take (i + 1) markets ≡ take i markets ++ market ∷ []
+    front = take_more markets i market lt ∙ ap (λ m. take i markets ++ m ∷ []) (sym at)
 
     agrees : (x : ℕ) → x < n → is_found found x ≡ has_market (served_by parties x) market
     agrees x below = by (has_market (served_by parties x) market) refl

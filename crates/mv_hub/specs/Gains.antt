@@ -44,15 +44,15 @@ gain_count from reached receipt to =
     (if to == from then length receipt else 0) + (if list_any (λ other. other == to) reached then 1 else 0)
 
 -- these items were pushed on a sending end, and nothing else changed
-pub record Gains (items : List Item) (old new : Sending) : Type 0 where
+pub record PushesItems (items : List Item) (old new : Sending) : Type 0 where
   pub window : new.window ≡ old.window
   pub total : new.total ≡ old.total + length items
   pub sent : new.sent ≡ old.sent
   pub ends : (list : List Item) → EndsWithHeld old list → EndsWithHeld new (list ++ items)
 
 -- on the link from one party to each of so many there was pushed what that gains, and no other link changed
-pub record GainsRow (count from : ℕ) (gains : ℕ → List Item) (old new : List (List Sending)) : Type 0 where
+pub record PushesRow (count from : ℕ) (gains : ℕ → List Item) (old new : List (List Sending)) : Type 0 where
   pub square : IsSquare count new
-  pub gained : (to : ℕ) → to < count → Gains (gains to) (link_at old from to) (link_at new from to)
+  pub gained : (to : ℕ) → to < count → PushesItems (gains to) (link_at old from to) (link_at new from to)
   pub others : (party to : ℕ) → party ≢ from → link_at new party to ≡ link_at old party to
   pub sent : sent_table new ≡ sent_table old

@@ -24,9 +24,9 @@ abbrev pub sent_table : List (List Sending) → List (List ℕ)
 sent_table links = map (map (λ v. v.sent)) links
 
 -- how many messages were routed from each party, party 0 first
-pub record AreCounts (parties : ℕ) (entries : List Entry) (counts : List ℕ) : Type 0 where
-  pub each : length counts ≡ parties
-  pub values : (party : ℕ) → party < parties → slice_index_or counts party 0 ≡ routed_count entries party
+pub record AreRoutedCounts (parties : ℕ) (entries : List Entry) (routed_counts : List ℕ) : Type 0 where
+  pub each : length routed_counts ≡ parties
+  pub values : (party : ℕ) → party < parties → slice_index_or routed_counts party 0 ≡ routed_count entries party
 
 -- what the record says of each product and each batch
 pub record AreTables (entries : List Entry) (catalogues : List (List ℕ × Catalogue)) (batch_links : List (BatchKey × List BatchKey)) : Type 0 where
@@ -51,11 +51,11 @@ pub record AreLinks (parties : List (List (List ℕ))) (window : ℕ) (entries :
       → Carries window (link_items parties entries from to) (link_at links from to)
 
 -- all that the hub keeps follows from the record
-pub record IsKept (parties : List (List (List ℕ))) (window : ℕ) (entries : List Entry) (counts : List ℕ)
+pub record IsKept (parties : List (List (List ℕ))) (window : ℕ) (entries : List Entry) (routed_counts : List ℕ)
     (open_links : List (List Bool)) (links : List (List Sending)) : Type 0 where
   pub some : 1 ≤ length parties
   pub few : length parties ≤ PARTIES_LIMIT
   pub is_window : IsWindow window
-  pub are_counts : AreCounts (length parties) entries counts
+  pub are_routed_counts : AreRoutedCounts (length parties) entries routed_counts
   pub are_open : AreOpen (length parties) entries open_links
   pub are_links : AreLinks parties window entries links

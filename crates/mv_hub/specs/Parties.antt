@@ -16,7 +16,7 @@ has_market markets market = list_any (λ m. is_same_market m market) markets
 
 -- who serves the first markets serves one of the others
 abbrev pub serves_one : List (List ℕ) → List (List ℕ) → Bool
-serves_one served wanted = list_any (has_market wanted) served
+serves_one served markets = list_any (has_market markets) served
 
 -- the markets that a party serves: party i the i-th list, from 0
 abbrev pub served_by : List (List (List ℕ)) → ℕ → List (List ℕ)
@@ -24,7 +24,7 @@ served_by parties party = slice_index_or parties party []
 
 -- the parties that serve one of these markets, ascending
 abbrev pub serving : List (List (List ℕ)) → List (List ℕ) → List ℕ
-serving parties wanted = filter (λ party. serves_one (served_by parties party) wanted) (range_with_len 0 (length parties))
+serving parties markets = filter (λ party. serves_one (served_by parties party) markets) (range_with_len 0 (length parties))
 
 -- a market stands twice in the list
 abbrev pub has_twice : List (List ℕ) → Bool

@@ -8,7 +8,7 @@ ghost use Rattle.std.specs.List.Sorted.{IsStrictlyIncreasing};
 ghost use Rattle.mv_link.specs.declared.item.Item.{Item as AnItem};
 ghost use Rattle.mv_link.specs.Sending.{HasRoom};
 ghost use Rattle.mv_pairs.specs.Pairs.{IsSquare};
-ghost use Rattle.mv_hub.specs.Gains.{Gains as Gained, GainsRow, gain_of, gain_count};
+ghost use Rattle.mv_hub.specs.Gains.{PushesItems, PushesRow, gain_of, gain_count};
 ghost use Rattle.mv_hub.specs.Kept.{link_at};
 
 use mv_link::{Item, Outgoing};
@@ -27,7 +27,7 @@ pub(crate) struct Gains {
 /// Pushes an item on a link that has room for it.
 fn put_one(link: &mut Outgoing, item: Item)
     requires { HasRoom link.old 1 }
-    ensures { Gained (item ∷ []) link.old link.new }
+    ensures { PushesItems (item ∷ []) link.old link.new }
 {
     match link.push(item) {
         Ok(()) => {}
@@ -41,7 +41,7 @@ fn put_receipt(links: &mut PairTable<Outgoing>, from: Party, receipt: Option<Ite
     requires square { IsSquare (length links.old) links.old }
     requires from { from < length links.old }
     requires room { HasRoom (link_at links.old from from) (length (option_to_list receipt)) }
-    ensures { GainsRow (length links.old) from
+    ensures { PushesRow (length links.old) from
         (λ to. if to == from then option_to_list receipt else []) links.old links.new }
 {
     if let Some(item) = receipt {
@@ -65,7 +65,7 @@ fn put_carried(
     requires room { (place : ℕ) → place < length reached.now
         → HasRoom (link_at links.old from (slice_index_or reached.now place 0)) 1 }
     ensures { (item : AnItem) → carried.items ≡ replicate (length reached.now) item
-        → GainsRow (length links.old) from
+        → PushesRow (length links.old) from
         (λ to. if list_any (λ other. other == to) reached.now then item ∷ [] else [])
         links.old links.new }
 {
@@ -93,7 +93,7 @@ pub(crate) fn put_gains(
         → HasRoom (link_at links.old from to)
         (gain_count from reached.now (option_to_list gains.receipt) to) }
     ensures { (item : AnItem) → gains.carried.items ≡ replicate (length reached.now) item
-        → GainsRow (length links.old) from
+        → PushesRow (length links.old) from
         (gain_of from reached.now (option_to_list gains.receipt) item) links.old links.new }
 {
     let Gains { receipt, carried } = gains;

@@ -36,7 +36,7 @@ pub struct Hub {
     /// The record of what was routed and closed.
     trail: AuditTrail,
     /// How many messages of each party were routed, party 0 first.
-    counts: Vec<u32>,
+    routed_counts: Vec<u32>,
     /// Whether each link is open.
     open_links: PairTable<bool>,
     /// The sending end of each link.
@@ -57,7 +57,7 @@ impl Model for Hub {
     } };
 
     ghost invariant = { λ a.
-        IsKept a.parties a.window a.trail a.counts.items a.open_links a.links };
+        IsKept a.parties a.window a.trail a.routed_counts.items a.open_links a.links };
 }
 
 impl Hub {
@@ -71,7 +71,7 @@ impl Hub {
         ensures { IfOk result (λ hub. hub ≡ new_hub parties window) }
     {
         let count = parties.len();
-        let counts = vec![in alloc; 0; count as usize]?;
+        let routed_counts = vec![in alloc; 0; count as usize]?;
         let open_links = PairTable::from_fn(
             alloc,
             count,
@@ -92,7 +92,7 @@ impl Hub {
             parties,
             window,
             trail: AuditTrail::new(alloc),
-            counts,
+            routed_counts,
             open_links,
             links,
         })
@@ -121,7 +121,7 @@ impl Hub {
         ensures value { result ≡ routed_count self.now.entries from }
         ensures most { routed_count self.now.entries from ≤ length self.now.entries }
     {
-        self.counts[from as usize]
+        self.routed_counts[from as usize]
     }
 
     /// The sending end of a link, on which there was pushed what the record puts on the link.

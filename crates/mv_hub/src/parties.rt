@@ -104,14 +104,14 @@ impl Parties {
     }
 
     /// Puts the parties that serve one of these markets among others, which ascend.
-    fn add_serving(&self, found: &mut ArrayVec<Party, PARTIES_LIMIT>, wanted: &[Market])
+    fn add_serving(&self, found: &mut ArrayVec<Party, PARTIES_LIMIT>, markets: &[Market])
         requires { (test : ℕ → Bool) × (found.old.items ≡ those test (length self.now)) }
         ensures { (test : ℕ → Bool) → found.old.items ≡ those test (length self.now)
             → found.new.items
-            ≡ those (λ party. test party || serves_one (served_by self.now party) wanted.now)
+            ≡ those (λ party. test party || serves_one (served_by self.now party) markets.now)
             (length self.now) }
     {
-        for market in wanted {
+        for market in markets {
             if let Some(party) = self.party_of(market) {
                 self.add(found, party);
             }
@@ -119,22 +119,22 @@ impl Parties {
     }
 
     /// The parties that serve one of these markets.
-    pub fn serving(&self, wanted: &[Market]) -> Reach
-        ensures { result ≡ serving self.now wanted.now }
+    pub fn serving(&self, markets: &[Market]) -> Reach
+        ensures { result ≡ serving self.now markets.now }
     {
         let mut found: ArrayVec<Party, PARTIES_LIMIT> = ArrayVec::new();
-        self.add_serving(&mut found, wanted);
+        self.add_serving(&mut found, markets);
         Reach::new(found)
     }
 
-    /// The parties that serve one of the first markets or one of the second.
-    pub(crate) fn serving_either(&self, first: &[Market], second: &[Market]) -> Reach
-        ensures { result ≡ those (λ party. serves_one (served_by self.now party) first.now
-            || serves_one (served_by self.now party) second.now) (length self.now) }
+    /// The parties that serve one of these markets or one of the others.
+    pub(crate) fn serving_either(&self, one: &[Market], other: &[Market]) -> Reach
+        ensures { result ≡ those (λ party. serves_one (served_by self.now party) one.now
+            || serves_one (served_by self.now party) other.now) (length self.now) }
     {
         let mut found: ArrayVec<Party, PARTIES_LIMIT> = ArrayVec::new();
-        self.add_serving(&mut found, first);
-        self.add_serving(&mut found, second);
+        self.add_serving(&mut found, one);
+        self.add_serving(&mut found, other);
         Reach::new(found)
     }
 
@@ -184,7 +184,7 @@ fn has_market_twice(lists: &[Vec<Market>]) -> bool
     ensures { result ≡ has_twice (all_markets (map (λ list. list.items) lists.now)) }
 {
     for i in 0..lists.len() {
-        if repeats(&lists[..i], lists[i].as_slice()) {
+        if repeats_market(&lists[..i], lists[i].as_slice()) {
             return true;
         }
     }
@@ -192,12 +192,12 @@ fn has_market_twice(lists: &[Vec<Market>]) -> bool
 }
 
 /// Whether a market of a list stands before it, in that list or in the lists before, where none stands twice.
-fn repeats(before: &[Vec<Market>], list: &[Market]) -> bool
+fn repeats_market(before: &[Vec<Market>], list: &[Market]) -> bool
     requires { has_twice (all_markets (map (λ list. list.items) before.now)) ≡ false }
     ensures { result ≡ has_twice (all_markets (map (λ list. list.items) before.now) ++ list.now) }
 {
     for i in 0..list.len() {
-        if stands(before, &list[..i], list[i]) {
+        if is_listed(before, &list[..i], list[i]) {
             return true;
         }
     }
@@ -205,7 +205,7 @@ fn repeats(before: &[Vec<Market>], list: &[Market]) -> bool
 }
 
 /// Whether a market stands in one of the lists or in the last one.
-fn stands(lists: &[Vec<Market>], last: &[Market], market: Market) -> bool
+fn is_listed(lists: &[Vec<Market>], last: &[Market], market: Market) -> bool
     ensures { result
         ≡ has_market (all_markets (map (λ list. list.items) lists.now) ++ last.now) market }
 {

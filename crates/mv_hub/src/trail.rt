@@ -104,7 +104,7 @@ impl AuditTrail {
         ensures err { OnErr result (self.new ≡ self.old) }
     {
         self.entries.reserve(1)?;
-        note(&mut self.catalogues, &mut self.batch_links, &entry)?;
+        add_to_tables(&mut self.catalogues, &mut self.batch_links, &entry)?;
         // Nothing fails from here on.
         self.entries.push_reserved(entry);
         Ok(())
@@ -112,7 +112,7 @@ impl AuditTrail {
 }
 
 /// Puts into the tables what an entry says. Where memory is refused neither has changed.
-fn note(
+fn add_to_tables(
     catalogues: &mut Catalogues,
     batch_links: &mut BatchLinks,
     entry: &Entry,

@@ -41,7 +41,7 @@ impl Hub {
     /// How the next message of a party is routed.
     fn routing<'a>(&self, from: Party, message: &'a Shared<Message>) -> Routing<'a>
         requires from { from < length self.now.parties }
-        requires few { length self.now.entries < NUMBER_LIMIT }
+        requires short_record { length self.now.entries < NUMBER_LIMIT }
         ensures from { result.from ≡ from }
         ensures message { result.message.now ≡ message.now }
         ensures routing { IsRouting self.now result }
@@ -159,7 +159,7 @@ impl Hub {
     /// Puts the message into the record and the tables, and the gains of its routing on the links.
     fn put_routed(&mut self, routing: &Routing<'_>, gains: Gains) -> Result<(), AllocError>
         requires routing { IsRouting self.old routing.now }
-        requires few { length self.old.entries < NUMBER_LIMIT }
+        requires short_record { length self.old.entries < NUMBER_LIMIT }
         requires room { busy_party self.old routing.now.from routing.now.message.now ≡ None }
         requires receipt { option_to_list gains.receipt ≡ receipt_of self.old routing.now }
         requires carried { gains.carried.items
@@ -173,7 +173,7 @@ impl Hub {
         self.trail.push(Entry::Routed { from, k, message })?;
         // Nothing fails from here on.
         put_gains(&mut self.links, from, routing.reached.as_slice(), gains);
-        self.counts[from as usize] = k;
+        self.routed_counts[from as usize] = k;
         Ok(())
     }
 

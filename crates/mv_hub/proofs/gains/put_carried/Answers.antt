@@ -7,7 +7,7 @@ use Rattle.mv_link.specs.Sending.{HasRoom, new_sending}
 use Rattle.mv_pairs.specs.Pairs.{put}
 use Rattle.mv_pairs.proofs.PairsLemmas.{square-put, cell-put_other}
 use Rattle.mv_hub.specs.Kept.{link_at}
-use Rattle.mv_hub.specs.Gains.{Gains, GainsRow}
+use Rattle.mv_hub.specs.Gains.{PushesItems, PushesRow}
 use Rattle.mv_hub.proofs.LinksLemmas.{last-of_front, row-none, row-same, row-one, row-then, carried_to, carried-more}
 use Rattle.mv_hub.proofs.gains.put_carried.Goals as goal
 
@@ -53,9 +53,9 @@ loop-item-preserved c =
           let same : c.in-Some.item ≡ item =
           sym last.0 ∙ ap (λ l. get_or l (length left) c.in-Some.item) e
           ∙ get_or-replicate (length reached) (length left) item c.in-Some.item (omega (arith, k, below)) in
-          let gains : Gains (item ∷ []) (link_at now from to) new =
-          subst (λ v. Gains (item ∷ []) v new) (sym (c.at_mut.ensures.value (new_sending 0)))
-          (subst (λ x. Gains (x ∷ []) c.at_mut.result.now new) same c.put_one.ensures) in
+          let gains : PushesItems (item ∷ []) (link_at now from to) new =
+          subst (λ v. PushesItems (item ∷ []) v new) (sym (c.at_mut.ensures.value (new_sending 0)))
+          (subst (λ x. PushesItems (x ∷ []) c.at_mut.result.now new) same c.put_one.ensures) in
           row-same (length links) from (λ other. carried_to (drop (length c.loop-item.carried.items) reached) item other ++ cond (other == to) (item ∷ []) [])
           (carried_to (drop (length left) reached) item) links (put now from to new)
           (λ other lt. ap (λ n. carried_to (drop n reached) item other ++ cond (other == to) (item ∷ []) []) more
@@ -77,5 +77,5 @@ loop-item-preserved c =
 pub returns : goal.returns
 returns c = λ item e.
     let none : length c.loop-item.carried.items ≡ 0 = omega (arith, c.in_default.ensures.cases) in
-    subst (λ n. GainsRow (length c.args.links.now) c.args.from (carried_to (drop n c.args.reached.now) item) c.args.links.now c.loop-item.links) none
+    subst (λ n. PushesRow (length c.args.links.now) c.args.from (carried_to (drop n c.args.reached.now) item) c.args.links.now c.loop-item.links) none
     (c.loop-item.invariant.row item e)

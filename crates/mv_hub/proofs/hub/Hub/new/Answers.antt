@@ -9,9 +9,9 @@ pub invariant_of-result : goal.invariant_of-result
 invariant_of-result c =
     let parties = c.args.parties in
     let count = c.len-count.ensures.value in
-    let counts : c.in_ok-counts.counts.items ≡ replicate (length parties) 0 = c.in_ok-counts.ensures.items_if_clones_equal (λ y e. e) ∙ ap (λ n. replicate n 0) count in
-    subst (λ l. IsKept parties c.args.window l c.in_ok-counts.counts.items c.in_ok-open_links.open_links c.in_ok-links.links) (sym c.new.ensures)
-    (subst (λ l. IsKept parties c.args.window [] l c.in_ok-open_links.open_links c.in_ok-links.links) (sym counts)
+    let routed_counts : c.in_ok-routed_counts.routed_counts.items ≡ replicate (length parties) 0 = c.in_ok-routed_counts.ensures.items_if_clones_equal (λ y e. e) ∙ ap (λ n. replicate n 0) count in
+    subst (λ l. IsKept parties c.args.window l c.in_ok-routed_counts.routed_counts.items c.in_ok-open_links.open_links c.in_ok-links.links) (sym c.new.ensures)
+    (subst (λ l. IsKept parties c.args.window [] l c.in_ok-open_links.open_links c.in_ok-links.links) (sym routed_counts)
     (kept-new parties c.args.window c.in_ok-open_links.open_links c.in_ok-links.links c.len-count.ensures.some c.len-count.ensures.few c.requires
     (subst (λ n. IsSquare n c.in_ok-open_links.open_links) count c.in_ok-open_links.ensures.square) c.in_ok-open_links.ensures.each
     (subst (λ n. IsSquare n c.in_ok-links.links) count c.in_ok-links.ensures.square) c.in_ok-links.ensures.each))

@@ -6,7 +6,7 @@ use Rattle.mv_hub.specs.Record.{routed_count}
 use Rattle.mv_hub.specs.Targets.{reach, is_reached}
 use Rattle.mv_hub.specs.Hub.{HubState, next_items, busy_party}
 use Rattle.mv_hub.specs.Kept.{IsKept, link_at}
-use Rattle.mv_hub.specs.Gains.{IsRouting, receipt_of, carried_by, GainsRow, gain_of, gain_count}
+use Rattle.mv_hub.specs.Gains.{IsRouting, receipt_of, carried_by, PushesRow, gain_of, gain_count}
 use Rattle.mv_hub.proofs.NumberLemmas.{those-below}
 use Rattle.mv_hub.proofs.LinksLemmas.{row-same}
 use Rattle.mv_hub.proofs.HubLemmas.{view, rooms, next-gain, length-gain, kept-routed}
@@ -56,14 +56,14 @@ invariant_of-self-2 c =
     let entries : c.push.new.self ≡ a.trail ++ Routed from (routed_count a.trail from + 1) message ∷ [] =
     c.in_ok-push.ensures.ok ∙ ap (λ k. a.trail ++ Routed from k c.in_ok-message.message ∷ []) known.number
     ∙ ap (λ m. a.trail ++ Routed from (routed_count a.trail from + 1) m ∷ []) c.in_ok-message.ensures in
-    let gains : GainsRow (length a.parties) from gain a.links new =
-    subst (λ n. GainsRow n from gain a.links new) c.self.invariant.are_links.square.rows
-    (subst (λ l. GainsRow (length a.links) from (gain_of from l receipt (carried_by routing)) a.links new) c.as_slice.ensures.value
+    let gains : PushesRow (length a.parties) from gain a.links new =
+    subst (λ n. PushesRow n from gain a.links new) c.self.invariant.are_links.square.rows
+    (subst (λ l. PushesRow (length a.links) from (gain_of from l receipt (carried_by routing)) a.links new) c.as_slice.ensures.value
     (c.put_gains.ensures (carried_by routing) (c.requires.carried ∙ ap (λ l. replicate (length l) (carried_by routing)) (sym c.as_slice.ensures.value)))) in
-    let row : GainsRow (length a.parties) from (next_items hub from message) a.links new =
+    let row : PushesRow (length a.parties) from (next_items hub from message) a.links new =
     row-same (length a.parties) from gain (next_items hub from message) a.links new
     (λ to lt. next-gain hub routing receipt to known lt (subst (λ (h : HubState). receipt ≡ receipt_of h routing) back c.requires.receipt)) gains in
-    subst (λ l. IsKept a.parties a.window l (set a.counts.items from routing.k) a.open_links new) (sym entries)
-    (subst (λ k. IsKept a.parties a.window (a.trail ++ Routed from (routed_count a.trail from + 1) message ∷ []) (set a.counts.items from k) a.open_links new) (sym known.number)
-    (kept-routed a.parties a.window a.trail a.counts.items a.open_links a.links new from message c.self.invariant known.party
+    subst (λ l. IsKept a.parties a.window l (set a.routed_counts.items from routing.k) a.open_links new) (sym entries)
+    (subst (λ k. IsKept a.parties a.window (a.trail ++ Routed from (routed_count a.trail from + 1) message ∷ []) (set a.routed_counts.items from k) a.open_links new) (sym known.number)
+    (kept-routed a.parties a.window a.trail a.routed_counts.items a.open_links a.links new from message c.self.invariant known.party
     (subst (λ (h : HubState). busy_party h from message ≡ None) back c.requires.room) row))

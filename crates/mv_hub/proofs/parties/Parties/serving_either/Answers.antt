@@ -8,17 +8,17 @@ add_serving-requires c = ((λ (party : ℕ). false), c.new-found.ensures ∙ tho
 
 pub add_serving-requires-2 : goal.add_serving-requires-2
 add_serving-requires-2 c = (
-  (λ (party : ℕ). serves_one (served_by c.args.self.now party) c.args.first.now),
+  (λ (party : ℕ). serves_one (served_by c.args.self.now party) c.args.one.now),
   c.add_serving.ensures (λ (party : ℕ). false) (c.new-found.ensures ∙ those-none (length c.args.self.now)),
 )
 
 pub new-requires : goal.new-requires
 new-requires c =
-    let first : ℕ → Bool = λ (party : ℕ). serves_one (served_by c.args.self.now party) c.args.first.now in
-    increasing-those c.add_serving-2.new.found.items (λ party. first party || serves_one (served_by c.args.self.now party) c.args.second.now) (length c.args.self.now)
-    (c.add_serving-2.ensures first (c.add_serving.ensures (λ (party : ℕ). false) (c.new-found.ensures ∙ those-none (length c.args.self.now))))
+    let one : ℕ → Bool = λ (party : ℕ). serves_one (served_by c.args.self.now party) c.args.one.now in
+    increasing-those c.add_serving-2.new.found.items (λ party. one party || serves_one (served_by c.args.self.now party) c.args.other.now) (length c.args.self.now)
+    (c.add_serving-2.ensures one (c.add_serving.ensures (λ (party : ℕ). false) (c.new-found.ensures ∙ those-none (length c.args.self.now))))
 
 pub returns : goal.returns
 returns c =
-    let first : ℕ → Bool = λ (party : ℕ). serves_one (served_by c.args.self.now party) c.args.first.now in
-    c.new.ensures ∙ c.add_serving-2.ensures first (c.add_serving.ensures (λ (party : ℕ). false) (c.new-found.ensures ∙ those-none (length c.args.self.now)))
+    let one : ℕ → Bool = λ (party : ℕ). serves_one (served_by c.args.self.now party) c.args.one.now in
+    c.new.ensures ∙ c.add_serving-2.ensures one (c.add_serving.ensures (λ (party : ℕ). false) (c.new-found.ensures ∙ those-none (length c.args.self.now)))

@@ -4,7 +4,7 @@ use Rattle.mv_message.specs.declared.message.Message.TheVariants.{Master, Upload
 use Rattle.mv_hub.specs.Record.{product_of}
 use Rattle.mv_hub.specs.Kept.{AreTables}
 use Rattle.mv_hub.proofs.TrailLemmas.{tables-quiet, tables-other, tables-product, tables-batch, tables-link}
-use Rattle.mv_hub.proofs.trail.note.Goals as goal
+use Rattle.mv_hub.proofs.trail.add_to_tables.Goals as goal
 
 pub returns-in_default-clause-ok : goal.returns-in_default-clause-ok
 returns-in_default-clause-ok c = λ entries tables.

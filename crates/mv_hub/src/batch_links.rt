@@ -95,10 +95,7 @@ impl BatchLinks {
         ensures err { OnErr result (self.new ≡ self.old) }
     {
         if let Some(batches) = self.table.get_mut(before) {
-            let Ok(()) = batches.add(after) else {
-                return Err(AllocError);
-            };
-            return Ok(());
+            return batches.add(after);
         }
         let batches = BatchesAfter::of(self.alloc, after)?;
         self.table.insert(before.copy(), batches)?;

@@ -154,10 +154,7 @@ impl Catalogues {
         ensures err { OnErr result (self.new ≡ self.old) }
     {
         if let Some(listed) = self.table.get_mut(&gtin) {
-            let Ok(()) = listed.add(batch, expiry) else {
-                return Err(AllocError);
-            };
-            return Ok(());
+            return listed.add(batch, expiry);
         }
         let listed = Listed::of_batch(self.alloc, batch, expiry)?;
         self.table.insert(gtin, listed)?;

@@ -84,8 +84,7 @@ impl AuditTrail {
         ensures members { IfOk result (λ list. (other : ABatch)
             → Contains list.items other ↔ Contains (linked_to self.now batch.now) other) }
     {
-        let list = self.batch_links.linked(batch)?;
-        Ok(list)
+        self.batch_links.linked(batch)
     }
 
     /// The batches that descend from a batch, ascending. Refused for want of memory.
@@ -94,8 +93,7 @@ impl AuditTrail {
         ensures members { IfOk result (λ list. (other : ABatch)
             → Contains list.items other ↔ IsDescendant self.now batch.now other) }
     {
-        let list = self.batch_links.descendants(batch)?;
-        Ok(list)
+        self.batch_links.descendants(batch)
     }
 
     /// Puts an entry at the end of the record. Where memory is refused nothing has changed.

@@ -35,7 +35,7 @@ use Rattle.mv_machine.specs.Steps.{next_item}
 use Rattle.mv_machine.proofs.LawfulLemmas.{IsSound, submitted-sound, applied-sound}
 use Rattle.mv_machine.proofs.BoundLemmas.{routed_count-few, record-few}
 use Rattle.mv_system.specs.Wire.{WireState, new_wire, numbers_of}
-use Rattle.mv_system.specs.World.{Parts, wire_at, site_at, state_of, FitsWire, IsSiteAt, IsSystem, Submits, TakesFront}
+use Rattle.mv_system.specs.World.{Parts, wire_at, site_at, state_of, FitsWire, IsSiteAt, IsSystem, Submits, OffersFront}
 use Rattle.mv_system.proofs.WireLemmas.{length-numbers_of, numbers_of-front}
 
 pub sound_of : (p : Parts) → IsSystem p → IsSound (state_of p)
@@ -337,7 +337,7 @@ pub takes : (p : Parts) (st : State) (from to : ℕ) (wire : WireState) (frame :
     → OnOk result (new ≡ with_taken site from frame.item (look_at (count_from site.log from) frame.number))
     → OnErr result (new ≡ site) → FailsBy Memory (apply_fault full site from frame.item (look_at (count_from site.log from) frame.number)) result
     → (IsErrOf result Memory → look_at (count_from site.log from) frame.number ≡ look.Next)
-    → TakesFront st from to result (state_of (record p { sites = set p.sites to new }))
+    → OffersFront st from to result (state_of (record p { sites = set p.sites to new }))
 takes p st from to wire frame site new full result view link facts front full_is value ok err fails memory = record {
   number = frame.number;
   item = frame.item;

@@ -2,6 +2,7 @@
 use Rattle.std.specs.Prelude.{ℕ, List, [], ◌∷◌}
 use Rattle.mv_link.specs.declared.item.Frame.{Frame}
 
+-- a wire, as calls see it
 pub record WireState : Type 0 where
   pub size : ℕ  -- how many frames are under way at most
   pub frames : List Frame  -- the front first

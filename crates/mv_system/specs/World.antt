@@ -21,8 +21,8 @@ use Rattle.mv_system.specs.Wire.{WireState, new_wire, numbers_of}
 
 -- the parts of the system
 pub record Parts : Type 0 where
-  pub limits : Bounds
-  pub hub : HubState
+  pub limits : Bounds  -- how much is under way at most, and how much each party submits
+  pub hub : HubState  -- the hub
   pub sites : List SiteState  -- the parties, party 0 first
   pub wires : List (List WireState)  -- what is under way on each link, by sender and receiver
 
@@ -87,8 +87,9 @@ pub record Submits (old : State) (party : ℕ) (message : Message) (refused_for 
   pub err : OnErr result (new ≡ old)
   pub fault : FailsBy SiteMemory refused_for result
 
--- A party took the frame in front of a wire, which stays there, or refused it: the frame has this number, and bears this item.
-pub record TakesFront (old : State) (from to : ℕ) (result : Result Taken SiteFault) (new : State) : Type 0 where
+-- The frame in front of a wire, which stays there, was offered to its receiver, which took or refused it: it has this number, and
+-- bears this item.
+pub record OffersFront (old : State) (from to : ℕ) (result : Result Taken SiteFault) (new : State) : Type 0 where
   pub number : ℕ
   pub item : Item
   pub front : slice_get (wire_of old from to) 0 ≡ Some number

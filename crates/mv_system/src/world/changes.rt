@@ -16,7 +16,7 @@ ghost use Rattle.mv_machine.specs.Steps.{route};
 ghost use Rattle.mv_machine.specs.Replies.{route_refusal_of};
 ghost use Rattle.mv_machine.specs.Runs.{Meets};
 ghost use Rattle.mv_machine.specs.declared.reply.Reply.TheVariants.{Routed, Refused};
-ghost use Rattle.mv_system.specs.World.{Submits, TakesFront, hub_of};
+ghost use Rattle.mv_system.specs.World.{Submits, OffersFront, hub_of};
 
 use crate::world::World;
 use mv_hub::{HubFault, RouteFault};
@@ -169,11 +169,11 @@ impl World {
         wire.drop_front();
     }
 
-    /// Gives a party the frame in front of a wire, which stays there.
-    pub(super) fn take_front(&mut self, from: Party, to: Party) -> Result<Taken, SiteFault>
+    /// Offers the frame in front of a wire to its receiver, which takes or refuses it. It stays there.
+    pub(super) fn offer_front(&mut self, from: Party, to: Party) -> Result<Taken, SiteFault>
         requires parties { IsTrue (are_parties self.old from to) }
         requires some { IsSome (slice_get (wire_of self.old from to) 0) }
-        ensures { TakesFront self.old from to result self.new }
+        ensures { OffersFront self.old from to result self.new }
     {
         let uplink_full = self.is_uplink_full(to);
         let Some(frame) = self.wires.at(from, to).front() else {

@@ -115,7 +115,7 @@ impl World {
         let Some(number) = self.front_number(from, to) else {
             return Reply::Refused(Refusal::WireEmpty);
         };
-        match self.take_front(from, to) {
+        match self.offer_front(from, to) {
             Ok(taken) => {
                 self.drop_front(from, to);
                 Reply::of_taken(number, taken)

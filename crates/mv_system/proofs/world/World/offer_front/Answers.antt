@@ -1,4 +1,4 @@
--- The frame bears the item of its number, and the party takes it as the list machine's does.
+-- The frame bears the item of its number, and the party takes or refuses it as the list machine's does.
 use Rattle.std.proofs.Common.{sym, ap, subst, ◌∙◌}
 use Rattle.std.specs.Prelude.{slice_get, option_map, IsSome}
 use Rattle.std.specs.Option.{option_copied}
@@ -8,7 +8,7 @@ use Rattle.mv_system.specs.Wire.{new_wire}
 use Rattle.mv_system.specs.World.{parts_of}
 use Rattle.mv_system.proofs.WireLemmas.{numbers_of-front}
 use Rattle.mv_system.proofs.SystemLemmas.{link_facts, site_facts, taken_kept, next_of, takes}
-use Rattle.mv_system.proofs.world.World.take_front.Goals as goal
+use Rattle.mv_system.proofs.world.World.offer_front.Goals as goal
 
 -- There is a front frame, since it has a number.
 pub unreachable-requires : goal.unreachable-requires

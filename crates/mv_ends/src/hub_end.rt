@@ -17,19 +17,29 @@ use std::alloc::{AllocError, Global};
 /// The hub's end of all rings, with the hub.
 #[derive(Drop)]
 pub struct HubEnd {
+    /// Where the copies that go on rings get their memory.
     alloc: Global,
+    /// How wide windows and rings are, and how many messages of each party are routed at most.
     limits: Limits,
+    /// The hub.
     hub: Hub,
     /// The ends of the uplinks.
     uplinks: Inlets<MessageParcel>,
     /// The ends of the links.
     wires: Wires,
+    /// The window of the hub is that of the limits.
     ghost window: { hub.window ≡ limits.window },
+    /// There is an uplink for each party.
     ghost each: { length (starts_of uplinks) ≡ length hub.parties },
+    /// There is a link for each ordered pair of parties.
     ghost square: { IsFor (length hub.parties) wires },
+    /// What was taken from each uplink is what was routed from its party.
     ghost took: { TookAll hub.entries uplinks },
+    /// What was put on the ring of each link are frames of the link.
     ghost of_links: { AreOfLinks hub wires },
+    /// The record is lawful.
     ghost lawful: { IsLawfulRecord (length hub.parties) hub.entries } by { IsLawfulRecord-prop (length hub.parties) hub.entries },
+    /// No more messages of a party were routed than it may submit.
     ghost within: { AreWithin limits.submissions hub },
 }
 

@@ -11,6 +11,7 @@ use rtrb::{Consumer, Producer};
 /// The ends of rings that are taken from, by the party that puts there.
 #[derive(Drop)]
 pub struct Inlets<T> {
+    /// The ends, that of the ring from party 0 first.
     ends: Vec<Consumer<T>>,
 }
 

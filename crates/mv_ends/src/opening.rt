@@ -21,16 +21,22 @@ use std::alloc::{AllocError, Global};
 /// What is opened for one party: the hub's ends of its rings, and the party's end.
 #[derive(Drop)]
 struct Opened {
+    /// The hub's end of the party's uplink.
     uplink: Consumer<MessageParcel>,
+    /// The hub's ends of the links to the party.
     outlets: Outlets,
+    /// The end of the party's repository.
     repo: RepoEnd,
 }
 
 /// What is opened for some parties, in order of party.
 #[derive(Drop)]
 struct Openings {
+    /// The hub's end of each party's uplink.
     uplinks: Vec<Consumer<MessageParcel>>,
+    /// The hub's ends of the links to each party.
     outlets: Vec<Outlets>,
+    /// The end of each party's repository.
     repos: Vec<RepoEnd>,
 }
 

@@ -18,7 +18,9 @@ use std::marker::Model;
 /// memory is needed to gather them; their rings are given back with it.
 #[derive(Drop)]
 pub struct Outcome {
+    /// The hub's end, as it came back.
     hub: HubEnd,
+    /// The end of each repository, party 0 first, as it came back.
     repos: Vec<RepoEnd>,
 }
 

@@ -11,6 +11,7 @@ use rtrb::Producer;
 /// The hub's ends of the links to one party, by sender.
 #[derive(Drop)]
 pub struct Outlets {
+    /// The ends, that of the ring of party 0 first.
     ends: Vec<Producer<FrameParcel>>,
 }
 

@@ -14,6 +14,7 @@ use std::marker::Model;
 /// A message in memory of its own. Contracts see the message.
 #[derive(Drop)]
 pub struct MessageParcel {
+    /// The message, which nobody else holds.
     message: Shared<Message>,
 }
 
@@ -55,6 +56,7 @@ impl MessageParcel {
 /// A frame in memory of its own. Contracts see the frame.
 #[derive(Drop)]
 pub struct FrameParcel {
+    /// The frame, whose item nobody else holds.
     frame: Frame,
 }
 

@@ -24,14 +24,19 @@ mod looking;
 /// A repository's end of all its rings, with its party.
 #[derive(Drop)]
 pub struct RepoEnd {
+    /// Where what goes on the uplink gets its memory.
     alloc: Global,
+    /// The party: its submissions and its repository.
     site: Site,
     /// The end of the party's uplink.
     uplink: Producer<MessageParcel>,
     /// The ends of the links to the party.
     inlets: Inlets<FrameParcel>,
+    /// What was put on the uplink is what the party submitted.
     ghost pushed: { sent uplink ≡ site.submissions },
+    /// There is a link from each party.
     ghost each: { length (starts_of inlets) ≡ site.parties },
+    /// Of the frames that were taken from each link, just those were accepted that the log has from its sender.
     ghost accepted: { AreAccepted site.log inlets },
 }
 

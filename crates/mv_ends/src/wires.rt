@@ -14,6 +14,7 @@ use mv_message::Party;
 /// The hub's ends of all links, by the party that they go to.
 #[derive(Drop)]
 pub struct Wires {
+    /// The ends of the links to each party, party 0 first.
     outlets: Vec<Outlets>,
 }
 

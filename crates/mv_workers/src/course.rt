@@ -19,8 +19,8 @@ pub(crate) enum Turn {
 
 impl Turn {
     /// By whether something was done, or that memory was refused.
-    pub(crate) fn of(done: Result<bool, AllocError>) -> Turn {
-        match done {
+    pub(crate) fn of(moved: Result<bool, AllocError>) -> Turn {
+        match moved {
             Ok(true) => Turn::Moved,
             Ok(false) => Turn::Rested,
             Err(_) => Turn::Refused,

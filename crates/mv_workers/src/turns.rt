@@ -16,7 +16,7 @@ use std::alloc::AllocError;
 use std::sync::Wait;
 
 /// Whether a call did something, by its reply. Refused where memory was refused to the call.
-fn is_done(reply: &Reply) -> Result<bool, AllocError> {
+fn has_moved(reply: &Reply) -> Result<bool, AllocError> {
     match reply {
         Reply::Refused(Refusal::Memory) => Err(AllocError),
         Reply::Refused(_) => Ok(false),
@@ -42,7 +42,7 @@ fn submit_next(
     let reply = submit_one(end, &list[count]);
     match &reply {
         Reply::Submitted { .. } | Reply::Asked { .. } => (count + 1, Ok(true)),
-        refused => (count, is_done(refused)),
+        refused => (count, has_moved(refused)),
     }
 }
 
@@ -64,12 +64,12 @@ fn apply_each<G: Gate>(end: &mut RepoEnd, parties: u32, gate: &G) -> Result<bool
     ensures own { own_of end.new ≡ own_of end.old }
 {
     let party = end.party();
-    let mut done = false;
+    let mut moved = false;
     for from in 0..parties {
         gate.pass(party);
-        done |= is_done(&end.apply(from))?;
+        moved |= has_moved(&end.apply(from))?;
     }
-    Ok(done)
+    Ok(moved)
 }
 
 /// A turn of a repository's worker: it tries its next message once, and then looks once for a frame from each party.
@@ -117,9 +117,9 @@ pub(crate) fn repo_turns<R: Wait, G: Gate>(
     let mut pause = Pause::new();
     for _turn in 0..course.turns {
         let moves = course.standstill.moves();
-        let (after, done) = repo_turn(&mut end, list, count, course.parties, gate);
+        let (after, moved) = repo_turn(&mut end, list, count, course.parties, gate);
         count = after;
-        let turn = Turn::of(done);
+        let turn = Turn::of(moved);
         if !course.goes_on(rt, worker, moves, turn, &mut pause) {
             return (end, turn.is_refused());
         }
@@ -133,11 +133,11 @@ pub(crate) fn repo_turns<R: Wait, G: Gate>(
 fn route_each(hub: &mut HubEnd, parties: u32) -> Result<bool, AllocError>
     ensures { SameHubEnd hub.old hub.new }
 {
-    let mut done = false;
+    let mut moved = false;
     for from in 0..parties {
-        done |= is_done(&hub.route(from))?;
+        moved |= has_moved(&hub.route(from))?;
     }
-    Ok(done)
+    Ok(moved)
 }
 
 /// Relays once on each link from a party.
@@ -145,11 +145,11 @@ fn route_each(hub: &mut HubEnd, parties: u32) -> Result<bool, AllocError>
 fn relay_from(hub: &mut HubEnd, from: Party, parties: u32) -> Result<bool, AllocError>
     ensures { SameHubEnd hub.old hub.new }
 {
-    let mut done = false;
+    let mut moved = false;
     for to in 0..parties {
-        done |= is_done(&hub.relay(from, to))?;
+        moved |= has_moved(&hub.relay(from, to))?;
     }
-    Ok(done)
+    Ok(moved)
 }
 
 /// A turn of the hub's worker: it routes once from each party, and then relays once on each link.
@@ -157,11 +157,11 @@ fn relay_from(hub: &mut HubEnd, from: Party, parties: u32) -> Result<bool, Alloc
 fn hub_turn(hub: &mut HubEnd, parties: u32) -> Result<bool, AllocError>
     ensures { SameHubEnd hub.old hub.new }
 {
-    let mut done = route_each(hub, parties)?;
+    let mut moved = route_each(hub, parties)?;
     for from in 0..parties {
-        done |= relay_from(hub, from, parties)?;
+        moved |= relay_from(hub, from, parties)?;
     }
-    Ok(done)
+    Ok(moved)
 }
 
 /// The turns of the hub's worker. The flag says whether it ended for want of memory.

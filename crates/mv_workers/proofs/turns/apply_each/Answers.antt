@@ -3,8 +3,8 @@ use Rattle.mv_ends.proofs.LookLemmas.{repo_further}
 use Rattle.mv_workers.proofs.TurnLemmas.{own_applied}
 use Rattle.mv_workers.proofs.turns.apply_each.Goals as goal
 
-pub returns-in_err-done-clause-own : goal.returns-in_err-done-clause-own
-returns-in_err-done-clause-own g c =
+pub returns-in_err-moved-clause-own : goal.returns-in_err-moved-clause-own
+returns-in_err-moved-clause-own g c =
     own_applied c.loop-from.from c.loop-from.end c.apply.new.self c.apply.result c.apply.ensures.reply ∙ c.loop-from.invariant.1
 
 pub loop-from-preserved : goal.loop-from-preserved

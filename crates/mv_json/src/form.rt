@@ -105,10 +105,7 @@ pub(crate) fn form_at(value: &Value, version: Version) -> Result<Form, MessageFa
     // It takes no memory.
     ensures no_memory { IfErr result (λ fault. fault ≢ MessageFault.Memory) }
 {
-    match form_named(version, text_at(value, Field::Msg)?) {
-        Some(form) => Ok(form),
-        None => Err(MessageFault::Kind(Field::Msg)),
-    }
+    form_named(version, text_at(value, Field::Msg)?).ok_or(MessageFault::Kind(Field::Msg))
 }
 
 /// The form, where its messages have all keys of the object; else M4 with the first other one.

@@ -31,10 +31,7 @@ fn found_of(value: &Value, version: Version) -> Result<Found, MessageFault>
     if value.is_null() {
         return Ok(Found::Absent);
     }
-    match present_of(value, version) {
-        Ok(found) => Ok(found),
-        Err(_fault) => Err(MessageFault::Kind(Field::Found)),
-    }
+    present_of(value, version).map_err(|_| MessageFault::Kind(Field::Found))
 }
 
 /// The pack that an object is, which has no other key than its fields.
@@ -42,9 +39,7 @@ fn found_of(value: &Value, version: Version) -> Result<Found, MessageFault>
 fn present_of(value: &Value, version: Version) -> Result<Found, MessageFault>
     ensures { result ≡ present_of version (view value.now) }
 {
-    let Some(members) = value.as_object() else {
-        return Err(MessageFault::NotObject);
-    };
+    let members = value.as_object().ok_or(MessageFault::NotObject)?;
     if first_unknown(members, present_names(version)).is_some() {
         return Err(MessageFault::Kind(Field::Found));
     }

@@ -31,10 +31,10 @@ fn texts_at(value: &Value, field: Field, most: usize) -> Result<&[Value], Messag
     // It takes no memory.
     ensures no_memory { IfErr result (λ fault. fault ≢ MessageFault.Memory) }
 {
-    let Some(list) = member_at(value, field)?.as_array() else {
-        return Err(MessageFault::Kind(field));
-    };
-    let list = list.as_slice();
+    let list = member_at(value, field)?
+        .as_array()
+        .ok_or(MessageFault::Kind(field))?
+        .as_slice();
     if !are_texts(list) {
         return Err(MessageFault::Kind(field));
     }
@@ -85,13 +85,8 @@ fn markets_in(alloc: Global, list: &[Value], field: Field) -> Result<Vec<Market>
 fn market_in(value: &Value, field: Field) -> Result<Market, MessageFault>
     ensures { result ≡ read_item read_market field (view value.now) }
 {
-    let Some(text) = value.as_str() else {
-        return Err(MessageFault::Kind(field));
-    };
-    match Market::read(text) {
-        Ok(market) => Ok(market),
-        Err(fault) => Err(MessageFault::Pack(field, fault)),
-    }
+    let text = value.as_str().ok_or(MessageFault::Kind(field))?;
+    Market::read(text).map_err(|fault| MessageFault::Pack(field, fault))
 }
 
 /// The serial numbers of a field, 1 to 100: M3, M5, M7, M6.
@@ -128,11 +123,6 @@ fn serials_in(alloc: Global, list: &[Value], field: Field) -> Result<Vec<Serial>
 fn serial_in(value: &Value, field: Field) -> Result<Serial, MessageFault>
     ensures { result ≡ read_item read_code field (view value.now) }
 {
-    let Some(text) = value.as_str() else {
-        return Err(MessageFault::Kind(field));
-    };
-    match Serial::read(text) {
-        Ok(serial) => Ok(serial),
-        Err(fault) => Err(MessageFault::Pack(field, fault)),
-    }
+    let text = value.as_str().ok_or(MessageFault::Kind(field))?;
+    Serial::read(text).map_err(|fault| MessageFault::Pack(field, fault))
 }

@@ -22,16 +22,14 @@ use std::alloc::Global;
 pub fn read(alloc: Global, bytes: &[u8]) -> Result<Message, MessageFault>
     ensures { Gives result (read_bytes bytes.now) }
 {
-    match Value::from_slice(alloc, bytes) {
-        Ok(value) => from_value(alloc, &value),
-        Err(error) => {
-            if error.is_memory() {
-                Err(MessageFault::Memory)
-            } else {
-                Err(MessageFault::NotJson)
-            }
+    let value = Value::from_slice(alloc, bytes).map_err(|error| {
+        if error.is_memory() {
+            MessageFault::Memory
+        } else {
+            MessageFault::NotJson
         }
-    }
+    })?;
+    from_value(alloc, &value)
 }
 
 /// Reads a message from a JSON value.
@@ -46,9 +44,7 @@ pub fn from_value(alloc: Global, value: &Value) -> Result<Message, MessageFault>
     ensures memory { IfErr result (λ fault. fault ≡ MessageFault.Memory
         → MayTakeMemory (view value.now)) }
 {
-    let Some(members) = value.as_object() else {
-        return Err(MessageFault::NotObject);
-    };
+    let members = value.as_object().ok_or(MessageFault::NotObject)?;
     let version = version_at(value)?;
     let form = known_form_at(alloc, members, version, form_at(value, version)?)?;
     message_at(alloc, value, version, form)

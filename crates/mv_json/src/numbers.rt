@@ -14,10 +14,9 @@ use serde_json::Value;
 pub(crate) fn truth_at(value: &Value, field: Field) -> Result<bool, MessageFault>
     ensures { result ≡ truth_at field (view value.now) }
 {
-    match member_at(value, field)?.as_bool() {
-        Some(truth) => Ok(truth),
-        None => Err(MessageFault::Kind(field)),
-    }
+    member_at(value, field)?
+        .as_bool()
+        .ok_or(MessageFault::Kind(field))
 }
 
 /// The whole number of a field: M3, M5.
@@ -27,10 +26,9 @@ fn whole_at(value: &Value, field: Field) -> Result<u64, MessageFault>
     // It takes no memory.
     ensures no_memory { IfErr result (λ fault. fault ≢ MessageFault.Memory) }
 {
-    match member_at(value, field)?.as_u64() {
-        Some(number) => Ok(number),
-        None => Err(MessageFault::Kind(field)),
-    }
+    member_at(value, field)?
+        .as_u64()
+        .ok_or(MessageFault::Kind(field))
 }
 
 /// The moment of a field: M3, M5, M6.
@@ -40,10 +38,7 @@ pub(crate) fn moment_at(value: &Value, field: Field) -> Result<Moment, MessageFa
     // It takes no memory.
     ensures no_memory { IfErr result (λ fault. fault ≢ MessageFault.Memory) }
 {
-    match Moment::of(whole_at(value, field)?) {
-        Ok(moment) => Ok(moment),
-        Err(fault) => Err(MessageFault::Pack(field, fault)),
-    }
+    Moment::of(whole_at(value, field)?).map_err(|fault| MessageFault::Pack(field, fault))
 }
 
 /// The whole number of a field, up to 4,294,967,295: M3, M5.
@@ -53,11 +48,7 @@ pub(crate) fn number_at(value: &Value, field: Field) -> Result<u32, MessageFault
     // It takes no memory.
     ensures no_memory { IfErr result (λ fault. fault ≢ MessageFault.Memory) }
 {
-    let number = whole_at(value, field)?;
-    if number > u64::from(u32::MAX) {
-        return Err(MessageFault::Kind(field));
-    }
-    Ok(number as u32)
+    u32::try_from(whole_at(value, field)?).map_err(|_| MessageFault::Kind(field))
 }
 
 /// The whole number of a field, from 1 to 4,294,967,295: M3, M5.

@@ -22,10 +22,9 @@ pub(crate) fn member_at(value: &Value, field: Field) -> Result<&Value, MessageFa
     // It takes no memory.
     ensures no_memory { IfErr result (λ fault. fault ≢ MessageFault.Memory) }
 {
-    match value.get(field.as_str()) {
-        Some(member) => Ok(member),
-        None => Err(MessageFault::Missing(field)),
-    }
+    value
+        .get(field.as_str())
+        .ok_or(MessageFault::Missing(field))
 }
 
 /// The text of a field: M3, M5.
@@ -36,10 +35,9 @@ pub(crate) fn text_at(value: &Value, field: Field) -> Result<&str, MessageFault>
     // It takes no memory.
     ensures no_memory { IfErr result (λ fault. fault ≢ MessageFault.Memory) }
 {
-    match member_at(value, field)?.as_str() {
-        Some(text) => Ok(text),
-        None => Err(MessageFault::Kind(field)),
-    }
+    member_at(value, field)?
+        .as_str()
+        .ok_or(MessageFault::Kind(field))
 }
 
 /// The product code of a field: M3, M5, M6.
@@ -49,10 +47,7 @@ pub(crate) fn gtin_at(value: &Value, field: Field) -> Result<Gtin, MessageFault>
     // It takes no memory.
     ensures no_memory { IfErr result (λ fault. fault ≢ MessageFault.Memory) }
 {
-    match Gtin::read(text_at(value, field)?) {
-        Ok(gtin) => Ok(gtin),
-        Err(fault) => Err(MessageFault::Pack(field, fault)),
-    }
+    Gtin::read(text_at(value, field)?).map_err(|fault| MessageFault::Pack(field, fault))
 }
 
 /// The serial number of a field: M3, M5, M6.
@@ -62,10 +57,7 @@ pub(crate) fn serial_at(value: &Value, field: Field) -> Result<Serial, MessageFa
     // It takes no memory.
     ensures no_memory { IfErr result (λ fault. fault ≢ MessageFault.Memory) }
 {
-    match Serial::read(text_at(value, field)?) {
-        Ok(serial) => Ok(serial),
-        Err(fault) => Err(MessageFault::Pack(field, fault)),
-    }
+    Serial::read(text_at(value, field)?).map_err(|fault| MessageFault::Pack(field, fault))
 }
 
 /// The batch number of a field: M3, M5, M6.
@@ -75,10 +67,7 @@ pub(crate) fn batch_at(value: &Value, field: Field) -> Result<Batch, MessageFaul
     // It takes no memory.
     ensures no_memory { IfErr result (λ fault. fault ≢ MessageFault.Memory) }
 {
-    match Batch::read(text_at(value, field)?) {
-        Ok(batch) => Ok(batch),
-        Err(fault) => Err(MessageFault::Pack(field, fault)),
-    }
+    Batch::read(text_at(value, field)?).map_err(|fault| MessageFault::Pack(field, fault))
 }
 
 /// The expiry date of a field: M3, M5, M6.
@@ -88,10 +77,7 @@ pub(crate) fn expiry_at(value: &Value, field: Field) -> Result<Expiry, MessageFa
     // It takes no memory.
     ensures no_memory { IfErr result (λ fault. fault ≢ MessageFault.Memory) }
 {
-    match Expiry::read(text_at(value, field)?) {
-        Ok(expiry) => Ok(expiry),
-        Err(fault) => Err(MessageFault::Pack(field, fault)),
-    }
+    Expiry::read(text_at(value, field)?).map_err(|fault| MessageFault::Pack(field, fault))
 }
 
 /// The national number of a field, or none where there is `null`: M3, M5, M6.
@@ -113,13 +99,9 @@ fn national_of(found: &Value, field: Field) -> Result<Option<National>, MessageF
     if found.is_null() {
         return Ok(None);
     }
-    let Some(text) = found.as_str() else {
-        return Err(MessageFault::Kind(field));
-    };
-    match National::read(text) {
-        Ok(number) => Ok(Some(number)),
-        Err(fault) => Err(MessageFault::Pack(field, fault)),
-    }
+    let text = found.as_str().ok_or(MessageFault::Kind(field))?;
+    let number = National::read(text).map_err(|fault| MessageFault::Pack(field, fault))?;
+    Ok(Some(number))
 }
 
 /// The standing of a field: M3, M5.
@@ -129,10 +111,7 @@ pub(crate) fn standing_at(value: &Value, field: Field) -> Result<Standing, Messa
     // It takes no memory.
     ensures no_memory { IfErr result (λ fault. fault ≢ MessageFault.Memory) }
 {
-    match standing_named(text_at(value, field)?) {
-        Some(standing) => Ok(standing),
-        None => Err(MessageFault::Kind(field)),
-    }
+    standing_named(text_at(value, field)?).ok_or(MessageFault::Kind(field))
 }
 
 /// The standing of that name.

@@ -17,10 +17,7 @@ pub(crate) fn member_of(value: &Value, field: LineField) -> Result<&Value, LineF
         (λ member. member_at field (view value.now) ≡ Ok (view member.now))
         (λ fault. member_at field (view value.now) ≡ Err fault) }
 {
-    match value.get(field.as_str()) {
-        Some(member) => Ok(member),
-        None => Err(LineFault::Missing(field)),
-    }
+    value.get(field.as_str()).ok_or(LineFault::Missing(field))
 }
 
 /// The text of a field: M3, M5.
@@ -29,10 +26,9 @@ pub(crate) fn text_of(value: &Value, field: LineField) -> Result<&str, LineFault
         (λ text. text_at field (view value.now) ≡ Ok text.now)
         (λ fault. text_at field (view value.now) ≡ Err fault) }
 {
-    match member_of(value, field)?.as_str() {
-        Some(text) => Ok(text),
-        None => Err(LineFault::Kind(field)),
-    }
+    member_of(value, field)?
+        .as_str()
+        .ok_or(LineFault::Kind(field))
 }
 
 /// The product code of a field: M3, M5, M6.
@@ -40,10 +36,7 @@ pub(crate) fn text_of(value: &Value, field: LineField) -> Result<&str, LineFault
 pub(crate) fn gtin_of(value: &Value, field: LineField) -> Result<Gtin, LineFault>
     ensures { result ≡ gtin_at field (view value.now) }
 {
-    match Gtin::read(text_of(value, field)?) {
-        Ok(gtin) => Ok(gtin),
-        Err(fault) => Err(LineFault::Pack(field, fault)),
-    }
+    Gtin::read(text_of(value, field)?).map_err(|fault| LineFault::Pack(field, fault))
 }
 
 /// The serial number of a field: M3, M5, M6.
@@ -51,10 +44,7 @@ pub(crate) fn gtin_of(value: &Value, field: LineField) -> Result<Gtin, LineFault
 pub(crate) fn serial_of(value: &Value, field: LineField) -> Result<Serial, LineFault>
     ensures { result ≡ serial_at field (view value.now) }
 {
-    match Serial::read(text_of(value, field)?) {
-        Ok(serial) => Ok(serial),
-        Err(fault) => Err(LineFault::Pack(field, fault)),
-    }
+    Serial::read(text_of(value, field)?).map_err(|fault| LineFault::Pack(field, fault))
 }
 
 /// The whole number of a field, up to 4,294,967,295: M3, M5.
@@ -62,21 +52,14 @@ pub(crate) fn serial_of(value: &Value, field: LineField) -> Result<Serial, LineF
 pub(crate) fn number_of(value: &Value, field: LineField) -> Result<u32, LineFault>
     ensures { result ≡ number_at field (view value.now) }
 {
-    match whole_number(member_of(value, field)?) {
-        Some(number) => Ok(number),
-        None => Err(LineFault::Kind(field)),
-    }
+    whole_number(member_of(value, field)?).ok_or(LineFault::Kind(field))
 }
 
 /// The whole number of 32 bits that a value is.
 fn whole_number(value: &Value) -> Option<u32>
     ensures { result ≡ whole_number (view value.now) }
 {
-    let number = value.as_u64()?;
-    if number > u64::from(u32::MAX) {
-        return None;
-    }
-    Some(number as u32)
+    u32::try_from(value.as_u64()?).ok()
 }
 
 /// The message of a line: M3, then the message's own faults.

@@ -81,10 +81,7 @@ pub(crate) fn kind_called(name: &str) -> Option<LineKind>
 pub(crate) fn kind_of(value: &Value) -> Result<LineKind, LineFault>
     ensures { result ≡ kind_at (view value.now) }
 {
-    match kind_called(text_of(value, LineField::Do)?) {
-        Some(kind) => Ok(kind),
-        None => Err(LineFault::Kind(LineField::Do)),
-    }
+    kind_called(text_of(value, LineField::Do)?).ok_or(LineFault::Kind(LineField::Do))
 }
 
 /// The kind, where its lines have all keys of the object; else M4 with the first other one.

@@ -53,9 +53,9 @@ pub(crate) fn market_lists_of(
 ) -> Result<MarketLists, LineFault>
     ensures { Gives result (market_lists_at field (view value.now)) }
 {
-    let Some(list) = member_of(value, field)?.as_array() else {
-        return Err(LineFault::Kind(field));
-    };
+    let list = member_of(value, field)?
+        .as_array()
+        .ok_or(LineFault::Kind(field))?;
     let list = text_lists_of(list.as_slice(), field)?;
     Ok(MarketLists::new(market_lists_in(alloc, list, field)?))
 }
@@ -86,10 +86,9 @@ fn are_text_lists(list: &[Value]) -> bool
 fn is_text_list(value: &Value) -> bool
     ensures { result ≡ is_text_list (view value.now) }
 {
-    match value.as_array() {
-        Some(list) => are_texts(list.as_slice()),
-        None => false,
-    }
+    value
+        .as_array()
+        .is_some_and(|list| are_texts(list.as_slice()))
 }
 
 /// Whether all values are texts.
@@ -123,10 +122,8 @@ fn market_list_in(alloc: Global, value: &Value, field: LineField) -> Result<Vec<
     ensures err { IfErr result (λ fault. fault ≢ LineFault.Memory
         → market_list field (view value.now) ≡ Err fault) }
 {
-    match value.as_array() {
-        Some(list) => markets_in(alloc, list.as_slice(), field),
-        None => Err(LineFault::Kind(field)),
-    }
+    let list = value.as_array().ok_or(LineFault::Kind(field))?;
+    markets_in(alloc, list.as_slice(), field)
 }
 
 /// The markets of a list, or the fault of the first bad one.
@@ -146,11 +143,6 @@ fn markets_in(alloc: Global, list: &[Value], field: LineField) -> Result<Vec<Mar
 fn market_in(value: &Value, field: LineField) -> Result<Market, LineFault>
     ensures { result ≡ market_item field (view value.now) }
 {
-    let Some(text) = value.as_str() else {
-        return Err(LineFault::Kind(field));
-    };
-    match Market::read(text) {
-        Ok(market) => Ok(market),
-        Err(fault) => Err(LineFault::Pack(field, fault)),
-    }
+    let text = value.as_str().ok_or(LineFault::Kind(field))?;
+    Market::read(text).map_err(|fault| LineFault::Pack(field, fault))
 }

@@ -25,8 +25,5 @@ pub fn parties_of(alloc: Global, lists: MarketLists) -> Result<Parties, OpenFaul
 pub fn limits_of(window: u32, wire: u32, uplink: u32, submissions: u32) -> Result<Limits, OpenFault>
     ensures { result ≡ of_limits (limits_of window wire uplink submissions) }
 {
-    match Limits::of(window, wire, uplink, submissions) {
-        Ok(limits) => Ok(limits),
-        Err(fault) => Err(OpenFault::Limits(fault)),
-    }
+    Limits::of(window, wire, uplink, submissions).map_err(OpenFault::Limits)
 }

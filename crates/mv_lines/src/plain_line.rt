@@ -30,10 +30,8 @@ pub(crate) fn plain_step(scratch: &mut Scratch, line: &[u8]) -> Option<Step>
 fn step_of_text(scratch: &mut Scratch, text: &str) -> Option<Step>
     ensures { IfSome result (AreAsked (tokens text.now)) }
 {
-    match Reader::new(text, scratch) {
-        Ok(mut reader) => step_of(&mut reader),
-        Err(_) => None,
-    }
+    let mut reader = Reader::new(text, scratch).ok()?;
+    step_of(&mut reader)
 }
 
 /// The step that tokens plainly ask.
@@ -129,11 +127,7 @@ fn whole_of_text(text: &str) -> Option<u32>
     if bytes.is_empty() || bytes[0] == b'-' {
         return None;
     }
-    let number = Numeral::scan(bytes).to_u64()?;
-    if number > u64::from(u32::MAX) {
-        return None;
-    }
-    Some(number as u32)
+    u32::try_from(Numeral::scan(bytes).to_u64()?).ok()
 }
 
 /// Takes the string that is next.

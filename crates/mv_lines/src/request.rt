@@ -40,16 +40,14 @@ impl Request {
     pub fn read(alloc: Global, line: &[u8]) -> Result<Request, LineFault>
         ensures { Gives result (read_line line.now) }
     {
-        match Value::from_slice(alloc, line) {
-            Ok(value) => Request::from_value(alloc, &value),
-            Err(error) => {
-                if error.is_memory() {
-                    Err(LineFault::Memory)
-                } else {
-                    Err(LineFault::NotJson)
-                }
+        let value = Value::from_slice(alloc, line).map_err(|error| {
+            if error.is_memory() {
+                LineFault::Memory
+            } else {
+                LineFault::NotJson
             }
-        }
+        })?;
+        Request::from_value(alloc, &value)
     }
 
     /// What the value of a line asks.
@@ -57,9 +55,7 @@ impl Request {
     fn from_value(alloc: Global, value: &Value) -> Result<Request, LineFault>
         ensures { Gives result (read_request (view value.now)) }
     {
-        let Some(members) = value.as_object() else {
-            return Err(LineFault::NotObject);
-        };
+        let members = value.as_object().ok_or(LineFault::NotObject)?;
         let kind = known_kind(alloc, members, kind_of(value)?)?;
         Request::of_kind(alloc, kind, value)
     }

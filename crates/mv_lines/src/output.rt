@@ -14,10 +14,7 @@ pub fn put_out<W: Write>(writer: &mut W, bytes: &[u8]) -> Result<(), ServeFault>
     ensures err { IfErr result (λ _. WrotePart bytes.now (W.contents writer.old) (W.contents writer.new)) }
 {
     write_whole(writer, bytes)?;
-    match writer.flush() {
-        Ok(()) => Ok(()),
-        Err(_) => Err(ServeFault::Write),
-    }
+    writer.flush().map_err(|_| ServeFault::Write)
 }
 
 /// Writes all of the bytes. The loop is its own, since the library's writes again after an interruption.

@@ -13,6 +13,7 @@ use std::marker::Model;
 /// A plan that can be run, seen as its parts.
 #[derive(Drop)]
 pub(crate) struct Draft {
+    /// The plan, with a list for each party.
     plan: Plan,
 }
 

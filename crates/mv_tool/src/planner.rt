@@ -12,7 +12,9 @@ use std::mem;
 /// What the lines plan that were read. It replies nothing.
 #[derive(Drop)]
 pub(crate) struct Planner {
+    /// Where what is planned gets its memory.
     alloc: Global,
+    /// What the lines plan that were read.
     planned: Planned,
 }
 

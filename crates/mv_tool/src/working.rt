@@ -23,7 +23,9 @@ use std::thread::Threads;
 /// What is written at the end, and whether the plan was finished.
 #[derive(Drop)]
 struct Output {
+    /// What is written.
     text: String,
+    /// Whether the plan was finished.
     finished: bool,
 }
 
@@ -59,7 +61,8 @@ fn read_plan<R: Read>(alloc: Global, reader: &mut R) -> Result<Planned, ServeFau
     let mut planner = Planner::new(alloc);
     match answer_lines(alloc, &mut planner, reader, &mut Unwritten) {
         Ok(()) => Ok(planner.into_planned()),
-        // Nothing is written, so no write fails.
+        // This never comes, since `Unwritten` takes all bytes, but no contract of a writer can say so. What is left is to name
+        // a fault of reading (`Unread`), and this one claims nothing of what was read.
         Err(ServeFault::Write) => Err(ServeFault::Read),
         Err(fault) => Err(fault),
     }

@@ -14,8 +14,11 @@ pub enum Look {
     Next,
     /// It was accepted before.
     Old,
-    /// Frames before it are missing; the next is `expected`.
-    Gap { expected: u32 },
+    /// Frames before it are missing.
+    Gap {
+        /// The number of the frame that is the next.
+        expected: u32,
+    },
 }
 
 /// The receiving end of one link, seen as how many frames it accepted.

@@ -8,18 +8,22 @@ use mv_message::{Message, Shared};
 /// What a link carries from its sender.
 #[derive(Debug, PartialEq, Eq, Drop)]
 pub enum Item {
-    /// To the sender itself: its `k`-th message, counted from one, was routed to these parties; `query` says whether
-    /// that message was a query.
+    /// To the sender itself: its `k`-th message, counted from one, was routed.
     Receipt {
+        /// The number of the message among those of the sender.
         k: u32,
+        /// The parties that it was routed to.
         reach: SharedReach,
+        /// Whether it was a query.
         query: bool,
     },
-    /// The sender's `k`-th message, counted from one, and its stamp: the place in the hub's record of its routing,
-    /// counted from one over all entries.
+    /// The sender's `k`-th message, counted from one.
     Carried {
+        /// The number of the message among those of the sender.
         k: u32,
+        /// Its stamp: the place in the hub's record of its routing, counted from one over all entries.
         stamp: u32,
+        /// The message.
         message: Shared<Message>,
     },
 }

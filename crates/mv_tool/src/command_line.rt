@@ -1,76 +1,25 @@
 //! The command line: which words run what, and the exit status.
 
-ghost use Rattle.std.specs.Prelude.{◌≡◌, ◌≤◌, ℕ, List, None, IfOk, MatchResult, Some, map, codes, string_bytes, false, if◌then◌else◌};
+ghost use Rattle.std.specs.Prelude.{◌≡◌, ◌≤◌, ℕ, None, MatchResult, map, codes, string_bytes, if◌then◌else◌};
 ghost use Rattle.std.specs.Io.KnownBytes.{Keeps};
-ghost use Rattle.clap.specs.Words.{app_of, fault_of, FailsBy, new_app, one_of, rule_of, Row, subcommand_name_of, subcommand_rows_of};
 ghost use Rattle.clap.specs.Values.{kind_of};
-ghost use Rattle.clap.specs.declared.builder.command.Command.TheViews.{out-Command as fields_of};
-ghost use Rattle.clap.specs.declared.error.kind.ErrorKind.TheVariants.{OutOfMemory};
 ghost use Rattle.mv_lines.specs.Canon.{IsCanon};
-ghost use Rattle.mv_tool.specs.Commands.{command_line, turns_rule, AsksFor, AsksForWork, AreNotTaken, AreMistaken, IsMistake, RanLines, RanWork, WritesTurns};
+ghost use Rattle.mv_words.specs.Words.{AsksFor, AsksForWork, AreNotTaken, AreMistaken, IsMistake};
+ghost use Rattle.mv_tool.specs.Commands.{RanLines, RanWork};
 ghost use Rattle.mv_lines.specs.Sessions.{IsReply};
 ghost use Rattle.mv_tool.specs.Statuses.{status_code};
 ghost use Rattle.mv_tool.specs.declared.status.Status.{Status as AStatus};
 
 use crate::{Status, work};
-use clap::{Arg, ArgMatches, Command, Error, value_parser};
+use clap::Error;
 use mv_lines::{ServeFault, canon, put_out, serve_last};
+use mv_words::{Task, task_of};
 use mv_workers::NoGate;
-use std::alloc::{AllocError, Global};
+use std::alloc::Global;
 use std::io::{Read, Write};
 use std::marker::Sync;
 use std::sync::Wait;
 use std::thread::Threads;
-
-/// What `--version` tells behind the program's name.
-const VERSION: &str = "1.0.0";
-
-/// What the program is.
-const PROGRAM: &str = "The hub of the medicines verification system, and the national repositories";
-
-/// What `steps` does.
-const STEPS: &str = "Answers steps: a JSON object a line, from standard input to standard output";
-
-/// What `canon` does.
-const CANON: &str =
-    "Writes messages as their canonical texts: a JSON object a line, from standard input to standard output";
-
-/// What `work` does.
-const WORK: &str =
-    "Carries out a plan in threads: a JSON object a line from standard input, a report to standard output";
-
-/// What `--turns` is.
-const TURNS: &str = "How many turns the hub and each party take at most";
-
-/// What stands below the help of the program.
-const WHERE_TO_READ: &str =
-    "docs/TOUR.md is a day at the hub, line by line; docs/FORMATS.md has every line and every reply, docs/OPERATING.md what each means.";
-
-/// What stands below the help of `steps`.
-const STEPS_EXAMPLE: &str =
-    "A line, and what comes out:\n  {\"do\":\"open\",\"parties\":[[],[\"FI\"]],\"submissions\":1000,\"uplink\":8,\"window\":8,\"wire\":8}\n  {\"opened\":2}\n\nEvery line and every reply: docs/FORMATS.md. What each means: docs/OPERATING.md. A day of them: docs/TOUR.md.";
-
-/// What stands below the help of `canon`.
-const CANON_EXAMPLE: &str =
-    "A line, and what comes out:\n  {\"serial\":\"S1\",\"gtin\":\"9506000134352\",\"msg\":\"query\"}\n  {\"gtin\":\"09506000134352\",\"msg\":\"query\",\"serial\":\"S1\"}\n\nEvery message, its fields and its faults: docs/FORMATS.md.";
-
-/// What stands below the help of `work`.
-const WORK_EXAMPLE: &str =
-    "A line, and how the report of a plan of that line alone ends:\n  {\"do\":\"open\",\"parties\":[[],[\"FI\"]],\"submissions\":1000,\"uplink\":8,\"window\":8,\"wire\":8}\n  finished\n\nThe lines of a plan, and its report: docs/FORMATS.md. What each means: docs/OPERATING.md.";
-
-/// What the words ask for.
-#[derive(Clone, Copy)]
-enum Task {
-    /// `steps`: to answer steps, a line each.
-    Steps,
-    /// `canon`: to write messages as their canonical texts, a line each.
-    Canon,
-    /// `work`: to carry out a plan of lines, in so many turns at most.
-    Work {
-        /// How many turns each worker takes at most.
-        turns: u32,
-    },
-}
 
 /// Reads the words, the program's name first, runs what they ask for, and answers the exit status, that of a `Status`.
 ///
@@ -143,80 +92,6 @@ fn run<H: Threads + Wait + Sync, R: Read, W: Write, F: Write>(
         }
         Ok(None) => Status::Refused,
         Err(error) => explain(alloc, &error, writer, faults),
-    }
-}
-
-/// What the words ask for, or why they ask for nothing.
-fn task_of(alloc: Global, words: &[String]) -> Result<Option<Task>, Error>
-    ensures steps { AsksFor (codes "steps") (map string_bytes words.now) → MatchResult result
-        (λ task. task ≡ Some Task.Steps) (λ error. kind_of error ≡ OutOfMemory) }
-    ensures canon { AsksFor (codes "canon") (map string_bytes words.now) → MatchResult result
-        (λ task. task ≡ Some Task.Canon) (λ error. kind_of error ≡ OutOfMemory) }
-    ensures work { (turns : ℕ) → AsksForWork turns (map string_bytes words.now)
-        → MatchResult result
-        (λ task. task ≡ Some (Task.Work turns)) (λ error. kind_of error ≡ OutOfMemory) }
-    ensures taken { FailsBy (fault_of command_line (map string_bytes words.now)) result }
-{
-    let line = command_line(alloc)?;
-    let matches = line.try_get_matches_from(words)?;
-    Ok(task_named(&matches))
-}
-
-/// A command of this name, with what its help says first and last.
-fn told<'a>(alloc: Global, name: &'a str, first: &'a str, last: &'a str) -> Command<'a>
-    ensures app { app_of result ≡ new_app name.entry.now }
-    ensures local { (fields_of result).has_globals ≡ false }
-{
-    Command::new(alloc, name).about(first).after_help(last)
-}
-
-/// The command line that the program takes.
-fn command_line<'a>(alloc: Global) -> Result<Command<'a>, AllocError>
-    ensures { IfOk result (λ line. app_of line ≡ command_line) }
-{
-    let steps = told(alloc, "steps", STEPS, STEPS_EXAMPLE);
-    let canon = told(alloc, "canon", CANON, CANON_EXAMPLE);
-    let work = told(alloc, "work", WORK, WORK_EXAMPLE).arg(turns(alloc))?;
-    told(alloc, "mvhub", PROGRAM, WHERE_TO_READ)
-        .version(VERSION)
-        .arg_required_else_help(true)
-        .subcommand_required(true)
-        .subcommand(steps)?
-        .subcommand(canon)?
-        .subcommand(work)
-}
-
-/// The option of `work`: how many turns.
-fn turns<'a>(alloc: Global) -> Arg<'a>
-    ensures rule { rule_of result ≡ turns_rule }
-    ensures local { result.global ≡ false }
-{
-    Arg::new(alloc, "turns")
-        .long("turns")
-        .value_name("N")
-        .help(TURNS)
-        .value_parser(value_parser!(u32))
-        .required(true)
-}
-
-/// The task that the subcommand names.
-fn task_named(matches: &ArgMatches<'_>) -> Option<Task>
-    ensures steps { subcommand_name_of matches.now ≡ Some (codes "steps")
-        → result ≡ Some Task.Steps }
-    ensures canon { subcommand_name_of matches.now ≡ Some (codes "canon")
-        → result ≡ Some Task.Canon }
-    ensures work { (rows : List Row) (turns : ℕ) (text : List ℕ)
-        → subcommand_rows_of matches.now ≡ Some (codes "work", rows)
-        → one_of (codes "turns") rows ≡ Some text → WritesTurns turns text
-        → result ≡ Some (Task.Work turns) }
-{
-    match matches.subcommand() {
-        Some(("steps", _)) => Some(Task::Steps),
-        Some(("canon", _)) => Some(Task::Canon),
-        Some(("work", given)) => Some(Task::Work {
-            turns: given.get_one("turns")?,
-        }),
-        _ => None,
     }
 }
 

@@ -28,7 +28,6 @@
 
 mod command_line;
 mod draft;
-pub mod laws;
 mod planned;
 mod planner;
 mod planning;

@@ -1,5 +1,5 @@
 use Rattle.std.proofs.Common.{ap, codes, map, string_bytes, subst, sym}
-use Rattle.mv_tool.specs.Commands.{AsksFor, AsksForWork}
+use Rattle.mv_words.specs.Words.{AsksFor, AsksForWork}
 use Rattle.mv_tool.proofs.command_line.command.Goals as goal
 
 -- the status is that of the run

@@ -1,9 +1,9 @@
 use Rattle.std.proofs.Common.{◌≡◌, ◌∙◌, sym, ap, option_map, Some, None}
 use Rattle.std.specs.Str.Parse.{ParsesUnsigned, ExplainsUnsignedError, HasUnsignedDigitsIfOk}
 use Rattle.clap.specs.Words.{found_of}
-use Rattle.mv_tool.specs.declared.command_line.Task.TheVariants.{Work}
-use Rattle.mv_tool.proofs.CommandLemmas.{turns_given, turns_read}
-use Rattle.mv_tool.proofs.command_line.task_named.Goals as goal
+use Rattle.mv_words.specs.declared.task.Task.TheVariants.{Work}
+use Rattle.mv_words.proofs.ParseLemmas.{turns_given, turns_read}
+use Rattle.mv_words.proofs.task.task_named.Goals as goal
 
 -- the option has a number
 pub returns-in_err-get_one-in-Some-work-default-clause-work :

@@ -2,8 +2,8 @@ use Rattle.std.proofs.Common.{◌≡◌, ◌∙◌, ◌||◌, ap, ap₂, false, 
 use Rattle.std.proofs.lemmas.Result.{IfOk-weaker}
 use Rattle.clap.specs.Words.{App, app_of, with_rule, with_subcommand}
 use Rattle.clap.specs.declared.builder.command.Command.TheViews.{out-Command as fields_of}
-use Rattle.mv_tool.specs.Commands.{mvhub, work_app}
-use Rattle.mv_tool.proofs.command_line.command_line.Goals as goal
+use Rattle.mv_words.specs.Words.{mvhub, work_app}
+use Rattle.mv_words.proofs.words.command_line.Goals as goal
 
 -- each part is what it is said to be
 pub returns : goal.returns

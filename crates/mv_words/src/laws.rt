@@ -1,7 +1,7 @@
 //! Laws over the definitions alone, of the words of the command line.
 
 ghost use Rattle.std.specs.Prelude.{codes};
-ghost use Rattle.mv_tool.specs.Commands.{NameAsks, OptionAsks};
+ghost use Rattle.mv_words.specs.Words.{NameAsks, OptionAsks};
 
 /// The words `mvhub steps` ask for `steps`, whatever the program's name is.
 pub fn steps_named()

@@ -1,7 +1,7 @@
 use Rattle.std.proofs.Common.{◌∙◌}
 use Rattle.std.proofs.lemmas.Result.{err_from_is_err_and}
-use Rattle.mv_tool.proofs.CommandLemmas.{faultless, named, rows_named, wanting}
-use Rattle.mv_tool.proofs.command_line.task_of.Goals as goal
+use Rattle.mv_words.proofs.ParseLemmas.{faultless, named, rows_named, wanting}
+use Rattle.mv_words.proofs.task.task_of.Goals as goal
 
 -- the words are taken, so only memory can have been wanting
 pub returns-in_err-matches-clause-steps : goal.returns-in_err-matches-clause-steps

@@ -1,0 +1,155 @@
+-- Words that the command line takes, and what they ask for.
+use Rattle.std.proofs.Common.{◌≡◌, ◌<◌, ◌+◌, ◌-◌, ℕ, zero, suc, List, [], ◌∷◌, ◌++◌, codes, true, false, None, Some, refl, ap, ◌∙◌, option_map, inl, inr, arith, subst}
+use Rattle.std.specs.Prelude.{pos}
+use Rattle.std.specs.Char.{digit_value}
+use Rattle.std.specs.Str.Parse.{digits_value}
+use Rattle.std.proofs.lemmas.Int.{ints}
+use Rattle.std.proofs.lemmas.Str.Parse.{digit_from_value}
+use Rattle.clap.specs.ValueTests.{accepts}
+use Rattle.clap.specs.declared.builder.value_parser.ValueParser.TheVariants.{Signed}
+use Rattle.clap.specs.declared.builder.value_parser.Reading.TheVariants.{WithoutMinus}
+use Rattle.clap.specs.declared.parser.matches.ValueSource.TheVariants.{CommandLine}
+use Rattle.clap.proofs.ValueTestLemmas.{Accepts-accepts}
+use Rattle.clap.specs.Words.{Row, one_of, subcommand_of, fault_of}
+use Rattle.clap.proofs.OnLiterals.{clap_on_literals}
+use Rattle.mv_words.specs.Words.{command_line, GiveTurns, NameAsks, OptionAsks, WritesTurns}
+use Rattle.mv_words.proofs.ParseLemmas.{no_minus, no_plus}
+
+-- the command line takes the word `steps`
+steps_taken : (program : List ℕ) → fault_of command_line (program ∷ codes "steps" ∷ []) ≡ []
+unfolding clap_on_literals
+steps_taken program = refl
+
+-- and it is the subcommand
+steps_met : (program : List ℕ) → option_map (λ p. p.0) (subcommand_of command_line (program ∷ codes "steps" ∷ [])) ≡ Some (codes "steps")
+unfolding clap_on_literals
+steps_met program = refl
+
+-- the command line takes the word `canon`
+canon_taken : (program : List ℕ) → fault_of command_line (program ∷ codes "canon" ∷ []) ≡ []
+unfolding clap_on_literals
+canon_taken program = refl
+
+-- and it is the subcommand
+canon_met : (program : List ℕ) → option_map (λ p. p.0) (subcommand_of command_line (program ∷ codes "canon" ∷ [])) ≡ Some (codes "canon")
+unfolding clap_on_literals
+canon_met program = refl
+
+-- the option takes a number of turns
+turns_pass : (turns : ℕ) (text : List ℕ) → WritesTurns turns text → accepts false (Signed (pos 0) (pos 4294967295)) text ≡ true
+turns_pass turns [] (numeral, value, fits) = absurd (omega (arith, numeral.0))
+turns_pass turns (d ∷ ds) (numeral, value, fits) =
+    let minus = no_minus d numeral.1.0 in
+    let plus = no_plus d numeral.1.0 in
+    let small : digits_value 10 (d ∷ ds) < 4294967296 = rw value fits in
+    Accepts-accepts false (Signed (pos 0) (pos 4294967295)) (d ∷ ds) (rw (minus, plus) (numeral, record { sfits = omega (arith, small) }, omega (arith, ints), omega (arith, ints, small)))
+
+-- what holds at each digit
+by_digit : (P : ℕ → Type 0) → P 48 → P 49 → P 50 → P 51 → P 52 → P 53 → P 54 → P 55 → P 56 → P 57
+    → (d : ℕ) → digit_value d < 10 → P d
+by_digit P at_0 at_1 at_2 at_3 at_4 at_5 at_6 at_7 at_8 at_9 d digit =
+    let range = digit_from_value d digit in
+    let is : 48 + (d - 48) ≡ d = omega (arith, range) in
+    subst P is (go (d - 48) (omega (arith, range)))
+  where
+    go : (k : ℕ) → k < 10 → P (48 + k)
+    go zero low = at_0
+    go (suc zero) low = at_1
+    go (suc (suc zero)) low = at_2
+    go (suc (suc (suc zero))) low = at_3
+    go (suc (suc (suc (suc zero)))) low = at_4
+    go (suc (suc (suc (suc (suc zero))))) low = at_5
+    go (suc (suc (suc (suc (suc (suc zero)))))) low = at_6
+    go (suc (suc (suc (suc (suc (suc (suc zero))))))) low = at_7
+    go (suc (suc (suc (suc (suc (suc (suc (suc zero)))))))) low = at_8
+    go (suc (suc (suc (suc (suc (suc (suc (suc (suc zero))))))))) low = at_9
+    go (suc (suc (suc (suc (suc (suc (suc (suc (suc (suc k)))))))))) low = absurd (omega (arith, low))
+
+-- the words of `work`, with its option in two words
+abbrev work_words : List ℕ → List ℕ → List (List ℕ)
+work_words program text = program ∷ codes "work" ∷ codes "--turns" ∷ text ∷ []
+
+-- and with its option in one
+abbrev joined_words : List ℕ → List ℕ → List (List ℕ)
+joined_words program text = program ∷ codes "work" ∷ (codes "--turns=" ++ text) ∷ []
+
+-- the number that begins by this digit passes
+abbrev Passes : ℕ → List ℕ → Type 0
+Passes d ds = accepts false (Signed (pos 0) (pos 4294967295)) (d ∷ ds) ≡ true
+
+-- the command line takes the words of `work`
+work_taken : (program : List ℕ) (ds : List ℕ) (d : ℕ) → digit_value d < 10 → Passes d ds
+    → fault_of command_line (work_words program (d ∷ ds)) ≡ []
+unfolding clap_on_literals
+work_taken program ds = by_digit (λ d. Passes d ds → fault_of command_line (work_words program (d ∷ ds)) ≡ [])
+    (λ e. rw e refl) (λ e. rw e refl) (λ e. rw e refl) (λ e. rw e refl) (λ e. rw e refl)
+    (λ e. rw e refl) (λ e. rw e refl) (λ e. rw e refl) (λ e. rw e refl) (λ e. rw e refl)
+
+-- the matches of `work`: its option with this value
+abbrev turns_rows : List ℕ → List Row
+turns_rows text = record {
+  id = codes "turns";
+  values = text ∷ [];
+  count = None;
+  source = Some CommandLine;
+  reading = WithoutMinus;
+} ∷ []
+
+-- and that is the subcommand
+work_met : (program : List ℕ) (ds : List ℕ) (d : ℕ) → digit_value d < 10
+    → subcommand_of command_line (work_words program (d ∷ ds)) ≡ Some (codes "work", turns_rows (d ∷ ds))
+unfolding clap_on_literals
+work_met program ds = by_digit (λ d. subcommand_of command_line (work_words program (d ∷ ds)) ≡ Some (codes "work", turns_rows (d ∷ ds)))
+    refl refl refl refl refl refl refl refl refl refl
+
+-- the same where the option is one word
+joined_taken : (program : List ℕ) (ds : List ℕ) (d : ℕ) → Passes d ds → fault_of command_line (joined_words program (d ∷ ds)) ≡ []
+unfolding clap_on_literals
+joined_taken program ds d passes = rw passes refl
+
+joined_met : (program : List ℕ) (ds : List ℕ) (d : ℕ)
+    → subcommand_of command_line (joined_words program (d ∷ ds)) ≡ Some (codes "work", turns_rows (d ∷ ds))
+unfolding clap_on_literals
+joined_met program ds d = refl
+
+-- so the program's name and one of these words ask for it
+pub steps_asks : NameAsks (codes "steps")
+steps_asks program = (steps_taken program, steps_met program)
+
+pub canon_asks : NameAsks (codes "canon")
+canon_asks program = (canon_taken program, canon_met program)
+
+-- the command line takes the words of `work`, however its option is given
+given_taken : (program text : List ℕ) (option : List (List ℕ)) (turns : ℕ) → WritesTurns turns text → GiveTurns text option
+    → fault_of command_line (program ∷ codes "work" ∷ option) ≡ []
+given_taken program [] option turns writes gives = absurd (omega (arith, writes.0.0))
+given_taken program (d ∷ ds) option turns writes (inl two) =
+    ap (λ words. fault_of command_line (program ∷ codes "work" ∷ words)) two
+    ∙ work_taken program ds d writes.0.1.0 (turns_pass turns (d ∷ ds) writes)
+given_taken program (d ∷ ds) option turns writes (inr one) =
+    ap (λ words. fault_of command_line (program ∷ codes "work" ∷ words)) one ∙ joined_taken program ds d (turns_pass turns (d ∷ ds) writes)
+
+-- and that is the subcommand
+given_met : (program text : List ℕ) (option : List (List ℕ)) (turns : ℕ) → WritesTurns turns text → GiveTurns text option
+    → subcommand_of command_line (program ∷ codes "work" ∷ option) ≡ Some (codes "work", turns_rows text)
+given_met program [] option turns writes gives = absurd (omega (arith, writes.0.0))
+given_met program (d ∷ ds) option turns writes (inl two) =
+    ap (λ words. subcommand_of command_line (program ∷ codes "work" ∷ words)) two ∙ work_met program ds d writes.0.1.0
+given_met program (d ∷ ds) option turns writes (inr one) =
+    ap (λ words. subcommand_of command_line (program ∷ codes "work" ∷ words)) one ∙ joined_met program ds d
+
+-- the number of turns is read as it is written
+work_turns : (turns : ℕ) (text : List ℕ) → WritesTurns turns text → one_of (codes "turns") (turns_rows text) ≡ Some text
+work_turns turns [] writes = absurd (omega (arith, writes.0.0))
+work_turns turns (d ∷ ds) writes = rw (no_minus d writes.0.1.0) refl
+
+-- so these words ask for `work` with this number
+pub option_asks : OptionAsks
+option_asks program text option turns writes gives = (
+  given_taken program text option turns writes gives,
+  turns_rows text,
+  text,
+  given_met program text option turns writes gives,
+  work_turns turns text writes,
+  writes,
+)

@@ -17,8 +17,11 @@ use std::io::Write;
 /// What has come of the line that is being read, how many lines came before it, and the replies to write.
 #[derive(Drop)]
 pub(crate) struct Input {
+    /// What has come of the line that is being read.
     pub(crate) begun: Vec<u8>,
+    /// How many lines came before it.
     pub(crate) lines: u32,
+    /// The replies that are ready to be written.
     pub(crate) replies: Vec<u8>,
     ghost few: { lines ≤ lines_limit },
     ghost not_behind: { 0 < length (vec_items begun) → lines < lines_limit },

@@ -178,6 +178,7 @@ impl ReplyLine for MessageFault {
 /// The reply to an opening with so many parties.
 #[derive(Clone, Copy, Drop)]
 pub(crate) struct Opened {
+    /// How many parties there are.
     pub(crate) count: u32,
 }
 
@@ -192,6 +193,7 @@ impl ReplyLine for Opened {
 /// A refusal by its number.
 #[derive(Clone, Copy, Drop)]
 pub(crate) struct Refused {
+    /// The number, as `C1`.
     pub(crate) code: &'static str,
 }
 

@@ -20,10 +20,15 @@ use std::alloc::Global;
 pub enum Request {
     /// To open a system of these parties and limits, which are as the line has them.
     Open {
+        /// The markets of each party.
         parties: MarketLists,
+        /// How many messages each party submits at most.
         submissions: u32,
+        /// How many messages of each party are under way to the hub at most.
         uplink: u32,
+        /// How many items each link keeps.
         window: u32,
+        /// How many frames are under way on each link at most.
         wire: u32,
     },
     /// To make a step.

@@ -25,8 +25,11 @@ use std::marker::Model;
 /// which lines are read is kept from line to line.
 #[derive(Drop)]
 pub(crate) struct Session {
+    /// What memory is got from.
     alloc: Global,
+    /// In which plain lines are read.
     scratch: Scratch,
+    /// What is open.
     world: Option<World>,
 }
 

@@ -13,47 +13,60 @@ use mv_repository::{Effect, Joint, Verdict};
 pub enum Reply {
     /// The message is the `k`-th that the party submitted, counted from one.
     Submitted {
+        /// Its number among the messages of the party.
         k: u32,
     },
     /// The repository of the party holds the pack, and this is its verdict.
     Known(Verdict),
     /// The other repositories are asked, by the `q`-th message of the party.
     Asked {
+        /// The number of the query among the messages of the party, counted from one.
         q: u32,
     },
     /// The `k`-th message of the party was routed to these parties.
     Routed {
+        /// Its number among the messages of the party, counted from one.
         k: u32,
+        /// The parties that it was routed to.
         reach: Reach,
     },
     /// The frame of this number went on the wire.
     Relayed {
+        /// The number of the frame on its link, counted from one.
         number: u32,
     },
     /// The frame of this number was applied, with this effect; the answer that it called for is the message of this number
     /// that the party of the repository submitted.
     Applied {
+        /// The number of the frame on its link, counted from one.
         number: u32,
+        /// What the frame did in the repository.
         effect: Effect,
+        /// The number of the answer among the messages of the party; none where none was called for.
         answer: Option<u32>,
     },
     /// The frame of this number was applied before, and was dropped.
     Old {
+        /// The number of the frame on its link, counted from one.
         number: u32,
     },
     /// The frame of this number was dropped, since the frame `expected` has not been applied.
     Gap {
+        /// The number of the frame on its link, counted from one.
         number: u32,
+        /// The number of the frame that is to be applied next.
         expected: u32,
     },
     /// The frame of this number went on the wire again.
     Repeated {
+        /// The number of the frame on its link, counted from one.
         number: u32,
     },
     /// The link is closed from now on.
     Closed,
     /// The frame of this number, the front one of its wire, is lost.
     Lost {
+        /// The number of the frame on its link, counted from one.
         number: u32,
     },
     /// The verdict of all that were asked.

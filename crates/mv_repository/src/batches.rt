@@ -61,7 +61,9 @@ impl PlaceList {
 /// For each batch, its uploads.
 #[derive(Drop)]
 pub(crate) struct Batches {
+    /// What memory is got from.
     alloc: Global,
+    /// The places in the log of the uploads of each batch.
     uploads: IndexMap<BatchKey, PlaceList>,
 }
 

@@ -44,7 +44,9 @@ struct Reply {
 /// What a repository knows of the queries of its own party.
 #[derive(Drop)]
 pub struct Inquiries {
+    /// What is known of each query, by its number among the messages of the party.
     inquiries: IndexMap<u32, Inquiry>,
+    /// Which party has answered which query.
     replies: IndexSet<Reply>,
 }
 

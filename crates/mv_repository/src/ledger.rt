@@ -27,7 +27,9 @@ use std::marker::Model;
 /// A log and the tables of it, seen as a party and its log.
 #[derive(Drop)]
 pub(crate) struct Ledger {
+    /// What memory is got from.
     alloc: Global,
+    /// Whose repository it is.
     party: Party,
     /// What was applied, the oldest entry first.
     log: Vec<LogEntry>,

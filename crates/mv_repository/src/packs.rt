@@ -27,6 +27,7 @@ use std::marker::Model;
 /// The table of packs, seen as what is kept of each pack that an upload or a status names.
 #[derive(Drop)]
 pub(crate) struct Packs {
+    /// What memory is got from.
     alloc: Global,
     /// The uploads in the order in which they came, also those that made no pack.
     births: Vec<Birth>,

@@ -15,7 +15,9 @@ use std::marker::Model;
 /// A national repository, seen as its party and its log. No reader searches the log: each goes by tables.
 #[derive(Drop)]
 pub struct Repository {
+    /// What was applied, and the tables of it.
     ledger: Ledger,
+    /// What is known of the queries of its own party.
     inquiries: Inquiries,
 }
 

@@ -12,7 +12,9 @@ use std::marker::Model;
 /// The items that came from one party, in the order of the log; contracts see those that are still to come.
 #[derive(Drop)]
 pub struct FromSender<'a> {
+    /// What of the log is still to come, of whomever.
     entries: &'a [LogEntry],
+    /// The party.
     sender: Party,
 }
 

@@ -29,7 +29,9 @@ pub struct BatchStanding {
 /// The first recall of each batch and the first withdrawal of each product, by their places in the log.
 #[derive(Drop)]
 pub(crate) struct Stops {
+    /// The place of the first recall of each batch.
     recalls: IndexMap<BatchKey, usize>,
+    /// The place of the first withdrawal of each product.
     withdrawals: IndexMap<Gtin, usize>,
 }
 

@@ -54,7 +54,9 @@ impl SerialList {
 /// For each product, the packs of it that statuses name.
 #[derive(Drop)]
 pub(crate) struct Tracked {
+    /// What memory is got from.
     alloc: Global,
+    /// The serial numbers of the packs, by their product.
     products: IndexMap<Gtin, SerialList>,
 }
 

@@ -44,6 +44,39 @@ const CANONICAL: [&str; 11] = [
     "{\"at\":1800000000,\"gtin\":\"09506000134352\",\"msg\":\"withdraw\",\"v\":2}",
 ];
 
+/// Each message above, with another of its kind that differs from it in one member.
+const OTHERS: [(&str, &str); 8] = [
+    (
+        MASTER,
+        "{\"common\":\"paracetamol\",\"form\":\"tablet\",\"gtin\":\"09506000134352\",\"markets\":[\"FI\"],\"msg\":\"master\",\"name\":\"Examplin\",\"pack_size\":\"30\",\"pack_type\":\"blister\",\"scheme\":\"GTIN\",\"strength\":\"250 mg\"}",
+    ),
+    (
+        UPLOAD,
+        "{\"batch\":\"B1\",\"expiry\":\"280200\",\"gtin\":\"9506000134352\",\"msg\":\"upload\",\"national\":\"123456\",\"serials\":[\"S1\",\"S3\"],\"v\":2}",
+    ),
+    (
+        STATUS,
+        "{\"at\":1800000000,\"gtin\":\"09506000134352\",\"msg\":\"status\",\"serial\":\"S1\",\"to\":\"sample\",\"user\":\"u1\"}",
+    ),
+    (
+        RECALL,
+        "{\"at\":1800000010,\"batch\":\"B2\",\"gtin\":\"09506000134352\",\"msg\":\"recall\"}",
+    ),
+    (
+        REPACK,
+        "{\"after_batch\":\"C1\",\"after_gtin\":\"04012345678901\",\"after_serials\":[\"X1\",\"X2\"],\"at\":0,\"before_batch\":\"B1\",\"before_gtin\":\"09506000134352\",\"before_serials\":[\"S2\"],\"msg\":\"repack\"}",
+    ),
+    (
+        WITHDRAW,
+        "{\"at\":1800000001,\"gtin\":\"9506000134352\",\"msg\":\"withdraw\",\"v\":2}",
+    ),
+    (QUERY, OTHER_PACK),
+    (
+        ANSWER,
+        "{\"asker\":2,\"found\":{\"batch\":\"B1\",\"expiry\":\"280229\",\"national\":null,\"recalled\":true,\"standing\":\"supplied\",\"withdrawn\":false},\"gtin\":\"09506000134352\",\"msg\":\"answer\",\"q\":1,\"serial\":\"S1\",\"v\":2}",
+    ),
+];
+
 /// A query for a pack that no other text here asks for.
 const OTHER_PACK: &str = "{\"gtin\":\"09506000134352\",\"msg\":\"query\",\"serial\":\"S9\"}";
 
@@ -195,6 +228,17 @@ fn tells_apart_what_differs(rt: HostRuntime) {
             differ(rt.alloc(), text, OTHER_PACK),
             Some(true),
             "at {text}"
+        );
+    }
+}
+
+#[test]
+fn tells_apart_two_of_a_kind(rt: HostRuntime) {
+    for (text, other) in OTHERS {
+        assert_eq!(rt;
+            differ(rt.alloc(), text, other),
+            Some(true),
+            "at {other}"
         );
     }
 }

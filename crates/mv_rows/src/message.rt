@@ -235,11 +235,7 @@ fn tells_apart_what_differs(rt: HostRuntime) {
 #[test]
 fn tells_apart_two_of_a_kind(rt: HostRuntime) {
     for (text, other) in OTHERS {
-        assert_eq!(rt;
-            differ(rt.alloc(), text, other),
-            Some(true),
-            "at {other}"
-        );
+        assert_eq!(rt; differ(rt.alloc(), text, other), Some(true), "at {other}");
     }
 }
 

@@ -113,7 +113,7 @@ fn product_of(message: &Shared<Message>) -> Option<&Product>
     ensures { option_copied result ≡ product_of message.now }
 {
     match message.get() {
-        Message::Master { product, .. } => Some(product),
+        Message::Master { product, .. } => Some(product.get()),
         _ => None,
     }
 }

@@ -15,7 +15,7 @@ pub(crate) fn put_message<T: Target>(target: &mut T, message: &Message) -> Resul
     ensures { T.puts result target.old target.new (value_of message.now) }
 {
     match message {
-        Message::Master { gtin, product } => put_master(target, gtin, product),
+        Message::Master { gtin, product } => put_master(target, gtin, product.get()),
         Message::Upload {
             gtin,
             batch,

@@ -15,7 +15,7 @@ use crate::reading::{
 };
 use crate::version::Version;
 use crate::{Field, MessageFault};
-use mv_message::{Message, Product};
+use mv_message::{Boxed, Message, Product};
 use mv_pack::{BatchKey, National, PackKey};
 use serde_json::Value;
 use std::alloc::Global;
@@ -58,18 +58,19 @@ fn master_at(alloc: Global, value: &Value) -> Result<Message, MessageFault>
     let pack_type = free_text_at(alloc, value, Field::PackType)?;
     let scheme = free_text_at(alloc, value, Field::Scheme)?;
     let strength = free_text_at(alloc, value, Field::Strength)?;
+    let product = Product {
+        scheme,
+        name,
+        common,
+        form,
+        strength,
+        pack_type,
+        pack_size,
+        markets,
+    };
     Ok(Message::Master {
         gtin,
-        product: Product {
-            scheme,
-            name,
-            common,
-            form,
-            strength,
-            pack_type,
-            pack_size,
-            markets,
-        },
+        product: Boxed::new(alloc, product)?,
     })
 }
 

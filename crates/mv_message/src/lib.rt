@@ -17,6 +17,7 @@
 //! ```
 #![tactic(auto)]
 
+mod boxed;
 mod found;
 pub mod laws;
 mod markets;
@@ -26,6 +27,7 @@ mod shared;
 mod standing;
 mod text;
 
+pub use boxed::Boxed;
 pub use found::Found;
 pub use markets::Markets;
 pub use message::{Message, Party, Product};

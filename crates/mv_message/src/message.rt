@@ -3,7 +3,7 @@
 ghost use Rattle.std.specs.Prelude.{◌≡◌, IfOk, IsOk, IsTrue};
 
 use crate::found::national_copy;
-use crate::{Found, Markets, Serials, Standing, Text};
+use crate::{Boxed, Found, Markets, Serials, Standing, Text};
 use mv_pack::{Batch, BatchKey, Expiry, Gtin, Moment, National, PackKey};
 use std::alloc::{AllocError, Global};
 
@@ -56,8 +56,8 @@ pub enum Message {
     Master {
         /// The product code.
         gtin: Gtin,
-        /// What is sold under it from now on.
-        product: Product,
+        /// What is sold under it from now on. It is the largest part of any message, and one of few.
+        product: Boxed<Product>,
     },
     /// Packs of a batch, each active from now on (Article 33 of Delegated Regulation (EU) 2016/161).
     Upload {
@@ -140,7 +140,7 @@ impl Message {
         match self {
             Message::Master { gtin, product } => Ok(Message::Master {
                 gtin: *gtin,
-                product: product.copy(alloc)?,
+                product: Boxed::new(alloc, product.get().copy(alloc)?)?,
             }),
             Message::Upload {
                 gtin,

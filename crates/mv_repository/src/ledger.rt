@@ -450,7 +450,7 @@ fn product_in(item: &Item) -> Option<&Product>
 {
     match item {
         Item::Carried { message, .. } => match message.get() {
-            Message::Master { product, .. } => Some(product),
+            Message::Master { product, .. } => Some(product.get()),
             _ => None,
         },
         Item::Receipt { .. } => None,

@@ -1,7 +1,7 @@
 //! What a link carries, and products, as values of JSON.
 
 use mv_link::Item;
-use mv_message::{Message, Party, Product};
+use mv_message::{Boxed, Message, Party, Product};
 use mv_pack::Gtin;
 use serde_json::{Value, json};
 use std::alloc::Global;
@@ -35,7 +35,7 @@ fn carried_value(alloc: Global, k: u32, stamp: u32, message: &Message) -> Option
 pub(crate) fn master_value(alloc: Global, gtin: &Gtin, product: &Product) -> Option<Value> {
     let master = Message::Master {
         gtin: *gtin,
-        product: product.copy(alloc).ok()?,
+        product: Boxed::new(alloc, product.copy(alloc).ok()?).ok()?,
     };
     mv_json::to_value(alloc, &master).ok()
 }

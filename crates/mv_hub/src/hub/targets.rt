@@ -31,7 +31,7 @@ impl Hub {
         let parties = self.parties();
         match message {
             Message::Master { gtin, product } => {
-                parties.serving_either(self.market_table(gtin), product.markets.as_slice())
+                parties.serving_either(self.market_table(gtin), product.get().markets.as_slice())
             }
             Message::Repack { before, after, .. } => parties.serving_either(
                 self.market_table(&before.gtin),

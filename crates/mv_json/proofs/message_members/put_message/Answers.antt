@@ -1,4 +1,4 @@
 use Rattle.mv_json.proofs.message_members.put_message.Goals as goal
 
 pub returns-in-Master : goal.returns-in-Master
-returns-in-Master g c = rw c.in-Master.is c.put_master.ensures
+returns-in-Master g c = rw c.in-Master.is (rw c.get.ensures at c.put_master.ensures)

@@ -15,7 +15,6 @@ use Rattle.mv_message.specs.declared.message.Message.TheVariants.{Upload}
 use Rattle.mv_link.specs.declared.item.Item.{Item}
 use Rattle.mv_link.specs.declared.item.Item.TheVariants.{Carried}
 use Rattle.mv_repository.specs.declared.entry.LogEntry.{LogEntry}
-use Rattle.mv_repository.specs.declared.slot.Birth.{Birth}
 use Rattle.mv_repository.specs.declared.slot.Slot.{Slot}
 use Rattle.mv_repository.specs.declared.slot.Slot.TheVariants.{Made, Own}
 use Rattle.mv_repository.specs.declared.held.Held.{Held}
@@ -24,7 +23,7 @@ use Rattle.mv_repository.specs.Keys.{is_same_text, is_same_pack, pack_key}
 use Rattle.mv_repository.specs.PackState.{held_of, has_pack}
 use Rattle.mv_repository.specs.Stops.{StopTables, entry_at}
 use Rattle.mv_repository.specs.Tables.{IsUploadOf}
-use Rattle.mv_repository.specs.Packs.{kept_born, kept_as, kept_table, IsWithin, AreWithin, IsBorn, is_own, is_own_in, IsPut, IsWrittenAnew, FindsTracked, is_in, is_of, batch_serials, is_birth, is_made_at, is_made_there, refreshed_in, IsSettled, AreSettled}
+use Rattle.mv_repository.specs.Packs.{Born, kept_born, kept_as, kept_table, IsWithin, AreWithin, IsBorn, is_own, is_own_in, IsPut, IsWrittenAnew, FindsTracked, is_in, is_of, batch_serials, is_birth, is_made_at, is_made_there, refreshed_in, IsSettled, AreSettled}
 use Rattle.mv_repository.specs.Tracked.{serials_in, has_serial, is_tracked, KeepsTracked}
 use Rattle.mv_repository.specs.Track.{Kept, nothing_kept, kept_in, pack_made_by, held_made_at, grown_at, marks_at, with_upload, refreshed, IsTrack, is_made, is_active_kept, one_if, IsTally}
 use Rattle.mv_repository.proofs.KeptLemmas.{same_pack, pack-sym, pack-self, text-self, serials_more}
@@ -180,7 +179,7 @@ written-apart {K} {L} test other (e ∷ es) list apart = by (test e.0) refl (wri
 
 -- what is kept, once a slot is written
 
-pub table-inserted : (births : List Birth) (slots : List (PackKey × Slot)) (key : PackKey) (slot : Slot)
+pub table-inserted : (births : List Born) (slots : List (PackKey × Slot)) (key : PackKey) (slot : Slot)
     → kept_table births (insert_entry is_same_pack slots key slot) ≡ insert_entry is_same_pack (kept_table births slots) key (kept_as births slot)
 table-inserted births [] key slot = refl
 table-inserted births (e ∷ es) key slot = by (is_same_pack key e.0) (table-inserted births es key slot)
@@ -191,7 +190,7 @@ table-inserted births (e ∷ es) key slot = by (is_same_pack key e.0) (table-ins
     by true r = refl
     by false r = ap (λ (l : List (PackKey × Kept)). (e.0, kept_as births e.1) ∷ l) r
 
-pub table-written : (births : List Birth) (slots : List (PackKey × Slot)) (key : PackKey) (slot : Slot)
+pub table-written : (births : List Born) (slots : List (PackKey × Slot)) (key : PackKey) (slot : Slot)
     → kept_table births (set_value (is_same_pack key) slots slot) ≡ set_value (is_same_pack key) (kept_table births slots) (kept_as births slot)
 table-written births [] key slot = refl
 table-written births (e ∷ es) key slot = by (is_same_pack key e.0) (table-written births es key slot)
@@ -203,11 +202,11 @@ table-written births (e ∷ es) key slot = by (is_same_pack key e.0) (table-writ
     by false r = ap (λ (l : List (PackKey × Kept)). (e.0, kept_as births e.1) ∷ l) r
 
 -- what is kept of a pack, by its slot
-abbrev pub kept_of : List Birth → Option Slot → Kept
+abbrev pub kept_of : List Born → Option Slot → Kept
 kept_of births None = nothing_kept
 kept_of births (Some slot) = kept_as births slot
 
-pub kept-by : (births : List Birth) (slots : List (PackKey × Slot)) (p : PackKey) → kept_in p (kept_table births slots) ≡ kept_of births (lookup (is_same_pack p) slots)
+pub kept-by : (births : List Born) (slots : List (PackKey × Slot)) (p : PackKey) → kept_in p (kept_table births slots) ≡ kept_of births (lookup (is_same_pack p) slots)
 kept-by births slots p =
     ap (λ (o : Option Kept). unwrap_or o nothing_kept) (lookup-map_values (kept_as births) (is_same_pack p) slots)
     ∙ elim (lookup (is_same_pack p) slots) as (λ o. unwrap_or (option_map (kept_as births) o) nothing_kept ≡ kept_of births o) [ None ↦ refl | Some slot ↦ refl ]
@@ -310,21 +309,21 @@ pub get-last : {A : Type 0} (xs : List A) (x : A) → slice_get (xs ++ x ∷ [])
 get-last [] x = refl
 get-last (y ∷ ys) x = get-last ys x
 
-pub table-more : (births : List Birth) (birth : Birth) (slots : List (PackKey × Slot)) → AreWithin (length births) slots → kept_table (births ++ birth ∷ []) slots ≡ kept_table births slots
+pub table-more : (births : List Born) (birth : Born) (slots : List (PackKey × Slot)) → AreWithin (length births) slots → kept_table (births ++ birth ∷ []) slots ≡ kept_table births slots
 table-more births birth [] w = refl
 table-more births birth (e ∷ es) w = λ i. (e.0, one e.1 w.0 i) ∷ table-more births birth es w.1 i
   where
     one : (slot : Slot) → IsWithin (length births) slot → kept_as (births ++ birth ∷ []) slot ≡ kept_as births slot
-    one (Made place) h = ap (λ (o : Option Birth). unwrap_or (option_map kept_born o) nothing_kept) (get-more births birth place h)
+    one (Made place) h = ap (λ (o : Option Born). unwrap_or (option_map kept_born o) nothing_kept) (get-more births birth place h)
     one (Own track) h = refl
 
 -- the newest upload stands last among the uploads
-pub newest-born : (births : List Birth) (birth : Birth) (log : List LogEntry) (entry : LogEntry) → birth.place ≡ length log → Some birth.held ≡ option_map held_of (pack_made_by entry.item)
+pub newest-born : (births : List Born) (birth : Born) (log : List LogEntry) (entry : LogEntry) → birth.place ≡ length log → birth.held ≡ option_map held_of (pack_made_by entry.item)
     → IsBorn (births ++ birth ∷ []) (longer log entry) (length log) (length births)
 newest-born births birth log entry at made = record {
   there = omega (arith, length-append births (birth ∷ []));
   kept =
-      ap (λ (o : Option Birth). unwrap_or (option_map kept_born o) nothing_kept) (get-last births birth)
+      ap (λ (o : Option Born). unwrap_or (option_map kept_born o) nothing_kept) (get-last births birth)
       ∙ (λ i. record { birth = Some (at i); places = []; marks = []; held = (made ∙ ap (λ (e : LogEntry). option_map held_of (pack_made_by e.item)) (sym (newest-stands log entry))) i });
 }
 
@@ -415,10 +414,10 @@ moves-written test es es' key v was is e w i =
     ∙ (λ j. length-filter (λ e. test e.1) es j + one_if (sym (i ∙ ap (λ (l : List (PackKey × Kept)). test (kept_in key l)) e) j))
 
 -- a pack that no status names has no place of a status
-unowned : (births : List Birth) (slots : List (PackKey × Slot)) (p : PackKey) → is_own_in p slots ≡ false → (kept_in p (kept_table births slots)).places ≡ []
+unowned : (births : List Born) (slots : List (PackKey × Slot)) (p : PackKey) → is_own_in p slots ≡ false → (kept_in p (kept_table births slots)).places ≡ []
 unowned births slots p h = ap (λ (k : Kept). k.places) (kept-by births slots p) ∙ by (lookup (is_same_pack p) slots) h
   where
-    made : (o : Option Birth) → (unwrap_or (option_map kept_born o) nothing_kept).places ≡ []
+    made : (o : Option Born) → (unwrap_or (option_map kept_born o) nothing_kept).places ≡ []
     made None = refl
     made (Some birth) = refl
 
@@ -487,7 +486,7 @@ module _ (log : List LogEntry) (tables : StopTables) where
       by false false = refl
 
   -- where the packs of a product that statuses name are worked out, all of the product are
-  pub again-all : (births : List Birth) (slots : List (PackKey × Slot)) (packs' : List (PackKey × Kept)) (products : List (List ℕ × List (List ℕ))) (gtin : List ℕ) → FindsTracked slots products
+  pub again-all : (births : List Born) (slots : List (PackKey × Slot)) (packs' : List (PackKey × Kept)) (products : List (List ℕ × List (List ℕ))) (gtin : List ℕ) → FindsTracked slots products
       → AreSettled log tables (kept_table births slots)
       → ((p : PackKey) → kept_in p packs' ≡ cond (has_pack gtin (serials_in (is_same_text gtin) products) p) (refreshed_in log tables None p (kept_in p (kept_table births slots))) (kept_in p (kept_table births slots)))
       → (p : PackKey) → kept_in p packs' ≡ cond (is_of gtin None p (kept_in p (kept_table births slots))) (refreshed log tables p (kept_in p (kept_table births slots))) (kept_in p (kept_table births slots))
@@ -532,10 +531,10 @@ module _ (log : List LogEntry) (tables : StopTables) where
 
 -- what stands for a pack
 
-pub found-kept : (births : List Birth) (slots : List (PackKey × Slot)) (key : PackKey) (slot : Slot) → lookup (is_same_pack key) slots ≡ Some slot → kept_in key (kept_table births slots) ≡ kept_as births slot
+pub found-kept : (births : List Born) (slots : List (PackKey × Slot)) (key : PackKey) (slot : Slot) → lookup (is_same_pack key) slots ≡ Some slot → kept_in key (kept_table births slots) ≡ kept_as births slot
 found-kept births slots key slot h = kept-by births slots key ∙ ap (kept_of births) h
 
-pub absent-kept : (births : List Birth) (slots : List (PackKey × Slot)) (key : PackKey) → lookup (is_same_pack key) slots ≡ None → kept_in key (kept_table births slots) ≡ nothing_kept
+pub absent-kept : (births : List Born) (slots : List (PackKey × Slot)) (key : PackKey) → lookup (is_same_pack key) slots ≡ None → kept_in key (kept_table births slots) ≡ nothing_kept
 absent-kept births slots key h = kept-by births slots key ∙ ap (kept_of births) h
 
 pub none-own : (slots : List (PackKey × Slot)) (key : PackKey) → lookup (is_same_pack key) slots ≡ None → is_own_in key slots ≡ false
@@ -545,7 +544,7 @@ pub found-own : (slots : List (PackKey × Slot)) (key : PackKey) (slot : Slot) �
 found-own slots key slot h = ap (λ (o : Option Slot). unwrap_or (option_map is_own o) false) h
 
 -- a pack that the newest upload makes is as that upload makes it
-pub born-fresh : (births : List Birth) (log : List LogEntry) (tables : StopTables) (key : PackKey) (new at : ℕ) (kept : Kept) → IsBorn births log new at → kept ≡ nothing_kept
+pub born-fresh : (births : List Born) (log : List LogEntry) (tables : StopTables) (key : PackKey) (new at : ℕ) (kept : Kept) → IsBorn births log new at → kept ≡ nothing_kept
     → kept_as births (Made at) ≡ with_upload log tables key new kept
 born-fresh births log tables key new at kept born none =
     born.kept ∙ (λ i. record { birth = Some new; places = []; marks = []; held = same (held_made_at log new) i }) ∙ ap (with_upload log tables key new) (sym none)
@@ -555,7 +554,7 @@ born-fresh births log tables key new at kept born none =
     same (Some held) = refl
 
 -- a table once a slot is put in
-module _ (births : List Birth) (old new : List (PackKey × Slot)) (key : PackKey) (kept : Kept) (own : Bool) (put : IsPut births old new key kept own) where
+module _ (births : List Born) (old new : List (PackKey × Slot)) (key : PackKey) (kept : Kept) (own : Bool) (put : IsPut births old new key kept own) where
   put-table : kept_table births new ≡ insert_entry is_same_pack (kept_table births old) key kept
   put-table = ap (kept_table births) put.entries ∙ table-inserted births old key put.slot ∙ ap (insert_entry is_same_pack (kept_table births old) key) put.kept_is
 
@@ -570,10 +569,10 @@ module _ (births : List Birth) (old new : List (PackKey × Slot)) (key : PackKey
   pub put-within : AreWithin (length births) old → AreWithin (length births) new
   put-within w = subst (AreWithin (length births)) (sym put.entries) (within-inserted (length births) old key put.slot (put.within w) w)
 
-pub put-own : (births : List Birth) (old new : List (PackKey × Slot)) (key : PackKey) (kept : Kept) → IsPut births old new key kept (is_own_in key old) → (p : PackKey) → is_own_in p new ≡ is_own_in p old
+pub put-own : (births : List Born) (old new : List (PackKey × Slot)) (key : PackKey) (kept : Kept) → IsPut births old new key kept (is_own_in key old) → (p : PackKey) → is_own_in p new ≡ is_own_in p old
 put-own births old new key kept put p = ap (is_own_in p) put.entries ∙ own-inserted old key put.slot put.own_is p
 
-pub put-finds : (births : List Birth) (old new : List (PackKey × Slot)) (key : PackKey) (kept : Kept) (own : Bool) (products products' : List (List ℕ × List (List ℕ))) → IsPut births old new key kept own
+pub put-finds : (births : List Born) (old new : List (PackKey × Slot)) (key : PackKey) (kept : Kept) (own : Bool) (products products' : List (List ℕ × List (List ℕ))) → IsPut births old new key kept own
     → KeepsTracked products products' → (is_own_in key old ≡ false → is_tracked key products' ≡ true) → FindsTracked old products → FindsTracked new products'
 put-finds births old new key kept own products products' put keeps added finds =
     subst (λ (slots : List (PackKey × Slot)). FindsTracked slots products') (sym put.entries) (finds-inserted old key put.slot products products' keeps added finds)
@@ -589,7 +588,7 @@ written-absent {X = X} (e ∷ es) key v h = by (is_same_pack key e.0) h (written
     by true f r = absurd (none-some _ (sym f))
     by false f r = ap (λ (l : List (PackKey × X)). e ∷ l) (r f)
 
-module _ (births : List Birth) (old new : List (PackKey × Slot)) (key : PackKey) (f : Kept → Kept) (none : f nothing_kept ≡ nothing_kept)
+module _ (births : List Born) (old new : List (PackKey × Slot)) (key : PackKey) (f : Kept → Kept) (none : f nothing_kept ≡ nothing_kept)
     (written : IsWrittenAnew births old new key (f (kept_in key (kept_table births old)))) where
   written-table : kept_table births new ≡ set_value (is_same_pack key) (kept_table births old) (f (kept_in key (kept_table births old)))
   written-table =
@@ -625,7 +624,7 @@ module _ (births : List Birth) (old new : List (PackKey × Slot)) (key : PackKey
 -- the tally of a table, once one pack is written
 
 -- a tally is no greater than the table
-pub tally-most : (births : List Birth) (slots : List (PackKey × Slot)) (tally : Tally) (most : ℕ) → IsTally (kept_table births slots) tally → length slots ≤ most → (tally.held ≤ most) × (tally.active ≤ most)
+pub tally-most : (births : List Born) (slots : List (PackKey × Slot)) (tally : Tally) (most : ℕ) → IsTally (kept_table births slots) tally → length slots ≤ most → (tally.held ≤ most) × (tally.active ≤ most)
 tally-most births slots tally most t l = (
   omega (arith, t.held, count-most (λ (entry : PackKey × Kept). is_made entry.1) (kept_table births slots), long slots),
   omega (arith, t.active, count-most (λ (entry : PackKey × Kept). is_active_kept entry.1) (kept_table births slots), long slots),

@@ -12,12 +12,11 @@ use Rattle.indexmap.specs.IndexMap.{insert_entry}
 use Rattle.indexmap.specs.IndexSet.{insert_key}
 use Rattle.mv_pack.specs.declared.key.PackKey.{PackKey}
 use Rattle.mv_repository.specs.declared.entry.LogEntry.{LogEntry}
-use Rattle.mv_repository.specs.declared.slot.Birth.{Birth}
 use Rattle.mv_repository.specs.declared.slot.Slot.{Slot}
 use Rattle.mv_repository.specs.declared.slots.PackName.{PackName}
 use Rattle.mv_repository.specs.Keys.{is_same_text, is_same_pack, pack_key}
 use Rattle.mv_repository.specs.PackState.{has_pack}
-use Rattle.mv_repository.specs.Packs.{kept_table, refreshed_in}
+use Rattle.mv_repository.specs.Packs.{Born, kept_table, refreshed_in}
 use Rattle.mv_repository.specs.Stops.{StopTables}
 use Rattle.mv_repository.specs.Track.{Kept, kept_in}
 use Rattle.mv_repository.specs.Slots.{is_same_name, pack_named, pack_slots, AreNamed, IsNamed, HasNoPackOf}
@@ -208,7 +207,7 @@ module _ (products products' : List (List ℕ)) (gtin : List ℕ) (absent : list
       record { named = named-more (length products) (length products') slots (omega arith) named.named; distinct = distinct; few = omega arith }
 
 -- where nothing stands for any pack of a product, working its packs out again changes nothing
-pub none-refreshed : (log : List LogEntry) (tables : StopTables) (maker : Option ℕ) (births : List Birth) (slots : List (PackKey × Slot)) (gtin : List ℕ) (serials : List (List ℕ)) → HasNoPackOf gtin slots
+pub none-refreshed : (log : List LogEntry) (tables : StopTables) (maker : Option ℕ) (births : List Born) (slots : List (PackKey × Slot)) (gtin : List ℕ) (serials : List (List ℕ)) → HasNoPackOf gtin slots
     → (p : PackKey) → kept_in p (kept_table births slots) ≡ cond (has_pack gtin serials p) (refreshed_in log tables maker p (kept_in p (kept_table births slots))) (kept_in p (kept_table births slots))
 none-refreshed log tables maker births slots gtin serials none p = by (is_same_text gtin p.gtin) (list_any (λ serial. is_same_text serial p.serial) serials) refl
   where

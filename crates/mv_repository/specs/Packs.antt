@@ -7,33 +7,41 @@ use Rattle.std.specs.Map.{lookup, set_value}
 use Rattle.indexmap.specs.IndexMap.{insert_entry}
 use Rattle.std.specs.Option.{option_map, unwrap_or}
 use Rattle.mv_pack.specs.declared.key.PackKey.{PackKey}
+use Rattle.mv_message.specs.declared.message.Message.{Message}
 use Rattle.mv_message.specs.declared.message.Message.TheVariants.{Upload}
 use Rattle.mv_link.specs.declared.item.Item.{Item}
 use Rattle.mv_link.specs.declared.item.Item.TheVariants.{Carried}
 use Rattle.mv_repository.specs.declared.entry.LogEntry.{LogEntry}
 use Rattle.mv_repository.specs.declared.held.Held.{Held}
-use Rattle.mv_repository.specs.declared.slot.Birth.{Birth}
 use Rattle.mv_repository.specs.declared.slot.Slot.{Slot}
 use Rattle.mv_repository.specs.declared.slot.Slot.TheVariants.{Made, Own}
 use Rattle.mv_repository.specs.declared.tally.Tally.{Tally}
 use Rattle.mv_repository.specs.Keys.{is_same_text, is_same_pack, batch_key}
-use Rattle.mv_repository.specs.PackState.{has_pack}
+use Rattle.mv_repository.specs.PackState.{has_pack, held_of}
 use Rattle.mv_repository.specs.Batches.{is_listed}
 use Rattle.mv_repository.specs.Stops.{StopTables, entry_at}
 use Rattle.mv_repository.specs.Tracked.{is_tracked}
-use Rattle.mv_repository.specs.Track.{Kept, is_upload_of, uploaded_batch, nothing_kept, kept_in, held_made_at, refreshed, IsTrack, IsTally}
+use Rattle.mv_repository.specs.Track.{Kept, is_upload_of, uploaded_batch, nothing_kept, kept_in, held_made_at, pack_made_of, refreshed, IsTrack, IsTally}
+
+-- an upload, by its place in the log, and what each pack is that it makes
+pub record Born : Type 0 where
+  pub place : ℕ
+  pub held : Option Held
+
+abbrev pub born_by : ℕ → Message → Born
+born_by place message = record { place = place; held = option_map held_of (pack_made_of message) }
 
 -- what is kept of a pack that is as an upload made it
-abbrev pub kept_born : Birth → Kept
-kept_born birth = record { birth = Some birth.place; places = []; marks = []; held = Some birth.held }
+abbrev pub kept_born : Born → Kept
+kept_born birth = record { birth = Some birth.place; places = []; marks = []; held = birth.held }
 
 -- what is kept of a pack, by what stands in the table
-abbrev pub kept_as : List Birth → Slot → Kept
+abbrev pub kept_as : List Born → Slot → Kept
 kept_as births (Made place) = unwrap_or (option_map kept_born (slice_get births place)) nothing_kept
 kept_as births (Own track) = track.value
 
 -- the table, with what is kept of each pack
-abbrev pub kept_table : List Birth → List (PackKey × Slot) → List (PackKey × Kept)
+abbrev pub kept_table : List Born → List (PackKey × Slot) → List (PackKey × Kept)
 kept_table births slots = map (λ entry. (entry.0, kept_as births entry.1)) slots
 
 -- what a slot points at is there
@@ -46,7 +54,7 @@ AreWithin count [] = ⊤
 AreWithin count (entry ∷ rest) = IsWithin count entry.1 × AreWithin count rest
 
 -- the newest entry, an upload, stands at a place among the uploads
-pub record IsBorn (births : List Birth) (log : List LogEntry) (new at : ℕ) : Type 0 where
+pub record IsBorn (births : List Born) (log : List LogEntry) (new at : ℕ) : Type 0 where
   pub there : at < length births
   pub kept : kept_as births (Made at) ≡ record { birth = Some new; places = []; marks = []; held = held_made_at log new }
 
@@ -63,7 +71,7 @@ abbrev pub FindsTracked : List (PackKey × Slot) → List (List ℕ × List (Lis
 FindsTracked slots products = (pack : PackKey) → is_own_in pack slots ≡ true → is_tracked pack products ≡ true
 
 -- one slot was put in: the pack has what is kept by it
-pub record IsPut (births : List Birth) (old new : List (PackKey × Slot)) (key : PackKey) (kept : Kept) (own : Bool) : Type 0 where
+pub record IsPut (births : List Born) (old new : List (PackKey × Slot)) (key : PackKey) (kept : Kept) (own : Bool) : Type 0 where
   pub slot : Slot
   pub entries : new ≡ insert_entry is_same_pack old key slot
   pub kept_is : kept_as births slot ≡ kept
@@ -71,7 +79,7 @@ pub record IsPut (births : List Birth) (old new : List (PackKey × Slot)) (key :
   pub own_is : is_own slot ≡ own
 
 -- one slot was written, where there is one: the pack has what is kept by it, and a track of its own only if it had one
-pub record IsWrittenAnew (births : List Birth) (old new : List (PackKey × Slot)) (key : PackKey) (kept : Kept) : Type 0 where
+pub record IsWrittenAnew (births : List Born) (old new : List (PackKey × Slot)) (key : PackKey) (kept : Kept) : Type 0 where
   pub slot : Slot
   pub entries : new ≡ set_value (is_same_pack key) old slot
   pub kept_is : is_some (lookup (is_same_pack key) old) ≡ true → kept_as births slot ≡ kept
@@ -126,7 +134,7 @@ is_made_at log batch places pack birth =
     places
 
 -- what stands in the parts of the table belongs together
-pub record IsTable (births : List Birth) (slots : List (PackKey × Slot)) (products : List (List ℕ × List (List ℕ)))
+pub record IsTable (births : List Born) (slots : List (PackKey × Slot)) (products : List (List ℕ × List (List ℕ)))
     (uploads : List (BatchKey × List ℕ)) (count : Tally) : Type 0 where
   pub within : AreWithin (length births) slots
   pub tracked : FindsTracked slots products

@@ -6,6 +6,7 @@ use Rattle.mv_repository.specs.declared.tally.Tally.{Tally}
 use Rattle.std.specs.Option.{option_map, unwrap_or}
 use Rattle.mv_pack.specs.declared.key.PackKey.{PackKey}
 use Rattle.mv_pack.specs.declared.key.BatchKey.{BatchKey}
+use Rattle.mv_message.specs.declared.message.Message.{Message}
 use Rattle.mv_message.specs.declared.message.Message.TheVariants.{Upload, Status}
 use Rattle.mv_link.specs.declared.item.Item.{Item}
 use Rattle.mv_link.specs.declared.item.Item.TheVariants.{Carried}
@@ -45,9 +46,13 @@ first_upload pack entries = find (λ placed. is_upload_of pack placed.entry.item
 abbrev pub statuses_of : PackKey → List Placed → List Placed
 statuses_of pack entries = filter (λ placed. is_status_of pack placed.entry.item) entries
 
--- the pack that an upload makes; none where an item is no upload
+-- the pack that an upload makes; none where a message, or what an item carries, is no upload
+abbrev pub pack_made_of : Message → Option KnownPack
+pack_made_of (Upload gtin batch expiry national serials) = Some (new_pack batch expiry national)
+pack_made_of _ = None
+
 abbrev pub pack_made_by : Item → Option KnownPack
-pack_made_by (Carried k stamp (Upload gtin batch expiry national serials)) = Some (new_pack batch expiry national)
+pack_made_by (Carried k stamp message) = pack_made_of message
 pack_made_by _ = None
 
 -- a pack that is held, once an entry follows that may be a status of it

@@ -14,7 +14,6 @@ use crate::order::rank;
 use crate::packs::Packs;
 use crate::status::is_active;
 use crate::stops::Stops;
-use crate::track::copy_of;
 use crate::verdict::{is_explained, verdict_when};
 use crate::{Counts, Effect, Held, Local, LogEntry};
 use indexmap::IndexMap;
@@ -118,8 +117,8 @@ impl Ledger {
     }
 
     /// What a pack is; none where no upload names it.
-    pub fn pack(&self, key: &PackKey) -> Option<&Held>
-        ensures { option_copied result ≡ pack_state key.now self.now.log }
+    pub fn pack(&self, key: &PackKey) -> Option<Held>
+        ensures { result ≡ pack_state key.now self.now.log }
     {
         self.packs.get(key)
     }
@@ -164,9 +163,9 @@ impl Ledger {
             batch: held.batch.copy(),
         };
         Found::Present {
-            batch: held.batch.copy(),
+            batch: held.batch,
             expiry: held.expiry,
-            national: copy_of(&held.national),
+            national: held.national,
             standing: held.standing,
             recalled: self.recalled(&batch),
             withdrawn: self.withdrawn(&key.gtin),

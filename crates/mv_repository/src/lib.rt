@@ -19,6 +19,7 @@
 #![tactic(auto)]
 
 mod batches;
+mod birth;
 mod counts;
 mod effect;
 mod entry;

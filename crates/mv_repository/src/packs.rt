@@ -3,7 +3,6 @@
 ghost use Rattle.std.specs.Prelude.{◌≡◌, ◌<◌, ◌≤◌, ◌+◌, ◌∷◌, ◌++◌, ℕ, [], length, get_or, vec_len, vec_capacity, OnOk, OnErr, IfOk, if◌then◌else◌};
 ghost use Rattle.std.specs.List.{IsDistinct};
 ghost use Rattle.std.specs.Map.{keys_of};
-ghost use Rattle.std.specs.Option.{option_copied};
 ghost use Rattle.mv_pack.specs.declared.key.PackKey.{PackKey as APackKey};
 ghost use Rattle.mv_repository.specs.Keys.{is_same_pack};
 ghost use Rattle.mv_repository.specs.PackState.{has_pack};
@@ -12,7 +11,7 @@ ghost use Rattle.mv_repository.specs.Tables.{IsUploadOf};
 ghost use Rattle.mv_repository.specs.Track.{kept_in, IsTrack, AreTracks, with_status, with_upload, newest_effect, made_count, IsTally};
 
 use crate::batches::Batches;
-use crate::slot::Birth;
+use crate::birth::Birth;
 use crate::slots::Slots;
 use crate::stops::Stops;
 use crate::table::Table;
@@ -74,8 +73,8 @@ impl Packs {
     }
 
     /// What a pack is; none where no upload names it.
-    pub fn get(&self, key: &PackKey) -> Option<&Held>
-        ensures { option_copied result ≡ (kept_in key.now self.now).held }
+    pub fn get(&self, key: &PackKey) -> Option<Held>
+        ensures { result ≡ (kept_in key.now self.now).held }
     {
         let slot = self.table.slots.get(key)?;
         slot.held(self.births.as_slice())
@@ -117,19 +116,20 @@ impl Packs {
         let Some(held) = made_by(&entry.item) else {
             unreachable!();
         };
+        let new = log.len();
+        let birth = Birth::of(&entry.item, new)?;
         self.births.reserve(1)?;
         self.table.slots.reserve(serials.len())?;
         let product = self.table.slots.add_product(gtin)?;
-        let new = log.len();
         let batch = BatchKey {
             gtin,
-            batch: held.batch.copy(),
+            batch: held.batch,
         };
         self.batches.add(batch.copy(), new)?;
         // All room is got: nothing fails from here on.
         let at = self.births.len();
         log.push_reserved(entry);
-        self.births.push_reserved(Birth { place: new, held });
+        self.births.push_reserved(birth);
         let births = self.births.as_slice();
         let count = self.table.add_uploads(
             births,

@@ -80,8 +80,8 @@ impl Repository {
     }
 
     /// What a pack is; none where no upload names it.
-    pub fn pack(&self, key: &PackKey) -> Option<&Held>
-        ensures { option_copied result ≡ pack_state key.now self.now.log }
+    pub fn pack(&self, key: &PackKey) -> Option<Held>
+        ensures { result ≡ pack_state key.now self.now.log }
     {
         self.ledger.pack(key)
     }

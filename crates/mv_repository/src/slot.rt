@@ -2,13 +2,13 @@
 //! its own from then on. This file knows no other pack.
 
 ghost use Rattle.std.specs.Prelude.{◌≡◌, ◌<◌, ◌∷◌, ◌++◌, [], ℕ, length, vec_len, vec_capacity, OnOk, OnErr, IfOk, true, false, if◌then◌else◌};
-ghost use Rattle.std.specs.Option.{option_copied};
 ghost use Rattle.mv_repository.specs.Stops.{comes_first};
 ghost use Rattle.mv_repository.specs.Packs.{kept_as};
 ghost use Rattle.mv_repository.specs.Tracked.{is_tracked, KeepsTracked};
 ghost use Rattle.mv_repository.specs.declared.slot.Slot.TheVariants.{Made};
 ghost use Rattle.mv_repository.specs.Track.{grown_at, IsTrack, with_status, with_upload, newest_effect, is_made, is_active_kept};
 
+use crate::birth::Birth;
 use crate::order::comes_first;
 use crate::stops::Stops;
 use crate::tally::Share;
@@ -17,15 +17,6 @@ use crate::tracked::Tracked;
 use crate::{Effect, Held, LogEntry};
 use mv_pack::PackKey;
 use std::alloc::{AllocError, Global};
-
-/// An upload, by its place in the log and what it makes of packs.
-#[derive(Drop)]
-pub(crate) struct Birth {
-    /// Its place in the log.
-    pub place: usize,
-    /// What each pack is that it makes.
-    pub held: Held,
-}
 
 /// What stands in the table for a pack.
 #[derive(Drop)]
@@ -40,11 +31,11 @@ impl Slot {
     ghost use Rattle.mv_repository.specs.Packs.{IsWithin, is_own, refreshed_in, IsSettled, IsBorn};
 
     /// What the pack is; none where no upload names it.
-    pub fn held<'a>(&'a self, births: &'a [Birth]) -> Option<&'a Held>
-        ensures { option_copied result ≡ (kept_as births.now self.now).held }
+    pub fn held(&self, births: &[Birth]) -> Option<Held>
+        ensures { result ≡ (kept_as births.now self.now).held }
     {
         match self {
-            Slot::Made(place) => Some(&births.get(*place)?.held),
+            Slot::Made(place) => births.get(*place)?.held(),
             Slot::Own(track) => track.held(),
         }
     }
@@ -56,7 +47,7 @@ impl Slot {
     {
         match self {
             Slot::Made(place) => match births.get(*place) {
-                Some(birth) => Share::of(&birth.held),
+                Some(birth) => birth.share(),
                 None => Share::NONE,
             },
             Slot::Own(track) => track.share(),
@@ -162,14 +153,14 @@ impl Slot {
 fn birth_at(births: &[Birth], place: usize) -> Option<usize>
     ensures { result ≡ (kept_as births.now (Made place)).birth }
 {
-    Some(births.get(place)?.place)
+    Some(births.get(place)?.place())
 }
 
 /// What each pack is that an upload makes.
 fn made_at(births: &[Birth], place: usize) -> Option<Held>
     ensures { result ≡ (kept_as births.now (Made place)).held }
 {
-    Some(births.get(place)?.held.copy())
+    births.get(place)?.held()
 }
 
 /// A track that begins with its first status.

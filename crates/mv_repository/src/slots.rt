@@ -10,7 +10,8 @@ ghost use Rattle.mv_repository.specs.Stops.{comes_first};
 ghost use Rattle.mv_repository.specs.Tracked.{is_tracked, KeepsTracked};
 ghost use Rattle.mv_repository.specs.Track.{kept_in, IsTrack, with_status, with_upload, newest_effect, is_made, is_active_kept};
 
-use crate::slot::{Birth, Slot, start};
+use crate::birth::Birth;
+use crate::slot::{Slot, start};
 use crate::stops::Stops;
 use crate::tally::Share;
 use crate::tracked::Tracked;

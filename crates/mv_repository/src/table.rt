@@ -8,7 +8,7 @@ ghost use Rattle.mv_repository.specs.Packs.{kept_table, AreWithin, is_own_in, Fi
 ghost use Rattle.mv_repository.specs.Stops.{comes_first, entry_at};
 ghost use Rattle.mv_repository.specs.Track.{kept_in, IsTrack, AreTracks, with_status, with_upload, newest_effect, made_count, refreshed, IsTally};
 
-use crate::slot::Birth;
+use crate::birth::Birth;
 use crate::slots::Slots;
 use crate::stops::Stops;
 use crate::tally::Tally;

@@ -1,11 +1,7 @@
 //! How many packs are held, and how many of them are active.
 
-ghost use Rattle.std.specs.Prelude.{◌≡◌, ◌≤◌, ◌+◌, ◌^◌, true, Some};
-ghost use Rattle.mv_repository.specs.Counts.{is_held_active};
+ghost use Rattle.std.specs.Prelude.{◌≡◌, ◌≤◌, ◌+◌, ◌^◌};
 ghost use Rattle.mv_repository.specs.Track.{one_if};
-
-use crate::Held;
-use crate::status::is_active;
 
 /// How many packs are held, and how many of them are active.
 #[derive(Clone, Copy, Debug, PartialEq, Eq)]
@@ -31,17 +27,6 @@ impl Share {
         held: false,
         active: false,
     };
-
-    /// What a pack that is held adds.
-    pub fn of(held: &Held) -> Share
-        ensures held { result.held ≡ true }
-        ensures active { result.active ≡ is_held_active (Some held.now) }
-    {
-        Share {
-            held: true,
-            active: is_active(held.standing),
-        }
-    }
 }
 
 impl Tally {

@@ -2,13 +2,13 @@
 //! what they make of it. This file knows no other pack.
 
 ghost use Rattle.std.specs.Prelude.{◌≡◌, ◌<◌, ◌≤◌, ◌∷◌, ◌++◌, [], ℕ, List, length, map, insert, take, vec_len, vec_capacity, OnOk, OnErr, IfOk, if◌then◌else◌};
-ghost use Rattle.std.specs.Option.{option_copied, option_map};
+ghost use Rattle.std.specs.Option.{option_map};
 ghost use Rattle.mv_repository.specs.Order.{Ascends};
 ghost use Rattle.mv_repository.specs.Pack.{pack_after_status};
 ghost use Rattle.mv_repository.specs.PackState.{held_of};
 ghost use Rattle.mv_pack.specs.declared.key.PackKey.{PackKey as APackKey};
 ghost use Rattle.mv_repository.specs.Stops.{StopTables, entry_at, stops_in, comes_first};
-ghost use Rattle.mv_repository.specs.Track.{known_of, pack_made_by, held_made_at, held_step, grown_at, put_place, IsTrack, with_status, with_upload, refreshed, places_before, held_before, effect_when, newest_effect, stands_by, is_made, is_active_kept};
+ghost use Rattle.mv_repository.specs.Track.{known_of, pack_made_of, pack_made_by, held_made_at, held_step, grown_at, put_place, IsTrack, with_status, with_upload, refreshed, places_before, held_before, effect_when, newest_effect, stands_by, is_made, is_active_kept};
 
 use crate::order::{comes_first, stands_before};
 use crate::status::{change_effect, is_active};
@@ -36,15 +36,22 @@ pub(crate) fn copy_of(national: &Option<National>) -> Option<National>
 pub(crate) fn made_by(item: &Item) -> Option<Held>
     ensures { result ≡ option_map held_of (pack_made_by item.now) }
 {
-    let Item::Carried { message, .. } = item else {
-        return None;
-    };
+    match item {
+        Item::Carried { message, .. } => made_of(message.get()),
+        Item::Receipt { .. } => None,
+    }
+}
+
+/// The pack that a message makes, where it is an upload.
+pub(crate) fn made_of(message: &Message) -> Option<Held>
+    ensures { result ≡ option_map held_of (pack_made_of message.now) }
+{
     let Message::Upload {
         batch,
         expiry,
         national,
         ..
-    } = message.get()
+    } = message
     else {
         return None;
     };
@@ -250,10 +257,13 @@ impl Track {
     }
 
     /// What the pack is; none where no upload names it.
-    pub fn held(&self) -> Option<&Held>
-        ensures { option_copied result ≡ self.now.held }
+    pub fn held(&self) -> Option<Held>
+        ensures { result ≡ self.now.held }
     {
-        self.held.as_ref()
+        match &self.held {
+            Some(held) => Some(held.copy()),
+            None => None,
+        }
     }
 
     /// What the pack adds to the tally.

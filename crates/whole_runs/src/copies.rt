@@ -102,7 +102,7 @@ fn batch_value(alloc: Global, repository: &Repository, key: &BatchKey) -> Option
 /// A pack that a repository holds or not.
 fn pack_value(alloc: Global, repository: &Repository, key: &PackKey) -> Option<Value> {
     let held = match repository.pack(key) {
-        Some(held) => held_value(alloc, held)?,
+        Some(held) => held_value(alloc, &held)?,
         None => Value::Null,
     };
     let value = json!(in alloc; {

@@ -3,12 +3,11 @@ use Rattle.std.proofs.Common.{◌≡◌, ◌≤◌, ◌∙◌, ◌∷◌, ◌++�
 use Rattle.std.specs.Option.{option_map}
 use Rattle.mv_pack.specs.declared.key.PackKey.{PackKey}
 use Rattle.mv_pack.specs.declared.key.BatchKey.{BatchKey}
-use Rattle.mv_repository.specs.declared.slot.Birth.{Birth}
 use Rattle.mv_repository.specs.declared.entry.LogEntry.{LogEntry}
 use Rattle.mv_repository.specs.Keys.{is_same_batch, batch_key}
 use Rattle.mv_repository.specs.Batches.{uploads_in}
 use Rattle.mv_repository.specs.PackState.{has_pack, held_of}
-use Rattle.mv_repository.specs.Packs.{kept_table, AreWithin, AreFound, IsBorn, is_own_in}
+use Rattle.mv_repository.specs.Packs.{Born, kept_table, AreWithin, AreFound, IsBorn, is_own_in}
 use Rattle.mv_repository.specs.Track.{Kept, kept_in, pack_made_by, IsTrack, IsTally, with_upload, made_count}
 use Rattle.mv_repository.proofs.PacksLemmas.{upload-made, newest-born, table-more, within-more}
 use Rattle.mv_repository.proofs.TableLemmas.{newest-stands}
@@ -24,22 +23,22 @@ pub add_uploads-count-requires-clause-born : goal.add_uploads-count-requires-cla
 add_uploads-count-requires-clause-born c =
     let items = c.self.inside.births.items in
     let slots = c.self.inside.table.slots.entries in
-    let birth : Birth = record { place = c.len-new.result; held = c.in-Some.held } in
+    let birth : Born = c.in_ok-birth.birth in
     let births_is : c.as_slice-births.result.now ≡ items ++ birth ∷ [] = search rules in
     let slots_are : c.add_product.new.self.entries ≡ slots = search rules in
     let log_is : c.as_slice.result.now ≡ c.args.log.now.items ++ c.args.entry ∷ [] = search rules in
     let new_is : c.len-new.result ≡ length c.args.log.now.items = search rules in
     let same : kept_table c.as_slice-births.result.now c.add_product.new.self.entries ≡ kept_table items slots = (λ i. kept_table (births_is i) (slots_are i)) ∙ table-more items birth slots c.self.invariant.within in
     let at_is : c.len-at.result ≡ length items = search rules in
-    let made : Some c.in-Some.held ≡ option_map held_of (pack_made_by c.args.entry.item) = search rules in
     rw (births_is, log_is, at_is)
-    (subst (λ (n : ℕ). IsBorn (items ++ birth ∷ []) (c.args.log.now.items ++ c.args.entry ∷ []) n (length items)) (sym new_is) (newest-born items birth c.args.log.now.items c.args.entry new_is made))
+    (subst (λ (n : ℕ). IsBorn (items ++ birth ∷ []) (c.args.log.now.items ++ c.args.entry ∷ []) n (length items)) (sym new_is)
+    (newest-born items birth c.args.log.now.items c.args.entry (c.in_ok-birth.ensures.place ∙ new_is) c.in_ok-birth.ensures.held))
 
 pub add_uploads-count-requires-clause-tracks : goal.add_uploads-count-requires-clause-tracks
 add_uploads-count-requires-clause-tracks c pack =
     let items = c.self.inside.births.items in
     let slots = c.self.inside.table.slots.entries in
-    let birth : Birth = record { place = c.len-new.result; held = c.in-Some.held } in
+    let birth : Born = c.in_ok-birth.birth in
     let births_is : c.as_slice-births.result.now ≡ items ++ birth ∷ [] = search rules in
     let slots_are : c.add_product.new.self.entries ≡ slots = search rules in
     let log_is : c.as_slice.result.now ≡ c.args.log.now.items ++ c.args.entry ∷ [] = search rules in
@@ -51,7 +50,7 @@ pub add_uploads-count-requires-clause-tally : goal.add_uploads-count-requires-cl
 add_uploads-count-requires-clause-tally c =
     let items = c.self.inside.births.items in
     let slots = c.self.inside.table.slots.entries in
-    let birth : Birth = record { place = c.len-new.result; held = c.in-Some.held } in
+    let birth : Born = c.in_ok-birth.birth in
     let births_is : c.as_slice-births.result.now ≡ items ++ birth ∷ [] = search rules in
     let slots_are : c.add_product.new.self.entries ≡ slots = search rules in
     let log_is : c.as_slice.result.now ≡ c.args.log.now.items ++ c.args.entry ∷ [] = search rules in
@@ -63,7 +62,7 @@ pub add_uploads-count-requires-clause-within : goal.add_uploads-count-requires-c
 add_uploads-count-requires-clause-within c =
     let items = c.self.inside.births.items in
     let slots = c.self.inside.table.slots.entries in
-    let birth : Birth = record { place = c.len-new.result; held = c.in-Some.held } in
+    let birth : Born = c.in_ok-birth.birth in
     let births_is : c.as_slice-births.result.now ≡ items ++ birth ∷ [] = search rules in
     let slots_are : c.add_product.new.self.entries ≡ slots = search rules in
     let log_is : c.as_slice.result.now ≡ c.args.log.now.items ++ c.args.entry ∷ [] = search rules in
@@ -76,7 +75,7 @@ pub returns-clause-kept : goal.returns-clause-kept
 returns-clause-kept c pack =
     let items = c.self.inside.births.items in
     let slots = c.self.inside.table.slots.entries in
-    let birth : Birth = record { place = c.len-new.result; held = c.in-Some.held } in
+    let birth : Born = c.in_ok-birth.birth in
     let births_is : c.as_slice-births.result.now ≡ items ++ birth ∷ [] = search rules in
     let slots_are : c.add_product.new.self.entries ≡ slots = search rules in
     let log_is : c.as_slice.result.now ≡ c.args.log.now.items ++ c.args.entry ∷ [] = search rules in
@@ -91,7 +90,7 @@ pub returns-clause-count : goal.returns-clause-count
 returns-clause-count c =
     let items = c.self.inside.births.items in
     let slots = c.self.inside.table.slots.entries in
-    let birth : Birth = record { place = c.len-new.result; held = c.in-Some.held } in
+    let birth : Born = c.in_ok-birth.birth in
     let births_is : c.as_slice-births.result.now ≡ items ++ birth ∷ [] = search rules in
     let slots_are : c.add_product.new.self.entries ≡ slots = search rules in
     let log_is : c.as_slice.result.now ≡ c.args.log.now.items ++ c.args.entry ∷ [] = search rules in
@@ -104,7 +103,7 @@ pub invariant_of-self-2 : goal.invariant_of-self-2
 invariant_of-self-2 c =
     let items = c.self.inside.births.items in
     let slots = c.self.inside.table.slots.entries in
-    let birth : Birth = record { place = c.len-new.result; held = c.in-Some.held } in
+    let birth : Born = c.in_ok-birth.birth in
     let log = c.args.log.now.items in
     let births_is : c.as_slice-births.result.now ≡ items ++ birth ∷ [] = search rules in
     let slots_are : c.add_product.new.self.entries ≡ slots = search rules in
@@ -113,25 +112,25 @@ invariant_of-self-2 c =
     let same : kept_table c.as_slice-births.result.now c.add_product.new.self.entries ≡ kept_table items slots = (λ i. kept_table (births_is i) (slots_are i)) ∙ table-more items birth slots c.self.invariant.within in
     let made : Some c.in-Some.held ≡ option_map held_of (pack_made_by c.args.entry.item) = search rules in
     let key : BatchKey = batch_key c.args.gtin c.in-Some.held.batch in
-    let key_is : c.copy-2.result ≡ key = search rules in
+    let key_is : c.copy.result ≡ key = search rules in
     let last : uploads_in (is_same_batch key) c.add.new.self ≡ uploads_in (is_same_batch key) c.self.inside.batches ++ length log ∷ [] =
     subst (λ (named : BatchKey). uploads_in (is_same_batch named) c.add.new.self ≡ uploads_in (is_same_batch named) c.self.inside.batches ++ length log ∷ []) key_is
-    (c.in_ok-add.ensures.last ∙ ap (λ (n : ℕ). uploads_in (is_same_batch c.copy-2.result) c.self.inside.batches ++ n ∷ []) new_is) in
+    (c.in_ok-add.ensures.last ∙ ap (λ (n : ℕ). uploads_in (is_same_batch c.copy.result) c.self.inside.batches ++ n ∷ []) new_is) in
     let looks : (pack : PackKey) → kept_in pack (kept_table c.as_slice-births.result.now c.add_uploads-count.new.self.slots.entries)
     ≡ cond (has_pack c.args.gtin c.args.serials.now pack) (with_upload (log ++ c.args.entry ∷ []) c.args.stops.now pack (length log) (kept_in pack (kept_table items slots))) (kept_in pack (kept_table items slots)) =
     λ pack. c.add_uploads-count.ensures.kept pack
     ∙ (λ i. cond (has_pack c.args.gtin c.args.serials.now pack) (with_upload (log_is i) c.args.stops.now pack (new_is i) (kept_in pack (same i))) (kept_in pack (same i))) in
     record {
-      within = subst (λ (births : List Birth). AreWithin (length births) c.add_uploads-count.new.self.slots.entries) c.as_slice-births.ensures.value c.add_uploads-count.ensures.within;
+      within = subst (λ (births : List Born). AreWithin (length births) c.add_uploads-count.new.self.slots.entries) c.as_slice-births.ensures.value c.add_uploads-count.ensures.within;
       tracked = λ pack h. c.self.invariant.tracked pack (sym (ap (is_own_in pack) slots_are) ∙ sym (c.add_uploads-count.ensures.own pack) ∙ h);
-      listed = subst (λ (births : List Birth). AreFound c.settle_last.new.self (kept_table births c.add_uploads-count.new.self.slots.entries)) c.as_slice-births.ensures.value
+      listed = subst (λ (births : List Born). AreFound c.settle_last.new.self (kept_table births c.add_uploads-count.new.self.slots.entries)) c.as_slice-births.ensures.value
           (found-settled c.self.inside.batches c.add.new.self c.settle_last.new.self (log ++ c.args.entry ∷ []) c.args.stops.now c.args.gtin c.args.serials.now (length log) c.in-Some.held (kept_table items slots) (kept_table c.as_slice-births.result.now c.add_uploads-count.new.self.slots.entries)
           (nat_lt 0 c.add_uploads-count.result) c.settle_last.ensures.stays
           (λ none. c.settle_last.ensures.gone none c.self.inside.batches (length log)
-          (subst (λ (named : BatchKey). uploads_in (is_same_batch named) c.add.new.self ≡ uploads_in (is_same_batch named) c.self.inside.batches ++ length log ∷ []) (λ i. batch_key c.args.gtin (sym c.copy.ensures i)) last)
+          last
           c.add.ensures.keeps)
           (λ none. sym (c.add_uploads-count.ensures.count ∙ (λ i. made_count (log_is i) (new_is i) (same i) c.args.gtin c.args.serials.now)) ∙ not-any c.add_uploads-count.result none)
           (made ∙ ap (λ (entry : LogEntry). option_map held_of (pack_made_by entry.item)) (sym (newest-stands log c.args.entry)))
           (last-listed c.self.inside.batches c.add.new.self key (length log) last) c.add.ensures.keeps (rw (← c.self.view_is) at c.requires.tracks) c.self.invariant.listed looks);
-      tally = subst (λ (births : List Birth). IsTally (kept_table births c.add_uploads-count.new.self.slots.entries) c.add_uploads-count.new.self.tally) c.as_slice-births.ensures.value c.add_uploads-count.ensures.tally;
+      tally = subst (λ (births : List Born). IsTally (kept_table births c.add_uploads-count.new.self.slots.entries) c.add_uploads-count.new.self.tally) c.as_slice-births.ensures.value c.add_uploads-count.ensures.tally;
     }

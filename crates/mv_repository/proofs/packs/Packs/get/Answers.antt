@@ -1,6 +1,5 @@
 -- What stands for the pack says what it is.
 use Rattle.std.proofs.Common.{◌∙◌, ap, sym}
-use Rattle.std.specs.Option.{option_copied}
 use Rattle.mv_repository.specs.Packs.{kept_as}
 use Rattle.mv_repository.specs.Track.{Kept}
 use Rattle.mv_repository.proofs.PacksLemmas.{found-kept, absent-kept}
@@ -8,7 +7,7 @@ use Rattle.mv_repository.proofs.packs.Packs.get.Goals as goal
 
 pub returns-in_err-slot : goal.returns-in_err-slot
 returns-in_err-slot c =
-    ap option_copied c.from_residual.ensures
+    c.from_residual.ensures
     ∙ rw (← c.self.view_is) (sym (ap (λ (k : Kept). k.held) (absent-kept c.self.inside.births.items c.self.inside.table.slots.entries c.args.key.now (sym c.in_err-slot.ensures.value))))
 
 pub returns : goal.returns

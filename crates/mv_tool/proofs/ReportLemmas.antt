@@ -1,8 +1,10 @@
 -- Lemmas on the report.
-use Rattle.std.proofs.Common.{inl, inr, ◌≡◌, ℕ, ◌+◌, ◌-◌, ◌<◌, ◌≤◌, List, [], ◌∷◌, ◌++◌, ap, sym, ◌∙◌, arith, length, take, replicate, flat_map, append_assoc, codes, decimal, slice_index_or}
-use Rattle.std.specs.Prelude.{IfOk, Result, Ok, Err, is_ok, if◌then◌else◌, zero, suc}
-use Rattle.std.specs.List.{range_with_len}
-use Rattle.std.proofs.lemmas.Bool.{cases_lt}
+use Rattle.std.proofs.Common.{◌≡◌, ℕ, ◌+◌, ◌-◌, ◌^◌, ◌<◌, List, [], ◌∷◌, ◌++◌, refl, append-nil, ap, sym, ◌∙◌, arith, length, take, replicate, flat_map, append_assoc, codes, decimal, slice_index_or}
+use Rattle.std.specs.Prelude.{IfOk, zero, suc, false, Result, Ok, Err, is_ok, if◌then◌else◌}
+use Rattle.std.specs.List.{range_with_len, repeat}
+use Rattle.std.specs.Char.{encode_utf8}
+use Rattle.std.specs.Fmt.{padded_integral, format_spec, char_count}
+use Rattle.std.proofs.lemmas.Str.{encode_ascii}
 use Rattle.std.proofs.lemmas.List.{flat_map_more}
 use Rattle.mv_hub.specs.declared.entry.Entry.{Entry}
 use Rattle.mv_hub.specs.declared.entry.Entry.TheVariants.{Routed, Closed}
@@ -13,19 +15,22 @@ use Rattle.mv_repository.specs.declared.counts.Counts.{Counts}
 use Rattle.mv_repository.specs.Counts.{counts_of}
 use Rattle.mv_tool.specs.Report.{closed_count, in_ten_places, entries_text, numbers_of, party_line, head_line, closed_line, report_text}
 
--- the places before a text, by how far the blanks went
-blanks : (i n : ℕ) → 10 ≤ i → (n ≤ 10 → i ≤ 10) → (10 ≤ n → i ≡ n) → i - n ≡ 10 - n
-blanks i n far near wide = elim (cases_lt n 10) [ inl below ↦ let most = near (omega (arith, below)) in omega (arith, far, most) | inr over ↦ let same = wide over in omega (arith, same, over) ]
+-- blanks, one by one
+blanks : (n : ℕ) → repeat {A = ℕ} n (32 ∷ []) ≡ replicate n 32
+blanks zero = refl
+blanks (suc n) = ap (λ l. 32 ∷ l) (blanks n)
 
--- a text stands behind its blanks
-pub stands_right : {E : Type 0} (r : Result (Unit {0}) E) (old entry mid new : List ℕ) (i : ℕ) → 10 ≤ i → (length entry ≤ 10 → i ≤ 10)
-    → (10 ≤ length entry → i ≡ length entry) → mid ≡ old ++ replicate (i - length entry) 32 → new ≡ (if is_ok r then mid ++ entry else mid)
-    → IfOk r (λ _. new ≡ old ++ in_ten_places entry)
-unfolding in_ten_places
-stands_right (Ok u) old entry mid new i far near wide blank whole =
-    whole ∙ ap (λ l. l ++ entry) (blank ∙ ap (λ n. old ++ replicate n 32) (blanks i (length entry) far near wide))
-    ∙ append_assoc old (replicate (10 - length entry) 32) entry
-stands_right (Err e) old entry mid new i far near wide blank whole = tt
+-- a number as the library writes it in ten places
+pub padded_number : (n : ℕ) → padded_integral (format_spec 32 3 0 10 (2 ^ 64 - 1)) false [] (decimal n) ≡ in_ten_places (decimal n)
+unfolding padded_integral char_count in_ten_places
+padded_number n =
+    let d = decimal n in
+    let gap : ℕ = 10 - length d - 0 - 0 in
+    let none : gap - gap ≡ 0 = omega arith in
+    let same : gap ≡ 10 - length d = omega arith in
+    (λ i. (((repeat gap (encode_ascii 32 (omega arith) i) ++ []) ++ []) ++ []) ++ (d ++ repeat (none i) (encode_utf8 32)))
+    ∙ (λ i. append-nil (append-nil (append-nil (blanks gap i) i) i) i ++ append-nil d i)
+    ∙ (λ i. replicate (same i) 32 ++ d)
 
 -- the entries up to a place, and the one there
 counted_next : (entries : List Entry) (i : ℕ) (entry : Entry) → i < length entries → entry ≡ slice_index_or entries i entry

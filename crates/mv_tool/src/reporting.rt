@@ -1,6 +1,6 @@
 //! The report of a run, as a table of texts.
 
-ghost use Rattle.std.specs.Prelude.{◌≡◌, ◌++◌, IfOk, IsTrue, string_bytes};
+ghost use Rattle.std.specs.Prelude.{◌≡◌, ◌++◌, IfOk, IsTrue, decimal, string_bytes};
 ghost use Rattle.mv_machine.specs.State.{is_party};
 ghost use Rattle.mv_tool.specs.Report.{closed_count, in_ten_places, entries_text, party_line, report_text};
 
@@ -12,9 +12,6 @@ use std::alloc::{AllocError, Global};
 /// The first line of a report.
 const HEAD: &str =
     "     party submitted    routed   applied  products     packs    active  recalled\n";
-
-/// How many places an entry has.
-const PLACES: usize = 10;
 
 /// The report of what is gathered: a line of heads, a line for each party with what it submitted, what of this was routed and what
 /// its repository has, and a line with how many links were closed.
@@ -66,20 +63,18 @@ fn push_numbers(alloc: Global, text: &mut String, numbers: &[usize]) -> Result<(
     ensures { IfOk result (λ _. string_bytes text.new ≡ string_bytes text.old ++ entries_text numbers.now) }
 {
     for number in numbers {
-        let entry = format!(in alloc; "{number}")?;
-        push_in_places(text, entry.as_str())?;
+        let entry = in_ten_places(alloc, *number)?;
+        text.push_str(entry.as_str())?;
     }
     Ok(())
 }
 
-/// Writes an entry on the right of its places.
-fn push_in_places(text: &mut String, entry: &str) -> Result<(), AllocError>
-    ensures { IfOk result (λ _. string_bytes text.new ≡ string_bytes text.old ++ in_ten_places entry.now) }
+/// A number on the right of ten places; one that is wider is written whole.
+#[tactic(auto, using(crate::proofs::ReportLemmas::padded_number))]
+fn in_ten_places(alloc: Global, number: usize) -> Result<String, AllocError>
+    ensures { IfOk result (λ text. string_bytes text ≡ in_ten_places (decimal number)) }
 {
-    for _ in entry.len()..PLACES {
-        text.push(' ')?;
-    }
-    text.push_str(entry)
+    format!(in alloc; "{number:>10}")
 }
 
 /// How many links a record closes.

@@ -130,11 +130,16 @@ impl<'a> Plan<'a> {
         let mut named = Named::new(self.alloc);
         for place in 0..steps.len() {
             named.note(&steps[place])?;
-            let (mut world, replies) = self.run(&steps[..place + 1])?;
-            write_reply(page, replies.as_slice().last()?)?;
-            write_state(page, &mut world, &named)?;
+            self.write_state_behind(page, &steps[..place + 1], &named)?;
         }
         Some(())
+    }
+
+    /// Takes steps as one run, in a system of their own, and writes the last reply and what the system shows then.
+    fn write_state_behind(&self, page: &mut Page, steps: &[Step], named: &Named) -> Option<()> {
+        let (mut world, replies) = self.run(steps)?;
+        write_last_reply(page, replies.as_slice())?;
+        write_state(page, &mut world, named)
     }
 }
 
@@ -144,6 +149,11 @@ fn write_replies(page: &mut Page, replies: &[Reply]) -> Option<()> {
         write_reply(page, reply)?;
     }
     Some(())
+}
+
+/// Writes the last reply. None where there is none, or memory was refused.
+fn write_last_reply(page: &mut Page, replies: &[Reply]) -> Option<()> {
+    write_reply(page, replies.last()?)
 }
 
 /// Writes a reply.

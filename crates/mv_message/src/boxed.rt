@@ -5,7 +5,8 @@ ghost use Rattle.std.specs.Prelude.{◌≡◌, IfOk};
 use std::alloc::{AllocError, Global};
 use std::marker::Model;
 
-/// A value in a place of its own, so that what has one takes no more than a pointer for it. Contracts see the value.
+/// A value in a place of its own: what has one keeps a pointer to it. Contracts see the value, where of a `Box` they see a
+/// struct that has it.
 #[derive(Debug, Drop)]
 pub struct Boxed<T> {
     value: Box<T>,

@@ -56,7 +56,7 @@ pub enum Message {
     Master {
         /// The product code.
         gtin: Gtin,
-        /// What is sold under it from now on. It is the largest part of any message, and one of few.
+        /// What is sold under it from now on; in a place of its own, so that no other message is as large as a product.
         product: Boxed<Product>,
     },
     /// Packs of a batch, each active from now on (Article 33 of Delegated Regulation (EU) 2016/161).

@@ -72,7 +72,7 @@ impl Packs {
         }
     }
 
-    /// What a pack is; none where no upload names it.
+    /// What a pack is, by its upload or by its track; none where no upload names it.
     pub fn get(&self, key: &PackKey) -> Option<Held>
         ensures { result ≡ (kept_in key.now self.now).held }
     {

@@ -116,7 +116,7 @@ impl Slot {
         match self {
             Slot::Made(place) => {
                 let birth = birth_at(births, *place);
-                let held = made_at(births, *place);
+                let held = held_at(births, *place);
                 let started = start(alloc, tracked, log, entry, stops, pack, birth, held)?;
                 *self = Slot::Own(started.track);
                 Ok(started.effect)
@@ -157,7 +157,7 @@ fn birth_at(births: &[Birth], place: usize) -> Option<usize>
 }
 
 /// What each pack is that an upload makes.
-fn made_at(births: &[Birth], place: usize) -> Option<Held>
+fn held_at(births: &[Birth], place: usize) -> Option<Held>
     ensures { result ≡ (kept_as births.now (Made place)).held }
 {
     births.get(place)?.held()

@@ -1,7 +1,6 @@
 -- Nothing that is routed after the closing of a link goes over it, and the record only grows.
 use Rattle.std.proofs.Common.{◌≡◌, ℕ, ◌+◌, ◌-◌, ◌<◌, ◌≤◌, Bool, true, false, List, [], ◌∷◌, ◌++◌, length, cond, Some, None, Option, sym, refl, ap, ◌∙◌, subst, append_assoc, append-nil, arith, eqb, eqb-true, length-append}
-use Rattle.std.specs.Prelude.{nat_lt, not, ◌&&◌, ◌==◌, slice_get, nat_le, find}
-use Rattle.std.specs.List.{range_with_len}
+use Rattle.std.specs.Prelude.{nat_lt, not, ◌&&◌, slice_get}
 use Rattle.std.proofs.lemmas.List.Elements.{All-nil, All-cons, All-append, All-weaker}
 use Rattle.mv_pack.specs.declared.key.PackKey.{PackKey}
 use Rattle.mv_message.specs.declared.message.Message.{Message}
@@ -26,8 +25,10 @@ use Rattle.mv_party.specs.Calls.{ask_fault, submit_fault, apply_fault}
 use Rattle.mv_machine.specs.declared.step.Step.{Step}
 use Rattle.mv_machine.specs.declared.step.Step.TheVariants.{Submit, Verify, Route, Relay, Apply, Repeat, Close, Lose, Verdict}
 use Rattle.mv_machine.specs.declared.reply.Reply.{Reply}
-use Rattle.mv_machine.specs.State.{State, is_party, are_parties, submissions_of, is_uplink_full, site_of, sent_of, wire_of, log_of, items_on, applied_count}
-use Rattle.mv_machine.specs.Steps.{submit, ask, verify_by, verify, verdict, next_entry, is_full, route_unless, route_front, route, relay, apply_next, apply_by, apply_front, apply, is_unsent, is_gone, repeat, close, lose_front, lose, outcome}
+use Rattle.mv_hub.specs.Hub.{next_entry, route_fault, relay_fault, repeat_fault, close_fault}
+use Rattle.mv_machine.specs.Replies.{refusal_of, hub_refusal_of, route_refusal_of}
+use Rattle.mv_machine.specs.State.{State, is_party, are_parties, submissions_of, is_uplink_full, site_of, wire_of, log_of, items_on, applied_count, hub_of}
+use Rattle.mv_machine.specs.Steps.{submit, ask, verify_by, verify, verdict, route_front, route, relay, apply_next, apply_by, apply_front, apply, repeat, close, lose_front, lose, outcome, is_wire_full}
 use Rattle.mv_machine.specs.Runs.{Meets, Allows, Runs}
 use Rattle.mv_machine.specs.Lawful.{AllFit, IsLawfulRecord, IsLawfulLink, IsLawful}
 use Rattle.mv_machine.specs.Headline.{Follows}
@@ -195,13 +196,13 @@ submit-follows : (st : State) (from : ℕ) (message : Message) → Follows st (s
 unfolding submit
 submit-follows st from message =
     choose (Follows st) (not (is_party st from)) _ _ (λ _. follows-same st) (λ _.
-    choose_unless (Follows st) (submit_fault (is_uplink_full st from) (site_of st from) message) st _ (follows-same st) (λ _. follows st _ refl refl refl))
+    choose_unless (Follows st) refusal_of (submit_fault (is_uplink_full st from) (site_of st from) message) st _ (follows-same st) (λ _. follows st _ refl refl refl))
 
 ask-follows : (st : State) (party : ℕ) (key : PackKey) → Follows st (ask st party key).state
 unfolding ask
 ask-follows st party key =
     choose (Follows st) (not (is_party st party)) _ _ (λ _. follows-same st) (λ _.
-    choose_unless (Follows st) (ask_fault (is_uplink_full st party) (site_of st party)) st _ (follows-same st) (λ _. follows st _ refl refl refl))
+    choose_unless (Follows st) refusal_of (ask_fault (is_uplink_full st party) (site_of st party)) st _ (follows-same st) (λ _. follows st _ refl refl refl))
 
 verify-follows : (st : State) (party : ℕ) (key : PackKey) → Follows st (verify st party key).state
 unfolding verify
@@ -220,20 +221,17 @@ unfolding route
 route-follows st from =
     choose (Follows st) (not (is_party st from)) _ _ (λ _. follows-same st) (λ _. front (slice_get (submissions_of st from) (routed_count st.entries from)))
   where
-    unless : (message : Message) (full : Option ℕ) → Follows st (route_unless st from message full).state
-    unless message (Some to) = follows-same st
-    unless message None = follows-entry st (next_entry st from message)
-
     front : (message : Option Message) → Follows st (route_front st from message).state
     front None = follows-same st
-    front (Some message) = unless message (find (is_full st from message) (range_with_len 0 (length st.parties)))
+    front (Some message) =
+        choose_unless (Follows st) route_refusal_of (route_fault (hub_of st) from message) st _ (follows-same st) (λ _. follows-entry st (next_entry (hub_of st) from message))
 
 relay-follows : (st : State) (from to : ℕ) → Follows st (relay st from to).state
 unfolding relay
 relay-follows st from to =
     choose (Follows st) (not (are_parties st from to)) _ _ (λ _. follows-same st) (λ _.
-    choose (Follows st) (nat_le st.limits.wire (length (wire_of st from to))) _ _ (λ _. follows-same st) (λ _.
-    choose (Follows st) (sent_of st from to == length (items_on st from to)) _ _ (λ _. follows-same st) (λ _. follows st _ refl refl refl)))
+    choose (Follows st) (is_wire_full st from to) _ _ (λ _. follows-same st) (λ _.
+    choose_unless (Follows st) hub_refusal_of (relay_fault (hub_of st) from to) st _ (follows-same st) (λ _. follows st _ refl refl refl)))
 
 apply-follows : (st : State) (from to : ℕ) → Follows st (apply st from to).state
 unfolding apply
@@ -242,7 +240,7 @@ apply-follows st from to = choose (Follows st) (not (are_parties st from to)) _ 
     next : (number : ℕ) (rest : List ℕ) (item : Option Item) → Follows st (apply_next st from to number rest item).state
     next number rest None = follows st _ refl refl refl
     next number rest (Some item) =
-        choose_unless (Follows st) (apply_fault (is_uplink_full st to) (site_of st to) from item look.Next) st _ (follows-same st) (λ _. follows st _ refl refl refl)
+        choose_unless (Follows st) refusal_of (apply_fault (is_uplink_full st to) (site_of st to) from item look.Next) st _ (follows-same st) (λ _. follows st _ refl refl refl)
 
     by : (number : ℕ) (rest : List ℕ) (stands : Look) → Follows st (apply_by st from to number rest stands).state
     by number rest look.Old = follows st _ refl refl refl
@@ -257,15 +255,13 @@ repeat-follows : (st : State) (from to number : ℕ) → Follows st (repeat st f
 unfolding repeat
 repeat-follows st from to number =
     choose (Follows st) (not (are_parties st from to)) _ _ (λ _. follows-same st) (λ _.
-    choose (Follows st) (nat_le st.limits.wire (length (wire_of st from to))) _ _ (λ _. follows-same st) (λ _.
-    choose (Follows st) (is_unsent st from to number) _ _ (λ _. follows-same st) (λ _.
-    choose (Follows st) (is_gone st from to number) _ _ (λ _. follows-same st) (λ _. follows st _ refl refl refl))))
+    choose (Follows st) (is_wire_full st from to) _ _ (λ _. follows-same st) (λ _.
+    choose_unless (Follows st) hub_refusal_of (repeat_fault (hub_of st) from to number) st _ (follows-same st) (λ _. follows st _ refl refl refl)))
 
 close-follows : (st : State) (from to : ℕ) → Follows st (close st from to).state
 unfolding close
 close-follows st from to =
-    choose (Follows st) (not (are_parties st from to)) _ _ (λ _. follows-same st) (λ _.
-    choose (Follows st) (not (is_open st.entries from to)) _ _ (λ _. follows-same st) (λ _. follows-entry st (Closed from to)))
+    choose_unless (Follows st) hub_refusal_of (close_fault (hub_of st) from to) st _ (follows-same st) (λ _. follows-entry st (Closed from to))
 
 lose-follows : (st : State) (from to : ℕ) → Follows st (lose st from to).state
 unfolding lose

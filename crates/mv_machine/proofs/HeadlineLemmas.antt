@@ -1,25 +1,25 @@
 -- The headline follows from two lawful states of which one follows the other; and a refusal changes nothing.
-use Rattle.std.proofs.Common.{◌≡◌, ℕ, ◌-◌, Bool, true, false, List, [], ◌∷◌, length, cond, Some, None, Option, sym, refl, ◌∙◌, subst, true≢false}
-use Rattle.std.specs.Prelude.{slice_get, not, ◌==◌, nat_le, find, MatchBool, IsTrue}
-use Rattle.std.specs.List.{range_with_len}
+use Rattle.std.proofs.Common.{◌≡◌, ℕ, ◌-◌, Bool, true, false, List, [], ◌∷◌, cond, Some, None, Option, sym, refl, ◌∙◌, subst, true≢false}
+use Rattle.std.specs.Prelude.{slice_get, not, MatchBool, IsTrue}
 use Rattle.mv_pack.specs.declared.key.PackKey.{PackKey}
 use Rattle.mv_message.specs.declared.message.Message.{Message}
 use Rattle.mv_link.specs.declared.item.Item.{Item}
 use Rattle.mv_link.specs.declared.incoming.Look.{Look}
 use Rattle.mv_link.specs.declared.incoming.Look.TheVariants as look
-use Rattle.mv_hub.specs.Record.{routed_count, is_open}
+use Rattle.mv_hub.specs.Record.{routed_count}
 use Rattle.mv_repository.specs.declared.verdict.Local.{Local}
 use Rattle.mv_repository.specs.declared.verdict.Local.TheVariants.{Known, Absent}
 use Rattle.mv_repository.specs.Verdict.{local_verdict}
-use Rattle.mv_party.specs.declared.fault.SiteFault.{SiteFault}
 use Rattle.mv_link.specs.Receiving.{look_at}
 use Rattle.mv_party.specs.Calls.{ask_fault, submit_fault, apply_fault}
 use Rattle.mv_machine.specs.declared.step.Step.{Step}
 use Rattle.mv_machine.specs.declared.step.Step.TheVariants.{Submit, Verify, Route, Relay, Apply, Repeat, Close, Lose, Verdict}
 use Rattle.mv_machine.specs.declared.reply.Reply.{Reply}
-use Rattle.mv_machine.specs.Replies.{changes_nothing, takes_memory, wants_memory}
-use Rattle.mv_machine.specs.State.{State, is_party, are_parties, submissions_of, is_uplink_full, site_of, sent_of, wire_of, log_of, items_on, applied_count}
-use Rattle.mv_machine.specs.Steps.{Answered, unless, submit, ask, verify_by, verify, verdict, is_full, route_unless, route_front, route, relay, apply_next, apply_by, apply_front, apply, is_unsent, is_gone, repeat, close, lose_front, lose, outcome}
+use Rattle.mv_machine.specs.Replies.{refusal_of, hub_refusal_of, route_refusal_of, changes_nothing, takes_memory, wants_memory}
+use Rattle.mv_hub.specs.Hub.{route_fault, relay_fault, repeat_fault, close_fault}
+use Rattle.mv_machine.specs.declared.reply.Refusal.{Refusal}
+use Rattle.mv_machine.specs.State.{State, is_party, are_parties, submissions_of, is_uplink_full, site_of, wire_of, log_of, items_on, applied_count, hub_of}
+use Rattle.mv_machine.specs.Steps.{Answered, unless, submit, ask, verify_by, verify, verdict, route_front, route, relay, apply_next, apply_by, apply_front, apply, repeat, close, lose_front, lose, outcome, is_wire_full}
 use Rattle.mv_machine.specs.Runs.{Meets, Allows}
 use Rattle.mv_machine.specs.Lawful.{IsLawful, IsWellFormed}
 use Rattle.mv_machine.specs.Headline.{Follows, HeadlineHolds}
@@ -59,21 +59,21 @@ either P false x y p q = q
 no_such : {P : Type 0} → false ≡ true → P
 no_such said = absurd (true≢false (sym said))
 
-unless-unchanged : (fault : Option SiteFault) (st : State) (done : Answered) → IsUnchanged st done → IsUnchanged st (unless fault st done)
-unless-unchanged None st done there = there
-unless-unchanged (Some fault) st done there = λ _. refl
+unless-unchanged : {F : Type 0} (refusal : F → Refusal) (fault : Option F) (st : State) (done : Answered) → IsUnchanged st done → IsUnchanged st (unless refusal fault st done)
+unless-unchanged refusal None st done there = there
+unless-unchanged refusal (Some fault) st done there = λ _. refl
 
 submit-unchanged : (st : State) (from : ℕ) (message : Message) → IsUnchanged st (submit st from message)
 unfolding submit
 submit-unchanged st from message =
     either (IsUnchanged st) (not (is_party st from)) _ _ (λ _. refl)
-    (unless-unchanged (submit_fault (is_uplink_full st from) (site_of st from) message) st _ no_such)
+    (unless-unchanged refusal_of (submit_fault (is_uplink_full st from) (site_of st from) message) st _ no_such)
 
 ask-unchanged : (st : State) (party : ℕ) (key : PackKey) → IsUnchanged st (ask st party key)
 unfolding ask
 ask-unchanged st party key =
     either (IsUnchanged st) (not (is_party st party)) _ _ (λ _. refl)
-    (unless-unchanged (ask_fault (is_uplink_full st party) (site_of st party)) st _ no_such)
+    (unless-unchanged refusal_of (ask_fault (is_uplink_full st party) (site_of st party)) st _ no_such)
 
 verify-unchanged : (st : State) (party : ℕ) (key : PackKey) → IsUnchanged st (verify st party key)
 unfolding verify
@@ -87,20 +87,16 @@ route-unchanged : (st : State) (from : ℕ) → IsUnchanged st (route st from)
 unfolding route
 route-unchanged st from = either (IsUnchanged st) (not (is_party st from)) _ _ (λ _. refl) (front (slice_get (submissions_of st from) (routed_count st.entries from)))
   where
-    unless : (message : Message) (full : Option ℕ) → IsUnchanged st (route_unless st from message full)
-    unless message (Some to) = λ _. refl
-    unless message None = no_such
-
     front : (message : Option Message) → IsUnchanged st (route_front st from message)
     front None = λ _. refl
-    front (Some message) = unless message (find (is_full st from message) (range_with_len 0 (length st.parties)))
+    front (Some message) = unless-unchanged route_refusal_of (route_fault (hub_of st) from message) st _ no_such
 
 relay-unchanged : (st : State) (from to : ℕ) → IsUnchanged st (relay st from to)
 unfolding relay
 relay-unchanged st from to =
     either (IsUnchanged st) (not (are_parties st from to)) _ _ (λ _. refl)
-    (either (IsUnchanged st) (nat_le st.limits.wire (length (wire_of st from to))) _ _ (λ _. refl)
-    (either (IsUnchanged st) (sent_of st from to == length (items_on st from to)) _ _ (λ _. refl) no_such))
+    (either (IsUnchanged st) (is_wire_full st from to) _ _ (λ _. refl)
+    (unless-unchanged hub_refusal_of (relay_fault (hub_of st) from to) st _ no_such))
 
 apply-unchanged : (st : State) (from to : ℕ) → IsUnchanged st (apply st from to)
 unfolding apply
@@ -108,7 +104,7 @@ apply-unchanged st from to = either (IsUnchanged st) (not (are_parties st from t
   where
     next : (number : ℕ) (rest : List ℕ) (item : Option Item) → IsUnchanged st (apply_next st from to number rest item)
     next number rest None = no_such
-    next number rest (Some item) = unless-unchanged (apply_fault (is_uplink_full st to) (site_of st to) from item look.Next) st _ no_such
+    next number rest (Some item) = unless-unchanged refusal_of (apply_fault (is_uplink_full st to) (site_of st to) from item look.Next) st _ no_such
 
     by : (number : ℕ) (rest : List ℕ) (stands : Look) → IsUnchanged st (apply_by st from to number rest stands)
     by number rest look.Old = no_such
@@ -123,15 +119,12 @@ repeat-unchanged : (st : State) (from to number : ℕ) → IsUnchanged st (repea
 unfolding repeat
 repeat-unchanged st from to number =
     either (IsUnchanged st) (not (are_parties st from to)) _ _ (λ _. refl)
-    (either (IsUnchanged st) (nat_le st.limits.wire (length (wire_of st from to))) _ _ (λ _. refl)
-    (either (IsUnchanged st) (is_unsent st from to number) _ _ (λ _. refl)
-    (either (IsUnchanged st) (is_gone st from to number) _ _ (λ _. refl) no_such)))
+    (either (IsUnchanged st) (is_wire_full st from to) _ _ (λ _. refl)
+    (unless-unchanged hub_refusal_of (repeat_fault (hub_of st) from to number) st _ no_such))
 
 close-unchanged : (st : State) (from to : ℕ) → IsUnchanged st (close st from to)
 unfolding close
-close-unchanged st from to =
-    either (IsUnchanged st) (not (are_parties st from to)) _ _ (λ _. refl)
-    (either (IsUnchanged st) (not (is_open st.entries from to)) _ _ (λ _. refl) no_such)
+close-unchanged st from to = unless-unchanged hub_refusal_of (close_fault (hub_of st) from to) st _ no_such
 
 lose-unchanged : (st : State) (from to : ℕ) → IsUnchanged st (lose st from to)
 unfolding lose

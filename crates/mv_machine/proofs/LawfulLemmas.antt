@@ -1,7 +1,6 @@
 -- Each step keeps a state well formed and lawful, and so does each run.
 use Rattle.std.proofs.Common.{◌≡◌, ℕ, ◌-◌, ◌<◌, Bool, true, false, List, [], ◌∷◌, ◌++◌, length, set, cond, Some, None, Option, sym, refl, ap, ◌∙◌, subst, append-nil, arith, length-set, eqb, eqb-true, ltb-true, get_or, get_or-set_same, get_or-set_other}
-use Rattle.std.specs.Prelude.{slice_get, not, ◌==◌, nat_le, find, MatchBool, option_to_list}
-use Rattle.std.specs.List.{range_with_len}
+use Rattle.std.specs.Prelude.{slice_get, not, MatchBool, option_to_list}
 use Rattle.std.proofs.lemmas.Bool.{not-false, and_parts, eqb-false}
 use Rattle.std.proofs.lemmas.List.{get_or-replicate, length-replicate}
 use mathlib.Core.List.{IsPrefix}
@@ -22,7 +21,6 @@ use Rattle.mv_repository.specs.declared.verdict.Local.TheVariants.{Known, Absent
 use Rattle.mv_repository.specs.Log.{items_from}
 use Rattle.mv_repository.specs.Query.{answer_to}
 use Rattle.mv_repository.specs.Verdict.{local_verdict}
-use Rattle.mv_party.specs.declared.fault.SiteFault.{SiteFault}
 use Rattle.mv_party.specs.Site.{SiteState, entry_from, with_submission, with_applied, answers_in, IsLawfulParty}
 use Rattle.mv_link.specs.Receiving.{look_at}
 use Rattle.mv_party.specs.Calls.{ask_fault, submit_fault, apply_fault}
@@ -34,8 +32,12 @@ use Rattle.mv_machine.specs.declared.step.Step.TheVariants.{Submit, Verify, Rout
 use Rattle.mv_machine.specs.declared.reply.Reply.{Reply}
 use Rattle.mv_machine.specs.Limits.{Bounds}
 use Rattle.mv_machine.specs.Replies.{wants_memory}
-use Rattle.mv_machine.specs.State.{State, is_party, are_parties, submissions_of, is_uplink_full, site_of, with_site, sent_of, wire_of, log_of, items_on, applied_count, opening}
-use Rattle.mv_machine.specs.Steps.{Answered, unless, submit, ask, verify_by, verify, verdict, next_entry, is_full, route_unless, route_front, route, relay, next_item, apply_next, apply_by, apply_front, apply, is_unsent, is_gone, repeat, close, lose_front, lose, outcome}
+use Rattle.mv_hub.specs.declared.fault.HubFault.TheVariants as hub
+use Rattle.mv_hub.specs.Hub.{next_entry, route_fault, relay_fault, repeat_fault, close_fault, with_routed, with_closed}
+use Rattle.mv_machine.specs.declared.reply.Refusal.{Refusal}
+use Rattle.mv_machine.specs.Replies.{refusal_of, hub_refusal_of, route_refusal_of}
+use Rattle.mv_machine.specs.State.{State, is_party, are_parties, submissions_of, is_uplink_full, site_of, with_site, wire_of, log_of, items_on, applied_count, opening, hub_of, with_hub}
+use Rattle.mv_machine.specs.Steps.{Answered, unless, submit, ask, verify_by, verify, verdict, route_front, route, relay, next_item, apply_next, apply_by, apply_front, apply, repeat, close, lose_front, lose, outcome, is_wire_full}
 use Rattle.mv_machine.specs.Runs.{Meets, Allows, Runs}
 use Rattle.mv_machine.specs.Lawful.{Fits, NamesParties, IsLawful, IsWellFormed}
 use Rattle.mv_machine.proofs.PrefixLemmas.{prefix-grows, prefix-push}
@@ -164,35 +166,44 @@ routed_more st from party message next prefix true e =
 -- the hub routed the next message of a party
 pub routed-sound : (st : State) (from : ℕ) (message : Message) → IsSound st → from < length st.parties
     → slice_get (submissions_of st from) (routed_count st.entries from) ≡ Some message
-    → IsSound (record st { entries = st.entries ++ next_entry st from message ∷ [] })
+    → IsSound (with_hub st (with_routed (hub_of st) from message))
 routed-sound st from message sound from_is_party next =
-    entered-sound st (next_entry st from message) sound refl from_is_party
+    entered-sound st (next_entry (hub_of st) from message) sound refl from_is_party
     (λ party is_party. routed_more st from party message next (routed_order st sound.lawful party is_party) (eqb from party) refl)
 
 -- the hub closed a link
 pub closed-sound : (st : State) (from to : ℕ) → IsSound st → from < length st.parties → to < length st.parties → is_open st.entries from to ≡ true
-    → IsSound (record st { entries = st.entries ++ Closed from to ∷ [] })
+    → IsSound (with_hub st (with_closed (hub_of st) from to))
 closed-sound st from to sound from_is_party to_is_party still_open =
     entered-sound st (Closed from to) sound still_open (from_is_party, to_is_party)
     (λ party is_party. subst (λ l. IsPrefix l (submissions_of st party)) (sym (append-nil (routed_from st.entries party))) (routed_order st sound.lawful party is_party))
 
 -- what holds where a party refuses, and where it does not, holds of what the call leaves
-pub choose_unless : (P : State → Type 0) (fault : Option SiteFault) (st : State) (done : Answered) → P st → (fault ≡ None → P done.state) → P (unless fault st done).state
-choose_unless P None st done here there = there refl
-choose_unless P (Some fault) st done here there = here
+pub choose_unless : {F : Type 0} (P : State → Type 0) (refusal : F → Refusal) (fault : Option F) (st : State) (done : Answered) → P st → (fault ≡ None → P done.state) → P (unless refusal fault st done).state
+choose_unless P refusal None st done here there = there refl
+choose_unless P refusal (Some fault) st done here there = here
+
+-- where the hub closes a link, both are parties, and the link is open
+pub close-free : (st : State) (from to : ℕ) → close_fault (hub_of st) from to ≡ None → (are_parties st from to ≡ true) × (is_open st.entries from to ≡ true)
+close-free st from to free = by (are_parties st from to) (is_open st.entries from to) free
+  where
+    by : (parties still_open : Bool) → cond (not parties) (Some hub.StrangerParty) (cond (not still_open) (Some hub.AlreadyClosed) None) ≡ None → (parties ≡ true) × (still_open ≡ true)
+    by true true e = (refl, refl)
+    by true false e = absurd (cc)
+    by false still_open e = absurd (cc)
 
 submit-sound : (st : State) (from : ℕ) (message : Message) → IsSound st → IsSound (submit st from message).state
 unfolding submit
 submit-sound st from message sound =
     choose IsSound (not (is_party st from)) _ _ (λ _. sound) (λ _.
-    choose_unless IsSound (submit_fault (is_uplink_full st from) (site_of st from) message) st _ sound (λ free.
+    choose_unless IsSound refusal_of (submit_fault (is_uplink_full st from) (site_of st from) message) st _ sound (λ free.
     submitted-sound st from message sound (no_answer message (submit-free (is_uplink_full st from) (site_of st from) message free).0)))
 
 ask-sound : (st : State) (party : ℕ) (key : PackKey) → IsSound st → IsSound (ask st party key).state
 unfolding ask
 ask-sound st party key sound =
     choose IsSound (not (is_party st party)) _ _ (λ _. sound) (λ _.
-    choose_unless IsSound (ask_fault (is_uplink_full st party) (site_of st party)) st _ sound (λ _. submitted-sound st party (Query key) sound refl))
+    choose_unless IsSound refusal_of (ask_fault (is_uplink_full st party) (site_of st party)) st _ sound (λ _. submitted-sound st party (Query key) sound refl))
 
 verify_by-sound : (st : State) (party : ℕ) (key : PackKey) (local : Local) → IsSound st → IsSound (verify_by st party key local).state
 verify_by-sound st party key (Known verdict) sound = sound
@@ -207,16 +218,11 @@ verdict-sound : (st : State) (party q : ℕ) → IsSound st → IsSound (verdict
 unfolding verdict
 verdict-sound st party q sound = choose IsSound (not (is_party st party)) _ _ (λ _. sound) (λ _. sound)
 
-route_unless-sound : (st : State) (from : ℕ) (message : Message) (full : Option ℕ) → IsSound st → from < length st.parties
-    → slice_get (submissions_of st from) (routed_count st.entries from) ≡ Some message → IsSound (route_unless st from message full).state
-route_unless-sound st from message (Some to) sound from_is_party next = sound
-route_unless-sound st from message None sound from_is_party next = routed-sound st from message sound from_is_party next
-
 route_front-sound : (st : State) (from : ℕ) (front : Option Message) → IsSound st → from < length st.parties
     → slice_get (submissions_of st from) (routed_count st.entries from) ≡ front → IsSound (route_front st from front).state
 route_front-sound st from None sound from_is_party next = sound
 route_front-sound st from (Some message) sound from_is_party next =
-    route_unless-sound st from message (find (is_full st from message) (range_with_len 0 (length st.parties))) sound from_is_party next
+    choose_unless IsSound route_refusal_of (route_fault (hub_of st) from message) st _ sound (λ _. routed-sound st from message sound from_is_party next)
 
 route-sound : (st : State) (from : ℕ) → IsSound st → IsSound (route st from).state
 unfolding route
@@ -229,15 +235,15 @@ relay-sound : (st : State) (from to : ℕ) → IsSound st → IsSound (relay st 
 unfolding relay
 relay-sound st from to sound =
     choose IsSound (not (are_parties st from to)) _ _ (λ _. sound) (λ _.
-    choose IsSound (nat_le st.limits.wire (length (wire_of st from to))) _ _ (λ _. sound) (λ _.
-    choose IsSound (sent_of st from to == length (items_on st from to)) _ _ (λ _. sound) (λ _.
+    choose IsSound (is_wire_full st from to) _ _ (λ _. sound) (λ _.
+    choose_unless IsSound hub_refusal_of (relay_fault (hub_of st) from to) st _ sound (λ _.
     under_way-sound st _ _ (square-put _ st.sent from to _ sound.well_formed.sent_each) (square-put _ st.wires from to _ sound.well_formed.wires_each) sound)))
 
 apply_next-sound : (st : State) (from to number : ℕ) (rest : List ℕ) (item : Option Item) → IsSound st → from < length st.parties
     → next_item st from to ≡ item → IsSound (apply_next st from to number rest item).state
 apply_next-sound st from to number rest None sound from_is_party next = with_wire-sound st from to rest sound
 apply_next-sound st from to number rest (Some item) sound from_is_party next =
-    choose_unless IsSound (apply_fault (is_uplink_full st to) (site_of st to) from item look.Next) st _ sound (λ _.
+    choose_unless IsSound refusal_of (apply_fault (is_uplink_full st to) (site_of st to) from item look.Next) st _ sound (λ _.
     with_wire-sound (with_site st (with_applied (site_of st to) from item)) from to rest (applied-sound st from to item sound from_is_party next))
 
 apply_by-sound : (st : State) (from to number : ℕ) (rest : List ℕ) (stands : Look) → look_at (applied_count st from to) number ≡ stands → IsSound st → from < length st.parties
@@ -263,18 +269,16 @@ repeat-sound : (st : State) (from to number : ℕ) → IsSound st → IsSound (r
 unfolding repeat
 repeat-sound st from to number sound =
     choose IsSound (not (are_parties st from to)) _ _ (λ _. sound) (λ _.
-    choose IsSound (nat_le st.limits.wire (length (wire_of st from to))) _ _ (λ _. sound) (λ _.
-    choose IsSound (is_unsent st from to number) _ _ (λ _. sound) (λ _.
-    choose IsSound (is_gone st from to number) _ _ (λ _. sound) (λ _. with_wire-sound st from to _ sound))))
+    choose IsSound (is_wire_full st from to) _ _ (λ _. sound) (λ _.
+    choose_unless IsSound hub_refusal_of (repeat_fault (hub_of st) from to number) st _ sound (λ _. with_wire-sound st from to _ sound)))
 
 close-sound : (st : State) (from to : ℕ) → IsSound st → IsSound (close st from to).state
 unfolding close
 close-sound st from to sound =
-    choose IsSound (not (are_parties st from to)) _ _ (λ _. sound) (λ parties.
-    choose IsSound (not (is_open st.entries from to)) _ _ (λ _. sound) (λ still_open.
-    let both = and_parts (is_party st from) (is_party st to) (not-false (are_parties st from to) parties) in
-    closed-sound st from to sound (ltb-true from (length st.parties) both.0) (ltb-true to (length st.parties) both.1)
-    (not-false (is_open st.entries from to) still_open)))
+    choose_unless IsSound hub_refusal_of (close_fault (hub_of st) from to) st _ sound (λ free.
+    let told = close-free st from to free in
+    let both = and_parts (is_party st from) (is_party st to) told.0 in
+    closed-sound st from to sound (ltb-true from (length st.parties) both.0) (ltb-true to (length st.parties) both.1) told.1)
 
 lose_front-sound : (st : State) (from to : ℕ) (wire : List ℕ) → IsSound st → IsSound (lose_front st from to wire).state
 lose_front-sound st from to [] sound = sound

@@ -1,7 +1,7 @@
 -- Each step keeps the limits, and so does each run.
-use Rattle.std.proofs.Common.{◌≡◌, ℕ, ◌+◌, ◌-◌, ◌<◌, ◌≤◌, Bool, true, false, List, [], ◌∷◌, ◌++◌, length, drop, eqb, Some, None, Option, sym, refl, ap, ◌∙◌, subst, arith, length-append, append-nil, length-drop, ltb-true, eqb-true, get_or}
-use Rattle.std.specs.Prelude.{All, option_to_list, slice_get, not, ◌==◌, ◌||◌, nat_lt, nat_le, find, replicate}
-use Rattle.std.specs.List.{range_with_len}
+use Rattle.std.proofs.Common.{◌≡◌, ℕ, ◌+◌, ◌-◌, ◌<◌, ◌≤◌, Bool, true, false, List, [], ◌∷◌, ◌++◌, length, drop, cond, eqb, Some, None, Option, sym, refl, ap, ◌∙◌, subst, arith, length-append, append-nil, length-drop, ltb-true, eqb-true, get_or}
+use Rattle.std.specs.Prelude.{All, option_to_list, slice_get, not, ◌==◌, ◌||◌, nat_lt, nat_le, replicate}
+use Rattle.std.specs.Option.{option_map}
 use Rattle.std.proofs.lemmas.Bool.{not-false, and_parts, leb-false, ltb-false, eqb-false}
 use Rattle.std.proofs.lemmas.List.{get_or-replicate}
 use Rattle.std.proofs.lemmas.List.Elements.{All-nil, All-cons, All-tail, All-append, All-weaker}
@@ -15,7 +15,7 @@ use Rattle.mv_pairs.specs.Pairs.{cell, put, IsSquare}
 use Rattle.mv_pairs.proofs.PairsLemmas.{put-each, put-each_pair, cell-put_same}
 use Rattle.mv_hub.specs.declared.entry.Entry.{Entry}
 use Rattle.mv_hub.specs.declared.entry.Entry.TheVariants.{Closed}
-use Rattle.mv_hub.specs.Record.{routed_count, is_open}
+use Rattle.mv_hub.specs.Record.{routed_count}
 use Rattle.mv_hub.specs.Links.{gained, link_items}
 use Rattle.mv_hub.proofs.RecordLemmas.{link_items-push, gained_other}
 use Rattle.mv_hub.proofs.NumberLemmas.{find-none_at}
@@ -32,8 +32,14 @@ use Rattle.mv_machine.specs.declared.step.Step.{Step}
 use Rattle.mv_machine.specs.declared.step.Step.TheVariants.{Submit, Verify, Route, Relay, Apply, Repeat, Close, Lose, Verdict}
 use Rattle.mv_machine.specs.declared.reply.Reply.{Reply}
 use Rattle.mv_machine.specs.Limits.{Bounds}
-use Rattle.mv_machine.specs.State.{State, is_party, are_parties, submissions_of, waiting_of, is_uplink_full, site_of, with_site, with_wire, sent_of, wire_of, log_of, items_on, applied_count, opening}
-use Rattle.mv_machine.specs.Steps.{submit, ask, verify_by, verify, verdict, next_entry, is_full, route_unless, route_front, route, relay, apply_next, apply_by, apply_front, apply, is_unsent, is_gone, repeat, close, lose_front, lose, outcome}
+use Rattle.mv_link.specs.declared.fault.LinkFault.TheVariants as link
+use Rattle.mv_hub.specs.declared.fault.HubFault.TheVariants as hub
+use Rattle.mv_hub.specs.declared.fault.RouteFault.TheVariants.{StrangerParty}
+use Rattle.mv_hub.specs.Fault.{of_link}
+use Rattle.mv_hub.specs.Hub.{HubState, next_entry, is_busy, busy_party, busy_fault, route_fault, relay_fault, repeat_fault, close_fault}
+use Rattle.mv_machine.specs.Replies.{refusal_of, hub_refusal_of, route_refusal_of}
+use Rattle.mv_machine.specs.State.{State, is_party, are_parties, submissions_of, waiting_of, is_uplink_full, site_of, with_site, with_wire, sent_of, wire_of, log_of, items_on, applied_count, opening, hub_of}
+use Rattle.mv_machine.specs.Steps.{submit, ask, verify_by, verify, verdict, route_front, route, relay, apply_next, apply_by, apply_front, apply, repeat, close, lose_front, lose, outcome, is_wire_full}
 use Rattle.mv_machine.specs.Runs.{Runs}
 use Rattle.mv_machine.specs.Bounded.{KeepsLimits}
 use Rattle.mv_machine.proofs.LawfulLemmas.{IsSound, choose, choose_unless, allowed-case, step-sound, opening-sound}
@@ -144,14 +150,14 @@ submit-keeps : (st : State) (from : ℕ) (message : Message) → KeepsLimits st 
 unfolding submit
 submit-keeps st from message k =
     choose KeepsLimits (not (is_party st from)) _ _ (λ _. k) (λ _.
-    choose_unless KeepsLimits (submit_fault (is_uplink_full st from) (site_of st from) message) st _ k (λ free.
+    choose_unless KeepsLimits refusal_of (submit_fault (is_uplink_full st from) (site_of st from) message) st _ k (λ free.
     submitted-keeps st from message (log_of st from) k (submit-free (is_uplink_full st from) (site_of st from) message free).1))
 
 ask-keeps : (st : State) (party : ℕ) (key : PackKey) → KeepsLimits st → KeepsLimits (ask st party key).state
 unfolding ask
 ask-keeps st party key k =
     choose KeepsLimits (not (is_party st party)) _ _ (λ _. k) (λ _.
-    choose_unless KeepsLimits (ask_fault (is_uplink_full st party) (site_of st party)) st _ k (submitted-keeps st party (Query key) (log_of st party) k))
+    choose_unless KeepsLimits refusal_of (ask_fault (is_uplink_full st party) (site_of st party)) st _ k (submitted-keeps st party (Query key) (log_of st party) k))
 
 verify-keeps : (st : State) (party : ℕ) (key : PackKey) → KeepsLimits st → KeepsLimits (verify st party key).state
 unfolding verify
@@ -161,40 +167,76 @@ verify-keeps st party key k = choose KeepsLimits (not (is_party st party)) _ _ (
     by (Known verdict) = k
     by Absent = ask-keeps st party key k
 
+neither : (a b : Bool) → (a || b) ≡ false → (a ≡ false) × (b ≡ false)
+neither false false e = (refl, refl)
+neither false true e = absurd (cc)
+neither true b e = absurd (cc)
+
+-- where the hub has no fault, no link is busy, the link has a next frame, and the frame of a number was relayed
+route-free : (h : HubState) (from : ℕ) (message : Message) → route_fault h from message ≡ None → busy_party h from message ≡ None
+unfolding route_fault
+route-free h from message free = by (nat_lt from (length h.parties)) (busy_party h from message) free
+  where
+    by : (in_reach : Bool) (full : Option ℕ) → cond in_reach (busy_fault full) (Some StrangerParty) ≡ None → full ≡ None
+    by true None e = refl
+    by true (Some to) e = absurd (cc)
+    by false full e = absurd (cc)
+
+relay-free : (st : State) (from to : ℕ) → are_parties st from to ≡ true → relay_fault (hub_of st) from to ≡ None → (sent_of st from to == length (items_on st from to)) ≡ false
+relay-free st from to parties free = by (are_parties st from to) (sent_of st from to == length (items_on st from to)) parties free
+  where
+    by : (parties all : Bool) → parties ≡ true → cond (not parties) (Some hub.StrangerParty) (option_map of_link (cond all (Some link.Nothing) None)) ≡ None → all ≡ false
+    by true true p e = absurd (cc)
+    by true false p e = refl
+    by false all p e = absurd (cc)
+
+repeat-free : (st : State) (from to number : ℕ) → repeat_fault (hub_of st) from to number ≡ None → ((number == 0) ≡ false) × (nat_lt (sent_of st from to) number ≡ false)
+repeat-free st from to number free =
+    by (are_parties st from to) (number == 0) (nat_lt (sent_of st from to) number) (nat_le number (length (items_on st from to) - st.limits.window)) free
+  where
+    by : (parties none later gone : Bool)
+        → cond (not parties) (Some hub.StrangerParty) (option_map of_link (cond (none || later) (Some link.NotSent) (cond gone (Some link.Gone) None))) ≡ None → (none ≡ false) × (later ≡ false)
+    by false none later gone e = absurd (cc)
+    by true true later gone e = absurd (cc)
+    by true false true gone e = absurd (cc)
+    by true false false gone e = (refl, refl)
+
+-- what the routing of a message puts on a link
+abbrev next_items_on : State → ℕ → Message → ℕ → ℕ → List Item
+next_items_on st from message sender to = gained st.parties st.entries (next_entry (hub_of st) from message) sender to
+
 -- what a routed message puts on the links from its sender fits, where none of them is full, and it puts nothing on others
-routed-room : (st : State) (from : ℕ) (message : Message) → KeepsLimits st → ((to : ℕ) → to < length st.parties → is_full st from message to ≡ false)
+routed-room : (st : State) (from : ℕ) (message : Message) → KeepsLimits st → ((to : ℕ) → to < length st.parties → is_busy (hub_of st) from message to ≡ false)
     → (sender to : ℕ) → sender < length st.parties → to < length st.parties
-    → length (items_on st sender to) - sent_of st sender to + length (gained st.parties st.entries (next_entry st from message) sender to) ≤ st.limits.window
-unfolding is_full
+    → length (items_on st sender to) - sent_of st sender to + length (next_items_on st from message sender to) ≤ st.limits.window
+unfolding is_busy
 routed-room st from message k free sender to a b = by (eqb from sender) refl
   where
     by : (same : Bool) → eqb from sender ≡ same
-        → length (items_on st sender to) - sent_of st sender to + length (gained st.parties st.entries (next_entry st from message) sender to) ≤ st.limits.window
+        → length (items_on st sender to) - sent_of st sender to + length (next_items_on st from message sender to) ≤ st.limits.window
     by true e =
-        subst (λ s. length (items_on st s to) - sent_of st s to + length (gained st.parties st.entries (next_entry st from message) s to) ≤ st.limits.window)
-        (eqb-true from sender e) (ltb-false st.limits.window _ (free to b))
+        subst (λ s. length (items_on st s to) - sent_of st s to + length (next_items_on st from message s to) ≤ st.limits.window)
+        (eqb-true from sender e) (ltb-false st.limits.window _ (neither _ _ (free to b)).0)
     by false e =
         omega (arith, k.unsent sender to a b, ap length (gained_other st.parties st.entries from (routed_count st.entries from + 1) message sender to e))
 
 route-keeps : (st : State) (from : ℕ) → KeepsLimits st → KeepsLimits (route st from).state
-unfolding route
+unfolding route busy_party
 route-keeps st from k = choose KeepsLimits (not (is_party st from)) _ _ (λ _. k) (λ _. front (slice_get (submissions_of st from) (routed_count st.entries from)))
   where
-    unless : (message : Message) (full : Option ℕ) → find (is_full st from message) (range_with_len 0 (length st.parties)) ≡ full → KeepsLimits (route_unless st from message full).state
-    unless message (Some to) e = k
-    unless message None e =
-        entered-keeps st (next_entry st from message) k (routed-room st from message k (λ to lt. find-none_at (is_full st from message) to (length st.parties) lt e))
-
     front : (message : Option Message) → KeepsLimits (route_front st from message).state
     front None = k
-    front (Some message) = unless message (find (is_full st from message) (range_with_len 0 (length st.parties))) refl
+    front (Some message) = choose_unless KeepsLimits route_refusal_of (route_fault (hub_of st) from message) st _ k (λ free.
+        entered-keeps st (next_entry (hub_of st) from message) k (routed-room st from message k (λ to lt.
+        find-none_at (is_busy (hub_of st) from message) to (length st.parties) lt (route-free (hub_of st) from message free))))
 
 relay-keeps : (st : State) (from to : ℕ) → IsSquare (length st.parties) st.sent → KeepsLimits st → KeepsLimits (relay st from to).state
 unfolding relay
 relay-keeps st from to square k =
     choose KeepsLimits (not (are_parties st from to)) _ _ (λ _. k) (λ parties.
-    choose KeepsLimits (nat_le st.limits.wire (length (wire_of st from to))) _ _ (λ _. k) (λ room.
-    choose KeepsLimits (sent_of st from to == length (items_on st from to)) _ _ (λ _. k) (λ some.
+    choose KeepsLimits (is_wire_full st from to) _ _ (λ _. k) (λ room.
+    choose_unless KeepsLimits hub_refusal_of (relay_fault (hub_of st) from to) st _ k (λ free.
+    let some = relay-free st from to (not-false (are_parties st from to) parties) free in
     let both = and_parts (is_party st from) (is_party st to) (not-false (are_parties st from to) parties) in
     let now : cell (put st.sent from to (sent_of st from to + 1)) from to 0 ≡ sent_of st from to + 1 =
     cell-put_same (length st.parties) st.sent from to (sent_of st from to + 1) 0 square (ltb-true from (length st.parties) both.0) (ltb-true to (length st.parties) both.1) in
@@ -222,7 +264,7 @@ apply-keeps st from to k = choose KeepsLimits (not (are_parties st from to)) _ _
     next : (number : ℕ) (rest : List ℕ) (item : Option Item) → wire_of st from to ≡ number ∷ rest → KeepsLimits (apply_next st from to number rest item).state
     next number rest None e = dropped-keeps st from to number rest k e
     next number rest (Some item) e =
-        choose_unless KeepsLimits (apply_fault (is_uplink_full st to) (site_of st to) from item look.Next) st _ k (λ free.
+        choose_unless KeepsLimits refusal_of (apply_fault (is_uplink_full st to) (site_of st to) from item look.Next) st _ k (λ free.
         dropped-keeps (with_site st (with_applied (site_of st to) from item)) from to number rest (applied-keeps st from to item k free) e)
 
     by : (number : ℕ) (rest : List ℕ) (stands : Look) → wire_of st from to ≡ number ∷ rest → KeepsLimits (apply_by st from to number rest stands).state
@@ -238,23 +280,16 @@ repeat-keeps : (st : State) (from to number : ℕ) → KeepsLimits st → KeepsL
 unfolding repeat
 repeat-keeps st from to number k =
     choose KeepsLimits (not (are_parties st from to)) _ _ (λ _. k) (λ _.
-    choose KeepsLimits (nat_le st.limits.wire (length (wire_of st from to))) _ _ (λ _. k) (λ room.
-    choose KeepsLimits (is_unsent st from to number) _ _ (λ _. k) (λ sent.
-    let both = none (number == 0) (nat_lt (sent_of st from to) number) sent in
-    choose KeepsLimits (is_gone st from to number) _ _ (λ _. k) (λ _.
-    pushed-keeps st from to number k room (omega (arith, eqb-false number 0 both.0)) (ltb-false (sent_of st from to) number both.1)))))
-  where
-    none : (a b : Bool) → (a || b) ≡ false → (a ≡ false) × (b ≡ false)
-    none false false e = (refl, refl)
-    none false true e = absurd (cc)
-    none true b e = absurd (cc)
+    choose KeepsLimits (is_wire_full st from to) _ _ (λ _. k) (λ room.
+    choose_unless KeepsLimits hub_refusal_of (repeat_fault (hub_of st) from to number) st _ k (λ free.
+    let sent = repeat-free st from to number free in
+    pushed-keeps st from to number k room (omega (arith, eqb-false number 0 sent.0)) (ltb-false (sent_of st from to) number sent.1))))
 
 close-keeps : (st : State) (from to : ℕ) → KeepsLimits st → KeepsLimits (close st from to).state
 unfolding close gained
 close-keeps st from to k =
-    choose KeepsLimits (not (are_parties st from to)) _ _ (λ _. k) (λ _.
-    choose KeepsLimits (not (is_open st.entries from to)) _ _ (λ _. k) (λ _.
-    entered-keeps st (Closed from to) k (λ sender receiver a b. omega (arith, k.unsent sender receiver a b))))
+    choose_unless KeepsLimits hub_refusal_of (close_fault (hub_of st) from to) st _ k (λ _.
+    entered-keeps st (Closed from to) k (λ sender receiver a b. omega (arith, k.unsent sender receiver a b)))
 
 lose-keeps : (st : State) (from to : ℕ) → KeepsLimits st → KeepsLimits (lose st from to).state
 unfolding lose

@@ -4,6 +4,7 @@ use Rattle.mv_message.specs.declared.message.Message.{Message}
 use Rattle.mv_link.specs.declared.item.Item.{Item}
 use Rattle.mv_pairs.specs.Pairs.{cell, put}
 use Rattle.mv_hub.specs.declared.entry.Entry.{Entry}
+use Rattle.mv_hub.specs.Hub.{HubState}
 use Rattle.mv_hub.specs.Record.{routed_count}
 use Rattle.mv_hub.specs.Links.{link_items}
 use Rattle.mv_repository.specs.declared.entry.LogEntry.{LogEntry}
@@ -58,6 +59,14 @@ items_on st from to = link_items st.parties st.entries from to
 -- how many items of a sender a repository applied
 abbrev pub applied_count : State → ℕ → ℕ → ℕ
 applied_count st from to = count_from (log_of st to) from
+
+-- the hub's part of the state
+abbrev pub hub_of : State → HubState
+hub_of st = record { parties = st.parties; window = st.limits.window; entries = st.entries; sent = st.sent }
+
+-- the state with another part of the hub, whose parties and window are the same
+abbrev pub with_hub : State → HubState → State
+with_hub st hub = record st { entries = hub.entries; sent = hub.sent }
 
 -- a party's part of the state
 abbrev pub site_of : State → ℕ → SiteState

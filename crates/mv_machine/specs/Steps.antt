@@ -1,24 +1,19 @@
 -- What each step answers and leaves where there is memory: a row for each kind of step, its refusals in their order.
-use Rattle.std.specs.Prelude.{◌==◌, ◌||◌, ◌+◌, ◌-◌, ℕ, List, [], ◌∷◌, ◌++◌, length, not, Bool, if◌then◌else◌, slice_get, Option, Some, None, nat_lt, nat_le, find}
-use Rattle.std.specs.List.{range_with_len}
+use Rattle.std.specs.Prelude.{◌+◌, ◌-◌, ℕ, List, [], ◌∷◌, ◌++◌, length, not, Bool, if◌then◌else◌, slice_get, Option, Some, None, nat_le}
 use Rattle.mv_message.specs.declared.message.Message.{Message}
 use Rattle.mv_message.specs.declared.message.Message.TheVariants.{Query}
 use Rattle.mv_pack.specs.declared.key.PackKey.{PackKey}
 use Rattle.mv_link.specs.declared.item.Item.{Item}
 use Rattle.mv_link.specs.declared.incoming.Look.{Look}
 use Rattle.mv_link.specs.declared.incoming.Look.TheVariants as look
-use Rattle.mv_pairs.specs.Pairs.{put}
-use Rattle.mv_hub.specs.declared.entry.Entry.{Entry}
-use Rattle.mv_hub.specs.declared.entry.Entry.TheVariants.{Routed as RoutedEntry, Closed as ClosedEntry}
-use Rattle.mv_hub.specs.Record.{routed_count, is_open}
+use Rattle.mv_hub.specs.Hub.{route_fault, relay_fault, repeat_fault, close_fault, with_routed, with_relayed, with_closed}
+use Rattle.mv_hub.specs.Record.{routed_count}
 use Rattle.mv_hub.specs.Targets.{reach}
-use Rattle.mv_hub.specs.Links.{gained}
 use Rattle.mv_repository.specs.declared.verdict.Local.{Local}
 use Rattle.mv_repository.specs.declared.verdict.Local.TheVariants.{Known as KnownPack, Absent}
 use Rattle.mv_repository.specs.Effect.{effect_of}
 use Rattle.mv_repository.specs.Query.{answer_to}
 use Rattle.mv_repository.specs.Verdict.{local_verdict, joint_verdict}
-use Rattle.mv_party.specs.declared.fault.SiteFault.{SiteFault}
 use Rattle.mv_party.specs.Site.{entry_from, answer_number, with_submission, with_applied}
 use Rattle.mv_link.specs.Receiving.{look_at}
 use Rattle.mv_party.specs.Calls.{ask_fault, submit_fault, apply_fault}
@@ -27,9 +22,9 @@ use Rattle.mv_machine.specs.declared.step.Step.TheVariants.{Submit, Verify, Rout
 use Rattle.mv_machine.specs.declared.reply.Reply.{Reply}
 use Rattle.mv_machine.specs.declared.reply.Reply.TheVariants.{Submitted, Known, Asked, Routed, Relayed, Applied, Old, Gap, Repeated, Closed, Lost, Joint as JointVerdict, Refused}
 use Rattle.mv_machine.specs.declared.reply.Refusal.{Refusal}
-use Rattle.mv_machine.specs.declared.reply.Refusal.TheVariants.{Party, UplinkEmpty, Busy, WireFull, WireEmpty, NotSent, Gone, Nothing, AlreadyClosed}
-use Rattle.mv_machine.specs.Replies.{refusal_of}
-use Rattle.mv_machine.specs.State.{State, is_party, are_parties, submissions_of, is_uplink_full, sent_of, wire_of, log_of, items_on, applied_count, site_of, with_site, with_wire}
+use Rattle.mv_machine.specs.declared.reply.Refusal.TheVariants.{Party, UplinkEmpty, WireFull, WireEmpty}
+use Rattle.mv_machine.specs.Replies.{refusal_of, hub_refusal_of, route_refusal_of}
+use Rattle.mv_machine.specs.State.{State, is_party, are_parties, submissions_of, is_uplink_full, sent_of, wire_of, log_of, items_on, applied_count, hub_of, with_hub, site_of, with_site, with_wire}
 
 -- a reply and the state that the step leaves
 pub record Answered : Type 0 where
@@ -40,16 +35,16 @@ pub record Answered : Type 0 where
 abbrev pub refused : Refusal → State → Answered
 refused refusal st = record { reply = Refused refusal; state = st }
 
--- what a party does, unless it refuses that for a fault
-abbrev pub unless : Option SiteFault → State → Answered → Answered
-unless (Some fault) st done = refused (refusal_of fault) st
-unless None st done = done
+-- what a part of the system does, unless it refuses that for a fault, which has this refusal
+abbrev pub unless : {F : Type 0} → (F → Refusal) → Option F → State → Answered → Answered
+unless refusal (Some fault) st done = refused (refusal fault) st
+unless refusal None st done = done
 
 -- a party submits a message: it is the last of the party's submissions. Queries and answers are submitted by the system itself
 unfoldable pub submit : State → ℕ → Message → Answered
 submit st from message =
     if not (is_party st from) then refused Party st
-    else unless (submit_fault (is_uplink_full st from) (site_of st from) message) st (record {
+    else unless refusal_of (submit_fault (is_uplink_full st from) (site_of st from) message) st (record {
       reply = Submitted (length (submissions_of st from) + 1);
       state = with_site st (with_submission (site_of st from) message);
     })
@@ -58,7 +53,7 @@ submit st from message =
 unfoldable pub ask : State → ℕ → PackKey → Answered
 ask st party key =
     if not (is_party st party) then refused Party st
-    else unless (ask_fault (is_uplink_full st party) (site_of st party)) st (record {
+    else unless refusal_of (ask_fault (is_uplink_full st party) (site_of st party)) st (record {
       reply = Asked (length (submissions_of st party) + 1);
       state = with_site st (with_submission (site_of st party) (Query key));
     })
@@ -74,30 +69,13 @@ verify st party key =
     if not (is_party st party) then refused Party st
     else verify_by st party key (local_verdict key (log_of st party))
 
--- the entry by which the next message of a party is routed
-abbrev pub next_entry : State → ℕ → Message → Entry
-next_entry st from message = RoutedEntry from (routed_count st.entries from + 1) message
-
--- a link has no room for what the routing of a message would put on it: what waits to be relayed is never more than the
--- window
-unfoldable pub is_full : State → ℕ → Message → ℕ → Bool
-is_full st from message to =
-    nat_lt st.limits.window (length (items_on st from to) - sent_of st from to
-    + length (gained st.parties st.entries (next_entry st from message) from to))
-
--- the hub routes a message unless a link is full, of which the least is named
-abbrev pub route_unless : State → ℕ → Message → Option ℕ → Answered
-route_unless st from message (Some to) = refused (Busy to) st
-route_unless st from message None = record {
-  reply = Routed (routed_count st.entries from + 1) (reach st.parties st.entries from message);
-  state = record st { entries = st.entries ++ next_entry st from message ∷ [] };
-}
-
 -- the hub routes the front of an uplink, where there is one
 abbrev pub route_front : State → ℕ → Option Message → Answered
 route_front st from None = refused UplinkEmpty st
-route_front st from (Some message) =
-    route_unless st from message (find (is_full st from message) (range_with_len 0 (length st.parties)))
+route_front st from (Some message) = unless route_refusal_of (route_fault (hub_of st) from message) st (record {
+  reply = Routed (routed_count st.entries from + 1) (reach st.parties st.entries from message);
+  state = with_hub st (with_routed (hub_of st) from message);
+})
 
 -- the hub routes the next message of a party
 unfoldable pub route : State → ℕ → Answered
@@ -105,18 +83,18 @@ route st from =
     if not (is_party st from) then refused Party st
     else route_front st from (slice_get (submissions_of st from) (routed_count st.entries from))
 
+-- as many frames of a link are under way as its wire takes
+abbrev pub is_wire_full : State → ℕ → ℕ → Bool
+is_wire_full st from to = nat_le st.limits.wire (length (wire_of st from to))
+
 -- the next frame of a link goes on its wire
 unfoldable pub relay : State → ℕ → ℕ → Answered
 relay st from to =
     if not (are_parties st from to) then refused Party st
-    else (if nat_le st.limits.wire (length (wire_of st from to)) then refused WireFull st
-    else (if sent_of st from to == length (items_on st from to) then refused Nothing st
-    else record {
+    else (if is_wire_full st from to then refused WireFull st
+    else unless hub_refusal_of (relay_fault (hub_of st) from to) st (record {
       reply = Relayed (sent_of st from to + 1);
-      state = record st {
-        sent = put st.sent from to (sent_of st from to + 1);
-        wires = put st.wires from to (wire_of st from to ++ (sent_of st from to + 1) ∷ []);
-      };
+      state = with_wire (with_hub st (with_relayed (hub_of st) from to)) from to (wire_of st from to ++ (sent_of st from to + 1) ∷ []);
     }))
 
 -- the item that a repository is to apply next from a sender
@@ -126,7 +104,7 @@ next_item st from to = slice_get (items_on st from to) (applied_count st from to
 -- a repository applies the member of the link that the next frame bears, and its party submits the answer that this calls for, if
 -- it does: both, or neither. A link always has that member; a frame of no member would be dropped, as one behind a gap is
 abbrev pub apply_next : State → ℕ → ℕ → ℕ → List ℕ → Option Item → Answered
-apply_next st from to number rest (Some item) = unless (apply_fault (is_uplink_full st to) (site_of st to) from item look.Next) st (record {
+apply_next st from to number rest (Some item) = unless refusal_of (apply_fault (is_uplink_full st to) (site_of st to) from item look.Next) st (record {
   reply = Applied number (effect_of (log_of st to) (entry_from from item)) (answer_number (submissions_of st to) (answer_to (log_of st to) (entry_from from item)));
   state = with_wire (with_site st (with_applied (site_of st to) from item)) from to rest;
 })
@@ -149,29 +127,22 @@ apply st from to =
     if not (are_parties st from to) then refused Party st
     else apply_front st from to (wire_of st from to)
 
--- no frame of this number was relayed on a link
-abbrev pub is_unsent : State → ℕ → ℕ → ℕ → Bool
-is_unsent st from to number = number == 0 || nat_lt (sent_of st from to) number
-
--- the item of this number was pushed out of the window of its link
-abbrev pub is_gone : State → ℕ → ℕ → ℕ → Bool
-is_gone st from to number = nat_le number (length (items_on st from to) - st.limits.window)
-
 -- a frame that was relayed, and whose item its link still keeps, goes on the wire again
 unfoldable pub repeat : State → ℕ → ℕ → ℕ → Answered
 repeat st from to number =
     if not (are_parties st from to) then refused Party st
-    else (if nat_le st.limits.wire (length (wire_of st from to)) then refused WireFull st
-    else (if is_unsent st from to number then refused NotSent st
-    else (if is_gone st from to number then refused Gone st
-    else record { reply = Repeated number; state = with_wire st from to (wire_of st from to ++ number ∷ []) })))
+    else (if is_wire_full st from to then refused WireFull st
+    else unless hub_refusal_of (repeat_fault (hub_of st) from to number) st (record {
+      reply = Repeated number;
+      state = with_wire st from to (wire_of st from to ++ number ∷ []);
+    }))
 
 -- a link is closed: that goes into the record
 unfoldable pub close : State → ℕ → ℕ → Answered
-close st from to =
-    if not (are_parties st from to) then refused Party st
-    else (if not (is_open st.entries from to) then refused AlreadyClosed st
-    else record { reply = Closed; state = record st { entries = st.entries ++ ClosedEntry from to ∷ [] } })
+close st from to = unless hub_refusal_of (close_fault (hub_of st) from to) st (record {
+  reply = Closed;
+  state = with_hub st (with_closed (hub_of st) from to);
+})
 
 -- the frame in front of a wire is lost
 abbrev pub lose_front : State → ℕ → ℕ → List ℕ → Answered

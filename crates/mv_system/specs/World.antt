@@ -50,10 +50,6 @@ state_of p = record {
   logs = map (λ site. site.log) p.sites;
 }
 
--- the hub, as the lists of the list machine show it
-abbrev pub hub_of : State → HubState
-hub_of st = record { parties = st.parties; window = st.limits.window; entries = st.entries; sent = st.sent }
-
 -- a wire of this size holds no more than that
 pub record FitsWire (limit : ℕ) (wire : WireState) : Type 0 where
   pub size : wire.size ≡ limit

@@ -3,20 +3,18 @@
 ghost use Rattle.std.specs.Prelude.{◌≡◌, ◌<◌, ◌+◌, ◌∷◌, [], ◌++◌, length, IfOk, IfErr, IsSome};
 ghost use Rattle.std.specs.Prelude.{OnOk, OnErr, IsTrue, slice_get, drop};
 ghost use Rattle.mv_message.specs.declared.message.Message.TheVariants.{Query};
-ghost use Rattle.mv_pairs.specs.Pairs.{put};
 ghost use Rattle.mv_link.specs.Frames.{IsFrameOf};
 ghost use Rattle.mv_link.specs.Fault.{FailsBy};
-ghost use Rattle.mv_hub.specs.Hub.{relay_fault, repeat_fault, close_fault};
-ghost use Rattle.mv_hub.specs.declared.entry.Entry.TheVariants.{Closed};
+ghost use Rattle.mv_hub.specs.Hub.{relay_fault, repeat_fault, close_fault, with_relayed, with_closed};
 ghost use Rattle.mv_hub.specs.Record.{routed_count};
 ghost use Rattle.mv_party.specs.Calls.{submit_fault, ask_fault};
 ghost use Rattle.mv_machine.specs.State.{is_party, are_parties, is_uplink_full, submissions_of};
-ghost use Rattle.mv_machine.specs.State.{site_of, sent_of, wire_of, items_on, with_wire};
+ghost use Rattle.mv_machine.specs.State.{hub_of, with_hub, site_of, sent_of, wire_of, items_on, with_wire};
 ghost use Rattle.mv_machine.specs.Steps.{route};
 ghost use Rattle.mv_machine.specs.Replies.{route_refusal_of};
 ghost use Rattle.mv_machine.specs.Runs.{Meets};
 ghost use Rattle.mv_machine.specs.declared.reply.Reply.TheVariants.{Routed, Refused};
-ghost use Rattle.mv_system.specs.World.{Submits, OffersFront, hub_of};
+ghost use Rattle.mv_system.specs.World.{Submits, OffersFront};
 
 use crate::world::World;
 use mv_hub::{HubFault, RouteFault};
@@ -77,9 +75,8 @@ impl World {
         requires { IsTrue (are_parties self.old from to) }
         ensures number { IfOk result (λ frame. frame.number ≡ sent_of self.old from to + 1) }
         ensures frame { IfOk result (λ frame. IsFrameOf (items_on self.old from to) frame) }
-        ensures ok { OnOk result (self.new ≡ record self.old {
-          sent = put self.old.sent from to (sent_of self.old from to + 1);
-        }) }
+        ensures ok { OnOk result
+            (self.new ≡ with_hub self.old (with_relayed (hub_of self.old) from to)) }
         ensures err { OnErr result (self.new ≡ self.old) }
         ensures fault { FailsBy HubFault.Memory (relay_fault (hub_of self.old) from to) result }
     {
@@ -103,11 +100,9 @@ impl World {
         requires parties { IsTrue (are_parties self.old from to) }
         requires room { length (wire_of self.old from to) < self.old.limits.wire }
         ensures number { IfOk result (λ number. number ≡ sent_of self.old from to + 1) }
-        ensures ok { OnOk result (self.new ≡ record self.old {
-          sent = put self.old.sent from to (sent_of self.old from to + 1);
-          wires = put self.old.wires from to
-              (wire_of self.old from to ++ (sent_of self.old from to + 1) ∷ []);
-        }) }
+        ensures ok { OnOk result
+            (self.new ≡ with_wire (with_hub self.old (with_relayed (hub_of self.old) from to)) from to
+            (wire_of self.old from to ++ (sent_of self.old from to + 1) ∷ [])) }
         ensures err { OnErr result (self.new ≡ self.old) }
         ensures fault { FailsBy HubFault.Memory (relay_fault (hub_of self.old) from to) result }
     {
@@ -151,9 +146,8 @@ impl World {
     /// Closes a link.
     pub(super) fn put_closed(&mut self, from: Party, to: Party) -> Result<(), HubFault>
         requires { IsTrue (are_parties self.old from to) }
-        ensures ok { OnOk result (self.new ≡ record self.old {
-          entries = self.old.entries ++ Closed from to ∷ [];
-        }) }
+        ensures ok { OnOk result
+            (self.new ≡ with_hub self.old (with_closed (hub_of self.old) from to)) }
         ensures err { OnErr result (self.new ≡ self.old) }
         ensures fault { FailsBy HubFault.Memory (close_fault (hub_of self.old) from to) result }
     {

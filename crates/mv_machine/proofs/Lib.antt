@@ -1,5 +1,7 @@
 pub mod PrefixLemmas
 pub mod PartLemmas
+pub mod PutLemmas
+pub mod StepLemmas
 pub mod LawfulLemmas
 pub mod BoundLemmas
 pub mod ClosingLemmas

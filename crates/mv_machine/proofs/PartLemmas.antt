@@ -1,9 +1,8 @@
 -- A record and a link stay lawful with one more entry, submission or item.
-use Rattle.std.proofs.Common.{◌≡◌, ℕ, Bool, true, false, List, [], ◌∷◌, ◌++◌, length, cond, eqb, eqb-true, Some, sym, refl, subst, append_assoc, append-nil}
+use Rattle.std.proofs.Common.{◌≡◌, ℕ, List, [], ◌∷◌, ◌++◌, length, eqb, eqb-true, Some, sym, subst, append_assoc, append-nil}
 use Rattle.std.specs.Prelude.{slice_get}
 use mathlib.Core.List.{IsPrefix}
 use Rattle.mv_message.specs.declared.message.Message.{Message}
-use Rattle.mv_link.specs.declared.item.Item.{Item}
 use Rattle.mv_hub.specs.declared.entry.Entry.{Entry}
 use Rattle.mv_hub.specs.Record.{routed_from}
 use Rattle.mv_hub.specs.Links.{gained, link_items}
@@ -12,7 +11,8 @@ use Rattle.mv_repository.specs.declared.entry.LogEntry.{LogEntry}
 use Rattle.mv_repository.specs.Log.{items_from}
 use Rattle.mv_party.proofs.SiteLemmas.{items_from-push}
 use Rattle.mv_machine.specs.Lawful.{Fits, AllFit, NamesParties, AllNameParties, IsLawfulRecord, IsLawfulLink}
-use Rattle.mv_machine.proofs.PrefixLemmas.{prefix-grows, prefix-push}
+use Rattle.mv_machine.specs.PartLaws.{LinksStayLawful}
+use Rattle.mv_machine.proofs.PrefixLemmas.{prefix-grows, prefix-maybe}
 
 -- one more entry fits behind those that fit
 AllFit-push : (before entries : List Entry) (entry : Entry) → AllFit before entries → Fits (before ++ entries) entry → AllFit before (entries ++ entry ∷ [])
@@ -33,6 +33,8 @@ record-entered count entries entry lawful fits names = record {
   name_parties = AllNameParties-push count entries entry lawful.name_parties names;
 }
 
+pub ruleset record_entered = (record-entered)
+
 -- the sender of a link submitted more
 pub link-submitted : (parties : List (List (List ℕ))) (entries : List Entry) (from to : ℕ) (submissions more : List Message) (log : List LogEntry)
     → IsLawfulLink parties entries from to submissions log → IsLawfulLink parties entries from to (submissions ++ more) log
@@ -47,16 +49,9 @@ pub link-entered : (parties : List (List (List ℕ))) (entries : List Entry) (en
     → IsLawfulLink parties (entries ++ entry ∷ []) from to submissions log
 link-entered parties entries entry from to submissions log lawful order = record {
   routed = order;
-  applied = subst (IsPrefix (items_from log from)) (sym (link_items-push parties entries entry from to))
+  applied = rw (link_items-push parties entries entry from to)
       (prefix-grows (items_from log from) (link_items parties entries from to) (gained parties entries entry from to) lawful.applied);
 }
-
--- the items of a party with the next one of a sender
-applied_more : (from party : ℕ) (log : List LogEntry) (items : List Item) (item : Item) → IsPrefix (items_from log party) items
-    → (same : Bool) → eqb from party ≡ same → (from ≡ party → slice_get items (length (items_from log party)) ≡ Some item)
-    → IsPrefix (items_from log party ++ cond same (item ∷ []) []) items
-applied_more from party log items item prefix false e next = subst (λ l. IsPrefix l items) (sym (append-nil (items_from log party))) prefix
-applied_more from party log items item prefix true e next = prefix-push (items_from log party) items item prefix (next (eqb-true from party e))
 
 -- the receiver of a link applied an entry, which is the next of the link where it is from its sender
 pub link-applied : (parties : List (List (List ℕ))) (entries : List Entry) (from to : ℕ) (submissions : List Message) (log : List LogEntry) (entry : LogEntry)
@@ -65,6 +60,9 @@ pub link-applied : (parties : List (List (List ℕ))) (entries : List Entry) (fr
     → IsLawfulLink parties entries from to submissions (log ++ entry ∷ [])
 link-applied parties entries from to submissions log entry lawful next = record {
   routed = lawful.routed;
-  applied = subst (λ l. IsPrefix l (link_items parties entries from to)) (sym (items_from-push log entry from))
-      (applied_more entry.sender from log (link_items parties entries from to) entry.item lawful.applied (eqb entry.sender from) refl next);
+  applied = rw (items_from-push log entry from)
+      (prefix-maybe (items_from log from) _ (eqb entry.sender from) entry.item lawful.applied (λ same. next (eqb-true entry.sender from same)));
 }
+
+pub links_stay_lawful : LinksStayLawful
+links_stay_lawful = (link-submitted, link-entered, link-applied)

@@ -1,78 +1,49 @@
 -- Two lawful states with the same record: a repository that applied as many items of each sender in both has the same entries.
-use Rattle.std.proofs.Common.{◌≡◌, ℕ, zero, suc, ◌<◌, Bool, true, false, List, [], ◌∷◌, ◌++◌, length, cond, eqb, Some, sym, refl, ap, ◌∙◌, subst, arith}
-use Rattle.std.specs.Prelude.{slice_get}
+use Rattle.std.proofs.Common.{◌≡◌, ℕ, ◌<◌, Bool, true, false, List, [], ◌∷◌, ◌++◌, length, take, cond, eqb, sym, refl, ap, ◌∙◌, subst, arith}
+use Rattle.std.specs.Prelude.{All}
 use Rattle.std.specs.List.{Contains}
-use Rattle.std.proofs.lemmas.Bool.{eq-eqb, eqb-true}
-use Rattle.std.proofs.lemmas.Option.{slice_get_within, get_or_from_slice_get, slice_get-get_or}
+use Rattle.std.proofs.Math.Seq.{take-append_seam}
+use Rattle.std.proofs.lemmas.Bool.{eqb-true}
+use Rattle.std.proofs.lemmas.List.Elements.{All-nil, All-cons, All-weaker, All-contains, Contains-append_right}
 use mathlib.Core.List.{IsPrefix}
 use Rattle.mv_pack.specs.declared.key.PackKey.{PackKey}
-use Rattle.mv_link.specs.declared.item.Item.{Item}
 use Rattle.mv_hub.specs.Links.{link_items}
 use Rattle.mv_repository.specs.declared.entry.LogEntry.{LogEntry}
 use Rattle.mv_repository.specs.Log.{items_from}
 use Rattle.mv_repository.specs.Agreement.{AgreeOn}
 use Rattle.mv_repository.proofs.SameAboutLemmas.{same_entries}
+use Rattle.mv_party.specs.Site.{AllFromParties, entry_from}
 use Rattle.mv_machine.specs.State.{State, log_of, items_on, applied_count}
-use Rattle.mv_party.specs.Site.{AllFromParties}
 use Rattle.mv_machine.specs.Lawful.{IsLawful}
+use Rattle.mv_machine.proofs.PutLemmas.{each-entry}
 use Rattle.mv_machine.proofs.StampLemmas.{stamps_distinct}
 
 -- two prefixes of a list that are as long are the same
 prefix-same : {A : Type 0} (xs ys zs : List A) → IsPrefix xs zs → IsPrefix ys zs → length xs ≡ length ys → xs ≡ ys
-prefix-same [] [] zs p q e = refl
-prefix-same [] (y ∷ ys) zs p q e = absurd (omega arith)
-prefix-same (x ∷ xs) [] zs p q e = absurd (omega arith)
-prefix-same (x ∷ xs) (y ∷ ys) [] p q e = absurd (cc p.1)
-prefix-same (x ∷ xs) (y ∷ ys) (z ∷ zs) p q e =
-    let first : x ≡ y = cc (p.1, q.1) in
-    let front : xs ++ p.0 ≡ zs = cc p.1 in
-    let other : ys ++ q.0 ≡ zs = cc q.1 in
-    let rest : xs ≡ ys = prefix-same xs ys zs (p.0, front) (q.0, other) (omega (arith, e)) in
-    λ i. first i ∷ rest i
+prefix-same xs ys zs p q e =
+    sym (take-append_seam xs p.0) ∙ ap (take (length xs)) (p.1 ∙ sym q.1) ∙ ap (λ n. take n (ys ++ q.0)) e ∙ take-append_seam ys q.0
 
--- the item of an entry is among those of its sender, and each of those is of an entry
-item-at : (log : List LogEntry) (i : ℕ) (entry : LogEntry) → slice_get log i ≡ Some entry → (j : ℕ) × (slice_get (items_from log entry.sender) j ≡ Some entry.item)
-item-at [] i entry at = absurd (cc)
-item-at (first ∷ log) zero entry at =
-    let same : first ≡ entry = cc at in (
-      0,
-      subst (λ (e : LogEntry). slice_get (cond (eqb first.sender e.sender) (first.item ∷ items_from log e.sender) (items_from log e.sender)) 0 ≡ Some e.item) same
-          (ap (λ b. slice_get (cond b (first.item ∷ items_from log first.sender) (items_from log first.sender)) 0) (eq-eqb first.sender first.sender refl)),
-    )
-item-at (first ∷ log) (suc i) entry at = by (eqb first.sender entry.sender) (item-at log i entry at)
+-- each item that a log has from a sender is of one of its entries
+items-contained : (log : List LogEntry) (sender : ℕ) → All (λ item. Contains log (entry_from sender item)) (items_from log sender)
+items-contained [] sender = All-nil (λ item. Contains [] (entry_from sender item))
+items-contained (first ∷ log) sender =
+    by (eqb first.sender sender) refl
+    (All-weaker (λ item. Contains log (entry_from sender item)) (λ item. Contains (first ∷ log) (entry_from sender item))
+    (λ item. Contains-append_right (first ∷ []) log (entry_from sender item)) (items_from log sender) (items-contained log sender))
   where
-    by : (b : Bool) → (j : ℕ) × (slice_get (items_from log entry.sender) j ≡ Some entry.item)
-        → (j : ℕ) × (slice_get (cond b (first.item ∷ items_from log entry.sender) (items_from log entry.sender)) j ≡ Some entry.item)
-    by true later = (suc later.0, later.1)
-    by false later = later
+    by : (b : Bool) → eqb first.sender sender ≡ b → All (λ item. Contains (first ∷ log) (entry_from sender item)) (items_from log sender)
+        → All (λ item. Contains (first ∷ log) (entry_from sender item)) (cond b (first.item ∷ items_from log sender) (items_from log sender))
+    by true e rest =
+        All-cons (λ item. Contains (first ∷ log) (entry_from sender item)) first.item (items_from log sender)
+        (0, omega arith, λ i. record { sender = eqb-true first.sender sender e i; item = first.item }) rest
+    by false e rest = rest
 
-entry-at : (log : List LogEntry) (sender j : ℕ) (item : Item) → slice_get (items_from log sender) j ≡ Some item
-    → (i : ℕ) × (slice_get log i ≡ Some (record { sender = sender; item = item }))
-entry-at [] sender j item at = absurd (cc)
-entry-at (first ∷ log) sender j item at = by (eqb first.sender sender) refl j at (λ k. entry-at log sender k item)
-  where
-    by : (b : Bool) → eqb first.sender sender ≡ b → (j : ℕ) → slice_get (cond b (first.item ∷ items_from log sender) (items_from log sender)) j ≡ Some item
-        → ((k : ℕ) → slice_get (items_from log sender) k ≡ Some item → (i : ℕ) × (slice_get log i ≡ Some (record { sender = sender; item = item })))
-        → (i : ℕ) × (slice_get (first ∷ log) i ≡ Some (record { sender = sender; item = item }))
-    by true e zero at among =
-        let own : first.sender ≡ sender = eqb-true first.sender sender e in
-        let carried : first.item ≡ item = cc at in
-        (0, λ k. Some (record { sender = own k; item = carried k }))
-    by true e (suc j) at among = let later = among j at in (suc later.0, later.1)
-    by false e j at among = let later = among j at in (suc later.0, later.1)
-
-sender-at : (count : ℕ) (log : List LogEntry) (i : ℕ) (entry : LogEntry) → AllFromParties count log → slice_get log i ≡ Some entry → entry.sender < count
-sender-at count [] i entry all at = absurd (cc)
-sender-at count (first ∷ log) zero entry all at = let same : first ≡ entry = cc at in subst (λ (e : LogEntry). e.sender < count) same all.0
-sender-at count (first ∷ log) (suc i) entry all at = sender-at count log i entry all.1 at
-
+-- so where another log has the same items from each sender, it has each entry
 entry-also : (count : ℕ) (one other : List LogEntry) → AllFromParties count one → ((sender : ℕ) → sender < count → items_from one sender ≡ items_from other sender)
     → (entry : LogEntry) → Contains one entry → Contains other entry
-entry-also count one other parties same entry c =
-    let at : slice_get one c.0 ≡ Some entry = slice_get-get_or one c.0 entry c.1 ∙ ap Some c.2 in
-    let item = item-at one c.0 entry at in
-    let here = entry-at other entry.sender item.0 entry.item (ap (λ l. slice_get l item.0) (sym (same entry.sender (sender-at count one c.0 entry parties at))) ∙ item.1) in
-    (here.0, slice_get_within other here.0 entry here.1, get_or_from_slice_get other here.0 entry entry here.1)
+entry-also count one other parties same entry =
+    All-contains (Contains other) one entry
+    (each-entry (λ sender item. Contains other (entry_from sender item)) count one parties (λ sender lt. rw (same sender lt) (items-contained other sender)))
 
 -- so it agrees with itself on every pack
 pub records_decide : (one other : State) → IsLawful one → IsLawful other → other.parties ≡ one.parties → other.entries ≡ one.entries

@@ -1,188 +1,107 @@
 -- The stamps of a log name places of the record, each of which has one sender; and the stamps on one link rise. So none stands
 -- twice in a log.
-use Rattle.std.proofs.Common.{◌≡◌, ℕ, zero, suc, ◌+◌, ◌-◌, ◌<◌, ◌≤◌, Bool, true, false, List, [], ◌∷◌, ◌++◌, length, cond, eqb, Some, sym, refl, ap, ◌∙◌, subst, append_assoc, arith, length-append}
-use Rattle.std.specs.Bool.{⊤}
-use Rattle.std.specs.Prelude.{All, slice_get, ◌&&◌}
-use Rattle.std.proofs.lemmas.Bool.{eq-eqb, eqb-true}
-use Rattle.std.proofs.lemmas.List.Elements.{All-nil, All-cons}
+use Rattle.std.proofs.Common.{◌≡◌, ℕ, zero, suc, ◌+◌, ◌-◌, ◌<◌, Bool, true, false, List, [], ◌∷◌, length, cond, eqb, Some, refl, ap, arith, ◌⊎◌, inl, inr}
+use Rattle.std.specs.Prelude.{All, slice_get}
+use Rattle.std.proofs.lemmas.Bool.{eq-eqb, cases_eq}
+use Rattle.std.proofs.lemmas.List.Elements.{All-nil, All-cons, All-head, All-tail}
 use Rattle.mv_message.specs.declared.message.Message.{Message}
 use Rattle.mv_link.specs.declared.item.Item.{Item}
 use Rattle.mv_link.specs.declared.item.Item.TheVariants.{Receipt, Carried}
 use Rattle.mv_hub.specs.declared.entry.Entry.{Entry}
-use Rattle.mv_hub.specs.declared.entry.Entry.TheVariants.{Routed, Closed}
-use Rattle.mv_hub.specs.Record.{is_open}
-use Rattle.mv_hub.specs.Targets.{is_reached, reach, is_query}
-use Rattle.mv_hub.specs.Links.{gained, link_items_after, link_items}
+use Rattle.mv_hub.specs.declared.entry.Entry.TheVariants.{Routed}
 use Rattle.mv_repository.specs.declared.entry.LogEntry.{LogEntry}
 use Rattle.mv_repository.specs.Log.{items_from}
-use Rattle.mv_repository.specs.Agreement.{stamp_in, stamp_at}
+use Rattle.mv_repository.specs.Agreement.{stamp_in, stamp_at, HasDistinctStamps}
 use Rattle.mv_repository.proofs.SameAboutLemmas.{same_about}
-use Rattle.mv_machine.specs.State.{State, log_of}
 use Rattle.mv_party.specs.Site.{AllFromParties}
+use Rattle.mv_machine.specs.State.{State, log_of}
 use Rattle.mv_machine.specs.Lawful.{IsLawful}
 use Rattle.mv_machine.specs.Stamps.{IsStamped, StampsNameRoutings, StampsAreDistinct, RepositoriesAgree}
-use Rattle.mv_machine.proofs.PrefixLemmas.{slice_get-behind}
+use Rattle.mv_machine.specs.Laws.{LawfulStampsAreDistinct}
+use Rattle.mv_machine.proofs.PutLemmas.{IsPut, ArePut, put-each, put-rest, log-put, each-entry}
 
--- each message among these items was routed from a party where its stamp says, and each stamp is greater than those before it
--- and than a number
-abbrev AreStamped : List Entry → ℕ → ℕ → List Item → Type 0
-AreStamped entries from stamp [] = ⊤
-AreStamped entries from stamp (Receipt k reach query ∷ items) = AreStamped entries from stamp items
-AreStamped entries from stamp (Carried k later message ∷ items) =
-    (stamp < later) × (slice_get entries (later - 1) ≡ Some (Routed from k message)) × AreStamped entries from later items
+-- the entry that put a message on a link has its stamp
+named : (st : State) (from to place : ℕ) (item : Item) → IsPut st.parties st.entries from to place item → IsStamped st.entries from item
+named st from to place (Receipt k reached query) put = tt
+named st from to place (Carried k stamp message) put =
+    let before : place + 1 - 1 ≡ place = omega arith in
+    rw (put.made.0, put.made.1, before) (omega arith, put.routed)
 
-stamped-weaker : (entries : List Entry) (from lower stamp : ℕ) (items : List Item) → lower ≤ stamp → AreStamped entries from stamp items → AreStamped entries from lower items
-stamped-weaker entries from lower stamp [] least stamped = tt
-stamped-weaker entries from lower stamp (Receipt k reach query ∷ items) least stamped = stamped-weaker entries from lower stamp items least stamped
-stamped-weaker entries from lower stamp (Carried k later message ∷ items) least stamped = (omega (arith, least, stamped.0), stamped.1, stamped.2)
+stamps_named : (st : State) → IsLawful st → StampsNameRoutings st
+stamps_named st lawful party is_party =
+    each-entry (IsStamped st.entries) (length st.parties) (log_of st party) (lawful.of_party party is_party).from_parties (λ sender lt.
+    put-each st.parties st.entries sender party (IsStamped st.entries sender) (named st sender party) 0 0 (items_from (log_of st party) sender) (log-put st sender party lawful lt is_party))
 
--- a front of such items
-stamped-front : (entries : List Entry) (from stamp : ℕ) (items more : List Item) → AreStamped entries from stamp (items ++ more) → AreStamped entries from stamp items
-stamped-front entries from stamp [] more stamped = tt
-stamped-front entries from stamp (Receipt k reach query ∷ items) more stamped = stamped-front entries from stamp items more stamped
-stamped-front entries from stamp (Carried k later message ∷ items) more stamped = (stamped.0, stamped.1, stamped-front entries from later items more stamped.2)
+module _ (parties : List (List (List ℕ))) (entries : List Entry) (to : ℕ) where
+  -- the items that a log has from each sender are put on their links
+  abbrev IsPutLog : ℕ → List LogEntry → Type 0
+  IsPutLog count log = (sender : ℕ) → sender < count → ArePut parties entries sender to 0 0 (items_from log sender)
 
--- such items without the first
-stamped-rest : (entries : List Entry) (from stamp : ℕ) (item : Item) (items : List Item) → AreStamped entries from stamp (item ∷ items) → AreStamped entries from stamp items
-stamped-rest entries from stamp (Receipt k reach query) items stamped = stamped
-stamped-rest entries from stamp (Carried k later message) items stamped = stamped-weaker entries from stamp later items (omega (arith, stamped.0)) stamped.2
+  -- what a log has from a sender behind its first entry
+  log-rest : (count : ℕ) (entry : LogEntry) (log : List LogEntry) → IsPutLog count (entry ∷ log) → IsPutLog count log
+  log-rest count entry log put sender is_party = by (eqb entry.sender sender) (put sender is_party)
+    where
+      by : (b : Bool) → ArePut parties entries sender to 0 0 (cond b (entry.item ∷ items_from log sender) (items_from log sender)) → ArePut parties entries sender to 0 0 (items_from log sender)
+      by true s = put-rest parties entries sender to 0 0 entry.item (items_from log sender) s
+      by false s = s
 
--- what one entry puts on a link, in front of what later ones put on it
-gained-stamped : (parties : List (List (List ℕ))) (before : List Entry) (entry : Entry) (entries : List Entry) (from to : ℕ) (items : List Item)
-    → AreStamped (before ++ entry ∷ entries) from (length before + 1) items
-    → AreStamped (before ++ entry ∷ entries) from (length before) (gained parties before entry from to ++ items)
-unfolding gained
-gained-stamped parties before (Closed sender receiver) entries from to items later =
-    stamped-weaker (before ++ Closed sender receiver ∷ entries) from (length before) (length before + 1) items (omega arith) later
-gained-stamped parties before (Routed sender k message) entries from to items later =
-    by (eqb sender from) refl (eqb to from && is_open before from from) (is_reached parties before from message to)
-  where
-    whole : List Entry
-    whole = before ++ Routed sender k message ∷ entries
+  -- no message that was put on a link has the stamp of another entry, nor of one before those that put them
+  other-stamps : (sender other place k carried receipts : ℕ) (message : Message) (items : List Item) → slice_get entries place ≡ Some (Routed other k message)
+      → (sender ≡ other → place < carried) → ArePut parties entries sender to carried receipts items → All (λ item. stamp_in item ≡ Some (place + 1) → ⊥) items
+  other-stamps sender other place k carried receipts message [] routed later put = All-nil (λ item. stamp_in item ≡ Some (place + 1) → ⊥)
+  other-stamps sender other place k carried receipts message (Receipt l reached query ∷ items) routed later put =
+      All-cons (λ item. stamp_in item ≡ Some (place + 1) → ⊥) _ items (λ is. cc) (other-stamps sender other place k carried (put.0 + 1) message items routed later put.3)
+  other-stamps sender other place k carried receipts message (Carried l stamp sent ∷ items) routed later put =
+      All-cons (λ item. stamp_in item ≡ Some (place + 1) → ⊥) _ items
+      (λ is.
+      let stamp_is : stamp ≡ place + 1 = cc is in
+      let same_place : put.0 ≡ place = omega (arith, put.2.made.0, stamp_is) in
+      let same : sender ≡ other = cc (put.2.routed, routed, same_place) in
+      omega (arith, later same, put.1, same_place))
+      (other-stamps sender other place k (put.0 + 1) receipts message items routed (λ same. omega (arith, later same, put.1)) put.3)
 
-    here : eqb sender from ≡ true → slice_get whole (length before + 1 - 1) ≡ Some (Routed from k message)
-    here same =
-        ap (slice_get whole) (omega arith) ∙ slice_get-behind before (Routed sender k message) entries
-        ∙ ap (λ party. Some (Routed party k message)) (eqb-true sender from same)
+  -- the place of a log's first entry in the record, and what comes behind
+  stamp-none : (stamp : ℕ) (log : List LogEntry) (place : ℕ) → All (λ entry. stamp_in entry.item ≡ Some stamp → ⊥) log → stamp_at log place ≡ Some stamp → ⊥
+  stamp-none stamp [] place none at = absurd (cc)
+  stamp-none stamp (entry ∷ log) zero none at = All-head (λ (e : LogEntry). stamp_in e.item ≡ Some stamp → ⊥) entry log none at
+  stamp-none stamp (entry ∷ log) (suc place) none at = stamp-none stamp log place (All-tail (λ (e : LogEntry). stamp_in e.item ≡ Some stamp → ⊥) entry log none) at
 
-    none : AreStamped whole from (length before) items
-    none = stamped-weaker whole from (length before) (length before + 1) items (omega arith) later
+  -- no stamp stands at the first place of a log and at another
+  first-alone : (count : ℕ) (entry : LogEntry) (log : List LogEntry) (place stamp : ℕ) → AllFromParties count log → IsPutLog count (entry ∷ log) → entry.sender < count
+      → stamp_in entry.item ≡ Some stamp → stamp_at log place ≡ Some stamp → ⊥
+  first-alone count entry log place stamp all put is_party first at =
+      by entry.item (rw (eq-eqb entry.sender entry.sender refl) at (put entry.sender is_party)) first
+    where
+      by : (item : Item) → ArePut parties entries entry.sender to 0 0 (item ∷ items_from log entry.sender) → stamp_in item ≡ Some stamp → ⊥
+      by (Receipt k reached query) own is = absurd (cc)
+      by (Carried k given message) own is =
+          let stamp_is : stamp ≡ own.0 + 1 = cc (is, own.2.made.0) in
+          stamp-none stamp log place
+          (each-entry (λ sender item. stamp_in item ≡ Some stamp → ⊥) count log all (λ sender lt. rw stamp_is (among sender (cases_eq sender entry.sender) (log-rest count entry log put sender lt))))
+          at
+        where
+          among : (sender : ℕ) → (sender ≡ entry.sender) ⊎ (sender ≡ entry.sender → ⊥) → ArePut parties entries sender to 0 0 (items_from log sender)
+              → All (λ item. stamp_in item ≡ Some (own.0 + 1) → ⊥) (items_from log sender)
+          among sender (inl same) put =
+              other-stamps sender entry.sender own.0 k (own.0 + 1) 0 own.2.message (items_from log sender) own.2.routed (λ _. omega arith) (rw same own.3)
+          among sender (inr other) put = other-stamps sender entry.sender own.0 k 0 0 own.2.message (items_from log sender) own.2.routed (λ same. absurd (other same)) put
 
-    by : (a : Bool) → eqb sender from ≡ a → (b c : Bool)
-        → AreStamped whole from (length before)
-        (cond a (cond b (Receipt k (reach parties before from message) (is_query message) ∷ []) [] ++ cond c (Carried k (length before + 1) message ∷ []) []) [] ++ items)
-    by false same b c = none
-    by true same true true = (omega arith, here same, later)
-    by true same false true = (omega arith, here same, later)
-    by true same true false = none
-    by true same false false = none
-
--- what the entries of a record put on a link, where others stand before them
-link-stamped : (parties : List (List (List ℕ))) (before entries : List Entry) (from to : ℕ)
-    → AreStamped (before ++ entries) from (length before) (link_items_after parties before entries from to)
-link-stamped parties before [] from to = tt
-link-stamped parties before (entry ∷ entries) from to =
-    let items = link_items_after parties (before ++ entry ∷ []) entries from to in
-    gained-stamped parties before entry entries from to items
-    (subst (λ n. AreStamped (before ++ entry ∷ entries) from n items) (length-append before (entry ∷ []))
-    (subst (λ l. AreStamped l from (length (before ++ entry ∷ [])) items) (append_assoc before (entry ∷ []) entries)
-    (link-stamped parties (before ++ entry ∷ []) entries from to)))
-
--- the items that a log has from each sender are so stamped
-abbrev IsStampedLog : List Entry → ℕ → List LogEntry → Type 0
-IsStampedLog entries count log = (sender : ℕ) → sender < count → AreStamped entries sender 0 (items_from log sender)
-
--- what a log has from a sender, where its first entry is from that sender
-from-first : (entries : List Entry) (sender stamp : ℕ) (entry : LogEntry) (log : List LogEntry) → entry.sender ≡ sender
-    → AreStamped entries sender stamp (items_from (entry ∷ log) sender) → AreStamped entries sender stamp (entry.item ∷ items_from log sender)
-from-first entries sender stamp entry log same stamped =
-    subst (λ b. AreStamped entries sender stamp (cond b (entry.item ∷ items_from log sender) (items_from log sender))) (eq-eqb entry.sender sender same) stamped
-
--- what a log has from a sender behind its first entry
-from-rest : (entries : List Entry) (sender stamp : ℕ) (entry : LogEntry) (log : List LogEntry)
-    → AreStamped entries sender stamp (items_from (entry ∷ log) sender) → AreStamped entries sender stamp (items_from log sender)
-from-rest entries sender stamp entry log stamped = by (eqb entry.sender sender) stamped
-  where
-    by : (b : Bool) → AreStamped entries sender stamp (cond b (entry.item ∷ items_from log sender) (items_from log sender)) → AreStamped entries sender stamp (items_from log sender)
-    by true s = stamped-rest entries sender stamp entry.item (items_from log sender) s
-    by false s = s
-
-log-rest : (entries : List Entry) (count : ℕ) (entry : LogEntry) (log : List LogEntry) → IsStampedLog entries count (entry ∷ log) → IsStampedLog entries count log
-log-rest entries count entry log stamped sender is_party = from-rest entries sender 0 entry log (stamped sender is_party)
-
--- the first entry of a log names its routing
-first-named : (entries : List Entry) (sender : ℕ) (item : Item) (items : List Item) → AreStamped entries sender 0 (item ∷ items) → IsStamped entries sender item
-first-named entries sender (Receipt k reach query) items stamped = tt
-first-named entries sender (Carried k stamp message) items stamped = (omega (arith, stamped.0), stamped.1)
-
--- and so does each
-log-named : (entries : List Entry) (count : ℕ) (log : List LogEntry) → AllFromParties count log → IsStampedLog entries count log
-    → All (λ entry. IsStamped entries entry.sender entry.item) log
-log-named entries count [] all stamped = All-nil (λ (entry : LogEntry). IsStamped entries entry.sender entry.item)
-log-named entries count (entry ∷ log) all stamped =
-    All-cons (λ (e : LogEntry). IsStamped entries e.sender e.item) entry log
-    (first-named entries entry.sender entry.item (items_from log entry.sender) (from-first entries entry.sender 0 entry log refl (stamped entry.sender all.0)))
-    (log-named entries count log all.1 (log-rest entries count entry log stamped))
-
--- where an entry of the record routed from a sender, and what a log has from that sender has greater stamps than its place, no
--- entry of the log bears that stamp
-stamp-not_in : (entries : List Entry) (count sender k stamp : ℕ) (message : Message) (log : List LogEntry) (place : ℕ)
-    → slice_get entries (stamp - 1) ≡ Some (Routed sender k message) → AreStamped entries sender stamp (items_from log sender)
-    → AllFromParties count log → IsStampedLog entries count log → stamp_at log place ≡ Some stamp → ⊥
-stamp-not_in entries count sender k stamp message [] place routed above all stamped at = absurd (cc)
-stamp-not_in entries count sender k stamp message (entry ∷ log) (suc place) routed above all stamped at =
-    stamp-not_in entries count sender k stamp message log place routed (from-rest entries sender stamp entry log above) all.1 (log-rest entries count entry log stamped) at
-stamp-not_in entries count sender k stamp message (entry ∷ log) zero routed above all stamped at =
-    by entry.item (from-first entries entry.sender 0 entry log refl (stamped entry.sender all.0)) (λ same. from-first entries sender stamp entry log same above) at
-  where
-    by : (item : Item) → AreStamped entries entry.sender 0 (item ∷ items_from log entry.sender)
-        → (entry.sender ≡ sender → AreStamped entries sender stamp (item ∷ items_from log sender)) → stamp_in item ≡ Some stamp → ⊥
-    by (Receipt l reach query) own greater is = absurd (cc)
-    by (Carried l same_stamp sent) own greater is =
-        let same : same_stamp ≡ stamp = cc is in
-        let sender_same : entry.sender ≡ sender = cc (own.1, routed, same) in
-        omega (arith, (greater sender_same).0, same)
-
--- no stamp stands at the first place of a log and at another
-first-alone : (entries : List Entry) (count : ℕ) (entry : LogEntry) (log : List LogEntry) (place stamp : ℕ) → AllFromParties count (entry ∷ log)
-    → IsStampedLog entries count (entry ∷ log) → stamp_in entry.item ≡ Some stamp → stamp_at log place ≡ Some stamp → ⊥
-first-alone entries count entry log place stamp all stamped first at =
-    by entry.item (from-first entries entry.sender 0 entry log refl (stamped entry.sender all.0)) first
-  where
-    by : (item : Item) → AreStamped entries entry.sender 0 (item ∷ items_from log entry.sender) → stamp_in item ≡ Some stamp → ⊥
-    by (Receipt k reach query) own is = absurd (cc)
-    by (Carried k same_stamp message) own is =
-        let same : same_stamp ≡ stamp = cc is in
-        stamp-not_in entries count entry.sender k stamp message log place
-        (subst (λ s. slice_get entries (s - 1) ≡ Some (Routed entry.sender k message)) same own.1)
-        (subst (λ s. AreStamped entries entry.sender s (items_from log entry.sender)) same own.2)
-        all.1 (log-rest entries count entry log stamped) at
-
-log-distinct : (entries : List Entry) (count : ℕ) (log : List LogEntry) → AllFromParties count log → IsStampedLog entries count log
-    → (first second stamp : ℕ) → stamp_at log first ≡ Some stamp → stamp_at log second ≡ Some stamp → first ≡ second
-log-distinct entries count [] all stamped first second stamp a b = absurd (cc)
-log-distinct entries count (entry ∷ log) all stamped zero zero stamp a b = refl
-log-distinct entries count (entry ∷ log) all stamped zero (suc second) stamp a b = absurd (first-alone entries count entry log second stamp all stamped a b)
-log-distinct entries count (entry ∷ log) all stamped (suc first) zero stamp a b = absurd (first-alone entries count entry log first stamp all stamped b a)
-log-distinct entries count (entry ∷ log) all stamped (suc first) (suc second) stamp a b =
-    ap suc (log-distinct entries count log all.1 (log-rest entries count entry log stamped) first second stamp a b)
-
--- the logs of a lawful state
-log-stamped : (st : State) (party : ℕ) → IsLawful st → party < length st.parties → IsStampedLog st.entries (length st.parties) (log_of st party)
-unfolding link_items
-log-stamped st party lawful is_party sender sender_is_party =
-    let applied = (lawful.of_link sender party sender_is_party is_party).applied in
-    stamped-front st.entries sender 0 (items_from (log_of st party) sender) applied.0
-    (subst (AreStamped st.entries sender 0) (sym applied.1) (link-stamped st.parties [] st.entries sender party))
-
-pub stamps_named : (st : State) → IsLawful st → StampsNameRoutings st
-stamps_named st lawful = λ party is_party.
-    log-named st.entries (length st.parties) (log_of st party) (lawful.of_party party is_party).from_parties (log-stamped st party lawful is_party)
+  log-distinct : (count : ℕ) (log : List LogEntry) → AllFromParties count log → IsPutLog count log → HasDistinctStamps log
+  log-distinct count [] all put first second stamp a b = absurd (cc)
+  log-distinct count (entry ∷ log) all put zero zero stamp a b = refl
+  log-distinct count (entry ∷ log) all put zero (suc second) stamp a b = absurd (first-alone count entry log second stamp all.1 put all.0 a b)
+  log-distinct count (entry ∷ log) all put (suc first) zero stamp a b = absurd (first-alone count entry log first stamp all.1 put all.0 b a)
+  log-distinct count (entry ∷ log) all put (suc first) (suc second) stamp a b =
+      ap suc (log-distinct count log all.1 (log-rest count entry log put) first second stamp a b)
 
 pub stamps_distinct : (st : State) → IsLawful st → StampsAreDistinct st
-stamps_distinct st lawful = λ party is_party.
-    log-distinct st.entries (length st.parties) (log_of st party) (lawful.of_party party is_party).from_parties (log-stamped st party lawful is_party)
+stamps_distinct st lawful party is_party =
+    log-distinct st.parties st.entries party (length st.parties) (log_of st party) (lawful.of_party party is_party).from_parties
+    (λ sender sender_is_party. log-put st sender party lawful sender_is_party is_party)
+
+pub stamps_are_distinct : LawfulStampsAreDistinct
+stamps_are_distinct st lawful = (stamps_named st lawful, stamps_distinct st lawful)
 
 pub repositories_agree : (st : State) → IsLawful st → RepositoriesAgree st
-repositories_agree st lawful = λ pack one other one_is_party other_is_party same.
+repositories_agree st lawful pack one other one_is_party other_is_party same =
     same_about pack (log_of st one) (log_of st other) (stamps_distinct st lawful one one_is_party) (stamps_distinct st lawful other other_is_party) same

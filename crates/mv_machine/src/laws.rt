@@ -9,22 +9,26 @@ ghost use Rattle.mv_machine.specs.Laws.{LimitsAreKept, RecordsDecide};
 
 /// Whatever the steps and whatever their order: what each repository applied from each sender is a prefix of what the record
 /// put on their link, in order and each once, and what was routed is a prefix of what its sender submitted.
+#[tactic(auto, using(crate::proofs::LawfulLemmas::runs_are_lawful))]
 pub fn runs_are_lawful()
     ensures { RunsAreLawful }
 {}
 
 /// Whatever steps are run and then others: over a link that stood closed in between, nothing is applied that was submitted after
 /// that; and over no link is anything applied that was routed after its closing.
+#[tactic(auto, using(crate::proofs::HeadlineLemmas::closed_links_stay_closed))]
 pub fn closed_links_stay_closed()
     ensures { ClosedLinksStayClosed }
 {}
 
 /// The record never grows so long that a stamp of 32 bits would not name its entries.
+#[tactic(auto, using(crate::proofs::BoundLemmas::entries_few))]
 pub fn stamps_fit()
     ensures { StampsFit }
 {}
 
 /// In every lawful state, the stamp of each message in a log is its place in the record, and no stamp stands twice in a log.
+#[tactic(auto, using(crate::proofs::StampLemmas::stamps_are_distinct))]
 pub fn stamps_are_distinct()
     ensures { LawfulStampsAreDistinct }
 {}
@@ -36,6 +40,7 @@ pub fn repositories_agree()
 {}
 
 /// In every lawful state, nothing was applied over a link that was routed after its closing.
+#[tactic(auto, using(crate::proofs::ClosingLemmas::nothing_routed_later))]
 pub fn closings_hold()
     ensures { LawfulClosingsHold }
 {}
@@ -47,6 +52,7 @@ pub fn items_are_submitted()
 {}
 
 /// A state that follows one that follows a third follows that.
+#[tactic(auto, using(crate::proofs::ClosingLemmas::follows_further))]
 pub fn follows_is_transitive()
     ensures { FollowsIsTransitive }
 {}
@@ -54,27 +60,32 @@ pub fn follows_is_transitive()
 /// Of two lawful states, of which one follows the other, the headline holds: what was applied was submitted, in order and each
 /// once; over a link that was closed in the first nothing is applied in the second that was submitted since; and repositories
 /// with the same messages about a pack agree on it.
+#[tactic(auto, using(crate::proofs::HeadlineLemmas::headline))]
 pub fn lawful_states_keep_headline()
     ensures { LawfulStatesKeepHeadline }
 {}
 
 /// The headline holds over two calls, one after the other, where it holds over each.
+#[tactic(auto, using(crate::proofs::HeadlineLemmas::headline_further))]
 pub fn headlines_join()
     ensures { HeadlinesJoin }
 {}
 
 /// Each step, and each query that is asked, leads to a later state.
+#[tactic(auto, using(crate::proofs::ClosingLemmas::steps_follow))]
 pub fn steps_follow()
     ensures { StepsFollow }
 {}
 
 /// A step or a query that is refused has changed nothing, nor has one that is answered by a verdict.
+#[tactic(auto, using(crate::proofs::StepLemmas::refusals_change_nothing))]
 pub fn refusals_change_nothing()
     ensures { RefusalsChangeNothing }
 {}
 
 /// Whatever the steps and whatever their order: no party submits more than it may, nor waits for more than its uplink takes; no link
 /// has more under way than its wire takes, nor more waiting to be relayed than its window; and what is under way was relayed.
+#[tactic(auto, using(crate::proofs::LimitLemmas::limits_kept))]
 pub fn limits_are_kept()
     ensures { LimitsAreKept }
 {}

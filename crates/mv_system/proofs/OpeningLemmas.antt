@@ -3,6 +3,7 @@ use Rattle.std.proofs.Common.{◌≡◌, ℕ, zero, suc, ◌+◌, ◌<◌, ◌�
 use Rattle.std.specs.Prelude.{replicate}
 use Rattle.std.specs.List.{range_with_len, All}
 use Rattle.std.proofs.lemmas.List.Elements.{All-nil}
+use Rattle.std.proofs.lemmas.List.FromFn.{get_or-map-range_with_len}
 use Rattle.mv_message.specs.declared.message.Message.{Message}
 use Rattle.mv_pairs.specs.Pairs.{IsSquare}
 use Rattle.mv_pairs.proofs.PairsLemmas.{table-all, cell-all, cell-any}
@@ -25,34 +26,18 @@ opening_sites parties limit = map (λ party. new_site party parties limit) (rang
 abbrev opening_parts : List (List (List ℕ)) → Bounds → List (List WireState) → Parts
 opening_parts parties limits wires = parts_of limits (new_hub parties limits.window) (opening_sites (length parties) limits.submissions) wires
 
-map-range_suc : {A : Type 0} (f : ℕ → A) (start n : ℕ) → map f (range_with_len start (suc n)) ≡ map f (range_with_len start n) ++ f (start + n) ∷ []
-map-range_suc f start zero = rw add-zero refl
-map-range_suc f start (suc n) = ap (λ l. f start ∷ l) (map-range_suc f (start + 1) n ∙ ap (λ k. map f (range_with_len (start + 1) n) ++ f k ∷ []) (omega arith))
-
--- the numbers below another and that number itself
-pub map-range_push : {A : Type 0} (f : ℕ → A) (n : ℕ) → map f (range_with_len 0 (n + 1)) ≡ map f (range_with_len 0 n) ++ f n ∷ []
-map-range_push f n = ap (λ k. map f (range_with_len 0 k)) (add-one n) ∙ map-range_suc f 0 n ∙ ap (λ k. map f (range_with_len 0 n) ++ f k ∷ []) (zero-add n)
-
--- the numbers in a row, through a function, and what each is
 map-same : {A B : Type 0} (f : ℕ → A) (g : A → B) (b : B) (start n : ℕ) → ((i : ℕ) → g (f i) ≡ b) → map g (map f (range_with_len start n)) ≡ replicate n b
 map-same f g b start zero same = refl
-map-same f g b start (suc n) same = ap (λ x. x ∷ map g (map f (range_with_len (start + 1) n))) (same start) ∙ ap (λ l. b ∷ l) (map-same f g b (start + 1) n same)
-
-map-range_at : {A : Type 0} (f : ℕ → A) (d : A) (start n i : ℕ) → i < n → get_or (map f (range_with_len start n)) i d ≡ f (start + i)
-map-range_at f d start zero i lt = absurd (omega arith)
-map-range_at f d start (suc n) zero lt = ap f (omega arith)
-map-range_at f d start (suc n) (suc i) lt = map-range_at f d (start + 1) n i (omega arith) ∙ ap f (omega arith)
+map-same f g b start (suc n) same = λ i. same start i ∷ map-same f g b (start + 1) n same i
 
 opening_is : (parties : List (List (List ℕ))) (limits : Bounds) (wires : List (List WireState))
     → IsSquare (length parties) wires → All (All (λ w. w ≡ new_wire limits.wire)) wires → state_of (opening_parts parties limits wires) ≡ opening parties limits
 opening_is parties limits wires square empty =
     let make = λ (party : ℕ). new_site party (length parties) limits.submissions in
-    ap {A = List (List (List ℕ))} {B = State} (λ l. record (state_of (opening_parts parties limits wires)) { wires = l })
-    (table-all (λ w. numbers_of w.frames) [] (length parties) wires square (λ k d lt j e below. ap (λ (w : WireState). numbers_of w.frames) (empty k d lt j e below)))
-    ∙ ap {A = List (List LogEntry)} {B = State} (λ l. record (opening parties limits) { submissions = map (λ (site : SiteState). site.submissions) (opening_sites (length parties) limits.submissions); logs = l })
-    (map-same make (λ (site : SiteState). site.log) [] 0 (length parties) (λ _. refl))
-    ∙ ap {A = List (List Message)} {B = State} (λ l. record (opening parties limits) { submissions = l })
-    (map-same make (λ (site : SiteState). site.submissions) [] 0 (length parties) (λ _. refl))
+    let submissions = map-same make (λ (site : SiteState). site.submissions) [] 0 (length parties) (λ _. refl) in
+    let wires = table-all (λ w. numbers_of w.frames) [] (length parties) wires square (λ k d lt j e below. ap (λ (w : WireState). numbers_of w.frames) (empty k d lt j e below)) in
+    let logs = map-same make (λ (site : SiteState). site.log) [] 0 (length parties) (λ _. refl) in
+    λ i. record (opening parties limits) { submissions = submissions i; wires = wires i; logs = logs i }
 
 opening_kept : (parties : List (List (List ℕ))) (limits : Bounds) (wires : List (List WireState))
     → 1 ≤ length parties → length parties ≤ PARTIES_LIMIT → AreBounds limits
@@ -67,7 +52,7 @@ opening_kept parties limits wires some few bounds square empty =
       window = refl;
       bounds = bounds;
       sites = λ party lt. subst (IsSiteAt limits (length parties) party)
-          (sym (map-range_at (λ party. new_site party (length parties) limits.submissions) (new_site 0 0 0) 0 (length parties) party lt ∙ ap (λ n. new_site n (length parties) limits.submissions) (zero-add party)))
+          (sym (get_or-map-range_with_len (λ party. new_site party (length parties) limits.submissions) 0 (length parties) party party (new_site 0 0 0) lt (omega arith)))
           (record { party_is = refl; parties_are = refl; limit_is = refl; few = omega arith });
       wires_square = square;
       wires_fit = λ from to from_lt to_lt.
@@ -88,12 +73,9 @@ pub opens : (parties : List (List (List ℕ))) (limits : Bounds) (hub : HubState
     → n ≡ length parties → size ≡ limits.wire → limit ≡ limits.submissions → hub ≡ new_hub parties limits.window → sites ≡ opening_sites n limit
     → 1 ≤ length parties → length parties ≤ PARTIES_LIMIT → AreBounds limits → IsSquare n wires → All (All (λ w. w ≡ new_wire size)) wires → Opens parties limits (parts_of limits hub sites wires)
 opens parties limits hub sites wires n size limit count wire most hub_is sites_are some few bounds square empty =
-    let square : IsSquare (length parties) wires = subst (λ k. IsSquare k wires) count square in
-    let empty : All (All (λ w. w ≡ new_wire limits.wire)) wires = subst (λ k. All (All (λ w. w ≡ new_wire k)) wires) wire empty in
-    let sites_are : sites ≡ opening_sites (length parties) limits.submissions =
-    sites_are ∙ ap {B = List SiteState} (λ k. opening_sites k limit) count ∙ ap {B = List SiteState} (opening_sites (length parties)) most in
-    subst (λ h. Opens parties limits (parts_of limits h sites wires)) (sym hub_is)
-    (subst (λ l. Opens parties limits (parts_of limits (new_hub parties limits.window) l wires)) (sym sites_are) (record {
+    let square = rw count at square in
+    let empty = rw wire at empty in
+    rw (hub_is, sites_are, count, most) (record {
       kept = opening_kept parties limits wires some few bounds square empty;
       is = opening_is parties limits wires square empty;
-    }))
+    })

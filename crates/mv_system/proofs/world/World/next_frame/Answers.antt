@@ -2,13 +2,11 @@ use Rattle.std.proofs.Common.{length}
 use Rattle.std.specs.Bool.{⊤}
 use Rattle.mv_pairs.proofs.PairsLemmas.{square-put}
 use Rattle.mv_hub.specs.Hub.{with_relayed}
-use Rattle.mv_system.specs.World.{parts_of}
 use Rattle.mv_system.proofs.SystemLemmas.{sent_kept, hub_kept}
 use Rattle.mv_system.proofs.world.World.next_frame.Goals as goal
 
 pub invariant_of-self : goal.invariant_of-self
 invariant_of-self c =
-    let a = c.self.inside in
-    let p = parts_of a.limits a.hub a.sites.items a.wires in
-    hub_kept (λ _. ⊤) p c.relay.new.self (with_relayed a.hub c.args.from c.args.to) c.relay.result c.relay.ensures.ok c.relay.ensures.err tt c.self.invariant
-    (λ _ _. sent_kept p _ c.self.invariant (square-put (length a.hub.parties) a.hub.sent c.args.from c.args.to _ c.self.invariant.well_formed.sent_each))
+    let hub = c.self.inside.hub in
+    hub_kept (λ _. ⊤) c.relay.new.self (with_relayed hub c.args.from c.args.to) c.relay.result c.relay.ensures.ok c.relay.ensures.err tt c.self.invariant
+    (λ _ _. sent_kept _ c.self.invariant (square-put (length hub.parties) hub.sent c.args.from c.args.to _ c.self.invariant.well_formed.sent_each))

@@ -1,41 +1,31 @@
 use Rattle.std.proofs.Common.{[], ◌∷◌, ◌++◌, arith, sym, ap, subst, ◌∙◌, length-append}
 use Rattle.mv_link.specs.Frames.{IsFrameOf}
 use Rattle.mv_machine.specs.State.{State, items_on}
-use Rattle.std.specs.List.{All}
 use Rattle.std.proofs.lemmas.List.Elements.{All-push}
 use Rattle.mv_hub.specs.Hub.{items_on as items_of_hub}
 use Rattle.mv_system.specs.Wire.{WireState, new_wire, numbers_of}
-use Rattle.mv_system.specs.World.{parts_of, FitsWire}
 use Rattle.mv_system.proofs.WireLemmas.{numbers_of-push}
 use Rattle.mv_system.proofs.SystemLemmas.{link_facts, wire_kept, wire_view}
 use Rattle.mv_system.proofs.world.World.push_frame.Goals as goal
 
 pub push-requires : goal.push-requires
 push-requires c =
-    let a = c.self.inside in
-    let p = parts_of a.limits a.hub a.sites.items a.wires in
-    let facts = link_facts p c.args.self.now c.args.from c.args.to c.at_mut-wire.result.now c.self.invariant c.self.view_is c.requires.parties (c.at_mut-wire.ensures.value (new_wire 0)) in
+    let facts = link_facts c.args.from c.args.to c.self.invariant c.self.view_is c.requires.parties (c.at_mut-wire.ensures.value (new_wire 0)) in
     omega (arith, facts.len, facts.fits.size, c.requires.room, ap (λ l. l.wire) facts.limits)
 
 pub invariant_of-self : goal.invariant_of-self
 invariant_of-self c =
-    let a = c.self.inside in
-    let p = parts_of a.limits a.hub a.sites.items a.wires in
     let wire = c.at_mut-wire.result.now in
     let frame = c.args.frame in
-    let facts = link_facts p c.args.self.now c.args.from c.args.to wire c.self.invariant c.self.view_is c.requires.parties (c.at_mut-wire.ensures.value (new_wire 0)) in
+    let facts = link_facts c.args.from c.args.to c.self.invariant c.self.view_is c.requires.parties (c.at_mut-wire.ensures.value (new_wire 0)) in
     let of_link = subst (λ (t : State). IsFrameOf (items_on t c.args.from c.args.to) frame) (sym c.self.view_is) c.requires.frame in
-    let of = IsFrameOf (items_of_hub a.hub c.args.from c.args.to) in
-    wire_kept p c.args.from c.args.to c.push.new.self c.self.invariant
-    (subst (λ (w : WireState). All of w.frames) (sym c.push.ensures) (All-push of wire.frames frame facts.frames of_link))
-    (subst (FitsWire a.limits.wire) (sym c.push.ensures)
-    (record { size = facts.fits.size; within = omega (arith, facts.len, c.requires.room, ap (λ l. l.wire) facts.limits, length-append wire.frames (frame ∷ [])) }))
+    wire_kept facts c.push.new.self
+    (rw c.push.ensures (All-push (IsFrameOf (items_of_hub c.self.inside.hub c.args.from c.args.to)) wire.frames frame facts.frames of_link))
+    (rw c.push.ensures (record { size = facts.fits.size; within = omega (arith, facts.len, c.requires.room, ap (λ l. l.wire) facts.limits, length-append wire.frames (frame ∷ [])) }))
 
 pub returns : goal.returns
 returns c =
-    let a = c.self.inside in
-    let p = parts_of a.limits a.hub a.sites.items a.wires in
     let wire = c.at_mut-wire.result.now in
-    let facts = link_facts p c.args.self.now c.args.from c.args.to wire c.self.invariant c.self.view_is c.requires.parties (c.at_mut-wire.ensures.value (new_wire 0)) in
-    wire_view p c.args.self.now c.args.from c.args.to c.push.new.self _ c.self.view_is
+    let facts = link_facts c.args.from c.args.to c.self.invariant c.self.view_is c.requires.parties (c.at_mut-wire.ensures.value (new_wire 0)) in
+    wire_view facts c.push.new.self _
     (ap (λ (w : WireState). numbers_of w.frames) c.push.ensures ∙ numbers_of-push wire.frames c.args.frame ∙ ap (λ l. l ++ c.args.frame.number ∷ []) facts.seen)

@@ -1,35 +1,26 @@
-use Rattle.std.proofs.Common.{◌≡◌, ◌+◌, [], ◌∷◌, ◌++◌, take, rules, sym, subst, ap, ◌∙◌, arith}
+use Rattle.std.proofs.Common.{◌≡◌, ◌+◌, [], ◌∷◌, ◌++◌, take, sym, ap, ◌∙◌, arith}
 use Rattle.std.proofs.lemmas.List.{take_more}
-use Rattle.mv_machine.specs.Runs.{Runs}
 use Rattle.mv_machine.proofs.LawfulLemmas.{runs-push}
-use Rattle.mv_machine.proofs.HeadlineLemmas.{headline-same, headline-further}
+use Rattle.mv_machine.proofs.HeadlineLemmas.{headline-same, headline_further}
 use Rattle.mv_system.proofs.world.World.run.Goals as goal
 
 -- One more step was taken, and one more reply noted.
-pub loop-step-preserved : goal.loop-step-preserved
-loop-step-preserved c =
+pub loop-step-preserved-clause-ran : goal.loop-step-preserved-clause-ran
+loop-step-preserved-clause-ran c =
     let i = c.loop-step.step-index in
     let steps = c.args.steps.now in
     let more : take (i + 1) steps ≡ take i steps ++ c.step-item.result ∷ [] =
     take_more steps i c.step-item.result (omega arith) ∙ ap (λ x. take i steps ++ x ∷ []) (sym c.step-item.is) in
-    record {
-      ran = subst (λ l. Runs c.args.self.now l c.push_reserved.new.self.items c.step-reply.new.self) (sym more)
-          (subst (λ l. Runs c.args.self.now (take i steps ++ c.step-item.result ∷ []) l c.step-reply.new.self) (sym c.push_reserved.ensures.items)
-          (runs-push c.args.self.now (take i steps) c.loop-step.replies.items c.loop-step.self c.step-item.result c.step-reply.result c.step-reply.new.self c.loop-step.invariant.ran c.step-reply.ensures.allowed));
-      headline = headline-further c.args.self.now c.loop-step.self c.step-reply.new.self c.loop-step.invariant.headline c.step-reply.ensures.headline;
-      room = omega (arith, c.push_reserved.ensures.capacity, c.loop-step.invariant.room);
-      count = omega (arith, c.push_reserved.ensures.len, c.loop-step.invariant.count);
-    }
+    rw (more, c.push_reserved.ensures.items)
+    (runs-push _ (take i steps) c.loop-step.replies.items c.loop-step.self c.step-item.result _ _ c.loop-step.invariant.ran c.step-reply.ensures.allowed)
+
+pub loop-step-preserved-clause-headline : goal.loop-step-preserved-clause-headline
+loop-step-preserved-clause-headline c = headline_further _ c.loop-step.self _ c.loop-step.invariant.headline c.step-reply.ensures.headline
 
 -- No step was taken yet.
-pub loop-step-init : goal.loop-step-init
-loop-step-init c = record {
-  ran = search rules;
-  headline = headline-same c.args.self.now c.record.ensures.well_formed c.record.ensures.lawful;
-  room = search rules;
-  count = search rules;
-}
+pub loop-step-init-clause-headline : goal.loop-step-init-clause-headline
+loop-step-init-clause-headline c = headline-same _ c.record.ensures.well_formed c.record.ensures.lawful
 
 -- No step was taken at all.
 pub returns-in_err-reserve-clause-headline : goal.returns-in_err-reserve-clause-headline
-returns-in_err-reserve-clause-headline c = headline-same c.args.self.now c.record.ensures.well_formed c.record.ensures.lawful
+returns-in_err-reserve-clause-headline c = headline-same _ c.record.ensures.well_formed c.record.ensures.lawful

@@ -24,8 +24,8 @@ use Rattle.mv_machine.specs.declared.step.Step.TheVariants.{Submit, Verify, Rout
 use Rattle.mv_machine.specs.declared.reply.Reply.{Reply}
 use Rattle.mv_machine.specs.declared.reply.Refusal.{Refusal}
 use Rattle.mv_machine.specs.Replies.{refusal_of, hub_refusal_of, route_refusal_of, changes_nothing, wants_memory, takes_memory}
-use Rattle.mv_machine.specs.State.{State, is_party, are_parties, submissions_of, is_uplink_full, hub_of, with_hub, site_of, with_site, with_wire, sent_of, wire_of, log_of, items_on, applied_count}
-use Rattle.mv_machine.specs.Steps.{Answered, refused, unless, submit, ask, verify_by, verify, verdict, route_front, route, is_wire_full, relay, next_item, apply_next, apply_by, apply_front, apply, repeat, close, lose_front, lose, outcome}
+use Rattle.mv_machine.specs.State.{State, is_party, are_parties, submissions_of, is_uplink_full, is_wire_full, hub_of, with_hub, site_of, with_site, with_wire, sent_of, wire_of, log_of, items_on, applied_count}
+use Rattle.mv_machine.specs.Steps.{Answered, refused, unless, submit, ask, verify_by, verify, verdict, route_front, route, relay, next_item, apply_next, apply_by, apply_front, apply, repeat, close, lose_front, lose, outcome}
 use Rattle.mv_machine.specs.Runs.{Meets, Allows, Runs}
 use Rattle.mv_machine.specs.Laws.{RefusalsChangeNothing}
 

@@ -1,5 +1,5 @@
 -- The state of the list machine: the whole system as plain lists.
-use Rattle.std.specs.Prelude.{◌&&◌, ◌==◌, ℕ, List, [], length, drop, Bool, slice_index_or, nat_lt, replicate, slice_set}
+use Rattle.std.specs.Prelude.{◌&&◌, ◌==◌, ℕ, List, [], length, drop, Bool, slice_index_or, nat_le, nat_lt, replicate, slice_set}
 use Rattle.mv_message.specs.declared.message.Message.{Message}
 use Rattle.mv_link.specs.declared.item.Item.{Item}
 use Rattle.mv_pairs.specs.Pairs.{cell, put}
@@ -47,6 +47,10 @@ sent_of st from to = cell st.sent from to 0
 -- the numbers of the frames under way on a link
 abbrev pub wire_of : State → ℕ → ℕ → List ℕ
 wire_of st from to = cell st.wires from to []
+
+-- as many frames of a link are under way as its wire takes
+abbrev pub is_wire_full : State → ℕ → ℕ → Bool
+is_wire_full st from to = nat_le st.limits.wire (length (wire_of st from to))
 
 -- what a repository applied
 abbrev pub log_of : State → ℕ → List LogEntry

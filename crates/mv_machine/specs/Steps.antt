@@ -1,5 +1,5 @@
 -- What each step answers and leaves where there is memory: a row for each kind of step, its refusals in their order.
-use Rattle.std.specs.Prelude.{◌+◌, ◌-◌, ℕ, List, [], ◌∷◌, ◌++◌, length, not, Bool, if◌then◌else◌, slice_get, Option, Some, None, nat_le}
+use Rattle.std.specs.Prelude.{◌+◌, ◌-◌, ℕ, List, [], ◌∷◌, ◌++◌, length, not, Bool, if◌then◌else◌, slice_get, Option, Some, None}
 use Rattle.mv_message.specs.declared.message.Message.{Message}
 use Rattle.mv_message.specs.declared.message.Message.TheVariants.{Query}
 use Rattle.mv_pack.specs.declared.key.PackKey.{PackKey}
@@ -24,7 +24,7 @@ use Rattle.mv_machine.specs.declared.reply.Reply.TheVariants.{Submitted, Known, 
 use Rattle.mv_machine.specs.declared.reply.Refusal.{Refusal}
 use Rattle.mv_machine.specs.declared.reply.Refusal.TheVariants.{Party, UplinkEmpty, WireFull, WireEmpty}
 use Rattle.mv_machine.specs.Replies.{refusal_of, hub_refusal_of, route_refusal_of}
-use Rattle.mv_machine.specs.State.{State, is_party, are_parties, submissions_of, is_uplink_full, sent_of, wire_of, log_of, items_on, applied_count, hub_of, with_hub, site_of, with_site, with_wire}
+use Rattle.mv_machine.specs.State.{State, is_party, are_parties, submissions_of, is_uplink_full, sent_of, wire_of, is_wire_full, log_of, items_on, applied_count, hub_of, with_hub, site_of, with_site, with_wire}
 
 -- a reply and the state that the step leaves
 pub record Answered : Type 0 where
@@ -82,10 +82,6 @@ unfoldable pub route : State → ℕ → Answered
 route st from =
     if not (is_party st from) then refused Party st
     else route_front st from (slice_get (submissions_of st from) (routed_count st.entries from))
-
--- as many frames of a link are under way as its wire takes
-abbrev pub is_wire_full : State → ℕ → ℕ → Bool
-is_wire_full st from to = nat_le st.limits.wire (length (wire_of st from to))
 
 -- the next frame of a link goes on its wire
 unfoldable pub relay : State → ℕ → ℕ → Answered

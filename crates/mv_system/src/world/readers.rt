@@ -1,10 +1,10 @@
 //! What the steps ask of the system, in the words of the list machine.
 
-ghost use Rattle.std.specs.Prelude.{◌≡◌, length, nat_le, IsTrue, slice_get};
+ghost use Rattle.std.specs.Prelude.{◌≡◌, length, IsTrue, slice_get};
 ghost use Rattle.mv_machine.specs.Limits.{AreBounds};
 ghost use Rattle.mv_repository.specs.Verdict.{local_verdict, joint_verdict};
 ghost use Rattle.mv_machine.specs.State.{is_uplink_full, log_of, is_party, are_parties, waiting_of};
-ghost use Rattle.mv_machine.specs.State.{wire_of};
+ghost use Rattle.mv_machine.specs.State.{wire_of, is_wire_full};
 ghost use Rattle.mv_system.specs.Wire.{numbers_of};
 
 use crate::wire::Wire;
@@ -83,7 +83,7 @@ impl World {
     /// Whether as many frames of a link are under way as its wire takes.
     pub(super) fn is_wire_full(&self, from: Party, to: Party) -> bool
         requires { IsTrue (are_parties self.now from to) }
-        ensures { result ≡ nat_le self.now.limits.wire (length (wire_of self.now from to)) }
+        ensures { result ≡ is_wire_full self.now from to }
     {
         let limits = self.limits();
         self.wire_len(from, to) >= limits.wire() as usize

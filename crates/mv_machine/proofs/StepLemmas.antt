@@ -153,7 +153,7 @@ module _ (st : State) where
   asked-changes party key reply new met = meets-changes (ask st party key) reply new (ask-changes party key) met
 
 -- where the reply says that nothing has changed, nothing has
-unchanged : {old new : State} {quiet : Bool} → Change old quiet new → IsTrue quiet → new ≡ old
+pub unchanged : {old new : State} {quiet : Bool} → Change old quiet new → IsTrue quiet → new ≡ old
 unchanged (nothing quiet) said = refl
 unchanged _ said = absurd (cc)
 

@@ -1,7 +1,7 @@
 -- Each step keeps the limits, and so does each run.
-use Rattle.std.proofs.Common.{◌≡◌, ℕ, ◌+◌, ◌-◌, ◌<◌, ◌≤◌, Bool, true, false, List, [], ◌∷◌, ◌++◌, length, drop, eqb, Some, None, Option, sym, refl, ap, ◌∙◌, subst, arith, length-append, append-nil, length-drop, eqb-true}
+use Rattle.std.proofs.Common.{◌≡◌, ℕ, ◌+◌, ◌-◌, ◌<◌, ◌≤◌, Bool, false, List, [], ◌∷◌, ◌++◌, length, drop, Some, None, Option, sym, refl, ap, ◌∙◌, subst, arith, length-append, append-nil, length-drop}
 use Rattle.std.specs.Prelude.{All, option_to_list, replicate}
-use Rattle.std.proofs.lemmas.Bool.{ltb-false, eqb-false}
+use Rattle.std.proofs.lemmas.Bool.{eqb-false}
 use Rattle.std.proofs.lemmas.List.{get_or-replicate}
 use Rattle.std.proofs.lemmas.List.Elements.{All-nil, All-cons, All-tail, All-append, All-weaker}
 use Rattle.mv_message.specs.declared.message.Message.{Message}
@@ -129,15 +129,8 @@ routed-room : (st : State) (from : ℕ) (message : Message) → KeepsLimits st �
     → (sender to : ℕ) → sender < length st.parties → to < length st.parties
     → length (items_on st sender to) - sent_of st sender to + length (gained st.parties st.entries (next_entry st from message) sender to) ≤ st.limits.window
 unfolding is_full
-routed-room st from message k free sender to a b = by (eqb from sender) refl
-  where
-    by : (same : Bool) → eqb from sender ≡ same
-        → length (items_on st sender to) - sent_of st sender to + length (gained st.parties st.entries (next_entry st from message) sender to) ≤ st.limits.window
-    by true e =
-        subst (λ s. length (items_on st s to) - sent_of st s to + length (gained st.parties st.entries (next_entry st from message) s to) ≤ st.limits.window)
-        (eqb-true from sender e) (ltb-false st.limits.window _ (free to b))
-    by false e =
-        omega (arith, k.unsent sender to a b, ap length (gained_other st.parties st.entries from (routed_count st.entries from + 1) message sender to e))
+routed-room st from message k free sender to a b =
+    grind (arith, k.unsent sender to a b, free to b, gained_other st.parties st.entries from (routed_count st.entries from + 1) message sender to)
 
 -- an item was applied, and the answer that it calls for submitted
 applied-keeps : (st : State) (from to : ℕ) (item : Item) → KeepsLimits st → apply_fault (is_uplink_full st to) (site_of st to) from item look.Next ≡ None

@@ -1,5 +1,5 @@
 -- How long the record can grow: each sender routes what it submitted, and each link is closed at most once.
-use Rattle.std.proofs.Common.{◌≡◌, ℕ, zero, suc, ◌+◌, ◌*◌, ◌<◌, ◌≤◌, Bool, true, false, List, [], ◌∷◌, ◌++◌, length, length-append, cond, refl, ap, append_assoc, append-nil, arith, ◌⊎◌, inl, inr}
+use Rattle.std.proofs.Common.{◌≡◌, ℕ, zero, suc, ◌+◌, ◌*◌, ◌<◌, ◌≤◌, List, [], ◌∷◌, ◌++◌, length, length-append, cond, refl, ap, append_assoc, append-nil, arith}
 use Rattle.std.specs.Prelude.{◌&&◌}
 use Rattle.std.proofs.Math.Nat.{mul-le-mul_left}
 use Rattle.std.proofs.lemmas.Bool.{eq-eqb, cases_eq}
@@ -32,11 +32,8 @@ sum_below-mono (suc n) f g each = omega (arith, sum_below-mono n f g each, each 
 sum_below-more : (n at : ℕ) (f g : ℕ → ℕ) → at < n → ((i : ℕ) → f i ≤ g i) → f at + 1 ≤ g at → sum_below n f + 1 ≤ sum_below n g
 unfolding sum_below
 sum_below-more zero at f g lt each more = absurd (omega arith)
-sum_below-more (suc n) at f g lt each more = by (cases_eq at n) (sum_below-mono n f g each) (λ below. sum_below-more n at f g below each more)
-  where
-    by : (at ≡ n) ⊎ (at ≡ n → ⊥) → sum_below n f ≤ sum_below n g → (at < n → sum_below n f + 1 ≤ sum_below n g) → sum_below n f + f n + 1 ≤ sum_below n g + g n
-    by (inl same) rest smaller = omega (arith, rw same at more, rest)
-    by (inr other) rest smaller = omega (arith, each n, smaller (omega (arith, other)))
+sum_below-more (suc n) at f g lt each more =
+    grind (arith, sum_below-mono n f g each, (λ (below : at < n). sum_below-more n at f g below each more), cases_eq at n, each n)
 
 -- how many links are open from a party to the parties
 open_from : ℕ → List Entry → ℕ → ℕ
@@ -44,17 +41,11 @@ open_from count entries from = sum_below count (λ to. cond (is_open entries fro
 
 is_open-push : (before : List Entry) (entry : Entry) (from to : ℕ) → is_open (before ++ entry ∷ []) from to ≡ (is_open before from to && is_open (entry ∷ []) from to)
 is_open-push [] entry from to = refl
-is_open-push (Routed sender k message ∷ before) entry from to = is_open-push before entry from to
-is_open-push (Closed sender receiver ∷ before) entry from to = grind (arith, is_open-push before entry from to)
+is_open-push (first ∷ before) entry from to = grind (arith, is_open-push before entry from to)
 
 -- no link is open behind an entry that was not before it
 open-fewer : (before : List Entry) (entry : Entry) (from to : ℕ) → cond (is_open (before ++ entry ∷ []) from to) 1 0 ≤ cond (is_open before from to) 1 0
-open-fewer before entry from to = rw (is_open-push before entry from to) (by (is_open before from to) (is_open (entry ∷ []) from to))
-  where
-    by : (a b : Bool) → cond (a && b) 1 0 ≤ cond a 1 0
-    by true true = omega arith
-    by true false = omega arith
-    by false b = omega arith
+open-fewer before entry from to = grind (arith, is_open-push before entry from to)
 
 open_from-fewer : (count : ℕ) (before : List Entry) (entry : Entry) (from : ℕ) → open_from count (before ++ entry ∷ []) from ≤ open_from count before from
 unfolding open_from

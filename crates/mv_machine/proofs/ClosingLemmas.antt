@@ -1,6 +1,6 @@
 -- Nothing that is routed after the closing of a link goes over it, and the record only grows.
-use Rattle.std.proofs.Common.{◌≡◌, ℕ, zero, suc, ◌+◌, ◌≤◌, Bool, true, false, List, [], ◌∷◌, ◌++◌, length, take, cond, Some, sym, refl, ap, ◌∙◌, append_assoc, append-nil, arith, eqb}
-use Rattle.std.specs.Prelude.{not, ◌&&◌, slice_get}
+use Rattle.std.proofs.Common.{◌≡◌, ℕ, zero, suc, ◌+◌, ◌≤◌, Bool, true, false, List, [], ◌∷◌, ◌++◌, length, take, Some, sym, refl, ap, ◌∙◌, append_assoc, append-nil, arith}
+use Rattle.std.specs.Prelude.{slice_get}
 use Rattle.std.proofs.lemmas.Bool.{eq-eqb}
 use Rattle.std.proofs.lemmas.List.Elements.{All-weaker}
 use Rattle.mv_message.specs.declared.message.Message.{Message}
@@ -8,7 +8,7 @@ use Rattle.mv_link.specs.Frames.{number_of}
 use Rattle.mv_hub.specs.declared.entry.Entry.{Entry}
 use Rattle.mv_hub.specs.declared.entry.Entry.TheVariants.{Routed, Closed}
 use Rattle.mv_hub.specs.Hub.{next_entry}
-use Rattle.mv_hub.specs.Record.{routed_from, routed_count, is_open}
+use Rattle.mv_hub.specs.Record.{routed_count, is_open}
 use Rattle.mv_repository.specs.declared.entry.LogEntry.{LogEntry}
 use Rattle.mv_repository.specs.Log.{items_from}
 use Rattle.mv_machine.specs.declared.step.Step.{Step}
@@ -20,7 +20,7 @@ use Rattle.mv_machine.specs.Lawful.{IsLawfulRecord, IsLawfulLink, IsLawful}
 use Rattle.mv_machine.specs.Headline.{Follows}
 use Rattle.mv_machine.specs.Laws.{StepsFollow}
 use Rattle.mv_machine.specs.Closing.{before_closing, AreAboutFirst, NothingRoutedLater, NothingSubmittedLater}
-use Rattle.mv_machine.proofs.PutLemmas.{put-each, applied-put, number-at, routed_count-push}
+use Rattle.mv_machine.proofs.PutLemmas.{put-each, applied-put, number-at}
 use Rattle.mv_machine.proofs.BoundLemmas.{routed_count-few}
 use Rattle.mv_machine.proofs.StepLemmas.{Change, routed, closed, step-changes, asked-changes, run-keeps}
 
@@ -31,21 +31,8 @@ open-before [] place from to k message at open_then = absurd (cc)
 open-before (Closed sender receiver ∷ entries) zero from to k message at open_then = absurd (cc)
 open-before (Routed sender number sent ∷ entries) zero from to k message at open_then =
     let same : sender ≡ from = cc at in rw (eq-eqb sender from same) (omega arith)
-open-before (Routed sender number sent ∷ entries) (suc place) from to k message at open_then = by (eqb sender from) (open-before entries place from to k message at open_then)
-  where
-    by : (b : Bool) → routed_count (take place entries) from + 1 ≤ routed_count (before_closing entries from to) from
-        → length (cond b (sent ∷ routed_from (take place entries) from) (routed_from (take place entries) from)) + 1
-        ≤ length (cond b (sent ∷ routed_from (before_closing entries from to) from) (routed_from (before_closing entries from to) from))
-    by true rest = omega (arith, rest)
-    by false rest = rest
-open-before (Closed sender receiver ∷ entries) (suc place) from to k message at open_then =
-    by (eqb sender from && eqb receiver to) (open-before entries place from to k message at) open_then
-  where
-    by : (same : Bool) → (is_open (take place entries) from to ≡ true → routed_count (take place entries) from + 1 ≤ routed_count (before_closing entries from to) from)
-        → (not same && is_open (take place entries) from to) ≡ true
-        → routed_count (take place entries) from + 1 ≤ routed_count (cond same [] (Closed sender receiver ∷ before_closing entries from to)) from
-    by true rest open_then = absurd (cc)
-    by false rest open_then = rest open_then
+open-before (Routed sender number sent ∷ entries) (suc place) from to k message at open_then = grind (arith, open-before entries place from to k message at open_then)
+open-before (Closed sender receiver ∷ entries) (suc place) from to k message at open_then = grind (arith, open-before entries place from to k message at)
 
 -- what was applied over a link is about messages that were routed before its closing
 pub link_closed : (count : ℕ) (parties : List (List (List ℕ))) (entries : List Entry) (from to : ℕ) (submissions : List Message) (log : List LogEntry)
@@ -67,26 +54,12 @@ nothing_routed_later st lawful from to from_is_party to_is_party =
 -- once a link is closed, what stands before its closing stays
 before_closing-append : (entries more : List Entry) (from to : ℕ) → is_open entries from to ≡ false → before_closing (entries ++ more) from to ≡ before_closing entries from to
 before_closing-append [] more from to shut = absurd (cc)
-before_closing-append (Routed sender k message ∷ entries) more from to shut = ap (λ l. Routed sender k message ∷ l) (before_closing-append entries more from to shut)
-before_closing-append (Closed sender receiver ∷ entries) more from to shut = by (eqb sender from && eqb receiver to) (before_closing-append entries more from to) shut
-  where
-    by : (same : Bool) → (is_open entries from to ≡ false → before_closing (entries ++ more) from to ≡ before_closing entries from to) → (not same && is_open entries from to) ≡ false
-        → cond same [] (Closed sender receiver ∷ before_closing (entries ++ more) from to) ≡ cond same [] (Closed sender receiver ∷ before_closing entries from to)
-    by true later shut = refl
-    by false later shut = ap (λ l. Closed sender receiver ∷ l) (later shut)
+before_closing-append (entry ∷ entries) more from to shut = grind (arith, before_closing-append entries more from to)
 
 -- it is no more than was routed at all
 before_closing-few : (entries : List Entry) (from to party : ℕ) → routed_count (before_closing entries from to) party ≤ routed_count entries party
 before_closing-few [] from to party = omega arith
-before_closing-few (Routed sender k message ∷ entries) from to party =
-    let rest = before_closing-few entries from to party in
-    omega (arith, rest, routed_count-push (Routed sender k message ∷ []) (before_closing entries from to) party, routed_count-push (Routed sender k message ∷ []) entries party)
-before_closing-few (Closed sender receiver ∷ entries) from to party = by (eqb sender from && eqb receiver to) (before_closing-few entries from to party)
-  where
-    by : (same : Bool) → routed_count (before_closing entries from to) party ≤ routed_count entries party
-        → routed_count (cond same [] (Closed sender receiver ∷ before_closing entries from to)) party ≤ routed_count entries party
-    by true rest = omega arith
-    by false rest = rest
+before_closing-few (entry ∷ entries) from to party = grind (arith, before_closing-few entries from to party)
 
 -- the record only grows
 pub follows-same : (st : State) → Follows st st

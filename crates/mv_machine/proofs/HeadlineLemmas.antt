@@ -9,17 +9,14 @@ use Rattle.mv_machine.proofs.StampLemmas.{repositories_agree}
 use Rattle.mv_machine.proofs.SubmittedLemmas.{applied_submitted, numbers_rise}
 
 pub headline : (old new : State) → IsLawful old → IsWellFormed new → IsLawful new → Follows old new → HeadlineHolds old new
-headline old new began well_formed lawful follows = record {
-  began = began;
-  well_formed = well_formed;
-  lawful = lawful;
-  follows = follows;
-  submitted = applied_submitted new lawful;
-  rising = numbers_rise new lawful;
-  closed = nothing_submitted_later old new began lawful follows;
-  closing = nothing_routed_later new lawful;
-  agreed = repositories_agree new lawful;
-}
+headline old new began well_formed lawful follows =
+    assumption (
+      applied_submitted new lawful,
+      numbers_rise new lawful,
+      nothing_submitted_later old new began lawful follows,
+      nothing_routed_later new lawful,
+      repositories_agree new lawful,
+    )
 
 -- where nothing happened
 pub headline-same : (st : State) → IsWellFormed st → IsLawful st → HeadlineHolds st st

@@ -1,6 +1,7 @@
 -- Each step keeps a state well formed and lawful, and so does each run.
-use Rattle.std.proofs.Common.{◌≡◌, ℕ, ◌<◌, Bool, true, List, [], ◌∷◌, ◌++◌, length, set, Some, refl, ◌∙◌, subst, append-nil, arith, length-set, eqb, eqb-true, get_or, get_or-set_same, get_or-set_other, ◌⊎◌, inl, inr}
+use Rattle.std.proofs.Common.{◌≡◌, ℕ, ◌<◌, Bool, true, List, [], ◌∷◌, ◌++◌, length, set, Some, refl, ◌∙◌, subst, append-nil, arith, length-set, eqb, eqb-true, get_or}
 use Rattle.std.specs.Prelude.{slice_get, option_to_list, replicate}
+use Rattle.std.proofs.lemmas.Grind.{elements}
 use Rattle.std.proofs.lemmas.Bool.{cases_eq}
 use Rattle.std.proofs.lemmas.List.{get_or-replicate, length-replicate}
 use mathlib.Core.List.{IsPrefix}
@@ -44,6 +45,12 @@ with_wire-sound : (st : State) (from to : ℕ) (numbers : List ℕ) → IsSound 
 with_wire-sound st from to numbers sound =
     under_way-sound st st.sent _ sound.well_formed.sent_each (square-put (length st.parties) st.wires from to numbers sound.well_formed.wires_each) sound
 
+-- one party's part is written
+party-written : {count : ℕ} (party : ℕ) (site : SiteState) (submissions : List (List Message)) (logs : List (List LogEntry)) → length submissions ≡ count → length logs ≡ count
+    → party < count → (site.party < count → IsLawfulParty count site.submissions site.log) → IsLawfulParty count (get_or submissions party []) (get_or logs party [])
+    → IsLawfulParty count (get_or (set submissions site.party site.submissions) party []) (get_or (set logs site.party site.log) party [])
+party-written party site submissions logs each also is_party new old = grind (arith, elements, cases_eq party site.party)
+
 -- one party's part is another: it is lawful, what was routed from it is still a prefix of what it submitted, and what it applied from
 -- each sender one of their link
 site-sound : (st : State) (site : SiteState) → IsSound st
@@ -60,7 +67,7 @@ site-sound st site sound lawful order items = record {
   };
   lawful = record {
     of_record = sound.lawful.of_record;
-    of_party = λ party is_party. by party is_party (cases_eq party site.party);
+    of_party = λ party is_party. party-written party site st.submissions st.logs sound.well_formed.submissions_each sound.well_formed.logs_each is_party lawful (sound.lawful.of_party party is_party);
     of_link = λ from to from_is_party to_is_party. record {
       routed = put-each (λ party l. party < length st.parties → IsPrefix (routed_from st.entries party) l) st.submissions site.party site.submissions []
           order (λ party is_party. (sound.lawful.of_link party party is_party is_party).routed) from from_is_party;
@@ -69,19 +76,6 @@ site-sound st site sound lawful order items = record {
     };
   };
 }
-  where
-    by : (party : ℕ) → party < length st.parties → (party ≡ site.party) ⊎ (party ≡ site.party → ⊥)
-        → IsLawfulParty (length st.parties) (get_or (set st.submissions site.party site.submissions) party []) (get_or (set st.logs site.party site.log) party [])
-    by party is_party (inl same) =
-        rw (
-          same,
-          get_or-set_same st.submissions site.party site.submissions [] (omega (arith, is_party, same, sound.well_formed.submissions_each)),
-          get_or-set_same st.logs site.party site.log [] (omega (arith, is_party, same, sound.well_formed.logs_each)),
-        )
-        (lawful (omega (arith, is_party, same)))
-    by party is_party (inr other) =
-        rw (get_or-set_other st.submissions site.party party site.submissions [] other, get_or-set_other st.logs site.party party site.log [] other)
-        (sound.lawful.of_party party is_party)
 
 -- a party submitted one more message
 pub submitted-sound : (st : State) (from : ℕ) (message : Message) → IsSound st → answers_in (message ∷ []) ≡ []

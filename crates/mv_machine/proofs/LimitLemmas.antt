@@ -1,8 +1,8 @@
 -- Each step keeps the limits, and so does each run.
-use Rattle.std.proofs.Common.{◌≡◌, ℕ, ◌+◌, ◌-◌, ◌<◌, ◌≤◌, Bool, true, false, List, [], ◌∷◌, ◌++◌, length, drop, cond, eqb, Some, None, Option, sym, refl, ap, ◌∙◌, subst, arith, length-append, append-nil, length-drop, eqb-true}
-use Rattle.std.specs.Prelude.{All, option_to_list, replicate, find, nat_lt}
+use Rattle.std.proofs.Common.{◌≡◌, ℕ, ◌+◌, ◌-◌, ◌<◌, ◌≤◌, Bool, false, List, [], ◌∷◌, ◌++◌, length, drop, Some, None, Option, sym, refl, ap, ◌∙◌, subst, arith, length-append, append-nil, length-drop}
+use Rattle.std.specs.Prelude.{All, option_to_list, replicate, find}
 use Rattle.std.specs.List.{range_with_len}
-use Rattle.std.proofs.lemmas.Bool.{or_parts, ltb-false, eqb-false}
+use Rattle.std.proofs.lemmas.Bool.{eqb-false}
 use Rattle.std.proofs.lemmas.List.{get_or-replicate}
 use Rattle.std.proofs.lemmas.List.Elements.{All-nil, All-cons, All-tail, All-append, All-weaker}
 use Rattle.mv_message.specs.declared.message.Message.{Message}
@@ -12,8 +12,7 @@ use Rattle.mv_pairs.specs.Pairs.{cell, put, IsSquare}
 use Rattle.mv_pairs.proofs.PairsLemmas.{put-each, put-each_pair, cell-put_same}
 use Rattle.mv_hub.specs.declared.entry.Entry.{Entry}
 use Rattle.mv_hub.specs.declared.entry.Entry.TheVariants.{Closed}
-use Rattle.mv_hub.specs.declared.fault.RouteFault.TheVariants.{StrangerParty}
-use Rattle.mv_hub.specs.Hub.{next_entry, is_busy, busy_party, busy_fault, route_fault}
+use Rattle.mv_hub.specs.Hub.{next_entry, is_busy, busy_party, route_fault}
 use Rattle.mv_hub.specs.Record.{routed_count}
 use Rattle.mv_hub.specs.Links.{gained, link_items}
 use Rattle.mv_hub.proofs.RecordLemmas.{link_items-push, gained_other}
@@ -129,27 +128,15 @@ entered-keeps st entry k room = record {
 -- where the hub has no fault, no link is busy
 route-free : (st : State) (from : ℕ) (message : Message) → route_fault (hub_of st) from message ≡ None → find (is_busy (hub_of st) from message) (range_with_len 0 (length st.parties)) ≡ None
 unfolding route_fault busy_party
-route-free st from message free = by (nat_lt from (length st.parties)) (find (is_busy (hub_of st) from message) (range_with_len 0 (length st.parties))) free
-  where
-    by : (in_reach : Bool) (full : Option ℕ) → cond in_reach (busy_fault full) (Some StrangerParty) ≡ None → full ≡ None
-    by true None e = refl
-    by true (Some to) e = absurd (cc)
-    by false full e = absurd (cc)
+route-free st from message free = grind arith
 
 -- what a routed message puts on the links from its sender fits, where none of them is full, and it puts nothing on others
 routed-room : (st : State) (from : ℕ) (message : Message) → KeepsLimits st → ((to : ℕ) → to < length st.parties → is_busy (hub_of st) from message to ≡ false)
     → (sender to : ℕ) → sender < length st.parties → to < length st.parties
     → length (items_on st sender to) - sent_of st sender to + length (gained st.parties st.entries (next_entry (hub_of st) from message) sender to) ≤ st.limits.window
 unfolding is_busy
-routed-room st from message k free sender to a b = by (eqb from sender) refl
-  where
-    by : (same : Bool) → eqb from sender ≡ same
-        → length (items_on st sender to) - sent_of st sender to + length (gained st.parties st.entries (next_entry (hub_of st) from message) sender to) ≤ st.limits.window
-    by true e =
-        subst (λ s. length (items_on st s to) - sent_of st s to + length (gained st.parties st.entries (next_entry (hub_of st) from message) s to) ≤ st.limits.window)
-        (eqb-true from sender e) (ltb-false st.limits.window _ (or_parts _ _ (free to b)).0)
-    by false e =
-        omega (arith, k.unsent sender to a b, ap length (gained_other st.parties st.entries from (routed_count st.entries from + 1) message sender to e))
+routed-room st from message k free sender to a b =
+    grind (arith, k.unsent sender to a b, free to b, gained_other st.parties st.entries from (routed_count st.entries from + 1) message sender to)
 
 -- an item was applied, and the answer that it calls for submitted
 applied-keeps : (st : State) (from to : ℕ) (item : Item) → KeepsLimits st → apply_fault (is_uplink_full st to) (site_of st to) from item look.Next ≡ None

@@ -1,5 +1,6 @@
 -- A record and a link stay lawful with one more entry, submission or item.
-use Rattle.std.proofs.Common.{◌≡◌, ℕ, List, [], ◌∷◌, ◌++◌, length, eqb, eqb-true, Some, sym, subst, append_assoc, append-nil}
+use Rattle.std.proofs.Common.{◌≡◌, ℕ, List, [], ◌∷◌, ◌++◌, length, eqb, eqb-true, Some, arith}
+use Rattle.std.proofs.lemmas.Grind.{common_steps}
 use Rattle.std.specs.Prelude.{slice_get}
 use mathlib.Core.List.{IsPrefix}
 use Rattle.mv_message.specs.declared.message.Message.{Message}
@@ -16,9 +17,8 @@ use Rattle.mv_machine.proofs.PrefixLemmas.{prefix-grows, prefix-maybe}
 
 -- one more entry fits behind those that fit
 AllFit-push : (before entries : List Entry) (entry : Entry) → AllFit before entries → Fits (before ++ entries) entry → AllFit before (entries ++ entry ∷ [])
-AllFit-push before [] entry all fits = (subst (λ b. Fits b entry) (append-nil before) fits, tt)
-AllFit-push before (x ∷ entries) entry all fits =
-    (all.0, AllFit-push (before ++ x ∷ []) entries entry all.1 (subst (λ b. Fits b entry) (sym (append_assoc before (x ∷ []) entries)) fits))
+AllFit-push before [] entry all fits = grind (arith, common_steps)
+AllFit-push before (x ∷ entries) entry all fits = grind (arith, common_steps, AllFit-push (before ++ x ∷ []) entries entry all.1)
 
 -- one more entry names parties
 AllNameParties-push : (count : ℕ) (entries : List Entry) (entry : Entry) → AllNameParties count entries → NamesParties count entry → AllNameParties count (entries ++ entry ∷ [])
@@ -38,10 +38,7 @@ pub ruleset record_entered = (record-entered)
 -- the sender of a link submitted more
 pub link-submitted : (parties : List (List (List ℕ))) (entries : List Entry) (from to : ℕ) (submissions more : List Message) (log : List LogEntry)
     → IsLawfulLink parties entries from to submissions log → IsLawfulLink parties entries from to (submissions ++ more) log
-link-submitted parties entries from to submissions more log lawful = record {
-  routed = prefix-grows (routed_from entries from) submissions more lawful.routed;
-  applied = lawful.applied;
-}
+link-submitted parties entries from to submissions more log lawful = assumption (prefix-grows (routed_from entries from) submissions more lawful.routed)
 
 -- the record gained an entry, and what it routed is still a prefix of what was submitted
 pub link-entered : (parties : List (List (List ℕ))) (entries : List Entry) (entry : Entry) (from to : ℕ) (submissions : List Message) (log : List LogEntry)

@@ -1,6 +1,7 @@
 -- Which entry of the record put each item on a link: the items of a link are put there in the order of the record.
-use Rattle.std.proofs.Common.{◌≡◌, ℕ, zero, suc, ◌+◌, ◌<◌, ◌≤◌, Bool, true, false, List, [], ◌∷◌, ◌++◌, length, take, cond, eqb, Some, refl, ap, ◌∙◌, subst, append_assoc, append-nil, arith, length-append}
+use Rattle.std.proofs.Common.{◌≡◌, ℕ, zero, suc, ◌+◌, ◌<◌, ◌≤◌, Bool, true, false, List, [], ◌∷◌, ◌++◌, length, take, cond, eqb, Some, refl, ap, ◌∙◌, append_assoc, arith, length-append}
 use Rattle.std.specs.Prelude.{All, slice_get, ◌&&◌, IsTrue, nat_lt}
+use Rattle.std.proofs.lemmas.Grind.{common_steps}
 use Rattle.std.proofs.lemmas.Bool.{eqb-true, eq-eqb, and_parts}
 use Rattle.std.proofs.lemmas.List.{length_push}
 use Rattle.std.proofs.lemmas.List.Elements.{All-nil, All-cons, All-head, All-tail}
@@ -46,10 +47,8 @@ module _ (parties : List (List (List ℕ))) (entries : List Entry) (from to : �
   pub put-weaker : (carried receipts more others : ℕ) (items : List Item) → carried ≤ more → receipts ≤ others
       → ArePut parties entries from to more others items → ArePut parties entries from to carried receipts items
   put-weaker carried receipts more others [] a b put = tt
-  put-weaker carried receipts more others (Carried k stamp message ∷ items) a b put =
-      (put.0, omega (arith, put.1), put.2, put-weaker (put.0 + 1) receipts (put.0 + 1) others items (omega arith) b put.3)
-  put-weaker carried receipts more others (Receipt k reached query ∷ items) a b put =
-      (put.0, omega (arith, put.1), put.2, put-weaker carried (put.0 + 1) more (put.0 + 1) items a (omega arith) put.3)
+  put-weaker carried receipts more others (Carried k stamp message ∷ items) a b put = grind (arith, put-weaker (put.0 + 1) receipts (put.0 + 1) others items)
+  put-weaker carried receipts more others (Receipt k reached query ∷ items) a b put = grind (arith, put-weaker carried (put.0 + 1) more (put.0 + 1) items)
 
   put-front : (carried receipts : ℕ) (items more : List Item) → ArePut parties entries from to carried receipts (items ++ more) → ArePut parties entries from to carried receipts items
   put-front carried receipts [] more put = tt
@@ -154,10 +153,8 @@ routed_count-push before after party = ap length (routed_from-append before afte
 pub fits-at : (before entries : List Entry) (place : ℕ) (entry : Entry) → AllFit before entries → slice_get entries place ≡ Some entry
     → Fits (before ++ take place entries) entry
 fits-at before [] place entry all at = absurd (cc)
-fits-at before (first ∷ entries) zero entry all at =
-    let same : first ≡ entry = cc at in rw append-nil (subst (Fits before) same all.0)
-fits-at before (first ∷ entries) (suc place) entry all at =
-    rw append_assoc at (fits-at (before ++ first ∷ []) entries place entry all.1 at)
+fits-at before (first ∷ entries) zero entry all at = grind (arith, common_steps)
+fits-at before (first ∷ entries) (suc place) entry all at = grind (arith, common_steps, fits-at (before ++ first ∷ []) entries place entry all.1 at)
 
 -- so a message is routed under the number that follows those of its sender
 pub number-at : (entries : List Entry) (place from k : ℕ) (message : Message) → AllFit [] entries → slice_get entries place ≡ Some (Routed from k message)

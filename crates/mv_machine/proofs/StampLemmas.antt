@@ -1,9 +1,11 @@
 -- The stamps of a log name places of the record, each of which has one sender; and the stamps on one link rise. So none stands
 -- twice in a log.
-use Rattle.std.proofs.Common.{◌≡◌, ℕ, zero, suc, ◌+◌, ◌-◌, ◌<◌, Bool, true, false, List, [], ◌∷◌, length, cond, eqb, Some, refl, ap, arith, ◌⊎◌, inl, inr}
+use Rattle.std.proofs.Common.{◌≡◌, ℕ, zero, suc, ◌+◌, ◌-◌, ◌<◌, List, [], ◌∷◌, length, Some, refl, ap, arith, ◌⊎◌, inl, inr}
 use Rattle.std.specs.Prelude.{All, slice_get}
+use Rattle.std.proofs.lemmas.Grind.{common_steps}
+use Rattle.std.proofs.lemmas.Option.{gets}
 use Rattle.std.proofs.lemmas.Bool.{eq-eqb, cases_eq}
-use Rattle.std.proofs.lemmas.List.Elements.{All-nil, All-cons, All-head, All-tail}
+use Rattle.std.proofs.lemmas.List.Elements.{All-nil, All-cons}
 use Rattle.mv_message.specs.declared.message.Message.{Message}
 use Rattle.mv_link.specs.declared.item.Item.{Item}
 use Rattle.mv_link.specs.declared.item.Item.TheVariants.{Receipt, Carried}
@@ -39,32 +41,22 @@ module _ (parties : List (List (List ℕ))) (entries : List Entry) (to : ℕ) wh
 
   -- what a log has from a sender behind its first entry
   log-rest : (count : ℕ) (entry : LogEntry) (log : List LogEntry) → IsPutLog count (entry ∷ log) → IsPutLog count log
-  log-rest count entry log put sender is_party = by (eqb entry.sender sender) (put sender is_party)
-    where
-      by : (b : Bool) → ArePut parties entries sender to 0 0 (cond b (entry.item ∷ items_from log sender) (items_from log sender)) → ArePut parties entries sender to 0 0 (items_from log sender)
-      by true s = put-rest parties entries sender to 0 0 entry.item (items_from log sender) s
-      by false s = s
+  log-rest count entry log put sender is_party = grind (arith, put-rest parties entries sender to 0 0 entry.item (items_from log sender), put sender is_party)
 
   -- no message that was put on a link has the stamp of another entry, nor of one before those that put them
   other-stamps : (sender other place k carried receipts : ℕ) (message : Message) (items : List Item) → slice_get entries place ≡ Some (Routed other k message)
       → (sender ≡ other → place < carried) → ArePut parties entries sender to carried receipts items → All (λ item. stamp_in item ≡ Some (place + 1) → ⊥) items
   other-stamps sender other place k carried receipts message [] routed later put = All-nil (λ item. stamp_in item ≡ Some (place + 1) → ⊥)
   other-stamps sender other place k carried receipts message (Receipt l reached query ∷ items) routed later put =
-      All-cons (λ item. stamp_in item ≡ Some (place + 1) → ⊥) _ items (λ is. cc) (other-stamps sender other place k carried (put.0 + 1) message items routed later put.3)
+      All-cons (λ item. stamp_in item ≡ Some (place + 1) → ⊥) _ items (grind arith) (other-stamps sender other place k carried (put.0 + 1) message items routed later put.3)
   other-stamps sender other place k carried receipts message (Carried l stamp sent ∷ items) routed later put =
       All-cons (λ item. stamp_in item ≡ Some (place + 1) → ⊥) _ items
-      (λ is.
-      let stamp_is : stamp ≡ place + 1 = cc is in
-      let same_place : put.0 ≡ place = omega (arith, put.2.made.0, stamp_is) in
-      let same : sender ≡ other = cc (put.2.routed, routed, same_place) in
-      omega (arith, later same, put.1, same_place))
+      (grind (arith, put.2.made.0, put.2.routed))
       (other-stamps sender other place k (put.0 + 1) receipts message items routed (λ same. omega (arith, later same, put.1)) put.3)
 
   -- the place of a log's first entry in the record, and what comes behind
   stamp-none : (stamp : ℕ) (log : List LogEntry) (place : ℕ) → All (λ entry. stamp_in entry.item ≡ Some stamp → ⊥) log → stamp_at log place ≡ Some stamp → ⊥
-  stamp-none stamp [] place none at = absurd (cc)
-  stamp-none stamp (entry ∷ log) zero none at = All-head (λ (e : LogEntry). stamp_in e.item ≡ Some stamp → ⊥) entry log none at
-  stamp-none stamp (entry ∷ log) (suc place) none at = stamp-none stamp log place (All-tail (λ (e : LogEntry). stamp_in e.item ≡ Some stamp → ⊥) entry log none) at
+  stamp-none stamp log place none at = grind (arith, common_steps, gets)
 
   -- no stamp stands at the first place of a log and at another
   first-alone : (count : ℕ) (entry : LogEntry) (log : List LogEntry) (place stamp : ℕ) → AllFromParties count log → IsPutLog count (entry ∷ log) → entry.sender < count

@@ -1,31 +1,23 @@
 -- What a step changes, and what it has seen to before: one lemma for all that every step keeps.
-use Rattle.std.proofs.Common.{◌≡◌, ℕ, ◌+◌, ◌-◌, ◌<◌, ◌≤◌, Bool, true, false, List, [], ◌∷◌, ◌++◌, length, cond, Some, None, Option, refl, sym, ap, subst, arith, ltb-true}
-use Rattle.std.specs.Prelude.{slice_get, not, ◌==◌, nat_lt, MatchBool, IsTrue}
-use Rattle.std.proofs.lemmas.Bool.{not-false, and_parts, leb-false, ltb-false, eqb-false}
+use Rattle.std.proofs.Common.{◌≡◌, ℕ, ◌+◌, ◌<◌, ◌≤◌, Bool, true, false, List, [], ◌∷◌, ◌++◌, length, Some, None, refl, sym, subst, arith}
+use Rattle.std.specs.Prelude.{slice_get, MatchBool, IsTrue}
 use Rattle.mv_pack.specs.declared.key.PackKey.{PackKey}
 use Rattle.mv_message.specs.declared.message.Message.{Message}
-use Rattle.mv_message.specs.declared.message.Message.TheVariants.{Query}
 use Rattle.mv_link.specs.declared.item.Item.{Item}
-use Rattle.mv_link.specs.declared.incoming.Look.{Look}
 use Rattle.mv_link.specs.declared.incoming.Look.TheVariants as look
-use Rattle.mv_link.specs.Receiving.{look_at}
 use Rattle.mv_link.proofs.LinkLemmas.{next-number}
-use Rattle.mv_hub.specs.Hub.{route_fault, relay_fault, repeat_fault, close_fault, with_routed, with_relayed, with_closed}
+use Rattle.mv_hub.specs.Hub.{route_fault, with_routed, with_relayed, with_closed}
 use Rattle.mv_hub.specs.Record.{routed_count, is_open}
-use Rattle.mv_repository.specs.declared.verdict.Local.{Local}
-use Rattle.mv_repository.specs.declared.verdict.Local.TheVariants.{Known, Absent}
-use Rattle.mv_repository.specs.Verdict.{local_verdict}
 use Rattle.mv_party.specs.Site.{with_submission, with_applied, answers_in}
-use Rattle.mv_party.specs.Calls.{ask_fault, submit_fault, apply_fault}
+use Rattle.mv_party.specs.Calls.{ask_fault, apply_fault}
 use Rattle.mv_party.proofs.AnswerLemmas.{no_answer}
 use Rattle.mv_party.proofs.SiteLemmas.{submit-free}
 use Rattle.mv_machine.specs.declared.step.Step.{Step}
 use Rattle.mv_machine.specs.declared.step.Step.TheVariants.{Submit, Verify, Route, Relay, Apply, Repeat, Close, Lose, Verdict}
 use Rattle.mv_machine.specs.declared.reply.Reply.{Reply}
-use Rattle.mv_machine.specs.declared.reply.Refusal.{Refusal}
-use Rattle.mv_machine.specs.Replies.{refusal_of, hub_refusal_of, route_refusal_of, changes_nothing, wants_memory, takes_memory}
-use Rattle.mv_machine.specs.State.{State, is_party, are_parties, submissions_of, is_uplink_full, is_wire_full, hub_of, with_hub, site_of, with_site, with_wire, sent_of, wire_of, log_of, items_on, applied_count}
-use Rattle.mv_machine.specs.Steps.{Answered, refused, unless, submit, ask, verify_by, verify, verdict, route_front, route, relay, next_item, apply_next, apply_by, apply_front, apply, repeat, close, lose_front, lose, outcome}
+use Rattle.mv_machine.specs.Replies.{changes_nothing, wants_memory, takes_memory}
+use Rattle.mv_machine.specs.State.{State, submissions_of, is_uplink_full, hub_of, with_hub, site_of, with_site, with_wire, sent_of, wire_of, items_on}
+use Rattle.mv_machine.specs.Steps.{Answered, submit, ask, verify, verdict, route, relay, next_item, apply, repeat, close, lose, outcome}
 use Rattle.mv_machine.specs.Runs.{Meets, Allows, Runs}
 use Rattle.mv_machine.specs.Laws.{RefusalsChangeNothing}
 
@@ -50,92 +42,25 @@ pub data Change (st : State) : Bool → State → Type 0 where
       → Change st false (with_wire (with_site st (with_applied (site_of st to) from item)) from to rest)
 
 -- so it is of an outcome
-record Changes (st : State) (done : Answered) : Type 0 where
-  change : Change st (changes_nothing done.reply) done.state
-
-did : {st : State} {done : Answered} → Change st (changes_nothing done.reply) done.state → Changes st done
-did change = record { change = change }
+abbrev Changes : State → Answered → Type 0
+Changes st done = Change st (changes_nothing done.reply) done.state
 
 module _ (st : State) where
-  -- what is refused changes nothing
-  or_refuse : (b : Bool) (refusal : Refusal) (done : Answered) → (b ≡ false → Changes st done) → Changes st (cond b (refused refusal st) done)
-  or_refuse true refusal done there = did (nothing true)
-  or_refuse false refusal done there = there refl
-
-  unless_fault : {F : Type 0} (refusal : F → Refusal) (fault : Option F) (done : Answered) → (fault ≡ None → Changes st done) → Changes st (unless refusal fault st done)
-  unless_fault refusal None done there = there refl
-  unless_fault refusal (Some fault) done there = did (nothing true)
-
-  both : (from to : ℕ) → not (are_parties st from to) ≡ false → (from < length st.parties) × (to < length st.parties)
-  both from to e =
-      let parts = and_parts _ _ (not-false _ e) in (ltb-true _ _ parts.0, ltb-true _ _ parts.1)
-
-  -- where the hub has no fault, a link has a next frame, the frame of a number was relayed, and a link is open
-  relay-free : (from to : ℕ) → relay_fault (hub_of st) from to ≡ None → (sent_of st from to == length (items_on st from to)) ≡ false
-  relay-free from to free = grind arith
-
-  repeat-free : (from to number : ℕ) → repeat_fault (hub_of st) from to number ≡ None → ((number == 0) ≡ false) × (nat_lt (sent_of st from to) number ≡ false)
-  repeat-free from to number free = (grind arith, grind arith)
-
-  close-free : (from to : ℕ) → close_fault (hub_of st) from to ≡ None → (not (are_parties st from to) ≡ false) × (is_open st.entries from to ≡ true)
-  close-free from to free = (grind arith, grind arith)
-
   ask-changes : (party : ℕ) (key : PackKey) → Changes st (ask st party key)
   unfolding ask
-  ask-changes party key = or_refuse (not (is_party st party)) _ _ (λ _. unless_fault refusal_of (ask_fault (is_uplink_full st party) (site_of st party)) _ (λ free. did (submitted party (Query key) refl free)))
+  ask-changes party key = grind (arith, nothing, submitted)
 
   outcome-changes : (step : Step) → Changes st (outcome st step)
   unfolding submit verify route relay apply repeat close lose verdict
-  outcome-changes (Submit from message) =
-      or_refuse (not (is_party st from)) _ _ (λ _. unless_fault refusal_of (submit_fault (is_uplink_full st from) (site_of st from) message) _ (λ free.
-      let parts = submit-free (is_uplink_full st from) (site_of st from) message free in
-      did (submitted from message (no_answer message parts.0) parts.1)))
-  outcome-changes (Verify party key) = or_refuse (not (is_party st party)) _ _ (λ _. by (local_verdict key (log_of st party)))
-    where
-      by : (local : Local) → Changes st (verify_by st party key local)
-      by (Known verdict) = did (nothing true)
-      by Absent = ask-changes party key
-  outcome-changes (Route from) =
-      or_refuse (not (is_party st from)) _ _ (λ party. front (slice_get (submissions_of st from) (routed_count st.entries from)) refl (ltb-true _ _ (not-false _ party)))
-    where
-      front : (message : Option Message) → slice_get (submissions_of st from) (routed_count st.entries from) ≡ message → from < length st.parties → Changes st (route_front st from message)
-      front None next lt = did (nothing true)
-      front (Some message) next lt = unless_fault route_refusal_of (route_fault (hub_of st) from message) _ (λ free. did (routed from message lt next free))
-  outcome-changes (Relay from to) =
-      or_refuse (not (are_parties st from to)) _ _ (λ parties. or_refuse (is_wire_full st from to) _ _ (λ room.
-      unless_fault hub_refusal_of (relay_fault (hub_of st) from to) _ (λ free.
-      did (relayed from to (both from to parties).0 (both from to parties).1 (leb-false _ _ room) (eqb-false _ _ (relay-free from to free))))))
-  outcome-changes (Apply from to) = or_refuse (not (are_parties st from to)) _ _ (λ parties. front (wire_of st from to) refl (both from to parties).0)
-    where
-      next : (number : ℕ) (rest : List ℕ) (item : Option Item) → from < length st.parties → wire_of st from to ≡ number ∷ rest → next_item st from to ≡ item
-          → Changes st (apply_next st from to number rest item)
-      next number rest None lt e is = did (dropped from to number rest e)
-      next number rest (Some item) lt e is = unless_fault refusal_of (apply_fault (is_uplink_full st to) (site_of st to) from item look.Next) _ (λ free. did (applied from to number rest item lt e is free))
-
-      by : (number : ℕ) (rest : List ℕ) (stands : Look) → look_at (applied_count st from to) number ≡ stands → from < length st.parties → wire_of st from to ≡ number ∷ rest
-          → Changes st (apply_by st from to number rest stands)
-      by number rest look.Old looked lt e = did (dropped from to number rest e)
-      by number rest (look.Gap expected) looked lt e = did (dropped from to number rest e)
-      by number rest look.Next looked lt e =
-          next number rest (slice_get (items_on st from to) (number - 1)) lt e (ap (slice_get (items_on st from to)) (omega (arith, next-number (applied_count st from to) number looked)))
-
-      front : (wire : List ℕ) → wire_of st from to ≡ wire → from < length st.parties → Changes st (apply_front st from to wire)
-      front [] e lt = did (nothing true)
-      front (number ∷ rest) e lt = by number rest (look_at (applied_count st from to) number) refl lt e
-  outcome-changes (Repeat from to number) =
-      or_refuse (not (are_parties st from to)) _ _ (λ _. or_refuse (is_wire_full st from to) _ _ (λ room.
-      unless_fault hub_refusal_of (repeat_fault (hub_of st) from to number) _ (λ free.
-      let parts = repeat-free from to number free in
-      did (repeated from to number (leb-false _ _ room) (omega (arith, eqb-false number 0 parts.0)) (ltb-false _ _ parts.1)))))
-  outcome-changes (Close from to) =
-      unless_fault hub_refusal_of (close_fault (hub_of st) from to) _ (λ free.
-      let told = close-free from to free in did (closed from to (both from to told.0).0 (both from to told.0).1 told.1))
-  outcome-changes (Lose from to) = or_refuse (not (are_parties st from to)) _ _ (λ _. front (wire_of st from to) refl)
-    where
-      front : (wire : List ℕ) → wire_of st from to ≡ wire → Changes st (lose_front st from to wire)
-      front [] e = did (nothing true)
-      front (number ∷ rest) e = did (dropped from to number rest e)
-  outcome-changes (Verdict party q) = or_refuse (not (is_party st party)) _ _ (λ _. did (nothing true))
+  outcome-changes (Submit from message) = grind (arith, nothing, submitted, no_answer, submit-free (is_uplink_full st from) (site_of st from) message)
+  outcome-changes (Verify party key) = grind (arith, nothing, ask-changes party key)
+  outcome-changes (Route from) = grind (arith, nothing, routed)
+  outcome-changes (Relay from to) = grind (arith, nothing, relayed)
+  outcome-changes (Apply from to) = grind (arith, nothing, dropped, applied, next-number)
+  outcome-changes (Repeat from to number) = grind (arith, nothing, repeated)
+  outcome-changes (Close from to) = grind (arith, nothing, closed)
+  outcome-changes (Lose from to) = grind (arith, nothing, dropped)
+  outcome-changes (Verdict party q) = grind (arith, nothing)
 
   -- and so where the outcome is met: want of memory changes nothing
   meets-changes : (expected : Answered) (reply : Reply) (new : State) → Changes st expected → Meets st expected reply new → Change st (changes_nothing reply) new
@@ -144,7 +69,7 @@ module _ (st : State) where
     where
       by : (b : Bool) → MatchBool b ((new ≡ st) × IsTrue (takes_memory expected.reply)) ((reply ≡ expected.reply) × (new ≡ expected.state)) → Change st (changes_nothing reply) new
       by true a = subst (Change st (changes_nothing reply)) (sym a.0) (nothing (changes_nothing reply))
-      by false a = rw (a.0, a.1) changes.change
+      by false a = rw (a.0, a.1) changes
 
   pub step-changes : (step : Step) (reply : Reply) (new : State) → Allows st step reply new → Change st (changes_nothing reply) new
   unfolding Allows
@@ -154,7 +79,7 @@ module _ (st : State) where
   asked-changes party key reply new met = meets-changes (ask st party key) reply new (ask-changes party key) met
 
 -- where the reply says that nothing has changed, nothing has
-unchanged : {old new : State} {quiet : Bool} → Change old quiet new → IsTrue quiet → new ≡ old
+pub unchanged : {old new : State} {quiet : Bool} → Change old quiet new → IsTrue quiet → new ≡ old
 unchanged (nothing quiet) said = refl
 unchanged _ said = absurd (cc)
 

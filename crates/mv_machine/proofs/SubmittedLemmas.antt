@@ -1,7 +1,7 @@
 -- What a lawful state applied is what was submitted: each item of a link is put there by the routing of one message, whose number
 -- is one more than those before it.
-use Rattle.std.proofs.Common.{◌≡◌, ℕ, zero, suc, ◌+◌, ◌-◌, ◌<◌, ◌≤◌, List, [], ◌∷◌, ◌++◌, length, take, drop, Some, sym, refl, ap, ◌∙◌, subst, arith}
-use Rattle.std.specs.Prelude.{slice_get, slice_index}
+use Rattle.std.proofs.Common.{◌≡◌, ℕ, zero, suc, ◌+◌, ◌-◌, ◌<◌, ◌≤◌, List, [], ◌∷◌, ◌++◌, length, take, drop, Some, sym, refl, ap, ◌∙◌, arith}
+use Rattle.std.specs.Prelude.{slice_get}
 use Rattle.std.specs.List.Sorted.{IsStrictlyIncreasing}
 use Rattle.std.proofs.lemmas.Bool.{eq-eqb}
 use Rattle.std.proofs.lemmas.List.{take-append-drop, take-take, take_more}
@@ -12,24 +12,21 @@ use Rattle.mv_link.specs.declared.item.Item.TheVariants.{Receipt, Carried}
 use Rattle.mv_hub.specs.declared.entry.Entry.{Entry}
 use Rattle.mv_hub.specs.declared.entry.Entry.TheVariants.{Routed}
 use Rattle.mv_hub.specs.Record.{routed_from, routed_count}
-use Rattle.mv_hub.proofs.RecordLemmas.{routed_from-append}
 use Rattle.mv_repository.specs.Log.{items_from}
 use Rattle.mv_machine.specs.State.{State, log_of}
 use Rattle.mv_machine.specs.Lawful.{AllFit, IsLawful}
 use Rattle.mv_machine.specs.Headline.{IsRoutedAt, IsOfSubmission, AppliedIsSubmitted, carried_numbers, receipt_numbers, NumbersRise}
 use Rattle.mv_machine.specs.PartLaws.{RecordsAreNumbered}
 use Rattle.mv_machine.specs.Laws.{LawfulItemsAreSubmitted}
-use Rattle.mv_machine.proofs.PrefixLemmas.{slice_get-append, slice_get-behind, split-at}
+use Rattle.mv_machine.proofs.PrefixLemmas.{slice_get-append}
 use Rattle.mv_machine.proofs.PutLemmas.{IsPut, ArePut, put-each, log-put, each-entry, number-at, routed_count-push}
 
 -- the message of an entry stands among those of its sender where it is routed
 routed-at : (entries : List Entry) (place from k : ℕ) (message : Message) → slice_get entries place ≡ Some (Routed from k message)
     → slice_get (routed_from entries from) (routed_count (take place entries) from) ≡ Some message
-routed-at entries place from k message at =
-    let entry = Routed from k message in
-    let own : routed_from entries from ≡ routed_from (take place entries) from ++ message ∷ routed_from (drop (suc place) entries) from =
-    ap (λ l. routed_from l from) (split-at entries place entry at) ∙ routed_from-append (take place entries) (entry ∷ drop (suc place) entries) from ∙ rw (eq-eqb from from refl) in
-    ap (λ l. slice_get l (routed_count (take place entries) from)) own ∙ slice_get-behind (routed_from (take place entries) from) message _
+routed-at [] place from k message at = absurd (cc)
+routed-at (entry ∷ entries) zero from k message at = grind arith
+routed-at (entry ∷ entries) (suc place) from k message at = grind (arith, routed-at entries place from k message at)
 
 -- so a message is routed under its number among those that were routed from its sender
 numbered-at : (entries : List Entry) (place from k : ℕ) (message : Message) → AllFit [] entries → slice_get entries place ≡ Some (Routed from k message)
@@ -76,9 +73,7 @@ increasing : (least : ℕ) (xs : List ℕ) → Ascends least xs → IsStrictlyIn
 increasing least [] up k within = absurd (omega arith)
 increasing least (x ∷ []) up k within = absurd (omega arith)
 increasing least (x ∷ y ∷ xs) up zero within = up.1.0
-increasing least (x ∷ y ∷ xs) up (suc k) within =
-    let e : suc (k + 1) ≡ suc k + 1 = omega arith in
-    subst (λ n. slice_index (x ∷ y ∷ xs) (suc k) < slice_index (x ∷ y ∷ xs) n) e (increasing x (y ∷ xs) up.1 k (omega (arith, within)))
+increasing least (x ∷ y ∷ xs) up (suc k) within = grind (arith, increasing x (y ∷ xs) up.1 k)
 
 -- more are routed from a party before a later place
 routed_count-later : (entries : List Entry) (one other from : ℕ) → one ≤ other → routed_count (take one entries) from ≤ routed_count (take other entries) from

@@ -176,7 +176,6 @@ put_kept {p} site k sound fits =
     assumption (after, sites)
 
 module _ {p : Parts} {st : State} {party : ℕ} {site : SiteState} (facts : SiteFacts p st party site) (new : SiteState) where
-
   -- a party that has changed in nothing
   site_same : new ≡ site → set p.sites party new ≡ p.sites
   site_same same = ap (set p.sites party) (same ∙ facts.at) ∙ set-get_or p.sites party (new_site 0 0 0)
@@ -232,7 +231,6 @@ with_taken-party site sender item (look.Gap expected) = refl
 -- the frame in front of a wire is offered to its receiver
 module _ {p : Parts} {st : State} {from to : ℕ} {wire : WireState} {site : SiteState} (link : LinkFacts p st from to wire) (facts : SiteFacts p st to site)
     (frame : Frame) (front : slice_get wire.frames 0 ≡ Some frame) (new : SiteState) where
-
   -- it bears the item of its number
   front_item : slice_get (link_of st from to) (frame.number - 1) ≡ Some frame.item
   front_item =

@@ -7,5 +7,4 @@ use Rattle.mv_system.proofs.opening.new_sites.Goals as goal
 pub loop-party-preserved : goal.loop-party-preserved
 loop-party-preserved c =
     let make = λ (party : ℕ). new_site party c.args.parties c.args.limit in
-    c.in_ok-push.ensures.items ∙ ap (λ l. l ++ c.in_ok-new.field-0 ∷ []) c.loop-party.invariant
-    ∙ ap (λ s. map make (range_with_len 0 c.loop-party.party) ++ s ∷ []) c.in_ok-new.ensures ∙ sym (map-range_with_len_more make 0 c.loop-party.party c.loop-party.party (omega arith))
+    rw (c.in_ok-push.ensures.items, c.loop-party.invariant, c.in_ok-new.ensures) (sym (map-range_with_len_more make 0 c.loop-party.party c.loop-party.party (omega arith)))

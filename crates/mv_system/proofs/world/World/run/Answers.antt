@@ -1,25 +1,32 @@
-use Rattle.std.proofs.Common.{◌≡◌, ◌+◌, [], ◌∷◌, ◌++◌, take, sym, ap, ◌∙◌, arith}
+use Rattle.std.proofs.Common.{◌≡◌, ◌+◌, [], ◌∷◌, ◌++◌, take, rules, sym, ap, ◌∙◌, arith}
 use Rattle.std.proofs.lemmas.List.{take_more}
 use Rattle.mv_machine.proofs.LawfulLemmas.{runs-push}
 use Rattle.mv_machine.proofs.HeadlineLemmas.{headline-same, headline_further}
 use Rattle.mv_system.proofs.world.World.run.Goals as goal
 
 -- One more step was taken, and one more reply noted.
-pub loop-step-preserved-clause-ran : goal.loop-step-preserved-clause-ran
-loop-step-preserved-clause-ran c =
+pub loop-step-preserved : goal.loop-step-preserved
+loop-step-preserved c =
     let i = c.loop-step.step-index in
     let steps = c.args.steps.now in
     let more : take (i + 1) steps ≡ take i steps ++ c.step-item.result ∷ [] =
     take_more steps i c.step-item.result (omega arith) ∙ ap (λ x. take i steps ++ x ∷ []) (sym c.step-item.is) in
-    rw (more, c.push_reserved.ensures.items)
-    (runs-push _ (take i steps) c.loop-step.replies.items c.loop-step.self c.step-item.result _ _ c.loop-step.invariant.ran c.step-reply.ensures.allowed)
-
-pub loop-step-preserved-clause-headline : goal.loop-step-preserved-clause-headline
-loop-step-preserved-clause-headline c = headline_further _ c.loop-step.self _ c.loop-step.invariant.headline c.step-reply.ensures.headline
+    record {
+      ran = rw (more, c.push_reserved.ensures.items)
+          (runs-push _ (take i steps) c.loop-step.replies.items c.loop-step.self c.step-item.result _ _ c.loop-step.invariant.ran c.step-reply.ensures.allowed);
+      headline = headline_further _ c.loop-step.self _ c.loop-step.invariant.headline c.step-reply.ensures.headline;
+      room = omega (arith, c.push_reserved.ensures.capacity, c.loop-step.invariant.room);
+      count = omega (arith, c.push_reserved.ensures.len, c.loop-step.invariant.count);
+    }
 
 -- No step was taken yet.
-pub loop-step-init-clause-headline : goal.loop-step-init-clause-headline
-loop-step-init-clause-headline c = headline-same _ c.record.ensures.well_formed c.record.ensures.lawful
+pub loop-step-init : goal.loop-step-init
+loop-step-init c = record {
+  ran = search rules;
+  headline = headline-same _ c.record.ensures.well_formed c.record.ensures.lawful;
+  room = search rules;
+  count = search rules;
+}
 
 -- No step was taken at all.
 pub returns-in_err-reserve-clause-headline : goal.returns-in_err-reserve-clause-headline

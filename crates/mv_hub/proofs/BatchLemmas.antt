@@ -32,7 +32,7 @@ batch-same a b e =
 
 pub listing-same : (a b : Listing) → is_same_listing a b ≡ true → a ≡ b
 listing-same a b e =
-    let dates = Decides-eqb a.1.day b.1.day in
-    let months = Decides-and _ _ (Decides-and _ _ (bytes_eq-Decides a.0 b.0) (Decides-eqb a.1.year b.1.year)) (Decides-eqb a.1.month b.1.month) in
-    let same = (Decides-and _ _ months dates).0 e in
+    let years = Decides-and _ _ (bytes_eq-Decides a.0 b.0) (Decides-eqb a.1.year b.1.year) in
+    let months = Decides-and _ _ years (Decides-eqb a.1.month b.1.month) in
+    let same = (Decides-and _ _ months (Decides-eqb a.1.day b.1.day)).0 e in
     λ i. (same.0.0.0 i, record { year = same.0.0.1 i; month = same.0.1 i; day = same.1 i })

@@ -1,5 +1,5 @@
 -- What the hub keeps, through a routing and a relay.
-use Rattle.std.proofs.Common.{◌≡◌, ℕ, ◌+◌, ◌-◌, ◌<◌, ◌≤◌, Bool, true, false, ◌&&◌, ◌||◌, not, List, [], ◌∷◌, ◌++◌, length, set, cond, Some, None, sym, refl, ap, ◌∙◌, subst, arith, inl, inr, append-nil, ◌↔◌, length-append, length-set}
+use Rattle.std.proofs.Common.{◌≡◌, ℕ, ◌+◌, ◌-◌, ◌<◌, ◌≤◌, Bool, true, false, ◌&&◌, ◌||◌, not, List, [], ◌∷◌, ◌++◌, length, set, cond, Some, None, sym, refl, ap, ◌∙◌, arith, inl, inr, append-nil, ◌↔◌, length-append, length-set}
 use mir.Val.{bool_byte}
 use Rattle.std.specs.Prelude.{◌==◌, replicate}
 use Rattle.std.specs.List.{All, list_any}
@@ -21,7 +21,7 @@ use Rattle.mv_hub.specs.PartySets.{is_candidate}
 use Rattle.mv_hub.specs.Links.{gained, link_items}
 use Rattle.mv_hub.specs.Hub.{HubState, new_hub, sent_of, items_on, next_items, is_busy, busy_party, busy_fault, route_fault, with_relayed}
 use Rattle.mv_hub.specs.declared.fault.RouteFault.TheVariants.{StrangerParty}
-use Rattle.mv_hub.specs.Kept.{link_at, sent_table, AreRoutedCounts, AreOpen, Carries, AreLinks, IsKept}
+use Rattle.mv_hub.specs.Kept.{link_at, sent_table, Carries, AreLinks, IsKept}
 use Rattle.mv_hub.specs.Gains.{PushesItems, PushesRow, IsRouting, receipt_of, carried_by, gain_of, gain_count}
 use Rattle.mv_hub.proofs.LinksLemmas.{room-after}
 use Rattle.mv_hub.proofs.RecordLemmas.{routed_from-append, link_items-push, gained_other, gained-closed}
@@ -45,31 +45,33 @@ is_open-append [] after from to = refl
 is_open-append (Routed sender k message ∷ before) after from to = is_open-append before after from to
 is_open-append (Closed sender receiver ∷ before) after from to = grind (arith, is_open-append before after from to)
 
--- a party stands among those that a message reaches if the message reaches it
-pub has_party-reach : (parties : List (List (List ℕ))) (entries : List Entry) (from : ℕ) (message : Message) (to : ℕ)
-    → to < length parties → list_any (λ other. other == to) (reach parties entries from message) ≡ is_reached parties entries from message to
+-- a message reaches a party if that stands among those that it reaches
+pub reached_is_listed : (parties : List (List (List ℕ))) (entries : List Entry) (from : ℕ) (message : Message) (to : ℕ)
+    → to < length parties → is_reached parties entries from message to ≡ list_any (λ other. other == to) (reach parties entries from message)
 unfolding reach
-has_party-reach parties entries from message to = any-filter_range (is_reached parties entries from message) to (length parties)
+reached_is_listed parties entries from message to lt = sym (any-filter_range (is_reached parties entries from message) to (length parties) lt)
 
 -- what the routing of a message puts on a link
 next_items-are : (hub : HubState) (from to : ℕ) (message : Message) → next_items hub from message to
     ≡ cond ((to == from) && is_open hub.entries from from)
     (Receipt (routed_count hub.entries from + 1) (reach hub.parties hub.entries from message) (is_query message) ∷ []) []
-    ++ cond (is_reached hub.parties hub.entries from message to) (Carried (routed_count hub.entries from + 1) (length hub.entries + 1) message ∷ []) []
+    ++ cond (is_reached hub.parties hub.entries from message to)
+    (Carried (routed_count hub.entries from + 1) (length hub.entries + 1) message ∷ []) []
 unfolding gained
 next_items-are hub from to message = rw (eq-eqb from from refl)
 
 -- and how many items
-pub length-next_items : (hub : HubState) (from to : ℕ) (message : Message) → length (next_items hub from message to)
+pub length_next_items : (hub : HubState) (from to : ℕ) (message : Message) → length (next_items hub from message to)
     ≡ bool_byte ((to == from) && is_open hub.entries from from) + bool_byte (is_reached hub.parties hub.entries from message to)
-length-next_items hub from to message = grind (arith, next_items-are hub from to message)
+length_next_items hub from to message = grind (arith, next_items-are hub from to message)
 
 -- what a link gains is what the record will put on it
 pub next-gain : (hub : HubState) (routing : Routing) (receipt : List Item) (to : ℕ)
     → IsRouting hub routing → to < length hub.parties → receipt ≡ receipt_of hub routing
     → gain_of routing.from routing.reached receipt (carried_by routing) to ≡ next_items hub routing.from routing.message.now to
 next-gain hub routing receipt to is lt e =
-    rw (e, is.number, is.place, is.parties, has_party-reach hub.parties hub.entries routing.from routing.message.now to lt, next_items-are) (grind arith)
+    let here = reached_is_listed hub.parties hub.entries routing.from routing.message.now to lt in
+    rw (e, is.number, is.place, is.parties, ← here, next_items-are) (grind arith)
 
 pub length-gain : (hub : HubState) (routing : Routing) (receipt : List Item) (to : ℕ)
     → IsRouting hub routing → to < length hub.parties → receipt ≡ receipt_of hub routing
@@ -113,7 +115,7 @@ module _ (parties : List (List (List ℕ))) (window : ℕ) (entries : List Entry
   idle from to message are is_from is_to none =
       let hub = view parties window entries links in
       let facts = link_facts from to are is_from is_to in
-      (busy-is hub from to message (link_at links from to) 0 facts (grind (arith, length-next_items hub from to message))).1 facts.carries.fits
+      (busy-is hub from to message (link_at links from to) 0 facts (grind (arith, length_next_items hub from to message))).1 facts.carries.fits
 
   -- where no link is busy, each has room for its gain
   pub rooms : (from : ℕ) (message : Message)
@@ -124,39 +126,12 @@ module _ (parties : List (List (List ℕ))) (window : ℕ) (entries : List Entry
       (busy-is (view parties window entries links) from to message (link_at links from to) _ (link_facts from to are is_from is_to) refl).0
       (find-none_at (is_busy (view parties window entries links) from message) to (length parties) is_to none)
 
--- the counts once a message was routed
-routed_counts-routed : (n : ℕ) (entries : List Entry) (routed_counts : List ℕ) (from : ℕ) (message : Message) → AreRoutedCounts n entries routed_counts → from < n
-    → AreRoutedCounts n (entries ++ Routed from (routed_count entries from + 1) message ∷ []) (set routed_counts from (routed_count entries from + 1))
-routed_counts-routed n entries routed_counts from message are lt =
-    let k = routed_count entries from + 1 in
-    record {
-      each = length-set routed_counts from k ∙ are.each;
-      values = λ party below.
-          grind (arith, common_steps, are.values party below, are.each, routed_from-append entries (Routed from k message ∷ []) party, cases_eq party from);
-    }
-
 carries-gain : (window : ℕ) (items more : List Item) (old new : Sending) → Carries window items old → PushesItems more old new
     → HasRoom old (length more) → Carries window (items ++ more) new
 carries-gain window items more old new carries gains room = record {
   window = gains.window ∙ carries.window;
   ends = gains.ends items carries.ends;
   fits = room-after more old new 0 gains (omega (arith, room.0), omega (arith, room.1));
-}
-
--- the links once each link from the sender gained what the record puts on it
-links-routed : (parties : List (List (List ℕ))) (window : ℕ) (entries : List Entry) (old new : List (List Sending)) (from : ℕ) (message : Message)
-    → AreLinks parties window entries old
-    → ((to : ℕ) → to < length parties → HasRoom (link_at old from to) (length (next_items (view parties window entries old) from message to)))
-    → PushesRow (length parties) from (next_items (view parties window entries old) from message) old new
-    → AreLinks parties window (entries ++ Routed from (routed_count entries from + 1) message ∷ []) new
-links-routed parties window entries old new from message are free row = record {
-  square = row.square;
-  values = λ party to is_party is_to. elim (cases_eq party from) [
-    | inl same ↦ rw (same, link_items-push) (carries-gain window _ _ _ _ (are.values from to (rw same at is_party) is_to) (row.gained to is_to) (free to is_to))
-    | inr other ↦
-        let nothing = gained_other parties entries from (routed_count entries from + 1) message party to (ne_eqb from party (λ e. other (sym e))) in
-        rw (row.others party to other, link_items-push, nothing, append-nil) (are.values party to is_party is_to)
-  ];
 }
 
 -- all that the hub keeps, once a message was routed
@@ -166,28 +141,36 @@ pub kept-routed : {parties : List (List (List ℕ))} {window : ℕ} {entries : L
     → busy_party (view parties window entries old) from message ≡ None
     → PushesRow (length parties) from (next_items (view parties window entries old) from message) old new
     → IsKept parties window (entries ++ Routed from (routed_count entries from + 1) message ∷ []) (set routed_counts from (routed_count entries from + 1)) open_links new
-kept-routed {parties} {window} {entries} {routed_counts} {open_links} {old} new from message kept lt none row = record {
-  some = kept.some;
-  few = kept.few;
-  is_window = kept.is_window;
-  are_routed_counts = routed_counts-routed (length parties) entries routed_counts from message kept.are_routed_counts lt;
-  are_open = record {
-    square = kept.are_open.square;
-    values = λ a b is_a is_b. kept.are_open.values a b is_a is_b ∙ grind (arith, is_open-append entries (Routed from (routed_count entries from + 1) message ∷ []) a b);
-  };
-  are_links = links-routed parties window entries old new from message kept.are_links
-      (rooms parties window entries old from message kept.are_links lt none) row;
-}
-
-open-closed : (n : ℕ) (entries : List Entry) (open_links : List (List Bool)) (from to : ℕ) → AreOpen n entries open_links → from < n → to < n
-    → AreOpen n (entries ++ Closed from to ∷ []) (put open_links from to false)
-open-closed n entries open_links from to are is_from is_to = record {
-  square = square-put n open_links from to false are.square;
-  values = λ a b is_a is_b.
-      let others = cell-put_other open_links from to a b false true in
-      let own = cell-put_same n open_links from to false true are.square is_from is_to in
-      grind (arith, is_open-append entries (Closed from to ∷ []) a b, are.values a b is_a is_b, cases_eq a from, cases_eq b to, own, others);
-}
+kept-routed {parties} {window} {entries} {routed_counts} {old = old} new from message kept lt none row =
+    let k = routed_count entries from + 1 in
+    let entry = Routed from k message in
+    let free = rooms parties window entries old from message kept.are_links lt none in
+    record {
+      some = kept.some;
+      few = kept.few;
+      is_window = kept.is_window;
+      are_routed_counts = record {
+        each = length-set routed_counts from k ∙ kept.are_routed_counts.each;
+        values = λ party below.
+            let counts = kept.are_routed_counts in
+            grind (arith, common_steps, counts.values party below, counts.each, routed_from-append entries (entry ∷ []) party, cases_eq party from);
+      };
+      are_open = record {
+        square = kept.are_open.square;
+        values = λ a b is_a is_b. kept.are_open.values a b is_a is_b ∙ grind (arith, is_open-append entries (entry ∷ []) a b);
+      };
+      are_links = record {
+        square = row.square;
+        values = λ party to is_party is_to. elim (cases_eq party from) [
+          | inl same ↦
+              let before = kept.are_links.values from to (rw same at is_party) is_to in
+              rw (same, link_items-push) (carries-gain window _ _ _ _ before (row.gained to is_to) (free to is_to))
+          | inr other ↦
+              let nothing = gained_other parties entries from k message party to (ne_eqb from party (λ e. other (sym e))) in
+              rw (row.others party to other, link_items-push, nothing, append-nil) (kept.are_links.values party to is_party is_to)
+        ];
+      };
+    }
 
 -- all that the hub keeps, once a link was closed
 pub kept-closed : {parties : List (List (List ℕ))} {window : ℕ} {entries : List Entry} {routed_counts : List ℕ}
@@ -200,9 +183,17 @@ kept-closed {parties} {entries = entries} {open_links = open_links} from to kept
   is_window = kept.is_window;
   are_routed_counts = record {
     each = kept.are_routed_counts.each;
-    values = λ party below. rw (routed_from-append entries (Closed from to ∷ []) party, append-nil) (kept.are_routed_counts.values party below);
+    values = λ party below.
+        rw (routed_from-append entries (Closed from to ∷ []) party, append-nil) (kept.are_routed_counts.values party below);
   };
-  are_open = open-closed (length parties) entries open_links from to kept.are_open is_from is_to;
+  are_open = record {
+    square = square-put (length parties) open_links from to false kept.are_open.square;
+    values = λ a b is_a is_b.
+        let others = cell-put_other open_links from to a b false true in
+        let own = cell-put_same (length parties) open_links from to false true kept.are_open.square is_from is_to in
+        let open_before = kept.are_open.values a b is_a is_b in
+        grind (arith, is_open-append entries (Closed from to ∷ []) a b, open_before, cases_eq a from, cases_eq b to, own, others);
+  };
   are_links = record {
     square = kept.are_links.square;
     values = λ a b is_a is_b.
@@ -238,8 +229,8 @@ kept-new parties window open_links links some few is_window open_square all_open
   are_links = record {
     square = square;
     values = λ from to p q.
-        let e = cell-all (λ v. v ≡ new_sending window) (length parties) links from to (new_sending 0) square fresh p q in
-        subst (Carries window []) (sym e) (record { window = refl; ends = record { front = []; whole = refl; count = refl }; fits = (omega arith, omega arith) });
+        rw (cell-all (λ v. v ≡ new_sending window) (length parties) links from to (new_sending 0) square fresh p q)
+        (record { window = refl; ends = record { front = []; whole = refl; count = refl }; fits = (omega arith, omega arith) });
   };
 }
 

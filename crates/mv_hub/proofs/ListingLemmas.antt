@@ -16,14 +16,16 @@ module _ {A : Type 0} (same : A → A → Bool) where
     -- to leave out what is not the same as x leaves whether x is there
     any-others : (x y : A) (xs : List A) → same x y ≡ false → list_any (same x) (filter (λ z. not (same y z)) xs) ≡ list_any (same x) xs
     any-others x y xs e =
-        any-filter_same (same x) (λ z. not (same y z)) true (λ z h. ap (λ w. not (same y w)) (sym (tells x z h)) ∙ ap not (laws.symm y x ∙ e)) xs
+        any-filter_same (same x) (λ z. not (same y z)) true
+        (λ z h. ap (λ w. not (same y w)) (sym (tells x z h)) ∙ ap not (laws.symm y x ∙ e)) xs
 
     -- the members, each once, once one more comes
     pub distinct-push : (xs : List A) (x : A) → distinct same (xs ++ x ∷ []) ≡ add_to (distinct same xs) (Some x)
     distinct-push [] x = refl
     distinct-push (y ∷ ys) x =
         let front = distinct same ys in
-        grind (arith, distinct-push ys x, filter-append (λ z. not (same y z)) front (x ∷ []), any-others x y front, laws.symm x y, append-nil {A = A})
+        let kept = filter-append (λ z. not (same y z)) front (x ∷ []) in
+        grind (arith, distinct-push ys x, kept, any-others x y front, laws.symm x y, append-nil {A = A})
 
     -- the members that a list names, each once, once one more stands at its end
     pub distinct-named : {E : Type 0} (named : E → Option A) (entries : List E) (entry : E)

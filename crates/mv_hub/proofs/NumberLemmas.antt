@@ -1,7 +1,7 @@
 -- Searches and filters over the numbers below a count.
 use Rattle.std.proofs.Common.{◌≡◌, ℕ, zero, suc, ◌+◌, ◌<◌, ◌≤◌, length, Bool, true, false, not, ◌||◌, ◌&&◌, eqb-true, List, [], ◌∷◌, ◌++◌, Some, None, Ok, Err, get_or, take, drop-cons, inl, inr, sym, refl, ap, ◌∙◌, arith, zero-add, cond}
 use Rattle.std.specs.Prelude.{filter, find, ◌==◌}
-use Rattle.std.specs.List.{insert, range_with_len, list_any}
+use Rattle.std.specs.List.{All, insert, range_with_len, list_any}
 use Rattle.std.specs.List.Sorted.{IsBinarySearchResult, IsStrictlyIncreasing}
 use Rattle.std.specs.Ordering.{nat_cmp}
 use Rattle.std.proofs.lemmas.Bool.{eq-eqb, ne_eqb, cases_eq}
@@ -26,7 +26,8 @@ range-append a (suc m) n =
 
 -- the numbers below a count that pass ascend
 increasing-filter_range : (p : ℕ → Bool) (n : ℕ) → IsStrictlyIncreasing (filter p (range_with_len 0 n))
-increasing-filter_range p n = IsStrictlyIncreasing-filter p (range_with_len 0 n) (λ k lt. grind (arith, get_or-range_with_len, length-range_with_len))
+increasing-filter_range p n =
+    IsStrictlyIncreasing-filter p (range_with_len 0 n) (λ k lt. grind (arith, get_or-range_with_len, length-range_with_len))
 
 none-from : (p : ℕ → Bool) (a m i : ℕ) → find p (range_with_len a m) ≡ None → a ≤ i → i < a + m → p i ≡ false
 none-from p a zero i none from upto = absurd (omega arith)
@@ -53,7 +54,9 @@ passing-place : (p : ℕ → Bool) (a m k : ℕ) → k < length (passing p a m)
     → (a ≤ get_or (passing p a m) k 0) × (get_or (passing p a m) k 0 < a + m) × (p (get_or (passing p a m) k 0) ≡ true)
 passing-place p a m k lt =
     let numbers = range_with_len a m in
-    let ranged = All-filter p (λ x. (a ≤ x) × (x < a + m)) numbers (λ j d low. grind (arith, get_or-range_with_len a m j d, length-range_with_len a m)) k 0 lt in
+    let all : All (λ x. (a ≤ x) × (x < a + m)) numbers =
+    λ j d below. grind (arith, get_or-range_with_len a m j d, length-range_with_len a m) in
+    let ranged = All-filter p (λ x. (a ≤ x) × (x < a + m)) numbers all k 0 lt in
     (ranged.0, ranged.1, filter_passes p numbers k 0 lt)
 
 -- no more of them pass than there are
@@ -71,8 +74,8 @@ those-agree p q n agree = passing-agree p q 0 n (λ x low high. agree x (omega a
 
 -- one more number goes between those of a list of fewer than m numbers that are below it and those that are above it
 abbrev Goes : ℕ → ℕ → List ℕ → List ℕ → Type 0
-Goes to m old new = (i : ℕ) → i ≤ length old → ((k : ℕ) → k < i → get_or old k 0 < to) → ((k : ℕ) → i ≤ k → k < length old → to < get_or old k 0)
-    → (length old < m) × (insert old i to ≡ new)
+Goes to m old new = (i : ℕ) → i ≤ length old → ((k : ℕ) → k < i → get_or old k 0 < to)
+    → ((k : ℕ) → i ≤ k → k < length old → to < get_or old k 0) → (length old < m) × (insert old i to ≡ new)
 
 -- one more number passes
 passing-insert : (p : ℕ → Bool) (to a m : ℕ) → a ≤ to → to < a + m → Goes to m (passing p a m) (passing (λ x. p x || (x == to)) a m)
@@ -88,7 +91,8 @@ passing-insert p to a (suc m) from upto = by (p a) (λ above. passing-insert p t
     by : (b : Bool) → (a + 1 ≤ to → Goes to m rest more) → Goes to (suc m) (cond b (a ∷ rest) rest) (cond (b || (a == to)) (a ∷ more) more)
     by true later zero within low high = absurd (omega (arith, high 0 (omega arith) (omega arith)))
     by true later (suc i) within low high =
-        let h = later (omega (arith, low 0 (omega arith))) i (omega arith) (λ k lt. low (suc k) (omega arith)) (λ k ge lt. high (suc k) (omega arith) (omega arith)) in
+        let above = λ (k : ℕ) (ge : i ≤ k) (lt : k < length rest). high (suc k) (omega arith) (omega arith) in
+        let h = later (omega (arith, low 0 (omega arith))) i (omega arith) (λ k lt. low (suc k) (omega arith)) above in
         (omega (arith, h.0), ap (λ l. a ∷ l) h.1)
     by false later i within low high = elim (cases_eq a to) [
       | inl same ↦
@@ -133,7 +137,8 @@ those-none n = none 0 n
 -- one number alone
 pub those-one : (x n : ℕ) → x < n → x ∷ [] ≡ those (λ other. other == x) n
 those-one x n lt =
-    ((rw (← those-none n) at (passing-insert (λ y. false) x 0 n (omega arith) (omega arith))) 0 (omega arith) (λ k low. absurd (omega arith)) (λ k low high. absurd (omega arith))).1
+    let goes = rw (← those-none n) at (passing-insert (λ y. false) x 0 n (omega arith) (omega arith)) in
+    (goes 0 (omega arith) (λ k low. absurd (omega arith)) (λ k low high. absurd (omega arith))).1
 
 -- or no number
 pub those-beyond : (x n : ℕ) → n ≤ x → [] ≡ those (λ other. other == x) n

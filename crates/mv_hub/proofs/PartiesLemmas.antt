@@ -53,7 +53,7 @@ module _ {V : Type 0} (items : V → List (List ℕ)) (lists : List V) (i : ℕ)
 
   -- what the first lists have twice, all lists have twice
   pub lists-found : has_twice (all_markets (map items (take i lists))) ≡ true → has_twice (all_markets (map items lists)) ≡ true
-  lists-found twice = ap has_twice lists-split ∙ has_twice-longer (all_markets (map items (take i lists))) (all_markets (map items (drop i lists))) twice
+  lists-found twice = ap has_twice lists-split ∙ has_twice-longer (all_markets (map items (take i lists))) _ twice
 
   -- where no list before it has the market, the lists up to one have it if that one has
   pub has_market-lists_more : (d : V) (market : List ℕ) → i < length lists → has_market (all_markets (map items (take i lists))) market ≡ false
@@ -76,7 +76,8 @@ has_market-all : (lists : List (List (List ℕ))) (i : ℕ) (market : List ℕ) 
     → has_market (all_markets lists) market ≡ true
 has_market-all [] i market has = absurd (true≢false (sym has))
 has_market-all (x ∷ xs) zero market has = rw (list_any-append, has)
-has_market-all (x ∷ xs) (suc i) market has = grind (arith, list_any-append (λ m. is_same_market m market) x (all_markets xs), has_market-all xs i market has)
+has_market-all (x ∷ xs) (suc i) market has =
+    grind (arith, list_any-append (λ m. is_same_market m market) x (all_markets xs), has_market-all xs i market has)
 
 -- no two parties serve one market
 pub one-party : (lists : List (List (List ℕ))) (i j : ℕ) (market : List ℕ) → has_twice (all_markets lists) ≡ false
@@ -119,7 +120,8 @@ pub serves_one-push : (served markets : List (List ℕ)) (market : List ℕ)
     → serves_one served (markets ++ market ∷ []) ≡ (serves_one served markets || has_market served market)
 serves_one-push [] markets market = refl
 serves_one-push (s ∷ served) markets market =
-    grind (arith, list_any-append (λ m. is_same_market m s) markets (market ∷ []), nat_list_eq_equiv.symm market s, serves_one-push served markets market)
+    let more = list_any-append (λ m. is_same_market m s) markets (market ∷ []) in
+    grind (arith, more, nat_list_eq_equiv.symm market s, serves_one-push served markets market)
 
 -- none serves no market
 serves_one-none : (served : List (List ℕ)) → serves_one served [] ≡ false
@@ -139,7 +141,8 @@ pub serving-more : (parties : List (List (List ℕ))) (test : ℕ → Bool) (mar
     → those (λ party. (test party || serves_one (served_by parties party) (take i markets)) || is_found found party) n
     ≡ those (λ party. test party || serves_one (served_by parties party) (take (i + 1) markets)) n
 serving-more parties test markets i market n found lt at serves all =
-    those-agree _ _ n (λ x below. rw (take_more markets i market lt, ← at, serves_one-push (served_by parties x) (take i markets) market, ← agrees x below)
+    those-agree _ _ n (λ x below.
+    rw (take_more markets i market lt, ← at, serves_one-push (served_by parties x) (take i markets) market, ← agrees x below)
     (or_assoc (test x) (serves_one (served_by parties x) (take i markets)) (is_found found x)))
   where
     agrees : (x : ℕ) → x < n → is_found found x ≡ has_market (served_by parties x) market

@@ -63,7 +63,8 @@ pub tables-push : (entries : List Entry) (entry : Entry) (old new : List (List �
     → ((batch : BatchKey) → linked_in new_links batch ≡ add_to is_same_batch (linked_in old_links batch) (link_in batch entry))
     → AreTables entries old old_links → AreTables (entries ++ entry ∷ []) new new_links
 tables-push entries entry old new old_links new_links products links tables = record {
-  are_catalogues = λ gtin. products gtin ∙ rw (tables.are_catalogues gtin, last_product-push entries entry gtin, batches-push entries entry gtin)
+  are_catalogues = λ gtin. products gtin
+      ∙ rw (tables.are_catalogues gtin, last_product-push entries entry gtin, batches-push entries entry gtin)
       (known-with (last_product entries gtin) (product_in gtin entry) (batches_of entries gtin) (listing_in gtin entry));
   are_links = λ batch. links batch ∙ rw (tables.are_links batch, links-push entries entry batch);
 }

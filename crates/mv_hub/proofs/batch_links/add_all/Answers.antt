@@ -5,5 +5,6 @@ use Rattle.mv_hub.proofs.batch_links.add_all.Goals as goal
 pub loop-batch-preserved : goal.loop-batch-preserved
 loop-batch-preserved c =
     let item = c.batch-item.result in
-    rw (take_more c.args.batches.now c.loop-batch.batch-index item c.loop-batch-test.true, ← c.batch-item.is, c.in_ok-insert.ensures.keys, c.copy.ensures)
+    let front = take_more c.args.batches.now c.loop-batch.batch-index item c.loop-batch-test.true in
+    rw (front, ← c.batch-item.is, c.in_ok-insert.ensures.keys, c.copy.ensures)
     (gathers-more _ _ _ item c.loop-batch.invariant)

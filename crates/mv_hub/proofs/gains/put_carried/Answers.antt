@@ -9,7 +9,8 @@ use Rattle.mv_hub.proofs.gains.put_carried.Goals as goal
 -- no party is left to get the item
 pub loop-item-init : goal.loop-item-init
 loop-item-init c = record {
-  row = λ item e. row-same (λ to lt. rw (drop_all (length c.args.carried.items) c.args.reached.now (omega (arith, c.requires.each)))) (row-none c.requires.square);
+  row = λ item e. row-same (λ to lt. rw (drop_all (length c.args.carried.items) c.args.reached.now (omega (arith, c.requires.each))))
+      (row-none c.requires.square);
   square = c.requires.square;
   rest = sym (take_all (length c.args.carried.items) c.args.carried.items (omega arith));
   within = omega arith;
@@ -39,13 +40,15 @@ loop-item-preserved c =
           sym last.0 ∙ rw (e, get_or-replicate (length reached) (length left) item c.in-Some.item (omega (arith, k, below))) in
           let pushed = rw (same, ← c.at_mut.ensures.value (new_sending 0)) at c.put_one.ensures in
           row-same (λ other lt. rw (more, carried-more reached c.len.result item other c.requires.ascending below, k))
-          (row-then (c.loop-item.invariant.row item e) (row-one c.loop-item.invariant.square c.requires.from (c.requires.within c.len.result below) pushed));
+          (row-then (c.loop-item.invariant.row item e)
+          (row-one c.loop-item.invariant.square c.requires.from (c.requires.within c.len.result below) pushed));
       square = square-put _ c.loop-item.links c.args.from to c.put_one.new.link c.loop-item.invariant.square;
       rest = last.1;
       within = omega (arith, last.2, c.loop-item.invariant.within);
       room = λ place lt.
           let before = AllPairs-from_increasing reached c.requires.ascending place c.len.result 0 (omega (arith, k, lt)) below in
-          rw (cell-put_other c.loop-item.links c.args.from to c.args.from (get_or reached place 0) c.put_one.new.link (new_sending 0) (inr (λ e. absurd (omega (arith, e, before)))))
+          rw (cell-put_other c.loop-item.links c.args.from to c.args.from (get_or reached place 0) c.put_one.new.link (new_sending 0)
+          (inr (λ e. absurd (omega (arith, e, before)))))
           (c.loop-item.invariant.room place (omega (arith, lt, last.2)));
     }
 

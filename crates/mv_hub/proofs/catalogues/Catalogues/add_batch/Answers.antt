@@ -8,7 +8,8 @@ use Rattle.mv_hub.proofs.catalogues.Catalogues.add_batch.Goals as goal
 -- the product was unknown
 pub returns-clause-ok : goal.returns-clause-ok
 returns-clause-ok c = λ other.
-    rw (← c.self.view_is) (grind (arith, c.in_ok-insert.ensures.updates.0 other, c.get_mut.follows.holds-at-none, c.in_ok-listed.ensures, c.in_default.ensures.value))
+    let written = c.in_ok-insert.ensures.updates.0 other in
+    rw (← c.self.view_is) (grind (arith, written, c.get_mut.follows.holds-at-none, c.in_ok-listed.ensures, c.in_default.ensures.value))
 
 -- it was known
 pub returns-in-Some-clause-ok : goal.returns-in-Some-clause-ok
@@ -19,6 +20,6 @@ returns-in-Some-clause-ok c = on_ok_weaker c.add.result (λ added other.
 -- what was read is put back
 pub returns-in-Some-clause-err : goal.returns-in-Some-clause-err
 returns-in-Some-clause-err c = on_err_weaker c.add.result (λ kept.
-    (c.get_mut.follows.holds _).0
-    ∙ set_value_same (is_same_gtin c.args.gtin) c.self.inside.table.entries c.add.new.self (sym c.in-Some.ensures.value ∙ ap (λ l. Some l) (sym kept))
+    let same = sym c.in-Some.ensures.value ∙ ap (λ l. Some l) (sym kept) in
+    (c.get_mut.follows.holds _).0 ∙ set_value_same (is_same_gtin c.args.gtin) c.self.inside.table.entries c.add.new.self same
     ∙ c.self.view_is) c.add.ensures.err

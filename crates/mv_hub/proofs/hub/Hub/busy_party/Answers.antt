@@ -18,7 +18,8 @@ pub returns-then-is_busy : goal.returns-then-is_busy
 unfolding busy_party
 returns-then-is_busy c =
     let found = find-next_some _ _ c.loop-to.to-index c.loop-to-test.true c.loop-to.invariant (sym c.is_busy.ensures ∙ c.if-is_busy.true) in
-    sym (sym (find-those _ _ _ c.gaining-gaining.ensures.others) ∙ ap (find _) (sym (c.as_slice-to-items.ensures.value ∙ c.gaining-gaining.ensures.those)) ∙ found)
+    let same = c.as_slice-to-items.ensures.value ∙ c.gaining-gaining.ensures.those in
+    sym (sym (find-those _ _ _ c.gaining-gaining.ensures.others) ∙ ap (find _) (sym same) ∙ found)
 
 pub returns : goal.returns
 unfolding busy_party

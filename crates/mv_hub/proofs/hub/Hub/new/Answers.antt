@@ -6,8 +6,10 @@ invariant_of-result c =
     let count = c.len-count.ensures.value in
     rw (c.new.ensures, c.in_ok-routed_counts.ensures.items_if_clones_equal (λ y e. e), count)
     (kept-new c.args.parties c.args.window _ _ c.len-count.ensures.some c.len-count.ensures.few c.requires
-    (rw count at c.in_ok-open_links.ensures.square) c.in_ok-open_links.ensures.each (rw count at c.in_ok-links.ensures.square) c.in_ok-links.ensures.each)
+    (rw count at c.in_ok-open_links.ensures.square) c.in_ok-open_links.ensures.each
+    (rw count at c.in_ok-links.ensures.square) c.in_ok-links.ensures.each)
 
 pub returns : goal.returns
 returns c =
-    rw c.new.ensures (view-new c.args.parties c.args.window _ (rw c.len-count.ensures.value at c.in_ok-links.ensures.square) c.in_ok-links.ensures.each)
+    rw c.new.ensures
+    (view-new c.args.parties c.args.window _ (rw c.len-count.ensures.value at c.in_ok-links.ensures.square) c.in_ok-links.ensures.each)

@@ -43,5 +43,6 @@ unfolding reach
 returns c =
     let hub = c.args.self.now in
     let all = take_all c.loop-to.to-index c.as_slice-to-items.result.now c.loop-to-test.false in
-    c.new.ensures ∙ rw (c.loop-to.invariant.found, all, c.as_slice-to-items.ensures.value, c.candidates-candidates.ensures, c.is_query-asks.ensures, filter-those)
+    let candidates = c.as_slice-to-items.ensures.value ∙ c.candidates-candidates.ensures in
+    c.new.ensures ∙ rw (c.loop-to.invariant.found, all, candidates, c.is_query-asks.ensures, filter-those)
     (those-agree _ _ (length hub.parties) (reached-candidate hub.parties hub.entries c.args.from c.args.message.now))

@@ -5,7 +5,8 @@ use Rattle.mv_hub.proofs.parties.Parties.add.Goals as goal
 pub insert-requires : goal.insert-requires
 insert-requires c =
     let found = rw (c.as_slice.ensures.value, c.in-Err.is) at c.binary_search.ensures.position in
-    let more = add-absent c.requires.ascending.0 _ c.args.party (length c.args.self.now) c.in-Err.place c.requires.ascending.1 c.requires.party found in
+    let more = add-absent c.requires.ascending.0 _ c.args.party (length c.args.self.now) c.in-Err.place
+    c.requires.ascending.1 c.requires.party found in
     let count = ap length c.self.view_is in
     (omega arith, (more.0, omega (arith, more.1, count, c.self.invariant.1)))
 

@@ -14,11 +14,12 @@ add-requires-clause-ascending c = (_, c.loop-market.invariant c.requires.0 c.req
 
 pub loop-market-preserved : goal.loop-market-preserved
 loop-market-preserved c = λ test e.
-    let more = serving-more c.args.self.now test c.args.markets.now c.loop-market.market-index c.market-item.result (length c.args.self.now) c.party_of.result
+    let n = length c.args.self.now in
+    let more = serving-more c.args.self.now test c.args.markets.now c.loop-market.market-index c.market-item.result n c.party_of.result
     c.loop-market-test.true c.market-item.is c.party_of.ensures.serves c.party_of.ensures.all in
     elim c.match-party_of.branch [
       | in-Some w ↦ ap (λ v. v.items) w.found-is ∙ w.add.ensures _ (c.loop-market.invariant test e) ∙ (rw w.in-Some.is at more)
-      | in_default w ↦ ap (λ v. v.items) w.found-is ∙ c.loop-market.invariant test e ∙ those-same _ (length c.args.self.now) ∙ (rw w.in_default.is at more)
+      | in_default w ↦ ap (λ v. v.items) w.found-is ∙ c.loop-market.invariant test e ∙ those-same _ n ∙ (rw w.in_default.is at more)
     ]
 
 pub returns : goal.returns

@@ -17,4 +17,5 @@ new-requires c =
 
 pub returns : goal.returns
 returns c =
-    c.new.ensures ∙ c.add_serving-2.ensures _ (c.add_serving.ensures (λ (party : ℕ). false) (c.new-found.ensures ∙ those-none (length c.args.self.now)))
+    c.new.ensures
+    ∙ c.add_serving-2.ensures _ (c.add_serving.ensures (λ (party : ℕ). false) (c.new-found.ensures ∙ those-none (length c.args.self.now)))

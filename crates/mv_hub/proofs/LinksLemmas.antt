@@ -1,17 +1,17 @@
 -- Links that gain items.
-use Rattle.std.proofs.Common.{◌≡◌, ℕ, ◌+◌, ◌-◌, ◌<◌, List, [], ◌∷◌, ◌++◌, cond, length, get_or, take, drop, sym, refl, ap, ◌∙◌, arith, inl, inr, append-nil, append_assoc, length-append, length-drop}
+use Rattle.std.proofs.Common.{◌≡◌, ℕ, ◌+◌, ◌<◌, List, [], ◌∷◌, ◌++◌, cond, length, get_or, take, drop, sym, refl, ap, ◌∙◌, arith, inl, inr, append-nil, append_assoc, length-append, length-drop}
 use Rattle.std.specs.Prelude.{◌==◌}
 use Rattle.std.specs.List.{list_any}
 use Rattle.std.specs.List.Sorted.{IsStrictlyIncreasing}
 use Rattle.std.proofs.lemmas.Bool.{cases_eq, eq-eqb, ne_eqb}
 use Rattle.std.proofs.lemmas.List.{get_or-take, get_or-drop, take-take, take_at, length_push, drop_more, get_or_push, get_or_default}
 use Rattle.std.proofs.lemmas.List.Kept.{AllPairs-from_increasing}
+use Rattle.std.proofs.lemmas.List.Folds.{list_any_none}
 use Rattle.mv_link.specs.declared.item.Item.{Item}
 use Rattle.mv_link.specs.Sending.{Sending, HasRoom, new_sending}
 use Rattle.mv_pairs.specs.Pairs.{put, IsSquare}
 use Rattle.mv_pairs.proofs.PairsLemmas.{cell-put_same, cell-put_other, square-put, put-map_same}
 use Rattle.mv_hub.specs.Kept.{link_at}
-use Rattle.std.proofs.lemmas.List.Folds.{list_any_none}
 use Rattle.mv_hub.specs.Gains.{PushesItems, PushesRow}
 
 -- what was taken off the end of a front of a list stands behind what is left

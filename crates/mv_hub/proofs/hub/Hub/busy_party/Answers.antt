@@ -1,6 +1,6 @@
 use Rattle.std.proofs.Common.{◌∙◌, length, take_all, ap, sym}
 use Rattle.std.specs.Prelude.{find}
-use Rattle.mv_hub.specs.Hub.{is_busy, busy_party}
+use Rattle.mv_hub.specs.Hub.{busy_party}
 use Rattle.mv_hub.proofs.NumberLemmas.{those-below, find-those, find-next_none, find-next_some}
 use Rattle.mv_hub.proofs.hub.Hub.busy_party.Goals as goal
 

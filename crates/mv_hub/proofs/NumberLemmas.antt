@@ -25,9 +25,9 @@ range-append a (suc m) n =
     rw count (ap (λ l. a ∷ l) (range-append (a + 1) m n ∙ ap (λ b. range_with_len (a + 1) m ++ range_with_len b n) place))
 
 -- the numbers below a count that pass ascend
-increasing-filter_range : (p : ℕ → Bool) (n : ℕ) → IsStrictlyIncreasing (filter p (range_with_len 0 n))
-increasing-filter_range p n =
-    IsStrictlyIncreasing-filter p (range_with_len 0 n) (λ k lt. grind (arith, get_or-range_with_len, length-range_with_len))
+pub increasing-those : (xs : List ℕ) (p : ℕ → Bool) (n : ℕ) → xs ≡ those p n → IsStrictlyIncreasing xs
+increasing-those xs p n e =
+    rw e (IsStrictlyIncreasing-filter p (range_with_len 0 n) (λ k lt. grind (arith, get_or-range_with_len, length-range_with_len)))
 
 none-from : (p : ℕ → Bool) (a m i : ℕ) → find p (range_with_len a m) ≡ None → a ≤ i → i < a + m → p i ≡ false
 none-from p a zero i none from upto = absurd (omega arith)
@@ -104,7 +104,7 @@ passing-insert p to a (suc m) from upto = by (p a) (λ above. passing-insert p t
 
 -- of the numbers below a count those that pass do not fall
 rising-those : (p : ℕ → Bool) (n i j : ℕ) → i ≤ j → j < length (those p n) → get_or (those p n) i 0 ≤ get_or (those p n) j 0
-rising-those p n i j = non_decreasing_from_sorted (those p n) (sorted_from_strictly_increasing (those p n) (increasing-filter_range p n)) i j 0
+rising-those p n i j = non_decreasing_from_sorted (those p n) (sorted_from_strictly_increasing (those p n) (increasing-those (those p n) p n refl)) i j 0
 
 -- a search among them, where the number that is sought is not there: put there it is one more that passes
 pub add-absent : (p : ℕ → Bool) (xs : List ℕ) (x n i : ℕ) → xs ≡ those p n → x < n → IsBinarySearchResult (λ y. nat_cmp y x) xs (Err i)
@@ -121,10 +121,6 @@ add-present p xs x n i e found =
     let s = searched (those p n) x (Ok i) (rw e at found) (rising-those p n) in
     let here : p x ≡ true = ap p (sym s.1) ∙ (passing-place p 0 n i s.0).2 in
     e ∙ those-agree p (λ other. p other || (other == x)) n (λ y lt. grind (arith, here, cases_eq y x))
-
--- those that pass ascend
-pub increasing-those : (xs : List ℕ) (p : ℕ → Bool) (n : ℕ) → xs ≡ those p n → IsStrictlyIncreasing xs
-increasing-those xs p n e = rw e (increasing-filter_range p n)
 
 -- no number passes a test that none does
 pub those-none : (n : ℕ) → [] ≡ those (λ x. false) n

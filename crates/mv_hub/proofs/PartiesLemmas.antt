@@ -10,7 +10,7 @@ use Rattle.std.proofs.Math.Bool.{or_assoc, or-false}
 use Rattle.mv_hub.specs.Parties.{is_same_market, has_market, has_twice, all_markets, serves_one, served_by}
 use Rattle.mv_hub.specs.PartySets.{those, FindsBelow}
 use Rattle.mv_hub.proofs.NumberLemmas.{those-agree}
-use Rattle.mv_hub.proofs.BatchLemmas.{text-same}
+use Rattle.mv_hub.proofs.ListingLemmas.{text-same}
 
 -- the markets of the first lists, and those of the others
 pub all_markets-append : (xs ys : List (List (List ℕ))) → all_markets (xs ++ ys) ≡ all_markets xs ++ all_markets ys

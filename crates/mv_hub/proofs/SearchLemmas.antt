@@ -7,7 +7,7 @@ use Rattle.std.proofs.lemmas.Map.Views.{Contains-from_any}
 use Rattle.mv_pack.specs.declared.key.BatchKey.{BatchKey}
 use Rattle.mv_hub.specs.BatchLinks.{is_same_batch, IsChain, IsReachedFrom}
 use Rattle.mv_hub.specs.Tables.{with_link, Gathers}
-use Rattle.mv_hub.proofs.BatchLemmas.{batch-same}
+use Rattle.mv_hub.proofs.ListingLemmas.{batch-same}
 
 none-in : (batch : BatchKey) → Contains [] batch → ⊥
 none-in batch (k, below, at) = omega (arith, below)

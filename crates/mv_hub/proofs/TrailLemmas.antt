@@ -16,8 +16,7 @@ use Rattle.mv_hub.specs.Catalogue.{catalogue_with, listing_in, batches_of}
 use Rattle.mv_hub.specs.Tables.{catalogue_in, with_product, with_listing, linked_in, listing_equiv}
 use Rattle.mv_hub.specs.BatchLinks.{is_same_batch, link_in, linked_to, IsChain, IsDescendant, IsReachedFrom}
 use Rattle.mv_hub.specs.Kept.{AreTables}
-use Rattle.mv_hub.proofs.BatchLemmas.{batch_equivalence, batch-same, listing-same}
-use Rattle.mv_hub.proofs.ListingLemmas.{add_to, distinct-named, members-distinct}
+use Rattle.mv_hub.proofs.ListingLemmas.{batch_equivalence, batch-same, listing-same, add_to, distinct-named, members-distinct}
 
 -- an empty record says nothing
 pub tables-none : AreTables [] [] []

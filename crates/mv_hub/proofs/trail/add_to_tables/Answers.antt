@@ -1,6 +1,6 @@
 use Rattle.std.proofs.Common.{◌∙◌, refl, sym, ap, arith}
 use Rattle.mv_hub.specs.Record.{product_of}
-use Rattle.mv_hub.proofs.BatchLemmas.{text-same, batch-same}
+use Rattle.mv_hub.proofs.ListingLemmas.{text-same, batch-same}
 use Rattle.mv_hub.proofs.TrailLemmas.{tables-push, tables-other}
 use Rattle.mv_hub.proofs.trail.add_to_tables.Goals as goal
 

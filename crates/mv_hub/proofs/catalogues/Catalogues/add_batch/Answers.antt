@@ -9,7 +9,7 @@ use Rattle.mv_hub.proofs.catalogues.Catalogues.add_batch.Goals as goal
 pub returns-clause-ok : goal.returns-clause-ok
 returns-clause-ok c = λ other.
     let written = c.in_ok-insert.ensures.updates.0 other in
-    rw (← c.self.view_is) (grind (arith, written, c.get_mut.follows.holds-at-none, c.in_ok-listed.ensures, c.in_default.ensures.value))
+    rw (← c.self.view_is) (written ∙ rw (c.get_mut.follows.holds-at-none, c.in_ok-listed.ensures, ← c.in_default.ensures.value))
 
 -- it was known
 pub returns-in-Some-clause-ok : goal.returns-in-Some-clause-ok

@@ -8,7 +8,7 @@ pub returns-clause-ok : goal.returns-clause-ok
 returns-clause-ok c = λ product e other.
     let written = c.in_ok-insert.ensures.updates.0 other in
     let given = c.new-product.ensures ∙ ap product_of c.in_ok-share.ensures ∙ e in
-    rw (← c.self.view_is) (grind (arith, written, c.get_mut.follows.holds-at-none, c.new-listed.ensures, given, c.in_default.ensures.value))
+    rw (← c.self.view_is) (written ∙ rw (c.get_mut.follows.holds-at-none, c.new-listed.ensures, given, ← c.in_default.ensures.value))
 
 -- it was known
 pub returns-in-Some-clause-ok : goal.returns-in-Some-clause-ok

@@ -3,7 +3,6 @@ pub mod NumberLemmas
 pub mod PartiesLemmas
 pub mod LinksLemmas
 pub mod HubLemmas
-pub mod BatchLemmas
 pub mod SearchLemmas
 pub mod ListingLemmas
 pub mod TrailLemmas

@@ -1,14 +1,44 @@
--- Lists that hold each member once, as one more comes.
-use Rattle.std.proofs.Common.{◌≡◌, ℕ, Bool, true, false, ◌||◌, ◌&&◌, not, cond, List, [], ◌∷◌, ◌++◌, filter, Option, Some, None, sym, refl, ap, ◌∙◌, append-nil, eqb, eqb-true, true≢false}
-use Rattle.std.specs.Prelude.{nat_eq}
+-- Texts, batches and listings: when two are the same, the order of batches, and lists that hold each member once.
+use Rattle.std.proofs.Common.{◌≡◌, true, List, ℕ, Bool, false, not, cond, [], ◌∷◌, ◌++◌, filter, Option, Some, None, Contains, ◌↔◌, sym, refl, ap, ◌∙◌, append-nil, arith}
+use Rattle.std.specs.Cmp.{IsEquivalence, IsTotalOrder}
 use Rattle.std.specs.Cmp.Lexicographic.{pointwise}
+use Rattle.std.specs.Ordering.{eq_by_cmp}
+use Rattle.std.specs.Prelude.{nat_eq}
+use Rattle.std.proofs.lemmas.Bool.Decides.{Decides-and, Decides-eqb}
+use Rattle.std.proofs.lemmas.Slice.Eq.{bytes_eq-Decides}
 use Rattle.std.specs.List.{list_any, filter_map}
-use Rattle.std.proofs.lemmas.Bool.{and_parts, eq-eqb}
 use Rattle.std.proofs.lemmas.List.Elements.{filter-append, filter_map-append}
+use Rattle.std.proofs.lemmas.Map.Views.{any-filter_same, Contains-from_any, list_any-from_Contains}
 use Rattle.mv_pack.specs.declared.key.BatchKey.{BatchKey}
+use Rattle.mv_pack.specs.contracts.key.BatchKeyEq.TheImpl.Laws as equal
+use Rattle.mv_pack.specs.contracts.key.BatchKeyOrd.TheImpl.Laws as order
+use Rattle.mv_hub.specs.BatchLinks.{is_same_batch, batch_cmp}
 use Rattle.mv_hub.specs.Listing.{Listing, is_same_listing, distinct}
-use Rattle.mv_hub.specs.BatchLinks.{is_same_batch}
-use Rattle.mv_hub.proofs.BatchLemmas.{text-same}
+
+pub batch_equivalence : IsEquivalence is_same_batch
+batch_equivalence = equal.laws-law
+
+pub batch_order : IsTotalOrder batch_cmp
+batch_order = order.total-law
+
+pub batch_ties : (a b : BatchKey) → is_same_batch a b ≡ eq_by_cmp batch_cmp a b
+batch_ties = order.matches_eq-law
+
+-- texts that agree in each byte are the same
+pub text-same : (a b : List ℕ) → pointwise nat_eq a b ≡ true → a ≡ b
+text-same a b = (bytes_eq-Decides a b).0
+
+pub batch-same : (a b : BatchKey) → is_same_batch a b ≡ true → a ≡ b
+batch-same a b e =
+    let same = (Decides-and _ _ (bytes_eq-Decides a.gtin b.gtin) (bytes_eq-Decides a.batch b.batch)).0 e in
+    λ i. record { gtin = same.0 i; batch = same.1 i }
+
+pub listing-same : (a b : Listing) → is_same_listing a b ≡ true → a ≡ b
+listing-same a b e =
+    let years = Decides-and _ _ (bytes_eq-Decides a.0 b.0) (Decides-eqb a.1.year b.1.year) in
+    let months = Decides-and _ _ years (Decides-eqb a.1.month b.1.month) in
+    let same = (Decides-and _ _ months (Decides-eqb a.1.day b.1.day)).0 e in
+    λ i. (same.0.0.0 i, record { year = same.0.0.1 i; month = same.0.1 i; day = same.1 i })
 
 module _ {A : Type 0} (same : A → A → Bool) where
   -- one more member, where there is one, unless it is there
@@ -16,83 +46,34 @@ module _ {A : Type 0} (same : A → A → Bool) where
   add_to xs None = xs
   add_to xs (Some x) = cond (list_any (same x) xs) xs (xs ++ x ∷ [])
 
-  module _ (tells : (x y : A) → same x y ≡ true → x ≡ y) (own : (x : A) → same x x ≡ true) where
-    -- what is not the same is not so the other way round
-    apart : (x y : A) → same x y ≡ false → same y x ≡ false
-    apart x y e = by (same y x) refl
-      where
-        by : (b : Bool) → same y x ≡ b → b ≡ false
-        by false h = refl
-        by true h = absurd (true≢false (sym (own x) ∙ ap (same x) (sym (tells y x h)) ∙ e))
-
+  module _ (laws : IsEquivalence same) (tells : (x y : A) → same x y ≡ true → x ≡ y) where
     -- to leave out what is not the same as x leaves whether x is there
     any-others : (x y : A) (xs : List A) → same x y ≡ false → list_any (same x) (filter (λ z. not (same y z)) xs) ≡ list_any (same x) xs
-    any-others x y [] e = refl
-    any-others x y (z ∷ zs) e = by (same y z) refl (any-others x y zs e)
-      where
-        by : (b : Bool) → same y z ≡ b → list_any (same x) (filter (λ z. not (same y z)) zs) ≡ list_any (same x) zs
-            → list_any (same x) (cond (not b) (z ∷ filter (λ z. not (same y z)) zs) (filter (λ z. not (same y z)) zs)) ≡ (same x z || list_any (same x) zs)
-        by false h rest = ap (λ b. same x z || b) rest
-        by true h rest = rest ∙ ap (λ b. b || list_any (same x) zs) (sym (ap (same x) (sym (tells y z h)) ∙ e))
+    any-others x y xs e =
+        any-filter_same (same x) (λ z. not (same y z)) true
+        (λ z h. ap (λ w. not (same y w)) (sym (tells x z h)) ∙ ap not (laws.symm y x ∙ e)) xs
 
     -- the members, each once, once one more comes
     pub distinct-push : (xs : List A) (x : A) → distinct same (xs ++ x ∷ []) ≡ add_to (distinct same xs) (Some x)
     distinct-push [] x = refl
     distinct-push (y ∷ ys) x =
-        ap (λ l. y ∷ filter (λ z. not (same y z)) l) (distinct-push ys x) ∙ by (same x y) refl (list_any (same x) (distinct same ys)) refl
-      where
-        others : A → Bool
-        others z = not (same y z)
-
-        by : (here : Bool) → same x y ≡ here → (later : Bool) → list_any (same x) (distinct same ys) ≡ later
-            → y ∷ filter (λ z. not (same y z)) (cond later (distinct same ys) (distinct same ys ++ x ∷ []))
-            ≡ cond (here || list_any (same x) (filter (λ z. not (same y z)) (distinct same ys)))
-            (y ∷ filter (λ z. not (same y z)) (distinct same ys)) ((y ∷ filter (λ z. not (same y z)) (distinct same ys)) ++ x ∷ [])
-        by true e true h = refl
-        by true e false h =
-            ap (λ l. y ∷ l) (filter-append (λ z. not (same y z)) (distinct same ys) (x ∷ [])
-            ∙ ap (λ b. filter (λ z. not (same y z)) (distinct same ys) ++ cond (not b) (x ∷ []) []) (ap (same y) (tells x y e) ∙ own y)
-            ∙ append-nil (filter (λ z. not (same y z)) (distinct same ys)))
-        by false e true h =
-            ap (λ b. cond b (y ∷ filter (λ z. not (same y z)) (distinct same ys)) ((y ∷ filter (λ z. not (same y z)) (distinct same ys)) ++ x ∷ []))
-            (sym (any-others x y (distinct same ys) e ∙ h))
-        by false e false h =
-            ap (λ l. y ∷ l) (filter-append (λ z. not (same y z)) (distinct same ys) (x ∷ [])
-            ∙ ap (λ b. filter (λ z. not (same y z)) (distinct same ys) ++ cond (not b) (x ∷ []) []) (apart x y e))
-            ∙ ap (λ b. cond b (y ∷ filter (λ z. not (same y z)) (distinct same ys)) ((y ∷ filter (λ z. not (same y z)) (distinct same ys)) ++ x ∷ []))
-            (sym (any-others x y (distinct same ys) e ∙ h))
+        let front = distinct same ys in
+        let kept = filter-append (λ z. not (same y z)) front (x ∷ []) in
+        grind (arith, distinct-push ys x, kept, any-others x y front, laws.symm x y, append-nil {A = A})
 
     -- the members that a list names, each once, once one more stands at its end
     pub distinct-named : {E : Type 0} (named : E → Option A) (entries : List E) (entry : E)
         → distinct same (filter_map named (entries ++ entry ∷ [])) ≡ add_to (distinct same (filter_map named entries)) (named entry)
     distinct-named named entries entry =
-        ap (distinct same) (filter_map-append named entries (entry ∷ [])) ∙ by (named entry)
-      where
-        by : (o : Option A) → distinct same (filter_map named entries ++ filter_map (λ (o : Option A). o) (o ∷ []))
-            ≡ add_to (distinct same (filter_map named entries)) o
-        by None = ap (distinct same) (append-nil (filter_map named entries))
-        by (Some x) = distinct-push (filter_map named entries) x
+        grind (arith, filter_map-append named entries (entry ∷ []), append-nil {A = A}, distinct-push (filter_map named entries))
 
-pub listing-same : (a b : Listing) → is_same_listing a b ≡ true → a ≡ b
-listing-same a b e =
-    let years = eqb a.1.year b.1.year in
-    let months = eqb a.1.month b.1.month in
-    let days = eqb a.1.day b.1.day in
-    let text = pointwise nat_eq a.0 b.0 in
-    let third = and_parts ((text && years) && months) days e in
-    let second = and_parts (text && years) months third.0 in
-    let first = and_parts text years second.0 in
-    ap {A = List ℕ} {B = Listing} (λ t. (t, a.1)) (text-same a.0 b.0 first.0)
-    ∙ ap {A = ℕ} {B = Listing} (λ n. (b.0, record { year = n; month = a.1.month; day = a.1.day })) (eqb-true _ _ first.1)
-    ∙ ap {A = ℕ} {B = Listing} (λ n. (b.0, record { year = b.1.year; month = n; day = a.1.day })) (eqb-true _ _ second.1)
-    ∙ ap {A = ℕ} {B = Listing} (λ n. (b.0, record { year = b.1.year; month = b.1.month; day = n })) (eqb-true _ _ third.1)
+    any-distinct : (x : A) (xs : List A) → list_any (same x) (distinct same xs) ≡ list_any (same x) xs
+    any-distinct x [] = refl
+    any-distinct x (y ∷ ys) = grind (arith, any-others x y (distinct same ys), any-distinct x ys)
 
-pub text-own : (a : List ℕ) → pointwise nat_eq a a ≡ true
-text-own [] = refl
-text-own (x ∷ xs) = ap (λ b. b && pointwise nat_eq xs xs) (eq-eqb x x refl) ∙ text-own xs
-
-pub listing-own : (a : Listing) → is_same_listing a a ≡ true
-listing-own a = rw (text-own a.0, eq-eqb a.1.year a.1.year refl, eq-eqb a.1.month a.1.month refl, eq-eqb a.1.day a.1.day refl) refl
-
-pub batch-own : (a : BatchKey) → is_same_batch a a ≡ true
-batch-own a = rw (text-own a.gtin, text-own a.batch) refl
+    -- a list that holds each member once has the same members
+    pub members-distinct : (xs : List A) (x : A) → Contains (distinct same xs) x ↔ Contains xs x
+    members-distinct xs x = (
+      λ h. Contains-from_any tells x xs (sym (any-distinct x xs) ∙ list_any-from_Contains laws x (distinct same xs) h),
+      λ h. Contains-from_any tells x (distinct same xs) (any-distinct x xs ∙ list_any-from_Contains laws x xs h),
+    )

@@ -1,24 +1,15 @@
 -- What one more entry at the end of a record changes.
-use Rattle.std.proofs.Common.{◌≡◌, ℕ, ◌*◌, ◌≤◌, Bool, true, false, List, [], ◌∷◌, ◌++◌, length, cond, eqb, sym, refl, ap, ◌∙◌, append_assoc, append-nil, arith, length-append}
-use Rattle.std.specs.Prelude.{◌&&◌}
+use Rattle.std.proofs.Common.{◌≡◌, ℕ, ◌*◌, ◌≤◌, false, List, [], ◌∷◌, ◌++◌, length, eqb, sym, refl, ap, ◌∙◌, append_assoc, append-nil, arith, length-append}
 use Rattle.mv_message.specs.declared.message.Message.{Message}
-use Rattle.mv_link.specs.declared.item.Item.{Item}
 use Rattle.mv_hub.specs.declared.entry.Entry.{Entry}
 use Rattle.mv_hub.specs.declared.entry.Entry.TheVariants.{Routed, Closed}
-use Rattle.mv_hub.specs.Record.{routed_from, routed_count, is_open}
-use Rattle.mv_hub.specs.Targets.{is_reached}
+use Rattle.mv_hub.specs.Record.{routed_from, routed_count}
 use Rattle.mv_hub.specs.Links.{gained, link_items_after, link_items}
-
--- a choice of what goes first
-cond-append : {A : Type 0} (b : Bool) (x : A) (xs ys : List A) → cond b (x ∷ xs) xs ++ ys ≡ cond b (x ∷ (xs ++ ys)) (xs ++ ys)
-cond-append true x xs ys = refl
-cond-append false x xs ys = refl
 
 pub routed_from-append : (before after : List Entry) (party : ℕ) → routed_from (before ++ after) party ≡ routed_from before party ++ routed_from after party
 routed_from-append [] after party = refl
 routed_from-append (Routed from k message ∷ before) after party =
-    ap (λ l. cond (eqb from party) (message ∷ l) l) (routed_from-append before after party)
-    ∙ sym (cond-append (eqb from party) message (routed_from before party) (routed_from after party))
+    grind (arith, routed_from-append before after party)
 routed_from-append (Closed from to ∷ before) after party = routed_from-append before after party
 
 link_items_after-append : (parties : List (List (List ℕ))) (before entries more : List Entry) (from to : ℕ)
@@ -27,9 +18,8 @@ link_items_after-append : (parties : List (List (List ℕ))) (before entries mor
 link_items_after-append parties before [] more from to =
     ap (λ b. link_items_after parties b more from to) (sym (append-nil before))
 link_items_after-append parties before (e ∷ entries) more from to =
-    ap (λ l. gained parties before e from to ++ l) (link_items_after-append parties (before ++ e ∷ []) entries more from to)
-    ∙ ap (λ b. gained parties before e from to ++ (link_items_after parties (before ++ e ∷ []) entries from to ++ link_items_after parties b more from to)) (append_assoc before (e ∷ []) entries)
-    ∙ sym (append_assoc (gained parties before e from to) (link_items_after parties (before ++ e ∷ []) entries from to) (link_items_after parties (before ++ (e ∷ entries)) more from to))
+    rw (link_items_after-append parties (before ++ e ∷ []) entries more from to, append_assoc before (e ∷ []) entries)
+    (sym (append_assoc (gained parties before e from to) _ _))
 
 -- one more entry puts on a link just what it gains
 pub link_items-push : (parties : List (List (List ℕ))) (entries : List Entry) (entry : Entry) (from to : ℕ)
@@ -44,14 +34,7 @@ pub gained-few : (parties : List (List (List ℕ))) (before : List Entry) (sende
     → length (gained parties before (Routed sender k message) from to) ≤ 2
 unfolding gained
 gained-few parties before sender k message from to =
-    few (eqb sender from) (eqb to from && is_open before from from) (is_reached parties before from message to) _ _
-  where
-    few : (a b c : Bool) (x y : Item) → length (cond a (cond b (x ∷ []) [] ++ cond c (y ∷ []) []) []) ≤ 2
-    few true true true x y = omega arith
-    few true true false x y = omega arith
-    few true false true x y = omega arith
-    few true false false x y = omega arith
-    few false b c x y = omega arith
+    grind arith
 
 -- a routed message of another party puts nothing on the link
 pub gained_other : (parties : List (List (List ℕ))) (before : List Entry) (sender k : ℕ) (message : Message) (from to : ℕ)
@@ -71,14 +54,14 @@ link_items_after-few parties before [] from to = omega arith
 link_items_after-few parties before (Closed a b ∷ entries) from to =
     rw (gained-closed parties before a b from to) (link_items_after-few parties (before ++ Closed a b ∷ []) entries from to)
 link_items_after-few parties before (Routed a k m ∷ entries) from to =
-    routed_one (eqb a from) refl (link_items_after-few parties (before ++ Routed a k m ∷ []) entries from to)
-  where
-    routed_one : (c : Bool) → eqb a from ≡ c
-        → length (link_items_after parties (before ++ Routed a k m ∷ []) entries from to) ≤ 2 * length (routed_from entries from)
-        → length (gained parties before (Routed a k m) from to ++ link_items_after parties (before ++ Routed a k m ∷ []) entries from to)
-        ≤ 2 * length (cond (eqb a from) (m ∷ routed_from entries from) (routed_from entries from))
-    routed_one true e h = rw e (omega (arith, length-append (gained parties before (Routed a k m) from to) (link_items_after parties (before ++ Routed a k m ∷ []) entries from to), gained-few parties before a k m from to))
-    routed_one false e h = rw (e, gained_other parties before a k m from to e) h
+    let rest = link_items_after parties (before ++ Routed a k m ∷ []) entries from to in
+    grind (
+      arith,
+      link_items_after-few parties (before ++ Routed a k m ∷ []) entries from to,
+      length-append (gained parties before (Routed a k m) from to) rest,
+      gained-few parties before a k m from to,
+      gained_other parties before a k m from to,
+    )
 
 -- a link carries at most two items for each message that was routed from its sender
 pub link_items-few : (parties : List (List (List ℕ))) (entries : List Entry) (from to : ℕ)

@@ -3,11 +3,11 @@ use Rattle.std.proofs.Common.{◌≡◌, ◌<◌, ◌≤◌, ◌+◌, ℕ, Bool,
 use Rattle.std.specs.List.{list_any}
 use Rattle.std.proofs.lemmas.List.{take_more, take-append-le}
 use Rattle.std.proofs.lemmas.List.Elements.{Contains-push, Contains-push_cases, Contains-append_left}
-use Rattle.indexmap.proofs.CallerLemmas.{Contains-list_any}
+use Rattle.std.proofs.lemmas.Map.Views.{Contains-from_any}
 use Rattle.mv_pack.specs.declared.key.BatchKey.{BatchKey}
 use Rattle.mv_hub.specs.BatchLinks.{is_same_batch, IsChain, IsReachedFrom}
 use Rattle.mv_hub.specs.Tables.{with_link, Gathers}
-use Rattle.mv_hub.proofs.BatchLemmas.{batch-same}
+use Rattle.mv_hub.proofs.ListingLemmas.{batch-same}
 
 none-in : (batch : BatchKey) → Contains [] batch → ⊥
 none-in batch (k, below, at) = omega (arith, below)
@@ -19,36 +19,29 @@ gathers-none old = record {
   members = λ batch. (λ h. inl h, elim [ inl h ↦ h | inr h ↦ absurd (none-in batch h) ]);
 }
 
+one-more : (xs : List BatchKey) (x batch : BatchKey) → Contains (xs ++ x ∷ []) batch ↔ (Contains xs batch ⊎ (x ≡ batch))
+one-more xs x batch = (
+  Contains-push_cases xs x batch,
+  elim [ inl h ↦ Contains-append_left xs (x ∷ []) batch h | inr e ↦ subst (Contains (xs ++ x ∷ [])) e (Contains-push xs x) ],
+)
+
+one-link : (xs : List BatchKey) (x batch : BatchKey) → Contains (with_link xs x) batch ↔ (Contains xs batch ⊎ (x ≡ batch))
+one-link xs x batch = by (list_any (is_same_batch x) xs) refl
+  where
+    by : (b : Bool) → list_any (is_same_batch x) xs ≡ b → Contains (cond b xs (xs ++ x ∷ [])) batch ↔ (Contains xs batch ⊎ (x ≡ batch))
+    by true e = (λ h. inl h, elim [ inl h ↦ h | inr same ↦ subst (Contains xs) same (Contains-from_any batch-same x xs e) ])
+    by false e = one-more xs x batch
+
 -- one more batch was
 pub gathers-more : (old more now : List BatchKey) (x : BatchKey) → Gathers old more now → Gathers old (more ++ x ∷ []) (with_link now x)
-gathers-more old more now x gathers = by (list_any (is_same_batch x) now) refl
+gathers-more old more now x gathers = record {
+  behind = by (list_any (is_same_batch x) now);
+  members = λ batch. grind (arith, one-link now x batch, one-more more x batch, gathers.members batch);
+}
   where
-    with_more : (new : List BatchKey) → ((batch : BatchKey) → Contains new batch → Contains now batch ⊎ (x ≡ batch))
-        → ((batch : BatchKey) → Contains now batch → Contains new batch) → Contains new x
-        → (batch : BatchKey) → Contains new batch ↔ (Contains old batch ⊎ Contains (more ++ x ∷ []) batch)
-    with_more new from into has batch = (
-      λ h. elim (from batch h) [
-        | inl h ↦ elim ((gathers.members batch).0 h) [ inl h ↦ inl h | inr h ↦ inr (Contains-append_left more (x ∷ []) batch h) ]
-        | inr e ↦ inr (subst (Contains (more ++ x ∷ [])) e (Contains-push more x))
-      ],
-      elim [
-        | inl h ↦ into batch ((gathers.members batch).1 (inl h))
-        | inr h ↦ elim (Contains-push_cases more x batch h) [
-          | inl h ↦ into batch ((gathers.members batch).1 (inr h))
-          | inr e ↦ subst (Contains new) e has
-        ]
-      ],
-    )
-
-    by : (b : Bool) → list_any (is_same_batch x) now ≡ b → Gathers old (more ++ x ∷ []) (cond b now (now ++ x ∷ []))
-    by true e = record {
-      behind = gathers.behind;
-      members = with_more now (λ batch h. inl h) (λ batch h. h) (Contains-list_any is_same_batch batch-same now x e);
-    }
-    by false e = record {
-      behind = (gathers.behind.0 ++ x ∷ [], ap (λ l. l ++ x ∷ []) gathers.behind.1 ∙ append_assoc old gathers.behind.0 (x ∷ []));
-      members = with_more (now ++ x ∷ []) (λ batch h. Contains-push_cases now x batch h) (λ batch h. Contains-append_left now (x ∷ []) batch h) (Contains-push now x);
-    }
+    by : (b : Bool) → (rest : List BatchKey) × (cond b now (now ++ x ∷ []) ≡ old ++ rest)
+    by true = gathers.behind
+    by false = (gathers.behind.0 ++ x ∷ [], ap (λ l. l ++ x ∷ []) gathers.behind.1 ∙ append_assoc old gathers.behind.0 (x ∷ []))
 
 -- Some batches were reached, and the batches that are linked to the first of them too.
 pub record IsSearching (links : BatchKey → List BatchKey) (batch : BatchKey) (next : ℕ) (reached : List BatchKey) : Type 0 where

@@ -116,6 +116,7 @@ impl Hub {
     }
 
     /// How many messages of a party were routed.
+    #[tactic(auto, using(crate::proofs::HubLemmas::routed_count_most))]
     pub fn routed_count(&self, from: Party) -> u32
         requires { from < length self.now.parties }
         ensures value { result ≡ routed_count self.now.entries from }

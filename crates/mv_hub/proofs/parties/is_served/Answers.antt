@@ -1,5 +1,4 @@
 use Rattle.std.proofs.Common.{◌∙◌, ◌+◌, sym, ap}
-use Rattle.mv_hub.specs.Parties.{has_market}
 use Rattle.mv_hub.proofs.PartiesLemmas.{has_market-lists_more, has_market-lists_found}
 use Rattle.mv_hub.proofs.parties.is_served.Goals as goal
 
@@ -11,7 +10,7 @@ returns-then-has_market c =
     c.loop-list-test.true c.loop-list.invariant in
     let item = c.as_slice.ensures.value ∙ ap (λ v. v.items) c.list-item.is in
     sym (has_market-lists_found (λ list. list.items) c.args.lists.now (i + 1) c.args.market
-    (more ∙ ap (λ l. has_market l c.args.market) (sym item) ∙ sym c.has_market.ensures ∙ c.if-has_market.true))
+    (rw (more, ← item, ← c.has_market.ensures) c.if-has_market.true))
 
 pub loop-list-preserved : goal.loop-list-preserved
 loop-list-preserved c =
@@ -19,4 +18,4 @@ loop-list-preserved c =
     let more = has_market-lists_more (λ list. list.items) c.args.lists.now i c.list-item.result c.args.market
     c.loop-list-test.true c.loop-list.invariant in
     let item = c.as_slice.ensures.value ∙ ap (λ v. v.items) c.list-item.is in
-    more ∙ ap (λ l. has_market l c.args.market) (sym item) ∙ sym c.has_market.ensures ∙ c.if-has_market.false
+    rw (more, ← item, ← c.has_market.ensures) c.if-has_market.false

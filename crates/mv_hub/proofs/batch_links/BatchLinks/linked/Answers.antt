@@ -1,7 +1,5 @@
-use Rattle.std.proofs.Common.{◌∙◌, subst, ◌↔◌, Contains}
+use Rattle.std.proofs.Common.{◌∙◌}
 use Rattle.mv_hub.proofs.batch_links.BatchLinks.linked.Goals as goal
 
 pub returns-clause-members : goal.returns-clause-members
-returns-clause-members c = λ other.
-    subst (λ l. Contains c.ascending.result.items other ↔ Contains l other) (c.in_ok-list.ensures ∙ c.get.ensures)
-    (c.ascending.ensures.members other)
+returns-clause-members c = λ other. rw (c.in_ok-list.ensures ∙ c.get.ensures) at (c.ascending.ensures.members other)

@@ -1,11 +1,4 @@
-use Rattle.std.proofs.Common.{subst, Contains, ◌↔◌}
-use Rattle.std.specs.Prelude.{IfOk}
-use Rattle.mv_pack.specs.declared.key.BatchKey.{BatchKey}
-use Rattle.mv_hub.specs.BatchLinks.{linked_to}
-use Rattle.mv_hub.specs.Hub.{HubState}
 use Rattle.mv_hub.proofs.hub.Hub.linked.Goals as goal
 
 pub returns-clause-members : goal.returns-clause-members
-returns-clause-members c =
-    subst (λ (h : HubState). IfOk c.linked.result (λ list. (other : BatchKey) → Contains list.items other ↔ Contains (linked_to h.entries c.args.batch.now) other))
-    c.self.view_is c.linked.ensures.members
+returns-clause-members c = rw (← c.self.view_is) c.linked.ensures.members

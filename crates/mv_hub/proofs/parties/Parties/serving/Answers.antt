@@ -8,7 +8,7 @@ add_serving-requires c = ((λ (party : ℕ). false), c.new-found.ensures ∙ tho
 
 pub new-requires : goal.new-requires
 new-requires c =
-    increasing-those c.add_serving.new.found.items (λ party. false || serves_one (served_by c.args.self.now party) c.args.markets.now) (length c.args.self.now)
+    increasing-those _ (λ party. false || serves_one (served_by c.args.self.now party) c.args.markets.now) (length c.args.self.now)
     (c.add_serving.ensures (λ (party : ℕ). false) (c.new-found.ensures ∙ those-none (length c.args.self.now)))
 
 pub returns : goal.returns

@@ -1,9 +1,9 @@
 -- What one more entry at the end of a record changes.
-use Rattle.std.proofs.Common.{◌≡◌, ℕ, ◌*◌, ◌≤◌, false, List, [], ◌∷◌, ◌++◌, length, eqb, sym, refl, ap, ◌∙◌, append_assoc, append-nil, arith, length-append}
+use Rattle.std.proofs.Common.{◌≡◌, ℕ, false, List, [], ◌∷◌, ◌++◌, eqb, sym, refl, ap, ◌∙◌, append_assoc, append-nil, arith}
 use Rattle.mv_message.specs.declared.message.Message.{Message}
 use Rattle.mv_hub.specs.declared.entry.Entry.{Entry}
 use Rattle.mv_hub.specs.declared.entry.Entry.TheVariants.{Routed, Closed}
-use Rattle.mv_hub.specs.Record.{routed_from, routed_count}
+use Rattle.mv_hub.specs.Record.{routed_from}
 use Rattle.mv_hub.specs.Links.{gained, link_items_after, link_items}
 
 pub routed_from-append : (before after : List Entry) (party : ℕ) → routed_from (before ++ after) party ≡ routed_from before party ++ routed_from after party
@@ -29,13 +29,6 @@ link_items-push parties entries entry from to =
     link_items_after-append parties [] entries (entry ∷ []) from to
     ∙ ap (λ l. link_items_after parties [] entries from to ++ l) (append-nil (gained parties entries entry from to))
 
--- an entry puts at most two items on a link
-pub gained-few : (parties : List (List (List ℕ))) (before : List Entry) (sender k : ℕ) (message : Message) (from to : ℕ)
-    → length (gained parties before (Routed sender k message) from to) ≤ 2
-unfolding gained
-gained-few parties before sender k message from to =
-    grind arith
-
 -- a routed message of another party puts nothing on the link
 pub gained_other : (parties : List (List (List ℕ))) (before : List Entry) (sender k : ℕ) (message : Message) (from to : ℕ)
     → eqb sender from ≡ false → gained parties before (Routed sender k message) from to ≡ []
@@ -47,24 +40,3 @@ pub gained-closed : (parties : List (List (List ℕ))) (before : List Entry) (se
     → gained parties before (Closed sender receiver) from to ≡ []
 unfolding gained
 gained-closed parties before sender receiver from to = refl
-
-link_items_after-few : (parties : List (List (List ℕ))) (before entries : List Entry) (from to : ℕ)
-    → length (link_items_after parties before entries from to) ≤ 2 * routed_count entries from
-link_items_after-few parties before [] from to = omega arith
-link_items_after-few parties before (Closed a b ∷ entries) from to =
-    rw (gained-closed parties before a b from to) (link_items_after-few parties (before ++ Closed a b ∷ []) entries from to)
-link_items_after-few parties before (Routed a k m ∷ entries) from to =
-    let rest = link_items_after parties (before ++ Routed a k m ∷ []) entries from to in
-    grind (
-      arith,
-      link_items_after-few parties (before ++ Routed a k m ∷ []) entries from to,
-      length-append (gained parties before (Routed a k m) from to) rest,
-      gained-few parties before a k m from to,
-      gained_other parties before a k m from to,
-    )
-
--- a link carries at most two items for each message that was routed from its sender
-pub link_items-few : (parties : List (List (List ℕ))) (entries : List Entry) (from to : ℕ)
-    → length (link_items parties entries from to) ≤ 2 * routed_count entries from
-unfolding link_items
-link_items-few parties entries from to = link_items_after-few parties [] entries from to

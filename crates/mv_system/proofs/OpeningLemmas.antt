@@ -64,18 +64,12 @@ opening_kept parties limits wires some few bounds square empty =
           (λ k d lt j e below. subst (λ (w : WireState). All of w.frames) (sym (empty k d lt j e below)) (All-nil of)) (All-nil of);
     }
 
--- what opens of these parts is the opening, and keeps what the system keeps
-pub record Opens (parties : List (List (List ℕ))) (limits : Bounds) (p : Parts) : Type 0 where
-  pub kept : IsSystem p
-  pub is : state_of p ≡ opening parties limits
-
+-- what opens of these parts keeps what the system keeps, and is the opening
 pub opens : (parties : List (List (List ℕ))) (limits : Bounds) (hub : HubState) (sites : List SiteState) (wires : List (List WireState)) (n size limit : ℕ)
     → n ≡ length parties → size ≡ limits.wire → limit ≡ limits.submissions → hub ≡ new_hub parties limits.window → sites ≡ opening_sites n limit
-    → 1 ≤ length parties → length parties ≤ PARTIES_LIMIT → AreBounds limits → IsSquare n wires → All (All (λ w. w ≡ new_wire size)) wires → Opens parties limits (parts_of limits hub sites wires)
+    → 1 ≤ length parties → length parties ≤ PARTIES_LIMIT → AreBounds limits → IsSquare n wires → All (All (λ w. w ≡ new_wire size)) wires
+    → IsSystem (parts_of limits hub sites wires) × (state_of (parts_of limits hub sites wires) ≡ opening parties limits)
 opens parties limits hub sites wires n size limit count wire most hub_is sites_are some few bounds square empty =
     let square = rw count at square in
     let empty = rw wire at empty in
-    rw (hub_is, sites_are, count, most) (record {
-      kept = opening_kept parties limits wires some few bounds square empty;
-      is = opening_is parties limits wires square empty;
-    })
+    rw (hub_is, sites_are, count, most) (opening_kept parties limits wires some few bounds square empty, opening_is parties limits wires square empty)

@@ -46,11 +46,6 @@ route_row {p} from message k place next =
     λ i. find (λ to. busy_is_full p from to message k place i) (range_with_len 0 (length p.hub.parties)) in
     (rw (party, next) (ap (route_unless (state_of p) from message) (sym full)), rw party)
 
--- where the hub routed, no link was full
-not_busy : (full : Option ℕ) → busy_fault full ≡ None → full ≡ None
-not_busy None e = refl
-not_busy (Some to) e = absurd (cc)
-
 -- the hub routes the message that waits as the row does
 pub routes : {p : Parts} (from : ℕ) (message : Message) (new : HubState) (result : Result (ℕ × List ℕ) RouteFault) → IsSystem p → from < length p.hub.parties
     → slice_get (submissions_of (state_of p) from) (routed_count p.hub.entries from) ≡ Some message
@@ -58,9 +53,10 @@ pub routes : {p : Parts} (from : ℕ) (message : Message) (new : HubState) (resu
     → OnOk result (new ≡ with_routed p.hub from message) → FailsBy Memory (route_fault p.hub from message) result
     → IfOk result (λ routed. route (state_of p) from ≡ record { reply = Routed routed.0 routed.1; state = state_of (record p { hub = new }) })
 routes from message new (Err fault) k place next number reached ok fails = tt
-routes from message new (Ok routed) k place next number reached ok fails =
+routes {p} from message new (Ok routed) k place next number reached ok fails =
     let row = route_row from message k place next in
-    rw (row.0, not_busy _ (sym row.1 ∙ fails), number, reached, ok)
+    let free : busy_party p.hub from message ≡ None = grind (arith, row.1, fails) in
+    rw (row.0, free, number, reached, ok)
 
 -- the hub refuses the message that waits as the row does
 pub route_refused : {p : Parts} (from : ℕ) (message : Message) (new : HubState) (result : Result (ℕ × List ℕ) RouteFault) → IsSystem p → from < length p.hub.parties

@@ -65,13 +65,9 @@ pub route_refused : {p : Parts} (from : ℕ) (message : Message) (new : HubState
     → IfErr result (λ fault. Meets (state_of p) (route (state_of p) from) (Refused (route_refusal_of fault)) (state_of (record p { hub = new })))
 unfolding Meets
 route_refused from message new (Ok routed) k place next err fails = tt
-route_refused {p} from message new (Err fault) k place next err fails =
+route_refused from message new (Err fault) k place next err fails =
     let row = route_row from message k place next in
-    rw (err, row.0, fails ∙ ap (λ f. unwrap_or f Memory) row.1) (by (busy_party p.hub from message))
-  where
-    by : (full : Option ℕ) → Meets (state_of p) (route_unless (state_of p) from message full) (Refused (route_refusal_of (unwrap_or (busy_fault full) Memory))) (state_of p)
-    by None = (refl, refl)
-    by (Some to) = (refl, refl)
+    rw (err, row.0) (grind (arith, row.1, fails))
 
 -- where the hub closed a link, it was open
 pub close_told : (h : HubState) (from to : ℕ) → close_fault h from to ≡ None → is_open h.entries from to ≡ true

@@ -111,9 +111,10 @@ pub record LinkFacts (p : Parts) (st : State) (from to : ℕ) (wire : WireState)
   pub frames : All (IsFrameOf (items_on p.hub from to)) wire.frames
   pub fits : FitsWire p.limits.wire wire
 
-pub link_facts : {p : Parts} {st : State} {wire : WireState} (from to : ℕ) → IsSystem p → state_of p ≡ st → IsTrue (are_parties st from to) → wire_at p.wires from to ≡ wire
-    → LinkFacts p st from to wire
-link_facts {p} {wire = wire} from to k view both at =
+pub link_facts : {p : Parts} {st : State} {wire : WireState} (from to : ℕ) → IsSystem p → state_of p ≡ st → IsTrue (are_parties st from to)
+    → ((d : WireState) → cell p.wires from to d ≡ wire) → LinkFacts p st from to wire
+link_facts {p} {wire = wire} from to k view both read =
+    let at = read (new_wire 0) in
     let places = parties-places from to k view both in
     let seen = ap (λ (v : WireState). numbers_of v.frames) (sym at) ∙ sym (wires_at p.wires from to) ∙ ap (λ (t : State). wire_of t from to) view in
     record {

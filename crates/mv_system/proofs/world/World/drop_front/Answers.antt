@@ -1,13 +1,12 @@
-use Rattle.mv_system.specs.Wire.{new_wire}
 use Rattle.mv_system.proofs.SystemLemmas.{link_facts, front_dropped}
 use Rattle.mv_system.proofs.world.World.drop_front.Goals as goal
 
 pub invariant_of-self : goal.invariant_of-self
 invariant_of-self c =
-    let facts = link_facts c.args.from c.args.to c.self.invariant c.self.view_is c.requires (c.at_mut-wire.ensures.value (new_wire 0)) in
+    let facts = link_facts c.args.from c.args.to c.self.invariant c.self.view_is c.requires c.at_mut-wire.ensures.value in
     (front_dropped facts c.drop_front.new.self c.drop_front.ensures).0
 
 pub returns : goal.returns
 returns c =
-    let facts = link_facts c.args.from c.args.to c.self.invariant c.self.view_is c.requires (c.at_mut-wire.ensures.value (new_wire 0)) in
+    let facts = link_facts c.args.from c.args.to c.self.invariant c.self.view_is c.requires c.at_mut-wire.ensures.value in
     (front_dropped facts c.drop_front.new.self c.drop_front.ensures).1

@@ -1,24 +1,22 @@
 -- The hub's routing against the row of the list machine.
-use Rattle.std.proofs.Common.{◌≡◌, ℕ, ◌+◌, ◌-◌, ◌<◌, Bool, true, false, List, [], ◌∷◌, length, cond, Some, None, Option, Ok, Err, sym, refl, ap, ◌∙◌, subst, arith}
-use Rattle.std.specs.Prelude.{slice_get, find, nat_lt, not, ◌||◌, ◌&&◌, unwrap_or, Result, IfOk, IfErr, OnOk, OnErr}
+use Rattle.std.proofs.Common.{◌≡◌, ℕ, ◌+◌, ◌<◌, true, false, List, length, Some, None, Ok, Err, sym, ap, arith}
+use Rattle.std.specs.Prelude.{slice_get, find, nat_lt, Result, IfOk, IfErr, OnOk, OnErr}
 use Rattle.std.specs.List.{range_with_len}
 use Rattle.std.proofs.lemmas.Bool.{le-ltb, lt-ltb}
 use Rattle.mv_message.specs.declared.message.Message.{Message}
-use Rattle.mv_hub.specs.declared.fault.HubFault.TheVariants as hub
 use Rattle.mv_hub.specs.declared.fault.RouteFault.{RouteFault}
-use Rattle.mv_hub.specs.declared.fault.RouteFault.TheVariants.{StrangerParty, Memory}
+use Rattle.mv_hub.specs.declared.fault.RouteFault.TheVariants.{Memory}
 use Rattle.mv_hub.specs.Record.{routed_count, is_open}
 use Rattle.mv_link.specs.Fault.{FailsBy}
 use Rattle.mv_link.specs.declared.limits.TheConstants.{NUMBER_LIMIT}
 use Rattle.mv_hub.specs.Targets.{reach}
-use Rattle.mv_hub.specs.Hub.{HubState, with_routed, sent_of, items_on, next_items, is_busy, busy_party, busy_fault, route_fault, close_fault}
+use Rattle.mv_hub.specs.Hub.{HubState, with_routed, items_on, next_items, is_busy, busy_party, busy_fault, route_fault, close_fault}
 use Rattle.mv_hub.proofs.RecordLemmas.{link_items-few, gained-few}
 use Rattle.mv_machine.specs.declared.reply.Reply.TheVariants.{Routed, Refused}
-use Rattle.mv_machine.specs.declared.reply.Refusal.TheVariants.{Party}
 use Rattle.mv_machine.specs.Replies.{route_refusal_of}
 use Rattle.mv_machine.specs.Runs.{Meets}
-use Rattle.mv_machine.specs.State.{State, is_party, submissions_of}
-use Rattle.mv_machine.specs.Steps.{Answered, refused, is_full, route_unless, route_front, route}
+use Rattle.mv_machine.specs.State.{is_party, submissions_of}
+use Rattle.mv_machine.specs.Steps.{is_full, route_unless, route}
 use Rattle.mv_machine.proofs.BoundLemmas.{routed_count-few}
 use Rattle.mv_system.specs.World.{Parts, state_of, IsSystem}
 use Rattle.mv_system.proofs.SystemLemmas.{submissions-few}

@@ -1,6 +1,6 @@
 -- What the parts of the system say of the list machine's lists, and what each change of a part keeps.
-use Rattle.std.proofs.Common.{◌≡◌, ℕ, zero, suc, ◌+◌, ◌-◌, ◌<◌, ◌≤◌, Bool, List, [], ◌∷◌, ◌++◌, length, get_or, set, map, Some, sym, refl, ap, ◌∙◌, subst, arith, length-append, length-drop, drop, ltb-true}
-use Rattle.std.specs.Prelude.{All, slice_get, option_map, IsTrue, nat_lt, None, Option, Result, Ok, Err, IfOk, OnOk, OnErr, IsErrOf}
+use Rattle.std.proofs.Common.{◌≡◌, ℕ, ◌+◌, ◌-◌, ◌<◌, ◌≤◌, Bool, List, [], ◌∷◌, ◌++◌, length, get_or, set, map, Some, sym, refl, ap, ◌∙◌, subst, arith, length-append, length-drop, drop, ltb-true}
+use Rattle.std.specs.Prelude.{All, slice_get, option_map, IsTrue, None, Option, Result, Ok, Err, IfOk, OnOk, OnErr, IsErrOf}
 use Rattle.std.proofs.lemmas.Bool.{and_parts}
 use Rattle.std.proofs.Math.ListN.{get_or-map}
 use Rattle.std.proofs.lemmas.List.{set-get_or, get_or_read, length-map, map-set}
@@ -15,13 +15,11 @@ use Rattle.mv_link.specs.Frames.{IsFrameOf}
 use Rattle.mv_pairs.specs.Pairs.{cell, put, IsSquare}
 use Rattle.mv_pairs.proofs.PairsLemmas.{put-each, put-each_pair, square-put, square-map, cell-map, put-map}
 use Rattle.mv_hub.specs.declared.entry.Entry.{Entry}
-use Rattle.mv_hub.specs.Record.{routed_count}
 use Rattle.mv_hub.specs.Hub.{HubState, items_on}
 use Rattle.mv_link.specs.declared.limits.TheConstants.{NUMBER_LIMIT}
 use Rattle.mv_link.proofs.LinkLemmas.{of_longer}
 use Rattle.mv_hub.specs.Links.{link_items}
 use Rattle.mv_hub.proofs.RecordLemmas.{link_items-push}
-use Rattle.mv_repository.specs.declared.entry.LogEntry.{LogEntry}
 use Rattle.mv_repository.specs.Query.{answer_to}
 use Rattle.mv_party.specs.declared.fault.SiteFault.{SiteFault}
 use Rattle.mv_party.specs.declared.fault.SiteFault.TheVariants.{Memory}

@@ -1,6 +1,5 @@
 -- The frame bears the item of its number, and the party takes or refuses it as the list machine's does.
-use Rattle.std.proofs.Common.{refl, sym, ap, subst, ◌∙◌}
-use Rattle.std.specs.Prelude.{slice_get, option_map, IsSome}
+use Rattle.std.proofs.Common.{arith, refl, sym, ap, ◌∙◌}
 use Rattle.std.specs.Option.{option_copied}
 use Rattle.mv_party.specs.Site.{count_from}
 use Rattle.mv_link.specs.Receiving.{look_at}
@@ -12,9 +11,7 @@ use Rattle.mv_system.proofs.world.World.offer_front.Goals as goal
 pub unreachable-requires : goal.unreachable-requires
 unreachable-requires c =
     let link = link_facts c.args.from c.args.to c.self.invariant c.self.view_is c.requires.parties c.at.ensures in
-    let none = ap (λ l. slice_get l 0) (sym link.seen) ∙ numbers_of-front c.at.result.now.frames ∙ ap (option_map (λ f. f.number)) (sym c.front.ensures ∙ ap option_copied c.in_default.is) in
-    let some = subst (λ o. IsSome o) none c.requires.some in
-    absurd (cc)
+    grind (arith, link.seen, numbers_of-front, c.requires.some)
 
 pub invariant_of-self : goal.invariant_of-self
 invariant_of-self c =

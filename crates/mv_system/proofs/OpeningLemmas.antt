@@ -1,22 +1,20 @@
 -- The system where nothing has happened.
-use Rattle.std.proofs.Common.{◌≡◌, ℕ, zero, suc, ◌+◌, ◌<◌, ◌≤◌, List, [], ◌∷◌, ◌++◌, length, get_or, map, add-zero, add-one, zero-add, sym, refl, ap, ◌∙◌, subst, arith}
+use Rattle.std.proofs.Common.{◌≡◌, ℕ, zero, suc, ◌+◌, ◌≤◌, List, [], ◌∷◌, length, map, sym, refl, ap, subst, arith}
 use Rattle.std.specs.Prelude.{replicate}
 use Rattle.std.specs.List.{range_with_len, All}
 use Rattle.std.proofs.lemmas.List.Elements.{All-nil}
 use Rattle.std.proofs.lemmas.List.FromFn.{get_or-map-range_with_len}
-use Rattle.mv_message.specs.declared.message.Message.{Message}
 use Rattle.mv_pairs.specs.Pairs.{IsSquare}
 use Rattle.mv_pairs.proofs.PairsLemmas.{table-all, cell-all, cell-any}
 use Rattle.mv_hub.specs.Hub.{HubState, new_hub, items_on}
-use Rattle.mv_repository.specs.declared.entry.LogEntry.{LogEntry}
 use Rattle.mv_party.specs.Site.{SiteState, new_site}
 use Rattle.mv_machine.specs.Limits.{Bounds, AreBounds}
-use Rattle.mv_machine.specs.State.{State, opening}
+use Rattle.mv_machine.specs.State.{opening}
 use Rattle.mv_machine.proofs.LawfulLemmas.{IsSound, opening-sound}
 use Rattle.mv_system.specs.Wire.{WireState, new_wire, numbers_of}
 use Rattle.mv_link.specs.declared.limits.TheConstants.{PARTIES_LIMIT}
 use Rattle.mv_link.specs.Frames.{IsFrameOf}
-use Rattle.mv_system.specs.World.{Parts, parts_of, state_of, FitsWire, IsSiteAt, IsSystem}
+use Rattle.mv_system.specs.World.{Parts, parts_of, state_of, IsSystem}
 
 -- the parties that a system opens with
 abbrev pub opening_sites : ℕ → ℕ → List SiteState
@@ -51,12 +49,10 @@ opening_kept parties limits wires some few bounds square empty =
       parties_most = few;
       window = refl;
       bounds = bounds;
-      sites = λ party lt. subst (IsSiteAt limits (length parties) party)
-          (sym (get_or-map-range_with_len (λ party. new_site party (length parties) limits.submissions) 0 (length parties) party party (new_site 0 0 0) lt (omega arith)))
+      sites = λ party lt. rw (get_or-map-range_with_len (λ party. new_site party (length parties) limits.submissions) 0 (length parties) party party (new_site 0 0 0) lt (omega arith))
           (record { party_is = refl; parties_are = refl; limit_is = refl; few = omega arith });
       wires_square = square;
-      wires_fit = λ from to from_lt to_lt.
-          subst (FitsWire limits.wire) (sym (cell-all (λ w. w ≡ new_wire limits.wire) (length parties) wires from to (new_wire 0) square empty from_lt to_lt))
+      wires_fit = λ from to from_lt to_lt. rw (cell-all (λ w. w ≡ new_wire limits.wire) (length parties) wires from to (new_wire 0) square empty from_lt to_lt)
           (record { size = refl; within = omega arith });
       frames = λ from to.
           let of = IsFrameOf (items_on (new_hub parties limits.window) from to) in
@@ -64,18 +60,12 @@ opening_kept parties limits wires some few bounds square empty =
           (λ k d lt j e below. subst (λ (w : WireState). All of w.frames) (sym (empty k d lt j e below)) (All-nil of)) (All-nil of);
     }
 
--- what opens of these parts is the opening, and keeps what the system keeps
-pub record Opens (parties : List (List (List ℕ))) (limits : Bounds) (p : Parts) : Type 0 where
-  pub kept : IsSystem p
-  pub is : state_of p ≡ opening parties limits
-
+-- what opens of these parts keeps what the system keeps, and is the opening
 pub opens : (parties : List (List (List ℕ))) (limits : Bounds) (hub : HubState) (sites : List SiteState) (wires : List (List WireState)) (n size limit : ℕ)
     → n ≡ length parties → size ≡ limits.wire → limit ≡ limits.submissions → hub ≡ new_hub parties limits.window → sites ≡ opening_sites n limit
-    → 1 ≤ length parties → length parties ≤ PARTIES_LIMIT → AreBounds limits → IsSquare n wires → All (All (λ w. w ≡ new_wire size)) wires → Opens parties limits (parts_of limits hub sites wires)
+    → 1 ≤ length parties → length parties ≤ PARTIES_LIMIT → AreBounds limits → IsSquare n wires → All (All (λ w. w ≡ new_wire size)) wires
+    → IsSystem (parts_of limits hub sites wires) × (state_of (parts_of limits hub sites wires) ≡ opening parties limits)
 opens parties limits hub sites wires n size limit count wire most hub_is sites_are some few bounds square empty =
     let square = rw count at square in
     let empty = rw wire at empty in
-    rw (hub_is, sites_are, count, most) (record {
-      kept = opening_kept parties limits wires some few bounds square empty;
-      is = opening_is parties limits wires square empty;
-    })
+    rw (hub_is, sites_are, count, most) (opening_kept parties limits wires some few bounds square empty, opening_is parties limits wires square empty)

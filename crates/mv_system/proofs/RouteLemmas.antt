@@ -1,14 +1,14 @@
 -- The hub's routing against the row of the list machine.
-use Rattle.std.proofs.Common.{◌≡◌, ℕ, ◌+◌, ◌<◌, Bool, true, false, List, length, cond, Some, None, Option, Ok, Err, sym, refl, ap, arith}
-use Rattle.std.specs.Prelude.{slice_get, nat_lt, unwrap_or, Result, IfOk, IfErr, OnOk, OnErr}
+use Rattle.std.proofs.Common.{◌≡◌, ℕ, ◌+◌, ◌<◌, true, List, length, Some, None, Ok, Err, sym, ap, arith}
+use Rattle.std.specs.Prelude.{slice_get, Result, IfOk, IfErr, OnOk, OnErr}
 use Rattle.std.proofs.lemmas.Bool.{lt-ltb}
 use Rattle.mv_message.specs.declared.message.Message.{Message}
 use Rattle.mv_hub.specs.declared.fault.RouteFault.{RouteFault}
-use Rattle.mv_hub.specs.declared.fault.RouteFault.TheVariants.{StrangerParty, Memory}
+use Rattle.mv_hub.specs.declared.fault.RouteFault.TheVariants.{Memory}
 use Rattle.mv_hub.specs.Record.{routed_count, is_open}
 use Rattle.mv_link.specs.Fault.{FailsBy}
 use Rattle.mv_hub.specs.Targets.{reach}
-use Rattle.mv_hub.specs.Hub.{HubState, with_routed, busy_party, busy_fault, route_fault, close_fault}
+use Rattle.mv_hub.specs.Hub.{HubState, with_routed, route_fault, close_fault}
 use Rattle.mv_machine.specs.declared.reply.Reply.TheVariants.{Routed, Refused}
 use Rattle.mv_machine.specs.Replies.{route_refusal_of}
 use Rattle.mv_machine.specs.Runs.{Meets}
@@ -49,14 +49,7 @@ pub route_refused : {p : Parts} (from : ℕ) (message : Message) (new : HubState
     → IfErr result (λ fault. Meets (state_of p) (route (state_of p) from) (Refused (route_refusal_of fault)) (state_of (record p { hub = new })))
 unfolding Meets route_fault
 route_refused from message new (Ok routed) k place next err fails = tt
-route_refused {p} from message new (Err fault) k place next err fails =
-    rw (err, route_row from message k place next, fails) (by (nat_lt from (length p.hub.parties)) (busy_party p.hub from message))
-  where
-    by : (in_reach : Bool) (full : Option ℕ) → let why = cond in_reach (busy_fault full) (Some StrangerParty) in
-        Meets (state_of p) (unless route_refusal_of why (state_of p) (routed_by (state_of p) from message)) (Refused (route_refusal_of (unwrap_or why Memory))) (state_of p)
-    by true None = (refl, refl)
-    by true (Some to) = (refl, refl)
-    by false full = (refl, refl)
+route_refused from message new (Err fault) k place next err fails = rw (err, route_row from message k place next) (grind (arith, fails))
 
 -- where the hub closed a link, it was open
 pub close_told : (h : HubState) (from to : ℕ) → close_fault h from to ≡ None → is_open h.entries from to ≡ true

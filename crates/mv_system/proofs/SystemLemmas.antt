@@ -1,10 +1,10 @@
 -- What the parts of the system say of the list machine's lists, and what each change of a part keeps.
-use Rattle.std.proofs.Common.{◌≡◌, ℕ, zero, suc, ◌+◌, ◌-◌, ◌<◌, ◌≤◌, Bool, List, [], ◌∷◌, ◌++◌, length, get_or, set, map, Some, sym, refl, ap, ◌∙◌, subst, arith, length-append, ltb-true}
-use Rattle.std.specs.Prelude.{All, slice_get, option_map, IsTrue, nat_lt, None, Option, Result, Ok, Err, IfOk, OnOk, OnErr, IsErrOf}
+use Rattle.std.proofs.Common.{◌≡◌, ℕ, ◌+◌, ◌-◌, ◌<◌, ◌≤◌, Bool, List, [], ◌∷◌, ◌++◌, length, get_or, set, map, Some, sym, refl, ap, ◌∙◌, subst, arith, length-append, length-drop, drop, ltb-true}
+use Rattle.std.specs.Prelude.{All, slice_get, option_map, IsTrue, None, Option, Result, Ok, Err, IfOk, OnOk, OnErr, IsErrOf}
 use Rattle.std.proofs.lemmas.Bool.{and_parts}
 use Rattle.std.proofs.Math.ListN.{get_or-map}
 use Rattle.std.proofs.lemmas.List.{set-get_or, get_or_read, length-map, map-set}
-use Rattle.std.proofs.lemmas.List.Elements.{All-weaker, All-get_or}
+use Rattle.std.proofs.lemmas.List.Elements.{All-weaker, All-get_or, All-push, All-drop}
 use Rattle.std.proofs.lemmas.Option.{slice_get_within, get_or_from_slice_get}
 use Rattle.mv_message.specs.declared.message.Message.{Message}
 use Rattle.mv_link.specs.declared.item.Item.{Item}
@@ -15,13 +15,11 @@ use Rattle.mv_link.specs.Frames.{IsFrameOf}
 use Rattle.mv_pairs.specs.Pairs.{cell, put, IsSquare}
 use Rattle.mv_pairs.proofs.PairsLemmas.{put-each, put-each_pair, square-put, square-map, cell-map, put-map}
 use Rattle.mv_hub.specs.declared.entry.Entry.{Entry}
-use Rattle.mv_hub.specs.Record.{routed_count}
 use Rattle.mv_hub.specs.Hub.{HubState, items_on}
 use Rattle.mv_link.specs.declared.limits.TheConstants.{NUMBER_LIMIT}
 use Rattle.mv_link.proofs.LinkLemmas.{of_longer}
 use Rattle.mv_hub.specs.Links.{link_items}
 use Rattle.mv_hub.proofs.RecordLemmas.{link_items-push}
-use Rattle.mv_repository.specs.declared.entry.LogEntry.{LogEntry}
 use Rattle.mv_repository.specs.Query.{answer_to}
 use Rattle.mv_party.specs.declared.fault.SiteFault.{SiteFault}
 use Rattle.mv_party.specs.declared.fault.SiteFault.TheVariants.{Memory}
@@ -38,7 +36,7 @@ use Rattle.mv_machine.proofs.LawfulLemmas.{IsSound, submitted-sound, applied-sou
 use Rattle.mv_machine.proofs.BoundLemmas.{routed_count-few, record-few}
 use Rattle.mv_system.specs.Wire.{WireState, new_wire, numbers_of}
 use Rattle.mv_system.specs.World.{Parts, wire_at, site_at, state_of, FitsWire, IsSiteAt, IsSystem, Submits, OffersFront}
-use Rattle.mv_system.proofs.WireLemmas.{length-numbers_of, numbers_of-front}
+use Rattle.mv_system.proofs.WireLemmas.{length-numbers_of, numbers_of-front, numbers_of-push, numbers_of-drop}
 
 pub sound_of : {p : Parts} → IsSystem p → IsSound (state_of p)
 sound_of k = record { well_formed = k.well_formed; lawful = k.lawful }
@@ -49,6 +47,13 @@ submissions-at p party = get_or-map (λ (site : SiteState). site.submissions) p.
 
 logs-at : (p : Parts) (party : ℕ) → log_of (state_of p) party ≡ (site_at p.sites party).log
 logs-at p party = get_or-map (λ (site : SiteState). site.log) p.sites party (new_site 0 0 0)
+
+-- the numbers under way on a link are those of the frames on its wire
+pub wires_at : (wires : List (List WireState)) (from to : ℕ) → cell (map (map (λ w. numbers_of w.frames)) wires) from to [] ≡ numbers_of (wire_at wires from to).frames
+wires_at wires from to = cell-map (λ w. numbers_of w.frames) wires from to (new_wire 0)
+
+pub wires_len_at : (wires : List (List WireState)) (from to : ℕ) → length (cell (map (map (λ w. numbers_of w.frames)) wires) from to []) ≡ length (wire_at wires from to).frames
+wires_len_at wires from to = ap length (wires_at wires from to) ∙ length-numbers_of (wire_at wires from to).frames
 
 -- what is known of a party, of which the list machine sees this state
 pub record SiteFacts (p : Parts) (st : State) (party : ℕ) (site : SiteState) : Type 0 where
@@ -62,7 +67,7 @@ pub record SiteFacts (p : Parts) (st : State) (party : ℕ) (site : SiteState) :
 
 -- a party of the list machine has its place among the parts
 pub party-place : {p : Parts} {st : State} (party : ℕ) → IsSystem p → state_of p ≡ st → IsTrue (is_party st party) → party < length p.hub.parties
-party-place {p} party k view is = ltb-true party (length p.hub.parties) (subst (λ (t : State). IsTrue (is_party t party)) (sym view) is)
+party-place party k view is = grind (arith, ltb-true)
 
 pub site_facts : {p : Parts} {st : State} (party : ℕ) (site : SiteState) → IsSystem p → state_of p ≡ st → party < length p.hub.parties → site ≡ get_or p.sites party site
     → SiteFacts p st party site
@@ -104,11 +109,12 @@ pub record LinkFacts (p : Parts) (st : State) (from to : ℕ) (wire : WireState)
   pub frames : All (IsFrameOf (items_on p.hub from to)) wire.frames
   pub fits : FitsWire p.limits.wire wire
 
-pub link_facts : {p : Parts} {st : State} {wire : WireState} (from to : ℕ) → IsSystem p → state_of p ≡ st → IsTrue (are_parties st from to) → wire_at p.wires from to ≡ wire
-    → LinkFacts p st from to wire
-link_facts {p} {wire = wire} from to k view both at =
+pub link_facts : {p : Parts} {st : State} {wire : WireState} (from to : ℕ) → IsSystem p → state_of p ≡ st → IsTrue (are_parties st from to)
+    → ((d : WireState) → cell p.wires from to d ≡ wire) → LinkFacts p st from to wire
+link_facts {p} {wire = wire} from to k view both read =
+    let at = read (new_wire 0) in
     let places = parties-places from to k view both in
-    let seen = ap (λ (v : WireState). numbers_of v.frames) (sym at) ∙ sym (cell-map (λ w. numbers_of w.frames) p.wires from to (new_wire 0)) ∙ ap (λ (t : State). wire_of t from to) view in
+    let seen = ap (λ (v : WireState). numbers_of v.frames) (sym at) ∙ sym (wires_at p.wires from to) ∙ ap (λ (t : State). wire_of t from to) view in
     record {
       kept = k;
       view = view;
@@ -122,23 +128,38 @@ link_facts {p} {wire = wire} from to k view both at =
     }
 
 -- a wire is written
-pub wire_view : {p : Parts} {st : State} {from to : ℕ} {old : WireState} → LinkFacts p st from to old → (wire : WireState) (numbers : List ℕ)
-    → numbers_of wire.frames ≡ numbers → state_of (record p { wires = put p.wires from to wire }) ≡ with_wire st from to numbers
-wire_view {p} {from = from} {to = to} facts wire numbers e =
-    let wires = put-map (λ w. numbers_of w.frames) p.wires from to wire in
-    let written : state_of (record p { wires = put p.wires from to wire }) ≡ with_wire (state_of p) from to (numbers_of wire.frames) = λ i. record (state_of p) { wires = wires i } in
-    written ∙ ap (with_wire (state_of p) from to) e ∙ ap (λ (t : State). with_wire t from to numbers) facts.view
-
--- the system with one wire written
-pub wire_kept : {p : Parts} {st : State} {from to : ℕ} {old : WireState} → LinkFacts p st from to old → (wire : WireState)
-    → All (IsFrameOf (items_on p.hub from to)) wire.frames → FitsWire p.limits.wire wire → IsSystem (record p { wires = put p.wires from to wire })
-wire_kept {p} {from = from} {to = to} facts wire frames fits =
+wire_written : {p : Parts} {st : State} {from to : ℕ} {old : WireState} → LinkFacts p st from to old → (wire : WireState) (numbers : List ℕ)
+    → All (IsFrameOf (items_on p.hub from to)) wire.frames → FitsWire p.limits.wire wire → numbers_of wire.frames ≡ numbers
+    → IsSystem (record p { wires = put p.wires from to wire }) × (state_of (record p { wires = put p.wires from to wire }) ≡ with_wire st from to numbers)
+wire_written {p} {from = from} {to = to} facts wire numbers frames fits e =
     let k = facts.kept in
     let square = square-put (length p.hub.parties) p.wires from to wire k.wires_square in
     let wires_each = square-map (length p.hub.parties) (λ w. numbers_of w.frames) (put p.wires from to wire) square in
     let wires_fit = put-each_pair (λ i j w. i < length p.hub.parties → j < length p.hub.parties → FitsWire p.limits.wire w) p.wires from to wire (new_wire 0) (λ _ _. fits) k.wires_fit in
     let frames_of = put-each_pair (λ i j w. All (IsFrameOf (items_on p.hub i j)) w.frames) p.wires from to wire (new_wire 0) frames k.frames in
-    assumption (square, wires_each, wires_fit, frames_of, k)
+    let wires = put-map (λ w. numbers_of w.frames) p.wires from to wire in
+    let seen : state_of (record p { wires = put p.wires from to wire }) ≡ with_wire (state_of p) from to (numbers_of wire.frames) = λ i. record (state_of p) { wires = wires i } in
+    (assumption (square, wires_each, wires_fit, frames_of, k), seen ∙ ap (with_wire (state_of p) from to) e ∙ ap (λ (t : State). with_wire t from to numbers) facts.view)
+
+-- a frame of the link is put on its wire
+pub frame_pushed : {p : Parts} {st : State} {from to : ℕ} {old : WireState} → LinkFacts p st from to old → (frame : Frame) (wire : WireState)
+    → wire ≡ record old { frames = old.frames ++ frame ∷ [] } → IsFrameOf (link_of st from to) frame → length (wire_of st from to) < st.limits.wire
+    → IsSystem (record p { wires = put p.wires from to wire })
+    × (state_of (record p { wires = put p.wires from to wire }) ≡ with_wire st from to (wire_of st from to ++ frame.number ∷ []))
+frame_pushed {p} {from = from} {to = to} {old = old} facts frame wire is of room =
+    wire_written facts wire _
+    (rw is (All-push (IsFrameOf (items_on p.hub from to)) old.frames frame facts.frames (subst (λ l. IsFrameOf l frame) facts.linked of)))
+    (rw is (record { size = facts.fits.size; within = omega (arith, facts.len, room, ap (λ l. l.wire) facts.limits, length-append old.frames (frame ∷ [])) }))
+    (rw is (numbers_of-push old.frames frame ∙ ap (λ l. l ++ frame.number ∷ []) facts.seen))
+
+-- the front of a wire is taken away
+pub front_dropped : {p : Parts} {st : State} {from to : ℕ} {old : WireState} → LinkFacts p st from to old → (wire : WireState) → wire ≡ record old { frames = drop 1 old.frames }
+    → IsSystem (record p { wires = put p.wires from to wire }) × (state_of (record p { wires = put p.wires from to wire }) ≡ with_wire st from to (drop 1 (wire_of st from to)))
+front_dropped {p} {from = from} {to = to} {old = old} facts wire is =
+    wire_written facts wire _
+    (rw is (All-drop (IsFrameOf (items_on p.hub from to)) 1 old.frames facts.frames))
+    (rw is (record { size = facts.fits.size; within = omega (arith, facts.fits.within, length-drop 1 old.frames) }))
+    (rw is (numbers_of-drop old.frames ∙ ap (drop 1) facts.seen))
 
 -- the system with one more entry in the record
 pub entered_kept : {p : Parts} (entry : Entry) → IsSystem p → IsSound (state_of (record p { hub = record p.hub { entries = p.hub.entries ++ entry ∷ [] } }))
@@ -224,9 +245,7 @@ module _ {p : Parts} {st : State} {party : ℕ} {site : SiteState} (facts : Site
 
 -- a party that took a frame is the party that it was
 with_taken-party : (site : SiteState) (sender : ℕ) (item : Item) (stands : Look) → (with_taken site sender item stands).party ≡ site.party
-with_taken-party site sender item look.Next = refl
-with_taken-party site sender item look.Old = refl
-with_taken-party site sender item (look.Gap expected) = refl
+with_taken-party site sender item stands = grind arith
 
 -- the frame in front of a wire is offered to its receiver
 module _ {p : Parts} {st : State} {from to : ℕ} {wire : WireState} {site : SiteState} (link : LinkFacts p st from to wire) (facts : SiteFacts p st to site)

@@ -21,8 +21,7 @@ length-numbers_of [] = refl
 length-numbers_of (frame ∷ frames) = ap suc (length-numbers_of frames)
 
 pub numbers_of-drop : (frames : List Frame) → numbers_of (drop 1 frames) ≡ drop 1 (numbers_of frames)
-numbers_of-drop [] = refl
-numbers_of-drop (frame ∷ frames) = refl
+numbers_of-drop frames = grind arith
 
 pub numbers_of-push : (frames : List Frame) (frame : Frame) → numbers_of (frames ++ frame ∷ []) ≡ numbers_of frames ++ frame.number ∷ []
 numbers_of-push [] frame = refl

@@ -64,6 +64,7 @@ impl World {
     }
 
     /// The wire of a link.
+    #[tactic(auto, using(crate::proofs::SystemLemmas::wires_at, crate::proofs::SystemLemmas::wires_len_at))]
     pub(super) fn wire(&self, from: Party, to: Party) -> &Wire
         requires { IsTrue (are_parties self.now from to) }
         ensures numbers { numbers_of result.now.frames ≡ wire_of self.now from to }

@@ -1,4 +1,2 @@
 pub mod CommandLemmas
-pub mod ReportLemmas
-pub mod DraftLemmas
 pub mod WorkLemmas

@@ -1,21 +1,33 @@
 -- Lemmas on what `work` writes.
-use Rattle.std.proofs.Common.{◌≡◌, ℕ, List, [], ◌∷◌, ◌++◌, refl, ap, sym, ◌∙◌, subst, true≢false, ◌⊎◌, inl, inr, string_bytes}
+use Rattle.std.proofs.Common.{◌≡◌, ℕ, List, ◌++◌, refl, ap, sym, ◌∙◌, subst, true≢false, ◌⊎◌, inl, inr, length, arith, string_bytes}
+use Rattle.std.proofs.lemmas.List.{length-map}
+use Rattle.std.specs.declared.alloc.Global.{Global}
+use Rattle.std.specs.declared.vec.Vec.{Vec}
 use Rattle.std.specs.Prelude.{IfOk, IfSome, Option, Some, None, Result, Ok, Err, Bool, true, false}
 use Rattle.mv_machine.specs.State.{State}
 use Rattle.mv_workers.specs.declared.plan.Plan.{Plan}
-use Rattle.mv_workers.specs.Plans.{KeepsPlan, IsComplete}
+use Rattle.mv_message.specs.declared.message.Message.{Message}
+use Rattle.mv_workers.specs.Plans.{IsSound, KeepsPlan, IsComplete}
 use Rattle.mv_tool.specs.declared.working.Output.{Output}
 use Rattle.mv_lines.specs.declared.fault.ServeFault.{ServeFault}
 use Rattle.mv_lines.specs.declared.fault.ServeFault.TheVariants.{Memory, Start}
-use Rattle.mv_tool.specs.Drafts.{parts_of}
-use Rattle.mv_tool.specs.Report.{report_text}
-use Rattle.mv_lines.specs.Replies.{AreReplies}
-use Rattle.mv_lines.specs.Served.{Served}
-use Rattle.mv_lines.specs.Lines.{pieces, lines_of}
-use Rattle.mv_tool.specs.Planning.{Planned, PlansSome, IsPlanned, plan_lines}
+use Rattle.mv_plan.specs.Drafts.{Parts, CanRun}
+use Rattle.mv_report.specs.Report.{report_text}
+use Rattle.mv_plan.specs.Planning.{Planned, PlansSome}
+use Rattle.mv_plan.specs.Reading.{IsRead}
 use Rattle.mv_lines.specs.Output.{WrotePart}
-use Rattle.mv_tool.specs.Working.{end_line, IsReported, IsRead, IsOutput, IsWorked, Worked, Failed}
+use Rattle.mv_tool.specs.Working.{parts_of, end_line, IsReported, IsOutput, IsWorked, Worked, Failed}
 use Rattle.std.specs.Io.KnownBytes.{Appends, Keeps}
+
+-- a plan of parts that can be run can be run
+pub sound_of : (plan : Plan) (parts : Parts) → parts_of plan ≡ parts → CanRun parts → IsSound plan
+sound_of plan parts same runs =
+    let kept : CanRun (parts_of plan) = subst CanRun (sym same) runs in
+    let count : length (parts_of plan).work ≡ length plan.work.items = length-map plan.work.items (λ (list : Vec Message Global). list.items) in
+    record {
+      each = sym count ∙ kept.each;
+      no_answers = λ party below. kept.no_answers party (omega (arith, below, count));
+    }
 
 -- the report of a complete outcome
 pub finished_output : {E : Type 0} (r : Result Output E) (plan : Plan) (outcome : State) → KeepsPlan plan outcome → IsComplete plan outcome
@@ -46,23 +58,6 @@ unfinished_output (Ok output) plan outcome keeps incomplete text left = record {
   text = text ∙ ap (λ finished. report_text outcome ++ end_line finished) (sym left);
 }
 unfinished_output (Err e) plan outcome keeps incomplete text left = tt
-
--- what stands behind lines that were taken one by one is what they plan
-are_planned : (before : Planned) (lines texts : List (List ℕ)) (after : Planned) → AreReplies IsPlanned before lines texts after → after ≡ plan_lines before lines
-are_planned before [] [] after same = same
-are_planned before [] (text ∷ texts) after none = absurd none
-are_planned before (line ∷ lines) [] after none = absurd none
-are_planned before (line ∷ lines) (text ∷ texts) after (between, one, rest) =
-    are_planned between lines texts after rest ∙ ap (λ p. plan_lines p lines) one
-
--- an input that was answered whole was read
-pub read_whole : (input : Option (List ℕ)) (before after planned : Planned) (old new : Option (List ℕ)) → before ≡ Ok None → planned ≡ after
-    → IfSome input (λ bytes. Served IsPlanned before bytes after old new) → IfSome input (λ bytes. IsRead bytes planned)
-read_whole None before after planned old new nothing same served = tt
-read_whole (Some bytes) before after planned old new nothing same served = (
-  served.kept,
-  same ∙ are_planned before (lines_of (pieces bytes)) _ after served.replied.2 ∙ ap (λ p. plan_lines p (lines_of (pieces bytes))) nothing,
-)
 
 -- the output of an input that was read went out
 pub worked_whole : (input : Option (List ℕ)) (planned : Planned) (old new : Option (List ℕ)) (text out : List ℕ) (finished : Bool)

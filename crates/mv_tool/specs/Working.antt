@@ -1,21 +1,25 @@
 -- What `work` writes.
-use Rattle.std.specs.Prelude.{◌≡◌, ℕ, List, [], ◌∷◌, ◌++◌, codes, Bool, true, false, if◌then◌else◌, Option, Some, None, Ok, Err, IfSome, ⊤}
-use Rattle.std.specs.Io.KnownBytes.{Appends, Keeps, Consumes}
+use Rattle.std.specs.Prelude.{◌≡◌, ℕ, List, ◌∷◌, [], ◌++◌, codes, Bool, true, false, if◌then◌else◌, Option, Some, None, Ok, Err, IfSome}
+use Rattle.std.specs.Io.KnownBytes.{Appends, Keeps}
 use Rattle.serde_json.specs.Written.{compact_text}
 use Rattle.mv_machine.specs.State.{State}
 use Rattle.mv_workers.specs.declared.plan.Plan.{Plan}
 use Rattle.mv_workers.specs.Plans.{KeepsPlan, IsComplete}
 use Rattle.mv_lines.specs.declared.fault.ServeFault.{ServeFault}
-use Rattle.mv_lines.specs.declared.fault.ServeFault.TheVariants.{Write, TooManyLines, LineTooLong, Start}
+use Rattle.mv_lines.specs.declared.fault.ServeFault.TheVariants.{Write, Start}
 use Rattle.mv_lines.specs.declared.open_fault.OpenFault.TheVariants.{NotOpen}
 use Rattle.mv_lines.specs.Lines.{pieces, lines_of, KeepLimits}
-use Rattle.mv_tool.specs.Drafts.{Parts, parts_of}
 use Rattle.mv_lines.specs.Openings.{code_of}
 use Rattle.mv_lines.specs.Output.{WrotePart}
-use Rattle.mv_tool.specs.Planning.{Planned, PlansSome, plan_lines}
 use Rattle.mv_lines.specs.ReplyLines.{refused}
-use Rattle.mv_lines.specs.Served.{StopsIn}
-use Rattle.mv_tool.specs.Report.{report_text}
+use Rattle.mv_plan.specs.Drafts.{Parts, parts_in}
+use Rattle.mv_plan.specs.Planning.{Planned, PlansSome, plan_lines}
+use Rattle.mv_plan.specs.Reading.{IsRead, Unread}
+use Rattle.mv_report.specs.Report.{report_text}
+
+-- the parts of a plan that can be run
+abbrev pub parts_of : Plan → Parts
+parts_of plan = parts_in plan.parties plan.limits plan.work.items
 
 -- the last line: whether the plan was finished
 abbrev pub end_line : Bool → List ℕ
@@ -47,18 +51,6 @@ pub record Worked (bytes : List ℕ) (finished : Bool) (old new : Option (List �
   pub out : List ℕ
   pub worked : IsWorked bytes out finished
   pub written : Appends old new out
-
--- All lines of an input keep the limits, and this is what they plan.
-abbrev pub IsRead : List ℕ → Planned → Type 0
-IsRead bytes planned = KeepLimits 0 (pieces bytes) × (planned ≡ plan_lines (Ok None) (lines_of (pieces bytes)))
-
--- why an input was not read: a read failed, memory was refused, or at some place a line or a byte came that may not
-abbrev pub Unread : ServeFault → Option (List ℕ) → Option (List ℕ) → Type 0
-Unread Write input rest = ⊥
-Unread Start input rest = ⊥
-Unread TooManyLines input rest = (bytes : List ℕ) × Consumes input rest bytes × StopsIn TooManyLines [] 0 bytes
-Unread LineTooLong input rest = (bytes : List ℕ) × Consumes input rest bytes × StopsIn LineTooLong [] 0 bytes
-Unread fault input rest = ⊤
 
 -- an input was read whole, and its lines plan something
 abbrev pub HasPlan : List ℕ → Type 0

@@ -1,9 +1,10 @@
-//! The program's inside: what is run for its words, the plan of `work` and its report, and the exit status.
+//! The program's inside: what is run for its words, how a plan is carried out and reported, and the exit status.
 //!
 //! The program is its user: `main` of `mvhub` gives the words and the three standard streams to [`command`], and ends with the
 //! status that it answers. The contract: `command` runs the one of `steps`, `canon` and `work` that its words name; `work`
 //! writes the first refusal of the lines, or the report of what became of the plan that they are. What words ask for
-//! is `mv_words`, how lines are read and answered `mv_lines`, and how a plan is run `mv_workers`; none of them stands on another.
+//! is `mv_words`, how lines are read and answered `mv_lines`, what they plan `mv_plan`, how a plan is run `mv_workers`, and its report
+//! `mv_report`.
 //!
 //! It can be used alone, with the crates that its line of crates.txt names.
 //! A caller that carries out a plan, proved in the gate (`thread_rows`):
@@ -27,16 +28,9 @@
 #![tactic(auto)]
 
 mod command_line;
-mod draft;
-mod planned;
-mod planner;
-mod planning;
-mod reporting;
 mod status;
-mod unwritten;
 mod working;
 
 pub use command_line::command;
-pub use reporting::report;
 pub use status::Status;
 pub use working::work;

@@ -2,17 +2,14 @@
 
 ghost use Rattle.std.specs.Prelude.{◌≡◌, ◌++◌, ◌∷◌, [], ◌⊎◌, false, IfOk, IfErr, IfSome, string_bytes};
 ghost use Rattle.mv_workers.specs.Plans.{IsSound};
-ghost use Rattle.mv_tool.specs.Drafts.{parts_of};
-ghost use Rattle.mv_tool.specs.Planning.{planned_of, PlansSome};
-ghost use Rattle.mv_tool.specs.Report.{report_text};
-ghost use Rattle.mv_tool.specs.Working.{end_line, IsReported, IsOutput, Worked, IsRead, Unread, Failed};
+ghost use Rattle.mv_plan.specs.Planning.{planned_of, PlansSome};
+ghost use Rattle.mv_report.specs.Report.{report_text};
+ghost use Rattle.mv_tool.specs.Working.{parts_of, end_line, IsReported, IsOutput, Worked, Failed};
 
-use crate::planned::Planned;
-use crate::planner::Planner;
-use crate::report;
-use crate::unwritten::Unwritten;
 use mv_ends::Outcome;
-use mv_lines::{OpenFault, ServeFault, answer_lines, put_out, refusal_text};
+use mv_lines::{OpenFault, ServeFault, put_out, refusal_text};
+use mv_plan::{Draft, Planned, read_plan};
+use mv_report::{give_back, last_report};
 use mv_workers::{Gate, Plan, WorkFault, run_workers};
 use std::alloc::Global;
 use std::io::{Read, Write};
@@ -53,21 +50,6 @@ pub fn work<H: Threads + Wait + Sync, R: Read, W: Write, G: Gate>(
     Ok(output.finished)
 }
 
-/// Reads all lines to what they plan.
-fn read_plan<R: Read>(alloc: Global, reader: &mut R) -> Result<Planned, ServeFault>
-    ensures ok { IfOk result (λ planned. IfSome (R.remaining reader.old) (λ bytes. IsRead bytes (planned_of planned))) }
-    ensures err { IfErr result (λ fault. Unread fault (R.remaining reader.old) (R.remaining reader.new)) }
-{
-    let mut planner = Planner::new(alloc);
-    match answer_lines(alloc, &mut planner, reader, &mut Unwritten) {
-        Ok(()) => Ok(planner.into_planned()),
-        // This never comes, since `Unwritten` takes all bytes, but no contract of a writer can say so. What is left is to name
-        // a fault of reading (`Unread`), and this one claims nothing of what was read.
-        Err(ServeFault::Write) => Err(ServeFault::Read),
-        Err(fault) => Err(fault),
-    }
-}
-
 /// The output of what is planned: V3, V6.
 fn carry_out<H: Threads + Wait + Sync, G: Gate>(
     rt: &H,
@@ -84,7 +66,21 @@ fn carry_out<H: Threads + Wait + Sync, G: Gate>(
     match planned {
         Planned::Nothing => refusal(refusal_text(alloc, OpenFault::NotOpen.code())?),
         Planned::Refused(text) => refusal(text),
-        Planned::Plan(draft) => run(rt, alloc, draft.into_plan(), turns, gate),
+        Planned::Plan(draft) => run(rt, alloc, plan_of(draft), turns, gate),
+    }
+}
+
+/// The plan of these parts.
+#[tactic(auto, using(crate::proofs::WorkLemmas::sound_of))]
+fn plan_of(draft: Draft) -> Plan
+    ensures parts { parts_of result ≡ draft }
+    ensures sound { IsSound result }
+{
+    let (parties, limits, work) = draft.into_parts();
+    Plan {
+        parties,
+        limits,
+        work,
     }
 }
 
@@ -115,21 +111,24 @@ fn run<H: Threads + Wait + Sync, G: Gate>(
     ensures err { IfErr result (λ fault. (fault ≡ ServeFault.Memory) ⊎ (fault ≡ ServeFault.Start)) }
 {
     match run_workers(rt, alloc, plan, turns, gate) {
-        Ok(outcome) => reported(alloc, &outcome, true),
-        Err(WorkFault::Unfinished(outcome)) => reported(alloc, &outcome, false),
-        Err(WorkFault::Memory(_)) => Err(ServeFault::Memory),
+        Ok(outcome) => reported(alloc, outcome, true),
+        Err(WorkFault::Unfinished(outcome)) => reported(alloc, outcome, false),
+        Err(WorkFault::Memory(outcome)) => {
+            give_back(outcome);
+            Err(ServeFault::Memory)
+        }
         Err(WorkFault::Start) => Err(ServeFault::Start),
         Err(WorkFault::Plan) => unreachable!(),
     }
 }
 
 /// The report of an outcome, and whether it is complete.
-fn reported(alloc: Global, outcome: &Outcome, finished: bool) -> Result<Output, ServeFault>
-    ensures text { IfOk result (λ output. string_bytes output.text ≡ report_text outcome.now ++ end_line finished) }
+fn reported(alloc: Global, outcome: Outcome, finished: bool) -> Result<Output, ServeFault>
+    ensures text { IfOk result (λ output. string_bytes output.text ≡ report_text outcome ++ end_line finished) }
     ensures finished { IfOk result (λ output. output.finished ≡ finished) }
     ensures err { IfErr result (λ fault. fault ≡ ServeFault.Memory) }
 {
-    let mut text = report(alloc, outcome)?;
+    let mut text = last_report(alloc, outcome)?;
     if finished {
         text.push_str("finished\n")?;
     } else {

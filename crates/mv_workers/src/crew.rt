@@ -140,9 +140,9 @@ fn start_crew<'s, E, R: Wait + Sync, G: Gate>(
     ensures { IfSome result (λ handles. (handles.0.promise.0.value ≡ hub)
         × AllPromised repos.items work.entry.now handles.1.items) }
 {
-    let repos = start_repos(scope, rt, alloc, repos, work, gate, course)?;
-    let hub = start_hub(scope, rt, hub, course)?;
-    Some((hub, repos))
+    let handle = start_hub(scope, rt, hub, course)?;
+    let handles = start_repos(scope, rt, alloc, repos, work, gate, course)?;
+    Some((handle, handles))
 }
 
 /// Joins the repositories' workers, in order. The flag says whether one ended for want of memory.

@@ -1,5 +1,6 @@
 //! The ends of a system, opened, called and gathered, on one thread, also with refused calls made again, and with each call of a
-//! repository's end in a thread of its own; plans that are run in threads; and the turns of a plan, taken from words.
+//! repository's end in a thread of its own, and reported; plans that are read, and run in threads; and the turns of a plan, taken from
+//! words.
 //!
 //! Nothing stands on this crate. To drop an end, or an outcome, is dear to prove: so none is let go on the way, and each row says by
 //! a truth value how it went.

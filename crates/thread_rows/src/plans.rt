@@ -3,6 +3,7 @@
 use mv_hub::Parties;
 use mv_machine::Limits;
 use mv_message::{Message, Party, Shared};
+use mv_plan::{Planned, read_plan};
 use mv_tool::work;
 use mv_workers::{Gate, NoGate, Plan, WorkFault, run_workers};
 use std::alloc::Global;
@@ -59,6 +60,18 @@ fn carries_a_plan_out(rt: HostRuntime) {
 #[test]
 fn submits_nothing_without_turns(rt: HostRuntime) {
     assert!(rt; comes_to(&rt, rt.alloc(), 0, &NoGate, NOT_BEGUN, false));
+}
+
+/// Whether the lines are a plan.
+fn is_plan(alloc: Global, lines: &str) -> bool {
+    let mut reader = lines.as_bytes();
+    matches!(read_plan(alloc, &mut reader), Ok(Planned::Plan(_)))
+}
+
+#[test]
+fn reads_a_plan(rt: HostRuntime) {
+    assert!(rt; is_plan(rt.alloc(), PLAN));
+    assert!(rt; !is_plan(rt.alloc(), ""));
 }
 
 /// A plan of so many empty lists for one party.

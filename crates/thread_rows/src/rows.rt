@@ -9,12 +9,17 @@ use mv_hub::{Entry, Parties};
 use mv_machine::{Limits, Refusal, Reply, Step};
 use mv_message::{Message, Party, Shared};
 use mv_pack::{Gtin, Market, PackKey, Serial};
+use mv_report::report;
 use mv_repository::{Effect, Joint};
 use std::alloc::Global;
 
 /// The master of a product for Finland.
 const FINNISH: &str =
     "{\"common\":\"paracetamol\",\"form\":\"tablet\",\"gtin\":\"09506000134352\",\"markets\":[\"FI\"],\"msg\":\"master\",\"name\":\"Examplin\",\"pack_size\":\"30\",\"pack_type\":\"blister\",\"scheme\":\"GTIN\",\"strength\":\"500 mg\"}";
+
+/// The report of what is gathered behind all of the row.
+const REPORT: &str =
+    "     party submitted    routed   applied  products     packs    active  recalled\n         0         1         1         0         0         0         0         0\n         1         1         1         2         1         0         0         0\n         2         1         1         0         0         0         0         0\nclosed links: 1\n";
 
 /// The markets of three parties: the first serves none, the others Finland and Sweden.
 fn markets(alloc: Global) -> Option<Parties> {
@@ -200,6 +205,24 @@ fn carries_them_with_each_call_in_a_thread(rt: HostRuntime) {
 #[test]
 fn carries_them_with_refused_calls_made_again(rt: HostRuntime) {
     assert!(rt; is_carried(begun_at_last(rt.alloc()), &Again));
+}
+
+/// Whether the report of an outcome is this text.
+fn is_reported(alloc: Global, outcome: &Outcome, text: &str) -> bool {
+    match report(alloc, outcome) {
+        Ok(written) => written.as_str() == text,
+        Err(_) => false,
+    }
+}
+
+/// Whether what is gathered behind all of it is reported so.
+fn is_told(alloc: Global) -> bool {
+    gathered(begun(alloc), &Here).is_some_and(|outcome| is_reported(alloc, &outcome, REPORT))
+}
+
+#[test]
+fn reports_what_is_gathered(rt: HostRuntime) {
+    assert!(rt; is_told(rt.alloc()));
 }
 
 /// Whether the hub refuses calls for their own reasons.

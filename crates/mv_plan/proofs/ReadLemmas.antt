@@ -1,0 +1,38 @@
+-- Lemmas on an input that was read.
+use Rattle.std.proofs.Common.{◌≡◌, ℕ, List, [], ◌∷◌, ap, sym, ◌∙◌}
+use Rattle.std.specs.Prelude.{IfSome, Option, Some, None, Ok, true, false, is_some, option_map}
+use Rattle.mv_lines.specs.Replies.{AreReplies}
+use Rattle.mv_lines.specs.Served.{Served}
+use Rattle.mv_lines.specs.Lines.{pieces, lines_of}
+use Rattle.mv_plan.specs.Planning.{Planned, IsPlanned, planned_by, plan_line, plan_lines}
+use Rattle.mv_plan.specs.Drafts.{Parts}
+use Rattle.mv_plan.specs.Reading.{IsRead}
+
+-- where no line was refused, the next is planned
+pub planned_next : {A : Type 0} (bytes : A → List ℕ) (refusal : Option A) (draft : Option Parts) (planned after : Planned) (line : List ℕ)
+    → is_some refusal ≡ false → planned_by (option_map bytes refusal) draft ≡ planned → after ≡ plan_line (Ok draft) line → after ≡ plan_line planned line
+planned_next bytes None draft planned after line none same is = is ∙ ap (λ p. plan_line p line) same
+planned_next bytes (Some text) draft planned after line none same is = absurd (cc)
+
+-- behind a line that was refused none is
+pub planned_still : {A : Type 0} (bytes : A → List ℕ) (refusal : Option A) (draft : Option Parts) (planned : Planned) (line : List ℕ)
+    → is_some refusal ≡ true → planned_by (option_map bytes refusal) draft ≡ planned → planned ≡ plan_line planned line
+planned_still bytes (Some text) draft planned line some same = sym same ∙ ap (λ p. plan_line p line) same
+planned_still bytes None draft planned line some same = absurd (cc)
+
+-- what stands behind lines that were taken one by one is what they plan
+are_planned : (before : Planned) (lines texts : List (List ℕ)) (after : Planned) → AreReplies IsPlanned before lines texts after → after ≡ plan_lines before lines
+are_planned before [] [] after same = same
+are_planned before [] (text ∷ texts) after none = absurd none
+are_planned before (line ∷ lines) [] after none = absurd none
+are_planned before (line ∷ lines) (text ∷ texts) after (between, one, rest) =
+    are_planned between lines texts after rest ∙ ap (λ p. plan_lines p lines) one
+
+-- an input that was answered whole was read
+pub read_whole : (input : Option (List ℕ)) (before after planned : Planned) (old new : Option (List ℕ)) → before ≡ Ok None → planned ≡ after
+    → IfSome input (λ bytes. Served IsPlanned before bytes after old new) → IfSome input (λ bytes. IsRead bytes planned)
+read_whole None before after planned old new nothing same served = tt
+read_whole (Some bytes) before after planned old new nothing same served = (
+  served.kept,
+  same ∙ are_planned before (lines_of (pieces bytes)) _ after served.replied.2 ∙ ap (λ p. plan_lines p (lines_of (pieces bytes))) nothing,
+)

@@ -1,0 +1,130 @@
+//! What a line adds to a plan.
+
+ghost use Rattle.std.specs.Prelude.{◌≡◌, Ok, Some, IfOk, option_map, string_bytes};
+ghost use Rattle.serde_json.specs.Written.{compact_text};
+ghost use Rattle.mv_lines.specs.Openings.{of_parties, code_of};
+ghost use Rattle.mv_lines.specs.ReplyLines.{refused, refusal_value};
+ghost use Rattle.mv_hub.specs.Parties.{parties_of};
+ghost use Rattle.mv_plan.specs.Planning.{planned_by, begins, plan_step, plan_request, plan_line};
+
+use crate::draft::Draft;
+use mv_lines::{
+    LineFault, MarketLists, OpenFault, Request, fault_text, limits_of, parties_of, refusal_text,
+    reply_text,
+};
+use mv_machine::{Limits, Refusal, Reply, Step};
+use mv_party::is_query_or_answer;
+use std::alloc::{AllocError, Global};
+
+/// Plans what a line asks, where none was refused before it. The text is that of its refusal, where it is refused.
+pub(crate) fn plan_line(
+    alloc: Global,
+    draft: &mut Option<Draft>,
+    line: &[u8],
+) -> Result<Option<String>, AllocError>
+    ensures { IfOk result (λ refusal. planned_by (option_map string_bytes refusal) draft.new
+        ≡ plan_line (Ok draft.old) line.now) }
+{
+    match Request::read(alloc, line) {
+        Ok(request) => plan_request(alloc, draft, request),
+        Err(LineFault::Memory) => Err(AllocError),
+        Err(fault) => Ok(Some(fault_text(alloc, &fault)?)),
+    }
+}
+
+/// Plans this: C1, C2.
+fn plan_request(
+    alloc: Global,
+    draft: &mut Option<Draft>,
+    request: Request,
+) -> Result<Option<String>, AllocError>
+    ensures { IfOk result (λ refusal. planned_by (option_map string_bytes refusal) draft.new
+        ≡ plan_request draft.old request) }
+{
+    match request {
+        Request::Open {
+            parties,
+            submissions,
+            uplink,
+            window,
+            wire,
+        } => match draft {
+            Some(_) => Ok(Some(refuse(alloc, OpenFault::AlreadyOpen)?)),
+            None => begin(
+                alloc,
+                draft,
+                parties,
+                limits_of(window, wire, uplink, submissions),
+            ),
+        },
+        Request::Step(step) => match draft {
+            None => Ok(Some(refuse(alloc, OpenFault::NotOpen)?)),
+            Some(draft) => plan_step(alloc, draft, &step),
+        },
+    }
+}
+
+/// Begins what an opening begins: H1 to H3, O1 to O4.
+fn begin(
+    alloc: Global,
+    draft: &mut Option<Draft>,
+    lists: MarketLists,
+    limits: Result<Limits, OpenFault>,
+) -> Result<Option<String>, AllocError>
+    ensures { IfOk result (λ refusal. planned_by (option_map string_bytes refusal) draft.new
+        ≡ begins (of_parties (parties_of lists)) limits) }
+{
+    let parties = match parties_of(alloc, lists) {
+        Ok(parties) => parties,
+        Err(OpenFault::Memory) => return Err(AllocError),
+        Err(fault) => return Ok(Some(refuse(alloc, fault)?)),
+    };
+    match limits {
+        Ok(limits) => {
+            *draft = Some(Draft::new(alloc, parties, limits)?);
+            Ok(None)
+        }
+        Err(fault) => Ok(Some(refuse(alloc, fault)?)),
+    }
+}
+
+/// Plans a step: C3, S1, S2.
+fn plan_step(alloc: Global, draft: &mut Draft, step: &Step) -> Result<Option<String>, AllocError>
+    ensures { IfOk result (λ refusal. planned_by (option_map string_bytes refusal) (Some draft.new)
+        ≡ plan_step draft.old step.now) }
+{
+    match step {
+        Step::Submit { from, message } => {
+            if !draft.is_party(*from) {
+                return Ok(Some(refuse_step(alloc, Refusal::Party)?));
+            }
+            if is_query_or_answer(message.get()) {
+                return Ok(Some(refuse_step(alloc, Refusal::NotYours)?));
+            }
+            draft.add(*from, message)?;
+            Ok(None)
+        }
+        Step::Verify { party, key } => {
+            if !draft.is_party(*party) {
+                return Ok(Some(refuse_step(alloc, Refusal::Party)?));
+            }
+            draft.add_query(alloc, *party, key)?;
+            Ok(None)
+        }
+        _ => Ok(Some(refusal_text(alloc, "C3")?)),
+    }
+}
+
+/// The text of a line that is refused as such a step is.
+fn refuse_step(alloc: Global, refusal: Refusal) -> Result<String, AllocError>
+    ensures { IfOk result (λ text. string_bytes text ≡ compact_text (refusal_value refusal)) }
+{
+    reply_text(alloc, &Reply::Refused(refusal))
+}
+
+/// The text of a line that is refused by what is open.
+fn refuse(alloc: Global, fault: OpenFault) -> Result<String, AllocError>
+    ensures { IfOk result (λ text. string_bytes text ≡ compact_text (refused (code_of fault))) }
+{
+    refusal_text(alloc, fault.code())
+}

@@ -1,0 +1,15 @@
+use Rattle.std.proofs.Common.{◌∙◌, ap, arith, length, decimal}
+use Rattle.mv_report.specs.Report.{closed_count, head_line, party_line}
+use Rattle.mv_report.proofs.ReportLemmas.{lines_more, report_whole}
+use Rattle.mv_report.proofs.reporting.report.Goals as goal
+
+pub loop-party-preserved : goal.loop-party-preserved
+loop-party-preserved c = lines_more (party_line c.args.outcome.now) head_line _ _ c.loop-party.party c.loop-party.invariant c.in_ok-push_party.ensures
+
+pub returns : goal.returns
+returns c =
+    report_whole c.args.outcome.now c.loop-party.party _ _ _ _ _
+    (omega (arith, c.loop-party-test.false, c.loop-party.auto.party-end, c.len-party-end.ensures.value, ap length c.parties.ensures))
+    c.loop-party.invariant c.in_ok-push_str-2.ensures.bytes c.in_ok-push_str-3.ensures.bytes
+    (c.as_str.ensures.value ∙ c.in_ok-closed.ensures.ok ∙ ap decimal (c.closed_count.ensures ∙ ap closed_count c.record.ensures.entries))
+    c.in_ok-push_str-4.ensures.bytes

@@ -124,16 +124,45 @@ fn copies_a_frame(rt: HostRuntime) -> Result<(), AllocError> {
     Ok(())
 }
 
-#[test]
-fn keeps_the_parties_of_a_reach(rt: HostRuntime) -> Result<(), AllocError> {
+/// The reach of party 3 alone.
+fn third_alone(alloc: Global) -> Option<SharedReach> {
     let mut parties = ArrayVec::new();
     parties.push(3);
-    let kept = SharedReach::of(rt.alloc(), &Reach::new(parties))?;
-    let shared = kept.share()?;
-    assert_eq!(rt; shared.as_slice(), [3].as_slice());
-    let copied = kept.copy(rt.alloc())?;
-    assert_eq!(rt; copied.as_slice(), [3].as_slice());
-    assert!(rt; shared == kept);
-    assert!(rt; kept != SharedReach::of(rt.alloc(), &Reach::new(ArrayVec::new()))?);
-    Ok(())
+    SharedReach::of(alloc, &Reach::new(parties)).ok()
+}
+
+/// Whether a reach was made, and is this one, of party 3 alone.
+fn is_third_alone(made: Option<SharedReach>, kept: &SharedReach) -> bool {
+    match made {
+        Some(reach) => reach.as_slice() == [3].as_slice() && reach == *kept,
+        None => false,
+    }
+}
+
+/// Whether a reach of no party was made, and is another than this one.
+fn is_other_than_none(alloc: Global, kept: &SharedReach) -> bool {
+    match SharedReach::of(alloc, &Reach::new(ArrayVec::new())) {
+        Ok(none) => none.as_slice().is_empty() && *kept != none,
+        Err(_) => false,
+    }
+}
+
+/// Whether a reach keeps its parties as it is shared and copied.
+fn is_reach_kept(alloc: Global, kept: &SharedReach) -> bool {
+    is_third_alone(kept.share().ok(), kept)
+        && is_third_alone(kept.copy(alloc).ok(), kept)
+        && is_other_than_none(alloc, kept)
+}
+
+/// Whether the reach of party 3 alone is.
+fn is_kept(alloc: Global) -> bool {
+    match third_alone(alloc) {
+        Some(kept) => is_reach_kept(alloc, &kept),
+        None => false,
+    }
+}
+
+#[test]
+fn keeps_the_parties_of_a_reach(rt: HostRuntime) {
+    assert!(rt; is_kept(rt.alloc()));
 }

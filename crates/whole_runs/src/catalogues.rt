@@ -1,86 +1,90 @@
 //! What the hub knows of products, and how batches are linked by repackagings.
 
-use crate::items::master_value;
+use crate::copies::write_expiry;
+use crate::items::write_product;
 use crate::named::Named;
 use crate::page::Page;
 use mv_hub::{Catalogue, Hub};
 use mv_pack::{Batch, BatchKey, Expiry, Gtin};
-use serde_json::{Value, json};
-use std::alloc::Global;
 
 /// Writes what the hub knows of the products and batches that were named. None where memory was refused.
 pub(crate) fn write_catalogues(page: &mut Page, hub: &Hub, named: &Named) -> Option<()> {
-    let alloc = page.alloc();
     for gtin in named.products() {
-        page.write_value(&product_value(alloc, hub, gtin)?)?;
+        write_known(page, hub, gtin)?;
     }
     for batch in named.batches() {
-        page.write_value(&batch_value(alloc, hub, batch)?)?;
+        write_batch(page, hub, batch)?;
     }
     Some(())
 }
 
-/// What the hub knows of a product, if anything.
-fn product_value(alloc: Global, hub: &Hub, gtin: &Gtin) -> Option<Value> {
-    let catalogue = match hub.catalogue(gtin) {
-        Some(catalogue) => catalogue_value(alloc, gtin, catalogue)?,
-        None => Value::Null,
-    };
-    let value = json!(in alloc; { "catalogue": catalogue, "gtin": gtin.as_str() });
-    value.ok()
-}
-
-/// A product, where it has a master, and its batches with their dates.
-fn catalogue_value(alloc: Global, gtin: &Gtin, catalogue: &Catalogue) -> Option<Value> {
-    let product = match catalogue.product.get() {
-        Some(product) => master_value(alloc, gtin, product)?,
-        None => Value::Null,
-    };
-    let batches = dated_values(alloc, catalogue.batches.as_slice())?;
-    let value = json!(in alloc; { "batches": batches, "product": product });
-    value.ok()
-}
-
-/// Batches with their dates.
-fn dated_values(alloc: Global, pairs: &[(Batch, Expiry)]) -> Option<Vec<Value>> {
-    let mut values = Vec::new(alloc);
-    for pair in pairs {
-        values.push(dated_value(alloc, &pair.0, &pair.1)?).ok()?;
+/// Writes what the hub knows of a product, if anything.
+fn write_known(page: &mut Page, hub: &Hub, gtin: &Gtin) -> Option<()> {
+    page.begin_object()?;
+    match hub.catalogue(gtin) {
+        Some(catalogue) => write_catalogue(page, gtin, catalogue)?,
+        None => page.nothing("catalogue")?,
     }
-    Some(values)
+    page.text("gtin", gtin.as_str())?;
+    page.end_object_and_line()
 }
 
-/// A batch with its date.
-fn dated_value(alloc: Global, batch: &Batch, expiry: &Expiry) -> Option<Value> {
-    let expiry = expiry.text();
-    let value = json!(in alloc; { "batch": batch.as_str(), "expiry": expiry.as_str() });
-    value.ok()
+/// Writes a product, where it has a master, and its batches with their dates.
+fn write_catalogue(page: &mut Page, gtin: &Gtin, catalogue: &Catalogue) -> Option<()> {
+    page.key("catalogue")?;
+    page.begin_object()?;
+    page.begin_list("batches")?;
+    for pair in catalogue.batches.as_slice() {
+        write_dated(page, &pair.0, pair.1)?;
+    }
+    page.end_list()?;
+    write_product(page, "product", gtin, catalogue.product.get())?;
+    page.end_object()
 }
 
-/// The batches to which a batch was repackaged, and those that descend from it.
-fn batch_value(alloc: Global, hub: &Hub, key: &BatchKey) -> Option<Value> {
-    let linked = key_values(alloc, hub.linked(key).ok()?.as_slice())?;
-    let descendants = key_values(alloc, hub.descendants(key).ok()?.as_slice())?;
-    let value = json!(in alloc; {
-        "batch": key.batch.as_str(),
-        "descendants": descendants,
-        "gtin": key.gtin.as_str(),
-        "linked": linked
-    });
-    value.ok()
+/// Writes a batch with its date.
+fn write_dated(page: &mut Page, batch: &Batch, expiry: Expiry) -> Option<()> {
+    page.begin_element()?;
+    page.text("batch", batch.as_str())?;
+    write_expiry(page, expiry)?;
+    page.end_object()
 }
 
-/// Batches of products.
-fn key_values(alloc: Global, keys: &[BatchKey]) -> Option<Vec<Value>> {
-    let mut values = Vec::new(alloc);
+/// Writes the batches to which a batch was repackaged, and those that descend from it.
+fn write_batch(page: &mut Page, hub: &Hub, key: &BatchKey) -> Option<()> {
+    page.begin_object()?;
+    page.text("batch", key.batch.as_str())?;
+    write_descendants(page, hub, key)?;
+    page.text("gtin", key.gtin.as_str())?;
+    write_linked(page, hub, key)?;
+    page.end_object_and_line()
+}
+
+/// Writes the batches that descend from a batch.
+fn write_descendants(page: &mut Page, hub: &Hub, key: &BatchKey) -> Option<()> {
+    let descendants = hub.descendants(key).ok()?;
+    write_keys(page, "descendants", descendants.as_slice())
+}
+
+/// Writes the batches to which a batch was repackaged.
+fn write_linked(page: &mut Page, hub: &Hub, key: &BatchKey) -> Option<()> {
+    let linked = hub.linked(key).ok()?;
+    write_keys(page, "linked", linked.as_slice())
+}
+
+/// Writes batches of products.
+fn write_keys(page: &mut Page, name: &str, keys: &[BatchKey]) -> Option<()> {
+    page.begin_list(name)?;
     for key in keys {
-        values.push(key_value(alloc, key)?).ok()?;
+        write_key(page, key)?;
     }
-    Some(values)
+    page.end_list()
 }
 
-/// A batch of a product.
-fn key_value(alloc: Global, key: &BatchKey) -> Option<Value> {
-    let value = json!(in alloc; { "batch": key.batch.as_str(), "gtin": key.gtin.as_str() });
-    value.ok()
+/// Writes a batch of a product.
+fn write_key(page: &mut Page, key: &BatchKey) -> Option<()> {
+    page.begin_element()?;
+    page.text("batch", key.batch.as_str())?;
+    page.text("gtin", key.gtin.as_str())?;
+    page.end_object()
 }

@@ -1,14 +1,12 @@
 //! What each repository of a system shows, party by party. Each line is the text of one JSON object, its keys in byte order.
 
-use crate::items::{item_value, master_value};
+use crate::items::{write_item, write_product};
 use crate::named::Named;
 use crate::page::Page;
 use mv_message::Party;
-use mv_pack::{BatchKey, Gtin, PackKey};
+use mv_pack::{BatchKey, Expiry, Gtin, National, PackKey};
 use mv_repository::{Change, Held, LogEntry, Repository};
 use mv_system::World;
-use serde_json::{Value, json};
-use std::alloc::Global;
 
 /// Writes what each repository shows of what was named. None where memory was refused.
 pub(crate) fn write_copies(page: &mut Page, world: &World, named: &Named) -> Option<()> {
@@ -22,125 +20,125 @@ pub(crate) fn write_copies(page: &mut Page, world: &World, named: &Named) -> Opt
 
 /// Writes what a repository shows: how much it has, its log, then each product, each batch and each pack.
 fn write_copy(page: &mut Page, repository: &Repository, named: &Named) -> Option<()> {
-    let alloc = page.alloc();
-    page.write_value(&counts_value(alloc, repository)?)?;
+    write_counts(page, repository)?;
     write_log(page, repository)?;
     for gtin in named.products() {
-        page.write_value(&product_value(alloc, repository, gtin)?)?;
+        write_known(page, repository, gtin)?;
     }
     for batch in named.batches() {
-        page.write_value(&batch_value(alloc, repository, batch)?)?;
+        write_batch(page, repository, batch)?;
     }
     for pack in named.packs() {
-        page.write_value(&pack_value(alloc, repository, pack)?)?;
+        write_pack(page, repository, pack)?;
     }
     Some(())
 }
 
-/// How much a repository has.
-fn counts_value(alloc: Global, repository: &Repository) -> Option<Value> {
+/// Writes how much a repository has.
+fn write_counts(page: &mut Page, repository: &Repository) -> Option<()> {
     let counts = repository.counts();
-    let value = json!(in alloc; {
-        "active": counts.active,
-        "entries": counts.entries,
-        "packs": counts.packs,
-        "party": repository.party(),
-        "products": counts.products,
-        "recalled": counts.recalled
-    });
-    value.ok()
+    page.begin_object()?;
+    page.number("active", counts.active as u64)?;
+    page.number("entries", counts.entries as u64)?;
+    page.number("packs", counts.packs as u64)?;
+    page.number("party", u64::from(repository.party()))?;
+    page.number("products", counts.products as u64)?;
+    page.number("recalled", counts.recalled as u64)?;
+    page.end_object_and_line()
 }
 
 /// Writes the log, its oldest entry first.
 fn write_log(page: &mut Page, repository: &Repository) -> Option<()> {
     let log = repository.log();
     for place in 0..log.len() {
-        let value = entry_value(page.alloc(), repository.party(), place, &log[place])?;
-        page.write_value(&value)?;
+        write_entry(page, repository.party(), place, &log[place])?;
     }
     Some(())
 }
 
-/// An entry of the log of a party, by its place, which is counted from 0.
-fn entry_value(alloc: Global, party: Party, place: usize, entry: &LogEntry) -> Option<Value> {
-    let item = item_value(alloc, &entry.item)?;
-    let value = json!(in alloc; {
-        "entry": place,
-        "from": entry.sender,
-        "item": item,
-        "party": party
-    });
-    value.ok()
+/// Writes an entry of the log of a party, by its place, which is counted from 0.
+fn write_entry(page: &mut Page, party: Party, place: usize, entry: &LogEntry) -> Option<()> {
+    page.begin_object()?;
+    page.number("entry", place as u64)?;
+    page.number("from", u64::from(entry.sender))?;
+    write_item(page, "item", &entry.item)?;
+    page.number("party", u64::from(party))?;
+    page.end_object_and_line()
 }
 
-/// A product that a repository knows or not, and whether it is withdrawn.
-fn product_value(alloc: Global, repository: &Repository, gtin: &Gtin) -> Option<Value> {
-    let product = match repository.product(gtin) {
-        Some(product) => master_value(alloc, gtin, product)?,
-        None => Value::Null,
+/// Writes a product that a repository knows or not, and whether it is withdrawn.
+fn write_known(page: &mut Page, repository: &Repository, gtin: &Gtin) -> Option<()> {
+    page.begin_object()?;
+    page.text("gtin", gtin.as_str())?;
+    page.number("party", u64::from(repository.party()))?;
+    write_product(page, "product", gtin, repository.product(gtin))?;
+    page.flag("withdrawn", repository.withdrawn(gtin))?;
+    page.end_object_and_line()
+}
+
+/// Writes whether a batch is recalled.
+fn write_batch(page: &mut Page, repository: &Repository, key: &BatchKey) -> Option<()> {
+    page.begin_object()?;
+    page.text("batch", key.batch.as_str())?;
+    page.text("gtin", key.gtin.as_str())?;
+    page.number("party", u64::from(repository.party()))?;
+    page.flag("recalled", repository.recalled(key))?;
+    page.end_object_and_line()
+}
+
+/// Writes a pack that a repository holds or not.
+fn write_pack(page: &mut Page, repository: &Repository, key: &PackKey) -> Option<()> {
+    page.begin_object()?;
+    page.text("gtin", key.gtin.as_str())?;
+    write_held(page, repository, key)?;
+    page.number("party", u64::from(repository.party()))?;
+    page.text("serial", key.serial.as_str())?;
+    page.end_object_and_line()
+}
+
+/// Writes a pack as a repository holds it, or null where it does not.
+fn write_held(page: &mut Page, repository: &Repository, key: &PackKey) -> Option<()> {
+    match repository.pack(key) {
+        Some(held) => write_state(page, &held),
+        None => page.nothing("pack"),
+    }
+}
+
+/// Writes a pack that is held.
+fn write_state(page: &mut Page, held: &Held) -> Option<()> {
+    page.key("pack")?;
+    page.begin_object()?;
+    page.text("batch", held.batch.as_str())?;
+    write_change(page, held.change)?;
+    write_expiry(page, held.expiry)?;
+    write_national(page, &held.national)?;
+    page.text("standing", held.standing.name())?;
+    page.end_object()
+}
+
+/// Writes what took a pack from active: the party, its moment, and the place in the log of its status.
+fn write_change(page: &mut Page, change: Option<Change>) -> Option<()> {
+    let Some(change) = change else {
+        return page.nothing("change");
     };
-    let value = json!(in alloc; {
-        "gtin": gtin.as_str(),
-        "party": repository.party(),
-        "product": product,
-        "withdrawn": repository.withdrawn(gtin)
-    });
-    value.ok()
+    page.key("change")?;
+    page.begin_object()?;
+    page.number("at", change.at.seconds())?;
+    page.number("by", u64::from(change.by))?;
+    page.number("entry", change.entry as u64)?;
+    page.end_object()
 }
 
-/// Whether a batch is recalled.
-fn batch_value(alloc: Global, repository: &Repository, key: &BatchKey) -> Option<Value> {
-    let value = json!(in alloc; {
-        "batch": key.batch.as_str(),
-        "gtin": key.gtin.as_str(),
-        "party": repository.party(),
-        "recalled": repository.recalled(key)
-    });
-    value.ok()
+/// Writes the date on which something expires.
+pub(crate) fn write_expiry(page: &mut Page, expiry: Expiry) -> Option<()> {
+    let text = expiry.text();
+    page.text("expiry", text.as_str())
 }
 
-/// A pack that a repository holds or not.
-fn pack_value(alloc: Global, repository: &Repository, key: &PackKey) -> Option<Value> {
-    let held = match repository.pack(key) {
-        Some(held) => held_value(alloc, &held)?,
-        None => Value::Null,
-    };
-    let value = json!(in alloc; {
-        "gtin": key.gtin.as_str(),
-        "pack": held,
-        "party": repository.party(),
-        "serial": key.serial.as_str()
-    });
-    value.ok()
-}
-
-/// A pack that is held.
-fn held_value(alloc: Global, held: &Held) -> Option<Value> {
-    let national = match &held.national {
-        Some(number) => Value::try_from_str(alloc, number.as_str()).ok()?,
-        None => Value::Null,
-    };
-    let change = match &held.change {
-        Some(change) => change_value(alloc, change)?,
-        None => Value::Null,
-    };
-    let expiry = held.expiry.text();
-    let value = json!(in alloc; {
-        "batch": held.batch.as_str(),
-        "change": change,
-        "expiry": expiry.as_str(),
-        "national": national,
-        "standing": held.standing.name()
-    });
-    value.ok()
-}
-
-/// What took a pack from active: the party, its moment, and the place in the log of its status.
-fn change_value(alloc: Global, change: &Change) -> Option<Value> {
-    let value = json!(in alloc; {
-        "at": change.at.seconds(),
-        "by": change.by,
-        "entry": change.entry
-    });
-    value.ok()
+/// Writes a national number, where there is one.
+fn write_national(page: &mut Page, national: &Option<National>) -> Option<()> {
+    match national {
+        Some(number) => page.text("national", number.as_str()),
+        None => page.nothing("national"),
+    }
 }

@@ -1,41 +1,56 @@
-//! What a link carries, and products, as values of JSON.
+//! What a link carries, and products.
 
+use crate::page::Page;
 use mv_link::Item;
 use mv_message::{Boxed, Message, Party, Product};
 use mv_pack::Gtin;
-use serde_json::{Value, json};
 use std::alloc::Global;
 
-/// An item: a receipt, or a message with its number and its stamp.
-pub(crate) fn item_value(alloc: Global, item: &Item) -> Option<Value> {
+/// Writes a key with an item: a receipt, or a message with its number and its stamp.
+pub(crate) fn write_item(page: &mut Page, key: &str, item: &Item) -> Option<()> {
+    page.key(key)?;
     match item {
-        Item::Receipt { k, reach, query } => { receipt_value(alloc, *k, reach.as_slice(), *query) }
-        Item::Carried { k, stamp, message } => { carried_value(alloc, *k, *stamp, message.get()) }
+        Item::Receipt { k, reach, query } => write_receipt(page, *k, reach.as_slice(), *query),
+        Item::Carried { k, stamp, message } => write_carried(page, *k, *stamp, message.get()),
     }
 }
 
-/// The receipt of a message.
-fn receipt_value(alloc: Global, k: u32, reached: &[Party], query: bool) -> Option<Value> {
-    let mut reach = Vec::new(alloc);
-    for party in reached {
-        reach.push(Value::from(*party)).ok()?;
+/// Writes the receipt of a message.
+fn write_receipt(page: &mut Page, k: u32, reached: &[Party], query: bool) -> Option<()> {
+    page.begin_object()?;
+    page.number("k", u64::from(k))?;
+    page.flag("query", query)?;
+    page.parties("reach", reached)?;
+    page.end_object()
+}
+
+/// Writes a message as it was carried.
+fn write_carried(page: &mut Page, k: u32, stamp: u32, message: &Message) -> Option<()> {
+    page.begin_object()?;
+    page.number("k", u64::from(k))?;
+    page.message("message", message)?;
+    page.number("stamp", u64::from(stamp))?;
+    page.end_object()
+}
+
+/// Writes a key with a product as its master says it, or with null where there is none.
+pub(crate) fn write_product(
+    page: &mut Page,
+    key: &str,
+    gtin: &Gtin,
+    product: Option<&Product>,
+) -> Option<()> {
+    match product {
+        Some(product) => page.message(key, &master(page.alloc(), gtin, product)?),
+        None => page.nothing(key),
     }
-    let value = json!(in alloc; { "k": k, "query": query, "reach": reach });
-    value.ok()
 }
 
-/// A message as it was carried.
-fn carried_value(alloc: Global, k: u32, stamp: u32, message: &Message) -> Option<Value> {
-    let message = mv_json::to_value(alloc, message).ok()?;
-    let value = json!(in alloc; { "k": k, "message": message, "stamp": stamp });
-    value.ok()
-}
-
-/// A product as its master says it.
-pub(crate) fn master_value(alloc: Global, gtin: &Gtin, product: &Product) -> Option<Value> {
-    let master = Message::Master {
+/// The master of a product.
+fn master(alloc: Global, gtin: &Gtin, product: &Product) -> Option<Message> {
+    let product = Boxed::new(alloc, product.copy(alloc).ok()?).ok()?;
+    Some(Message::Master {
         gtin: *gtin,
-        product: Boxed::new(alloc, product.copy(alloc).ok()?).ok()?,
-    };
-    mv_json::to_value(alloc, &master).ok()
+        product,
+    })
 }

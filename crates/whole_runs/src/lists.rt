@@ -1,14 +1,12 @@
 //! The lists of a system: what each party submitted, the record, the frames of each link, and what lies on the wires.
 
-use crate::items::item_value;
+use crate::items::write_item;
 use crate::page::Page;
 use mv_hub::{Entry, Hub, HubFault};
 use mv_link::Frame;
 use mv_machine::{Reply, Step, WIRE_LIMIT};
 use mv_message::{Message, Party, Shared};
 use mv_system::World;
-use serde_json::{Value, json};
-use std::alloc::Global;
 
 /// Writes what each party submitted, the record, and the frames of each link. None where memory was refused.
 pub(crate) fn write_lists(page: &mut Page, world: &World) -> Option<()> {
@@ -24,60 +22,59 @@ pub(crate) fn write_lists(page: &mut Page, world: &World) -> Option<()> {
 /// Writes what a party submitted, its first message first.
 fn write_submissions(page: &mut Page, party: Party, messages: &[Shared<Message>]) -> Option<()> {
     for place in 0..messages.len() {
-        let value = submission_value(page.alloc(), party, place + 1, messages[place].get())?;
-        page.write_value(&value)?;
+        write_submission(page, party, place + 1, messages[place].get())?;
     }
     Some(())
 }
 
-/// The message of this number that a party submitted.
-fn submission_value(
-    alloc: Global,
-    party: Party,
-    number: usize,
-    message: &Message,
-) -> Option<Value> {
-    let message = mv_json::to_value(alloc, message).ok()?;
-    let value = json!(in alloc; { "message": message, "party": party, "submitted": number });
-    value.ok()
+/// Writes the message of this number that a party submitted.
+fn write_submission(page: &mut Page, party: Party, number: usize, message: &Message) -> Option<()> {
+    page.begin_object()?;
+    page.message("message", message)?;
+    page.number("party", u64::from(party))?;
+    page.number("submitted", number as u64)?;
+    page.end_object_and_line()
 }
 
 /// Writes the record, its first entry first.
 fn write_record(page: &mut Page, record: &[Entry]) -> Option<()> {
     for place in 0..record.len() {
-        let value = entry_value(page.alloc(), place + 1, &record[place])?;
-        page.write_value(&value)?;
+        write_entry(page, place + 1, &record[place])?;
     }
     Some(())
 }
 
-/// An entry of the record, by its place, which is counted from 1 as stamps are.
-fn entry_value(alloc: Global, place: usize, entry: &Entry) -> Option<Value> {
+/// Writes an entry of the record, by its place, which is counted from 1 as stamps are.
+fn write_entry(page: &mut Page, place: usize, entry: &Entry) -> Option<()> {
     match entry {
-        Entry::Routed { from, k, message } => {
-            routed_value(alloc, place, *from, *k, message.get())
-        }
-        Entry::Closed { from, to } => closed_value(alloc, place, *from, *to),
+        Entry::Routed { from, k, message } => write_routed(page, place, *from, *k, message.get()),
+        Entry::Closed { from, to } => write_closed(page, place, *from, *to),
     }
 }
 
-/// A routing.
-fn routed_value(
-    alloc: Global,
+/// Writes a routing.
+fn write_routed(
+    page: &mut Page,
     place: usize,
     from: Party,
     k: u32,
     message: &Message,
-) -> Option<Value> {
-    let message = mv_json::to_value(alloc, message).ok()?;
-    let value = json!(in alloc; { "from": from, "k": k, "message": message, "record": place });
-    value.ok()
+) -> Option<()> {
+    page.begin_object()?;
+    page.number("from", u64::from(from))?;
+    page.number("k", u64::from(k))?;
+    page.message("message", message)?;
+    page.number("record", place as u64)?;
+    page.end_object_and_line()
 }
 
-/// A closing.
-fn closed_value(alloc: Global, place: usize, from: Party, to: Party) -> Option<Value> {
-    let value = json!(in alloc; { "from": from, "record": place, "to": to });
-    value.ok()
+/// Writes a closing.
+fn write_closed(page: &mut Page, place: usize, from: Party, to: Party) -> Option<()> {
+    page.begin_object()?;
+    page.number("from", u64::from(from))?;
+    page.number("record", place as u64)?;
+    page.number("to", u64::from(to))?;
+    page.end_object_and_line()
 }
 
 /// Writes the frames of each link.
@@ -95,27 +92,27 @@ fn write_links(page: &mut Page, hub: &Hub) -> Option<()> {
 /// Writes the frames of a link, so many.
 fn write_link(page: &mut Page, hub: &Hub, from: Party, to: Party, total: u32) -> Option<()> {
     for place in 0..total {
-        let repeated = hub.repeat(from, to, place + 1);
-        let value = frame_value(page.alloc(), from, to, place + 1, repeated)?;
-        page.write_value(&value)?;
+        write_frame(page, hub, from, to, place + 1)?;
     }
     Some(())
 }
 
-/// A frame of a link by its number, or why it cannot be repeated: it was not relayed, or is kept no longer.
-fn frame_value(
-    alloc: Global,
-    from: Party,
-    to: Party,
-    number: u32,
-    repeated: Result<Frame, HubFault>,
-) -> Option<Value> {
-    let item = match repeated {
-        Ok(frame) => item_value(alloc, &frame.item)?,
-        Err(fault) => Value::try_from_str(alloc, fault.code()).ok()?,
-    };
-    let value = json!(in alloc; { "frame": number, "from": from, "item": item, "to": to });
-    value.ok()
+/// Writes a frame of a link by its number, or why it cannot be repeated: it was not relayed, or is kept no longer.
+fn write_frame(page: &mut Page, hub: &Hub, from: Party, to: Party, number: u32) -> Option<()> {
+    page.begin_object()?;
+    page.number("frame", u64::from(number))?;
+    page.number("from", u64::from(from))?;
+    write_repeated(page, &hub.repeat(from, to, number))?;
+    page.number("to", u64::from(to))?;
+    page.end_object_and_line()
+}
+
+/// Writes what a frame carries, or why it cannot be repeated.
+fn write_repeated(page: &mut Page, repeated: &Result<Frame, HubFault>) -> Option<()> {
+    match repeated {
+        Ok(frame) => write_item(page, "item", &frame.item),
+        Err(fault) => page.text("item", fault.code()),
+    }
 }
 
 /// Writes what lies on each wire, the front frame first, and loses it. None where memory was refused.
@@ -132,21 +129,27 @@ pub(crate) fn write_wires(page: &mut Page, world: &mut World) -> Option<()> {
 /// Writes what lies on a wire, and loses it.
 fn write_wire(page: &mut Page, world: &mut World, from: Party, to: Party) -> Option<()> {
     for _ in 0..WIRE_LIMIT {
-        match world.step(&Step::Lose { from, to }) {
-            Reply::Lost { number } => page.write_value(&wire_value(
-                page.alloc(),
-                from,
-                to,
-                number,
-            )?)?,
-            _ => return Some(()),
-        }
+        let Some(number) = lost(world, from, to) else {
+            return Some(());
+        };
+        write_lost(page, from, to, number)?;
     }
     Some(())
 }
 
-/// A frame that lies on a wire, by its number.
-fn wire_value(alloc: Global, from: Party, to: Party, number: u32) -> Option<Value> {
-    let value = json!(in alloc; { "from": from, "to": to, "wire": number });
-    value.ok()
+/// The number of the front frame of a wire, which is lost; none where the wire is empty.
+fn lost(world: &mut World, from: Party, to: Party) -> Option<u32> {
+    match world.step(&Step::Lose { from, to }) {
+        Reply::Lost { number } => Some(number),
+        _ => None,
+    }
+}
+
+/// Writes a frame that lay on a wire, by its number.
+fn write_lost(page: &mut Page, from: Party, to: Party, number: u32) -> Option<()> {
+    page.begin_object()?;
+    page.number("from", u64::from(from))?;
+    page.number("to", u64::from(to))?;
+    page.number("wire", u64::from(number))?;
+    page.end_object_and_line()
 }

@@ -44,6 +44,17 @@ enum Task {
     States,
 }
 
+/// What is written of one run.
+#[derive(Clone, Copy)]
+enum Shown<'a> {
+    /// The replies.
+    Replies,
+    /// The replies, and what the system shows of what was named.
+    State(&'a Named),
+    /// The last reply, and what the system shows of what was named.
+    Last(&'a Named),
+}
+
 /// The line that opens the system, and the steps behind it.
 #[derive(Drop)]
 struct Plan<'a> {
@@ -62,88 +73,119 @@ impl<'a> Plan<'a> {
         }
     }
 
-    /// Takes a line. None where memory was refused.
+    /// Takes the lines of an input. None where memory was refused, here and below.
+    fn take_lines(&mut self, input: &'a [u8]) -> Option<()> {
+        for line in input.split(|byte| *byte == b'\n') {
+            self.take(line)?;
+        }
+        Some(())
+    }
+
+    /// Takes a line.
     fn take(&mut self, line: &'a [u8]) -> Option<()> {
         match Request::read(self.alloc, line) {
-            Ok(request) => self.take_request(line, request),
+            Ok(Request::Step(step)) => self.take_step(step),
+            Ok(Request::Open { .. }) => {
+                self.take_opening(line);
+                Some(())
+            }
             Err(_) => Some(()),
         }
     }
 
-    /// Takes what a line asks. None where memory was refused.
-    fn take_request(&mut self, line: &'a [u8], request: Request) -> Option<()> {
-        match request {
-            Request::Open { .. } => {
-                if self.opening.is_none() && opened(self.alloc, line).is_some() {
-                    self.opening = Some(line);
-                }
+    /// Takes a line that asks for an opening.
+    fn take_opening(&mut self, line: &'a [u8]) {
+        if self.opening.is_none() && opening_of(self.alloc, line).is_some() {
+            self.opening = Some(line);
+        }
+    }
+
+    /// Takes a step, where there is a system to take it in.
+    fn take_step(&mut self, step: Step) -> Option<()> {
+        if self.opening.is_none() {
+            return Some(());
+        }
+        self.steps.push(step).ok()
+    }
+
+    /// Writes what the task asks for.
+    fn answer(&self, task: Task, page: &mut Page) -> Option<()> {
+        let steps = self.steps.as_slice();
+        match task {
+            Task::Replies => self.write_run(page, steps, Shown::Replies),
+            Task::State => {
+                let mut named = Named::new(self.alloc);
+                self.write_state_at_end(page, &mut named)
             }
-            Request::Step(step) => {
-                if self.opening.is_some() {
-                    self.steps.push(step).ok()?;
-                }
+            Task::States => {
+                let mut named = Named::new(self.alloc);
+                self.write_states(page, &mut named)
             }
         }
-        Some(())
-    }
-
-    /// What is written. None where memory was refused.
-    fn answer(&self, task: Task) -> Option<Page> {
-        let mut page = Page::new(self.alloc);
-        if self.opening.is_some() {
-            match task {
-                Task::Replies => self.write_replies(&mut page)?,
-                Task::State => self.write_last_state(&mut page)?,
-                Task::States => self.write_states(&mut page)?,
-            }
-        }
-        Some(page)
-    }
-
-    /// Takes steps as one run, in a system of their own: the system then, and the replies. None where memory was refused.
-    fn run(&self, steps: &[Step]) -> Option<(World, Vec<Reply>)> {
-        let mut world = opened(self.alloc, self.opening?)?;
-        let replies = world.run(steps).ok()?;
-        Some((world, replies))
-    }
-
-    /// Writes the replies to all steps.
-    fn write_replies(&self, page: &mut Page) -> Option<()> {
-        let (_, replies) = self.run(self.steps.as_slice())?;
-        write_replies(page, replies.as_slice())
     }
 
     /// Writes the replies to all steps, and what the system shows then.
-    fn write_last_state(&self, page: &mut Page) -> Option<()> {
-        let (mut world, replies) = self.run(self.steps.as_slice())?;
-        write_replies(page, replies.as_slice())?;
-        let mut named = Named::new(self.alloc);
-        for step in &self.steps {
+    fn write_state_at_end(&self, page: &mut Page, named: &mut Named) -> Option<()> {
+        let steps = self.steps.as_slice();
+        for step in steps {
             named.note(step)?;
         }
-        write_state(page, &mut world, &named)
+        self.write_run(page, steps, Shown::State(named))
     }
 
     /// Writes each reply, and what the system shows behind it.
-    fn write_states(&self, page: &mut Page) -> Option<()> {
+    fn write_states(&self, page: &mut Page, named: &mut Named) -> Option<()> {
         let steps = self.steps.as_slice();
-        let mut named = Named::new(self.alloc);
         for place in 0..steps.len() {
             named.note(&steps[place])?;
-            self.write_state_behind(page, &steps[..place + 1], &named)?;
+            self.write_run(page, &steps[..place + 1], Shown::Last(named))?;
         }
         Some(())
     }
 
-    /// Takes steps as one run, in a system of their own, and writes the last reply and what the system shows then.
-    fn write_state_behind(&self, page: &mut Page, steps: &[Step], named: &Named) -> Option<()> {
-        let (mut world, replies) = self.run(steps)?;
-        write_last_reply(page, replies.as_slice())?;
-        write_state(page, &mut world, named)
+    /// Takes steps as one run, in a system of their own, and writes what is to be shown of it. No other function has a system to drop.
+    fn write_run(&self, page: &mut Page, steps: &[Step], shown: Shown<'_>) -> Option<()> {
+        let Some(line) = self.opening else {
+            return Some(());
+        };
+        let (parties, limits) = opening_of(self.alloc, line)?;
+        let mut world = World::open(self.alloc, parties, limits).ok()?;
+        write_run_in(page, &mut world, steps, shown)
     }
 }
 
-/// Writes replies, one a line. None where memory was refused.
+/// Takes steps as one run in a system, and writes what is to be shown of it.
+fn write_run_in(
+    page: &mut Page,
+    world: &mut World,
+    steps: &[Step],
+    shown: Shown<'_>,
+) -> Option<()> {
+    let replies = world.run(steps).ok()?;
+    write_shown(page, world, replies.as_slice(), shown)
+}
+
+/// Writes what is to be shown of a run, by its replies and the system behind it.
+fn write_shown(
+    page: &mut Page,
+    world: &mut World,
+    replies: &[Reply],
+    shown: Shown<'_>,
+) -> Option<()> {
+    match shown {
+        Shown::Replies => write_replies(page, replies),
+        Shown::State(named) => {
+            write_replies(page, replies)?;
+            write_state(page, world, named)
+        }
+        Shown::Last(named) => {
+            write_reply(page, replies.last()?)?;
+            write_state(page, world, named)
+        }
+    }
+}
+
+/// Writes replies, one a line.
 fn write_replies(page: &mut Page, replies: &[Reply]) -> Option<()> {
     for reply in replies {
         write_reply(page, reply)?;
@@ -151,15 +193,10 @@ fn write_replies(page: &mut Page, replies: &[Reply]) -> Option<()> {
     Some(())
 }
 
-/// Writes the last reply. None where there is none, or memory was refused.
-fn write_last_reply(page: &mut Page, replies: &[Reply]) -> Option<()> {
-    write_reply(page, replies.last()?)
-}
-
 /// Writes a reply.
 fn write_reply(page: &mut Page, reply: &Reply) -> Option<()> {
     let text = reply_text(page.alloc(), reply).ok()?;
-    page.write(text.as_str())
+    page.line(text.as_str())
 }
 
 /// Writes what a system shows of what was named. What lies on its wires shows only as it is lost, so that comes last.
@@ -170,8 +207,8 @@ fn write_state(page: &mut Page, world: &mut World, named: &Named) -> Option<()> 
     write_wires(page, world)
 }
 
-/// The system that a line opens, where it opens one.
-fn opened(alloc: Global, line: &[u8]) -> Option<World> {
+/// The parties and limits of the system that a line opens, where it opens one.
+fn opening_of(alloc: Global, line: &[u8]) -> Option<(Parties, Limits)> {
     match Request::read(alloc, line) {
         Ok(
             Request::Open {
@@ -183,31 +220,30 @@ fn opened(alloc: Global, line: &[u8]) -> Option<World> {
             },
         ) => {
             let limits = Limits::of(window, wire, uplink, submissions).ok()?;
-            opened_for(alloc, parties, limits)
+            parties_with(alloc, parties, limits)
         }
         _ => None,
     }
 }
 
-/// A system of these parties and limits, where there is one.
-fn opened_for(alloc: Global, lists: MarketLists, limits: Limits) -> Option<World> {
-    let parties = Parties::new(alloc, lists.into_lists()).ok()?;
-    World::open(alloc, parties, limits).ok()
-}
-
-/// What the lines of an input ask.
-fn plan_of<'a>(alloc: Global, input: &'a [u8]) -> Option<Plan<'a>> {
-    let mut plan = Plan::new(alloc);
-    for line in input.split(|byte| *byte == b'\n') {
-        plan.take(line)?;
+/// The parties of lists of markets, where there are such, with these limits.
+fn parties_with(alloc: Global, lists: MarketLists, limits: Limits) -> Option<(Parties, Limits)> {
+    match Parties::new(alloc, lists.into_lists()) {
+        Ok(parties) => Some((parties, limits)),
+        Err(_) => None,
     }
-    Some(plan)
 }
 
-/// What is written to an input.
-fn answer(alloc: Global, input: &[u8], task: Task) -> Option<Page> {
-    let plan = plan_of(alloc, input)?;
-    plan.answer(task)
+/// Writes what is written to an input.
+fn answer(alloc: Global, input: &[u8], task: Task, page: &mut Page) -> Option<()> {
+    let mut plan = Plan::new(alloc);
+    answer_by(&mut plan, input, task, page)
+}
+
+/// The same, by a plan that is filled with the lines of the input.
+fn answer_by<'a>(plan: &mut Plan<'a>, input: &'a [u8], task: Task, page: &mut Page) -> Option<()> {
+    plan.take_lines(input)?;
+    plan.answer(task, page)
 }
 
 /// What the words behind the program's name ask for; none where they are mistaken.
@@ -237,9 +273,10 @@ fn main(rt: HostRuntime) -> ExitCode {
     if reader.read_to_end(&mut input).is_err() {
         return ExitCode::from(1);
     }
-    let Some(page) = answer(rt.alloc(), input.as_slice(), task) else {
+    let mut page = Page::new(rt.alloc());
+    if answer(rt.alloc(), input.as_slice(), task, &mut page).is_none() {
         return ExitCode::from(1);
-    };
+    }
     let mut writer = rt.stdout();
     match writer.write_all(page.as_bytes()) {
         Ok(()) => ExitCode::from(0),

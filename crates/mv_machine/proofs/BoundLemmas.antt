@@ -1,15 +1,20 @@
 -- How long the record can grow: each sender routes what it submitted, and each link is closed at most once.
-use Rattle.std.proofs.Common.{◌≡◌, ℕ, zero, suc, ◌+◌, ◌*◌, ◌<◌, ◌≤◌, List, [], ◌∷◌, ◌++◌, length, length-append, cond, refl, ap, append_assoc, append-nil, arith}
-use Rattle.std.specs.Prelude.{◌&&◌}
+use Rattle.std.proofs.Common.{◌≡◌, ℕ, zero, suc, ◌+◌, ◌*◌, ◌<◌, ◌≤◌, List, [], ◌∷◌, ◌++◌, length, length-append, cond, false, refl, ap, append_assoc, append-nil, arith}
+use Rattle.std.specs.Prelude.{◌&&◌, nat_lt}
 use Rattle.std.proofs.Math.Nat.{mul-le-mul_left}
-use Rattle.std.proofs.lemmas.Bool.{eq-eqb, cases_eq}
+use Rattle.std.proofs.lemmas.Bool.{eq-eqb, cases_eq, le-ltb}
+use Rattle.mv_message.specs.declared.message.Message.{Message}
 use Rattle.mv_hub.specs.declared.entry.Entry.{Entry}
 use Rattle.mv_hub.specs.declared.entry.Entry.TheVariants.{Routed, Closed}
 use Rattle.mv_hub.specs.Record.{routed_from, routed_count, is_open}
-use Rattle.mv_link.specs.declared.limits.TheConstants.{PARTIES_LIMIT}
+use Rattle.mv_hub.specs.Links.{gained, link_items, link_items_after}
+use Rattle.mv_hub.specs.Hub.{is_busy, next_items}
+use Rattle.mv_hub.proofs.RecordLemmas.{gained_other}
+use Rattle.mv_link.specs.declared.limits.TheConstants.{PARTIES_LIMIT, NUMBER_LIMIT}
 use Rattle.mv_party.specs.declared.limits.TheConstants.{SUBMISSIONS_LIMIT}
 use Rattle.mv_machine.specs.Limits.{most_entries}
-use Rattle.mv_machine.specs.State.{State, submissions_of}
+use Rattle.mv_machine.specs.State.{State, submissions_of, items_on, hub_of}
+use Rattle.mv_machine.specs.Laws.{NumbersSuffice}
 use Rattle.mv_machine.specs.Lawful.{AllFit, AllNameParties, IsLawfulRecord, IsLawful}
 use Rattle.mv_machine.proofs.PutLemmas.{routed_count-push}
 
@@ -85,6 +90,38 @@ record-few count entries lawful parties_few short =
     let links = sum_below-most count (count * 1) (open_from count []) (λ from lt. sum_below-most count 1 _ (λ to below. omega arith)) in
     let messages = sum_below-most count SUBMISSIONS_LIMIT (routed_count entries) short in
     omega (arith, all, links, messages, mul-le-mul_left count parties_few)
+
+-- an entry puts at most two items on a link
+gained-few : (parties : List (List (List ℕ))) (before : List Entry) (sender k : ℕ) (message : Message) (from to : ℕ)
+    → length (gained parties before (Routed sender k message) from to) ≤ 2
+unfolding gained
+gained-few parties before sender k message from to = grind arith
+
+-- a link carries at most two items for each message that was routed from its sender
+items-few : (parties : List (List (List ℕ))) (before entries : List Entry) (from to : ℕ)
+    → length (link_items_after parties before entries from to) ≤ 2 * routed_count entries from
+unfolding gained
+items-few parties before [] from to = omega arith
+items-few parties before (Closed a b ∷ entries) from to = items-few parties (before ++ Closed a b ∷ []) entries from to
+items-few parties before (Routed a k m ∷ entries) from to =
+    let rest = link_items_after parties (before ++ Routed a k m ∷ []) entries from to in
+    grind (
+      arith,
+      items-few parties (before ++ Routed a k m ∷ []) entries from to,
+      length-append (gained parties before (Routed a k m) from to) rest,
+      gained-few parties before a k m from to,
+      gained_other parties before a k m from to,
+    )
+
+-- so no link runs out of numbers
+pub numbers_suffice : NumbersSuffice
+unfolding is_busy link_items
+numbers_suffice st from to message lawful is_party few =
+    let items = items-few st.parties [] st.entries from to in
+    let more = gained-few st.parties st.entries from (routed_count st.entries from + 1) message from to in
+    let numbers : nat_lt NUMBER_LIMIT (length (items_on st from to) + length (next_items (hub_of st) from message to)) ≡ false =
+    le-ltb _ _ (omega (arith, items, more, routed_count-few st from lawful is_party, few)) in
+    rw numbers (grind arith)
 
 pub ruleset short_records = (record-few)
 

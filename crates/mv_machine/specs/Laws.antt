@@ -1,6 +1,8 @@
 -- What every run of the list machine keeps.
-use Rattle.std.specs.Prelude.{◌≡◌, ◌<◌, ◌≤◌, ℕ, List, length, IsTrue}
+use Rattle.std.specs.Prelude.{◌≡◌, ◌<◌, ◌≤◌, ◌+◌, ◌-◌, ℕ, List, length, nat_lt, IsTrue}
 use Rattle.mv_pack.specs.declared.key.PackKey.{PackKey}
+use Rattle.mv_message.specs.declared.message.Message.{Message}
+use Rattle.mv_hub.specs.Hub.{is_busy, next_items}
 use Rattle.mv_repository.specs.Agreement.{AgreeOn}
 use Rattle.mv_machine.specs.declared.step.Step.{Step}
 use Rattle.mv_machine.specs.declared.reply.Reply.{Reply}
@@ -8,7 +10,7 @@ use Rattle.mv_link.specs.declared.limits.TheConstants.{PARTIES_LIMIT}
 use Rattle.mv_party.specs.declared.limits.TheConstants.{SUBMISSIONS_LIMIT}
 use Rattle.mv_machine.specs.Limits.{Bounds, most_entries}
 use Rattle.mv_machine.specs.Replies.{changes_nothing}
-use Rattle.mv_machine.specs.State.{State, submissions_of, log_of, applied_count, opening}
+use Rattle.mv_machine.specs.State.{State, submissions_of, sent_of, log_of, items_on, applied_count, hub_of, opening}
 use Rattle.mv_machine.specs.Steps.{ask}
 use Rattle.mv_machine.specs.Runs.{Meets, Allows, Runs}
 use Rattle.mv_machine.specs.Lawful.{IsLawful, IsWellFormed}
@@ -34,6 +36,13 @@ ClosedLinksStayClosed = (parties : List (List (List ℕ))) (limits : Bounds) (fi
 abbrev pub StampsFit : Type 0
 StampsFit = (st : State) → IsLawful st → length st.parties ≤ PARTIES_LIMIT
     → ((party : ℕ) → length (submissions_of st party) ≤ SUBMISSIONS_LIMIT) → length st.entries ≤ most_entries
+
+-- In a lawful state a link is busy for a message of a party that submitted no more than it may only where its window has no room: a link
+-- carries two items at most for each message, so that their numbers have far fewer than 32 bits.
+abbrev pub NumbersSuffice : Type 0
+NumbersSuffice = (st : State) (from to : ℕ) (message : Message) → IsLawful st → from < length st.parties
+    → length (submissions_of st from) ≤ SUBMISSIONS_LIMIT → is_busy (hub_of st) from message to
+    ≡ nat_lt st.limits.window (length (items_on st from to) - sent_of st from to + length (next_items (hub_of st) from message to))
 
 -- in a lawful state each stamp of a log is the place of the record where its message was routed, and in no log does one stand
 -- twice

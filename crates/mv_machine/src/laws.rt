@@ -5,7 +5,7 @@ ghost use Rattle.mv_machine.specs.Laws.{LawfulStampsAreDistinct, LawfulRepositor
 ghost use Rattle.mv_machine.specs.Laws.{LawfulClosingsHold, LawfulItemsAreSubmitted};
 ghost use Rattle.mv_machine.specs.Laws.{FollowsIsTransitive, LawfulStatesKeepHeadline};
 ghost use Rattle.mv_machine.specs.Laws.{HeadlinesJoin, StepsFollow, RefusalsChangeNothing};
-ghost use Rattle.mv_machine.specs.Laws.{LimitsAreKept, RecordsDecide};
+ghost use Rattle.mv_machine.specs.Laws.{LimitsAreKept, NumbersSuffice, RecordsDecide};
 
 /// Whatever the steps and whatever their order: what each repository applied from each sender is a prefix of what the record
 /// put on their link, in order and each once, and what was routed is a prefix of what its sender submitted.
@@ -25,6 +25,12 @@ pub fn closed_links_stay_closed()
 #[tactic(auto, using(crate::proofs::BoundLemmas::entries_few))]
 pub fn stamps_fit()
     ensures { StampsFit }
+{}
+
+/// In every lawful state, a link is busy for a message only where its window has no room: the numbers of 32 bits suffice for its items.
+#[tactic(auto, using(crate::proofs::BoundLemmas::numbers_suffice))]
+pub fn numbers_suffice()
+    ensures { NumbersSuffice }
 {}
 
 /// In every lawful state, the stamp of each message in a log is its place in the record, and no stamp stands twice in a log.

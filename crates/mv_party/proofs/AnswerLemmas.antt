@@ -1,5 +1,5 @@
 -- The answers among what a party submits are those that its repository's log calls for.
-use Rattle.std.proofs.Common.{◌≡◌, ℕ, false, List, [], ◌∷◌, ◌++◌, Some, None, Option, sym, refl, ap, ◌∙◌, append_assoc, append-nil}
+use Rattle.std.proofs.Common.{◌≡◌, ℕ, false, List, [], ◌∷◌, ◌++◌, sym, refl, ap, ◌∙◌, append_assoc, append-nil}
 use Rattle.std.specs.Prelude.{option_to_list}
 use Rattle.mv_message.specs.declared.message.Message.{Message}
 use Rattle.mv_message.specs.declared.message.Message.TheVariants.{Master, Upload, Status, Recall, Repack, Withdraw, Query, Answer}
@@ -7,7 +7,7 @@ use Rattle.mv_message.specs.Kinds.{is_query_or_answer}
 use Rattle.mv_link.specs.declared.item.Item.{Item}
 use Rattle.mv_link.specs.declared.item.Item.TheVariants.{Receipt, Carried}
 use Rattle.mv_repository.specs.declared.entry.LogEntry.{LogEntry}
-use Rattle.mv_repository.specs.Query.{answer_after, answer_to, with_answer, answers_from, answers_of}
+use Rattle.mv_repository.specs.Query.{answer_after, answer_to, answers_from, answers_of}
 use Rattle.mv_party.specs.Site.{answers_in}
 
 pub answers_in-append : (xs ys : List Message) → answers_in (xs ++ ys) ≡ answers_in xs ++ answers_in ys
@@ -48,20 +48,12 @@ called_for log sender (Carried k stamp (Repack before before_serials after after
 called_for log sender (Carried k stamp (Withdraw gtin at)) = refl
 called_for log sender (Carried k stamp (Query key)) = refl
 
-with_answer-append : (answer : Option Message) (xs ys : List Message) → with_answer answer (xs ++ ys) ≡ with_answer answer xs ++ ys
-with_answer-append None xs ys = refl
-with_answer-append (Some a) xs ys = refl
-
-with_answer-nil : (answer : Option Message) → with_answer answer [] ≡ option_to_list answer
-with_answer-nil None = refl
-with_answer-nil (Some a) = refl
-
 answers_from-push : (before log : List LogEntry) (entry : LogEntry) → answers_from before (log ++ entry ∷ []) ≡ answers_from before log ++ option_to_list (answer_to (before ++ log) entry)
-answers_from-push before [] entry = with_answer-nil (answer_to before entry) ∙ ap (λ b. option_to_list (answer_to b entry)) (sym (append-nil before))
+answers_from-push before [] entry = append-nil (option_to_list (answer_to before entry)) ∙ ap (λ b. option_to_list (answer_to b entry)) (sym (append-nil before))
 answers_from-push before (x ∷ log) entry =
-    ap (with_answer (answer_to before x)) (answers_from-push (before ++ x ∷ []) log entry)
-    ∙ with_answer-append (answer_to before x) (answers_from (before ++ x ∷ []) log) (option_to_list (answer_to ((before ++ x ∷ []) ++ log) entry))
-    ∙ ap (λ b. with_answer (answer_to before x) (answers_from (before ++ x ∷ []) log) ++ option_to_list (answer_to b entry)) (append_assoc before (x ∷ []) log)
+    ap (λ l. option_to_list (answer_to before x) ++ l) (answers_from-push (before ++ x ∷ []) log entry)
+    ∙ sym (append_assoc (option_to_list (answer_to before x)) (answers_from (before ++ x ∷ []) log) (option_to_list (answer_to ((before ++ x ∷ []) ++ log) entry)))
+    ∙ ap (λ b. (option_to_list (answer_to before x) ++ answers_from (before ++ x ∷ []) log) ++ option_to_list (answer_to b entry)) (append_assoc before (x ∷ []) log)
 
 -- an entry is applied, and the answer that it calls for is submitted
 pub answers_in-applied : (messages : List Message) (log : List LogEntry) (entry : LogEntry) → answers_in messages ≡ answers_of log

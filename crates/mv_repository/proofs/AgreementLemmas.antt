@@ -1,7 +1,7 @@
 -- What a log means for a pack is decided by what it has about the pack.
 use Rattle.std.proofs.Common.{◌≡◌, ℕ, List, [], ◌∷◌, ◌++◌, refl, sym, ◌∙◌, ap, subst, append-nil, Bool, true, false, cond, ◌||◌, Option, Some, None, IfSome, is_some, filter, map, true≢false}
 use Rattle.std.specs.List.{list_any}
-use Rattle.std.specs.Option.{option_map, option_or}
+use Rattle.std.specs.Option.{option_map, option_map_or, option_or}
 use Rattle.std.proofs.lemmas.List.{map-append}
 use Rattle.std.proofs.lemmas.List.Elements.{filter-append, filter_map-append}
 use Rattle.mv_pack.specs.Expiry.{CivilDate}
@@ -10,6 +10,8 @@ use Rattle.mv_pack.specs.declared.key.BatchKey.{BatchKey}
 use Rattle.mv_message.specs.declared.standing.Standing.{Standing}
 use Rattle.mv_message.specs.declared.message.Message.{Message}
 use Rattle.mv_message.specs.declared.message.Message.TheVariants.{Upload, Status, Recall, Withdraw}
+use Rattle.mv_message.specs.declared.found.Found.{Found}
+use Rattle.mv_message.specs.declared.found.Found.TheVariants as founds
 use Rattle.mv_link.specs.declared.item.Item.{Item}
 use Rattle.mv_link.specs.declared.item.Item.TheVariants.{Receipt, Carried}
 use Rattle.mv_repository.specs.declared.entry.LogEntry.{LogEntry}
@@ -21,10 +23,9 @@ use Rattle.mv_repository.specs.declared.verdict.Local.TheVariants.{Known, Absent
 use Rattle.mv_repository.specs.Order.{Placed, ordered}
 use Rattle.mv_repository.specs.Keys.{is_same_pack, batch_key}
 use Rattle.mv_repository.specs.Pack.{KnownChange, KnownPack, new_pack, change_effect, revert_effect, is_final, is_active, is_done, change_to, pack_after_status}
-use Rattle.mv_repository.specs.PackState.{has_pack, is_recall_of, is_withdrawal_of, batch_standing, pack_after_item, pack_after, known_pack_from, known_pack, held_of, is_withdrawn}
+use Rattle.mv_repository.specs.PackState.{has_pack, is_recall_of, is_withdrawal_of, batch_standing, pack_after_item, pack_after, known_pack_from, known_pack, held_of, is_recalled, is_withdrawn}
 use Rattle.mv_repository.specs.Verdict.{local_verdict, local_verdict_of, verdict_when, is_explained}
-use Rattle.mv_repository.specs.Query.{found_when}
-use Rattle.mv_repository.specs.Agreement.{Sent, sent_in, sent_by, bears_on, batch_in, about, NamedChange, NamedPack, named_change, named_pack, named_state, is_batch_recalled, AgreeOn}
+use Rattle.mv_repository.specs.Agreement.{Sent, sent_in, sent_by, bears_on, batch_in, about, unplaced, unplaced_state, is_batch_recalled, AgreeOn}
 
 -- a sent message as an entry of no place
 abbrev bare : Sent → Placed
@@ -42,12 +43,9 @@ bare_about-append pack batch xs ys =
     ∙ ap (map bare) (filter-append bears (sent_by xs) (sent_by ys))
     ∙ map-append bare (filter bears (sent_by xs)) (filter bears (sent_by ys))
 
--- a change, and a pack, at no place
+-- a change at no place
 abbrev unplaced_change : KnownChange → KnownChange
 unplaced_change change = record change { entry = 0 }
-
-abbrev unplaced : KnownPack → KnownPack
-unplaced held = record held { change = option_map unplaced_change held.change }
 
 -- an entry on which a test rests that only what bears on the pack passes
 any-about : (pack : PackKey) (batch : Option (List ℕ)) (test : Item → Bool)
@@ -255,11 +253,11 @@ pack-about pack batch before (x ∷ xs) known e =
     (pack-about pack batch (before ++ x ∷ []) xs (pack_after (batch_standing before) x pack known) e)
 
 -- what is said of a pack by what a log has about it
-named-unplaced : (known : Option KnownPack) → option_map named_pack (option_map unplaced known) ≡ option_map named_pack known
+named-unplaced : (known : Option KnownPack) → option_map unplaced (option_map unplaced known) ≡ option_map unplaced known
 named-unplaced None = refl
-named-unplaced (Some held) = ap (λ (change : Option NamedChange). Some (record { batch = held.batch; expiry = held.expiry; national = held.national; standing = held.standing; change = change })) (by held.change)
+named-unplaced (Some held) = ap (λ (change : Option KnownChange). Some (record { batch = held.batch; expiry = held.expiry; national = held.national; standing = held.standing; change = change })) (by held.change)
   where
-    by : (change : Option KnownChange) → option_map named_change (option_map unplaced_change change) ≡ option_map named_change change
+    by : (change : Option KnownChange) → option_map unplaced_change (option_map unplaced_change change) ≡ option_map unplaced_change change
     by None = refl
     by (Some change) = refl
 
@@ -267,19 +265,19 @@ batch-shown : (known : Option KnownPack) → option_map batch_of known ≡ optio
 batch-shown None = refl
 batch-shown (Some held) = refl
 
-abbrev named_by : PackKey → List Sent → Option NamedPack
-named_by pack sent = option_map named_pack (known_pack pack (map bare sent))
+abbrev named_by : PackKey → List Sent → Option KnownPack
+named_by pack sent = option_map unplaced (known_pack pack (map bare sent))
 
-state-about : (pack : PackKey) (log : List LogEntry) → named_state pack log ≡ named_by pack (about pack log)
+state-about : (pack : PackKey) (log : List LogEntry) → unplaced_state pack log ≡ named_by pack (about pack log)
 state-about pack log =
     sym (named-unplaced (known_pack pack (ordered log)))
-    ∙ ap (option_map named_pack) (pack-about pack (batch_in pack log) [] (ordered log) None (batch-shown (known_pack pack (ordered log))))
+    ∙ ap (option_map unplaced) (pack-about pack (batch_in pack log) [] (ordered log) None (batch-shown (known_pack pack (ordered log))))
 
 -- the batch is that of the state
-batch-named : (pack : PackKey) (log : List LogEntry) → batch_in pack log ≡ option_map (λ held. held.batch) (named_state pack log)
+batch-named : (pack : PackKey) (log : List LogEntry) → batch_in pack log ≡ option_map (λ held. held.batch) (unplaced_state pack log)
 batch-named pack log = by (known_pack pack (ordered log))
   where
-    by : (known : Option KnownPack) → option_map (λ held. held.batch) (option_map held_of known) ≡ option_map (λ held. held.batch) (option_map named_pack known)
+    by : (known : Option KnownPack) → option_map (λ held. held.batch) (option_map held_of known) ≡ option_map (λ held. held.batch) (option_map unplaced known)
     by None = refl
     by (Some held) = refl
 
@@ -298,22 +296,26 @@ withdrawal-about : (pack : PackKey) (log : List LogEntry) → is_withdrawn pack.
 withdrawal-about pack log = withdrawn-about pack (batch_in pack log) (ordered log)
 
 -- the verdict goes by the state, the recall and the withdrawal
-abbrev verdict_by : Option NamedPack → Bool → Bool → Local
+abbrev verdict_by : Option KnownPack → Bool → Bool → Local
 verdict_by None recalled withdrawn = Absent
 verdict_by (Some held) recalled withdrawn = Known (verdict_when (is_active held.standing) (is_explained recalled withdrawn held.standing))
 
 verdict-by : (pack : PackKey) (log : List LogEntry)
-    → local_verdict pack log ≡ verdict_by (named_state pack log) (is_batch_recalled pack.gtin (batch_in pack log) log) (is_withdrawn pack.gtin log)
+    → local_verdict pack log ≡ verdict_by (unplaced_state pack log) (is_batch_recalled pack.gtin (batch_in pack log) log) (is_withdrawn pack.gtin log)
 verdict-by pack log = by (known_pack pack (ordered log))
   where
-    by : (known : Option KnownPack) → local_verdict_of (found_when pack log (option_map held_of known))
-        ≡ verdict_by (option_map named_pack known) (is_batch_recalled pack.gtin (option_map (λ held. held.batch) (option_map held_of known)) log) (is_withdrawn pack.gtin log)
+    found : Option KnownPack → Found
+    found known = option_map_or (λ held. founds.Present held.batch held.expiry held.national held.standing
+        (is_recalled (batch_key pack.gtin held.batch) log) (is_withdrawn pack.gtin log)) (option_map held_of known) founds.Absent
+
+    by : (known : Option KnownPack) → local_verdict_of (found known)
+        ≡ verdict_by (option_map unplaced known) (is_batch_recalled pack.gtin (option_map (λ held. held.batch) (option_map held_of known)) log) (is_withdrawn pack.gtin log)
     by None = refl
     by (Some held) = refl
 
 pub agree : (pack : PackKey) (one other : List LogEntry) → about pack one ≡ about pack other → AgreeOn pack one other
 agree pack one other same =
-    let state : named_state pack one ≡ named_state pack other = state-about pack one ∙ ap (named_by pack) same ∙ sym (state-about pack other) in
+    let state : unplaced_state pack one ≡ unplaced_state pack other = state-about pack one ∙ ap (named_by pack) same ∙ sym (state-about pack other) in
     let batch : batch_in pack one ≡ batch_in pack other = batch-named pack one ∙ ap (option_map (λ held. held.batch)) state ∙ sym (batch-named pack other) in
     let recall : is_batch_recalled pack.gtin (batch_in pack one) one ≡ is_batch_recalled pack.gtin (batch_in pack other) other =
     recall-about pack one ∙ (λ i. recalled_by pack.gtin (batch i) (same i)) ∙ sym (recall-about pack other) in

@@ -20,7 +20,7 @@ use Rattle.mv_repository.specs.Keys.{is_same_text, is_same_pack, is_same_batch, 
 use Rattle.mv_repository.specs.Order.{Placed, passes, put_in, ordered_after, ordered}
 use Rattle.mv_repository.specs.Masters.{is_master, last_master, AreMastersOf}
 use Rattle.mv_repository.specs.PackState.{has_pack, is_recall_of, pack_state, held_of}
-use Rattle.mv_repository.specs.Counts.{mastered_in, uploaded_in, recalled_in, mastered_products, uploaded_packs, recalled_batches, is_held_active}
+use Rattle.mv_repository.specs.Counts.{mastered_in, uploaded_in, recalled_in, uploaded_packs, is_held_active}
 use Rattle.mv_repository.specs.Stops.{StopTables, AreStopsOf, place_of, first_stops}
 use Rattle.mv_repository.specs.Track.{Kept, is_upload_of, first_upload, statuses_of, pack_grown, nothing_kept, kept_in, AreTracksOf, is_made, is_active_kept}
 use Rattle.mv_repository.proofs.OrderLemmas.{ordered-ascends}
@@ -113,9 +113,9 @@ some-map : {A B : Type 0} → (f : A → B) (o : Option A) → is_some (option_m
 some-map f None = refl
 some-map f (Some x) = refl
 
-pub count-products : (log : List LogEntry) (masters : List (List ℕ × ℕ)) → IsDistinct is_same_text (keys_of masters) → AreMastersOf log masters → length masters ≡ distinct_count is_same_text (mastered_products log)
+pub count-products : (log : List LogEntry) (masters : List (List ℕ × ℕ)) → IsDistinct is_same_text (keys_of masters) → AreMastersOf log masters → length masters ≡ distinct_count is_same_text (flat_map (λ entry. mastered_in entry.item) log)
 count-products log masters distinct places =
-    counted-once nat_list_eq_equiv masters (mastered_products log) distinct
+    counted-once nat_list_eq_equiv masters (flat_map (λ entry. mastered_in entry.item) log) distinct
     (λ gtin. ap is_some (places gtin) ∙ some-map place_of (last_master gtin (ordered log)) ∙ master-found gtin (ordered log) ∙ any-ordered (is_master gtin) log
     ∙ sym (any-flat (is_same_text gtin) mastered_in (is_master gtin) (mastered-is gtin) log))
 
@@ -133,9 +133,9 @@ batch-equiv = record {
   congr = λ x y z e. ap (λ (q : BatchKey). is_same_batch q z) (same_batch x y e);
 }
 
-pub count-recalled : (log : List LogEntry) (tables : StopTables) → IsDistinct is_same_batch (keys_of tables.recalls) → AreStopsOf log tables → length tables.recalls ≡ distinct_count is_same_batch (recalled_batches log)
+pub count-recalled : (log : List LogEntry) (tables : StopTables) → IsDistinct is_same_batch (keys_of tables.recalls) → AreStopsOf log tables → length tables.recalls ≡ distinct_count is_same_batch (flat_map (λ entry. recalled_in entry.item) log)
 count-recalled log tables distinct stops =
-    counted-once batch-equiv tables.recalls (recalled_batches log) distinct
+    counted-once batch-equiv tables.recalls (flat_map (λ entry. recalled_in entry.item) log) distinct
     (λ batch. ap is_some (stops.recalls batch) ∙ found-any (λ placed. is_recall_of batch placed.entry.item) (ordered log) ∙ any-ordered (is_recall_of batch) log
     ∙ sym (any-flat (is_same_batch batch) recalled_in (is_recall_of batch) (recalled-is batch) log))
 

@@ -1,7 +1,7 @@
 -- Lemmas on what a log says of its party's queries.
 use Rattle.std.proofs.Common.{◌≡◌, ℕ, suc, IfSome, List, [], ◌∷◌, ◌++◌, refl, sym, ◌∙◌, ap, Bool, true, false, cond, not, ◌&&◌, ◌||◌, ◌==◌, Option, Some, None, is_some, filter, length, true≢false}
 use Rattle.std.specs.List.{list_any}
-use Rattle.std.specs.Option.{option_or, option_map}
+use Rattle.std.specs.Option.{option_or, option_map, option_map_or}
 use Rattle.std.proofs.Math.Bool.{or-false}
 use Rattle.std.proofs.lemmas.List.Folds.{list_any-append}
 use Rattle.mv_message.specs.declared.message.Message.TheVariants.{Answer}
@@ -13,8 +13,12 @@ use Rattle.mv_repository.specs.declared.entry.LogEntry.{LogEntry}
 use Rattle.mv_repository.specs.declared.inquiries.Inquiries.{Inquiries}
 use Rattle.mv_repository.specs.declared.inquiries.Inquiry.{Inquiry}
 use Rattle.mv_repository.specs.declared.verdict.Joint.TheVariants.{Pending, Decided}
-use Rattle.mv_repository.specs.Verdict.{query_reach, asked_parties, finding_in, is_found_so, has_answered, has_finding, found_active, found_explained, joint_verdict_when, joint_verdict, verdict_when}
+use Rattle.mv_repository.specs.Verdict.{query_reach, asked_parties, finding_in, has_answered, has_finding, found_active, found_explained, joint_verdict_when, joint_verdict, verdict_when}
 use Rattle.mv_repository.specs.Inquiries.{tells_of_query, inquiry_in, with_receipt, with_finding, has_reply, named_parties, parties_at, verdict_once_asked, known_verdict, is_receipt_of, receipt_place, inquiry_of, IsInquiriesOf}
+
+-- there is a finding, and it is so
+abbrev is_found_so : (Found → Bool) → Option Found → Bool
+is_found_so test finding = option_map_or test finding false
 
 -- an item from a sender, as an entry
 abbrev entry_of : ℕ → Item → LogEntry

@@ -1,13 +1,22 @@
 -- Lemmas on the order of stamps.
 use Rattle.std.proofs.Common.{◌≡◌, ℕ, suc, ◌+◌, ◌<◌, ◌≤◌, List, [], ◌∷◌, ◌++◌, length, refl, ◌∙◌, ap, subst, arith, Bool, true, false, cond, ◌&&◌, ◌||◌, nat_lt, ◌==◌}
 use Rattle.std.specs.Bool.{⊤}
+use Rattle.std.specs.List.{AllByRecursion}
 use Rattle.std.specs.Prelude.{slice_get, Some, get_or}
 use Rattle.std.proofs.lemmas.Option.{slice_get_within, get_or_from_slice_get}
 use Rattle.std.proofs.lemmas.List.{get_or_append_left}
 use Rattle.mv_repository.specs.Stops.{no_entry}
 use Rattle.std.proofs.lemmas.Bool.Decides.{nat_tests}
 use Rattle.mv_repository.specs.declared.entry.LogEntry.{LogEntry}
-use Rattle.mv_repository.specs.Order.{Placed, rank, passes, put_in, ordered_after, ordered, stands_before, StandsBeforeAll, Ascends, AreOf, IsOrderOf}
+use Rattle.mv_repository.specs.Order.{Placed, rank, passes, put_in, ordered_after, ordered, stands_before, Ascends, IsOrderOf}
+
+-- an entry stands before each of these
+abbrev pub StandsBeforeAll : Placed → List Placed → Type 0
+StandsBeforeAll entry entries = AllByRecursion (λ other. stands_before entry other ≡ true) entries
+
+-- each entry is the one at its place in the log
+abbrev pub AreOf : List LogEntry → List Placed → Type 0
+AreOf log entries = AllByRecursion (λ one. slice_get log one.place ≡ Some one.entry) entries
 
 -- an entry at a place of the log
 abbrev pub placed_at : ℕ → LogEntry → Placed

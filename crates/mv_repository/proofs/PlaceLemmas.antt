@@ -2,10 +2,10 @@
 use Rattle.std.proofs.Common.{◌≡◌, ℕ, zero, suc, ◌<◌, ◌≤◌, List, [], ◌∷◌, length, map, get_or, insert, take, not, refl, sym, ◌∙◌, ap, arith, Bool, true, false, cond, true≢false, subst, inl, inr}
 use Rattle.std.proofs.lemmas.Bool.{cases_lt}
 use Rattle.mv_repository.specs.declared.entry.LogEntry.{LogEntry}
-use Rattle.mv_repository.specs.Order.{Placed, passes, stands_before, StandsBeforeAll, Ascends}
+use Rattle.mv_repository.specs.Order.{Placed, passes, stands_before, Ascends}
 use Rattle.mv_repository.specs.Stops.{entry_at}
 use Rattle.mv_repository.specs.Track.{put_place, places_before}
-use Rattle.mv_repository.proofs.OrderLemmas.{passes_behind}
+use Rattle.mv_repository.proofs.OrderLemmas.{StandsBeforeAll, passes_behind}
 
 before_get : (log : List LogEntry) (x : Placed) (js : List ℕ) (i : ℕ) → StandsBeforeAll x (map (entry_at log) js) → i < length js → stands_before x (entry_at log (get_or js i 0)) ≡ true
 before_get log x [] i h l = absurd (omega arith)

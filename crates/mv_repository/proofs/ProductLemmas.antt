@@ -10,12 +10,12 @@ use Rattle.mv_message.specs.declared.message.Product.{Product}
 use Rattle.mv_link.specs.declared.item.Item.{Item}
 use Rattle.mv_link.specs.declared.item.Item.TheVariants.{Carried}
 use Rattle.mv_repository.specs.declared.entry.LogEntry.{LogEntry}
-use Rattle.mv_repository.specs.Order.{Placed, passes, put_in, ordered, StandsBeforeAll, Ascends, AreOf}
+use Rattle.mv_repository.specs.Order.{Placed, passes, put_in, ordered, Ascends}
 use Rattle.mv_repository.specs.Stops.{place_of}
 use Rattle.mv_repository.specs.Keys.{is_same_text}
 use Rattle.mv_repository.specs.Product.{product_after, last_product_after, last_product}
 use Rattle.mv_repository.specs.Masters.{is_master, product_in, last_master, entry_of, is_late, AreMastersOf}
-use Rattle.mv_repository.proofs.OrderLemmas.{placed_at, passes_behind, ordered-ascends, ordered-push, ordered-of}
+use Rattle.mv_repository.proofs.OrderLemmas.{StandsBeforeAll, AreOf, placed_at, passes_behind, ordered-ascends, ordered-push, ordered-of}
 
 -- the last of x, which came last, and the last before
 abbrev pub later : Placed → Option Placed → Option Placed

@@ -11,9 +11,9 @@ use Rattle.mv_link.specs.declared.item.Item.{Item}
 use Rattle.mv_link.specs.declared.item.Item.TheVariants.{Receipt, Carried}
 use Rattle.mv_repository.specs.declared.entry.LogEntry.{LogEntry}
 use Rattle.std.proofs.lemmas.Option.{slice_get_within, get_or_from_slice_get, slice_get-get_or}
-use Rattle.mv_repository.specs.Order.{Placed, ordered, ordered_after, put_in, passes, stands_before, StandsBeforeAll, Ascends, AreOf}
+use Rattle.mv_repository.specs.Order.{Placed, ordered, ordered_after, put_in, passes, stands_before, Ascends}
 use Rattle.mv_repository.specs.Agreement.{Sent, sent_in, sent_by, bears_on, batch_in, about, AgreeOn, stamp_in, stamp_at, HasDistinctStamps, HaveSameAbout, HaveSameEntries}
-use Rattle.mv_repository.proofs.OrderLemmas.{ordered-ascends, ordered-of}
+use Rattle.mv_repository.proofs.OrderLemmas.{StandsBeforeAll, AreOf, ordered-ascends, ordered-of}
 use Rattle.mv_repository.proofs.AgreementLemmas.{agree, first_batch, batch-first}
 
 -- each stamp is greater

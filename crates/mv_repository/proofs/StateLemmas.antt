@@ -10,12 +10,12 @@ use Rattle.mv_link.specs.declared.item.Item.TheVariants.{Carried}
 use Rattle.mv_repository.specs.declared.entry.LogEntry.{LogEntry}
 use Rattle.mv_repository.specs.declared.stops.BatchStanding.{BatchStanding}
 use Rattle.mv_repository.specs.Keys.{batch_key}
-use Rattle.mv_repository.specs.Order.{Placed, stands_before, StandsBeforeAll, Ascends}
+use Rattle.mv_repository.specs.Order.{Placed, stands_before, Ascends}
 use Rattle.mv_repository.specs.Pack.{KnownPack, KnownChange, is_active, is_done, change_effect, change_to}
 use Rattle.mv_repository.specs.PackState.{is_recall_of, is_withdrawal_of, batch_standing, pack_after_item, pack_after, known_pack_from, known_pack, held_of}
 use Rattle.mv_repository.specs.Stops.{FirstStops, StopTables, first_stops, is_before, standing_at, entry_at, place_of, stops_in, no_entry}
 use Rattle.mv_repository.specs.Track.{is_upload_of, is_status_of, first_upload, statuses_of, pack_made_by, pack_changed, pack_step, pack_grown, user_in, user_at, known_of, held_step, grown_at}
-use Rattle.mv_repository.proofs.OrderLemmas.{stands-asym, stands-self, Stand}
+use Rattle.mv_repository.proofs.OrderLemmas.{StandsBeforeAll, stands-asym, stands-self, Stand}
 
 -- what is found behind y doesn't stand before it
 not_before : (f : Placed → Bool) (y : Placed) (xs : List Placed) → StandsBeforeAll y xs → is_before (find f xs) y ≡ false

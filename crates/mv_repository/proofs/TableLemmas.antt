@@ -10,11 +10,11 @@ use Rattle.mv_pack.specs.declared.key.BatchKey.{BatchKey}
 use Rattle.mv_link.specs.declared.item.Item.{Item}
 use Rattle.mv_repository.specs.declared.entry.LogEntry.{LogEntry}
 use Rattle.mv_repository.specs.Keys.{is_same_text, is_same_pack, is_same_batch}
-use Rattle.mv_repository.specs.Order.{Placed, passes, put_in, ordered, StandsBeforeAll, Ascends}
+use Rattle.mv_repository.specs.Order.{Placed, passes, put_in, ordered, Ascends}
 use Rattle.mv_repository.specs.PackState.{is_recall_of, is_withdrawal_of, held_of, known_pack, pack_state}
 use Rattle.mv_repository.specs.Stops.{FirstStops, StopTables, first_stops, stops_in, entry_at, place_of, no_entry, first_recall, first_withdrawal, AreStopsOf, earlier_place}
 use Rattle.mv_repository.specs.Track.{Kept, is_upload_of, is_status_of, first_upload, statuses_of, pack_grown, pack_marks, grown_at, marks_at, stands_by, put_place, worked_out, with_status, with_upload, refreshed, IsTrack, kept_in, track_of, AreTracksOf}
-use Rattle.mv_repository.proofs.OrderLemmas.{placed_at, passes_behind, ordered-ascends, ordered-push, Stand, ordered-stand, still-stand}
+use Rattle.mv_repository.proofs.OrderLemmas.{StandsBeforeAll, placed_at, passes_behind, ordered-ascends, ordered-push, Stand, ordered-stand, still-stand}
 use Rattle.mv_repository.proofs.StateLemmas.{known-grown, grown-stands, map-stands, find-stand, find-stands}
 use Rattle.mv_repository.proofs.KeptLemmas.{same_pack, same_batch}
 

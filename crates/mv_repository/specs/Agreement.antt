@@ -1,11 +1,8 @@
 -- What of a log bears on one pack, and what two logs agree on that have the same of it.
 use Rattle.std.specs.Prelude.{◌≡◌, ◌↔◌, slice_get, ℕ, List, Bool, false, filter, Option, Some, None}
 use Rattle.std.specs.List.{filter_map, Contains}
-use Rattle.std.specs.Option.{option_map, option_and_then}
-use Rattle.mv_pack.specs.Expiry.{CivilDate}
+use Rattle.std.specs.Option.{option_map, option_map_or, option_and_then}
 use Rattle.mv_pack.specs.declared.key.PackKey.{PackKey}
-use Rattle.mv_pack.specs.declared.key.BatchKey.{BatchKey}
-use Rattle.mv_message.specs.declared.standing.Standing.{Standing}
 use Rattle.mv_message.specs.declared.message.Message.{Message}
 use Rattle.mv_message.specs.declared.message.Message.TheVariants.{Upload, Status, Recall, Withdraw}
 use Rattle.mv_link.specs.declared.item.Item.{Item}
@@ -32,17 +29,12 @@ sent_in sender (Receipt k reach query) = None
 abbrev pub sent_by : List Placed → List Sent
 sent_by entries = filter_map (λ placed. sent_in placed.entry.sender placed.entry.item) entries
 
--- a batch is the one of this number of a product; none is where no number is known
-abbrev pub is_batch : List ℕ → Option (List ℕ) → BatchKey → Bool
-is_batch gtin None key = false
-is_batch gtin (Some batch) key = is_same_batch key (batch_key gtin batch)
-
 -- a message bears on a pack whose batch has this number: it is an upload that names the pack, a status of the pack, a
 -- recall of its batch or a withdrawal of its product
 abbrev pub bears_on : PackKey → Option (List ℕ) → Message → Bool
 bears_on pack batch (Upload gtin named expiry national serials) = has_pack gtin serials pack
 bears_on pack batch (Status key to user at) = is_same_pack key pack
-bears_on pack batch (Recall key at) = is_batch pack.gtin batch key
+bears_on pack batch (Recall key at) = option_map_or (λ number. is_same_batch key (batch_key pack.gtin number)) batch false
 bears_on pack batch (Withdraw gtin at) = is_same_text gtin pack.gtin
 bears_on pack batch _ = false
 
@@ -54,44 +46,21 @@ batch_in pack log = option_map (λ held. held.batch) (pack_state pack log)
 abbrev pub about : PackKey → List LogEntry → List Sent
 about pack log = filter (λ sent. bears_on pack (batch_in pack log) sent.message) (sent_by (ordered log))
 
--- a change of a pack, with the user who asked for it in place of the place in the log
-pub record NamedChange : Type 0 where
-  pub by : ℕ
-  pub user : List ℕ
-  pub at : ℕ
-
--- a pack, with its change so
-pub record NamedPack : Type 0 where
-  pub batch : List ℕ
-  pub expiry : CivilDate
-  pub national : Option (List ℕ)
-  pub standing : Standing
-  pub change : Option NamedChange
-
-abbrev pub named_change : KnownChange → NamedChange
-named_change change = record { by = change.by; user = change.user; at = change.at }
-
-abbrev pub named_pack : KnownPack → NamedPack
-named_pack pack = record {
-  batch = pack.batch;
-  expiry = pack.expiry;
-  national = pack.national;
-  standing = pack.standing;
-  change = option_map named_change pack.change;
-}
+-- a pack whose change names no place in a log: the place is put as 0
+abbrev pub unplaced : KnownPack → KnownPack
+unplaced pack = record pack { change = option_map (λ (change : KnownChange). record change { entry = 0 }) pack.change }
 
 -- a pack by a log, whatever the places in that log
-abbrev pub named_state : PackKey → List LogEntry → Option NamedPack
-named_state pack log = option_map named_pack (known_pack pack (ordered log))
+abbrev pub unplaced_state : PackKey → List LogEntry → Option KnownPack
+unplaced_state pack log = option_map unplaced (known_pack pack (ordered log))
 
 -- a log recalls this batch of a product, where there is one
 abbrev pub is_batch_recalled : List ℕ → Option (List ℕ) → List LogEntry → Bool
-is_batch_recalled gtin None log = false
-is_batch_recalled gtin (Some batch) log = is_recalled (batch_key gtin batch) log
+is_batch_recalled gtin batch log = option_map_or (λ number. is_recalled (batch_key gtin number) log) batch false
 
 -- two logs agree on a pack: on its state, the recall of its batch, the withdrawal of its product, and the verdict
 pub record AgreeOn (pack : PackKey) (one other : List LogEntry) : Type 0 where
-  pub state : named_state pack one ≡ named_state pack other
+  pub state : unplaced_state pack one ≡ unplaced_state pack other
   pub recall : is_batch_recalled pack.gtin (batch_in pack one) one ≡ is_batch_recalled pack.gtin (batch_in pack other) other
   pub withdrawal : is_withdrawn pack.gtin one ≡ is_withdrawn pack.gtin other
   pub verdict : local_verdict pack one ≡ local_verdict pack other

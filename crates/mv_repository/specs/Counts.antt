@@ -1,6 +1,7 @@
 -- How much a repository has: five numbers, each thing counted once.
-use Rattle.std.specs.Prelude.{ℕ, List, [], ◌∷◌, map, filter, length, Bool, false, Option, Some, None}
+use Rattle.std.specs.Prelude.{ℕ, List, [], ◌∷◌, map, filter, length, Bool, false, Option}
 use Rattle.std.specs.List.{flat_map}
+use Rattle.std.specs.Option.{option_map_or}
 use Rattle.std.specs.Set.{distinct_count}
 use Rattle.mv_pack.specs.declared.key.PackKey.{PackKey}
 use Rattle.mv_pack.specs.declared.key.BatchKey.{BatchKey}
@@ -29,27 +30,20 @@ abbrev pub recalled_in : Item → List BatchKey
 recalled_in (Carried k stamp (Recall key at)) = key ∷ []
 recalled_in _ = []
 
--- all product codes with a master, all packs uploaded and all batches recalled in a log, in the order of arrival
-abbrev pub mastered_products : List LogEntry → List (List ℕ)
-mastered_products log = flat_map (λ entry. mastered_in entry.item) log
-
+-- all packs uploaded in a log, in the order of arrival
 abbrev pub uploaded_packs : List LogEntry → List PackKey
 uploaded_packs log = flat_map (λ entry. uploaded_in entry.item) log
 
-abbrev pub recalled_batches : List LogEntry → List BatchKey
-recalled_batches log = flat_map (λ entry. recalled_in entry.item) log
-
 -- a pack is held, and active
 abbrev pub is_held_active : Option Held → Bool
-is_held_active None = false
-is_held_active (Some held) = is_active held.standing
+is_held_active held = option_map_or (λ pack. is_active pack.standing) held false
 
 -- the counts of a log
 abbrev pub counts_of : List LogEntry → Counts
 counts_of log = record {
   entries = length log;
-  products = distinct_count is_same_text (mastered_products log);
+  products = distinct_count is_same_text (flat_map (λ entry. mastered_in entry.item) log);
   packs = distinct_count is_same_pack (uploaded_packs log);
   active = distinct_count is_same_pack (filter (λ pack. is_held_active (pack_state pack log)) (uploaded_packs log));
-  recalled = distinct_count is_same_batch (recalled_batches log);
+  recalled = distinct_count is_same_batch (flat_map (λ entry. recalled_in entry.item) log);
 }

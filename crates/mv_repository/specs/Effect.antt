@@ -14,21 +14,14 @@ use Rattle.mv_repository.specs.Keys.{is_same_text, pack_key, batch_key}
 use Rattle.mv_repository.specs.Pack.{KnownPack, change_effect}
 use Rattle.mv_repository.specs.PackState.{is_recalled_by, is_withdrawn_by, batch_standing, known_pack}
 
--- an entry that comes last, with its place in the log
-abbrev pub arriving : List LogEntry → LogEntry → Placed
-arriving log entry = record { place = length log; entry = entry }
-
 -- The entries of a log that stand before one that comes last, in the order of stamps: all but those that it passes.
 abbrev pub entries_before : List LogEntry → LogEntry → List Placed
-entries_before log entry = filter (λ placed. not (passes (arriving log entry) placed)) (ordered log)
+entries_before log entry = filter (λ placed. not (passes (record { place = length log; entry = entry }) placed)) (ordered log)
 
--- the serial numbers of packs that these entries don't make
-abbrev pub absent_serials : List Placed → List ℕ → List (List ℕ) → List (List ℕ)
-absent_serials before gtin serials = filter (λ serial. not (is_some (known_pack (pack_key gtin serial) before))) serials
-
--- how many packs an upload makes; one that it names twice is made once
+-- how many packs an upload makes: those that these entries don't make; one that it names twice is made once
 abbrev pub new_count : List Placed → List ℕ → List (List ℕ) → ℕ
-new_count before gtin serials = distinct_count is_same_text (absent_serials before gtin serials)
+new_count before gtin serials =
+    distinct_count is_same_text (filter (λ serial. not (is_some (known_pack (pack_key gtin serial) before))) serials)
 
 -- the effect of an upload: how many packs it makes, and how many of those that it names were there
 abbrev pub upload_effect : List Placed → List ℕ → List (List ℕ) → Effect

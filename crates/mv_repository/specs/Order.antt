@@ -2,6 +2,7 @@
 -- log, and behind them the receipts in the order of the log.
 use Rattle.std.specs.Bool.{⊤}
 use Rattle.std.specs.Prelude.{◌≡◌, ℕ, List, [], ◌∷◌, ◌++◌, ◌+◌, ◌^◌, length, Bool, true, ◌||◌, ◌&&◌, ◌==◌, nat_lt, Some, slice_get, if◌then◌else◌}
+use Rattle.std.specs.List.{AllByRecursion}
 use Rattle.mv_link.specs.declared.item.Item.{Item}
 use Rattle.mv_link.specs.declared.item.Item.TheVariants.{Receipt, Carried}
 use Rattle.mv_repository.specs.declared.entry.LogEntry.{LogEntry}
@@ -11,15 +12,11 @@ pub record Placed : Type 0 where
   pub place : ℕ  -- counted from 0
   pub entry : LogEntry
 
--- where receipts stand: behind every stamp of 32 bits
-abbrev pub receipt_rank : ℕ
-receipt_rank = 2 ^ 32
-
 -- Where an item stands: by its stamp, and receipts behind every stamp of 32 bits. Each item that a repository applies has
 -- such a stamp. A law over all logs speaks of greater numbers too, and there a receipt would stand before them.
 abbrev pub rank : Item → ℕ
 rank (Carried k stamp message) = stamp
-rank (Receipt k reach query) = receipt_rank
+rank (Receipt k reach query) = 2 ^ 32
 
 -- an entry stands before one that came earlier
 abbrev pub passes : Placed → Placed → Bool
@@ -44,28 +41,18 @@ abbrev pub stands_before : Placed → Placed → Bool
 stands_before first second =
     nat_lt (rank first.entry.item) (rank second.entry.item) || (rank first.entry.item == rank second.entry.item && nat_lt first.place second.place)
 
--- an entry stands before each of these
-abbrev pub StandsBeforeAll : Placed → List Placed → Type 0
-StandsBeforeAll entry [] = ⊤
-StandsBeforeAll entry (first ∷ rest) = (stands_before entry first ≡ true) × StandsBeforeAll entry rest
-
 -- each entry stands before all that follow
 abbrev pub Ascends : List Placed → Type 0
 Ascends [] = ⊤
-Ascends (first ∷ rest) = StandsBeforeAll first rest × Ascends rest
-
--- each entry is the one at its place in the log
-abbrev pub AreOf : List LogEntry → List Placed → Type 0
-AreOf log [] = ⊤
-AreOf log (first ∷ rest) = (slice_get log first.place ≡ Some first.entry) × AreOf log rest
+Ascends (first ∷ rest) = AllByRecursion (λ second. stands_before first second ≡ true) rest × Ascends rest
 
 -- the order of a log with one more entry is the order before, with that entry put in its place
 abbrev pub OneMoreIsPutIn : Type 0
 OneMoreIsPutIn = (log : List LogEntry) (entry : LogEntry)
     → ordered (log ++ entry ∷ []) ≡ put_in (record { place = length log; entry = entry }) (ordered log)
 
--- the order has each entry of the log once, by stamp and then by place
+-- the order has each entry of the log once, as the one at its place, by stamp and then by place
 pub record IsOrderOf (log : List LogEntry) (placed : List Placed) : Type 0 where
-  pub entries : AreOf log placed
+  pub entries : AllByRecursion (λ one. slice_get log one.place ≡ Some one.entry) placed
   pub ascends : Ascends placed
   pub count : length placed ≡ length log

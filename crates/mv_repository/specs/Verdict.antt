@@ -2,7 +2,7 @@
 -- 2016/161, Articles 11 and 36).
 use Rattle.std.specs.Prelude.{ℕ, ◌==◌, ◌&&◌, ◌||◌, not, Bool, true, false, List, [], ◌∷◌, length, filter, Option, Some, None, is_some, if◌then◌else◌}
 use Rattle.std.specs.List.{list_any}
-use Rattle.std.specs.Option.{option_or}
+use Rattle.std.specs.Option.{option_or, option_map_or}
 use Rattle.mv_pack.specs.declared.key.PackKey.{PackKey}
 use Rattle.mv_message.specs.declared.standing.Standing.{Standing}
 use Rattle.mv_message.specs.declared.standing.Standing.TheVariants as standings
@@ -78,14 +78,9 @@ abbrev pub has_answered : ℕ → List LogEntry → ℕ → ℕ → Bool
 has_answered party log q other =
     list_any (λ entry. (entry.sender == other) && is_some (finding_in party q entry.item)) log
 
--- there is a finding, and it is so
-abbrev pub is_found_so : (Found → Bool) → Option Found → Bool
-is_found_so test None = false
-is_found_so test (Some found) = test found
-
 -- some answer to a party's query q, whoever sent it, has found so
 abbrev pub has_finding : (Found → Bool) → ℕ → List LogEntry → ℕ → Bool
-has_finding test party log q = list_any (λ entry. is_found_so test (finding_in party q entry.item)) log
+has_finding test party log q = list_any (λ entry. option_map_or test (finding_in party q entry.item) false) log
 
 -- the verdict once these parties were asked: it waits until each has answered, and goes then by all answers
 abbrev pub joint_verdict_when : ℕ → List LogEntry → ℕ → Option (List ℕ) → Joint

@@ -10,7 +10,7 @@ use Rattle.mv_party.specs.declared.fault.SiteFault.TheVariants as fault
 use Rattle.mv_party.specs.declared.taken.Taken.{Taken}
 use Rattle.mv_party.specs.declared.taken.Taken.TheVariants as taken
 use Rattle.mv_machine.specs.declared.reply.Reply.{Reply}
-use Rattle.mv_machine.specs.declared.reply.Reply.TheVariants.{Submitted, Known, Asked, Routed, Relayed, Applied, Old, Gap, Repeated, Closed, Lost, Joint, Refused}
+use Rattle.mv_machine.specs.declared.reply.Reply.TheVariants.{Submitted, Known, Asked, Routed, Relayed, Applied, Old, Gap, Repeated, Closed, Joint, Refused}
 use Rattle.mv_machine.specs.declared.reply.Refusal.{Refusal}
 use Rattle.mv_machine.specs.declared.reply.Refusal.TheVariants.{Party, NotYours, UplinkFull, SenderFull, UplinkEmpty, Busy, WireFull, WireEmpty, NotSent, Gone, Nothing, AlreadyClosed, AnswerBusy, Memory}
 
@@ -41,15 +41,12 @@ refusal_of fault.Memory = Memory
 
 -- the refusal that a fault of the hub is answered by; those of making parties never come from a hub, and have no refusal of their own
 abbrev pub hub_refusal_of : HubFault → Refusal
-hub_refusal_of hub.NoParty = Memory
-hub_refusal_of hub.TooMany = Memory
-hub_refusal_of hub.ServedTwice = Memory
 hub_refusal_of hub.StrangerParty = Party
 hub_refusal_of hub.AlreadyClosed = AlreadyClosed
-hub_refusal_of hub.Memory = Memory
 hub_refusal_of hub.Nothing = Nothing
 hub_refusal_of hub.NotSent = NotSent
 hub_refusal_of hub.Gone = Gone
+hub_refusal_of _ = Memory
 
 -- the refusal that is answered where the hub does not route a message
 abbrev pub route_refusal_of : RouteFault → Refusal
@@ -66,18 +63,13 @@ reply_to number (taken.Gap expected) = Gap number expected
 -- a reply that want of memory may stand in place of: the step takes memory
 abbrev pub takes_memory : Reply → Bool
 takes_memory (Submitted k) = true
-takes_memory (Known verdict) = false
 takes_memory (Asked q) = true
 takes_memory (Routed k reach) = true
 takes_memory (Relayed number) = true
 takes_memory (Applied number effect answer) = true
-takes_memory (Old number) = false
-takes_memory (Gap number expected) = false
 takes_memory (Repeated number) = true
 takes_memory Closed = true
-takes_memory (Lost number) = false
-takes_memory (Joint joint) = false
-takes_memory (Refused refusal) = false
+takes_memory _ = false
 
 -- a reply behind which nothing has changed: a refusal, the verdict of the party's own repository, and that of all
 abbrev pub changes_nothing : Reply → Bool
@@ -86,12 +78,7 @@ changes_nothing (Joint joint) = true
 changes_nothing (Refused refusal) = true
 changes_nothing _ = false
 
--- a refusal for want of memory
-abbrev pub is_memory : Refusal → Bool
-is_memory Memory = true
-is_memory _ = false
-
 -- a reply that says that memory was wanting
 abbrev pub wants_memory : Reply → Bool
-wants_memory (Refused refusal) = is_memory refusal
+wants_memory (Refused Memory) = true
 wants_memory _ = false

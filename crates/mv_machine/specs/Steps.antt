@@ -1,5 +1,5 @@
 -- What each step answers and leaves where there is memory: a row for each kind of step, its refusals in their order.
-use Rattle.std.specs.Prelude.{◌+◌, ◌-◌, ℕ, List, [], ◌∷◌, ◌++◌, length, not, Bool, if◌then◌else◌, slice_get, Option, Some, None}
+use Rattle.std.specs.Prelude.{◌+◌, ◌-◌, ℕ, List, [], ◌∷◌, ◌++◌, length, not, if◌then◌else◌, slice_get, Option, Some, None}
 use Rattle.mv_message.specs.declared.message.Message.{Message}
 use Rattle.mv_message.specs.declared.message.Message.TheVariants.{Query}
 use Rattle.mv_pack.specs.declared.key.PackKey.{PackKey}
@@ -35,28 +35,24 @@ pub record Answered : Type 0 where
 abbrev pub refused : Refusal → State → Answered
 refused refusal st = record { reply = Refused refusal; state = st }
 
--- what a part of the system does, unless it refuses that for a fault, which has this refusal
-abbrev pub unless : {F : Type 0} → (F → Refusal) → Option F → State → Answered → Answered
-unless refusal (Some fault) st done = refused (refusal fault) st
-unless refusal None st done = done
+-- what a part of the system answers and leaves, unless it refuses that for a fault, which has this refusal
+abbrev pub unless : {F : Type 0} → (F → Refusal) → Option F → State → Reply → State → Answered
+unless refusal (Some fault) st reply new = refused (refusal fault) st
+unless refusal None st reply new = record { reply = reply; state = new }
 
 -- a party submits a message: it is the last of the party's submissions. Queries and answers are submitted by the system itself
 unfoldable pub submit : State → ℕ → Message → Answered
 submit st from message =
     if not (is_party st from) then refused Party st
-    else unless refusal_of (submit_fault (is_uplink_full st from) (site_of st from) message) st (record {
-      reply = Submitted (length (submissions_of st from) + 1);
-      state = with_site st (with_submission (site_of st from) message);
-    })
+    else unless refusal_of (submit_fault (is_uplink_full st from) (site_of st from) message) st
+    (Submitted (length (submissions_of st from) + 1)) (with_site st (with_submission (site_of st from) message))
 
 -- a party asks the other repositories about a pack: the query is the last of its submissions
 unfoldable pub ask : State → ℕ → PackKey → Answered
 ask st party key =
     if not (is_party st party) then refused Party st
-    else unless refusal_of (ask_fault (is_uplink_full st party) (site_of st party)) st (record {
-      reply = Asked (length (submissions_of st party) + 1);
-      state = with_site st (with_submission (site_of st party) (Query key));
-    })
+    else unless refusal_of (ask_fault (is_uplink_full st party) (site_of st party)) st
+    (Asked (length (submissions_of st party) + 1)) (with_site st (with_submission (site_of st party) (Query key)))
 
 -- a party verifies a pack, on which its own repository has this verdict: where it has none, the others are asked
 abbrev pub verify_by : State → ℕ → PackKey → Local → Answered
@@ -72,10 +68,8 @@ verify st party key =
 -- the hub routes the front of an uplink, where there is one
 abbrev pub route_front : State → ℕ → Option Message → Answered
 route_front st from None = refused UplinkEmpty st
-route_front st from (Some message) = unless route_refusal_of (route_fault (hub_of st) from message) st (record {
-  reply = Routed (routed_count st.entries from + 1) (reach st.parties st.entries from message);
-  state = with_hub st (with_routed (hub_of st) from message);
-})
+route_front st from (Some message) = unless route_refusal_of (route_fault (hub_of st) from message) st
+    (Routed (routed_count st.entries from + 1) (reach st.parties st.entries from message)) (with_hub st (with_routed (hub_of st) from message))
 
 -- the hub routes the next message of a party
 unfoldable pub route : State → ℕ → Answered
@@ -88,10 +82,8 @@ unfoldable pub relay : State → ℕ → ℕ → Answered
 relay st from to =
     if not (are_parties st from to) then refused Party st
     else (if is_wire_full st from to then refused WireFull st
-    else unless hub_refusal_of (relay_fault (hub_of st) from to) st (record {
-      reply = Relayed (sent_of st from to + 1);
-      state = with_wire (with_hub st (with_relayed (hub_of st) from to)) from to (wire_of st from to ++ (sent_of st from to + 1) ∷ []);
-    }))
+    else unless hub_refusal_of (relay_fault (hub_of st) from to) st (Relayed (sent_of st from to + 1))
+    (with_wire (with_hub st (with_relayed (hub_of st) from to)) from to (wire_of st from to ++ (sent_of st from to + 1) ∷ [])))
 
 -- the item that a repository is to apply next from a sender
 abbrev pub next_item : State → ℕ → ℕ → Option Item
@@ -100,10 +92,9 @@ next_item st from to = slice_get (items_on st from to) (applied_count st from to
 -- a repository applies the member of the link that the next frame bears, and its party submits the answer that this calls for, if
 -- it does: both, or neither. A link always has that member; a frame of no member would be dropped, as one behind a gap is
 abbrev pub apply_next : State → ℕ → ℕ → ℕ → List ℕ → Option Item → Answered
-apply_next st from to number rest (Some item) = unless refusal_of (apply_fault (is_uplink_full st to) (site_of st to) from item look.Next) st (record {
-  reply = Applied number (effect_of (log_of st to) (entry_from from item)) (answer_number (submissions_of st to) (answer_to (log_of st to) (entry_from from item)));
-  state = with_wire (with_site st (with_applied (site_of st to) from item)) from to rest;
-})
+apply_next st from to number rest (Some item) = unless refusal_of (apply_fault (is_uplink_full st to) (site_of st to) from item look.Next) st
+    (Applied number (effect_of (log_of st to) (entry_from from item)) (answer_number (submissions_of st to) (answer_to (log_of st to) (entry_from from item))))
+    (with_wire (with_site st (with_applied (site_of st to) from item)) from to rest)
 apply_next st from to number rest None = record { reply = Gap number number; state = with_wire st from to rest }
 
 -- a frame is taken that stands so: it is old, it is behind a gap, or it is the next
@@ -128,17 +119,12 @@ unfoldable pub repeat : State → ℕ → ℕ → ℕ → Answered
 repeat st from to number =
     if not (are_parties st from to) then refused Party st
     else (if is_wire_full st from to then refused WireFull st
-    else unless hub_refusal_of (repeat_fault (hub_of st) from to number) st (record {
-      reply = Repeated number;
-      state = with_wire st from to (wire_of st from to ++ number ∷ []);
-    }))
+    else unless hub_refusal_of (repeat_fault (hub_of st) from to number) st (Repeated number)
+    (with_wire st from to (wire_of st from to ++ number ∷ [])))
 
 -- a link is closed: that goes into the record
 unfoldable pub close : State → ℕ → ℕ → Answered
-close st from to = unless hub_refusal_of (close_fault (hub_of st) from to) st (record {
-  reply = Closed;
-  state = with_hub st (with_closed (hub_of st) from to);
-})
+close st from to = unless hub_refusal_of (close_fault (hub_of st) from to) st Closed (with_hub st (with_closed (hub_of st) from to))
 
 -- the frame in front of a wire is lost
 abbrev pub lose_front : State → ℕ → ℕ → List ℕ → Answered

@@ -1,5 +1,5 @@
 -- The hub's routing against the row of the list machine.
-use Rattle.std.proofs.Common.{◌≡◌, ℕ, ◌+◌, ◌<◌, true, List, length, Some, None, Ok, Err, sym, ap, arith}
+use Rattle.std.proofs.Common.{◌≡◌, ℕ, ◌+◌, ◌<◌, true, List, length, Option, Some, None, Ok, Err, sym, ap, arith}
 use Rattle.std.specs.Prelude.{slice_get, Result, IfOk, IfErr, OnOk, OnErr}
 use Rattle.std.proofs.lemmas.Bool.{lt-ltb}
 use Rattle.mv_message.specs.declared.message.Message.{Message}
@@ -16,22 +16,20 @@ use Rattle.mv_machine.specs.State.{State, is_party, submissions_of, hub_of, with
 use Rattle.mv_machine.specs.Steps.{Answered, unless, route}
 use Rattle.mv_system.specs.World.{Parts, state_of, IsSystem}
 
--- what the row of a routing answers and leaves where the hub has no fault
-abbrev routed_by : State → ℕ → Message → Answered
-routed_by st from message = record {
-  reply = Routed (routed_count st.entries from + 1) (reach st.parties st.entries from message);
-  state = with_hub st (with_routed (hub_of st) from message);
-}
+-- what the row of a routing answers and leaves, by the fault of the hub
+abbrev routed_unless : State → ℕ → Message → Option RouteFault → Answered
+routed_unless st from message fault = unless route_refusal_of fault st
+    (Routed (routed_count st.entries from + 1) (reach st.parties st.entries from message)) (with_hub st (with_routed (hub_of st) from message))
 
 -- the row of a party with a message that waits is the hub's routing
 route_row : {p : Parts} (from : ℕ) (message : Message) → IsSystem p → from < length p.hub.parties
     → slice_get (submissions_of (state_of p) from) (routed_count p.hub.entries from) ≡ Some message
-    → route (state_of p) from ≡ unless route_refusal_of (route_fault p.hub from message) (state_of p) (routed_by (state_of p) from message)
+    → route (state_of p) from ≡ routed_unless (state_of p) from message (route_fault p.hub from message)
 unfolding route
 route_row {p} from message k place next =
     let party : is_party (state_of p) from ≡ true = lt-ltb from (length p.hub.parties) place in
     let same : hub_of (state_of p) ≡ p.hub = ap {B = HubState} (λ w. record p.hub { window = w }) (sym k.window) in
-    rw (party, next) (ap (λ h. unless route_refusal_of (route_fault h from message) (state_of p) (routed_by (state_of p) from message)) same)
+    rw (party, next) (ap (λ h. routed_unless (state_of p) from message (route_fault h from message)) same)
 
 -- the hub routes the message that waits as the row does
 pub routes : {p : Parts} (from : ℕ) (message : Message) (new : HubState) (result : Result (ℕ × List ℕ) RouteFault) → IsSystem p → from < length p.hub.parties

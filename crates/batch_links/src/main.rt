@@ -54,16 +54,23 @@ fn asked(words: &[String]) -> Option<(Shape, u32)> {
     Some((shape, size))
 }
 
-/// How many batches descend from the first, where they are linked in a shape.
+/// How many batches descend from the first, where they are linked in a shape. No other function has a hub to drop.
 fn count_descendants(alloc: Global, shape: Shape, size: u32) -> Option<usize> {
-    let gtin = Gtin::read("09506000134352").ok()?;
     let mut hub = hub_of_one(alloc)?;
+    let count = count_linked(alloc, &mut hub, shape, size);
+    drop(hub);
+    count
+}
+
+/// How many batches descend from the first in a hub, once they are linked in a shape.
+fn count_linked(alloc: Global, hub: &mut Hub, shape: Shape, size: u32) -> Option<usize> {
+    let gtin = Gtin::read("09506000134352").ok()?;
     match shape {
-        Shape::Chain => link_chain(alloc, &mut hub, gtin, size)?,
-        Shape::Ring => link_ring(alloc, &mut hub, gtin, size)?,
-        Shape::Complete => link_all(alloc, &mut hub, gtin, size)?,
+        Shape::Chain => link_chain(alloc, hub, gtin, size)?,
+        Shape::Ring => link_ring(alloc, hub, gtin, size)?,
+        Shape::Complete => link_all(alloc, hub, gtin, size)?,
     }
-    descendants_of_first(alloc, &hub, gtin)
+    descendants_of_first(alloc, hub, gtin)
 }
 
 /// How many batches descend from the first.

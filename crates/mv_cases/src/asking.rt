@@ -22,19 +22,33 @@ pub(crate) fn asked_at_last(world: &mut World, party: u32) -> Option<Reply> {
     Some(world.ask(party, &key))
 }
 
+/// Whether a party asks once, for whose second query there is no room on the uplink, and one that is none does not.
+fn fills_uplink(world: &mut World) -> bool {
+    asked_at_last(world, 1) == Some(Reply::Asked { q: 1 })
+        && asked_at_last(world, 1) == Some(Reply::Refused(Refusal::UplinkFull))
+        && asked_at_last(world, 9) == Some(Reply::Refused(Refusal::Party))
+}
+
 #[test]
 fn asks_no_more_than_the_uplink_takes(rt: HostRuntime) -> Result<(), Fail> {
     let mut world = opened_at_last(rt.alloc(), 1, 1000).ok_or("a system")?;
-    assert!(rt; asked_at_last(&mut world, 1) == Some(Reply::Asked { q: 1 }));
-    assert!(rt; asked_at_last(&mut world, 1) == Some(Reply::Refused(Refusal::UplinkFull)));
-    assert!(rt; asked_at_last(&mut world, 9) == Some(Reply::Refused(Refusal::Party)));
+    let filled = fills_uplink(&mut world);
+    drop(world);
+    assert!(rt; filled);
     Ok(())
+}
+
+/// Whether a party asks once that may submit no more.
+fn fills_submissions(world: &mut World) -> bool {
+    asked_at_last(world, 1) == Some(Reply::Asked { q: 1 })
+        && asked_at_last(world, 1) == Some(Reply::Refused(Refusal::SenderFull))
 }
 
 #[test]
 fn asks_no_more_than_the_submissions_allow(rt: HostRuntime) -> Result<(), Fail> {
     let mut world = opened_at_last(rt.alloc(), 8, 1).ok_or("a system")?;
-    assert!(rt; asked_at_last(&mut world, 1) == Some(Reply::Asked { q: 1 }));
-    assert!(rt; asked_at_last(&mut world, 1) == Some(Reply::Refused(Refusal::SenderFull)));
+    let filled = fills_submissions(&mut world);
+    drop(world);
+    assert!(rt; filled);
     Ok(())
 }

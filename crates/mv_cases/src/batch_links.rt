@@ -150,15 +150,22 @@ fn has_no_descendants(hub: &Hub) -> bool {
     }
 }
 
+/// Whether a ring of links is followed, once three repackagings are routed.
+fn follows_ring(hub: &mut Hub, alloc: Global) -> bool {
+    is_routed(hub, alloc, FIRST, 1)
+        && is_routed(hub, alloc, SECOND, 2)
+        && is_routed(hub, alloc, THIRD, 3)
+        && has_link(hub)
+        && has_descendants(hub)
+        && has_no_descendants(hub)
+}
+
 #[test]
 fn follows_linked_batches_round_a_ring(rt: HostRuntime) -> Result<(), Fail> {
     let mut hub = hub_at_last(rt.alloc()).ok_or("a hub")?;
-    assert!(rt; is_routed(&mut hub, rt.alloc(), FIRST, 1));
-    assert!(rt; is_routed(&mut hub, rt.alloc(), SECOND, 2));
-    assert!(rt; is_routed(&mut hub, rt.alloc(), THIRD, 3));
-    assert!(rt; has_link(&hub));
-    assert!(rt; has_descendants(&hub));
-    assert!(rt; has_no_descendants(&hub));
+    let followed = follows_ring(&mut hub, rt.alloc());
+    drop(hub);
+    assert!(rt; followed);
     Ok(())
 }
 
@@ -185,12 +192,19 @@ fn is_listed(hub: &Hub) -> bool {
     }
 }
 
+/// Whether each batch is listed once, of which one is uploaded twice.
+fn lists_uploads(hub: &mut Hub, alloc: Global) -> bool {
+    is_routed(hub, alloc, UPLOAD, 1)
+        && is_routed(hub, alloc, UPLOAD, 2)
+        && is_routed(hub, alloc, OTHER_UPLOAD, 3)
+        && is_listed(hub)
+}
+
 #[test]
 fn lists_each_batch_once(rt: HostRuntime) -> Result<(), Fail> {
     let mut hub = hub_at_last(rt.alloc()).ok_or("a hub")?;
-    assert!(rt; is_routed(&mut hub, rt.alloc(), UPLOAD, 1));
-    assert!(rt; is_routed(&mut hub, rt.alloc(), UPLOAD, 2));
-    assert!(rt; is_routed(&mut hub, rt.alloc(), OTHER_UPLOAD, 3));
-    assert!(rt; is_listed(&hub));
+    let listed = lists_uploads(&mut hub, rt.alloc());
+    drop(hub);
+    assert!(rt; listed);
     Ok(())
 }

@@ -143,9 +143,11 @@ fn is_left_out(
     }
     match opened_at_last(alloc, 8, 1000) {
         Some(mut other) => {
-            are_replies(&mut other, &steps[..place], &replies[..place])
-                && are_replies(&mut other, &steps[place + 1..], &replies[place + 1..])
-                && lengths(&other) == lengths(world)
+            let first = are_replies(&mut other, &steps[..place], &replies[..place]);
+            let rest = are_replies(&mut other, &steps[place + 1..], &replies[place + 1..]);
+            let found = lengths(&other);
+            drop(other);
+            first && rest && found == lengths(world)
         }
         None => false,
     }
@@ -173,8 +175,11 @@ fn is_run(world: &mut World, alloc: Global) -> bool {
 #[test]
 fn takes_steps_by_one_call(rt: HostRuntime) -> Result<(), Fail> {
     let mut world = opened_at_last(rt.alloc(), 8, 1000).ok_or("a system")?;
-    assert!(rt; is_run(&mut world, rt.alloc()));
+    let run = is_run(&mut world, rt.alloc());
     // The pack is held by Finland's repository, and asked about elsewhere all the same.
-    assert!(rt; asked_at_last(&mut world, 1) == Some(Reply::Asked { q: 1 }));
+    let asked = asked_at_last(&mut world, 1) == Some(Reply::Asked { q: 1 });
+    drop(world);
+    assert!(rt; run);
+    assert!(rt; asked);
     Ok(())
 }

@@ -6,7 +6,7 @@
 #![tactic(auto)]
 
 use mv_hub::{Hub, Parties};
-use mv_message::{Message, Serials, Shared};
+use mv_message::{Boxed, Message, Serials, Shared};
 use mv_pack::{Batch, BatchKey, Gtin, Moment};
 use std::alloc::Global;
 use std::env;
@@ -128,8 +128,8 @@ fn link(alloc: Global, hub: &mut Hub, gtin: Gtin, before: u32, after: u32) -> Op
 /// A repackaging of one batch into another, which names no pack.
 fn repack(alloc: Global, gtin: Gtin, before: u32, after: u32) -> Option<Message> {
     let at = Moment::of(1_800_000_000).ok()?;
-    let before = batch(alloc, gtin, before)?;
-    let after = batch(alloc, gtin, after)?;
+    let before = Boxed::new(alloc, batch(alloc, gtin, before)?).ok()?;
+    let after = Boxed::new(alloc, batch(alloc, gtin, after)?).ok()?;
     Some(Message::Repack {
         before,
         before_serials: Serials::new(Vec::new(alloc)),

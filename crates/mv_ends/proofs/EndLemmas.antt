@@ -5,6 +5,7 @@ use Rattle.std.proofs.lemmas.List.Elements.{All-nil, All-cons, All-head, All-tai
 use Rattle.std.proofs.lemmas.Bool.{eqb-false, lt-ltb}
 use Rattle.std.proofs.lemmas.Grind.{common_steps}
 use mathlib.Core.List.{IsPrefix}
+use Rattle.std.specs.Option.{option_map}
 use Rattle.mv_message.specs.declared.message.Message.{Message}
 use Rattle.mv_link.specs.declared.item.Item.{Item}
 use Rattle.mv_link.specs.declared.limits.TheConstants.{PARTIES_LIMIT, NUMBER_LIMIT}
@@ -24,7 +25,7 @@ use Rattle.mv_machine.specs.declared.reply.Reply.TheVariants.{Refused}
 use Rattle.mv_machine.specs.Replies.{hub_refusal_of, route_refusal_of}
 use Rattle.mv_ends.specs.Refusals.{IsRefusedBy}
 use Rattle.mv_hub.specs.Links.{gained}
-use Rattle.mv_hub.specs.Hub.{HubState, items_on, busy_party, busy_fault, route_fault, close_fault, with_closed}
+use Rattle.mv_hub.specs.Hub.{HubState, items_on, busy_party, route_fault, close_fault, with_closed}
 use Rattle.std.proofs.lemmas.Bool.Decides.{nat_tests}
 use Rattle.mv_hub.proofs.RecordLemmas.{routed_from-append, link_items-push}
 use Rattle.mv_machine.specs.Lawful.{IsLawfulRecord}
@@ -170,10 +171,10 @@ pub route_refused : (old new : HubEnd) (from : ℕ) (message : Message) (fault :
     → FailsBy {A = ℕ × List ℕ} routing.Memory (route_fault (hub_of old) from message) (Err fault) → Routes from old new (Refused (route_refusal_of fault))
 unfolding route_fault
 route_refused old new from message fault party unchanged fails =
-    let busy = busy_fault (busy_party (hub_of old) from message) in
+    let busy = option_map routing.Busy (busy_party (hub_of old) from message) in
     by (busy_party (hub_of old) from message) (ap (λ b. cond b busy (Some routing.StrangerParty)) (lt-ltb from (length (hub_of old).parties) party)) fails
   where
-    by : (full : Option ℕ) → route_fault (hub_of old) from message ≡ busy_fault full → fault ≡ unwrap_or (route_fault (hub_of old) from message) routing.Memory
+    by : (full : Option ℕ) → route_fault (hub_of old) from message ≡ option_map routing.Busy full → fault ≡ unwrap_or (route_fault (hub_of old) from message) routing.Memory
         → Routes from old new (Refused (route_refusal_of fault))
     by None is e = subst (λ f. Routes from old new (Refused (route_refusal_of f))) (sym (e ∙ ap (λ f. unwrap_or f routing.Memory) is)) (unchanged, party)
     by (Some to) is e = subst (λ f. Routes from old new (Refused (route_refusal_of f))) (sym (e ∙ ap (λ f. unwrap_or f routing.Memory) is)) (unchanged, (message, is))

@@ -1,3 +1,4 @@
+pub mod CrossingLemmas
 pub mod EndLemmas
 pub mod SiteEndLemmas
 pub mod OpeningLemmas

@@ -1,12 +1,12 @@
 -- What the hub's end keeps of its rings, beside the hub.
 use Rattle.std.specs.Prelude.{◌≡◌, ℕ, ◌+◌, ◌<◌, ◌≤◌, true, List, [], ◌∷◌, ◌++◌, length, slice_index_or}
-use Rattle.std.specs.List.{All}
+use Rattle.std.specs.List.{All, AllByRecursion}
 use Rattle.mv_link.specs.Frames.{IsFrameOf}
 use Rattle.std.specs.Coded.{×_prop, Unit-prop, le_prop, Coded-set, coded_bool}
 use Rattle.std.proofs.Math.Nat.{ℕ_set}
 use Rattle.mv_hub.specs.declared.entry.Entry.{Entry}
 use Rattle.mv_hub.specs.declared.entry.Entry.TheVariants.{Routed, Closed}
-use Rattle.mv_machine.specs.Lawful.{Fits, AllFit, NamesParties, AllNameParties, IsLawfulRecord}
+use Rattle.mv_machine.specs.Lawful.{Fits, AllFit, NamesParties, IsLawfulRecord}
 use Rattle.mv_hub.specs.Record.{routed_from, routed_count, is_open}
 use Rattle.mv_hub.specs.Hub.{HubState, items_on}
 use Rattle.mv_ends.specs.declared.outlets.Outlets.{Outlets}
@@ -57,12 +57,12 @@ NamesParties-prop : (count : ℕ) (entry : Entry) → IsProp (NamesParties count
 NamesParties-prop count (Routed from k message) = hlevel le_prop
 NamesParties-prop count (Closed from to) = hlevel le_prop
 
-AllNameParties-prop : (count : ℕ) (entries : List Entry) → IsProp (AllNameParties count entries)
-AllNameParties-prop count [] = Unit-prop
-AllNameParties-prop count (entry ∷ entries) = ×_prop (NamesParties-prop count entry) (AllNameParties-prop count entries)
+name_parties-prop : (count : ℕ) (entries : List Entry) → IsProp (AllByRecursion (NamesParties count) entries)
+name_parties-prop count [] = Unit-prop
+name_parties-prop count (entry ∷ entries) = ×_prop (NamesParties-prop count entry) (name_parties-prop count entries)
 
 pub IsLawfulRecord-prop : (count : ℕ) (entries : List Entry) → IsProp (IsLawfulRecord count entries)
 IsLawfulRecord-prop count entries one other = λ i. record {
   fit = AllFit-prop [] entries one.fit other.fit i;
-  name_parties = AllNameParties-prop count entries one.name_parties other.name_parties i;
+  name_parties = name_parties-prop count entries one.name_parties other.name_parties i;
 }

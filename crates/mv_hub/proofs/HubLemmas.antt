@@ -21,8 +21,9 @@ use Rattle.mv_hub.specs.declared.hub.routing.Routing.{Routing}
 use Rattle.mv_hub.specs.Targets.{reach, is_reached, is_target, is_query}
 use Rattle.mv_hub.specs.PartySets.{is_candidate}
 use Rattle.mv_hub.specs.Links.{gained, link_items}
-use Rattle.mv_hub.specs.Hub.{HubState, new_hub, sent_of, items_on, next_items, is_busy, busy_party, busy_fault, route_fault, with_relayed}
-use Rattle.mv_hub.specs.declared.fault.RouteFault.TheVariants.{StrangerParty}
+use Rattle.std.specs.Option.{option_map}
+use Rattle.mv_hub.specs.Hub.{HubState, new_hub, sent_of, items_on, next_items, is_busy, busy_party, route_fault, with_relayed}
+use Rattle.mv_hub.specs.declared.fault.RouteFault.TheVariants.{StrangerParty, Busy}
 use Rattle.mv_hub.specs.Kept.{link_at, sent_table, Carries, AreLinks, IsKept}
 use Rattle.mv_hub.specs.Gains.{PushesItems, PushesRow, IsRouting, receipt_of, carried_by, gain_of, gain_count}
 use Rattle.mv_hub.proofs.LinksLemmas.{room-after}
@@ -247,6 +248,6 @@ unfolding route_fault
 stranger_is_not_routed hub from message ge = rw (le-ltb from (length hub.parties) ge)
 
 pub party_is_routed : (hub : HubState) (from : ℕ) (message : Message) → from < length hub.parties
-    → route_fault hub from message ≡ busy_fault (busy_party hub from message)
+    → route_fault hub from message ≡ option_map Busy (busy_party hub from message)
 unfolding route_fault
 party_is_routed hub from message lt = rw (lt-ltb from (length hub.parties) lt)

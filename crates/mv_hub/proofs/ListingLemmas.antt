@@ -12,7 +12,8 @@ use Rattle.std.proofs.lemmas.Map.Views.{any-filter_same, Contains-from_any, list
 use Rattle.mv_pack.specs.declared.key.BatchKey.{BatchKey}
 use Rattle.mv_pack.specs.contracts.key.BatchKeyEq.TheImpl.Laws as equal
 use Rattle.mv_pack.specs.contracts.key.BatchKeyOrd.TheImpl.Laws as order
-use Rattle.mv_hub.specs.BatchLinks.{is_same_batch, batch_cmp}
+use Rattle.mv_pack.specs.Keys.{is_same_batch}
+use Rattle.mv_hub.specs.BatchLinks.{batch_cmp}
 use Rattle.mv_hub.specs.Listing.{Listing, is_same_listing, distinct}
 
 pub batch_equivalence : IsEquivalence is_same_batch

@@ -4,11 +4,11 @@ use Rattle.std.specs.Cmp.Lexicographic.{nat_list_eq_equiv}
 use Rattle.std.proofs.lemmas.List.{take_more, take-append-drop, map-append, append-nil}
 use Rattle.std.proofs.lemmas.List.Folds.{list_any-append}
 use Rattle.std.proofs.lemmas.Bool.{or_parts, cases_eq}
-use Rattle.std.specs.Prelude.{◌==◌}
+use Rattle.std.specs.Prelude.{◌==◌, bytes_eq}
 use Rattle.std.specs.Map.{lookup}
 use Rattle.std.proofs.Math.Bool.{or_assoc, or-false}
-use Rattle.mv_hub.specs.Parties.{is_same_market, has_market, has_twice, all_markets, serves_one, served_by}
-use Rattle.mv_hub.specs.PartySets.{those, FindsBelow}
+use Rattle.mv_hub.specs.Parties.{has_market, has_twice, serves_one, served_by}
+use Rattle.mv_hub.specs.PartySets.{those, FindsBelow, all_markets}
 use Rattle.mv_hub.proofs.NumberLemmas.{those-agree}
 use Rattle.mv_hub.proofs.ListingLemmas.{text-same}
 
@@ -22,12 +22,12 @@ pub has_twice-push : (xs : List (List ℕ)) (market : List ℕ)
     → has_twice (xs ++ market ∷ []) ≡ (has_twice xs || has_market xs market)
 has_twice-push [] market = refl
 has_twice-push (x ∷ xs) market =
-    grind (arith, list_any-append (λ m. is_same_market m x) xs (market ∷ []), nat_list_eq_equiv.symm market x, has_twice-push xs market)
+    grind (arith, list_any-append (λ m. bytes_eq m x) xs (market ∷ []), nat_list_eq_equiv.symm market x, has_twice-push xs market)
 
 -- what stands twice does so in a longer list
 pub has_twice-longer : (xs ys : List (List ℕ)) → has_twice xs ≡ true → has_twice (xs ++ ys) ≡ true
 has_twice-longer [] ys twice = absurd (cc)
-has_twice-longer (x ∷ xs) ys twice = grind (arith, list_any-append (λ m. is_same_market m x) xs ys, has_twice-longer xs ys)
+has_twice-longer (x ∷ xs) ys twice = grind (arith, list_any-append (λ m. bytes_eq m x) xs ys, has_twice-longer xs ys)
 
 -- with one more of the list behind it, a list has a market twice if that market stands in what is before
 pub repeats_market-more : (before list : List (List ℕ)) (i : ℕ) (d : List ℕ) → i < length list → has_twice (before ++ take i list) ≡ false
@@ -69,7 +69,7 @@ module _ {V : Type 0} (items : V → List (List ℕ)) (lists : List V) (i : ℕ)
 apart : (xs ys : List (List ℕ)) (market : List ℕ) → has_twice (xs ++ ys) ≡ false → has_market xs market ≡ true → has_market ys market ≡ true → ⊥
 apart [] ys market once first second = true≢false (sym first)
 apart (x ∷ xs) ys market once first second =
-    grind (arith, list_any-append (λ m. is_same_market m x) xs ys, text-same x market, apart xs ys market)
+    grind (arith, list_any-append (λ m. bytes_eq m x) xs ys, text-same x market, apart xs ys market)
 
 -- a market of one of the lists is among all
 has_market-all : (lists : List (List (List ℕ))) (i : ℕ) (market : List ℕ) → has_market (served_by lists i) market ≡ true
@@ -77,7 +77,7 @@ has_market-all : (lists : List (List (List ℕ))) (i : ℕ) (market : List ℕ) 
 has_market-all [] i market has = absurd (true≢false (sym has))
 has_market-all (x ∷ xs) zero market has = rw (list_any-append, has)
 has_market-all (x ∷ xs) (suc i) market has =
-    grind (arith, list_any-append (λ m. is_same_market m market) x (all_markets xs), has_market-all xs i market has)
+    grind (arith, list_any-append (λ m. bytes_eq m market) x (all_markets xs), has_market-all xs i market has)
 
 -- no two parties serve one market
 pub one-party : (lists : List (List (List ℕ))) (i j : ℕ) (market : List ℕ) → has_twice (all_markets lists) ≡ false
@@ -107,8 +107,8 @@ finds-none lists = record {
 -- the markets of one more party are noted
 pub finds-more : (lists : List (List (List ℕ))) (n : ℕ) (old new : List (List ℕ × ℕ)) → has_twice (all_markets lists) ≡ false
     → FindsBelow lists n old
-    → ((market : List ℕ) → lookup (is_same_market market) new
-    ≡ cond (has_market (served_by lists n) market) (Some n) (lookup (is_same_market market) old))
+    → ((market : List ℕ) → lookup (bytes_eq market) new
+    ≡ cond (has_market (served_by lists n) market) (Some n) (lookup (bytes_eq market) old))
     → FindsBelow lists (n + 1) new
 finds-more lists n old new once finds updates = record {
   serves = λ market party found. grind (arith, updates market, finds.serves market party);
@@ -120,7 +120,7 @@ pub serves_one-push : (served markets : List (List ℕ)) (market : List ℕ)
     → serves_one served (markets ++ market ∷ []) ≡ (serves_one served markets || has_market served market)
 serves_one-push [] markets market = refl
 serves_one-push (s ∷ served) markets market =
-    let more = list_any-append (λ m. is_same_market m s) markets (market ∷ []) in
+    let more = list_any-append (λ m. bytes_eq m s) markets (market ∷ []) in
     grind (arith, more, nat_list_eq_equiv.symm market s, serves_one-push served markets market)
 
 -- none serves no market

@@ -5,8 +5,9 @@ use Rattle.std.proofs.lemmas.List.{take_more, take-append-le}
 use Rattle.std.proofs.lemmas.List.Elements.{Contains-push, Contains-push_cases, Contains-append_left}
 use Rattle.std.proofs.lemmas.Map.Views.{Contains-from_any}
 use Rattle.mv_pack.specs.declared.key.BatchKey.{BatchKey}
-use Rattle.mv_hub.specs.BatchLinks.{is_same_batch, IsChain, IsReachedFrom}
-use Rattle.mv_hub.specs.Tables.{with_link, Gathers}
+use Rattle.mv_pack.specs.Keys.{is_same_batch}
+use Rattle.mv_hub.specs.BatchLinks.{IsChain}
+use Rattle.mv_hub.specs.Tables.{with_link, Gathers, IsReachedFrom}
 use Rattle.mv_hub.proofs.ListingLemmas.{batch-same}
 
 none-in : (batch : BatchKey) → Contains [] batch → ⊥

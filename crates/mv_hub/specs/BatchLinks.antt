@@ -1,18 +1,14 @@
 -- Links between batches: a routed repack makes packs of the batch before into packs of the batch after.
-use Rattle.std.specs.Prelude.{List, [], ◌∷◌, nat_eq, Bool, ◌&&◌, Contains, Option, Some, None, if◌then◌else◌}
-use Rattle.std.specs.Cmp.Lexicographic.{pointwise, slice_cmp}
+use Rattle.std.specs.Prelude.{List, [], ◌∷◌, Contains, Option, Some, None, if◌then◌else◌}
+use Rattle.std.specs.Cmp.Lexicographic.{slice_cmp}
 use Rattle.std.specs.Ordering.{nat_cmp, ordering_then}
 use Rattle.std.specs.declared.cmp.Ordering.{Ordering}
 use Rattle.std.specs.List.{filter_map}
 use Rattle.mv_pack.specs.declared.key.BatchKey.{BatchKey}
+use Rattle.mv_pack.specs.Keys.{is_same_batch}
 use Rattle.mv_message.specs.declared.message.Message.TheVariants.{Repack}
 use Rattle.mv_hub.specs.declared.entry.Entry.{Entry}
 use Rattle.mv_hub.specs.declared.entry.Entry.TheVariants.{Routed}
-use Rattle.mv_hub.specs.Record.{is_same_gtin}
-
--- the same batch number of the same product
-abbrev pub is_same_batch : BatchKey → BatchKey → Bool
-is_same_batch a b = is_same_gtin a.gtin b.gtin && pointwise nat_eq a.batch b.batch
 
 -- batches in the order of the bytes of their product code, and of one product in that of the bytes of their number
 abbrev pub batch_cmp : BatchKey → BatchKey → Ordering
@@ -33,10 +29,6 @@ abbrev pub IsChain : (BatchKey → List BatchKey) → BatchKey → List BatchKey
 IsChain links batch [] other = Contains (links batch) other
 IsChain links batch (next ∷ between) other = Contains (links batch) next × IsChain links next between other
 
--- a chain of one or more links leads from a batch to another
-abbrev pub IsReachedFrom : (BatchKey → List BatchKey) → BatchKey → BatchKey → Type 0
-IsReachedFrom links batch other = (between : List BatchKey) × IsChain links batch between other
-
 -- a batch was made of another by one or more routed repacks, each of packs that the one before had made
 abbrev pub IsDescendant : List Entry → BatchKey → BatchKey → Type 0
-IsDescendant entries batch other = IsReachedFrom (linked_to entries) batch other
+IsDescendant entries batch other = (between : List BatchKey) × IsChain (linked_to entries) batch between other

@@ -1,12 +1,12 @@
 -- What the hub knows of a product: its last master, and the batches of it that were uploaded (Article 33).
-use Rattle.std.specs.Prelude.{ℕ, List, [], Option, Some, None, if◌then◌else◌}
+use Rattle.std.specs.Prelude.{ℕ, List, [], Option, Some, None, if◌then◌else◌, bytes_eq}
 use Rattle.std.specs.List.{filter_map}
 use Rattle.mv_message.specs.declared.message.Product.{Product}
 use Rattle.mv_message.specs.declared.message.Message.TheVariants.{Upload}
 use Rattle.mv_hub.specs.declared.entry.Entry.{Entry}
 use Rattle.mv_hub.specs.declared.entry.Entry.TheVariants.{Routed}
 use Rattle.mv_hub.specs.declared.catalogue.Catalogue.{Catalogue}
-use Rattle.mv_hub.specs.Record.{is_same_gtin, last_product}
+use Rattle.mv_hub.specs.Record.{last_product}
 use Rattle.mv_hub.specs.Listing.{Listing, is_same_listing, distinct}
 
 -- what is known of a product: nothing where it has neither a master nor a batch
@@ -17,7 +17,7 @@ catalogue_with product batches = Some (record { product = product; batches = bat
 -- the batch and its expiry that an entry lists under a product: those of a routed upload of it
 abbrev pub listing_in : List ℕ → Entry → Option Listing
 listing_in gtin (Routed from k (Upload named batch expiry national serials)) =
-    if is_same_gtin named gtin then Some (batch, expiry) else None
+    if bytes_eq named gtin then Some (batch, expiry) else None
 listing_in gtin entry = None
 
 -- the distinct pairs of batch and expiry of all routed uploads of a product, in the order of their first routing

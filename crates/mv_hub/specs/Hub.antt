@@ -59,15 +59,10 @@ is_busy hub from message to =
 unfoldable pub busy_party : HubState → ℕ → Message → Option ℕ
 busy_party hub from message = find (is_busy hub from message) (range_with_len 0 (length hub.parties))
 
--- the refusal that a full link calls for
-abbrev pub busy_fault : Option ℕ → Option RouteFault
-busy_fault (Some to) = Some (Busy to)
-busy_fault None = None
-
 -- why a message cannot be routed now, memory aside, the first reason that holds
 unfoldable pub route_fault : HubState → ℕ → Message → Option RouteFault
 route_fault hub from message =
-    if nat_lt from (length hub.parties) then busy_fault (busy_party hub from message) else Some StrangerParty
+    if nat_lt from (length hub.parties) then option_map Busy (busy_party hub from message) else Some StrangerParty
 
 -- two parties of the hub
 abbrev pub are_parties : HubState → ℕ → ℕ → Bool

@@ -11,7 +11,8 @@ use Rattle.mv_hub.specs.Record.{routed_count, is_open}
 use Rattle.mv_hub.specs.Listing.{distinct}
 use Rattle.mv_hub.specs.Catalogue.{catalogue_of}
 use Rattle.mv_hub.specs.Tables.{catalogue_in}
-use Rattle.mv_hub.specs.BatchLinks.{is_same_batch, linked_to}
+use Rattle.mv_pack.specs.Keys.{is_same_batch}
+use Rattle.mv_hub.specs.BatchLinks.{linked_to}
 use Rattle.mv_hub.specs.Tables.{linked_in}
 use Rattle.mv_hub.specs.Links.{link_items}
 

@@ -1,18 +1,13 @@
 -- The parties and the markets that they serve: each territory is served by one repository (Article 32).
-use Rattle.std.specs.Prelude.{ℕ, List, [], ◌∷◌, ◌++◌, length, nat_eq, nat_lt, Bool, false, ◌==◌, ◌||◌, if◌then◌else◌, slice_index_or, filter, Result, Ok, Err}
+use Rattle.std.specs.Prelude.{ℕ, List, [], ◌∷◌, flat_map, length, nat_lt, Bool, false, ◌==◌, ◌||◌, if◌then◌else◌, slice_index_or, filter, Result, Ok, Err, bytes_eq}
 use Rattle.std.specs.List.{list_any, range_with_len}
-use Rattle.std.specs.Cmp.Lexicographic.{pointwise}
 use Rattle.mv_link.specs.declared.limits.TheConstants.{PARTIES_LIMIT}
 use Rattle.mv_hub.specs.declared.fault.HubFault.{HubFault}
 use Rattle.mv_hub.specs.declared.fault.HubFault.TheVariants.{NoParty, TooMany, ServedTwice}
 
--- two markets are the same
-abbrev pub is_same_market : List ℕ → List ℕ → Bool
-is_same_market = pointwise nat_eq
-
 -- the list has the market
 abbrev pub has_market : List (List ℕ) → List ℕ → Bool
-has_market markets market = list_any (λ m. is_same_market m market) markets
+has_market markets market = list_any (λ m. bytes_eq m market) markets
 
 -- who serves the first markets serves one of the others
 abbrev pub serves_one : List (List ℕ) → List (List ℕ) → Bool
@@ -31,15 +26,10 @@ abbrev pub has_twice : List (List ℕ) → Bool
 has_twice [] = false
 has_twice (market ∷ markets) = has_market markets market || has_twice markets
 
--- the markets of all parties, one list behind the other
-abbrev pub all_markets : List (List (List ℕ)) → List (List ℕ)
-all_markets [] = []
-all_markets (markets ∷ rest) = markets ++ all_markets rest
-
 -- the parties of these lists, or the first fault: 1 to 64 of them, and no market is served twice
 abbrev pub parties_of : List (List (List ℕ)) → Result (List (List (List ℕ))) HubFault
 parties_of lists =
     if length lists == 0 then Err NoParty
     else (if nat_lt PARTIES_LIMIT (length lists) then Err TooMany
-    else (if has_twice (all_markets lists) then Err ServedTwice
+    else (if has_twice (flat_map (λ markets. markets) lists) then Err ServedTwice
     else Ok lists))

@@ -1,6 +1,5 @@
 -- The hub's record, its audit trail (Regulation (EU) 2016/161, Article 35(1)): the oldest entry stands first.
-use Rattle.std.specs.Prelude.{ℕ, List, [], ◌∷◌, length, nat_eq, Bool, true, ◌==◌, ◌&&◌, not, Option, Some, None, option_map, unwrap_or, if◌then◌else◌}
-use Rattle.std.specs.Cmp.Lexicographic.{pointwise}
+use Rattle.std.specs.Prelude.{ℕ, List, [], ◌∷◌, length, Bool, true, ◌==◌, ◌&&◌, not, Option, Some, None, option_map, unwrap_or, if◌then◌else◌, bytes_eq}
 use Rattle.std.specs.List.{filter_map, last_or}
 use Rattle.mv_message.specs.declared.message.Message.{Message}
 use Rattle.mv_message.specs.declared.message.Message.TheVariants.{Master}
@@ -19,10 +18,6 @@ routed_from (Closed from to ∷ entries) party = routed_from entries party
 abbrev pub routed_count : List Entry → ℕ → ℕ
 routed_count entries party = length (routed_from entries party)
 
--- two product codes are the same
-abbrev pub is_same_gtin : List ℕ → List ℕ → Bool
-is_same_gtin = pointwise nat_eq
-
 -- the product that a message gives: that of a master
 abbrev pub product_of : Message → Option Product
 product_of (Master gtin product) = Some product
@@ -30,7 +25,7 @@ product_of message = None
 
 -- the product that an entry gives under a code: that of a routed master of the code
 abbrev pub product_in : List ℕ → Entry → Option Product
-product_in gtin (Routed from k (Master named product)) = if is_same_gtin named gtin then Some product else None
+product_in gtin (Routed from k (Master named product)) = if bytes_eq named gtin then Some product else None
 product_in gtin entry = None
 
 -- the product of the last routed master of a code, none where there is no master

@@ -1,11 +1,11 @@
 -- What the tables of the hub hold by its record, and how an entry changes them: words of the inside.
-use Rattle.std.specs.Prelude.{List, [], ◌∷◌, ◌++◌, unwrap_or, ◌≡◌, ◌↔◌, ◌⊎◌, Contains, Option, Some, None, if◌then◌else◌, ℕ}
+use Rattle.std.specs.Prelude.{List, [], ◌∷◌, ◌++◌, unwrap_or, ◌≡◌, ◌↔◌, ◌⊎◌, Contains, Option, Some, None, if◌then◌else◌, ℕ, bytes_eq}
 use Rattle.std.specs.Cmp.Lexicographic.{nat_list_eq_equiv}
 use Rattle.std.specs.List.{list_any}
 use Rattle.std.specs.Map.{lookup}
 use Rattle.mv_pack.specs.declared.key.BatchKey.{BatchKey}
-use Rattle.mv_hub.specs.Record.{is_same_gtin}
-use Rattle.mv_hub.specs.BatchLinks.{is_same_batch}
+use Rattle.mv_pack.specs.Keys.{is_same_batch}
+use Rattle.mv_hub.specs.BatchLinks.{IsChain}
 use Rattle.mv_message.specs.declared.message.Product.{Product}
 use Rattle.mv_hub.specs.declared.catalogue.Catalogue.{Catalogue}
 use Rattle.mv_hub.specs.Listing.{Listing, is_same_listing}
@@ -14,6 +14,10 @@ use Rattle.std.specs.Cmp.{IsEquivalence, and_equiv, on_equiv, nat_eq_equiv}
 -- what a table of the batches after says of a batch
 abbrev pub linked_in : List (BatchKey × List BatchKey) → BatchKey → List BatchKey
 linked_in table batch = unwrap_or (lookup (is_same_batch batch) table) []
+
+-- a chain of one or more links leads from a batch to another
+abbrev pub IsReachedFrom : (BatchKey → List BatchKey) → BatchKey → BatchKey → Type 0
+IsReachedFrom links batch other = (between : List BatchKey) × IsChain links batch between other
 
 -- one more batch after, unless it is there
 abbrev pub with_link : List BatchKey → BatchKey → List BatchKey
@@ -39,7 +43,7 @@ with_listing (Some catalogue) listing = record {
 
 -- what a table says of a product
 abbrev pub catalogue_in : List (List ℕ × Catalogue) → List ℕ → Option Catalogue
-catalogue_in table gtin = lookup (is_same_gtin gtin) table
+catalogue_in table gtin = lookup (bytes_eq gtin) table
 
 pub listing_equiv : IsEquivalence is_same_listing
 listing_equiv =

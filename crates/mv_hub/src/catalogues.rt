@@ -1,10 +1,10 @@
 //! What the hub knows of each product, by the masters and uploads that it routed.
 
-ghost use Rattle.std.specs.Prelude.{◌≡◌, ℕ, [], List, Option, Some, None, if◌then◌else◌};
+ghost use Rattle.std.specs.Prelude.{◌≡◌, ℕ, [], List, Option, Some, None, if◌then◌else◌, bytes_eq};
 ghost use Rattle.std.specs.Prelude.{option_map, OnOk, OnErr, IfOk};
 ghost use Rattle.std.specs.Option.{option_copied};
 ghost use Rattle.mv_message.specs.declared.message.Product.{Product as AProduct};
-ghost use Rattle.mv_hub.specs.Record.{is_same_gtin, product_of};
+ghost use Rattle.mv_hub.specs.Record.{product_of};
 ghost use Rattle.mv_hub.specs.Tables.{with_product, with_listing};
 
 use crate::{Catalogue, MasterProduct, Pairs};
@@ -125,7 +125,7 @@ impl Catalogues {
     ) -> Result<(), AllocError>
         ensures ok { OnOk result ((product : AProduct) → product_of master.now ≡ Some product
             → (other : List ℕ) → catalogue_in self.new other
-            ≡ (if is_same_gtin gtin other
+            ≡ (if bytes_eq gtin other
             then Some (with_product (catalogue_in self.old gtin) product)
             else catalogue_in self.old other)) }
         ensures err { OnErr result (self.new ≡ self.old) }
@@ -148,7 +148,7 @@ impl Catalogues {
         expiry: Expiry,
     ) -> Result<(), AllocError>
         ensures ok { OnOk result ((other : List ℕ) → catalogue_in self.new other
-            ≡ (if is_same_gtin gtin other
+            ≡ (if bytes_eq gtin other
             then Some (with_listing (catalogue_in self.old gtin) (batch.now, expiry))
             else catalogue_in self.old other)) }
         ensures err { OnErr result (self.new ≡ self.old) }

@@ -1,12 +1,12 @@
 //! The parties and the markets that each serves.
 
-ghost use Rattle.std.specs.Prelude.{◌≡◌, ◌<◌, ◌≤◌, ◌++◌, ◌==◌, ◌||◌, ℕ, Bool, List, map, length};
+ghost use Rattle.std.specs.Prelude.{◌≡◌, ◌<◌, ◌≤◌, ◌++◌, ◌==◌, ◌||◌, ℕ, Bool, List, map, length, bytes_eq};
 ghost use Rattle.std.specs.Prelude.{true, false, Some, if◌then◌else◌, IfOk, OnOk};
 ghost use Rattle.std.specs.Map.{lookup};
 ghost use Rattle.mv_hub.specs.Fault.{Gives};
-ghost use Rattle.mv_hub.specs.Parties.{parties_of, serving, serves_one, served_by, is_same_market};
-ghost use Rattle.mv_hub.specs.Parties.{has_market, has_twice, all_markets};
-ghost use Rattle.mv_hub.specs.PartySets.{FindsParties, those};
+ghost use Rattle.mv_hub.specs.Parties.{parties_of, serving, serves_one, served_by};
+ghost use Rattle.mv_hub.specs.Parties.{has_market, has_twice};
+ghost use Rattle.mv_hub.specs.PartySets.{FindsParties, those, all_markets};
 
 use crate::HubFault;
 use arrayvec::ArrayVec;
@@ -30,8 +30,8 @@ pub struct Parties {
 impl Model for Parties {
     ghost use Rattle.std.specs.Prelude.{ℕ, List, length, false, ◌≡◌, ◌≤◌};
     ghost use Rattle.mv_link.specs.declared.limits.TheConstants.{PARTIES_LIMIT};
-    ghost use Rattle.mv_hub.specs.Parties.{all_markets, has_twice};
-    ghost use Rattle.mv_hub.specs.PartySets.{FindsParties};
+    ghost use Rattle.mv_hub.specs.Parties.{has_twice};
+    ghost use Rattle.mv_hub.specs.PartySets.{FindsParties, all_markets};
 
     ghost Value = { List (List (List ℕ)) };
 
@@ -169,9 +169,9 @@ fn add_markets(
     markets: &[Market],
     party: Party,
 ) -> Result<(), AllocError>
-    ensures { OnOk result ((market : List ℕ) → lookup (is_same_market market) table.new.entries
+    ensures { OnOk result ((market : List ℕ) → lookup (bytes_eq market) table.new.entries
         ≡ (if has_market markets.now market then Some party
-        else lookup (is_same_market market) table.old.entries)) }
+        else lookup (bytes_eq market) table.old.entries)) }
 {
     for market in markets {
         table.insert(*market, party)?;

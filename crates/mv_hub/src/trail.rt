@@ -132,7 +132,7 @@ fn add_to_tables(
             expiry,
             ..
         } => catalogues.add_batch(*gtin, batch, *expiry)?,
-        Message::Repack { before, after, .. } => batch_links.add(before, after)?,
+        Message::Repack { before, after, .. } => batch_links.add(before.get(), after.get())?,
         // No other message says anything of what a product is, of its batches or of links.
         _ => {}
     }

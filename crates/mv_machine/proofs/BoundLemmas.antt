@@ -3,6 +3,7 @@ use Rattle.std.proofs.Common.{◌≡◌, ℕ, zero, suc, ◌+◌, ◌*◌, ◌<�
 use Rattle.std.specs.Prelude.{◌&&◌, nat_lt}
 use Rattle.std.proofs.Math.Nat.{mul-le-mul_left}
 use Rattle.std.proofs.lemmas.Bool.{eq-eqb, cases_eq, le-ltb}
+use Rattle.std.specs.List.{AllByRecursion}
 use Rattle.mv_message.specs.declared.message.Message.{Message}
 use Rattle.mv_hub.specs.declared.entry.Entry.{Entry}
 use Rattle.mv_hub.specs.declared.entry.Entry.TheVariants.{Routed, Closed}
@@ -15,7 +16,7 @@ use Rattle.mv_party.specs.declared.limits.TheConstants.{SUBMISSIONS_LIMIT}
 use Rattle.mv_machine.specs.Limits.{most_entries}
 use Rattle.mv_machine.specs.State.{State, submissions_of, items_on, hub_of}
 use Rattle.mv_machine.specs.Laws.{NumbersSuffice}
-use Rattle.mv_machine.specs.Lawful.{AllFit, AllNameParties, IsLawfulRecord, IsLawful}
+use Rattle.mv_machine.specs.Lawful.{AllFit, NamesParties, IsLawfulRecord, IsLawful}
 use Rattle.mv_machine.proofs.PutLemmas.{routed_count-push}
 
 -- the sum of what a function gives for the numbers below another
@@ -57,7 +58,7 @@ unfolding open_from
 open_from-fewer count before entry from = sum_below-mono count _ _ (open-fewer before entry from)
 
 -- each entry routes a message of a party, or closes a link that was open
-entries-most : (count : ℕ) (before entries : List Entry) → AllFit before entries → AllNameParties count entries
+entries-most : (count : ℕ) (before entries : List Entry) → AllFit before entries → AllByRecursion (NamesParties count) entries
     → length entries + sum_below count (open_from count (before ++ entries)) ≤ sum_below count (open_from count before) + sum_below count (routed_count entries)
 entries-most count before [] fit names = rw append-nil (omega arith)
 entries-most count before (Routed sender k message ∷ entries) fit names =
@@ -122,8 +123,6 @@ numbers_suffice st from to message lawful is_party few =
     let numbers : nat_lt NUMBER_LIMIT (length (items_on st from to) + length (next_items (hub_of st) from message to)) ≡ false =
     le-ltb _ _ (omega (arith, items, more, routed_count-few st from lawful is_party, few)) in
     rw numbers (grind arith)
-
-pub ruleset short_records = (record-few)
 
 -- so is that of a state of so many parties that submitted so many messages each, at most
 pub entries_few : (st : State) → IsLawful st → length st.parties ≤ PARTIES_LIMIT → ((party : ℕ) → length (submissions_of st party) ≤ SUBMISSIONS_LIMIT) → length st.entries ≤ most_entries

@@ -1,6 +1,7 @@
 -- A record and a link stay lawful with one more entry, submission or item.
 use Rattle.std.proofs.Common.{◌≡◌, ℕ, List, [], ◌∷◌, ◌++◌, length, eqb, eqb-true, Some, arith}
 use Rattle.std.proofs.lemmas.Grind.{common_steps}
+use Rattle.std.specs.List.{AllByRecursion}
 use Rattle.std.specs.Prelude.{slice_get}
 use mathlib.Core.List.{IsPrefix}
 use Rattle.mv_message.specs.declared.message.Message.{Message}
@@ -11,7 +12,7 @@ use Rattle.mv_hub.proofs.RecordLemmas.{link_items-push}
 use Rattle.mv_repository.specs.declared.entry.LogEntry.{LogEntry}
 use Rattle.mv_repository.specs.Log.{items_from}
 use Rattle.mv_party.proofs.SiteLemmas.{items_from-push}
-use Rattle.mv_machine.specs.Lawful.{Fits, AllFit, NamesParties, AllNameParties, IsLawfulRecord, IsLawfulLink}
+use Rattle.mv_machine.specs.Lawful.{Fits, AllFit, NamesParties, IsLawfulRecord, IsLawfulLink}
 use Rattle.mv_machine.specs.PartLaws.{LinksStayLawful}
 use Rattle.mv_machine.proofs.PrefixLemmas.{prefix-grows, prefix-maybe}
 
@@ -21,16 +22,16 @@ AllFit-push before [] entry all fits = grind (arith, common_steps)
 AllFit-push before (x ∷ entries) entry all fits = grind (arith, common_steps, AllFit-push (before ++ x ∷ []) entries entry all.1)
 
 -- one more entry names parties
-AllNameParties-push : (count : ℕ) (entries : List Entry) (entry : Entry) → AllNameParties count entries → NamesParties count entry → AllNameParties count (entries ++ entry ∷ [])
-AllNameParties-push count [] entry all names = (names, tt)
-AllNameParties-push count (x ∷ entries) entry all names = (all.0, AllNameParties-push count entries entry all.1 names)
+name_parties-push : (count : ℕ) (entries : List Entry) (entry : Entry) → AllByRecursion (NamesParties count) entries → NamesParties count entry → AllByRecursion (NamesParties count) (entries ++ entry ∷ [])
+name_parties-push count [] entry all names = (names, tt)
+name_parties-push count (x ∷ entries) entry all names = (all.0, name_parties-push count entries entry all.1 names)
 
 -- the record gained an entry
 pub record-entered : (count : ℕ) (entries : List Entry) (entry : Entry) → IsLawfulRecord count entries → Fits entries entry → NamesParties count entry
     → IsLawfulRecord count (entries ++ entry ∷ [])
 record-entered count entries entry lawful fits names = record {
   fit = AllFit-push [] entries entry lawful.fit fits;
-  name_parties = AllNameParties-push count entries entry lawful.name_parties names;
+  name_parties = name_parties-push count entries entry lawful.name_parties names;
 }
 
 pub ruleset record_entered = (record-entered)
@@ -62,4 +63,8 @@ link-applied parties entries from to submissions log entry lawful next = record 
 }
 
 pub links_stay_lawful : LinksStayLawful
-links_stay_lawful = (link-submitted, link-entered, link-applied)
+links_stay_lawful parties entries from to submissions log lawful = (
+  λ more. link-submitted parties entries from to submissions more log lawful,
+  λ entry. link-entered parties entries entry from to submissions log lawful,
+  λ entry. link-applied parties entries from to submissions log entry lawful,
+)

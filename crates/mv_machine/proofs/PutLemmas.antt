@@ -6,6 +6,7 @@ use Rattle.std.proofs.lemmas.Bool.{eqb-true, eq-eqb, and_parts}
 use Rattle.std.proofs.lemmas.List.{length_push}
 use Rattle.std.proofs.lemmas.List.Elements.{All-nil, All-cons, All-head, All-tail}
 use Rattle.std.proofs.Math.Seq.{take-append_seam}
+use Rattle.std.specs.List.{AllByRecursion}
 use Rattle.mv_message.specs.declared.message.Message.{Message}
 use Rattle.mv_link.specs.declared.item.Item.{Item}
 use Rattle.mv_link.specs.declared.item.Item.TheVariants.{Receipt, Carried}
@@ -18,7 +19,6 @@ use Rattle.mv_hub.specs.Targets.{is_reached, is_target, reach, is_query}
 use Rattle.mv_hub.specs.Links.{gained, link_items_after, link_items}
 use Rattle.mv_repository.specs.declared.entry.LogEntry.{LogEntry}
 use Rattle.mv_repository.specs.Log.{items_from}
-use Rattle.mv_party.specs.Site.{AllFromParties}
 use Rattle.mv_machine.specs.State.{State, log_of}
 use Rattle.mv_machine.specs.Lawful.{Fits, AllFit, IsLawfulLink, IsLawful}
 use Rattle.mv_machine.proofs.PrefixLemmas.{slice_get-behind}
@@ -134,7 +134,7 @@ pub log-put : (st : State) (from to : ℕ) → IsLawful st → from < length st.
 log-put st from to lawful from_is_party to_is_party = applied-put st.parties st.entries from to _ (log_of st to) (lawful.of_link from to from_is_party to_is_party)
 
 -- what holds of the items that a log has from each party holds of each entry
-pub each-entry : (P : ℕ → Item → Type 0) (count : ℕ) (log : List LogEntry) → AllFromParties count log → ((sender : ℕ) → sender < count → All (P sender) (items_from log sender))
+pub each-entry : (P : ℕ → Item → Type 0) (count : ℕ) (log : List LogEntry) → AllByRecursion (λ (entry : LogEntry). entry.sender < count) log → ((sender : ℕ) → sender < count → All (P sender) (items_from log sender))
     → All (λ entry. P entry.sender entry.item) log
 each-entry P count [] parties items = All-nil (λ (entry : LogEntry). P entry.sender entry.item)
 each-entry P count (first ∷ log) parties items =

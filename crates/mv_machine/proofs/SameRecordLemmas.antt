@@ -1,7 +1,7 @@
 -- Two lawful states with the same record: a repository that applied as many items of each sender in both has the same entries.
 use Rattle.std.proofs.Common.{◌≡◌, ℕ, ◌<◌, Bool, true, false, List, [], ◌∷◌, ◌++◌, length, take, cond, eqb, sym, refl, ap, ◌∙◌, subst, arith}
 use Rattle.std.specs.Prelude.{All}
-use Rattle.std.specs.List.{Contains}
+use Rattle.std.specs.List.{AllByRecursion, Contains}
 use Rattle.std.proofs.Math.Seq.{take-append_seam}
 use Rattle.std.proofs.lemmas.Bool.{eqb-true}
 use Rattle.std.proofs.lemmas.List.Elements.{All-nil, All-cons, All-weaker, All-contains, Contains-append_right}
@@ -12,7 +12,7 @@ use Rattle.mv_repository.specs.declared.entry.LogEntry.{LogEntry}
 use Rattle.mv_repository.specs.Log.{items_from}
 use Rattle.mv_repository.specs.Agreement.{AgreeOn}
 use Rattle.mv_repository.proofs.SameAboutLemmas.{same_entries}
-use Rattle.mv_party.specs.Site.{AllFromParties, entry_from}
+use Rattle.mv_party.specs.Site.{entry_from}
 use Rattle.mv_machine.specs.State.{State, log_of, items_on, applied_count}
 use Rattle.mv_machine.specs.Lawful.{IsLawful}
 use Rattle.mv_machine.proofs.PutLemmas.{each-entry}
@@ -39,7 +39,7 @@ items-contained (first ∷ log) sender =
     by false e rest = rest
 
 -- so where another log has the same items from each sender, it has each entry
-entry-also : (count : ℕ) (one other : List LogEntry) → AllFromParties count one → ((sender : ℕ) → sender < count → items_from one sender ≡ items_from other sender)
+entry-also : (count : ℕ) (one other : List LogEntry) → AllByRecursion (λ (entry : LogEntry). entry.sender < count) one → ((sender : ℕ) → sender < count → items_from one sender ≡ items_from other sender)
     → (entry : LogEntry) → Contains one entry → Contains other entry
 entry-also count one other parties same entry =
     All-contains (Contains other) one entry

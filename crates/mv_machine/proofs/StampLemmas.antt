@@ -6,6 +6,7 @@ use Rattle.std.proofs.lemmas.Grind.{common_steps}
 use Rattle.std.proofs.lemmas.Option.{gets}
 use Rattle.std.proofs.lemmas.Bool.{eq-eqb, cases_eq}
 use Rattle.std.proofs.lemmas.List.Elements.{All-nil, All-cons}
+use Rattle.std.specs.List.{AllByRecursion}
 use Rattle.mv_message.specs.declared.message.Message.{Message}
 use Rattle.mv_link.specs.declared.item.Item.{Item}
 use Rattle.mv_link.specs.declared.item.Item.TheVariants.{Receipt, Carried}
@@ -15,24 +16,12 @@ use Rattle.mv_repository.specs.declared.entry.LogEntry.{LogEntry}
 use Rattle.mv_repository.specs.Log.{items_from}
 use Rattle.mv_repository.specs.Agreement.{stamp_in, stamp_at, HasDistinctStamps}
 use Rattle.mv_repository.proofs.SameAboutLemmas.{same_about}
-use Rattle.mv_party.specs.Site.{AllFromParties}
 use Rattle.mv_machine.specs.State.{State, log_of}
 use Rattle.mv_machine.specs.Lawful.{IsLawful}
-use Rattle.mv_machine.specs.Stamps.{IsStamped, StampsNameRoutings, StampsAreDistinct, RepositoriesAgree}
+use Rattle.mv_machine.specs.Stamps.{StampsAreDistinct, RepositoriesAgree}
 use Rattle.mv_machine.specs.Laws.{LawfulStampsAreDistinct}
-use Rattle.mv_machine.proofs.PutLemmas.{IsPut, ArePut, put-each, put-rest, log-put, each-entry}
-
--- the entry that put a message on a link has its stamp
-named : (st : State) (from to place : ℕ) (item : Item) → IsPut st.parties st.entries from to place item → IsStamped st.entries from item
-named st from to place (Receipt k reached query) put = tt
-named st from to place (Carried k stamp message) put =
-    let before : place + 1 - 1 ≡ place = omega arith in
-    rw (put.made.0, put.made.1, before) (omega arith, put.routed)
-
-stamps_named : (st : State) → IsLawful st → StampsNameRoutings st
-stamps_named st lawful party is_party =
-    each-entry (IsStamped st.entries) (length st.parties) (log_of st party) (lawful.of_party party is_party).from_parties (λ sender lt.
-    put-each st.parties st.entries sender party (IsStamped st.entries sender) (named st sender party) 0 0 (items_from (log_of st party) sender) (log-put st sender party lawful lt is_party))
+use Rattle.mv_machine.proofs.PutLemmas.{ArePut, put-rest, log-put, each-entry}
+use Rattle.mv_machine.proofs.SubmittedLemmas.{applied_submitted}
 
 module _ (parties : List (List (List ℕ))) (entries : List Entry) (to : ℕ) where
   -- the items that a log has from each sender are put on their links
@@ -59,7 +48,7 @@ module _ (parties : List (List (List ℕ))) (entries : List Entry) (to : ℕ) wh
   stamp-none stamp log place none at = grind (arith, common_steps, gets)
 
   -- no stamp stands at the first place of a log and at another
-  first-alone : (count : ℕ) (entry : LogEntry) (log : List LogEntry) (place stamp : ℕ) → AllFromParties count log → IsPutLog count (entry ∷ log) → entry.sender < count
+  first-alone : (count : ℕ) (entry : LogEntry) (log : List LogEntry) (place stamp : ℕ) → AllByRecursion (λ (entry : LogEntry). entry.sender < count) log → IsPutLog count (entry ∷ log) → entry.sender < count
       → stamp_in entry.item ≡ Some stamp → stamp_at log place ≡ Some stamp → ⊥
   first-alone count entry log place stamp all put is_party first at =
       by entry.item (rw (eq-eqb entry.sender entry.sender refl) at (put entry.sender is_party)) first
@@ -78,7 +67,7 @@ module _ (parties : List (List (List ℕ))) (entries : List Entry) (to : ℕ) wh
               other-stamps sender entry.sender own.0 k (own.0 + 1) 0 own.2.message (items_from log sender) own.2.routed (λ _. omega arith) (rw same own.3)
           among sender (inr other) put = other-stamps sender entry.sender own.0 k 0 0 own.2.message (items_from log sender) own.2.routed (λ same. absurd (other same)) put
 
-  log-distinct : (count : ℕ) (log : List LogEntry) → AllFromParties count log → IsPutLog count log → HasDistinctStamps log
+  log-distinct : (count : ℕ) (log : List LogEntry) → AllByRecursion (λ (entry : LogEntry). entry.sender < count) log → IsPutLog count log → HasDistinctStamps log
   log-distinct count [] all put first second stamp a b = absurd (cc)
   log-distinct count (entry ∷ log) all put zero zero stamp a b = refl
   log-distinct count (entry ∷ log) all put zero (suc second) stamp a b = absurd (first-alone count entry log second stamp all.1 put all.0 a b)
@@ -92,7 +81,7 @@ stamps_distinct st lawful party is_party =
     (λ sender sender_is_party. log-put st sender party lawful sender_is_party is_party)
 
 pub stamps_are_distinct : LawfulStampsAreDistinct
-stamps_are_distinct st lawful = (stamps_named st lawful, stamps_distinct st lawful)
+stamps_are_distinct st lawful = (applied_submitted st lawful, stamps_distinct st lawful)
 
 pub repositories_agree : (st : State) → IsLawful st → RepositoriesAgree st
 repositories_agree st lawful pack one other one_is_party other_is_party same =

@@ -1,5 +1,6 @@
 -- What holds of every state that a system comes to.
 use Rattle.std.specs.Prelude.{◌≡◌, ◌<◌, ◌+◌, ℕ, List, [], ◌∷◌, ◌++◌, length, true}
+use Rattle.std.specs.List.{AllByRecursion}
 use mathlib.Core.List.{IsPrefix}
 use Rattle.mv_message.specs.declared.message.Message.{Message}
 use Rattle.mv_pairs.specs.Pairs.{IsSquare}
@@ -28,16 +29,11 @@ abbrev pub NamesParties : ℕ → Entry → Type 0
 NamesParties count (Routed from k message) = from < count
 NamesParties count (Closed from to) = (from < count) × (to < count)
 
--- each entry of a record names parties alone
-abbrev pub AllNameParties : ℕ → List Entry → Type 0
-AllNameParties count [] = Unit {0}
-AllNameParties count (entry ∷ entries) = NamesParties count entry × AllNameParties count entries
-
 -- A record is lawful, of so many parties: its messages are numbered and its links closed at most once, and it names parties
 -- alone.
 pub record IsLawfulRecord (count : ℕ) (entries : List Entry) : Type 0 where
   pub fit : AllFit [] entries
-  pub name_parties : AllNameParties count entries
+  pub name_parties : AllByRecursion (NamesParties count) entries
 
 -- A link is lawful: what was routed from its sender is a prefix of what this submitted; and what its receiver applied from the
 -- sender is a prefix of what the record puts on the link, in order and each once.

@@ -15,7 +15,7 @@ use Rattle.mv_machine.specs.Steps.{ask}
 use Rattle.mv_machine.specs.Runs.{Meets, Allows, Runs}
 use Rattle.mv_machine.specs.Lawful.{IsLawful, IsWellFormed}
 use Rattle.mv_machine.specs.Closing.{NothingRoutedLater, NothingSubmittedLater}
-use Rattle.mv_machine.specs.Stamps.{StampsNameRoutings, StampsAreDistinct, RepositoriesAgree}
+use Rattle.mv_machine.specs.Stamps.{StampsAreDistinct, RepositoriesAgree}
 use Rattle.mv_machine.specs.Headline.{Follows, AppliedIsSubmitted, NumbersRise, HeadlineHolds}
 use Rattle.mv_machine.specs.Bounded.{KeepsLimits}
 
@@ -44,10 +44,10 @@ NumbersSuffice = (st : State) (from to : ℕ) (message : Message) → IsLawful s
     → length (submissions_of st from) ≤ SUBMISSIONS_LIMIT → is_busy (hub_of st) from message to
     ≡ nat_lt st.limits.window (length (items_on st from to) - sent_of st from to + length (next_items (hub_of st) from message to))
 
--- in a lawful state each stamp of a log is the place of the record where its message was routed, and in no log does one stand
--- twice
+-- in a lawful state each stamp of a log is the place of the record where its message was routed, which its sender submitted, and
+-- in no log does one stand twice
 abbrev pub LawfulStampsAreDistinct : Type 0
-LawfulStampsAreDistinct = (st : State) → IsLawful st → StampsNameRoutings st × StampsAreDistinct st
+LawfulStampsAreDistinct = (st : State) → IsLawful st → AppliedIsSubmitted st × StampsAreDistinct st
 
 -- in a lawful state two repositories that have the same messages about a pack agree on it
 abbrev pub LawfulRepositoriesAgree : Type 0

@@ -33,14 +33,12 @@ RecordsAreShort = (count : ℕ) (entries : List Entry) → IsLawfulRecord count 
 -- A link stays lawful where its sender submits more; where the record gains an entry, and what it routed from the sender is still
 -- a prefix of what this submitted; and where its receiver applies an entry, which is the next of the link if it is from its sender.
 abbrev pub LinksStayLawful : Type 0
-LinksStayLawful =
-    ((parties : List (List (List ℕ))) (entries : List Entry) (from to : ℕ) (submissions more : List Message) (log : List LogEntry)
-    → IsLawfulLink parties entries from to submissions log → IsLawfulLink parties entries from to (submissions ++ more) log)
-    × ((parties : List (List (List ℕ))) (entries : List Entry) (entry : Entry) (from to : ℕ) (submissions : List Message) (log : List LogEntry)
-    → IsLawfulLink parties entries from to submissions log → IsPrefix (routed_from (entries ++ entry ∷ []) from) submissions
-    → IsLawfulLink parties (entries ++ entry ∷ []) from to submissions log)
-    × ((parties : List (List (List ℕ))) (entries : List Entry) (from to : ℕ) (submissions : List Message) (log : List LogEntry) (entry : LogEntry)
+LinksStayLawful = (parties : List (List (List ℕ))) (entries : List Entry) (from to : ℕ) (submissions : List Message) (log : List LogEntry)
     → IsLawfulLink parties entries from to submissions log
+    → ((more : List Message) → IsLawfulLink parties entries from to (submissions ++ more) log)
+    × ((entry : Entry) → IsPrefix (routed_from (entries ++ entry ∷ []) from) submissions
+    → IsLawfulLink parties (entries ++ entry ∷ []) from to submissions log)
+    × ((entry : LogEntry)
     → (entry.sender ≡ from → slice_get (link_items parties entries from to) (length (items_from log from)) ≡ Some entry.item)
     → IsLawfulLink parties entries from to submissions (log ++ entry ∷ []))
 

@@ -1,5 +1,5 @@
 -- What each step answers and leaves where there is memory: a row for each kind of step, its refusals in their order.
-use Rattle.std.specs.Prelude.{◌+◌, ◌-◌, ℕ, List, [], ◌∷◌, ◌++◌, length, not, if◌then◌else◌, slice_get, Option, Some, None}
+use Rattle.std.specs.Prelude.{◌+◌, ◌-◌, ℕ, List, [], ◌∷◌, ◌++◌, length, Bool, not, if◌then◌else◌, slice_get, Option, Some, None}
 use Rattle.mv_message.specs.declared.message.Message.{Message}
 use Rattle.mv_message.specs.declared.message.Message.TheVariants.{Query}
 use Rattle.mv_pack.specs.declared.key.PackKey.{PackKey}
@@ -35,6 +35,10 @@ pub record Answered : Type 0 where
 abbrev pub refused : Refusal → State → Answered
 refused refusal st = record { reply = Refused refusal; state = st }
 
+-- a step of parties is refused to others
+abbrev pub of_parties : Bool → State → Answered → Answered
+of_parties are_parties st answered = if not are_parties then refused Party st else answered
+
 -- what a part of the system answers and leaves, unless it refuses that for a fault, which has this refusal
 abbrev pub unless : {F : Type 0} → (F → Refusal) → Option F → State → Reply → State → Answered
 unless refusal (Some fault) st reply new = refused (refusal fault) st
@@ -42,17 +46,15 @@ unless refusal None st reply new = record { reply = reply; state = new }
 
 -- a party submits a message: it is the last of the party's submissions. Queries and answers are submitted by the system itself
 unfoldable pub submit : State → ℕ → Message → Answered
-submit st from message =
-    if not (is_party st from) then refused Party st
-    else unless refusal_of (submit_fault (is_uplink_full st from) (site_of st from) message) st
-    (Submitted (length (submissions_of st from) + 1)) (with_site st (with_submission (site_of st from) message))
+submit st from message = of_parties (is_party st from) st
+    (unless refusal_of (submit_fault (is_uplink_full st from) (site_of st from) message) st
+    (Submitted (length (submissions_of st from) + 1)) (with_site st (with_submission (site_of st from) message)))
 
 -- a party asks the other repositories about a pack: the query is the last of its submissions
 unfoldable pub ask : State → ℕ → PackKey → Answered
-ask st party key =
-    if not (is_party st party) then refused Party st
-    else unless refusal_of (ask_fault (is_uplink_full st party) (site_of st party)) st
-    (Asked (length (submissions_of st party) + 1)) (with_site st (with_submission (site_of st party) (Query key)))
+ask st party key = of_parties (is_party st party) st
+    (unless refusal_of (ask_fault (is_uplink_full st party) (site_of st party)) st
+    (Asked (length (submissions_of st party) + 1)) (with_site st (with_submission (site_of st party) (Query key))))
 
 -- a party verifies a pack, on which its own repository has this verdict: where it has none, the others are asked
 abbrev pub verify_by : State → ℕ → PackKey → Local → Answered
@@ -61,9 +63,7 @@ verify_by st party key Absent = ask st party key
 
 -- a party verifies a pack
 unfoldable pub verify : State → ℕ → PackKey → Answered
-verify st party key =
-    if not (is_party st party) then refused Party st
-    else verify_by st party key (local_verdict key (log_of st party))
+verify st party key = of_parties (is_party st party) st (verify_by st party key (local_verdict key (log_of st party)))
 
 -- the hub routes the front of an uplink, where there is one
 abbrev pub route_front : State → ℕ → Option Message → Answered
@@ -73,15 +73,12 @@ route_front st from (Some message) = unless route_refusal_of (route_fault (hub_o
 
 -- the hub routes the next message of a party
 unfoldable pub route : State → ℕ → Answered
-route st from =
-    if not (is_party st from) then refused Party st
-    else route_front st from (slice_get (submissions_of st from) (routed_count st.entries from))
+route st from = of_parties (is_party st from) st (route_front st from (slice_get (submissions_of st from) (routed_count st.entries from)))
 
 -- the next frame of a link goes on its wire
 unfoldable pub relay : State → ℕ → ℕ → Answered
-relay st from to =
-    if not (are_parties st from to) then refused Party st
-    else (if is_wire_full st from to then refused WireFull st
+relay st from to = of_parties (are_parties st from to) st
+    (if is_wire_full st from to then refused WireFull st
     else unless hub_refusal_of (relay_fault (hub_of st) from to) st (Relayed (sent_of st from to + 1))
     (with_wire (with_hub st (with_relayed (hub_of st) from to)) from to (wire_of st from to ++ (sent_of st from to + 1) ∷ [])))
 
@@ -110,15 +107,12 @@ apply_front st from to (number ∷ rest) = apply_by st from to number rest (look
 
 -- a repository takes the front frame of a link
 unfoldable pub apply : State → ℕ → ℕ → Answered
-apply st from to =
-    if not (are_parties st from to) then refused Party st
-    else apply_front st from to (wire_of st from to)
+apply st from to = of_parties (are_parties st from to) st (apply_front st from to (wire_of st from to))
 
 -- a frame that was relayed, and whose item its link still keeps, goes on the wire again
 unfoldable pub repeat : State → ℕ → ℕ → ℕ → Answered
-repeat st from to number =
-    if not (are_parties st from to) then refused Party st
-    else (if is_wire_full st from to then refused WireFull st
+repeat st from to number = of_parties (are_parties st from to) st
+    (if is_wire_full st from to then refused WireFull st
     else unless hub_refusal_of (repeat_fault (hub_of st) from to number) st (Repeated number)
     (with_wire st from to (wire_of st from to ++ number ∷ [])))
 
@@ -133,15 +127,12 @@ lose_front st from to (number ∷ rest) = record { reply = Lost number; state = 
 
 -- the front frame of a link is lost
 unfoldable pub lose : State → ℕ → ℕ → Answered
-lose st from to =
-    if not (are_parties st from to) then refused Party st
-    else lose_front st from to (wire_of st from to)
+lose st from to = of_parties (are_parties st from to) st (lose_front st from to (wire_of st from to))
 
 -- a party takes the verdict on a query of its own
 unfoldable pub verdict : State → ℕ → ℕ → Answered
-verdict st party q =
-    if not (is_party st party) then refused Party st
-    else record { reply = JointVerdict (joint_verdict party (log_of st party) q); state = st }
+verdict st party q = of_parties (is_party st party) st
+    (record { reply = JointVerdict (joint_verdict party (log_of st party) q); state = st })
 
 -- what a step answers and leaves where there is memory
 abbrev pub outcome : State → Step → Answered

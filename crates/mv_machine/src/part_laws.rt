@@ -10,19 +10,16 @@ pub fn records_stay_lawful()
 {}
 
 /// In a lawful record, each message stands under its number among those that were routed from its sender.
-#[tactic(auto, using(crate::proofs::SubmittedLemmas::records_are_numbered))]
 pub fn records_are_numbered()
     ensures { RecordsAreNumbered }
 {}
 
 /// A lawful record never grows so long that a stamp of 32 bits would not name its entries.
-#[tactic(auto, using(crate::proofs::BoundLemmas::short_records))]
 pub fn records_are_short()
     ensures { RecordsAreShort }
 {}
 
 /// A link stays lawful with more submissions of its sender, with one more entry in the record, and with its next item applied.
-#[tactic(auto, using(crate::proofs::PartLemmas::links_stay_lawful))]
 pub fn links_stay_lawful()
     ensures { LinksStayLawful }
 {}

@@ -6,6 +6,7 @@ use crate::found::national_copy;
 use crate::{Boxed, Found, Markets, Serials, Standing, Text};
 use mv_pack::{Batch, BatchKey, Expiry, Gtin, Moment, National, PackKey};
 use std::alloc::{AllocError, Global};
+use std::mem::size_of;
 
 /// A party, by its number from 0.
 pub type Party = u32;
@@ -92,12 +93,12 @@ pub enum Message {
     },
     /// Packs of a batch were repackaged as packs of another (Articles 16 and 35(4)).
     Repack {
-        /// The batch of the packs that were taken.
-        before: BatchKey,
+        /// The batch of the packs that were taken; in a place of its own, as the other, so that no message is as large as two.
+        before: Boxed<BatchKey>,
         /// The serial numbers of these: 1 to 100 in a legal message.
         before_serials: Serials,
         /// The batch of the packs that were made of them. It may be the same.
-        after: BatchKey,
+        after: Boxed<BatchKey>,
         /// The serial numbers of these: 1 to 100 in a legal message.
         after_serials: Serials,
         /// When they were repackaged, in whole seconds since 1970.
@@ -127,6 +128,9 @@ pub enum Message {
         found: Found,
     },
 }
+
+// Each message takes the place of the largest kind. What is kept for good is for the most part uploads.
+const _: () = prove!(size_of::<Message>() <= 96);
 
 impl Message {
     ghost use Rattle.mv_message.specs.Kinds.{is_query_or_answer};
@@ -160,7 +164,14 @@ impl Message {
                 after,
                 after_serials,
                 at,
-            } => repack_copy(alloc, before, before_serials, after, after_serials, *at),
+            } => repack_copy(
+                alloc,
+                before.get(),
+                before_serials,
+                after.get(),
+                after_serials,
+                *at,
+            ),
             Message::Withdraw { gtin, at } => Ok(Message::Withdraw {
                 gtin: *gtin,
                 at: *at,
@@ -233,9 +244,9 @@ fn repack_copy(
         ≡ Message.Repack before.now before_serials.now after.now after_serials.now at) }
 {
     Ok(Message::Repack {
-        before: before.copy(),
+        before: Boxed::new(alloc, before.copy())?,
         before_serials: before_serials.copy(alloc)?,
-        after: after.copy(),
+        after: Boxed::new(alloc, after.copy())?,
         after_serials: after_serials.copy(alloc)?,
         at,
     })

@@ -1,4 +1,4 @@
-//! The serial numbers of a message: a small type over `Vec<Serial>`, which contracts see as a list.
+//! The serial numbers of a message, which contracts see as a list.
 
 ghost use Rattle.std.specs.Prelude.{◌≡◌, nat_eq, IfOk};
 ghost use Rattle.std.specs.Cmp.{partial_equiv_from_equiv};
@@ -7,42 +7,67 @@ ghost use Rattle.std.specs.Cmp.Lexicographic.{pointwise, nat_list_eq_equiv, list
 use mv_pack::Serial;
 use std::alloc::{AllocError, Global};
 use std::marker::Model;
+use std::mem::size_of;
+use std::slice;
 
 /// Serial numbers in the order in which a message names them. One may stand twice.
 #[derive(Debug, Drop)]
 pub struct Serials {
-    serials: Vec<Serial>,
+    numbers: Numbers,
+}
+
+/// How serial numbers are kept: one alone takes no place of its own.
+#[derive(Debug, Drop)]
+enum Numbers {
+    /// One serial number.
+    One(Serial),
+    /// Any others: none, or more than one.
+    Many(Vec<Serial>),
 }
 
 impl Model for Serials {
     ghost use Rattle.std.specs.Prelude.{List, ℕ};
+    ghost use Rattle.mv_message.specs.Numbers.{listed};
 
     ghost Value = { List (List ℕ) };
 
-    ghost view = { λ s. s.serials.items };
+    ghost view = { λ s. listed s.numbers };
 }
+
+// A message is as large as the largest of its kinds, some of which hold two such lists.
+const _: () = prove!(size_of::<Serials>() <= 32);
 
 impl Serials {
     /// The serial numbers of a vector.
     pub fn new(serials: Vec<Serial>) -> Serials
         ensures { result ≡ serials.items }
     {
-        Serials { serials }
+        let numbers = match serials.as_slice() {
+            [serial] => Numbers::One(serial.copy()),
+            _ => Numbers::Many(serials),
+        };
+        Serials { numbers }
     }
 
     /// The serial numbers, in order.
     pub fn as_slice(&self) -> &[Serial]
         ensures { result.now ≡ self.now }
     {
-        self.serials.as_slice()
+        match &self.numbers {
+            Numbers::One(serial) => slice::from_ref(serial),
+            Numbers::Many(serials) => serials.as_slice(),
+        }
     }
 
     /// A list of its own with the same serial numbers.
     pub fn copy(&self, alloc: Global) -> Result<Serials, AllocError>
         ensures { IfOk result (λ serials. serials ≡ self.now) }
     {
-        let serials = copies_of(alloc, self.serials.as_slice())?;
-        Ok(Serials { serials })
+        let numbers = match &self.numbers {
+            Numbers::One(serial) => Numbers::One(serial.copy()),
+            Numbers::Many(serials) => Numbers::Many(copies_of(alloc, serials.as_slice())?),
+        };
+        Ok(Serials { numbers })
     }
 }
 

@@ -4,4 +4,5 @@ pub mod Code
 pub mod Expiry
 pub mod Moment
 pub mod Fault
+pub mod Keys
 pub mod Laws

@@ -3,10 +3,12 @@
 ghost use Rattle.std.specs.Prelude.{◌≡◌, ◌↔◌, IsTrue};
 ghost use Rattle.std.specs.Ordering.{nat_cmp, ordering_then};
 ghost use Rattle.std.specs.Cmp.Lexicographic.{slice_cmp};
-ghost use Rattle.mv_pack.specs.Laws.{ReadGtinIsGtin, GtinReadsAsItself, ReadMarketIsMarket};
-ghost use Rattle.mv_pack.specs.Laws.{MarketReadsAsItself, ReadCodeIsCode, CodeReadsAsItself};
-ghost use Rattle.mv_pack.specs.Laws.{ReadExpiryIsExpiry, ExpiryReadsAsItself, ReadMomentIsMoment};
-ghost use Rattle.mv_pack.specs.Laws.{MomentReadsAsItself};
+ghost use Rattle.mv_pack.specs.Gtin.{IsGtin, read_gtin};
+ghost use Rattle.mv_pack.specs.Market.{IsMarket, read_market};
+ghost use Rattle.mv_pack.specs.Code.{IsCode, read_code};
+ghost use Rattle.mv_pack.specs.Expiry.{IsExpiry, expiry_text, read_expiry};
+ghost use Rattle.mv_pack.specs.Moment.{IsMoment, read_moment};
+ghost use Rattle.mv_pack.specs.Laws.{ReadsLegal, ReadsAsItself};
 
 use crate::code::Code;
 use crate::{BatchKey, Expiry, Gtin, Market, Moment, PackKey};
@@ -15,60 +17,60 @@ use std::cmp::Ordering;
 /// What is read from a text is a product code of 14 digits.
 #[tactic(auto, using(crate::proofs::GtinLemmas::read_gtin_is_gtin))]
 pub fn read_gtin_is_gtin()
-    ensures { ReadGtinIsGtin }
+    ensures { ReadsLegal read_gtin IsGtin }
 {}
 
 /// A product code of 14 digits is read as it stands.
 #[tactic(auto, using(crate::proofs::GtinLemmas::read_gtin_of))]
 pub fn gtin_reads_as_itself()
-    ensures { GtinReadsAsItself }
+    ensures { ReadsAsItself read_gtin IsGtin }
 {}
 
 /// What is read from a text is a market.
 #[tactic(auto, using(crate::proofs::MarketLemmas::read_market_is_market))]
 pub fn read_market_is_market()
-    ensures { ReadMarketIsMarket }
+    ensures { ReadsLegal read_market IsMarket }
 {}
 
 /// A market is read as it stands.
 #[tactic(auto, using(crate::proofs::MarketLemmas::read_market_of))]
 pub fn market_reads_as_itself()
-    ensures { MarketReadsAsItself }
+    ensures { ReadsAsItself read_market IsMarket }
 {}
 
 /// What is read from a text is a serial, batch or national number.
 #[tactic(auto, using(crate::proofs::CodeLemmas::read_code_is_code))]
 pub fn read_code_is_code()
-    ensures { ReadCodeIsCode }
+    ensures { ReadsLegal read_code IsCode }
 {}
 
 /// A serial, batch or national number is read as it stands.
 #[tactic(auto, using(crate::proofs::CodeLemmas::read_code_of))]
 pub fn code_reads_as_itself()
-    ensures { CodeReadsAsItself }
+    ensures { ReadsAsItself read_code IsCode }
 {}
 
 /// What is read from a text is a real date of the years 2000 to 2099.
 pub fn read_expiry_is_expiry()
-    ensures { ReadExpiryIsExpiry }
+    ensures { ReadsLegal read_expiry IsExpiry }
 {}
 
 /// The six digits of a date are read as that date.
 #[tactic(auto, using(crate::proofs::ExpiryLemmas::read_expiry_text))]
 pub fn expiry_reads_as_itself()
-    ensures { ExpiryReadsAsItself }
+    ensures { ReadsAsItself (λ date. read_expiry (expiry_text date)) IsExpiry }
 {}
 
 /// What is read from a number of seconds is a moment.
 #[tactic(auto, using(crate::proofs::MomentLemmas::read_moment_is_moment))]
 pub fn read_moment_is_moment()
-    ensures { ReadMomentIsMoment }
+    ensures { ReadsLegal read_moment IsMoment }
 {}
 
 /// The seconds of a moment are read as that moment.
 #[tactic(auto, using(crate::proofs::MomentLemmas::read_moment_of))]
 pub fn moment_reads_as_itself()
-    ensures { MomentReadsAsItself }
+    ensures { ReadsAsItself read_moment IsMoment }
 {}
 
 /// Product codes are equal exactly where their 14 digits are.

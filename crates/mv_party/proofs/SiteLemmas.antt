@@ -1,5 +1,6 @@
 -- What a party keeps with one more submission, and with one more item of its repository.
 use Rattle.std.proofs.Common.{◌≡◌, ℕ, ◌+◌, ◌<◌, ◌≤◌, ◌≢◌, Bool, true, false, List, [], ◌∷◌, ◌++◌, length, cond, set, get_or, length-set, eqb, eqb-true, Option, Some, None, Ok, sym, refl, ap, ◌∙◌, subst, arith, add-zero, length-append, get_or-set_same, get_or-set_other}
+use Rattle.std.specs.List.{AllByRecursion}
 use Rattle.std.specs.Prelude.{option_to_list, ◌||◌}
 use Rattle.std.proofs.lemmas.Bool.{eqb-false}
 use Rattle.mv_message.specs.declared.message.Message.{Message}
@@ -11,7 +12,7 @@ use Rattle.mv_repository.specs.Query.{answer_to}
 use Rattle.mv_repository.specs.Repository.{RepositoryState, with_applied as repository_with}
 use Rattle.mv_party.specs.declared.fault.SiteFault.{SiteFault}
 use Rattle.mv_party.specs.declared.fault.SiteFault.TheVariants.{NotYours, UplinkFull, SenderFull, AnswerBusy}
-use Rattle.mv_party.specs.Site.{SiteState, entry_from, count_from, is_full, AllFromParties, answers_in, IsLawfulParty}
+use Rattle.mv_party.specs.Site.{SiteState, entry_from, count_from, is_full, answers_in, IsLawfulParty}
 use Rattle.mv_party.specs.Calls.{unless_fault, ask_fault, submit_fault, answer_fault}
 use Rattle.mv_party.specs.Kept.{site_of, IsSite}
 use Rattle.mv_party.proofs.AnswerLemmas.{answers_in-more, answers_in-applied}
@@ -37,16 +38,16 @@ party-submitted count submissions log message lawful none = record {
 }
 
 -- one more entry from a party
-AllFromParties-push : (count : ℕ) (log : List LogEntry) (entry : LogEntry) → AllFromParties count log → entry.sender < count → AllFromParties count (log ++ entry ∷ [])
-AllFromParties-push count [] entry all from_party = (from_party, tt)
-AllFromParties-push count (x ∷ log) entry all from_party = (all.0, AllFromParties-push count log entry all.1 from_party)
+from_parties-push : (count : ℕ) (log : List LogEntry) (entry : LogEntry) → AllByRecursion (λ (entry : LogEntry). entry.sender < count) log → entry.sender < count → AllByRecursion (λ (entry : LogEntry). entry.sender < count) (log ++ entry ∷ [])
+from_parties-push count [] entry all from_party = (from_party, tt)
+from_parties-push count (x ∷ log) entry all from_party = (all.0, from_parties-push count log entry all.1 from_party)
 
 -- its repository applied an entry, and it submitted the answer that this calls for, if it does
 pub party-applied : (count : ℕ) (submissions : List Message) (log : List LogEntry) (entry : LogEntry) → IsLawfulParty count submissions log
     → entry.sender < count → IsLawfulParty count (submissions ++ option_to_list (answer_to log entry)) (log ++ entry ∷ [])
 party-applied count submissions log entry lawful from_party = record {
   answered = answers_in-applied submissions log entry lawful.answered;
-  from_parties = AllFromParties-push count log entry lawful.from_parties from_party;
+  from_parties = from_parties-push count log entry lawful.from_parties from_party;
 }
 
 -- one more submission that is no answer

@@ -1,5 +1,6 @@
 -- What a party is seen as, and when it is lawful. What it accepted of each sender follows from its log.
 use Rattle.std.specs.Prelude.{◌≡◌, ◌<◌, ◌+◌, ◌==◌, ℕ, List, [], ◌∷◌, ◌++◌, length, Bool, Option, Some, None, option_to_list}
+use Rattle.std.specs.List.{AllByRecursion}
 use Rattle.mv_message.specs.declared.message.Message.{Message}
 use Rattle.mv_message.specs.declared.message.Message.TheVariants.{Answer}
 use Rattle.mv_link.specs.declared.item.Item.{Item}
@@ -47,11 +48,6 @@ with_applied site sender item = record site {
   log = site.log ++ entry_from sender item ∷ [];
 }
 
--- each entry of a log names a party as its sender
-abbrev pub AllFromParties : ℕ → List LogEntry → Type 0
-AllFromParties count [] = Unit {0}
-AllFromParties count (entry ∷ log) = (entry.sender < count) × AllFromParties count log
-
 -- the answers among messages, in order
 abbrev pub answers_in : List Message → List Message
 answers_in [] = []
@@ -62,4 +58,4 @@ answers_in (message ∷ messages) = answers_in messages
 -- that log is of items from parties alone.
 pub record IsLawfulParty (count : ℕ) (submissions : List Message) (log : List LogEntry) : Type 0 where
   pub answered : answers_in submissions ≡ answers_of log
-  pub from_parties : AllFromParties count log
+  pub from_parties : AllByRecursion (λ entry. entry.sender < count) log

@@ -21,7 +21,7 @@ use Rattle.mv_repository.specs.declared.effect.Effect.TheVariants as effects
 use Rattle.mv_repository.specs.declared.verdict.Local.{Local}
 use Rattle.mv_repository.specs.declared.verdict.Local.TheVariants.{Known, Absent}
 use Rattle.mv_repository.specs.Order.{Placed, ordered}
-use Rattle.mv_repository.specs.Keys.{is_same_pack, batch_key}
+use Rattle.mv_pack.specs.Keys.{is_same_pack, batch_key}
 use Rattle.mv_repository.specs.Pack.{KnownChange, KnownPack, new_pack, change_effect, revert_effect, is_final, is_active, is_done, change_to, pack_after_status}
 use Rattle.mv_repository.specs.PackState.{has_pack, is_recall_of, is_withdrawal_of, batch_standing, pack_after_item, pack_after, known_pack_from, known_pack, held_of, is_recalled, is_withdrawn}
 use Rattle.mv_repository.specs.Verdict.{local_verdict, local_verdict_of, verdict_when, is_explained}

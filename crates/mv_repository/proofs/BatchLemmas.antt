@@ -1,4 +1,5 @@
 -- A pack is found by the upload that made it, which is listed under its batch.
+use Rattle.std.specs.Prelude.{bytes_eq}
 use Rattle.std.proofs.Common.{◌≡◌, ℕ, List, [], ◌∷◌, ◌++◌, length, filter, map, fold, refl, sym, ◌∙◌, ap, subst, arith, Bool, true, false, cond, ◌&&◌, ◌||◌, nat_eq, nat_lt, Option, Some, None, IfSome, is_some, true≢false, Result, Ok, Err, OnOk, OnErr}
 use Rattle.std.specs.List.{list_any}
 use Rattle.std.specs.Map.{lookup, set_value}
@@ -13,7 +14,7 @@ use Rattle.mv_link.specs.declared.item.Item.TheVariants.{Carried}
 use Rattle.mv_repository.specs.declared.entry.LogEntry.{LogEntry}
 use Rattle.mv_repository.specs.declared.held.Held.{Held}
 use Rattle.std.specs.Set.{is_member, unique_keys, distinct_count}
-use Rattle.mv_repository.specs.Keys.{is_same_text, is_same_pack, is_same_batch, pack_key, batch_key}
+use Rattle.mv_pack.specs.Keys.{is_same_pack, is_same_batch, pack_key, batch_key}
 use Rattle.mv_repository.specs.Order.{Placed}
 use Rattle.mv_repository.specs.Pack.{KnownPack}
 use Rattle.mv_repository.specs.PackState.{has_pack, held_of}
@@ -169,18 +170,18 @@ made-by log batch (first ∷ rest) pack place h n = by (nat_eq first place) refl
 
 -- what an upload of a batch names is of the batch
 
-named-gtin : (gtin : List ℕ) (serials : List (List ℕ)) (pack : PackKey) → has_pack gtin serials pack ≡ true → is_same_text gtin pack.gtin ≡ true
-named-gtin gtin serials pack h = by (is_same_text gtin pack.gtin) h
+named-gtin : (gtin : List ℕ) (serials : List (List ℕ)) (pack : PackKey) → has_pack gtin serials pack ≡ true → bytes_eq gtin pack.gtin ≡ true
+named-gtin gtin serials pack h = by (bytes_eq gtin pack.gtin) h
   where
-    by : (b : Bool) → (b && list_any (λ serial. is_same_text serial pack.serial) serials) ≡ true → b ≡ true
+    by : (b : Bool) → (b && list_any (λ serial. bytes_eq serial pack.serial) serials) ≡ true → b ≡ true
     by true h = refl
     by false h = h
 
 no-serials : (gtin : List ℕ) (pack : PackKey) → has_pack gtin [] pack ≡ false
-no-serials gtin pack = elim (is_same_text gtin pack.gtin) as (λ b. (b && false) ≡ false) [ true ↦ refl | false ↦ refl ]
+no-serials gtin pack = elim (bytes_eq gtin pack.gtin) as (λ b. (b && false) ≡ false) [ true ↦ refl | false ↦ refl ]
 
-named-batch : (gtin number : List ℕ) (item : Item) (pack : PackKey) → has_pack gtin (batch_serials number item) pack ≡ true → is_same_text number (uploaded_batch item) ≡ true
-named-batch gtin number (Carried k stamp (Upload named batch expiry national serials)) pack h = by (is_same_text number batch) h
+named-batch : (gtin number : List ℕ) (item : Item) (pack : PackKey) → has_pack gtin (batch_serials number item) pack ≡ true → bytes_eq number (uploaded_batch item) ≡ true
+named-batch gtin number (Carried k stamp (Upload named batch expiry national serials)) pack h = by (bytes_eq number batch) h
   where
     by : (b : Bool) → has_pack gtin (cond b serials []) pack ≡ true → b ≡ true
     by true h = refl
@@ -193,10 +194,10 @@ named-makes gtin number _ pack h = absurd (true≢false (sym h ∙ no-serials gt
 
 named-serials : (item : Item) (pack : PackKey) → is_upload_of pack item ≡ true → has_pack pack.gtin (batch_serials (uploaded_batch item) item) pack ≡ true
 named-serials (Carried k stamp (Upload gtin batch expiry national serials)) pack e =
-    (λ i. has_pack pack.gtin (cond (text-self batch i) serials []) pack) ∙ by (is_same_text gtin pack.gtin) e
+    (λ i. has_pack pack.gtin (cond (text-self batch i) serials []) pack) ∙ by (bytes_eq gtin pack.gtin) e
   where
-    by : (b : Bool) → (b && list_any (λ serial. is_same_text serial pack.serial) serials) ≡ true → (is_same_text pack.gtin pack.gtin && list_any (λ serial. is_same_text serial pack.serial) serials) ≡ true
-    by true h = ap (λ c. c && list_any (λ serial. is_same_text serial pack.serial) serials) (text-self pack.gtin) ∙ h
+    by : (b : Bool) → (b && list_any (λ serial. bytes_eq serial pack.serial) serials) ≡ true → (bytes_eq pack.gtin pack.gtin && list_any (λ serial. bytes_eq serial pack.serial) serials) ≡ true
+    by true h = ap (λ c. c && list_any (λ serial. bytes_eq serial pack.serial) serials) (text-self pack.gtin) ∙ h
     by false h = absurd (true≢false (sym h))
 named-serials _ pack e = absurd (true≢false (sym e))
 
@@ -216,14 +217,14 @@ pub uploads-all : (log : List LogEntry) (tables : StopTables) (uploads : List (B
     → now ≡ cond (is_made_at log batch (uploads_in (is_same_batch batch) uploads) pack kept.birth) (refreshed log tables pack kept) kept
     → now ≡ cond (is_of batch.gtin (Some batch.batch) pack kept) (refreshed log tables pack kept) kept
 uploads-all log tables uploads batch pack kept now was found made looks =
-    looks ∙ ap (λ b. cond b (refreshed log tables pack kept) kept) (by (is_made_at log batch listed pack kept.birth) refl (is_same_text batch.gtin pack.gtin) refl (is_held_in batch.batch kept.held) refl)
+    looks ∙ ap (λ b. cond b (refreshed log tables pack kept) kept) (by (is_made_at log batch listed pack kept.birth) refl (bytes_eq batch.gtin pack.gtin) refl (is_held_in batch.batch kept.held) refl)
   where
     listed : List ℕ
     listed = uploads_in (is_same_batch batch) uploads
 
     -- a pack of the batch was made by an upload that is listed under it
     here : (o : Option Held) (birth : Option ℕ) → IfSome o (λ held. IfSome birth (λ place. is_listed (batch_key pack.gtin held.batch) place uploads ≡ true)) → IfSome o (λ held. IsMadeAt log pack birth held.batch)
-        → is_same_text batch.gtin pack.gtin ≡ true → is_held_in batch.batch o ≡ true → is_made_at log batch listed pack birth ≡ true
+        → bytes_eq batch.gtin pack.gtin ≡ true → is_held_in batch.batch o ≡ true → is_made_at log batch listed pack birth ≡ true
     here None birth f m g h = absurd (true≢false (sym h))
     here (Some held) birth f m g h =
         let product = same_text batch.gtin pack.gtin (sym g) in
@@ -241,9 +242,9 @@ uploads-all log tables uploads batch pack kept now was found made looks =
         ∙ ap (λ (birth : Option ℕ). is_some (grown_at log was.before pack birth kept.places)) (sym m.born) ∙ ap is_some (sym was.track.worked ∙ e)))
     there m (Some held) e h =
         let same : m.place ≡ h.place = ap (λ (o : Option ℕ). unwrap_or o 0) (sym m.born ∙ h.birth_is) in
-        ap (is_same_text batch.batch) (h.batch_is ∙ ap (λ (at : ℕ). uploaded_batch (entry_at log at).entry.item) (sym same)) ∙ named-batch batch.gtin batch.batch (entry_at log m.place).entry.item pack m.named
+        ap (bytes_eq batch.batch) (h.batch_is ∙ ap (λ (at : ℕ). uploaded_batch (entry_at log at).entry.item) (sym same)) ∙ named-batch batch.gtin batch.batch (entry_at log m.place).entry.item pack m.named
 
-    by : (n : Bool) → is_made_at log batch listed pack kept.birth ≡ n → (g : Bool) → is_same_text batch.gtin pack.gtin ≡ g → (h : Bool) → is_held_in batch.batch kept.held ≡ h → n ≡ (g && h)
+    by : (n : Bool) → is_made_at log batch listed pack kept.birth ≡ n → (g : Bool) → bytes_eq batch.gtin pack.gtin ≡ g → (h : Bool) → is_held_in batch.batch kept.held ≡ h → n ≡ (g && h)
     by true n true g true h = refl
     by true n true g false h = sym (there (maker log batch listed pack kept.birth n) kept.held refl made) ∙ h
     by true n false g h e = let m = maker log batch listed pack kept.birth n in sym (named-gtin batch.gtin (batch_serials batch.batch (entry_at log m.place).entry.item) pack m.named) ∙ g
@@ -275,12 +276,12 @@ found-upload : (uploads uploads' : List (BatchKey × List ℕ)) (log : List LogE
     → ((pack : PackKey) → kept_in pack now ≡ cond (has_pack gtin serials pack) (with_upload log tables pack new (kept_in pack old)) (kept_in pack old))
     → AreFound uploads' now
 found-upload uploads uploads' log tables gtin serials new held old now made listed keeps tracks found looks pack =
-    subst (IsFound uploads' pack) (sym (looks pack)) (by (is_same_text gtin pack.gtin) refl (list_any (λ serial. is_same_text serial pack.serial) serials))
+    subst (IsFound uploads' pack) (sym (looks pack)) (by (bytes_eq gtin pack.gtin) refl (list_any (λ serial. bytes_eq serial pack.serial) serials))
   where
     still : IsFound uploads' pack (kept_in pack old)
     still = found-keeps uploads uploads' pack (kept_in pack old) keeps (found pack)
 
-    by : (b : Bool) → is_same_text gtin pack.gtin ≡ b → (c : Bool) → IsFound uploads' pack (cond (b && c) (with_upload log tables pack new (kept_in pack old)) (kept_in pack old))
+    by : (b : Bool) → bytes_eq gtin pack.gtin ≡ b → (c : Bool) → IsFound uploads' pack (cond (b && c) (with_upload log tables pack new (kept_in pack old)) (kept_in pack old))
     by true e true =
         found-uploaded uploads' log tables pack new held (kept_in pack old) made
         (subst (λ (named : List ℕ). is_listed (batch_key named held.batch) new uploads' ≡ true) (same_text gtin pack.gtin (sym e)) listed) (tracks pack) still
@@ -292,20 +293,20 @@ found-upload uploads uploads' log tables gtin serials new held old now made list
 pub not-any : (count : ℕ) → nat_lt 0 count ≡ false → count ≡ 0
 not-any count h = grind (arith, nat_tests)
 
-none-counted : (xs : List (List ℕ)) → distinct_count is_same_text xs ≡ 0 → xs ≡ []
+none-counted : (xs : List (List ℕ)) → distinct_count bytes_eq xs ≡ 0 → xs ≡ []
 none-counted [] h = refl
-none-counted (x ∷ xs) h = by (is_member is_same_text xs x) refl h (none-counted xs)
+none-counted (x ∷ xs) h = by (is_member bytes_eq xs x) refl h (none-counted xs)
   where
-    by : (b : Bool) → is_member is_same_text xs x ≡ b → length (cond b (unique_keys is_same_text xs) (x ∷ unique_keys is_same_text xs)) ≡ 0 → (distinct_count is_same_text xs ≡ 0 → xs ≡ []) → x ∷ xs ≡ []
-    by true m h r = absurd (true≢false (sym m ∙ ap (λ (l : List (List ℕ)). is_member is_same_text l x) (r h)))
+    by : (b : Bool) → is_member bytes_eq xs x ≡ b → length (cond b (unique_keys bytes_eq xs) (x ∷ unique_keys bytes_eq xs)) ≡ 0 → (distinct_count bytes_eq xs ≡ 0 → xs ≡ []) → x ∷ xs ≡ []
+    by true m h r = absurd (true≢false (sym m ∙ ap (λ (l : List (List ℕ)). is_member bytes_eq l x) (r h)))
     by false m h r = absurd (omega (arith, h))
 
-none-passes : (test : List ℕ → Bool) (serials : List (List ℕ)) (serial : List ℕ) → filter test serials ≡ [] → list_any (λ other. is_same_text other serial) serials ≡ true → test serial ≡ false
+none-passes : (test : List ℕ → Bool) (serials : List (List ℕ)) (serial : List ℕ) → filter test serials ≡ [] → list_any (λ other. bytes_eq other serial) serials ≡ true → test serial ≡ false
 none-passes test [] serial f h = absurd (true≢false (sym h))
-none-passes test (x ∷ xs) serial f h = by (test x) refl f (is_same_text x serial) refl h (λ g i. none-passes test xs serial g i)
+none-passes test (x ∷ xs) serial f h = by (test x) refl f (bytes_eq x serial) refl h (λ g i. none-passes test xs serial g i)
   where
-    by : (b : Bool) → test x ≡ b → cond b (x ∷ filter test xs) (filter test xs) ≡ [] → (c : Bool) → is_same_text x serial ≡ c → (c || list_any (λ other. is_same_text other serial) xs) ≡ true
-        → (filter test xs ≡ [] → list_any (λ other. is_same_text other serial) xs ≡ true → test serial ≡ false) → test serial ≡ false
+    by : (b : Bool) → test x ≡ b → cond b (x ∷ filter test xs) (filter test xs) ≡ [] → (c : Bool) → bytes_eq x serial ≡ c → (c || list_any (λ other. bytes_eq other serial) xs) ≡ true
+        → (filter test xs ≡ [] → list_any (λ other. bytes_eq other serial) xs ≡ true → test serial ≡ false) → test serial ≡ false
     by true t f c e h r = absurd (omega (arith, ap length f))
     by false t f true e h r = ap test (sym (same_text x serial (sym e))) ∙ t
     by false t f false e h r = r f h
@@ -315,7 +316,7 @@ found-unmade : (uploads : List (BatchKey × List ℕ)) (log : List LogEntry) (ta
     → ((pack : PackKey) → kept_in pack now ≡ cond (has_pack gtin serials pack) (with_upload log tables pack new (kept_in pack old)) (kept_in pack old))
     → AreFound uploads now
 found-unmade uploads log tables gtin serials new old now none tracks found looks pack =
-    subst (IsFound uploads pack) (sym (looks pack)) (by (is_same_text gtin pack.gtin) refl (list_any (λ serial. is_same_text serial pack.serial) serials) refl)
+    subst (IsFound uploads pack) (sym (looks pack)) (by (bytes_eq gtin pack.gtin) refl (list_any (λ serial. bytes_eq serial pack.serial) serials) refl)
   where
     kept : Kept
     kept = kept_in pack old
@@ -323,10 +324,10 @@ found-unmade uploads log tables gtin serials new old now none tracks found looks
     is-new : List ℕ → List ℕ → Bool
     is-new named serial = comes_first log new (kept_in (pack_key named serial) old).birth
 
-    late : is_same_text gtin pack.gtin ≡ true → list_any (λ serial. is_same_text serial pack.serial) serials ≡ true → comes_first log new kept.birth ≡ false
+    late : bytes_eq gtin pack.gtin ≡ true → list_any (λ serial. bytes_eq serial pack.serial) serials ≡ true → comes_first log new kept.birth ≡ false
     late g s = ap (λ named. is-new named pack.serial) (sym (same_text gtin pack.gtin (sym g))) ∙ none-passes (is-new gtin) serials pack.serial (none-counted (filter (is-new gtin) serials) none) s
 
-    by : (b : Bool) → is_same_text gtin pack.gtin ≡ b → (c : Bool) → list_any (λ serial. is_same_text serial pack.serial) serials ≡ c
+    by : (b : Bool) → bytes_eq gtin pack.gtin ≡ b → (c : Bool) → list_any (λ serial. bytes_eq serial pack.serial) serials ≡ c
         → IsFound uploads pack (cond (b && c) (with_upload log tables pack new kept) kept)
     by true g true s =
         subst (λ b. IsFound uploads pack (worked_out log tables pack (cond b (Some new) kept.birth) kept.places)) (sym (late g s))

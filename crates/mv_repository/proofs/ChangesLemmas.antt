@@ -10,7 +10,7 @@ use Rattle.mv_link.specs.declared.item.Item.TheVariants.{Carried}
 use Rattle.mv_repository.specs.declared.entry.LogEntry.{LogEntry}
 use Rattle.mv_repository.specs.declared.stops.BatchStanding.{BatchStanding}
 use Rattle.mv_repository.specs.Order.{Placed, ordered}
-use Rattle.mv_repository.specs.Keys.{is_same_pack, batch_key}
+use Rattle.mv_pack.specs.Keys.{is_same_pack, batch_key}
 use Rattle.mv_repository.specs.Pack.{KnownChange, KnownPack, new_pack, change_effect, is_active, is_done, change_to, pack_after_status}
 use Rattle.mv_repository.specs.PackState.{has_pack, batch_standing, pack_after_item, pack_after, known_pack_from}
 use Rattle.mv_repository.specs.Changes.{NamesStatus, ChangeNamesStatus}

@@ -1,4 +1,5 @@
 -- The counts of a log, by the tables.
+use Rattle.std.specs.Prelude.{bytes_eq}
 use Rattle.std.proofs.Common.{◌≡◌, ℕ, ◌+◌, List, [], ◌∷◌, ◌++◌, length, refl, sym, ◌∙◌, ap, Bool, true, false, cond, ◌&&◌, ◌||◌, Option, Some, None, is_some, filter, map}
 use Rattle.std.specs.Cmp.{IsEquivalence}
 use Rattle.std.specs.Cmp.Lexicographic.{nat_list_eq_equiv}
@@ -16,7 +17,7 @@ use Rattle.mv_link.specs.declared.item.Item.{Item}
 use Rattle.mv_link.specs.declared.item.Item.TheVariants.{Carried}
 use Rattle.mv_repository.specs.declared.entry.LogEntry.{LogEntry}
 use Rattle.mv_repository.specs.declared.held.Held.{Held}
-use Rattle.mv_repository.specs.Keys.{is_same_text, is_same_pack, is_same_batch, pack_key}
+use Rattle.mv_pack.specs.Keys.{is_same_pack, is_same_batch, pack_key}
 use Rattle.mv_repository.specs.Order.{Placed, passes, put_in, ordered_after, ordered}
 use Rattle.mv_repository.specs.Masters.{is_master, last_master, AreMastersOf}
 use Rattle.mv_repository.specs.PackState.{has_pack, is_recall_of, pack_state, held_of}
@@ -73,8 +74,8 @@ or_none : (b : Bool) → (b || false) ≡ b
 or_none true = refl
 or_none false = refl
 
-mastered-is : (gtin : List ℕ) (item : Item) → list_any (is_same_text gtin) (mastered_in item) ≡ is_master gtin item
-mastered-is gtin (Carried k stamp (Master named product)) = or_none (is_same_text gtin named) ∙ text-sym gtin named
+mastered-is : (gtin : List ℕ) (item : Item) → list_any (bytes_eq gtin) (mastered_in item) ≡ is_master gtin item
+mastered-is gtin (Carried k stamp (Master named product)) = or_none (bytes_eq gtin named) ∙ text-sym gtin named
 mastered-is gtin _ = refl
 
 recalled-is : (batch : BatchKey) (item : Item) → list_any (is_same_batch batch) (recalled_in item) ≡ is_recall_of batch item
@@ -85,8 +86,8 @@ uploaded-is : (pack : PackKey) (item : Item) → list_any (is_same_pack pack) (u
 uploaded-is pack (Carried k stamp (Upload gtin batch expiry national serials)) = packs serials
   where
     packs : (serials : List (List ℕ)) → list_any (is_same_pack pack) (map (pack_key gtin) serials) ≡ has_pack gtin serials pack
-    packs [] = elim (is_same_text gtin pack.gtin) as (λ b. false ≡ (b && false)) [ true ↦ refl | false ↦ refl ]
-    packs (serial ∷ rest) = (λ i. (text-sym pack.gtin gtin i && text-sym pack.serial serial i) || packs rest i) ∙ spread (is_same_text gtin pack.gtin) (is_same_text serial pack.serial) (list_any (λ serial. is_same_text serial pack.serial) rest)
+    packs [] = elim (bytes_eq gtin pack.gtin) as (λ b. false ≡ (b && false)) [ true ↦ refl | false ↦ refl ]
+    packs (serial ∷ rest) = (λ i. (text-sym pack.gtin gtin i && text-sym pack.serial serial i) || packs rest i) ∙ spread (bytes_eq gtin pack.gtin) (bytes_eq serial pack.serial) (list_any (λ serial. bytes_eq serial pack.serial) rest)
       where
         spread : (a b c : Bool) → ((a && b) || (a && c)) ≡ (a && (b || c))
         spread true b c = refl
@@ -113,11 +114,11 @@ some-map : {A B : Type 0} → (f : A → B) (o : Option A) → is_some (option_m
 some-map f None = refl
 some-map f (Some x) = refl
 
-pub count-products : (log : List LogEntry) (masters : List (List ℕ × ℕ)) → IsDistinct is_same_text (keys_of masters) → AreMastersOf log masters → length masters ≡ distinct_count is_same_text (flat_map (λ entry. mastered_in entry.item) log)
+pub count-products : (log : List LogEntry) (masters : List (List ℕ × ℕ)) → IsDistinct bytes_eq (keys_of masters) → AreMastersOf log masters → length masters ≡ distinct_count bytes_eq (flat_map (λ entry. mastered_in entry.item) log)
 count-products log masters distinct places =
     counted-once nat_list_eq_equiv masters (flat_map (λ entry. mastered_in entry.item) log) distinct
     (λ gtin. ap is_some (places gtin) ∙ some-map place_of (last_master gtin (ordered log)) ∙ master-found gtin (ordered log) ∙ any-ordered (is_master gtin) log
-    ∙ sym (any-flat (is_same_text gtin) mastered_in (is_master gtin) (mastered-is gtin) log))
+    ∙ sym (any-flat (bytes_eq gtin) mastered_in (is_master gtin) (mastered-is gtin) log))
 
 pack-equiv : IsEquivalence is_same_pack
 pack-equiv = record {

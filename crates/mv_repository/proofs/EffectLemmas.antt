@@ -1,26 +1,29 @@
 -- The effect of an entry at its place.
+use Rattle.std.specs.Prelude.{bytes_eq}
 use Rattle.std.proofs.Common.{◌≡◌, ℕ, ◌+◌, ◌<◌, zero, suc, List, [], ◌∷◌, ◌++◌, length, take, get_or, refl, sym, ◌∙◌, ap, arith, subst, append-nil, ◌-◌, Bool, true, false, cond, not, ◌&&◌, ◌||◌, Option, Some, None, IfSome, is_some, IsSome, true≢false, find, filter, map, fold}
 use Rattle.std.specs.Cmp.Lexicographic.{same_text, nat_list_eq_equiv}
 use Rattle.std.specs.List.{list_any}
 use Rattle.std.specs.Map.{lookup}
-use Rattle.std.specs.Option.{option_map}
+use Rattle.std.specs.Option.{option_map, option_map_or}
 use Rattle.std.specs.Set.{distinct_count, is_member, unique_keys}
 use Rattle.std.proofs.lemmas.List.Elements.{filter-append}
 use Rattle.std.proofs.lemmas.Map.Made.{is_member-filter}
 use Rattle.std.proofs.lemmas.Map.Steps.{list_any_congr}
 use Rattle.mv_pack.specs.declared.key.PackKey.{PackKey}
 use Rattle.mv_pack.specs.declared.key.BatchKey.{BatchKey}
+use Rattle.mv_message.specs.declared.standing.Standing.{Standing}
 use Rattle.mv_message.specs.declared.message.Message.TheVariants.{Upload, Status, Recall, Withdraw}
 use Rattle.mv_link.specs.declared.item.Item.{Item}
 use Rattle.mv_link.specs.declared.item.Item.TheVariants.{Carried}
 use Rattle.mv_repository.specs.declared.entry.LogEntry.{LogEntry}
+use Rattle.mv_repository.specs.declared.effect.Effect.{Effect}
 use Rattle.mv_repository.specs.declared.effect.Effect.TheVariants as effects
 use Rattle.mv_repository.specs.declared.stops.BatchStanding.{BatchStanding}
-use Rattle.mv_repository.specs.Keys.{is_same_text, is_same_batch, pack_key, batch_key}
+use Rattle.mv_pack.specs.Keys.{is_same_batch, pack_key, batch_key}
 use Rattle.mv_repository.specs.Order.{Placed, passes, ordered}
 use Rattle.mv_repository.specs.Pack.{KnownPack, change_effect}
 use Rattle.mv_repository.specs.PackState.{has_pack, is_recall_of, is_withdrawal_of, is_recalled_by, is_withdrawn_by, batch_standing, known_pack, held_of}
-use Rattle.mv_repository.specs.Effect.{entries_before, new_count, upload_effect, status_effect, lasting_effect, effect_after, effect_of}
+use Rattle.mv_repository.specs.Effect.{entries_before, new_count, upload_effect, lasting_effect, effect_after, effect_of}
 use Rattle.mv_repository.specs.Stops.{FirstStops, StopTables, first_stops, is_before, standing_at, entry_at, place_of, no_entry, first_recall, first_withdrawal, AreStopsOf, comes_first}
 use Rattle.mv_repository.specs.Tables.{IsUploadOf}
 use Rattle.mv_repository.specs.Track.{Kept, is_upload_of, is_status_of, first_upload, statuses_of, pack_made_by, pack_step, pack_grown, known_of, effect_by, effect_when, counted_place, places_before, held_before, newest_effect, grown_at, kept_in, AreTracksOf, with_upload, made_count}
@@ -89,6 +92,11 @@ known-seen log entry pack =
     (grown-seen (longer log entry) (first_stops (ordered log)) pack (counted (newest log entry) (first_upload pack (ordered log))) (filter (stays_before (newest log entry)) (statuses_of pack (ordered log)))
     (filter-stand (stays_before (newest log entry)) (longer log entry) (statuses_of pack (ordered log)) (filter-stand (λ placed. is_status_of pack placed.entry.item) (longer log entry) (ordered log) (still-stand log entry))))
 
+-- the effect of a status on a pack, where it is known
+abbrev status_effect : List Placed → PackKey → Option KnownPack → Standing → ℕ → List ℕ → ℕ → Effect
+status_effect before key known to sender user at =
+    option_map_or (λ held. change_effect held (batch_standing before (batch_key key.gtin held.batch)) to sender user at) known effects.Unknown
+
 -- the effect of a status on its pack, where batches stand so
 status-on : (log : List LogEntry) (before : List Placed) (stops : FirstStops) (x : Placed) (key : PackKey) (known : Option KnownPack) (item : Item) → is_status_of key item ≡ true → x.entry.item ≡ item
     → batch_standing before ≡ standing_at stops x → IfSome known (IsSeen log) → known_pack key before ≡ known
@@ -146,9 +154,9 @@ recall-effect log entry tables key first stops e h =
     by _ e = absurd (true≢false (sym e))
 
 pub withdrawal-effect : (log : List LogEntry) (entry : LogEntry) (tables : StopTables) (key : List ℕ) (first : Bool) → AreStopsOf log tables → is_withdrawal_of key entry.item ≡ true
-    → first ≡ comes_first (longer log entry) (length log) (lookup (is_same_text key) tables.withdrawals) → lasting_effect (not first) ≡ effect_of log entry
+    → first ≡ comes_first (longer log entry) (length log) (lookup (bytes_eq key) tables.withdrawals) → lasting_effect (not first) ≡ effect_of log entry
 withdrawal-effect log entry tables key first stops e h =
-    ap (λ b. lasting_effect (not b)) (h ∙ first-effect (λ placed. is_withdrawal_of key placed.entry.item) log entry (lookup (is_same_text key) tables.withdrawals) (stops.withdrawals key))
+    ap (λ b. lasting_effect (not b)) (h ∙ first-effect (λ placed. is_withdrawal_of key placed.entry.item) log entry (lookup (bytes_eq key) tables.withdrawals) (stops.withdrawals key))
     ∙ first-lasting (is_before (first_withdrawal key (ordered log)) (newest log entry))
     ∙ ap lasting_effect (sym (withdrawn-before key log entry))
     ∙ by entry.item e
@@ -196,9 +204,9 @@ take_one (x ∷ xs) (suc i) l =
     let k : suc i + 1 ≡ suc (i + 1) = omega arith in
     ap (λ n. take n (x ∷ xs)) k ∙ ap (λ (t : List (List ℕ)). x ∷ t) (take_one xs i (omega arith))
 
-push_member : (xs : List (List ℕ)) (x y : List ℕ) → is_member is_same_text (xs ++ y ∷ []) x ≡ (is_member is_same_text xs x || is_same_text x y)
-push_member [] x y = elim (is_same_text x y) as (λ b. (b || false) ≡ b) [ true ↦ refl | false ↦ refl ]
-push_member (z ∷ zs) x y = elim (is_same_text x z) as (λ b. (b || is_member is_same_text (zs ++ y ∷ []) x) ≡ ((b || is_member is_same_text zs x) || is_same_text x y)) [ true ↦ refl | false ↦ push_member zs x y ]
+push_member : (xs : List (List ℕ)) (x y : List ℕ) → is_member bytes_eq (xs ++ y ∷ []) x ≡ (is_member bytes_eq xs x || bytes_eq x y)
+push_member [] x y = elim (bytes_eq x y) as (λ b. (b || false) ≡ b) [ true ↦ refl | false ↦ refl ]
+push_member (z ∷ zs) x y = elim (bytes_eq x z) as (λ b. (b || is_member bytes_eq (zs ++ y ∷ []) x) ≡ ((b || is_member bytes_eq zs x) || bytes_eq x y)) [ true ↦ refl | false ↦ push_member zs x y ]
 
 length-cond : (b : Bool) (x : List ℕ) (xs : List (List ℕ)) → length (cond b xs (x ∷ xs)) ≡ cond b (length xs) (length xs + 1)
 length-cond true x xs = refl
@@ -216,13 +224,13 @@ push_count false false true n size e h = omega (arith, e)
 push_count false false false n size e h = omega (arith, e)
 
 -- one key more, counted once
-distinct_push : (xs : List (List ℕ)) (y : List ℕ) → distinct_count is_same_text (xs ++ y ∷ []) ≡ distinct_count is_same_text xs + cond (is_member is_same_text xs y) 0 1
+distinct_push : (xs : List (List ℕ)) (y : List ℕ) → distinct_count bytes_eq (xs ++ y ∷ []) ≡ distinct_count bytes_eq xs + cond (is_member bytes_eq xs y) 0 1
 distinct_push [] y = refl
 distinct_push (x ∷ xs) y =
-    length-cond (is_member is_same_text (xs ++ y ∷ []) x) x (unique_keys is_same_text (xs ++ y ∷ []))
-    ∙ ap (λ b. cond b (distinct_count is_same_text (xs ++ y ∷ [])) (distinct_count is_same_text (xs ++ y ∷ []) + 1)) (push_member xs x y ∙ ap (λ b. is_member is_same_text xs x || b) (text-sym x y))
-    ∙ push_count (is_same_text y x) (is_member is_same_text xs x) (is_member is_same_text xs y) (distinct_count is_same_text (xs ++ y ∷ [])) (distinct_count is_same_text xs) (distinct_push xs y) (λ e. list_any_congr nat_list_eq_equiv y x xs e)
-    ∙ ap (λ n. n + cond (is_same_text y x || is_member is_same_text xs y) 0 1) (sym (length-cond (is_member is_same_text xs x) x (unique_keys is_same_text xs)))
+    length-cond (is_member bytes_eq (xs ++ y ∷ []) x) x (unique_keys bytes_eq (xs ++ y ∷ []))
+    ∙ ap (λ b. cond b (distinct_count bytes_eq (xs ++ y ∷ [])) (distinct_count bytes_eq (xs ++ y ∷ []) + 1)) (push_member xs x y ∙ ap (λ b. is_member bytes_eq xs x || b) (text-sym x y))
+    ∙ push_count (bytes_eq y x) (is_member bytes_eq xs x) (is_member bytes_eq xs y) (distinct_count bytes_eq (xs ++ y ∷ [])) (distinct_count bytes_eq xs) (distinct_push xs y) (λ e. list_any_congr nat_list_eq_equiv y x xs e)
+    ∙ ap (λ n. n + cond (bytes_eq y x || is_member bytes_eq xs y) 0 1) (sym (length-cond (is_member bytes_eq xs x) x (unique_keys bytes_eq xs)))
 
 -- one serial number more
 pub made-more : (log : List LogEntry) (tables : StopTables) (first packs : List (PackKey × Kept)) (gtin : List ℕ) (serials : List (List ℕ)) (i new count : ℕ) (is_new : Bool) → i < length serials
@@ -232,7 +240,7 @@ pub made-more : (log : List LogEntry) (tables : StopTables) (first packs : List 
 made-more log tables first packs gtin serials i new count is_new l looks e h =
     (λ j. cond ((e ∙ seen) j) (h j + 1) (h j))
     ∙ by (has_pack gtin (take i serials) key) (absent s) refl
-    ∙ ap (λ (xs : List (List ℕ)). distinct_count is_same_text xs) (sym (ap (filter absent) (take_one serials i l) ∙ filter-append absent (take i serials) (s ∷ [])))
+    ∙ ap (λ (xs : List (List ℕ)). distinct_count bytes_eq xs) (sym (ap (filter absent) (take_one serials i l) ∙ filter-append absent (take i serials) (s ∷ [])))
   where
     s : List ℕ
     s = get_or serials i []
@@ -253,25 +261,25 @@ made-more log tables first packs gtin serials i new count is_new l looks e h =
         cases true = earlier_first log new (kept_in key first).birth
         cases false = refl
 
-    among : (xs : List (List ℕ)) → list_any (λ serial. is_same_text serial s) xs ≡ is_member is_same_text xs s
+    among : (xs : List (List ℕ)) → list_any (λ serial. bytes_eq serial s) xs ≡ is_member bytes_eq xs s
     among [] = refl
     among (x ∷ xs) = λ j. (text-sym x s j || among xs j)
 
-    has_is : has_pack gtin (take i serials) key ≡ is_member is_same_text (take i serials) s
-    has_is = ap (λ b. b && list_any (λ serial. is_same_text serial s) (take i serials)) (nat_list_eq_equiv.refl gtin) ∙ among (take i serials)
+    has_is : has_pack gtin (take i serials) key ≡ is_member bytes_eq (take i serials) s
+    has_is = ap (λ b. b && list_any (λ serial. bytes_eq serial s) (take i serials)) (nat_list_eq_equiv.refl gtin) ∙ among (take i serials)
 
-    member : is_member is_same_text front s ≡ (is_member is_same_text (take i serials) s && absent s)
+    member : is_member bytes_eq front s ≡ (is_member bytes_eq (take i serials) s && absent s)
     member = is_member-filter nat_list_eq_equiv absent s (λ x e. ap absent (same_text s x (sym e))) (take i serials)
 
-    by : (b c : Bool) → absent s ≡ c → cond (not (has_pack gtin (take i serials) key) && c) (distinct_count is_same_text front + 1) (distinct_count is_same_text front)
-        ≡ distinct_count is_same_text (front ++ cond c (s ∷ []) [])
-    by b false a = elim (not (has_pack gtin (take i serials) key)) as (λ t. cond (t && false) (distinct_count is_same_text front + 1) (distinct_count is_same_text front) ≡ distinct_count is_same_text (front ++ [])) [
-      | true ↦ ap (distinct_count is_same_text) (sym (append-nil front))
-      | false ↦ ap (distinct_count is_same_text) (sym (append-nil front))
+    by : (b c : Bool) → absent s ≡ c → cond (not (has_pack gtin (take i serials) key) && c) (distinct_count bytes_eq front + 1) (distinct_count bytes_eq front)
+        ≡ distinct_count bytes_eq (front ++ cond c (s ∷ []) [])
+    by b false a = elim (not (has_pack gtin (take i serials) key)) as (λ t. cond (t && false) (distinct_count bytes_eq front + 1) (distinct_count bytes_eq front) ≡ distinct_count bytes_eq (front ++ [])) [
+      | true ↦ ap (distinct_count bytes_eq) (sym (append-nil front))
+      | false ↦ ap (distinct_count bytes_eq) (sym (append-nil front))
     ]
     by b true a =
-        ap (λ t. cond (not t && true) (distinct_count is_same_text front + 1) (distinct_count is_same_text front)) (has_is ∙ and_true (is_member is_same_text (take i serials) s) ∙ ap (λ t. is_member is_same_text (take i serials) s && t) (sym a) ∙ sym member)
-        ∙ count_cases (is_member is_same_text front s) (distinct_count is_same_text front)
+        ap (λ t. cond (not t && true) (distinct_count bytes_eq front + 1) (distinct_count bytes_eq front)) (has_is ∙ and_true (is_member bytes_eq (take i serials) s) ∙ ap (λ t. is_member bytes_eq (take i serials) s && t) (sym a) ∙ sym member)
+        ∙ count_cases (is_member bytes_eq front s) (distinct_count bytes_eq front)
         ∙ sym (distinct_push front s)
       where
         and_true : (t : Bool) → t ≡ (t && true)
@@ -285,7 +293,7 @@ made-more log tables first packs gtin serials i new count is_new l looks e h =
 made-all : (log : List LogEntry) (entry : LogEntry) (table : List (PackKey × Kept)) (gtin : List ℕ) (serials : List (List ℕ)) → AreTracksOf log table
     → made_count (longer log entry) (length log) table gtin serials ≡ new_count (entries_before log entry) gtin serials
 made-all log entry table gtin serials tracks =
-    ap (λ (f : List ℕ → Bool). distinct_count is_same_text (filter f serials)) (λ i serial. absent-before log entry table (pack_key gtin serial) tracks i)
+    ap (λ (f : List ℕ → Bool). distinct_count bytes_eq (filter f serials)) (λ i serial. absent-before log entry table (pack_key gtin serial) tracks i)
 
 -- what was counted is the effect of the newest entry, an upload
 pub upload-effect-is : (log : List LogEntry) (entry : LogEntry) (table : List (PackKey × Kept)) (gtin : List ℕ) (serials : List (List ℕ)) (count : ℕ) → AreTracksOf log table

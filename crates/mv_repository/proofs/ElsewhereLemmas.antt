@@ -1,4 +1,5 @@
 -- A recall changes no pack of another batch, and a withdrawal none of another product.
+use Rattle.std.specs.Prelude.{bytes_eq}
 use Rattle.std.proofs.Common.{◌≡◌, ℕ, List, [], ◌∷◌, refl, sym, ◌∙◌, ap, subst, Bool, true, false, cond, ◌&&◌, Option, Some, None, is_some, true≢false, IfSome, find, fold, map, take, get_or}
 use Rattle.std.specs.Cmp.Lexicographic.{same_text}
 use Rattle.std.specs.Option.{option_map}
@@ -10,7 +11,7 @@ use Rattle.mv_link.specs.declared.item.Item.TheVariants.{Carried}
 use Rattle.mv_repository.specs.declared.entry.LogEntry.{LogEntry}
 use Rattle.mv_repository.specs.declared.held.Held.{Held}
 use Rattle.mv_repository.specs.declared.stops.BatchStanding.{BatchStanding}
-use Rattle.mv_repository.specs.Keys.{is_same_text, is_same_batch, batch_key}
+use Rattle.mv_pack.specs.Keys.{is_same_batch, batch_key}
 use Rattle.mv_repository.specs.Order.{Placed, stands_before, ordered}
 use Rattle.mv_repository.specs.Pack.{KnownPack, pack_after_status}
 use Rattle.mv_repository.specs.PackState.{is_recall_of, is_withdrawal_of, known_pack, held_of}
@@ -123,11 +124,11 @@ grown-batch stops pack birth own e = by (pack_made_by birth.entry.item) (made-ba
     by : (made : Option KnownPack) → IfSome made (λ held. held.batch ≡ uploaded_batch birth.entry.item) → is_some made ≡ true
         → is_held_in (uploaded_batch birth.entry.item) (option_map held_of (option_map (λ held. fold (pack_step stops pack birth) held own) made)) ≡ true
     by None h s = absurd (true≢false (sym s))
-    by (Some held) h s = ap (is_same_text (uploaded_batch birth.entry.item)) (fold-batch stops pack birth held own ∙ h) ∙ text-self (uploaded_batch birth.entry.item)
+    by (Some held) h s = ap (bytes_eq (uploaded_batch birth.entry.item)) (fold-batch stops pack birth held own ∙ h) ∙ text-self (uploaded_batch birth.entry.item)
 
-held-in : (key batch : List ℕ) (held : Option Held) → is_held_in batch held ≡ true → is_held_in key held ≡ is_same_text key batch
+held-in : (key batch : List ℕ) (held : Option Held) → is_held_in batch held ≡ true → is_held_in key held ≡ bytes_eq key batch
 held-in key batch None e = absurd (true≢false (sym e))
-held-in key batch (Some held) e = ap (is_same_text key) (sym (same_text batch held.batch (sym e)))
+held-in key batch (Some held) e = ap (bytes_eq key) (sym (same_text batch held.batch (sym e)))
 
 -- a recall bears on no pack but those of its batch
 pub recall-elsewhere : (log : List LogEntry) (entry : LogEntry) (table : List (PackKey × Kept)) (key : BatchKey) → AreTracksOf log table
@@ -143,7 +144,7 @@ recall-elsewhere log entry table key tracks recalls none pack other =
     by None h s = tt
     by (Some x) h s = (
       recalls (batch_key pack.gtin (uploaded_batch x.entry.item))
-          ∙ ap (λ b. is_same_text key.gtin pack.gtin && b)
+          ∙ ap (λ b. bytes_eq key.gtin pack.gtin && b)
           (sym (held-in key.batch (uploaded_batch x.entry.item) (kept_in pack table).held (ap (is_held_in (uploaded_batch x.entry.item)) s ∙ grown-batch (first_stops (ordered log)) pack x (statuses_of pack (ordered log)) h)))
           ∙ other,
       none pack.gtin,
@@ -151,7 +152,7 @@ recall-elsewhere log entry table key tracks recalls none pack other =
 
 -- a withdrawal bears on no pack but those of its product
 pub withdrawal-elsewhere : (log : List LogEntry) (entry : LogEntry) (table : List (PackKey × Kept)) (key : List ℕ)
-    → ((batch : BatchKey) → is_recall_of batch entry.item ≡ false) → ((gtin : List ℕ) → is_withdrawal_of gtin entry.item ≡ is_same_text key gtin)
+    → ((batch : BatchKey) → is_recall_of batch entry.item ≡ false) → ((gtin : List ℕ) → is_withdrawal_of gtin entry.item ≡ bytes_eq key gtin)
     → (pack : PackKey) → is_of key None pack (kept_in pack table) ≡ false → BearsNot log entry pack
 withdrawal-elsewhere log entry table key none withdrawals pack other = by (first_upload pack (ordered log))
   where
@@ -161,7 +162,7 @@ withdrawal-elsewhere log entry table key none withdrawals pack other = by (first
 
     by : (o : Option Placed) → IfSome o (λ x. (is_recall_of (batch_key pack.gtin (uploaded_batch x.entry.item)) entry.item ≡ false) × (is_withdrawal_of pack.gtin entry.item ≡ false))
     by None = tt
-    by (Some x) = (none (batch_key pack.gtin (uploaded_batch x.entry.item)), withdrawals pack.gtin ∙ alone (is_same_text key pack.gtin) other)
+    by (Some x) = (none (batch_key pack.gtin (uploaded_batch x.entry.item)), withdrawals pack.gtin ∙ alone (bytes_eq key pack.gtin) other)
 
 -- a pack that is held is as the upload made it that names it first, which gave it its batch
 pub are-made : (log : List LogEntry) (entry : LogEntry) (table : List (PackKey × Kept)) → AreTracksOf log table → AreMade (longer log entry) table

@@ -1,4 +1,5 @@
 -- Lemmas on the table of packs.
+use Rattle.std.specs.Prelude.{bytes_eq}
 use Rattle.std.proofs.Common.{◌≡◌, ℕ, ◌+◌, ◌<◌, List, [], length, get_or, take, refl, sym, ◌∙◌, ap, arith, Bool, true, false, cond, ◌&&◌, ◌||◌, nat_lt, Option, Some, true≢false, subst}
 use Rattle.std.proofs.lemmas.Bool.Decides.{nat_tests}
 use Rattle.std.specs.List.{list_any}
@@ -7,7 +8,7 @@ use Rattle.std.proofs.lemmas.List.Folds.{list_any_more}
 use Rattle.mv_pack.specs.declared.key.PackKey.{PackKey}
 use Rattle.mv_pack.specs.declared.key.BatchKey.{BatchKey}
 use Rattle.mv_repository.specs.declared.entry.LogEntry.{LogEntry}
-use Rattle.mv_repository.specs.Keys.{is_same_text, is_same_pack, is_same_batch, pack_key, batch_key}
+use Rattle.mv_pack.specs.Keys.{is_same_pack, is_same_batch, pack_key, batch_key}
 use Rattle.mv_repository.specs.Order.{rank}
 use Rattle.mv_repository.specs.PackState.{has_pack}
 use Rattle.mv_repository.specs.Stops.{StopTables, entry_at, comes_first, earlier_place}
@@ -21,25 +22,25 @@ both false b e = absurd (true≢false (sym e))
 -- keys that pass the test are one
 pub same_pack : (a b : PackKey) → is_same_pack a b ≡ true → a ≡ b
 same_pack a b e =
-    let p = both (is_same_text a.gtin b.gtin) (is_same_text a.serial b.serial) e in
+    let p = both (bytes_eq a.gtin b.gtin) (bytes_eq a.serial b.serial) e in
     let g = same_text a.gtin b.gtin (sym p.0) in
     let s = same_text a.serial b.serial (sym p.1) in
     λ i. pack_key (g i) (s i)
 
 pub same_batch : (a b : BatchKey) → is_same_batch a b ≡ true → a ≡ b
 same_batch a b e =
-    let p = both (is_same_text a.gtin b.gtin) (is_same_text a.batch b.batch) e in
+    let p = both (bytes_eq a.gtin b.gtin) (bytes_eq a.batch b.batch) e in
     let g = same_text a.gtin b.gtin (sym p.0) in
     let s = same_text a.batch b.batch (sym p.1) in
     λ i. batch_key (g i) (s i)
 
-pub text-sym : (a b : List ℕ) → is_same_text a b ≡ is_same_text b a
+pub text-sym : (a b : List ℕ) → bytes_eq a b ≡ bytes_eq b a
 text-sym a b = nat_list_eq_equiv.symm a b
 
 pub pack-sym : (a b : PackKey) → is_same_pack a b ≡ is_same_pack b a
 pack-sym a b = λ i. text-sym a.gtin b.gtin i && text-sym a.serial b.serial i
 
-pub text-self : (a : List ℕ) → is_same_text a a ≡ true
+pub text-self : (a : List ℕ) → bytes_eq a a ≡ true
 text-self a = nat_list_eq_equiv.refl a
 
 pub pack-self : (a : PackKey) → is_same_pack a a ≡ true
@@ -94,8 +95,8 @@ or_and false b c = refl
 has_more : (gtin : List ℕ) (serials : List (List ℕ)) (i : ℕ) (p : PackKey) → i < length serials
     → has_pack gtin (take (i + 1) serials) p ≡ (has_pack gtin (take i serials) p || is_same_pack (pack_key gtin (get_or serials i [])) p)
 has_more gtin serials i p l =
-    ap (λ b. is_same_text gtin p.gtin && b) (list_any_more (λ s. is_same_text s p.serial) serials i [] l)
-    ∙ or_and (is_same_text gtin p.gtin) (list_any (λ s. is_same_text s p.serial) (take i serials)) (is_same_text (get_or serials i []) p.serial)
+    ap (λ b. bytes_eq gtin p.gtin && b) (list_any_more (λ s. bytes_eq s p.serial) serials i [] l)
+    ∙ or_and (bytes_eq gtin p.gtin) (list_any (λ s. bytes_eq s p.serial) (take i serials)) (bytes_eq (get_or serials i []) p.serial)
 
 -- one more of those that are done, where to do it twice is to do it once
 pub done_more : (f : Kept → Kept) (a b : Bool) (first now : Kept) → f (f first) ≡ f first → now ≡ cond a (f first) first → cond b (f now) now ≡ cond (a || b) (f first) first

@@ -1,5 +1,6 @@
 -- An entry that stops a batch or a product changes no pack where its stamp is the greatest so far, nor where it is not the
 -- first that stops it.
+use Rattle.std.specs.Prelude.{bytes_eq}
 use Rattle.std.proofs.Common.{◌≡◌, ℕ, ◌+◌, ◌<◌, ◌≤◌, max, List, [], ◌∷◌, ◌++◌, refl, sym, ◌∙◌, ap, arith, Bool, true, false, cond, ◌&&◌, ◌||◌, ◌==◌, nat_lt, Option, Some, None, IfSome, true≢false, length, get_or, find, map, fold, take, zero, suc}
 use Rattle.std.proofs.lemmas.Bool.Decides.{nat_tests}
 use Rattle.std.specs.Bool.{⊤}
@@ -13,7 +14,7 @@ use Rattle.mv_link.specs.declared.item.Item.TheVariants.{Carried, Receipt}
 use Rattle.mv_repository.specs.declared.entry.LogEntry.{LogEntry}
 use Rattle.mv_repository.specs.declared.stops.BatchStanding.{BatchStanding}
 use Rattle.mv_repository.specs.Order.{Placed, rank, passes, put_in, stands_before, ordered_after, ordered}
-use Rattle.mv_repository.specs.Keys.{is_same_text, is_same_batch}
+use Rattle.mv_pack.specs.Keys.{is_same_batch}
 use Rattle.mv_repository.specs.Pack.{KnownPack}
 use Rattle.mv_repository.specs.PackState.{is_recall_of, is_withdrawal_of, known_pack, held_of}
 use Rattle.mv_repository.specs.Stops.{FirstStops, StopTables, AreStopsOf, first_stops, is_before, standing_at, place_of, no_entry, comes_first}
@@ -192,12 +193,12 @@ recall-later log entry tables key stops names none e = λ i. record {
 }
 
 pub withdrawal-later : (log : List LogEntry) (entry : LogEntry) (tables : StopTables) (key : List ℕ) → AreStopsOf log tables
-    → ((gtin : List ℕ) → is_withdrawal_of gtin entry.item ≡ is_same_text key gtin) → ((batch : BatchKey) → is_recall_of batch entry.item ≡ false)
-    → comes_first (longer log entry) (length log) (lookup (is_same_text key) tables.withdrawals) ≡ false
+    → ((gtin : List ℕ) → is_withdrawal_of gtin entry.item ≡ bytes_eq key gtin) → ((batch : BatchKey) → is_recall_of batch entry.item ≡ false)
+    → comes_first (longer log entry) (length log) (lookup (bytes_eq key) tables.withdrawals) ≡ false
     → first_stops (ordered (longer log entry)) ≡ first_stops (ordered log)
 withdrawal-later log entry tables key stops names none e = λ i. record {
   recall = λ batch. find-none (λ placed. is_recall_of batch placed.entry.item) log entry (none batch) i;
-  withdrawal = λ gtin. first-later is_same_text is_withdrawal_of log entry tables.withdrawals key (λ other h. same_text key other (sym h)) stops.withdrawals names e gtin i;
+  withdrawal = λ gtin. first-later bytes_eq is_withdrawal_of log entry tables.withdrawals key (λ other h. same_text key other (sym h)) stops.withdrawals names e gtin i;
 }
 
 -- the table of packs after an entry that names none, where what stops first is as it was

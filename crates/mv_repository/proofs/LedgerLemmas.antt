@@ -1,11 +1,12 @@
 -- What a ledger keeps after one more entry of its log.
+use Rattle.std.specs.Prelude.{bytes_eq}
 use Rattle.std.proofs.Common.{◌≡◌, ℕ, max, List, [], ◌∷◌, length, Bool, true, false, cond, ◌||◌, Some, is_some, refl, find}
 use Rattle.std.specs.List.{list_any}
 use Rattle.std.specs.Option.{option_map}
 use Rattle.mv_pack.specs.declared.key.PackKey.{PackKey}
 use Rattle.mv_pack.specs.declared.key.BatchKey.{BatchKey}
 use Rattle.mv_repository.specs.declared.entry.LogEntry.{LogEntry}
-use Rattle.mv_repository.specs.Keys.{is_same_text, is_same_pack}
+use Rattle.mv_pack.specs.Keys.{is_same_pack}
 use Rattle.mv_repository.specs.Order.{Placed}
 use Rattle.mv_repository.specs.Masters.{AreMastersOf}
 use Rattle.mv_repository.specs.Stops.{StopTables, AreStopsOf, place_of}
@@ -36,7 +37,7 @@ kept-noted log entry masters packs tables n m kept bears l = record {
 }
 
 pub kept-master : (log : List LogEntry) (entry : LogEntry) (masters masters' : List (List ℕ × ℕ)) (packs : List (PackKey × Kept)) (tables : StopTables) (n m : ℕ) (code : List ℕ) → IsKept log masters packs tables n
-    → Bears entry.item (is_same_text code) (λ pack. false) (λ pack. false) (λ batch. false) (λ gtin. false) → m ≡ max n (stamp_of entry.item)
+    → Bears entry.item (bytes_eq code) (λ pack. false) (λ pack. false) (λ batch. false) (λ gtin. false) → m ≡ max n (stamp_of entry.item)
     → AreMastersOf (longer log entry) masters' → IsKept (longer log entry) masters' packs tables m
 kept-master log entry masters masters' packs tables n m code kept bears l places = record {
   masters = places;

@@ -1,4 +1,5 @@
 -- Lemmas on the slots of the packs, and on what is kept of each pack by them.
+use Rattle.std.specs.Prelude.{bytes_eq}
 use Rattle.std.proofs.Common.{◌≡◌, ◌≤◌, ◌<◌, ℕ, zero, suc, ◌+◌, List, [], ◌∷◌, ◌++◌, length, filter, take, get_or, refl, sym, ◌∙◌, ap, subst, arith, Bool, true, false, cond, ◌&&◌, ◌||◌, Option, Some, None, is_some, true≢false, slice_get, length-append, Result, Ok, Err, OnOk, OnErr}
 use Rattle.std.specs.List.{count_by, list_any}
 use Rattle.std.specs.Map.{lookup, set_value}
@@ -19,7 +20,7 @@ use Rattle.mv_repository.specs.declared.slot.Slot.{Slot}
 use Rattle.mv_repository.specs.declared.slot.Slot.TheVariants.{Made, Own}
 use Rattle.mv_repository.specs.declared.held.Held.{Held}
 use Rattle.mv_repository.specs.declared.tally.Tally.{Tally}
-use Rattle.mv_repository.specs.Keys.{is_same_text, is_same_pack, pack_key}
+use Rattle.mv_pack.specs.Keys.{is_same_pack, pack_key}
 use Rattle.mv_repository.specs.PackState.{held_of, has_pack}
 use Rattle.mv_repository.specs.Stops.{StopTables, entry_at}
 use Rattle.mv_repository.specs.Tables.{IsUploadOf}
@@ -102,7 +103,7 @@ module _ {X : Type 0} where
 -- serial numbers with one more
 pub serial-more : (list : List (List ℕ)) (serial q : List ℕ) → has_serial list q ≡ true → has_serial (list ++ serial ∷ []) q ≡ true
 serial-more [] serial q h = absurd (true≢false (sym h))
-serial-more (x ∷ xs) serial q h = by (is_same_text x q) h (serial-more xs serial q)
+serial-more (x ∷ xs) serial q h = by (bytes_eq x q) h (serial-more xs serial q)
   where
     by : (b : Bool) → (b || has_serial xs q) ≡ true → (has_serial xs q ≡ true → has_serial (xs ++ serial ∷ []) q ≡ true) → (b || has_serial (xs ++ serial ∷ []) q) ≡ true
     by true e r = refl
@@ -110,7 +111,7 @@ serial-more (x ∷ xs) serial q h = by (is_same_text x q) h (serial-more xs seri
 
 pub serial-last : (list : List (List ℕ)) (serial : List ℕ) → has_serial (list ++ serial ∷ []) serial ≡ true
 serial-last [] serial = ap (λ b. b || false) (text-self serial)
-serial-last (x ∷ xs) serial = by (is_same_text x serial) (serial-last xs serial)
+serial-last (x ∷ xs) serial = by (bytes_eq x serial) (serial-last xs serial)
   where
     by : (b : Bool) → has_serial (xs ++ serial ∷ []) serial ≡ true → (b || has_serial (xs ++ serial ∷ []) serial) ≡ true
     by true r = refl
@@ -488,15 +489,15 @@ module _ (log : List LogEntry) (tables : StopTables) where
   -- where the packs of a product that statuses name are worked out, all of the product are
   pub again-all : (births : List Born) (slots : List (PackKey × Slot)) (packs' : List (PackKey × Kept)) (products : List (List ℕ × List (List ℕ))) (gtin : List ℕ) → FindsTracked slots products
       → AreSettled log tables (kept_table births slots)
-      → ((p : PackKey) → kept_in p packs' ≡ cond (has_pack gtin (serials_in (is_same_text gtin) products) p) (refreshed_in log tables None p (kept_in p (kept_table births slots))) (kept_in p (kept_table births slots)))
+      → ((p : PackKey) → kept_in p packs' ≡ cond (has_pack gtin (serials_in (bytes_eq gtin) products) p) (refreshed_in log tables None p (kept_in p (kept_table births slots))) (kept_in p (kept_table births slots)))
       → (p : PackKey) → kept_in p packs' ≡ cond (is_of gtin None p (kept_in p (kept_table births slots))) (refreshed log tables p (kept_in p (kept_table births slots))) (kept_in p (kept_table births slots))
-  again-all births slots packs' products gtin finds settled looks p = looks p ∙ by (is_same_text gtin p.gtin) refl
+  again-all births slots packs' products gtin finds settled looks p = looks p ∙ by (bytes_eq gtin p.gtin) refl
     where
       kept : Kept
       kept = kept_in p (kept_table births slots)
 
       among : List ℕ → Bool
-      among named = list_any (λ serial. is_same_text serial p.serial) (serials_in (is_same_text named) products)
+      among named = list_any (λ serial. bytes_eq serial p.serial) (serials_in (bytes_eq named) products)
 
       still : is_own_in p slots ≡ false → (c : Bool) → kept ≡ cond c (refreshed log tables p kept) kept
       still h true = sym (settled p (unowned births slots p h))
@@ -510,7 +511,7 @@ module _ (log : List LogEntry) (tables : StopTables) where
       here true e = refl
       here false e = still (own (is_own_in p slots) refl e) (is_in None kept)
 
-      by : (b : Bool) → is_same_text gtin p.gtin ≡ b → cond (b && among gtin) (refreshed_in log tables None p kept) kept ≡ cond (b && is_in None kept) (refreshed log tables p kept) kept
+      by : (b : Bool) → bytes_eq gtin p.gtin ≡ b → cond (b && among gtin) (refreshed_in log tables None p kept) kept ≡ cond (b && is_in None kept) (refreshed log tables p kept) kept
       by true e = ap (λ (named : List ℕ). cond (among named) (refreshed_in log tables None p kept) kept) (same_text gtin p.gtin (sym e)) ∙ here (is_tracked p products) refl
       by false e = refl
 

@@ -1,7 +1,8 @@
 -- Lemmas on the last master of a code, and on the table that finds it.
 use Rattle.std.proofs.Common.{◌≡◌, ℕ, ◌<◌, List, [], ◌∷◌, ◌++◌, length, refl, sym, ◌∙◌, ap, subst, Bool, true, false, cond, true≢false, Option, Some, None, IsSome, IfSome}
+use Rattle.std.specs.List.{cons_option, filter_map, last_or}
 use Rattle.std.specs.Map.{lookup}
-use Rattle.std.specs.Prelude.{slice_get}
+use Rattle.std.specs.Prelude.{slice_get, bytes_eq}
 use Rattle.std.proofs.lemmas.Option.{slice_get_within, none-some}
 use Rattle.std.specs.Cmp.Lexicographic.{same_text}
 use Rattle.std.specs.Option.{option_map, option_or, option_and_then}
@@ -12,8 +13,7 @@ use Rattle.mv_link.specs.declared.item.Item.TheVariants.{Carried}
 use Rattle.mv_repository.specs.declared.entry.LogEntry.{LogEntry}
 use Rattle.mv_repository.specs.Order.{Placed, passes, put_in, ordered, Ascends}
 use Rattle.mv_repository.specs.Stops.{place_of}
-use Rattle.mv_repository.specs.Keys.{is_same_text}
-use Rattle.mv_repository.specs.Product.{product_after, last_product_after, last_product}
+use Rattle.mv_repository.specs.Product.{product_under, last_product}
 use Rattle.mv_repository.specs.Masters.{is_master, product_in, last_master, entry_of, is_late, AreMastersOf}
 use Rattle.mv_repository.proofs.OrderLemmas.{StandsBeforeAll, AreOf, placed_at, passes_behind, ordered-ascends, ordered-push, ordered-of}
 
@@ -83,18 +83,29 @@ last_describes gtin (y ∷ ys) = by (last_master gtin ys) (last_describes gtin y
     by None p true e = product_of_master gtin y.entry.item e
     by None p false e = tt
 
-product_step : (gtin : List ℕ) (item : Item) (known : Option Product) → product_after item gtin known ≡ cond (is_master gtin item) (option_or (product_in item) known) known
-product_step gtin (Carried k stamp (Master named product)) known = refl
+product_step : (gtin : List ℕ) (item : Item) (known : Option Product) → option_or (product_under gtin item) known ≡ cond (is_master gtin item) (option_or (product_in item) known) known
+product_step gtin (Carried k stamp (Master named product)) known = either (bytes_eq named gtin)
+  where
+    either : (b : Bool) → option_or (cond b (Some product) None) known ≡ cond b (Some product) known
+    either true = refl
+    either false = refl
 product_step gtin _ known = refl
 
 product_after_last : (gtin : List ℕ) (known : Option Product) (xs : List Placed)
-    → last_product_after known xs gtin ≡ option_or (option_and_then (λ z. product_in z.entry.item) (last_master gtin xs)) known
+    → last_or known (filter_map (λ placed. product_under gtin placed.entry.item) xs) ≡ option_or (option_and_then (λ z. product_in z.entry.item) (last_master gtin xs)) known
 product_after_last gtin known [] = refl
 product_after_last gtin known (y ∷ ys) =
-    product_after_last gtin (product_after y.entry.item gtin known) ys
+    last_next (product_under gtin y.entry.item)
+    ∙ product_after_last gtin (option_or (product_under gtin y.entry.item) known) ys
     ∙ ap (λ o. option_or (option_and_then (λ z. product_in z.entry.item) (last_master gtin ys)) o) (product_step gtin y.entry.item known)
     ∙ by (last_master gtin ys) (last_describes gtin ys) (is_master gtin y.entry.item)
   where
+    last_next : (o : Option Product)
+        → last_or known (cons_option o (filter_map (λ placed. product_under gtin placed.entry.item) ys))
+        ≡ last_or (option_or o known) (filter_map (λ placed. product_under gtin placed.entry.item) ys)
+    last_next None = refl
+    last_next (Some product) = refl
+
     some : (o p : Option Product) → IsSome o → option_or o p ≡ option_or o known
     some (Some product) p h = refl
     some None p h = absurd (true≢false (sym h))
@@ -133,7 +144,7 @@ last_at log gtin (y ∷ ys) s = by (last_master gtin ys) (last_at log gtin ys s.
 
 -- what the table finds is the last master
 pub found_at : (log : List LogEntry) (masters : List (List ℕ × ℕ)) (gtin : List ℕ) (place : ℕ) → AreMastersOf log masters
-    → lookup (is_same_text gtin) masters ≡ Some place → (option_map entry_of (last_master gtin (ordered log)) ≡ slice_get log place) × (place < length log)
+    → lookup (bytes_eq gtin) masters ≡ Some place → (option_map entry_of (last_master gtin (ordered log)) ≡ slice_get log place) × (place < length log)
 found_at log masters gtin place places e =
     by (last_master gtin (ordered log)) (last_at log gtin (ordered log) (ordered-of log)) (sym (places gtin) ∙ e)
   where
@@ -161,12 +172,12 @@ masters-noted log masters entry places none gtin =
 
 -- so does a master that comes late
 pub masters-late : (log : List LogEntry) (masters : List (List ℕ × ℕ)) (entry : LogEntry) (named : List ℕ) → AreMastersOf log masters
-    → ((gtin : List ℕ) → is_master gtin entry.item ≡ is_same_text named gtin)
+    → ((gtin : List ℕ) → is_master gtin entry.item ≡ bytes_eq named gtin)
     → is_late entry.item (last_master named (ordered log)) ≡ true → AreMastersOf (log ++ entry ∷ []) masters
 masters-late log masters entry named places names late gtin =
     places gtin
     ∙ ap (option_map place_of) (sym (last-push log entry gtin ∙ ap (λ b. cond b (later x (last_master gtin (ordered log))) (last_master gtin (ordered log))) (names gtin)
-    ∙ by (is_same_text named gtin) refl))
+    ∙ by (bytes_eq named gtin) refl))
   where
     x : Placed
     x = placed_at (length log) entry
@@ -175,20 +186,20 @@ masters-late log masters entry named places names late gtin =
     stays None e = absurd (true≢false (sym e))
     stays (Some z) e = ap (λ b. cond b (Some z) (Some x)) e
 
-    by : (b : Bool) → is_same_text named gtin ≡ b → cond b (later x (last_master gtin (ordered log))) (last_master gtin (ordered log)) ≡ last_master gtin (ordered log)
+    by : (b : Bool) → bytes_eq named gtin ≡ b → cond b (later x (last_master gtin (ordered log))) (last_master gtin (ordered log)) ≡ last_master gtin (ordered log)
     by true e = stays (last_master gtin (ordered log)) (subst (λ g. is_late entry.item (last_master g (ordered log)) ≡ true) (same_text named gtin (sym e)) late)
     by false e = refl
 
 -- any other master takes the place of its code
 pub masters-latest : (log : List LogEntry) (masters masters' : List (List ℕ × ℕ)) (entry : LogEntry) (named : List ℕ) (place : ℕ) → AreMastersOf log masters
-    → ((gtin : List ℕ) → is_master gtin entry.item ≡ is_same_text named gtin)
+    → ((gtin : List ℕ) → is_master gtin entry.item ≡ bytes_eq named gtin)
     → is_late entry.item (last_master named (ordered log)) ≡ false
-    → ((gtin : List ℕ) → lookup (is_same_text gtin) masters' ≡ cond (is_same_text named gtin) (Some place) (lookup (is_same_text gtin) masters))
+    → ((gtin : List ℕ) → lookup (bytes_eq gtin) masters' ≡ cond (bytes_eq named gtin) (Some place) (lookup (bytes_eq gtin) masters))
     → place ≡ length log → AreMastersOf (log ++ entry ∷ []) masters'
 masters-latest log masters masters' entry named place places names late updates at gtin =
     updates gtin
-    ∙ ap (λ n. cond (is_same_text named gtin) (Some n) (lookup (is_same_text gtin) masters)) at
-    ∙ by (is_same_text named gtin) refl
+    ∙ ap (λ n. cond (bytes_eq named gtin) (Some n) (lookup (bytes_eq gtin) masters)) at
+    ∙ by (bytes_eq named gtin) refl
     ∙ ap (option_map place_of) (sym (last-push log entry gtin ∙ ap (λ b. cond b (later x (last_master gtin (ordered log))) (last_master gtin (ordered log))) (names gtin)))
   where
     x : Placed
@@ -198,7 +209,7 @@ masters-latest log masters masters' entry named place places names late updates 
     goes None e = refl
     goes (Some z) e = ap (λ b. cond b (Some z) (Some x)) e
 
-    by : (b : Bool) → is_same_text named gtin ≡ b
-        → cond b (Some (length log)) (lookup (is_same_text gtin) masters) ≡ option_map place_of (cond b (later x (last_master gtin (ordered log))) (last_master gtin (ordered log)))
+    by : (b : Bool) → bytes_eq named gtin ≡ b
+        → cond b (Some (length log)) (lookup (bytes_eq gtin) masters) ≡ option_map place_of (cond b (later x (last_master gtin (ordered log))) (last_master gtin (ordered log)))
     by true e = ap (option_map place_of) (sym (goes (last_master gtin (ordered log)) (subst (λ g. is_late entry.item (last_master g (ordered log)) ≡ false) (same_text named gtin (sym e)) late)))
     by false e = places gtin

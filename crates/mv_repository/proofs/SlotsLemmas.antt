@@ -1,4 +1,5 @@
 -- Lemmas on the names of packs: what stands for a name stands for its pack.
+use Rattle.std.specs.Prelude.{bytes_eq}
 use Rattle.std.proofs.Common.{◌≡◌, ◌<◌, ◌≤◌, ◌+◌, ◌^◌, ℕ, zero, suc, List, [], ◌∷◌, ◌++◌, length, get_or, slice_get, length-append, refl, sym, ◌∙◌, ap, arith, Bool, true, false, cond, ◌&&◌, ◌||◌, nat_eq, nat_lt, true≢false, Option, Some, position}
 use Rattle.std.specs.List.{IsDistinct, AllByRecursion, list_any}
 use Rattle.std.specs.Map.{lookup, keys_of, set_value}
@@ -14,7 +15,7 @@ use Rattle.mv_pack.specs.declared.key.PackKey.{PackKey}
 use Rattle.mv_repository.specs.declared.entry.LogEntry.{LogEntry}
 use Rattle.mv_repository.specs.declared.slot.Slot.{Slot}
 use Rattle.mv_repository.specs.declared.slots.PackName.{PackName}
-use Rattle.mv_repository.specs.Keys.{is_same_text, is_same_pack, pack_key}
+use Rattle.mv_pack.specs.Keys.{is_same_pack, pack_key}
 use Rattle.mv_repository.specs.PackState.{has_pack}
 use Rattle.mv_repository.specs.Packs.{Born, kept_table, refreshed_in}
 use Rattle.mv_repository.specs.Stops.{StopTables}
@@ -33,37 +34,37 @@ above : (p q : ℕ) → nat_eq p q ≡ false → nat_lt p q ≡ false → q < p
 above p q e t = grind (arith, nat_tests)
 
 -- products that stand once are the same exactly where their places are
-same-product : (products : List (List ℕ)) → IsDistinct is_same_text products → (p q : ℕ) → p < length products → q < length products
-    → nat_eq p q ≡ is_same_text (get_or products p []) (get_or products q [])
+same-product : (products : List (List ℕ)) → IsDistinct bytes_eq products → (p q : ℕ) → p < length products → q < length products
+    → nat_eq p q ≡ bytes_eq (get_or products p []) (get_or products q [])
 same-product products distinct p q wp wq = by (nat_eq p q) refl
   where
-    apart : (c : Bool) → nat_eq p q ≡ false → nat_lt p q ≡ c → is_same_text (get_or products p []) (get_or products q []) ≡ false
-    apart true e t = apart_from_distinct is_same_text products p q [] distinct (below p q t) wq
-    apart false e t = text-sym (get_or products p []) (get_or products q []) ∙ apart_from_distinct is_same_text products q p [] distinct (above p q e t) wp
+    apart : (c : Bool) → nat_eq p q ≡ false → nat_lt p q ≡ c → bytes_eq (get_or products p []) (get_or products q []) ≡ false
+    apart true e t = apart_from_distinct bytes_eq products p q [] distinct (below p q t) wq
+    apart false e t = text-sym (get_or products p []) (get_or products q []) ∙ apart_from_distinct bytes_eq products q p [] distinct (above p q e t) wp
 
-    by : (b : Bool) → nat_eq p q ≡ b → b ≡ is_same_text (get_or products p []) (get_or products q [])
+    by : (b : Bool) → nat_eq p q ≡ b → b ≡ bytes_eq (get_or products p []) (get_or products q [])
     by true e =
         sym (text-self (get_or products p []))
-        ∙ ap (λ n. is_same_text (get_or products p []) (get_or products n [])) (same-place p q e)
+        ∙ ap (λ n. bytes_eq (get_or products p []) (get_or products n [])) (same-place p q e)
     by false e = sym (apart (nat_lt p q) e refl)
 
 -- and so are names
-same-name : (products : List (List ℕ)) → IsDistinct is_same_text products → (a b : PackName) → a.product < length products → b.product < length products
+same-name : (products : List (List ℕ)) → IsDistinct bytes_eq products → (a b : PackName) → a.product < length products → b.product < length products
     → is_same_name a b ≡ is_same_pack (pack_named products a) (pack_named products b)
-same-name products distinct a b wa wb = ap (λ c. c && is_same_text a.serial b.serial) (same-product products distinct a.product b.product wa wb)
+same-name products distinct a b wa wb = ap (λ c. c && bytes_eq a.serial b.serial) (same-product products distinct a.product b.product wa wb)
 
 -- a product that stands nowhere is at no place
-none-at : (gtin : List ℕ) (products : List (List ℕ)) (place : ℕ) → place < length products → list_any (is_same_text gtin) products ≡ false
-    → is_same_text gtin (get_or products place []) ≡ false
+none-at : (gtin : List ℕ) (products : List (List ℕ)) (place : ℕ) → place < length products → list_any (bytes_eq gtin) products ≡ false
+    → bytes_eq gtin (get_or products place []) ≡ false
 none-at gtin [] place l h = absurd (omega arith)
-none-at gtin (x ∷ xs) zero l h = by (is_same_text gtin x) h
+none-at gtin (x ∷ xs) zero l h = by (bytes_eq gtin x) h
   where
-    by : (b : Bool) → (b || list_any (is_same_text gtin) xs) ≡ false → b ≡ false
+    by : (b : Bool) → (b || list_any (bytes_eq gtin) xs) ≡ false → b ≡ false
     by true e = e
     by false e = refl
-none-at gtin (x ∷ xs) (suc place) l h = none-at gtin xs place (omega arith) (by (is_same_text gtin x) h)
+none-at gtin (x ∷ xs) (suc place) l h = none-at gtin xs place (omega arith) (by (bytes_eq gtin x) h)
   where
-    by : (b : Bool) → (b || list_any (is_same_text gtin) xs) ≡ false → list_any (is_same_text gtin) xs ≡ false
+    by : (b : Bool) → (b || list_any (bytes_eq gtin) xs) ≡ false → list_any (bytes_eq gtin) xs ≡ false
     by true e = absurd (true≢false e)
     by false e = e
 
@@ -89,7 +90,7 @@ named-written n (e ∷ es) name slot w =
       | false ↦ (w.0, named-written n es name slot w.1)
     ]
 
-module _ (products : List (List ℕ)) (distinct : IsDistinct is_same_text products) where
+module _ (products : List (List ℕ)) (distinct : IsDistinct bytes_eq products) where
   -- what stands for a name stands for its pack
 
   lookup-named : (slots : List (PackName × Slot)) (name : PackName) → name.product < length products → AreNamed (length products) slots
@@ -144,15 +145,15 @@ module _ (products : List (List ℕ)) (distinct : IsDistinct is_same_text produc
       apart (x ∷ xs) w' h = (sym (same-name products distinct e.0 x.0 w.0 w'.0) ∙ h.0, apart xs w'.1 h.1)
 
 -- no pack stands under a product that is not there
-pub none-named : (products : List (List ℕ)) (slots : List (PackName × Slot)) (gtin : List ℕ) → AreNamed (length products) slots → list_any (is_same_text gtin) products ≡ false
+pub none-named : (products : List (List ℕ)) (slots : List (PackName × Slot)) (gtin : List ℕ) → AreNamed (length products) slots → list_any (bytes_eq gtin) products ≡ false
     → HasNoPackOf gtin (pack_slots products slots)
 none-named products [] gtin w h pack same = refl
 none-named products (e ∷ es) gtin w h pack same =
-    ap (λ b. cond (b && is_same_text pack.serial e.0.serial) (Some e.1) (lookup (is_same_pack pack) (pack_slots products es))) apart
+    ap (λ b. cond (b && bytes_eq pack.serial e.0.serial) (Some e.1) (lookup (is_same_pack pack) (pack_slots products es))) apart
     ∙ none-named products es gtin w.1 h pack same
   where
-    apart : is_same_text pack.gtin (get_or products e.0.product []) ≡ false
-    apart = ap (λ (g : List ℕ). is_same_text g (get_or products e.0.product [])) (sym (same_text gtin pack.gtin (sym same))) ∙ none-at gtin products e.0.product w.0 h
+    apart : bytes_eq pack.gtin (get_or products e.0.product []) ≡ false
+    apart = ap (λ (g : List ℕ). bytes_eq g (get_or products e.0.product [])) (sym (same_text gtin pack.gtin (sym same))) ∙ none-at gtin products e.0.product w.0 h
 
 -- one product more changes no pack
 more-named : (products : List (List ℕ)) (gtin : List ℕ) (slots : List (PackName × Slot)) → AreNamed (length products) slots → pack_slots (products ++ gtin ∷ []) slots ≡ pack_slots products slots
@@ -185,13 +186,13 @@ pub still-written : (products : List (List ℕ)) (slots : List (PackName × Slot
 still-written products slots name slot named = record { named = named-written (length products) slots name slot named.named; distinct = named.distinct; few = named.few }
 
 -- a product that is found is at its place
-pub place-found : (products : List (List ℕ)) (gtin : List ℕ) (place : ℕ) → position (is_same_text gtin) products ≡ Some place → slice_get products place ≡ Some gtin
+pub place-found : (products : List (List ℕ)) (gtin : List ℕ) (place : ℕ) → position (bytes_eq gtin) products ≡ Some place → slice_get products place ≡ Some gtin
 place-found products gtin place h =
-    let found = position-Some (is_same_text gtin) products place [] h in
+    let found = position-Some (bytes_eq gtin) products place [] h in
     slice_get-get_or products place [] found.0 ∙ ap Some (sym (same_text gtin (get_or products place []) (sym found.1)))
 
 -- a product that is put last
-module _ (products products' : List (List ℕ)) (gtin : List ℕ) (absent : list_any (is_same_text gtin) products ≡ false) (added : products' ≡ insert_key is_same_text products gtin) where
+module _ (products products' : List (List ℕ)) (gtin : List ℕ) (absent : list_any (bytes_eq gtin) products ≡ false) (added : products' ≡ insert_key bytes_eq products gtin) where
   is-last : products' ≡ products ++ gtin ∷ []
   is-last = added ∙ ap (λ b. cond b products (products ++ gtin ∷ [])) absent
 
@@ -201,7 +202,7 @@ module _ (products products' : List (List ℕ)) (gtin : List ℕ) (absent : list
   pub slots-added : (slots : List (PackName × Slot)) → IsNamed products slots → pack_slots products' slots ≡ pack_slots products slots
   slots-added slots named = ap (λ (l : List (List ℕ)). pack_slots l slots) is-last ∙ more-named products gtin slots named.named
 
-  pub named-added : (slots : List (PackName × Slot)) → IsNamed products slots → IsDistinct is_same_text products' → length products < 2 ^ 32 → IsNamed products' slots
+  pub named-added : (slots : List (PackName × Slot)) → IsNamed products slots → IsDistinct bytes_eq products' → length products < 2 ^ 32 → IsNamed products' slots
   named-added slots named distinct few =
       let longer : length products' ≡ length products + 1 = omega (arith, ap length is-last, length-append products (gtin ∷ [])) in
       record { named = named-more (length products) (length products') slots (omega arith) named.named; distinct = distinct; few = omega arith }
@@ -209,12 +210,12 @@ module _ (products products' : List (List ℕ)) (gtin : List ℕ) (absent : list
 -- where nothing stands for any pack of a product, working its packs out again changes nothing
 pub none-refreshed : (log : List LogEntry) (tables : StopTables) (maker : Option ℕ) (births : List Born) (slots : List (PackKey × Slot)) (gtin : List ℕ) (serials : List (List ℕ)) → HasNoPackOf gtin slots
     → (p : PackKey) → kept_in p (kept_table births slots) ≡ cond (has_pack gtin serials p) (refreshed_in log tables maker p (kept_in p (kept_table births slots))) (kept_in p (kept_table births slots))
-none-refreshed log tables maker births slots gtin serials none p = by (is_same_text gtin p.gtin) (list_any (λ serial. is_same_text serial p.serial) serials) refl
+none-refreshed log tables maker births slots gtin serials none p = by (bytes_eq gtin p.gtin) (list_any (λ serial. bytes_eq serial p.serial) serials) refl
   where
     kept : Kept
     kept = kept_in p (kept_table births slots)
 
-    by : (b c : Bool) → is_same_text gtin p.gtin ≡ b → kept ≡ cond (b && c) (refreshed_in log tables maker p kept) kept
+    by : (b c : Bool) → bytes_eq gtin p.gtin ≡ b → kept ≡ cond (b && c) (refreshed_in log tables maker p kept) kept
     by true true e =
         let empty = absent-kept births slots p (none p e) in
         empty ∙ sym (refreshed-nothing log tables maker p) ∙ ap (refreshed_in log tables maker p) (sym empty)

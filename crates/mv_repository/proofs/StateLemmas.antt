@@ -9,7 +9,7 @@ use Rattle.mv_link.specs.declared.item.Item.{Item}
 use Rattle.mv_link.specs.declared.item.Item.TheVariants.{Carried}
 use Rattle.mv_repository.specs.declared.entry.LogEntry.{LogEntry}
 use Rattle.mv_repository.specs.declared.stops.BatchStanding.{BatchStanding}
-use Rattle.mv_repository.specs.Keys.{batch_key}
+use Rattle.mv_pack.specs.Keys.{batch_key}
 use Rattle.mv_repository.specs.Order.{Placed, stands_before, Ascends}
 use Rattle.mv_repository.specs.Pack.{KnownPack, KnownChange, is_active, is_done, change_effect, change_to}
 use Rattle.mv_repository.specs.PackState.{is_recall_of, is_withdrawal_of, batch_standing, pack_after_item, pack_after, known_pack_from, known_pack, held_of}

@@ -17,7 +17,7 @@ use Rattle.mv_repository.specs.declared.entry.LogEntry.{LogEntry}
 use Rattle.mv_repository.specs.declared.held.Held.{Held}
 use Rattle.mv_repository.specs.declared.held.Change.{Change}
 use Rattle.mv_repository.specs.declared.stops.BatchStanding.{BatchStanding}
-use Rattle.mv_repository.specs.Keys.{batch_key}
+use Rattle.mv_pack.specs.Keys.{batch_key}
 use Rattle.mv_repository.specs.Order.{Placed, stands_before}
 use Rattle.mv_repository.specs.Pack.{KnownPack, is_active, is_done, change_effect}
 use Rattle.mv_repository.specs.PackState.{held_of, change_of}

@@ -1,4 +1,5 @@
 -- What the tables are after one more entry of the log.
+use Rattle.std.specs.Prelude.{bytes_eq}
 use Rattle.std.proofs.Common.{◌≡◌, ℕ, List, [], ◌∷◌, ◌++◌, length, get_or, refl, sym, ◌∙◌, ap, Bool, true, false, cond, Option, Some, None, IfSome, filter, find, map, subst, take, ◌+◌, arith, zero, suc}
 use Rattle.std.specs.Map.{lookup}
 use Rattle.std.specs.Cmp.Lexicographic.{same_text}
@@ -9,11 +10,13 @@ use Rattle.mv_pack.specs.declared.key.PackKey.{PackKey}
 use Rattle.mv_pack.specs.declared.key.BatchKey.{BatchKey}
 use Rattle.mv_link.specs.declared.item.Item.{Item}
 use Rattle.mv_repository.specs.declared.entry.LogEntry.{LogEntry}
-use Rattle.mv_repository.specs.Keys.{is_same_text, is_same_pack, is_same_batch}
+use Rattle.mv_repository.specs.declared.held.Held.{Held}
+use Rattle.mv_pack.specs.Keys.{is_same_pack, is_same_batch}
 use Rattle.mv_repository.specs.Order.{Placed, passes, put_in, ordered, Ascends}
+use Rattle.mv_repository.specs.Packs.{IsAsMade}
 use Rattle.mv_repository.specs.PackState.{is_recall_of, is_withdrawal_of, held_of, known_pack, pack_state}
 use Rattle.mv_repository.specs.Stops.{FirstStops, StopTables, first_stops, stops_in, entry_at, place_of, no_entry, first_recall, first_withdrawal, AreStopsOf, earlier_place}
-use Rattle.mv_repository.specs.Track.{Kept, is_upload_of, is_status_of, first_upload, statuses_of, pack_grown, pack_marks, grown_at, marks_at, stands_by, put_place, worked_out, with_status, with_upload, refreshed, IsTrack, kept_in, track_of, AreTracksOf}
+use Rattle.mv_repository.specs.Track.{Kept, is_upload_of, is_status_of, first_upload, statuses_of, pack_grown, pack_marks, held_made_at, grown_at, marks_at, stands_by, put_place, worked_out, with_status, with_upload, refreshed, IsTrack, kept_in, track_of, AreTracksOf}
 use Rattle.mv_repository.proofs.OrderLemmas.{StandsBeforeAll, placed_at, passes_behind, ordered-ascends, ordered-push, Stand, ordered-stand, still-stand}
 use Rattle.mv_repository.proofs.StateLemmas.{known-grown, grown-stands, map-stands, find-stand, find-stands}
 use Rattle.mv_repository.proofs.KeptLemmas.{same_pack, same_batch}
@@ -166,7 +169,7 @@ pub stops-found : (whole log : List LogEntry) (tables : StopTables) → Stand wh
 stops-found whole log tables s stops =
     let recall : (batch : BatchKey) → option_map (entry_at whole) (lookup (is_same_batch batch) tables.recalls) ≡ first_recall batch (ordered log) =
     λ batch. ap (option_map (entry_at whole)) (stops.recalls batch) ∙ find-stands (λ placed. is_recall_of batch placed.entry.item) whole (ordered log) s in
-    let withdrawal : (gtin : List ℕ) → option_map (entry_at whole) (lookup (is_same_text gtin) tables.withdrawals) ≡ first_withdrawal gtin (ordered log) =
+    let withdrawal : (gtin : List ℕ) → option_map (entry_at whole) (lookup (bytes_eq gtin) tables.withdrawals) ≡ first_withdrawal gtin (ordered log) =
     λ gtin. ap (option_map (entry_at whole)) (stops.withdrawals gtin) ∙ find-stands (λ placed. is_withdrawal_of gtin placed.entry.item) whole (ordered log) s in
     λ i. record { recall = λ batch. recall batch i; withdrawal = λ gtin. withdrawal gtin i }
 
@@ -230,6 +233,22 @@ is_track log entry table tables pack tracks stops =
       worked = sym (worked-state (longer log entry) log tables pack stand stops);
     } in
     subst (IsTrack (longer log entry) tables pack) (sym (tracks pack)) track
+
+-- a pack that no status names is as its upload makes it
+as-worked : (log : List LogEntry) (tables : StopTables) (pack : PackKey) (birth : Option ℕ) (places : List ℕ) (held : Option Held) → held ≡ grown_at log tables pack birth places
+    → places ≡ [] → IfSome birth (λ place. held ≡ held_made_at log place)
+as-worked log tables pack None places held worked none = tt
+as-worked log tables pack (Some place) places held worked none = worked ∙ ap (grown_at log tables pack (Some place)) none ∙ same (held_made_at log place)
+  where
+    same : (made : Option Held) → option_map (λ held. held) made ≡ made
+    same None = refl
+    same (Some held) = refl
+
+pub as-made : (log : List LogEntry) (table : List (PackKey × Kept)) (tables : StopTables) (pack : PackKey) → AreTracksOf log table → AreStopsOf log tables
+    → IsAsMade log (kept_in pack table)
+as-made log table tables pack tracks stops =
+    let track = track_of pack log in
+    subst (IsAsMade log) (sym (tracks pack)) (as-worked log tables pack track.birth track.places track.held (sym (worked-state log log tables pack (ordered-stand log) stops)))
 
 -- an entry that stops nothing leaves the tables of stops
 abbrev pub StopsNone : Item → Type 0
@@ -318,7 +337,7 @@ pub stops-recall : (log : List LogEntry) (entry : LogEntry) (tables tables' : St
     → tables'.withdrawals ≡ tables.withdrawals → AreStopsOf (longer log entry) tables'
 stops-recall log entry tables tables' key stops r none looks same = record {
   recalls = λ batch. looks batch ∙ by batch (is_same_batch key batch) refl;
-  withdrawals = λ gtin. ap (lookup (is_same_text gtin)) same ∙ stops.withdrawals gtin ∙ ap (option_map place_of) (sym (find-none (λ placed. is_withdrawal_of gtin placed.entry.item) log entry (none gtin)));
+  withdrawals = λ gtin. ap (lookup (bytes_eq gtin)) same ∙ stops.withdrawals gtin ∙ ap (option_map place_of) (sym (find-none (λ placed. is_withdrawal_of gtin placed.entry.item) log entry (none gtin)));
 }
   where
     by : (batch : BatchKey) (b : Bool) → is_same_batch key batch ≡ b
@@ -331,18 +350,18 @@ stops-recall log entry tables tables' key stops r none looks same = record {
 
 -- the tables of stops after a withdrawal
 pub stops-withdrawal : (log : List LogEntry) (entry : LogEntry) (tables tables' : StopTables) (key : List ℕ) → AreStopsOf log tables
-    → ((gtin : List ℕ) → is_withdrawal_of gtin entry.item ≡ is_same_text key gtin) → ((batch : BatchKey) → is_recall_of batch entry.item ≡ false)
-    → ((gtin : List ℕ) → lookup (is_same_text gtin) tables'.withdrawals ≡ cond (is_same_text key gtin) (earlier_place (longer log entry) (length log) (lookup (is_same_text key) tables.withdrawals)) (lookup (is_same_text gtin) tables.withdrawals))
+    → ((gtin : List ℕ) → is_withdrawal_of gtin entry.item ≡ bytes_eq key gtin) → ((batch : BatchKey) → is_recall_of batch entry.item ≡ false)
+    → ((gtin : List ℕ) → lookup (bytes_eq gtin) tables'.withdrawals ≡ cond (bytes_eq key gtin) (earlier_place (longer log entry) (length log) (lookup (bytes_eq key) tables.withdrawals)) (lookup (bytes_eq gtin) tables.withdrawals))
     → tables'.recalls ≡ tables.recalls → AreStopsOf (longer log entry) tables'
 stops-withdrawal log entry tables tables' key stops w none looks same = record {
-  withdrawals = λ gtin. looks gtin ∙ by gtin (is_same_text key gtin) refl;
+  withdrawals = λ gtin. looks gtin ∙ by gtin (bytes_eq key gtin) refl;
   recalls = λ batch. ap (lookup (is_same_batch batch)) same ∙ stops.recalls batch ∙ ap (option_map place_of) (sym (find-none (λ placed. is_recall_of batch placed.entry.item) log entry (none batch)));
 }
   where
-    by : (gtin : List ℕ) (b : Bool) → is_same_text key gtin ≡ b
-        → cond b (earlier_place (longer log entry) (length log) (lookup (is_same_text key) tables.withdrawals)) (lookup (is_same_text gtin) tables.withdrawals) ≡ option_map place_of (first_withdrawal gtin (ordered (longer log entry)))
+    by : (gtin : List ℕ) (b : Bool) → bytes_eq key gtin ≡ b
+        → cond b (earlier_place (longer log entry) (length log) (lookup (bytes_eq key) tables.withdrawals)) (lookup (bytes_eq gtin) tables.withdrawals) ≡ option_map place_of (first_withdrawal gtin (ordered (longer log entry)))
     by gtin true h =
-        ap (λ (c : List ℕ). earlier_place (longer log entry) (length log) (lookup (is_same_text c) tables.withdrawals)) (same_text key gtin (sym h))
+        ap (λ (c : List ℕ). earlier_place (longer log entry) (length log) (lookup (bytes_eq c) tables.withdrawals)) (same_text key gtin (sym h))
         ∙ ap (earlier_place (longer log entry) (length log)) (stops.withdrawals gtin)
         ∙ sym (find-some (λ placed. is_withdrawal_of gtin placed.entry.item) log entry (w gtin ∙ h))
     by gtin false h = stops.withdrawals gtin ∙ ap (option_map place_of) (sym (find-none (λ placed. is_withdrawal_of gtin placed.entry.item) log entry (w gtin ∙ h)))

@@ -1,5 +1,5 @@
 -- What of a log bears on one pack, and what two logs agree on that have the same of it.
-use Rattle.std.specs.Prelude.{◌≡◌, ◌↔◌, slice_get, ℕ, List, Bool, false, filter, Option, Some, None}
+use Rattle.std.specs.Prelude.{◌≡◌, ◌↔◌, slice_get, ℕ, List, Bool, false, filter, Option, Some, None, bytes_eq}
 use Rattle.std.specs.List.{filter_map, Contains}
 use Rattle.std.specs.Option.{option_map, option_map_or, option_and_then}
 use Rattle.mv_pack.specs.declared.key.PackKey.{PackKey}
@@ -9,7 +9,7 @@ use Rattle.mv_link.specs.declared.item.Item.{Item}
 use Rattle.mv_link.specs.declared.item.Item.TheVariants.{Receipt, Carried}
 use Rattle.mv_repository.specs.declared.entry.LogEntry.{LogEntry}
 use Rattle.mv_repository.specs.Order.{Placed, ordered}
-use Rattle.mv_repository.specs.Keys.{is_same_text, is_same_pack, is_same_batch, batch_key}
+use Rattle.mv_pack.specs.Keys.{is_same_pack, is_same_batch, batch_key}
 use Rattle.mv_repository.specs.Pack.{KnownChange, KnownPack}
 use Rattle.mv_repository.specs.PackState.{has_pack, known_pack, pack_state, is_recalled, is_withdrawn}
 use Rattle.mv_repository.specs.Verdict.{local_verdict}
@@ -35,7 +35,7 @@ abbrev pub bears_on : PackKey → Option (List ℕ) → Message → Bool
 bears_on pack batch (Upload gtin named expiry national serials) = has_pack gtin serials pack
 bears_on pack batch (Status key to user at) = is_same_pack key pack
 bears_on pack batch (Recall key at) = option_map_or (λ number. is_same_batch key (batch_key pack.gtin number)) batch false
-bears_on pack batch (Withdraw gtin at) = is_same_text gtin pack.gtin
+bears_on pack batch (Withdraw gtin at) = bytes_eq gtin pack.gtin
 bears_on pack batch _ = false
 
 -- the number of the batch that a log gives a pack, where it holds the pack

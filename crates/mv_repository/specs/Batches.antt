@@ -4,7 +4,7 @@ use Rattle.std.specs.List.{list_any}
 use Rattle.std.specs.Map.{lookup}
 use Rattle.std.specs.Option.{unwrap_or}
 use Rattle.mv_pack.specs.declared.key.BatchKey.{BatchKey}
-use Rattle.mv_repository.specs.Keys.{is_same_batch}
+use Rattle.mv_pack.specs.Keys.{is_same_batch}
 
 -- the places under a key that passes the test; none without such a key
 abbrev pub uploads_in : {K : Type 0} → (K → Bool) → List (K × List ℕ) → List ℕ

@@ -6,7 +6,7 @@ use Rattle.mv_message.specs.declared.message.Message.TheVariants.{Status}
 use Rattle.mv_link.specs.declared.item.Item.TheVariants.{Carried}
 use Rattle.mv_repository.specs.declared.entry.LogEntry.{LogEntry}
 use Rattle.mv_repository.specs.Order.{ordered}
-use Rattle.mv_repository.specs.Keys.{is_same_pack}
+use Rattle.mv_pack.specs.Keys.{is_same_pack}
 use Rattle.mv_repository.specs.Pack.{KnownChange}
 use Rattle.mv_repository.specs.PackState.{known_pack}
 

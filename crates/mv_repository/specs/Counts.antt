@@ -1,5 +1,5 @@
 -- How much a repository has: five numbers, each thing counted once.
-use Rattle.std.specs.Prelude.{ℕ, List, [], ◌∷◌, map, filter, length, Bool, false, Option}
+use Rattle.std.specs.Prelude.{ℕ, List, [], ◌∷◌, map, filter, length, Bool, false, Option, bytes_eq}
 use Rattle.std.specs.List.{flat_map}
 use Rattle.std.specs.Option.{option_map_or}
 use Rattle.std.specs.Set.{distinct_count}
@@ -11,7 +11,7 @@ use Rattle.mv_link.specs.declared.item.Item.TheVariants.{Carried}
 use Rattle.mv_repository.specs.declared.entry.LogEntry.{LogEntry}
 use Rattle.mv_repository.specs.declared.counts.Counts.{Counts}
 use Rattle.mv_repository.specs.declared.held.Held.{Held}
-use Rattle.mv_repository.specs.Keys.{is_same_text, is_same_pack, is_same_batch, pack_key}
+use Rattle.mv_pack.specs.Keys.{is_same_pack, is_same_batch, pack_key}
 use Rattle.mv_repository.specs.Pack.{is_active}
 use Rattle.mv_repository.specs.PackState.{pack_state}
 
@@ -42,7 +42,7 @@ is_held_active held = option_map_or (λ pack. is_active pack.standing) held fals
 abbrev pub counts_of : List LogEntry → Counts
 counts_of log = record {
   entries = length log;
-  products = distinct_count is_same_text (flat_map (λ entry. mastered_in entry.item) log);
+  products = distinct_count bytes_eq (flat_map (λ entry. mastered_in entry.item) log);
   packs = distinct_count is_same_pack (uploaded_packs log);
   active = distinct_count is_same_pack (filter (λ pack. is_held_active (pack_state pack log)) (uploaded_packs log));
   recalled = distinct_count is_same_batch (flat_map (λ entry. recalled_in entry.item) log);

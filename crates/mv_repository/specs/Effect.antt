@@ -1,8 +1,7 @@
 -- What applying an item does, by its number.
-use Rattle.std.specs.Prelude.{ℕ, ◌-◌, List, length, filter, not, Bool, is_some, codes, Option, Some, None, if◌then◌else◌}
+use Rattle.std.specs.Prelude.{ℕ, ◌-◌, List, length, filter, not, Bool, is_some, codes, if◌then◌else◌, bytes_eq}
+use Rattle.std.specs.Option.{option_map_or}
 use Rattle.std.specs.Set.{distinct_count}
-use Rattle.mv_pack.specs.declared.key.PackKey.{PackKey}
-use Rattle.mv_message.specs.declared.standing.Standing.{Standing}
 use Rattle.mv_message.specs.declared.message.Message.TheVariants.{Master, Upload, Status, Recall, Withdraw}
 use Rattle.mv_link.specs.declared.item.Item.{Item}
 use Rattle.mv_link.specs.declared.item.Item.TheVariants.{Carried}
@@ -10,8 +9,8 @@ use Rattle.mv_repository.specs.declared.effect.Effect.{Effect}
 use Rattle.mv_repository.specs.declared.effect.Effect.TheVariants as effects
 use Rattle.mv_repository.specs.declared.entry.LogEntry.{LogEntry}
 use Rattle.mv_repository.specs.Order.{Placed, passes, ordered}
-use Rattle.mv_repository.specs.Keys.{is_same_text, pack_key, batch_key}
-use Rattle.mv_repository.specs.Pack.{KnownPack, change_effect}
+use Rattle.mv_pack.specs.Keys.{pack_key, batch_key}
+use Rattle.mv_repository.specs.Pack.{change_effect}
 use Rattle.mv_repository.specs.PackState.{is_recalled_by, is_withdrawn_by, batch_standing, known_pack}
 
 -- The entries of a log that stand before one that comes last, in the order of stamps: all but those that it passes.
@@ -21,18 +20,12 @@ entries_before log entry = filter (λ placed. not (passes (record { place = leng
 -- how many packs an upload makes: those that these entries don't make; one that it names twice is made once
 abbrev pub new_count : List Placed → List ℕ → List (List ℕ) → ℕ
 new_count before gtin serials =
-    distinct_count is_same_text (filter (λ serial. not (is_some (known_pack (pack_key gtin serial) before))) serials)
+    distinct_count bytes_eq (filter (λ serial. not (is_some (known_pack (pack_key gtin serial) before))) serials)
 
 -- the effect of an upload: how many packs it makes, and how many of those that it names were there
 abbrev pub upload_effect : List Placed → List ℕ → List (List ℕ) → Effect
 upload_effect before gtin serials =
     effects.Uploaded (new_count before gtin serials) (length serials - new_count before gtin serials)
-
--- the effect of a status of a pack
-abbrev pub status_effect : List Placed → PackKey → Option KnownPack → Standing → ℕ → List ℕ → ℕ → Effect
-status_effect before key None to sender user at = effects.Unknown
-status_effect before key (Some held) to sender user at =
-    change_effect held (batch_standing before (batch_key key.gtin held.batch)) to sender user at
 
 -- the effect of what holds for ever: it is done once
 abbrev pub lasting_effect : Bool → Effect
@@ -43,7 +36,8 @@ abbrev pub effect_after : List Placed → ℕ → Item → Effect
 effect_after before sender (Carried k stamp (Master gtin product)) = effects.Done
 effect_after before sender (Carried k stamp (Upload gtin batch expiry national serials)) = upload_effect before gtin serials
 effect_after before sender (Carried k stamp (Status key to user at)) =
-    status_effect before key (known_pack key before) to sender user at
+    option_map_or (λ held. change_effect held (batch_standing before (batch_key key.gtin held.batch)) to sender user at)
+    (known_pack key before) effects.Unknown
 effect_after before sender (Carried k stamp (Recall key at)) = lasting_effect (is_recalled_by key before)
 effect_after before sender (Carried k stamp (Withdraw gtin at)) = lasting_effect (is_withdrawn_by gtin before)
 effect_after before sender _ = effects.Noted

@@ -1,6 +1,5 @@
 pub mod Log
 pub mod Order
-pub mod Keys
 pub mod Product
 pub mod Pack
 pub mod PackState

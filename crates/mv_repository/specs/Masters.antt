@@ -1,5 +1,5 @@
 -- The table that finds the last master of a product in the log.
-use Rattle.std.specs.Prelude.{◌≡◌, ℕ, List, [], ◌∷◌, Bool, false, nat_lt, Option, Some, None, if◌then◌else◌}
+use Rattle.std.specs.Prelude.{◌≡◌, ℕ, List, [], ◌∷◌, Bool, false, nat_lt, Option, Some, None, if◌then◌else◌, bytes_eq}
 use Rattle.std.specs.Map.{lookup}
 use Rattle.std.specs.Option.{option_map, option_or}
 use Rattle.mv_message.specs.declared.message.Message.TheVariants.{Master}
@@ -8,12 +8,11 @@ use Rattle.mv_link.specs.declared.item.Item.{Item}
 use Rattle.mv_link.specs.declared.item.Item.TheVariants.{Carried}
 use Rattle.mv_repository.specs.declared.entry.LogEntry.{LogEntry}
 use Rattle.mv_repository.specs.Order.{Placed, rank, ordered}
-use Rattle.mv_repository.specs.Keys.{is_same_text}
 use Rattle.mv_repository.specs.Stops.{place_of}
 
 -- an item is a master of a code
 abbrev pub is_master : List ℕ → Item → Bool
-is_master gtin (Carried k stamp (Master named product)) = is_same_text named gtin
+is_master gtin (Carried k stamp (Master named product)) = bytes_eq named gtin
 is_master gtin _ = false
 
 -- the product that an item describes
@@ -37,4 +36,4 @@ entry_of placed = placed.entry
 
 -- the table has, for each code, the place of its last master by stamp order, and nothing where there is none
 abbrev pub AreMastersOf : List LogEntry → List (List ℕ × ℕ) → Type 0
-AreMastersOf log masters = (gtin : List ℕ) → lookup (is_same_text gtin) masters ≡ option_map place_of (last_master gtin (ordered log))
+AreMastersOf log masters = (gtin : List ℕ) → lookup (bytes_eq gtin) masters ≡ option_map place_of (last_master gtin (ordered log))

@@ -1,13 +1,12 @@
 -- What a repository knows of a pack and of a batch, and what one status does to a pack (Delegated Regulation (EU)
 -- 2016/161, Articles 13, 36 and 40).
-use Rattle.std.specs.Prelude.{ℕ, ◌+◌, ◌*◌, ◌==◌, ◌&&◌, nat_lt, List, not, Bool, true, false, Option, Some, None, if◌then◌else◌}
+use Rattle.std.specs.Prelude.{ℕ, ◌+◌, ◌*◌, ◌==◌, ◌&&◌, nat_lt, List, not, Bool, true, false, Option, Some, None, if◌then◌else◌, bytes_eq}
 use Rattle.mv_pack.specs.Expiry.{CivilDate, seconds_of_day, is_expired_at}
 use Rattle.mv_message.specs.declared.standing.Standing.{Standing}
 use Rattle.mv_message.specs.declared.standing.Standing.TheVariants as standings
 use Rattle.mv_repository.specs.declared.effect.Effect.{Effect}
 use Rattle.mv_repository.specs.declared.effect.Effect.TheVariants as effects
 use Rattle.mv_repository.specs.declared.stops.BatchStanding.{BatchStanding}
-use Rattle.mv_repository.specs.Keys.{is_same_text}
 
 -- a change of a pack from active: the party and the user who asked for it, the moment that they gave, and the place of
 -- the status in the log, counted from 0
@@ -44,7 +43,7 @@ new_pack batch expiry national =
 
 -- a change was asked for by this party as this user
 abbrev pub is_change_by : KnownChange → ℕ → List ℕ → Bool
-is_change_by change sender user = (change.by == sender) && is_same_text change.user user
+is_change_by change sender user = (change.by == sender) && bytes_eq change.user user
 
 -- the seconds within which a change may be reverted: ten days (Article 13(1)(b))
 abbrev pub revert_seconds : ℕ

@@ -1,5 +1,5 @@
 -- What a log means for one pack, one batch and one product: its entries are read in the order of stamps.
-use Rattle.std.specs.Prelude.{ℕ, List, [], ◌∷◌, ◌++◌, Bool, false, ◌&&◌, Option, Some, None, if◌then◌else◌}
+use Rattle.std.specs.Prelude.{ℕ, List, [], ◌∷◌, ◌++◌, Bool, false, ◌&&◌, Option, Some, None, if◌then◌else◌, bytes_eq}
 use Rattle.std.specs.List.{list_any}
 use Rattle.std.specs.Option.{option_map, option_or}
 use Rattle.mv_pack.specs.declared.key.PackKey.{PackKey}
@@ -11,7 +11,7 @@ use Rattle.mv_repository.specs.declared.entry.LogEntry.{LogEntry}
 use Rattle.mv_repository.specs.declared.held.Held.{Held}
 use Rattle.mv_repository.specs.declared.held.Change.{Change}
 use Rattle.mv_repository.specs.Order.{Placed, ordered}
-use Rattle.mv_repository.specs.Keys.{is_same_text, is_same_pack, is_same_batch, batch_key}
+use Rattle.mv_pack.specs.Keys.{is_same_pack, is_same_batch, batch_key}
 use Rattle.mv_repository.specs.declared.stops.BatchStanding.{BatchStanding}
 use Rattle.mv_repository.specs.Pack.{KnownPack, KnownChange, new_pack, pack_after_status}
 
@@ -22,12 +22,12 @@ is_recall_of batch _ = false
 
 -- an item is a withdrawal of a product
 abbrev pub is_withdrawal_of : List ℕ → Item → Bool
-is_withdrawal_of gtin (Carried k stamp (Withdraw named at)) = is_same_text named gtin
+is_withdrawal_of gtin (Carried k stamp (Withdraw named at)) = bytes_eq named gtin
 is_withdrawal_of gtin _ = false
 
 -- these packs of a product have the pack among them
 abbrev pub has_pack : List ℕ → List (List ℕ) → PackKey → Bool
-has_pack gtin serials pack = is_same_text gtin pack.gtin && list_any (λ serial. is_same_text serial pack.serial) serials
+has_pack gtin serials pack = bytes_eq gtin pack.gtin && list_any (λ serial. bytes_eq serial pack.serial) serials
 
 -- a batch is recalled by these entries: one recall holds for ever
 abbrev pub is_recalled_by : BatchKey → List Placed → Bool

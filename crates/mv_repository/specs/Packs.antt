@@ -1,6 +1,6 @@
 -- The table of packs: a pack is as an upload made it until a status names it, and has a track of its own from then on.
 use Rattle.std.specs.Bool.{⊤}
-use Rattle.std.specs.Prelude.{◌≡◌, ◌<◌, ℕ, List, [], ◌∷◌, map, length, slice_get, Bool, true, false, nat_eq, ◌&&◌, Option, Some, None, IfSome, is_some, if◌then◌else◌}
+use Rattle.std.specs.Prelude.{◌≡◌, ◌<◌, ℕ, List, [], ◌∷◌, map, length, slice_get, Bool, true, false, nat_eq, ◌&&◌, Option, Some, None, IfSome, is_some, if◌then◌else◌, bytes_eq}
 use Rattle.std.specs.List.{list_any}
 use Rattle.mv_pack.specs.declared.key.BatchKey.{BatchKey}
 use Rattle.std.specs.Map.{lookup, set_value}
@@ -16,7 +16,7 @@ use Rattle.mv_repository.specs.declared.held.Held.{Held}
 use Rattle.mv_repository.specs.declared.slot.Slot.{Slot}
 use Rattle.mv_repository.specs.declared.slot.Slot.TheVariants.{Made, Own}
 use Rattle.mv_repository.specs.declared.tally.Tally.{Tally}
-use Rattle.mv_repository.specs.Keys.{is_same_text, is_same_pack, batch_key}
+use Rattle.mv_pack.specs.Keys.{is_same_pack, batch_key}
 use Rattle.mv_repository.specs.PackState.{has_pack, held_of}
 use Rattle.mv_repository.specs.Batches.{is_listed}
 use Rattle.mv_repository.specs.Stops.{StopTables, entry_at}
@@ -118,7 +118,7 @@ AreMade log table = (pack : PackKey) → IfSome (kept_in pack table).held (λ he
 -- the serial numbers that an upload of a batch names
 abbrev pub batch_serials : List ℕ → Item → List (List ℕ)
 batch_serials number (Carried k stamp (Upload gtin batch expiry national serials)) =
-    if is_same_text number batch then serials else []
+    if bytes_eq number batch then serials else []
 batch_serials number _ = []
 
 -- a pack was made by the upload at a place
@@ -144,7 +144,7 @@ pub record IsTable (births : List Born) (slots : List (PackKey × Slot)) (produc
 -- a pack is of a batch, where one is named
 abbrev pub is_held_in : List ℕ → Option Held → Bool
 is_held_in batch None = false
-is_held_in batch (Some held) = is_same_text batch held.batch
+is_held_in batch (Some held) = bytes_eq batch held.batch
 
 abbrev pub is_in : Option (List ℕ) → Kept → Bool
 is_in None kept = true
@@ -152,7 +152,7 @@ is_in (Some batch) kept = is_held_in batch kept.held
 
 -- a pack is of a product, and of a batch where one is named
 abbrev pub is_of : List ℕ → Option (List ℕ) → PackKey → Kept → Bool
-is_of gtin batch pack kept = is_same_text gtin pack.gtin && is_in batch kept
+is_of gtin batch pack kept = bytes_eq gtin pack.gtin && is_in batch kept
 
 -- an upload made a pack, where one is named by its place
 abbrev pub is_made_there : Option ℕ → Kept → Bool
@@ -162,6 +162,10 @@ is_made_there (Some place) kept = is_birth place kept.birth
 -- a pack worked out again, where an upload made it, if one is named
 abbrev pub refreshed_in : List LogEntry → StopTables → Option ℕ → PackKey → Kept → Kept
 refreshed_in log tables maker pack kept = if is_made_there maker kept then refreshed log tables pack kept else kept
+
+-- a pack that no status names is as the upload makes it that its birth names
+abbrev pub IsAsMade : List LogEntry → Kept → Type 0
+IsAsMade log kept = kept.places ≡ [] → IfSome kept.birth (λ place. kept.held ≡ held_made_at log place)
 
 -- working a pack out again that no status names changes nothing
 abbrev pub IsSettled : List LogEntry → StopTables → PackKey → Kept → Type 0

@@ -9,7 +9,7 @@ use Rattle.mv_message.specs.declared.found.Found.TheVariants.{Absent, Present}
 use Rattle.mv_link.specs.declared.item.Item.{Item}
 use Rattle.mv_link.specs.declared.item.Item.TheVariants.{Carried}
 use Rattle.mv_repository.specs.declared.entry.LogEntry.{LogEntry}
-use Rattle.mv_repository.specs.Keys.{batch_key}
+use Rattle.mv_pack.specs.Keys.{batch_key}
 use Rattle.mv_repository.specs.PackState.{pack_state, is_recalled, is_withdrawn}
 
 -- what a log finds of a pack: how it is held, and whether its batch is recalled and its product withdrawn

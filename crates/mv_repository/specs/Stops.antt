@@ -1,12 +1,12 @@
 -- What stops a batch for ever: its first recall, and the first withdrawal of its product, by the order of stamps.
-use Rattle.std.specs.Prelude.{◌≡◌, ℕ, List, [], find, get_or, Bool, true, false, Option, Some, None, if◌then◌else◌}
+use Rattle.std.specs.Prelude.{◌≡◌, ℕ, List, [], find, get_or, Bool, true, false, Option, Some, None, if◌then◌else◌, bytes_eq}
 use Rattle.std.specs.Map.{lookup}
 use Rattle.std.specs.Option.{option_map}
 use Rattle.mv_pack.specs.declared.key.BatchKey.{BatchKey}
 use Rattle.mv_link.specs.declared.item.Item.TheVariants.{Receipt}
 use Rattle.mv_repository.specs.declared.entry.LogEntry.{LogEntry}
 use Rattle.mv_repository.specs.declared.stops.BatchStanding.{BatchStanding}
-use Rattle.mv_repository.specs.Keys.{is_same_text, is_same_batch}
+use Rattle.mv_pack.specs.Keys.{is_same_batch}
 use Rattle.mv_repository.specs.Order.{Placed, passes, stands_before, ordered}
 use Rattle.mv_repository.specs.PackState.{is_recall_of, is_withdrawal_of}
 
@@ -60,13 +60,13 @@ pub record StopTables : Type 0 where
 abbrev pub stops_in : List LogEntry → StopTables → FirstStops
 stops_in log tables = record {
   recall = λ batch. option_map (entry_at log) (lookup (is_same_batch batch) tables.recalls);
-  withdrawal = λ gtin. option_map (entry_at log) (lookup (is_same_text gtin) tables.withdrawals);
+  withdrawal = λ gtin. option_map (entry_at log) (lookup (bytes_eq gtin) tables.withdrawals);
 }
 
 -- the tables are those of a log
 pub record AreStopsOf (log : List LogEntry) (tables : StopTables) : Type 0 where
   pub recalls : (batch : BatchKey) → lookup (is_same_batch batch) tables.recalls ≡ option_map place_of (first_recall batch (ordered log))
-  pub withdrawals : (gtin : List ℕ) → lookup (is_same_text gtin) tables.withdrawals ≡ option_map place_of (first_withdrawal gtin (ordered log))
+  pub withdrawals : (gtin : List ℕ) → lookup (bytes_eq gtin) tables.withdrawals ≡ option_map place_of (first_withdrawal gtin (ordered log))
 
 -- the newest entry comes first: there is none so far, or it stands before the first so far, which is at that place
 abbrev pub comes_first : List LogEntry → ℕ → Option ℕ → Bool

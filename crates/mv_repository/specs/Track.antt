@@ -1,5 +1,5 @@
 -- What is kept of one pack, and that this gives what the pack is.
-use Rattle.std.specs.Prelude.{◌≡◌, ◌+◌, ℕ, List, [], ◌∷◌, map, fold, filter, find, get_or, take, length, not, is_some, Bool, false, Option, Some, None, if◌then◌else◌}
+use Rattle.std.specs.Prelude.{◌≡◌, ◌+◌, ℕ, List, [], ◌∷◌, map, fold, filter, find, get_or, take, length, not, is_some, Bool, false, Option, Some, None, if◌then◌else◌, bytes_eq}
 use Rattle.std.specs.List.{count_by, range_with_len}
 use Rattle.std.specs.Map.{lookup}
 use Rattle.mv_repository.specs.declared.tally.Tally.{Tally}
@@ -17,7 +17,7 @@ use Rattle.mv_repository.specs.declared.effect.Effect.{Effect}
 use Rattle.mv_repository.specs.declared.effect.Effect.TheVariants as effects
 use Rattle.mv_repository.specs.declared.stops.BatchStanding.{BatchStanding}
 use Rattle.std.specs.Set.{distinct_count}
-use Rattle.mv_repository.specs.Keys.{is_same_text, is_same_pack, pack_key, batch_key}
+use Rattle.mv_pack.specs.Keys.{is_same_pack, pack_key, batch_key}
 use Rattle.mv_repository.specs.Order.{Placed, passes, stands_before, ordered, Ascends}
 use Rattle.mv_repository.specs.Pack.{KnownPack, KnownChange, new_pack, pack_after_status, change_effect}
 use Rattle.mv_repository.specs.Counts.{is_held_active}
@@ -246,7 +246,7 @@ AreTracksOf log table = (pack : PackKey) → kept_in pack table ≡ track_of pac
 -- how many packs of an upload the newest entry makes, as far as the table says
 abbrev pub made_count : List LogEntry → ℕ → List (PackKey × Kept) → List ℕ → List (List ℕ) → ℕ
 made_count log new table gtin serials =
-    distinct_count is_same_text (filter (λ serial. comes_first log new (kept_in (pack_key gtin serial) table).birth) serials)
+    distinct_count bytes_eq (filter (λ serial. comes_first log new (kept_in (pack_key gtin serial) table).birth) serials)
 
 -- an upload has made the pack
 abbrev pub is_made : Kept → Bool

@@ -1,10 +1,9 @@
 -- The packs that statuses name: for each product, their serial numbers.
-use Rattle.std.specs.Prelude.{◌≡◌, ℕ, List, [], Bool, true}
+use Rattle.std.specs.Prelude.{◌≡◌, ℕ, List, [], Bool, true, bytes_eq}
 use Rattle.std.specs.List.{list_any}
 use Rattle.std.specs.Map.{lookup}
 use Rattle.std.specs.Option.{unwrap_or}
 use Rattle.mv_pack.specs.declared.key.PackKey.{PackKey}
-use Rattle.mv_repository.specs.Keys.{is_same_text}
 
 -- the serial numbers under a key that passes the test; none without such a key
 abbrev pub serials_in : {K : Type 0} → (K → Bool) → List (K × List (List ℕ)) → List (List ℕ)
@@ -12,11 +11,11 @@ serials_in test table = unwrap_or (lookup test table) []
 
 -- a serial number is among these
 abbrev pub has_serial : List (List ℕ) → List ℕ → Bool
-has_serial serials serial = list_any (λ known. is_same_text known serial) serials
+has_serial serials serial = list_any (λ known. bytes_eq known serial) serials
 
 -- a pack is among those that statuses name, by product
 abbrev pub is_tracked : PackKey → List (List ℕ × List (List ℕ)) → Bool
-is_tracked pack products = has_serial (serials_in (is_same_text pack.gtin) products) pack.serial
+is_tracked pack products = has_serial (serials_in (bytes_eq pack.gtin) products) pack.serial
 
 -- each serial number of a list is still there
 abbrev pub KeepsSerials : List (List ℕ) → List (List ℕ) → Type 0

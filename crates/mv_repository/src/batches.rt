@@ -2,7 +2,7 @@
 
 ghost use Rattle.std.specs.Prelude.{◌≡◌, ◌∷◌, ◌++◌, [], ℕ, List, true, false, OnOk, OnErr};
 ghost use Rattle.mv_pack.specs.declared.key.BatchKey.{BatchKey as ABatchKey};
-ghost use Rattle.mv_repository.specs.Keys.{is_same_batch};
+ghost use Rattle.mv_pack.specs.Keys.{is_same_batch};
 ghost use Rattle.mv_repository.specs.Batches.{uploads_in, KeepsListed};
 
 use indexmap::IndexMap;
@@ -10,10 +10,10 @@ use mv_pack::BatchKey;
 use std::alloc::{AllocError, Global};
 use std::marker::Model;
 
-/// Places in the log, in the order in which they came.
+/// Places in the log, of 32 bits each, in the order in which they came.
 #[derive(Drop)]
 struct PlaceList {
-    list: Vec<usize>,
+    list: Vec<u32>,
 }
 
 impl Model for PlaceList {
@@ -35,14 +35,14 @@ impl PlaceList {
     }
 
     /// The places.
-    fn as_slice(&self) -> &[usize]
+    fn as_slice(&self) -> &[u32]
         ensures { result.now ≡ self.now }
     {
         self.list.as_slice()
     }
 
     /// One more place. Where memory is refused nothing has changed.
-    fn add(&mut self, place: usize) -> Result<(), AllocError>
+    fn add(&mut self, place: u32) -> Result<(), AllocError>
         ensures ok { OnOk result (self.new ≡ self.old ++ place ∷ []) }
         ensures err { OnErr result (self.new ≡ self.old) }
     {
@@ -88,7 +88,7 @@ impl Batches {
     }
 
     /// The places of the uploads of a batch.
-    pub fn uploads_of(&self, batch: &BatchKey) -> &[usize]
+    pub fn uploads_of(&self, batch: &BatchKey) -> &[u32]
         ensures { result.now ≡ uploads_in (is_same_batch batch.now) self.now }
     {
         match self.uploads.get(batch) {
@@ -98,7 +98,7 @@ impl Batches {
     }
 
     /// Adds an upload of a batch. Where memory is refused the uploads are those that there were.
-    pub fn add(&mut self, batch: BatchKey, place: usize) -> Result<(), AllocError>
+    pub fn add(&mut self, batch: BatchKey, place: u32) -> Result<(), AllocError>
         ensures keeps { KeepsListed self.old self.new }
         ensures last { OnOk result (uploads_in (is_same_batch batch) self.new
             ≡ uploads_in (is_same_batch batch) self.old ++ place ∷ []) }

@@ -1,27 +1,27 @@
 //! An upload, by which packs are as it made them. The table of packs has one for all packs of an upload.
 
-ghost use Rattle.std.specs.Prelude.{◌≡◌, IfOk, Some, true};
+ghost use Rattle.std.specs.Prelude.{◌≡◌, Some, true};
 ghost use Rattle.std.specs.Option.{option_map};
 ghost use Rattle.mv_repository.specs.PackState.{held_of};
 ghost use Rattle.mv_repository.specs.Counts.{is_held_active};
 ghost use Rattle.mv_repository.specs.Packs.{kept_born};
-ghost use Rattle.mv_repository.specs.Track.{pack_made_by, is_made, is_active_kept};
+ghost use Rattle.mv_repository.specs.Track.{pack_made_by, held_made_at, is_made, is_active_kept};
 
-use crate::Held;
 use crate::tally::Share;
-use crate::track::made_of;
+use crate::track::made_at;
+use crate::{Held, LogEntry};
 use mv_link::Item;
-use mv_message::{Message, Shared};
-use std::alloc::AllocError;
+use mv_message::Message;
 use std::marker::Model;
+use std::snapshot::Snapshot;
 
 /// An upload, by its place in the log. Contracts see what each pack is that it makes.
 #[derive(Drop)]
 pub(crate) struct Birth {
     /// Its place in the log.
-    place: usize,
-    /// Its message, which is kept once with all others that hold it.
-    upload: Shared<Message>,
+    place: u32,
+    /// Its message, which stands in the log: contracts alone see it here, and it takes no memory.
+    upload: Snapshot<Message>,
 }
 
 impl Model for Birth {
@@ -31,38 +31,38 @@ impl Model for Birth {
 
     ghost Value = { Born };
 
-    ghost view = { λ b. born_by b.place b.upload };
+    ghost view = { λ b. born_by b.place b.upload.value };
 
-    ghost invariant = { λ b. is_held_active (born_by b.place b.upload).held ≡ true };
+    ghost invariant = { λ b. is_held_active (born_by b.place b.upload.value).held ≡ true };
 }
 
 impl Birth {
-    /// The upload of an item, which stands at a place of the log. Refused where so many hold its message that they cannot
-    /// be counted.
-    pub fn of(item: &Item, place: usize) -> Result<Birth, AllocError>
+    /// The upload of an item, which stands at a place of the log.
+    pub fn of(item: &Item, place: u32) -> Birth
         requires upload { is_held_active (option_map held_of (pack_made_by item.now)) ≡ true }
-        ensures place { IfOk result (λ birth. birth.place ≡ place) }
-        ensures held { IfOk result (λ birth. birth.held ≡ option_map held_of (pack_made_by item.now)) }
+        ensures place { result.place ≡ place }
+        ensures held { result.held ≡ option_map held_of (pack_made_by item.now) }
     {
         let Item::Carried { message, .. } = item else {
             unreachable!();
         };
-        let upload = message.share()?;
-        Ok(Birth { place, upload })
+        let upload = Snapshot::of(message.get());
+        Birth { place, upload }
     }
 
     /// Its place in the log.
     pub fn place(&self) -> usize
         ensures { result ≡ self.now.place }
     {
-        self.place
+        self.place as usize
     }
 
-    /// What each pack is that it makes.
-    pub fn held(&self) -> Option<Held>
+    /// What each pack is that it makes, by the log in which it stands.
+    pub fn held(&self, log: &[LogEntry]) -> Option<Held>
+        requires { self.now.held ≡ held_made_at log.now self.now.place }
         ensures { result ≡ self.now.held }
     {
-        made_of(self.upload.get())
+        made_at(log, self.place())
     }
 
     /// What each pack that it makes adds to the tally: an upload makes active packs.

@@ -1,10 +1,10 @@
 //! The ledger of a repository: its party's log, and the tables that say what it means for products, packs and batches.
 //! It knows nothing of the queries that its own party asked.
 
-ghost use Rattle.std.specs.Prelude.{◌≡◌, ◌<◌, ℕ, max, List, Bool, false, OnOk, OnErr, IfOk, vec_len, vec_capacity};
+ghost use Rattle.std.specs.Prelude.{◌≡◌, ◌<◌, ℕ, max, List, Bool, false, OnOk, OnErr, IfOk, vec_len, vec_capacity, bytes_eq};
 ghost use Rattle.std.specs.Option.{option_copied, option_map};
 ghost use Rattle.mv_repository.specs.Order.{ordered};
-ghost use Rattle.mv_repository.specs.Keys.{is_same_text, is_same_pack, is_same_batch};
+ghost use Rattle.mv_pack.specs.Keys.{is_same_pack, is_same_batch};
 ghost use Rattle.mv_repository.specs.Masters.{is_master, product_in, last_master, entry_of, is_late};
 ghost use Rattle.mv_repository.specs.PackState.{has_pack};
 ghost use Rattle.mv_repository.specs.Effect.{lasting_effect};
@@ -120,7 +120,7 @@ impl Ledger {
     pub fn pack(&self, key: &PackKey) -> Option<Held>
         ensures { result ≡ pack_state key.now self.now.log }
     {
-        self.packs.get(key)
+        self.packs.get(self.log.as_slice(), key)
     }
 
     /// Whether a batch is recalled.
@@ -284,7 +284,7 @@ impl Ledger {
 
     /// Applies a master of a code. Where it is the last by stamp it is the one that the table finds.
     fn apply_master(&mut self, sender: Party, item: &Item, gtin: Gtin) -> Result<(), AllocError>
-        requires { Bears item.now (is_same_text gtin) (λ pack. false) (λ pack. false) (λ batch. false) (λ gtin. false) }
+        requires { Bears item.now (bytes_eq gtin) (λ pack. false) (λ pack. false) (λ batch. false) (λ gtin. false) }
         ensures ok { OnOk result (self.new ≡ with_applied self.old sender item.now) }
         ensures err { OnErr result (self.new ≡ self.old) }
     {
@@ -387,7 +387,7 @@ impl Ledger {
         gtin: Gtin,
     ) -> Result<Effect, AllocError>
         requires stamp { stamp_of item.now ≡ stamp }
-        requires bears { Bears item.now (λ gtin. false) (λ pack. false) (λ pack. false) (λ batch. false) (is_same_text gtin) }
+        requires bears { Bears item.now (λ gtin. false) (λ pack. false) (λ pack. false) (λ batch. false) (bytes_eq gtin) }
         ensures ok { OnOk result (self.new ≡ with_applied self.old sender item.now) }
         ensures effect { IfOk result (λ effect. effect
             ≡ effect_of self.old.log (record { sender = sender; item = item.now })) }

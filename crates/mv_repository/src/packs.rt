@@ -4,7 +4,7 @@ ghost use Rattle.std.specs.Prelude.{◌≡◌, ◌<◌, ◌≤◌, ◌+◌, ◌�
 ghost use Rattle.std.specs.List.{IsDistinct};
 ghost use Rattle.std.specs.Map.{keys_of};
 ghost use Rattle.mv_pack.specs.declared.key.PackKey.{PackKey as APackKey};
-ghost use Rattle.mv_repository.specs.Keys.{is_same_pack};
+ghost use Rattle.mv_pack.specs.Keys.{is_same_pack};
 ghost use Rattle.mv_repository.specs.PackState.{has_pack};
 ghost use Rattle.mv_repository.specs.Stops.{comes_first};
 ghost use Rattle.mv_repository.specs.Tables.{IsUploadOf};
@@ -54,7 +54,7 @@ impl Model for Packs {
 impl Packs {
     ghost use Rattle.std.specs.Prelude.{Some, None};
     ghost use Rattle.mv_repository.specs.Track.{refreshed};
-    ghost use Rattle.mv_repository.specs.Packs.{is_of, WereTracks, AreMade};
+    ghost use Rattle.mv_repository.specs.Packs.{is_of, WereTracks, AreMade, IsAsMade};
 
     /// A table of no pack.
     pub fn new(alloc: Global) -> Packs
@@ -72,12 +72,13 @@ impl Packs {
         }
     }
 
-    /// What a pack is, by its upload or by its track; none where no upload names it.
-    pub fn get(&self, key: &PackKey) -> Option<Held>
+    /// What a pack is, by its upload in the log or by its track; none where no upload names it.
+    pub fn get(&self, log: &[LogEntry], key: &PackKey) -> Option<Held>
+        requires { IsAsMade log.now (kept_in key.now self.now) }
         ensures { result ≡ (kept_in key.now self.now).held }
     {
         let slot = self.table.slots.get(key)?;
-        slot.held(self.births.as_slice())
+        slot.held(self.births.as_slice(), log)
     }
 
     /// How many packs are held, and how many of them are active.
@@ -90,7 +91,7 @@ impl Packs {
     }
 
     /// Writes an upload into the log, and adds it to what is kept of each pack that it names; how many packs it makes.
-    /// Where memory is refused nothing has changed.
+    /// Where memory is refused nothing has changed; beyond 2^32 entries there is want of memory.
     pub fn add_upload(
         &mut self,
         log: &mut Vec<LogEntry>,
@@ -117,7 +118,8 @@ impl Packs {
             unreachable!();
         };
         let new = log.len();
-        let birth = Birth::of(&entry.item, new)?;
+        let place = place_of(new)?;
+        let birth = Birth::of(&entry.item, place);
         self.births.reserve(1)?;
         self.table.slots.reserve(serials.len())?;
         let product = self.table.slots.add_product(gtin)?;
@@ -125,7 +127,7 @@ impl Packs {
             gtin,
             batch: held.batch,
         };
-        self.batches.add(batch.copy(), new)?;
+        self.batches.add(batch.copy(), place)?;
         // All room is got: nothing fails from here on.
         let at = self.births.len();
         log.push_reserved(entry);
@@ -208,4 +210,14 @@ impl Packs {
         self.table
             .refresh_all(births, log, stops, *gtin, None, serials);
     }
+}
+
+/// A place in the log in 32 bits. Beyond these there is want of memory.
+fn place_of(place: usize) -> Result<u32, AllocError>
+    ensures { IfOk result (λ small. small ≡ place) }
+{
+    if place > u32::MAX as usize {
+        return Err(AllocError);
+    }
+    Ok(place as u32)
 }

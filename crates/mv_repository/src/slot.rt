@@ -1,12 +1,12 @@
 //! What stands in the table of packs for one pack: it is as an upload made it until a status names it, and has a track of
 //! its own from then on. This file knows no other pack.
 
-ghost use Rattle.std.specs.Prelude.{◌≡◌, ◌<◌, ◌∷◌, ◌++◌, [], ℕ, length, vec_len, vec_capacity, OnOk, OnErr, IfOk, true, false, if◌then◌else◌};
+ghost use Rattle.std.specs.Prelude.{◌≡◌, ◌<◌, ◌∷◌, ◌++◌, [], ℕ, length, vec_len, vec_capacity, OnOk, OnErr, IfOk, None, true, false, if◌then◌else◌};
 ghost use Rattle.mv_repository.specs.Stops.{comes_first};
 ghost use Rattle.mv_repository.specs.Packs.{kept_as};
 ghost use Rattle.mv_repository.specs.Tracked.{is_tracked, KeepsTracked};
 ghost use Rattle.mv_repository.specs.declared.slot.Slot.TheVariants.{Made};
-ghost use Rattle.mv_repository.specs.Track.{grown_at, IsTrack, with_status, with_upload, newest_effect, is_made, is_active_kept};
+ghost use Rattle.mv_repository.specs.Track.{IsTrack, with_status, with_upload, newest_effect, is_made, is_active_kept};
 
 use crate::birth::Birth;
 use crate::order::comes_first;
@@ -28,14 +28,15 @@ pub(crate) enum Slot {
 }
 
 impl Slot {
-    ghost use Rattle.mv_repository.specs.Packs.{IsWithin, is_own, refreshed_in, IsSettled, IsBorn};
+    ghost use Rattle.mv_repository.specs.Packs.{IsWithin, is_own, refreshed_in, IsSettled, IsBorn, IsAsMade};
 
     /// What the pack is; none where no upload names it.
-    pub fn held(&self, births: &[Birth]) -> Option<Held>
+    pub fn held(&self, births: &[Birth], log: &[LogEntry]) -> Option<Held>
+        requires { IsAsMade log.now (kept_as births.now self.now) }
         ensures { result ≡ (kept_as births.now self.now).held }
     {
         match self {
-            Slot::Made(place) => births.get(*place)?.held(),
+            Slot::Made(place) => births.get(*place)?.held(log),
             Slot::Own(track) => track.held(),
         }
     }
@@ -116,8 +117,7 @@ impl Slot {
         match self {
             Slot::Made(place) => {
                 let birth = birth_at(births, *place);
-                let held = held_at(births, *place);
-                let started = start(alloc, tracked, log, entry, stops, pack, birth, held)?;
+                let started = start(alloc, tracked, log, entry, stops, pack, birth)?;
                 *self = Slot::Own(started.track);
                 Ok(started.effect)
             }
@@ -156,13 +156,6 @@ fn birth_at(births: &[Birth], place: usize) -> Option<usize>
     Some(births.get(place)?.place())
 }
 
-/// What each pack is that an upload makes.
-fn held_at(births: &[Birth], place: usize) -> Option<Held>
-    ensures { result ≡ (kept_as births.now (Made place)).held }
-{
-    births.get(place)?.held()
-}
-
 /// A track that begins with its first status.
 #[derive(Drop)]
 pub(crate) struct Started {
@@ -181,23 +174,21 @@ pub(crate) fn start(
     stops: &Stops,
     pack: &PackKey,
     birth: Option<usize>,
-    held: Option<Held>,
 ) -> Result<Started, AllocError>
     requires room { vec_len log.old < vec_capacity log.old }
-    requires worked { held ≡ grown_at (log.old.items ++ entry ∷ []) stops.now pack.now birth [] }
     ensures log { OnOk result (log.new.items ≡ log.old.items ++ entry ∷ []) }
     ensures kept { IfOk result (λ started. started.track.value
         ≡ with_status (log.old.items ++ entry ∷ []) stops.now pack.now (length log.old.items)
-        (record { birth = birth; places = []; marks = []; held = held })) }
+        (record { birth = birth; places = []; marks = []; held = None })) }
     ensures effect { IfOk result (λ started. started.effect
         ≡ newest_effect (log.old.items ++ entry ∷ []) stops.now pack.now (length log.old.items)
-        (record { birth = birth; places = []; marks = []; held = held })) }
+        (record { birth = birth; places = []; marks = []; held = None })) }
     ensures keeps { KeepsTracked tracked.old tracked.new }
     ensures added { OnOk result (is_tracked pack.now tracked.new ≡ true) }
     ensures log_err { OnErr result (log.new.items ≡ log.old.items) }
 {
     let new = log.len();
-    let mut track = Track::named(alloc, birth, held, new)?;
+    let mut track = Track::named(alloc, birth, new)?;
     tracked.add(pack.gtin, pack.serial.copy())?;
     // All room is got: nothing fails from here on.
     log.push_reserved(entry);

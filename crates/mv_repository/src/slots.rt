@@ -5,7 +5,7 @@ ghost use Rattle.std.specs.Prelude.{◌≡◌, ◌<◌, ◌≤◌, ◌+◌, ◌^
 ghost use Rattle.std.specs.List.{IsDistinct};
 ghost use Rattle.std.specs.Map.{lookup, keys_of};
 ghost use Rattle.std.specs.Option.{option_copied};
-ghost use Rattle.mv_repository.specs.Keys.{is_same_pack};
+ghost use Rattle.mv_pack.specs.Keys.{is_same_pack};
 ghost use Rattle.mv_repository.specs.Stops.{comes_first};
 ghost use Rattle.mv_repository.specs.Tracked.{is_tracked, KeepsTracked};
 ghost use Rattle.mv_repository.specs.Track.{kept_in, IsTrack, with_status, with_upload, newest_effect, is_made, is_active_kept};
@@ -260,7 +260,7 @@ impl Slots {
             }
             Entry::Vacant(place) => place,
         };
-        let started = start(alloc, tracked, log, entry, stops, key, None, None)?;
+        let started = start(alloc, tracked, log, entry, stops, key, None)?;
         let effect = started.effect;
         let slot = place.insert(Slot::Own(started.track));
         Ok(Noted {

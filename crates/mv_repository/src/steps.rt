@@ -38,7 +38,7 @@ pub(crate) fn stands_by(birth: Option<usize>, held: &Option<Held>) -> usize
 }
 
 /// A pack as its upload made it.
-fn made(log: &[LogEntry], birth: Option<usize>) -> Option<Held>
+pub(crate) fn made(log: &[LogEntry], birth: Option<usize>) -> Option<Held>
     ensures { (tables : StopTables) (pack : APackKey) → result ≡ grown_at log.now tables pack birth [] }
 {
     let first = birth?;

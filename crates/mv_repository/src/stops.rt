@@ -1,12 +1,12 @@
 //! What stops a batch for ever: for each batch the place in the log of its first recall by stamp, and for each product
 //! that of its first withdrawal.
 
-ghost use Rattle.std.specs.Prelude.{◌≡◌, ◌<◌, if◌then◌else◌, is_some, vec_len, vec_capacity, OnOk, OnErr, IfOk};
+ghost use Rattle.std.specs.Prelude.{◌≡◌, ◌<◌, if◌then◌else◌, is_some, vec_len, vec_capacity, OnOk, OnErr, IfOk, bytes_eq};
 ghost use Rattle.std.specs.Prelude.{ℕ, List, [], ◌∷◌, ◌++◌, length};
 ghost use Rattle.std.specs.List.{IsDistinct};
 ghost use Rattle.std.specs.Map.{lookup, keys_of};
 ghost use Rattle.mv_pack.specs.declared.key.BatchKey.{BatchKey as ABatchKey};
-ghost use Rattle.mv_repository.specs.Keys.{is_same_text, is_same_batch};
+ghost use Rattle.mv_pack.specs.Keys.{is_same_batch};
 ghost use Rattle.mv_repository.specs.Stops.{StopTables, stops_in, standing_at, entry_at, earlier_place, comes_first};
 
 use crate::LogEntry;
@@ -63,7 +63,7 @@ impl Stops {
 
     /// Whether a product has a withdrawal.
     pub fn has_withdrawal(&self, gtin: &Gtin) -> bool
-        ensures { result ≡ is_some (lookup (is_same_text gtin.now) self.now.withdrawals) }
+        ensures { result ≡ is_some (lookup (bytes_eq gtin.now) self.now.withdrawals) }
     {
         self.withdrawals.contains_key(gtin)
     }
@@ -125,13 +125,13 @@ impl Stops {
         requires { vec_len log.old < vec_capacity log.old }
         ensures log { OnOk result (log.new.items ≡ log.old.items ++ entry ∷ []) }
         ensures first { IfOk result (λ first. first ≡ comes_first (log.old.items ++ entry ∷ [])
-            (length log.old.items) (lookup (is_same_text gtin) self.old.withdrawals)) }
+            (length log.old.items) (lookup (bytes_eq gtin) self.old.withdrawals)) }
         ensures withdrawals { OnOk result ((other : List ℕ) →
-            lookup (is_same_text other) self.new.withdrawals
-            ≡ (if is_same_text gtin other
+            lookup (bytes_eq other) self.new.withdrawals
+            ≡ (if bytes_eq gtin other
             then earlier_place (log.old.items ++ entry ∷ []) (length log.old.items)
-            (lookup (is_same_text gtin) self.old.withdrawals)
-            else lookup (is_same_text other) self.old.withdrawals)) }
+            (lookup (bytes_eq gtin) self.old.withdrawals)
+            else lookup (bytes_eq other) self.old.withdrawals)) }
         ensures recalls { self.new.recalls ≡ self.old.recalls }
         ensures log_err { OnErr result (log.new.items ≡ log.old.items) }
         ensures err { OnErr result (self.new ≡ self.old) }

@@ -2,7 +2,7 @@
 
 ghost use Rattle.std.specs.Prelude.{◌≡◌, ◌<◌, ◌≤◌, ◌+◌, ◌^◌, ◌∷◌, ◌++◌, [], length, slice_get, vec_len, vec_capacity, OnOk, OnErr, IfOk, Some, if◌then◌else◌};
 ghost use Rattle.mv_pack.specs.declared.key.PackKey.{PackKey as APackKey};
-ghost use Rattle.mv_repository.specs.Keys.{is_same_pack};
+ghost use Rattle.mv_pack.specs.Keys.{is_same_pack};
 ghost use Rattle.mv_repository.specs.PackState.{has_pack};
 ghost use Rattle.mv_repository.specs.Packs.{kept_table, AreWithin, is_own_in, FindsTracked, IsBorn, IsSettled, AreSettled, refreshed_in, is_made_at, batch_serials};
 ghost use Rattle.mv_repository.specs.Stops.{comes_first, entry_at};
@@ -225,7 +225,7 @@ impl Table {
         log: &[LogEntry],
         stops: &Stops,
         batch: &BatchKey,
-        places: &[usize],
+        places: &[u32],
     )
         requires settled { AreSettled log.now stops.now (kept_table births.now self.old.slots.entries) }
         requires tally { IsTally (kept_table births.now self.old.slots.entries) self.old.tally }
@@ -240,8 +240,9 @@ impl Table {
         ensures own { (pack : APackKey) → is_own_in pack self.new.slots.entries ≡ is_own_in pack self.old.slots.entries }
     {
         for place in places {
-            let serials = serials_at(log, *place, &batch.batch);
-            self.refresh_all(births, log, stops, batch.gtin, Some(*place), serials);
+            let place = *place as usize;
+            let serials = serials_at(log, place, &batch.batch);
+            self.refresh_all(births, log, stops, batch.gtin, Some(place), serials);
         }
     }
 }

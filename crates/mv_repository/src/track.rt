@@ -1,7 +1,7 @@
 //! What is kept of one pack: the place in the log of its first upload, those of its statuses in the order of stamps, and
 //! what they make of it. This file knows no other pack.
 
-ghost use Rattle.std.specs.Prelude.{◌≡◌, ◌<◌, ◌≤◌, ◌∷◌, ◌++◌, [], ℕ, List, length, map, insert, take, vec_len, vec_capacity, OnOk, OnErr, IfOk, if◌then◌else◌};
+ghost use Rattle.std.specs.Prelude.{◌≡◌, ◌<◌, ◌≤◌, ◌∷◌, ◌++◌, [], ℕ, List, length, map, insert, take, vec_len, vec_capacity, OnOk, OnErr, IfOk, None, if◌then◌else◌};
 ghost use Rattle.std.specs.Option.{option_map};
 ghost use Rattle.mv_repository.specs.Order.{Ascends};
 ghost use Rattle.mv_repository.specs.Pack.{pack_after_status};
@@ -12,7 +12,7 @@ ghost use Rattle.mv_repository.specs.Track.{known_of, pack_made_of, pack_made_by
 
 use crate::order::{comes_first, stands_before};
 use crate::status::{change_effect, is_active};
-use crate::steps::{Step, carry_on, held_by, place_for, stands_by, work_out};
+use crate::steps::{Step, carry_on, held_by, made, place_for, stands_by, work_out};
 use crate::stops::{BatchStanding, Stops};
 use crate::tally::Share;
 use crate::{Change, Effect, Held, LogEntry};
@@ -43,7 +43,7 @@ pub(crate) fn made_by(item: &Item) -> Option<Held>
 }
 
 /// The pack that a message makes, where it is an upload.
-pub(crate) fn made_of(message: &Message) -> Option<Held>
+fn made_of(message: &Message) -> Option<Held>
     ensures { result ≡ option_map held_of (pack_made_of message.now) }
 {
     let Message::Upload {
@@ -241,18 +241,18 @@ impl Model for Track {
 impl Track {
     ghost use Rattle.mv_repository.specs.Packs.{is_made_there};
 
-    /// A track of a pack that has one status, which is not worked in yet.
+    /// A track of a pack that has one status; neither that nor its upload is worked in yet.
     pub fn named(
         alloc: Global,
         birth: Option<usize>,
-        held: Option<Held>,
         place: usize,
     ) -> Result<Box<Track>, AllocError>
         ensures { IfOk result (λ track. track.value
-            ≡ record { birth = birth; places = place ∷ []; marks = place ∷ []; held = held }) }
+            ≡ record { birth = birth; places = place ∷ []; marks = place ∷ []; held = None }) }
     {
         let mut steps = Vec::with_capacity(alloc, 1)?;
         steps.push_reserved(Step { place, by: place });
+        let held = None;
         Ok(Box::new(alloc, Track { birth, steps, held })?)
     }
 
@@ -291,17 +291,17 @@ impl Track {
         }
     }
 
-    /// Works in the first status, which is the newest entry; its effect where it stands.
+    /// Works in the upload and the first status, which is the newest entry; its effect where it stands.
     pub fn begin(&mut self, log: &[LogEntry], stops: &Stops, pack: &PackKey, new: usize) -> Effect
         requires alone { self.old.places ≡ new ∷ [] }
-        requires worked { self.old.held ≡ grown_at log.now stops.now pack.now self.old.birth [] }
         ensures kept { self.new ≡ with_status log.now stops.now pack.now new
             (record { birth = self.old.birth; places = []; marks = []; held = self.old.held }) }
         ensures effect { result ≡ newest_effect log.now stops.now pack.now new
             (record { birth = self.old.birth; places = []; marks = []; held = self.old.held }) }
     {
-        let effect = newest_effect(log, stops, pack, self.birth, &self.held, new);
-        self.held = one_more(log, stops, pack, self.birth, self.held.take(), new);
+        let held = made(log, self.birth);
+        let effect = newest_effect(log, stops, pack, self.birth, &held, new);
+        self.held = one_more(log, stops, pack, self.birth, held, new);
         self.steps[0].by = stands_by(self.birth, &self.held);
         effect
     }

@@ -1,7 +1,7 @@
 //! The packs that statuses name: for each product, their serial numbers.
 
-ghost use Rattle.std.specs.Prelude.{◌≡◌, [], true, OnOk, OnErr};
-ghost use Rattle.mv_repository.specs.Keys.{is_same_text, pack_key};
+ghost use Rattle.std.specs.Prelude.{◌≡◌, [], true, OnOk, OnErr, bytes_eq};
+ghost use Rattle.mv_pack.specs.Keys.{pack_key};
 ghost use Rattle.mv_repository.specs.Tracked.{serials_in, has_serial, is_tracked, KeepsSerials, KeepsTracked};
 
 use indexmap::IndexMap;
@@ -81,7 +81,7 @@ impl Tracked {
 
     /// The serial numbers of the packs of a product.
     pub fn of_product(&self, gtin: &Gtin) -> &[Serial]
-        ensures { result.now ≡ serials_in (is_same_text gtin.now) self.now }
+        ensures { result.now ≡ serials_in (bytes_eq gtin.now) self.now }
     {
         match self.products.get(gtin) {
             Some(list) => list.as_slice(),

@@ -10,7 +10,6 @@ use Rattle.mv_repository.specs.declared.entry.LogEntry.{LogEntry}
 use Rattle.mv_repository.specs.Log.{items_from}
 use Rattle.mv_machine.specs.State.{State, submissions_of, log_of}
 use Rattle.mv_machine.specs.Lawful.{IsLawful}
-use Rattle.mv_workers.specs.Done.{IsRouted}
 
 -- a front that is as long as the whole is the whole
 pub front-whole : {A : Type 0} (front whole : List A) → IsPrefix front whole → length front ≡ length whole → front ≡ whole
@@ -22,7 +21,7 @@ front-whole {A = A} front whole prefix same = by prefix.0 (omega (arith, same, l
 
 -- where as many messages of a party were routed as it submitted, all were
 pub routed_by_count : (outcome : State) (party count : ℕ) → IsLawful outcome → party < length outcome.parties → count ≡ length (routed_from outcome.entries party)
-    → count ≡ length (submissions_of outcome party) → IsRouted outcome party
+    → count ≡ length (submissions_of outcome party) → routed_from outcome.entries party ≡ submissions_of outcome party
 routed_by_count outcome party count lawful below routed submitted =
     front-whole (routed_from outcome.entries party) (submissions_of outcome party) (lawful.of_link party party below below).routed (sym routed ∙ submitted)
 

@@ -15,7 +15,7 @@ use Rattle.mv_ends.proofs.OutcomeLemmas.{at_site}
 use Rattle.mv_workers.specs.declared.plan.Plan.{Plan}
 use Rattle.mv_workers.specs.Work.{list_at, own_among, Begins}
 use Rattle.mv_workers.specs.Crews.{AllUnused, AllBegin}
-use Rattle.mv_workers.specs.Plans.{parties_of, limits_of, work_of, KeepsPlan}
+use Rattle.mv_workers.specs.Plans.{KeepsPlan}
 
 -- there is an end for each party
 pub fresh_each : (parties : List (List (List ℕ))) (limits : Bounds) (hub : HubEnd) (repos : List RepoEnd) → AreEnds hub repos → AreFresh parties limits hub repos
@@ -27,17 +27,17 @@ pub fresh_unused : (parties : List (List (List ℕ))) (limits : Bounds) (hub : H
 fresh_unused parties limits hub repos fresh = λ party absent below. record { none = ap (λ (site : SiteState). site.submissions) (fresh.sites party absent below) }
 
 -- ends that were opened for a plan keep it, where each party's list was begun at its end
-pub keeps_plan : (plan : Plan) (hub new_hub : HubEnd) (repos new_repos : List RepoEnd) → AreEnds hub repos → AreFresh (parties_of plan) (limits_of plan) hub repos
-    → SameHubEnd hub new_hub → AreSameRepos repos new_repos → AllBegin (work_of plan) new_repos → KeepsPlan plan (state_of new_hub new_repos)
+pub keeps_plan : (plan : Plan) (hub new_hub : HubEnd) (repos new_repos : List RepoEnd) → AreEnds hub repos → AreFresh plan.parties plan.limits hub repos
+    → SameHubEnd hub new_hub → AreSameRepos repos new_repos → AllBegin plan.work.items new_repos → KeepsPlan plan (state_of new_hub new_repos)
 keeps_plan plan hub new_hub repos new_repos ends fresh same same_repos begun =
-    let kept : (state_of new_hub new_repos).parties ≡ parties_of plan = same.parties ∙ ap (λ (h : HubState). h.parties) fresh.hub_is in
+    let kept : (state_of new_hub new_repos).parties ≡ plan.parties = same.parties ∙ ap (λ (h : HubState). h.parties) fresh.hub_is in
     record {
       parties = kept;
       limits = same.limits ∙ fresh.limits_are;
       submitted = λ party below.
           let among : party < length new_repos =
-          omega (arith, below, ap length kept, same_repos.0, fresh_each (parties_of plan) (limits_of plan) hub repos ends fresh) in
+          omega (arith, below, ap length kept, same_repos.0, fresh_each plan.parties plan.limits hub repos ends fresh) in
           let repo = some_of new_repos party among in
-          let P : List Message → Type 0 = λ submissions. Begins (own_among submissions) (list_at (work_of plan) party) in
+          let P : List Message → Type 0 = λ submissions. Begins (own_among submissions) (list_at plan.work.items party) in
           subst P (sym (at_site (λ site. site.submissions) new_repos party repo among)) (begun party repo among);
     }

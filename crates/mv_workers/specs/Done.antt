@@ -2,24 +2,15 @@
 use Rattle.std.specs.Prelude.{◌≡◌, ℕ, ◌<◌, List, length}
 use Rattle.mv_message.specs.declared.message.Message.{Message}
 use Rattle.mv_hub.specs.Record.{routed_from}
-use Rattle.mv_hub.specs.Links.{link_items}
 use Rattle.mv_repository.specs.Log.{items_from}
-use Rattle.mv_machine.specs.State.{State, submissions_of, log_of}
+use Rattle.mv_machine.specs.State.{State, submissions_of, log_of, items_on}
 use Rattle.mv_workers.specs.Work.{Work, list_at, own_among, Begins}
-
--- all that a party submitted was routed
-abbrev pub IsRouted : State → ℕ → Type 0
-IsRouted outcome party = routed_from outcome.entries party ≡ submissions_of outcome party
-
--- a repository applied all that was routed to it
-abbrev pub HasApplied : State → ℕ → Type 0
-HasApplied outcome to = (from : ℕ) → from < length outcome.parties → items_from (log_of outcome to) from ≡ link_items outcome.parties outcome.entries from to
 
 -- A party is done with its list: it submitted just that and answers, all of it was routed, and it applied all that was routed to it.
 pub record IsDone (outcome : State) (party : ℕ) (list : List Message) : Type 0 where
   pub submitted : own_among (submissions_of outcome party) ≡ list
-  pub routed : IsRouted outcome party
-  pub applied : HasApplied outcome party
+  pub routed : routed_from outcome.entries party ≡ submissions_of outcome party
+  pub applied : (from : ℕ) → from < length outcome.parties → items_from (log_of outcome party) from ≡ items_on outcome from party
 
 -- each party is done
 abbrev pub AreDone : State → Work → Type 0

@@ -1,39 +1,28 @@
 -- What a run leaves, by its plan.
-use Rattle.std.specs.Prelude.{◌≡◌, ℕ, List, length}
-use Rattle.mv_machine.specs.Limits.{Bounds}
+use Rattle.std.specs.Prelude.{◌≡◌, length}
 use Rattle.mv_machine.specs.State.{State}
 use Rattle.mv_workers.specs.declared.plan.Plan.{Plan}
 use Rattle.mv_workers.specs.declared.plan.WorkFault.{WorkFault}
 use Rattle.mv_workers.specs.declared.plan.WorkFault.TheVariants as fault
-use Rattle.mv_workers.specs.Work.{Work, PlansNoAnswer}
+use Rattle.mv_workers.specs.Work.{PlansNoAnswer}
 use Rattle.mv_workers.specs.Done.{AreDone, HaveBegun}
-
--- the plan's parties, limits and work
-abbrev pub parties_of : Plan → List (List (List ℕ))
-parties_of plan = plan.parties
-
-abbrev pub limits_of : Plan → Bounds
-limits_of plan = plan.limits
-
-abbrev pub work_of : Plan → Work
-work_of plan = plan.work.items
 
 -- A plan can be run: it has a list for each party, and no answer is planned.
 pub record IsSound (plan : Plan) : Type 0 where
-  pub each : length (work_of plan) ≡ length (parties_of plan)
-  pub no_answers : PlansNoAnswer (work_of plan)
+  pub each : length plan.work.items ≡ length plan.parties
+  pub no_answers : PlansNoAnswer plan.work.items
 
 -- An outcome is one of a plan: it has the plan's parties and limits, and what each party submitted of its own is where its list
 -- begins.
 pub record KeepsPlan (plan : Plan) (outcome : State) : Type 0 where
-  pub parties : outcome.parties ≡ parties_of plan
-  pub limits : outcome.limits ≡ limits_of plan
-  pub submitted : HaveBegun outcome (work_of plan)
+  pub parties : outcome.parties ≡ plan.parties
+  pub limits : outcome.limits ≡ plan.limits
+  pub submitted : HaveBegun outcome plan.work.items
 
 -- An outcome is complete: every planned message was submitted in order, all that was submitted was routed, and all that was routed was
 -- applied.
 abbrev pub IsComplete : Plan → State → Type 0
-IsComplete plan outcome = AreDone outcome (work_of plan)
+IsComplete plan outcome = AreDone outcome plan.work.items
 
 -- why a run has no complete outcome
 abbrev pub Faults : Plan → WorkFault → Type 0

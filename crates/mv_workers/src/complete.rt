@@ -3,11 +3,12 @@
 //! An outcome is lawful, so what was routed of a party is where its submissions begin, and what a repository applied of a party is
 //! where its link begins. So lengths decide.
 
-ghost use Rattle.std.specs.Prelude.{◌≡◌, ◌↔◌, length, IsTrue};
+ghost use Rattle.std.specs.Prelude.{◌≡◌, ◌↔◌, ◌<◌, ℕ, length, IsTrue};
+ghost use Rattle.mv_hub.specs.Record.{routed_from};
 ghost use Rattle.mv_repository.specs.Log.{items_from};
-ghost use Rattle.mv_machine.specs.State.{is_party, submissions_of};
+ghost use Rattle.mv_machine.specs.State.{is_party, submissions_of, log_of, items_on};
 ghost use Rattle.mv_workers.specs.Work.{own_among, is_answer, Begins};
-ghost use Rattle.mv_workers.specs.Done.{IsRouted, HasApplied, IsDone, AreDone, HaveBegun};
+ghost use Rattle.mv_workers.specs.Done.{IsDone, AreDone, HaveBegun};
 
 use mv_ends::Outcome;
 use mv_message::{Message, Party, Shared};
@@ -40,7 +41,8 @@ fn entries_from(log: &[LogEntry], party: Party) -> usize
 /// Whether a repository applied all that was routed to it.
 fn has_applied(outcome: &Outcome, party: Party) -> bool
     requires { IsTrue (is_party outcome.now party) }
-    ensures { IsTrue result ↔ HasApplied outcome.now party }
+    ensures { IsTrue result ↔ ((from : ℕ) → from < length outcome.now.parties
+        → items_from (log_of outcome.now party) from ≡ items_on outcome.now from party) }
 {
     // The outcome is lawful: its record is looked at for that alone.
     let _ = outcome.record();
@@ -57,7 +59,8 @@ fn has_applied(outcome: &Outcome, party: Party) -> bool
 /// Whether all that a party submitted was routed.
 fn is_routed(outcome: &Outcome, party: Party) -> bool
     requires { IsTrue (is_party outcome.now party) }
-    ensures { IsTrue result ↔ IsRouted outcome.now party }
+    ensures { IsTrue result
+        ↔ (routed_from outcome.now.entries party ≡ submissions_of outcome.now party) }
 {
     // The outcome is lawful: its record is looked at for that alone.
     let _ = outcome.record();

@@ -65,6 +65,8 @@ impl Named {
                 after_serials,
                 ..
             } => {
+                let before = before.get();
+                let after = after.get();
                 self.note_batch_and_packs(&before.gtin, &before.batch, before_serials)?;
                 self.note_batch_and_packs(&after.gtin, &after.batch, after_serials)
             }

@@ -34,8 +34,8 @@ impl Hub {
                 parties.serving_either(self.market_table(gtin), product.get().markets.as_slice())
             }
             Message::Repack { before, after, .. } => parties.serving_either(
-                self.market_table(&before.gtin),
-                self.market_table(&after.gtin),
+                self.market_table(&before.get().gtin),
+                self.market_table(&after.get().gtin),
             ),
             Message::Upload { gtin, .. } => parties.serving(self.market_table(gtin)),
             Message::Status { key, .. } => parties.serving(self.market_table(&key.gtin)),

@@ -1,5 +1,5 @@
 use Rattle.std.proofs.Common.{◌+◌, map, sym}
-use Rattle.mv_hub.specs.Parties.{all_markets}
+use Rattle.mv_hub.specs.PartySets.{all_markets}
 use Rattle.mv_hub.proofs.PartiesLemmas.{repeats_market-more, repeats_market-found}
 use Rattle.mv_hub.proofs.parties.repeats_market.Goals as goal
 

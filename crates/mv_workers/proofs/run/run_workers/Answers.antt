@@ -3,7 +3,7 @@ use Rattle.mv_ends.proofs.LookLemmas.{ends_kept}
 use Rattle.mv_workers.specs.Work.{Work}
 use Rattle.mv_workers.specs.Crews.{AllUnused, AllBegin}
 use Rattle.mv_workers.specs.Done.{HaveBegun, AreDone}
-use Rattle.mv_workers.specs.Plans.{IsSound, KeepsPlan, work_of}
+use Rattle.mv_workers.specs.Plans.{IsSound, KeepsPlan}
 use Rattle.mv_workers.proofs.PlanLemmas.{fresh_each, fresh_unused, keeps_plan}
 use Rattle.mv_workers.proofs.run.run_workers.Goals as goal
 
@@ -27,7 +27,7 @@ gather-outcome-requires g c =
 pub is_complete-requires-clause-begun : goal.is_complete-requires-clause-begun
 is_complete-requires-clause-begun g c =
     let plan = c.args.plan in let hub = c.in-Ok-open.hub in let repos = c.in-Ok-open.repos.items in let after = c.in-Some.field-0 in
-    let begun : AllBegin (work_of plan) after.repos.items =
+    let begun : AllBegin plan.work.items after.repos.items =
     subst (λ (work : Work). AllBegin work after.repos.items) c.as_slice-work.ensures.value c.in-Some.ensures.1.2 in
     let keeps : KeepsPlan plan c.gather-outcome.result = subst (KeepsPlan plan) (sym c.gather-outcome.ensures)
     (keeps_plan plan hub after.hub repos after.repos.items c.in-Ok-open.ensures.ends c.in-Ok-open.ensures.fresh c.in-Some.ensures.1.0 c.in-Some.ensures.1.1 begun) in
@@ -38,11 +38,11 @@ pub returns-then-is_complete-clause-complete : goal.returns-then-is_complete-cla
 returns-then-is_complete-clause-complete g c =
     let plan = c.args.plan in let hub = c.in-Ok-open.hub in let repos = c.in-Ok-open.repos.items in let after = c.in-Some.field-0 in
     let outcome = c.gather-outcome.result in
-    let begun : AllBegin (work_of plan) after.repos.items =
+    let begun : AllBegin plan.work.items after.repos.items =
     subst (λ (work : Work). AllBegin work after.repos.items) c.as_slice-work.ensures.value c.in-Some.ensures.1.2 in
     let keeps : KeepsPlan plan outcome = subst (KeepsPlan plan) (sym c.gather-outcome.ensures)
     (keeps_plan plan hub after.hub repos after.repos.items c.in-Ok-open.ensures.ends c.in-Ok-open.ensures.fresh c.in-Some.ensures.1.0 c.in-Some.ensures.1.1 begun) in
-    let done : AreDone outcome (work_of plan) =
+    let done : AreDone outcome plan.work.items =
     subst (λ (work : Work). AreDone outcome work) c.as_slice-work.ensures.value (c.if-is_complete.ensures.0 refl) in
     (c.if-not-is_sound.ensures.0 refl, keeps, done)
 
@@ -51,11 +51,11 @@ pub returns-then-short-clause-fault : goal.returns-then-short-clause-fault
 returns-then-short-clause-fault g c =
     let plan = c.args.plan in let hub = c.in-Ok-open.hub in let repos = c.in-Ok-open.repos.items in let after = c.in-Some.field-0 in
     let outcome = c.gather-outcome.result in
-    let begun : AllBegin (work_of plan) after.repos.items =
+    let begun : AllBegin plan.work.items after.repos.items =
     subst (λ (work : Work). AllBegin work after.repos.items) c.as_slice-work.ensures.value c.in-Some.ensures.1.2 in
     let keeps : KeepsPlan plan outcome = subst (KeepsPlan plan) (sym c.gather-outcome.ensures)
     (keeps_plan plan hub after.hub repos after.repos.items c.in-Ok-open.ensures.ends c.in-Ok-open.ensures.fresh c.in-Some.ensures.1.0 c.in-Some.ensures.1.1 begun) in
-    let undone : AreDone outcome (work_of plan) → ⊥ = λ done.
+    let undone : AreDone outcome plan.work.items → ⊥ = λ done.
     let told = c.if-is_complete.ensures.1 (subst (λ (work : Work). AreDone outcome work) (sym c.as_slice-work.ensures.value) done) in absurd (cc) in
     (c.if-not-is_sound.ensures.0 refl, keeps, undone)
 
@@ -63,10 +63,10 @@ pub returns-clause-fault : goal.returns-clause-fault
 returns-clause-fault g c =
     let plan = c.args.plan in let hub = c.in-Ok-open.hub in let repos = c.in-Ok-open.repos.items in let after = c.in-Some.field-0 in
     let outcome = c.gather-outcome.result in
-    let begun : AllBegin (work_of plan) after.repos.items =
+    let begun : AllBegin plan.work.items after.repos.items =
     subst (λ (work : Work). AllBegin work after.repos.items) c.as_slice-work.ensures.value c.in-Some.ensures.1.2 in
     let keeps : KeepsPlan plan outcome = subst (KeepsPlan plan) (sym c.gather-outcome.ensures)
     (keeps_plan plan hub after.hub repos after.repos.items c.in-Ok-open.ensures.ends c.in-Ok-open.ensures.fresh c.in-Some.ensures.1.0 c.in-Some.ensures.1.1 begun) in
-    let undone : AreDone outcome (work_of plan) → ⊥ = λ done.
+    let undone : AreDone outcome plan.work.items → ⊥ = λ done.
     let told = c.if-is_complete.ensures.1 (subst (λ (work : Work). AreDone outcome work) (sym c.as_slice-work.ensures.value) done) in absurd (cc) in
     (c.if-not-is_sound.ensures.0 refl, keeps, undone)

@@ -4,7 +4,7 @@ use Rattle.std.specs.Option.{IsSome}
 use Rattle.std.proofs.lemmas.Map.Steps.{set_value_same}
 use Rattle.std.proofs.lemmas.Result.{on_ok_weaker, on_err_weaker}
 use Rattle.mv_pack.specs.declared.key.BatchKey.{BatchKey}
-use Rattle.mv_hub.specs.BatchLinks.{is_same_batch}
+use Rattle.mv_pack.specs.Keys.{is_same_batch}
 use Rattle.mv_hub.specs.Tables.{linked_in}
 use Rattle.mv_hub.proofs.batch_links.BatchLinks.add.Goals as goal
 

@@ -1,8 +1,8 @@
+use Rattle.std.specs.Prelude.{bytes_eq}
 use Rattle.std.proofs.Common.{◌∙◌, ap, subst, refl, sym, Some, arith}
 use Rattle.std.specs.Option.{IsSome}
 use Rattle.std.proofs.lemmas.Map.Steps.{set_value_same}
 use Rattle.std.proofs.lemmas.Result.{on_ok_weaker, on_err_weaker}
-use Rattle.mv_hub.specs.Record.{is_same_gtin}
 use Rattle.mv_hub.proofs.catalogues.Catalogues.add_batch.Goals as goal
 
 -- the product was unknown
@@ -21,5 +21,5 @@ returns-in-Some-clause-ok c = on_ok_weaker c.add.result (λ added other.
 pub returns-in-Some-clause-err : goal.returns-in-Some-clause-err
 returns-in-Some-clause-err c = on_err_weaker c.add.result (λ kept.
     let same = sym c.in-Some.ensures.value ∙ ap (λ l. Some l) (sym kept) in
-    (c.get_mut.follows.holds _).0 ∙ set_value_same (is_same_gtin c.args.gtin) c.self.inside.table.entries c.add.new.self same
+    (c.get_mut.follows.holds _).0 ∙ set_value_same (bytes_eq c.args.gtin) c.self.inside.table.entries c.add.new.self same
     ∙ c.self.view_is) c.add.ensures.err

@@ -2,7 +2,7 @@
 use Rattle.std.proofs.Common.{◌≡◌, ◌∙◌, ◌∷◌, ◌++◌, ap, rules, sym, List, ℕ, Option, Some, None, [], refl}
 use Rattle.std.specs.Map.{lookup, set_value}
 use Rattle.std.specs.Option.{unwrap_or}
-use Rattle.mv_repository.specs.Keys.{is_same_batch}
+use Rattle.mv_pack.specs.Keys.{is_same_batch}
 use Rattle.mv_repository.specs.Batches.{has_place}
 use Rattle.mv_repository.proofs.PacksLemmas.{holds-written, holds-inserted, written-here, inserted-here, on-ok}
 use Rattle.mv_repository.proofs.KeptLemmas.{batch-self}

@@ -2,7 +2,7 @@
 use Rattle.std.proofs.Common.{◌≡◌, ◌∙◌, ap, rules, sym, ℕ, List, Option, Some, []}
 use Rattle.std.specs.Map.{lookup, set_value}
 use Rattle.std.specs.Option.{unwrap_or}
-use Rattle.mv_repository.specs.Keys.{is_same_batch}
+use Rattle.mv_pack.specs.Keys.{is_same_batch}
 use Rattle.mv_repository.specs.Batches.{uploads_in}
 use Rattle.mv_repository.proofs.BatchLemmas.{keeps-without}
 use Rattle.mv_repository.proofs.batches.Batches.settle_last.Goals as goal

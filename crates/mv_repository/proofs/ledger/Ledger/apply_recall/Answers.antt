@@ -1,7 +1,7 @@
 -- Where the recall has the greatest stamp, or is not the first, no pack changes; else those are worked out again on which it can
 -- bear.
 use Rattle.std.proofs.Common.{◌≡◌, ◌≤◌, arith, false, true, sym, ◌∙◌, Some}
-use Rattle.mv_repository.specs.Keys.{is_same_batch}
+use Rattle.mv_pack.specs.Keys.{is_same_batch}
 use Rattle.mv_repository.specs.Stops.{AreStopsOf}
 use Rattle.mv_repository.specs.PackState.{is_recall_of}
 use Rattle.mv_repository.specs.Effect.{effect_of}

@@ -1,7 +1,7 @@
 -- Where the withdrawal has the greatest stamp, or is not the first, no pack changes; else those are worked out again on which it can
 -- bear.
+use Rattle.std.specs.Prelude.{bytes_eq}
 use Rattle.std.proofs.Common.{◌≡◌, ◌≤◌, arith, false, true, sym, ◌∙◌, None}
-use Rattle.mv_repository.specs.Keys.{is_same_text}
 use Rattle.mv_repository.specs.Stops.{AreStopsOf}
 use Rattle.mv_repository.specs.PackState.{is_withdrawal_of}
 use Rattle.mv_repository.specs.Effect.{effect_of}
@@ -21,13 +21,13 @@ invariant_of-self-then-self-stamp c =
     let log = c.ready_entry.new.log.items in
     let entry = c.in_ok-entry.entry in
     let kept : IsKept log c.self.inside.masters.entries c.self.inside.packs c.self.inside.stops c.self.inside.latest = rw c.ready_entry.ensures.items c.self.invariant in
-    let bears : Bears entry.item (λ gtin. false) (λ pack. false) (λ pack. false) (λ batch. false) (is_same_text c.args.gtin) = rw c.in_ok-entry.ensures.entry c.requires.bears in
+    let bears : Bears entry.item (λ gtin. false) (λ pack. false) (λ pack. false) (λ batch. false) (bytes_eq c.args.gtin) = rw c.in_ok-entry.ensures.entry c.requires.bears in
     let stops : AreStopsOf (longer log entry) c.add_withdrawal.new.self =
     stops-withdrawal log entry c.self.inside.stops c.add_withdrawal.new.self c.args.gtin kept.stops bears.withdrawal bears.recall c.in_ok-is_first.ensures.withdrawals c.add_withdrawal.ensures.recalls in
     let least : c.self.inside.latest ≤ c.args.stamp = omega arith in
     let stamp : stamp_of entry.item ≡ c.args.stamp = rw c.in_ok-entry.ensures.entry c.requires.stamp in
     rw c.in_ok-is_first.ensures.log
-    (kept-stopped log entry c.self.inside.masters.entries c.self.inside.packs c.self.inside.stops c.add_withdrawal.new.self c.self.inside.latest c.args.stamp (λ batch. false) (is_same_text c.args.gtin) kept
+    (kept-stopped log entry c.self.inside.masters.entries c.self.inside.packs c.self.inside.stops c.add_withdrawal.new.self c.self.inside.latest c.args.stamp (λ batch. false) (bytes_eq c.args.gtin) kept
     bears (omega (arith, least, stamp)) stops
     (tracks-last log entry c.self.inside.packs (omega (arith, least, stamp, kept.greatest)) bears.upload bears.status kept.tracks))
 
@@ -36,12 +36,12 @@ invariant_of-self-then-not-is_first c =
     let log = c.ready_entry.new.log.items in
     let entry = c.in_ok-entry.entry in
     let kept : IsKept log c.self.inside.masters.entries c.self.inside.packs c.self.inside.stops c.self.inside.latest = rw c.ready_entry.ensures.items c.self.invariant in
-    let bears : Bears entry.item (λ gtin. false) (λ pack. false) (λ pack. false) (λ batch. false) (is_same_text c.args.gtin) = rw c.in_ok-entry.ensures.entry c.requires.bears in
+    let bears : Bears entry.item (λ gtin. false) (λ pack. false) (λ pack. false) (λ batch. false) (bytes_eq c.args.gtin) = rw c.in_ok-entry.ensures.entry c.requires.bears in
     let stops : AreStopsOf (longer log entry) c.add_withdrawal.new.self =
     stops-withdrawal log entry c.self.inside.stops c.add_withdrawal.new.self c.args.gtin kept.stops bears.withdrawal bears.recall c.in_ok-is_first.ensures.withdrawals c.add_withdrawal.ensures.recalls in
     let stamp : stamp_of entry.item ≡ c.args.stamp = rw c.in_ok-entry.ensures.entry c.requires.stamp in
     rw c.in_ok-is_first.ensures.log
-    (kept-stopped log entry c.self.inside.masters.entries c.self.inside.packs c.self.inside.stops c.add_withdrawal.new.self c.self.inside.latest c.self.inside.latest (λ batch. false) (is_same_text c.args.gtin) kept
+    (kept-stopped log entry c.self.inside.masters.entries c.self.inside.packs c.self.inside.stops c.add_withdrawal.new.self c.self.inside.latest c.self.inside.latest (λ batch. false) (bytes_eq c.args.gtin) kept
     bears (omega (arith, stamp)) stops
     (tracks-later log entry c.self.inside.packs
     (withdrawal-later log entry c.self.inside.stops c.args.gtin kept.stops bears.withdrawal bears.recall (sym (c.in_ok-is_first.ensures.first) ∙ c.if-not-is_first.true))
@@ -52,12 +52,12 @@ invariant_of-self-2 c =
     let log = c.ready_entry.new.log.items in
     let entry = c.in_ok-entry.entry in
     let kept : IsKept log c.self.inside.masters.entries c.self.inside.packs c.self.inside.stops c.self.inside.latest = rw c.ready_entry.ensures.items c.self.invariant in
-    let bears : Bears entry.item (λ gtin. false) (λ pack. false) (λ pack. false) (λ batch. false) (is_same_text c.args.gtin) = rw c.in_ok-entry.ensures.entry c.requires.bears in
+    let bears : Bears entry.item (λ gtin. false) (λ pack. false) (λ pack. false) (λ batch. false) (bytes_eq c.args.gtin) = rw c.in_ok-entry.ensures.entry c.requires.bears in
     let stops : AreStopsOf (longer log entry) c.add_withdrawal.new.self =
     stops-withdrawal log entry c.self.inside.stops c.add_withdrawal.new.self c.args.gtin kept.stops bears.withdrawal bears.recall c.in_ok-is_first.ensures.withdrawals c.add_withdrawal.ensures.recalls in
     let stamp : stamp_of entry.item ≡ c.args.stamp = rw c.in_ok-entry.ensures.entry c.requires.stamp in
     rw c.in_ok-is_first.ensures.log
-    (kept-refreshed log entry c.self.inside.masters.entries c.self.inside.packs c.refresh_product.new.self c.self.inside.stops c.add_withdrawal.new.self c.self.inside.latest c.self.inside.latest (λ batch. false) (is_same_text c.args.gtin) (λ pack. is_of c.args.gtin None pack (kept_in pack c.self.inside.packs)) kept
+    (kept-refreshed log entry c.self.inside.masters.entries c.self.inside.packs c.refresh_product.new.self c.self.inside.stops c.add_withdrawal.new.self c.self.inside.latest c.self.inside.latest (λ batch. false) (bytes_eq c.args.gtin) (λ pack. is_of c.args.gtin None pack (kept_in pack c.self.inside.packs)) kept
     bears (omega (arith, stamp)) stops
     (withdrawal-elsewhere log entry c.self.inside.packs c.args.gtin bears.recall bears.withdrawal)
     (rw (c.as_slice-log.ensures.value, c.in_ok-is_first.ensures.log) at c.refresh_product.ensures.kept))

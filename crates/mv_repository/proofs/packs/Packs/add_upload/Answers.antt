@@ -4,7 +4,7 @@ use Rattle.std.specs.Option.{option_map}
 use Rattle.mv_pack.specs.declared.key.PackKey.{PackKey}
 use Rattle.mv_pack.specs.declared.key.BatchKey.{BatchKey}
 use Rattle.mv_repository.specs.declared.entry.LogEntry.{LogEntry}
-use Rattle.mv_repository.specs.Keys.{is_same_batch, batch_key}
+use Rattle.mv_pack.specs.Keys.{is_same_batch, batch_key}
 use Rattle.mv_repository.specs.Batches.{uploads_in}
 use Rattle.mv_repository.specs.PackState.{has_pack, held_of}
 use Rattle.mv_repository.specs.Packs.{Born, kept_table, AreWithin, AreFound, IsBorn, is_own_in}
@@ -23,7 +23,7 @@ pub add_uploads-count-requires-clause-born : goal.add_uploads-count-requires-cla
 add_uploads-count-requires-clause-born c =
     let items = c.self.inside.births.items in
     let slots = c.self.inside.table.slots.entries in
-    let birth : Born = c.in_ok-birth.birth in
+    let birth : Born = c.of-birth.result in
     let births_is : c.as_slice-births.result.now ≡ items ++ birth ∷ [] = search rules in
     let slots_are : c.add_product.new.self.entries ≡ slots = search rules in
     let log_is : c.as_slice.result.now ≡ c.args.log.now.items ++ c.args.entry ∷ [] = search rules in
@@ -32,13 +32,13 @@ add_uploads-count-requires-clause-born c =
     let at_is : c.len-at.result ≡ length items = search rules in
     rw (births_is, log_is, at_is)
     (subst (λ (n : ℕ). IsBorn (items ++ birth ∷ []) (c.args.log.now.items ++ c.args.entry ∷ []) n (length items)) (sym new_is)
-    (newest-born items birth c.args.log.now.items c.args.entry (c.in_ok-birth.ensures.place ∙ new_is) c.in_ok-birth.ensures.held))
+    (newest-born items birth c.args.log.now.items c.args.entry (c.of-birth.ensures.place ∙ c.in_ok-place.ensures ∙ new_is) c.of-birth.ensures.held))
 
 pub add_uploads-count-requires-clause-tracks : goal.add_uploads-count-requires-clause-tracks
 add_uploads-count-requires-clause-tracks c pack =
     let items = c.self.inside.births.items in
     let slots = c.self.inside.table.slots.entries in
-    let birth : Born = c.in_ok-birth.birth in
+    let birth : Born = c.of-birth.result in
     let births_is : c.as_slice-births.result.now ≡ items ++ birth ∷ [] = search rules in
     let slots_are : c.add_product.new.self.entries ≡ slots = search rules in
     let log_is : c.as_slice.result.now ≡ c.args.log.now.items ++ c.args.entry ∷ [] = search rules in
@@ -50,7 +50,7 @@ pub add_uploads-count-requires-clause-tally : goal.add_uploads-count-requires-cl
 add_uploads-count-requires-clause-tally c =
     let items = c.self.inside.births.items in
     let slots = c.self.inside.table.slots.entries in
-    let birth : Born = c.in_ok-birth.birth in
+    let birth : Born = c.of-birth.result in
     let births_is : c.as_slice-births.result.now ≡ items ++ birth ∷ [] = search rules in
     let slots_are : c.add_product.new.self.entries ≡ slots = search rules in
     let log_is : c.as_slice.result.now ≡ c.args.log.now.items ++ c.args.entry ∷ [] = search rules in
@@ -62,7 +62,7 @@ pub add_uploads-count-requires-clause-within : goal.add_uploads-count-requires-c
 add_uploads-count-requires-clause-within c =
     let items = c.self.inside.births.items in
     let slots = c.self.inside.table.slots.entries in
-    let birth : Born = c.in_ok-birth.birth in
+    let birth : Born = c.of-birth.result in
     let births_is : c.as_slice-births.result.now ≡ items ++ birth ∷ [] = search rules in
     let slots_are : c.add_product.new.self.entries ≡ slots = search rules in
     let log_is : c.as_slice.result.now ≡ c.args.log.now.items ++ c.args.entry ∷ [] = search rules in
@@ -75,7 +75,7 @@ pub returns-clause-kept : goal.returns-clause-kept
 returns-clause-kept c pack =
     let items = c.self.inside.births.items in
     let slots = c.self.inside.table.slots.entries in
-    let birth : Born = c.in_ok-birth.birth in
+    let birth : Born = c.of-birth.result in
     let births_is : c.as_slice-births.result.now ≡ items ++ birth ∷ [] = search rules in
     let slots_are : c.add_product.new.self.entries ≡ slots = search rules in
     let log_is : c.as_slice.result.now ≡ c.args.log.now.items ++ c.args.entry ∷ [] = search rules in
@@ -90,7 +90,7 @@ pub returns-clause-count : goal.returns-clause-count
 returns-clause-count c =
     let items = c.self.inside.births.items in
     let slots = c.self.inside.table.slots.entries in
-    let birth : Born = c.in_ok-birth.birth in
+    let birth : Born = c.of-birth.result in
     let births_is : c.as_slice-births.result.now ≡ items ++ birth ∷ [] = search rules in
     let slots_are : c.add_product.new.self.entries ≡ slots = search rules in
     let log_is : c.as_slice.result.now ≡ c.args.log.now.items ++ c.args.entry ∷ [] = search rules in
@@ -103,7 +103,7 @@ pub invariant_of-self-2 : goal.invariant_of-self-2
 invariant_of-self-2 c =
     let items = c.self.inside.births.items in
     let slots = c.self.inside.table.slots.entries in
-    let birth : Born = c.in_ok-birth.birth in
+    let birth : Born = c.of-birth.result in
     let log = c.args.log.now.items in
     let births_is : c.as_slice-births.result.now ≡ items ++ birth ∷ [] = search rules in
     let slots_are : c.add_product.new.self.entries ≡ slots = search rules in
@@ -115,7 +115,7 @@ invariant_of-self-2 c =
     let key_is : c.copy.result ≡ key = search rules in
     let last : uploads_in (is_same_batch key) c.add.new.self ≡ uploads_in (is_same_batch key) c.self.inside.batches ++ length log ∷ [] =
     subst (λ (named : BatchKey). uploads_in (is_same_batch named) c.add.new.self ≡ uploads_in (is_same_batch named) c.self.inside.batches ++ length log ∷ []) key_is
-    (c.in_ok-add.ensures.last ∙ ap (λ (n : ℕ). uploads_in (is_same_batch c.copy.result) c.self.inside.batches ++ n ∷ []) new_is) in
+    (c.in_ok-add.ensures.last ∙ ap (λ (n : ℕ). uploads_in (is_same_batch c.copy.result) c.self.inside.batches ++ n ∷ []) (c.in_ok-place.ensures ∙ new_is)) in
     let looks : (pack : PackKey) → kept_in pack (kept_table c.as_slice-births.result.now c.add_uploads-count.new.self.slots.entries)
     ≡ cond (has_pack c.args.gtin c.args.serials.now pack) (with_upload (log ++ c.args.entry ∷ []) c.args.stops.now pack (length log) (kept_in pack (kept_table items slots))) (kept_in pack (kept_table items slots)) =
     λ pack. c.add_uploads-count.ensures.kept pack

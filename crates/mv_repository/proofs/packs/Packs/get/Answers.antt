@@ -1,6 +1,6 @@
 -- What stands for the pack says what it is.
-use Rattle.std.proofs.Common.{◌∙◌, ap, sym}
-use Rattle.mv_repository.specs.Packs.{kept_as}
+use Rattle.std.proofs.Common.{◌∙◌, ap, subst, sym}
+use Rattle.mv_repository.specs.Packs.{kept_as, IsAsMade}
 use Rattle.mv_repository.specs.Track.{Kept}
 use Rattle.mv_repository.proofs.PacksLemmas.{found-kept, absent-kept}
 use Rattle.mv_repository.proofs.packs.Packs.get.Goals as goal
@@ -9,6 +9,11 @@ pub returns-in_err-slot : goal.returns-in_err-slot
 returns-in_err-slot c =
     c.from_residual.ensures
     ∙ rw (← c.self.view_is) (sym (ap (λ (k : Kept). k.held) (absent-kept c.self.inside.births.items c.self.inside.table.slots.entries c.args.key.now (sym c.in_err-slot.ensures.value))))
+
+pub held-requires : goal.held-requires
+held-requires c =
+    rw c.as_slice.ensures.value
+    (subst (IsAsMade c.args.log.now) (found-kept c.self.inside.births.items c.self.inside.table.slots.entries c.args.key.now c.in_ok-slot.slot.now (sym c.in_ok-slot.ensures.value)) (rw (← c.self.view_is) at c.requires))
 
 pub returns : goal.returns
 returns c =

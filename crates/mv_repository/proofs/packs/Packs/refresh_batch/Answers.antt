@@ -1,6 +1,6 @@
 -- Each pack of the batch is named by an upload that is listed under it.
 use Rattle.std.proofs.Common.{◌∙◌, sym, subst}
-use Rattle.mv_repository.specs.Keys.{is_same_batch}
+use Rattle.mv_pack.specs.Keys.{is_same_batch}
 use Rattle.mv_repository.specs.Packs.{kept_table, IsFound, is_made_at}
 use Rattle.mv_repository.specs.Batches.{uploads_in}
 use Rattle.mv_repository.specs.Track.{kept_in}

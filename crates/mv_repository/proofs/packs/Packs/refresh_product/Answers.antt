@@ -1,6 +1,6 @@
 -- The packs that no status names are settled.
+use Rattle.std.specs.Prelude.{bytes_eq}
 use Rattle.std.proofs.Common.{◌∙◌, sym, subst}
-use Rattle.mv_repository.specs.Keys.{is_same_text}
 use Rattle.mv_repository.specs.PackState.{has_pack}
 use Rattle.mv_repository.specs.Packs.{kept_table, IsFound}
 use Rattle.mv_repository.specs.Track.{kept_in}
@@ -30,7 +30,7 @@ invariant_of-self c =
       tracked = λ pack h. c.self.invariant.tracked pack (sym (c.refresh_all.ensures.own pack) ∙ h);
       listed = λ pack. subst (IsFound c.self.inside.batches pack) (sym (looks pack))
           (found-refreshed c.self.inside.batches c.args.log.now c.args.stops.now pack (kept_in pack (kept_table c.self.inside.births.items c.self.inside.table.slots.entries)) (tracks pack) (c.self.invariant.listed pack)
-          (has_pack c.args.gtin.now (serials_in (is_same_text c.args.gtin.now) c.self.inside.tracked) pack));
+          (has_pack c.args.gtin.now (serials_in (bytes_eq c.args.gtin.now) c.self.inside.tracked) pack));
       tally = rw c.as_slice-births.ensures.value at c.refresh_all.ensures.tally;
     }
 

@@ -2,7 +2,7 @@
 use Rattle.std.proofs.Common.{sym, subst}
 use Rattle.std.specs.List.{IsDistinct}
 use Rattle.std.proofs.lemmas.Map.Made.{keys_of-map_values}
-use Rattle.mv_repository.specs.Keys.{is_same_pack}
+use Rattle.mv_pack.specs.Keys.{is_same_pack}
 use Rattle.mv_repository.specs.Packs.{kept_as}
 use Rattle.mv_repository.proofs.packs.Packs.tally.Goals as goal
 

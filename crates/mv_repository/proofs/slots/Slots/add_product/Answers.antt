@@ -1,7 +1,7 @@
 -- A product that is found stands at its place; another is put last, and each pack has the name that it had.
+use Rattle.std.specs.Prelude.{bytes_eq}
 use Rattle.std.proofs.Common.{◌≡◌, ◌<◌, ◌^◌, ◌∙◌, ap, sym, subst, length, slice_get, Some, rules, false, arith}
 use Rattle.std.specs.List.{list_any}
-use Rattle.mv_repository.specs.Keys.{is_same_text}
 use Rattle.mv_repository.specs.Slots.{SlotTable}
 use Rattle.mv_repository.proofs.SlotsLemmas.{place-found, place-added, slots-added, named-added}
 use Rattle.mv_repository.proofs.slots.Slots.add_product.Goals as goal
@@ -13,16 +13,16 @@ returns-in-Some-clause-place c =
 
 pub invariant_of-self-2 : goal.invariant_of-self-2
 invariant_of-self-2 c =
-    let absent : list_any (is_same_text c.args.gtin) c.self.inside.products.keys ≡ false = search rules in
+    let absent : list_any (bytes_eq c.args.gtin) c.self.inside.products.keys ≡ false = search rules in
     let few : length c.self.inside.products.keys < 2 ^ 32 = omega (arith, c.len-place.ensures.len, c.if-place.false) in
     named-added c.self.inside.products.keys c.insert.new.self.keys c.args.gtin absent c.in_ok-insert.ensures.keys c.self.inside.slots.entries c.self.invariant c.insert.ensures.unique few
 
 pub returns-clause-place : goal.returns-clause-place
 returns-clause-place c =
-    let absent : list_any (is_same_text c.args.gtin) c.self.inside.products.keys ≡ false = search rules in
+    let absent : list_any (bytes_eq c.args.gtin) c.self.inside.products.keys ≡ false = search rules in
     ap (slice_get c.insert.new.self.keys) c.len-place.ensures.len ∙ place-added c.self.inside.products.keys c.insert.new.self.keys c.args.gtin absent c.in_ok-insert.ensures.keys
 
 pub returns-clause-entries : goal.returns-clause-entries
 returns-clause-entries c =
-    let absent : list_any (is_same_text c.args.gtin) c.self.inside.products.keys ≡ false = search rules in
+    let absent : list_any (bytes_eq c.args.gtin) c.self.inside.products.keys ≡ false = search rules in
     slots-added c.self.inside.products.keys c.insert.new.self.keys c.args.gtin absent c.in_ok-insert.ensures.keys c.self.inside.slots.entries c.self.invariant ∙ (λ i. (c.self.view_is i).entries)

@@ -2,7 +2,7 @@
 use Rattle.std.proofs.Common.{subst}
 use Rattle.std.specs.List.{IsDistinct}
 use Rattle.std.specs.Map.{keys_of}
-use Rattle.mv_repository.specs.Keys.{is_same_pack}
+use Rattle.mv_pack.specs.Keys.{is_same_pack}
 use Rattle.mv_repository.specs.Slots.{SlotTable}
 use Rattle.mv_repository.proofs.SlotsLemmas.{distinct-packs}
 use Rattle.mv_repository.proofs.slots.Slots.len.Goals as goal

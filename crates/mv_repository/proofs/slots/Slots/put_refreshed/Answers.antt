@@ -2,7 +2,7 @@
 use Rattle.std.proofs.Common.{◌≡◌, ◌∙◌, ap, sym, subst, rules, Some, None, is_some, slice_get, true≢false}
 use Rattle.std.specs.Map.{lookup, set_value}
 use Rattle.mv_repository.specs.declared.slot.Slot.TheVariants.{Made}
-use Rattle.mv_repository.specs.Keys.{is_same_pack}
+use Rattle.mv_pack.specs.Keys.{is_same_pack}
 use Rattle.mv_repository.specs.Packs.{IsSettled, refreshed_in}
 use Rattle.mv_repository.specs.Slots.{is_same_name, pack_slots, IsNamed}
 use Rattle.mv_repository.specs.Track.{is_made, is_active_kept}

@@ -6,7 +6,7 @@ use Rattle.indexmap.specs.Entry.{entry_value, map_with_value}
 use Rattle.indexmap.specs.IndexMap.{IndexMap, insert_entry}
 use Rattle.mv_repository.specs.declared.slot.Slot.{Slot}
 use Rattle.mv_repository.specs.declared.slots.PackName.{PackName}
-use Rattle.mv_repository.specs.Keys.{is_same_pack}
+use Rattle.mv_pack.specs.Keys.{is_same_pack}
 use Rattle.mv_repository.specs.Packs.{kept_as, is_own}
 use Rattle.mv_repository.specs.Slots.{is_same_name, pack_slots, IsNamed}
 use Rattle.mv_repository.specs.Track.{IsTrack, with_status, newest_effect, is_made, is_active_kept}

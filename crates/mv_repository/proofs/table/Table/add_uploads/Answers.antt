@@ -1,7 +1,7 @@
 -- One serial number more.
 use Rattle.std.proofs.Common.{◌≡◌, ◌∙◌, ◌+◌, ◌≤◌, [], ℕ, List, ap, get_or, slice_get, Bool, true, false, cond, arith}
 use Rattle.std.proofs.lemmas.List.{get_or_default}
-use Rattle.mv_repository.specs.Keys.{pack_key}
+use Rattle.mv_pack.specs.Keys.{pack_key}
 use Rattle.mv_repository.specs.Packs.{kept_table}
 use Rattle.mv_repository.proofs.KeptLemmas.{tracks_more, looks_more}
 use Rattle.mv_repository.proofs.EffectLemmas.{made-more}

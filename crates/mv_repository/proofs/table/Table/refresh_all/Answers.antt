@@ -1,7 +1,7 @@
 -- One serial number more; of a product that has no place, no pack is here.
 use Rattle.std.proofs.Common.{◌≡◌, ◌∙◌, [], ℕ, List, ap, get_or, slice_get, take}
 use Rattle.std.proofs.lemmas.List.{get_or_default}
-use Rattle.mv_repository.specs.Keys.{pack_key}
+use Rattle.mv_pack.specs.Keys.{pack_key}
 use Rattle.mv_repository.specs.PackState.{has_pack}
 use Rattle.mv_repository.specs.Packs.{kept_table}
 use Rattle.mv_repository.proofs.PacksLemmas.{settled-more, again-more}

@@ -1,6 +1,6 @@
 -- The canonical text of a legal message is read as its value.
 use Rattle.std.proofs.Common.{◌≡◌, ◌∙◌, ◌≤◌, ◌<◌, ◌^◌, ℕ, suc, max, List, [], ◌∷◌, ap, ap₂, sym, subst, refl, arith, append-nil, option_and_then, option_map}
-use Rattle.std.specs.Prelude.{codes, Some, None, Ok, IsUtf8}
+use Rattle.std.specs.Prelude.{Some, None, Ok, IsUtf8}
 use Rattle.json.specs.Json as json
 use Rattle.json.specs.Lex.{tokens}
 use Rattle.json.specs.Tree as tree
@@ -12,6 +12,7 @@ use Rattle.serde_json.specs.Read.{read, max_depth, of_json, of_items}
 use Rattle.serde_json.specs.Written.{outline, items_outline, members_outline, compact_text}
 use Rattle.serde_json.proofs.Numbers.{number_of-decimal}
 use Rattle.serde_json.proofs.Texts.{print-outline}
+use Rattle.mv_pack.specs.declared.key.PackKey.{PackKey}
 use Rattle.mv_message.specs.declared.found.Found.{Found}
 use Rattle.mv_message.specs.declared.found.Found.TheVariants.{Absent, Present}
 use Rattle.mv_message.specs.declared.message.Message.{Message}
@@ -19,9 +20,9 @@ use Rattle.mv_message.specs.declared.message.Message.TheVariants as messages
 use Rattle.mv_json.specs.declared.version.Version.{Version}
 use Rattle.mv_json.specs.declared.version.Version.TheVariants.{One, Two}
 use Rattle.mv_json.specs.Legal.{IsLegal}
-use Rattle.mv_json.specs.Messages.{value_of, read_bytes}
+use Rattle.mv_json.specs.Messages.{value_in, value_of, read_bytes}
 use Rattle.mv_json.specs.Tokens.{tokens_of}
-use Rattle.mv_json.specs.Values.{strings, whole, version_members, found_version, found_value}
+use Rattle.mv_json.specs.Values.{strings, found_version, found_value}
 use Rattle.mv_json.proofs.LegalLemmas.{text_reads_back}
 use Rattle.mv_json.proofs.ValueLemmas.{value_depth}
 
@@ -70,9 +71,9 @@ found_back One (Present batch expiry national standing recalled withdrawn) = rec
 found_back Two (Present batch expiry None standing recalled withdrawn) = record { numbers = (tt, (tt, (tt, (tt, (tt, (tt, tt)))))); same = refl }
 found_back Two (Present batch expiry (Some code) standing recalled withdrawn) = record { numbers = (tt, (tt, (tt, (tt, (tt, (tt, tt)))))); same = refl }
 
-answer_back : (version : Version) (asker q : ℕ) (gtin serial : List ℕ) (found : Data) → asker < 2 ^ 32 → q < 2 ^ 32 → ReadsBack found → ReadsBack (object (member (codes "asker") (whole asker) (member (codes "found") found (member (codes "gtin") (string gtin) (member (codes "msg") (string (codes "answer")) (member (codes "q") (whole q) (member (codes "serial") (string serial) (version_members version))))))))
-answer_back One asker q gtin serial found small less back = record { numbers = (IsNumber-decimal asker (omega arith), (back.numbers, (tt, (tt, (IsNumber-decimal q (omega arith), (tt, tt)))))); same = rw (number_of-decimal asker (omega arith), back.same, number_of-decimal q (omega arith)) refl }
-answer_back Two asker q gtin serial found small less back = record { numbers = (IsNumber-decimal asker (omega arith), (back.numbers, (tt, (tt, (IsNumber-decimal q (omega arith), (tt, (IsNumber-decimal 2 (omega arith), tt))))))); same = rw (number_of-decimal asker (omega arith), back.same, number_of-decimal q (omega arith), number_of-decimal 2 (omega arith)) refl }
+answer_back : (version : Version) (asker q : ℕ) (key : PackKey) (found : Found) → asker < 2 ^ 32 → q < 2 ^ 32 → ReadsBack (found_value version found) → ReadsBack (value_in version (messages.Answer asker q key found))
+answer_back One asker q key found small less back = record { numbers = (IsNumber-decimal asker (omega arith), (back.numbers, (tt, (tt, (IsNumber-decimal q (omega arith), (tt, tt)))))); same = rw (number_of-decimal asker (omega arith), back.same, number_of-decimal q (omega arith)) refl }
+answer_back Two asker q key found small less back = record { numbers = (IsNumber-decimal asker (omega arith), (back.numbers, (tt, (tt, (IsNumber-decimal q (omega arith), (tt, (IsNumber-decimal 2 (omega arith), tt))))))); same = rw (number_of-decimal asker (omega arith), back.same, number_of-decimal q (omega arith), number_of-decimal 2 (omega arith)) refl }
 
 message_back : (m : Message) → IsLegal m → ReadsBack (value_of m)
 message_back (messages.Master gtin product) h = record { numbers = (tt, (tt, (tt, (texts_have_numbers product.markets, (tt, (tt, (tt, (tt, (tt, (tt, tt)))))))))); same = rw (texts_same product.markets) refl }
@@ -83,7 +84,7 @@ message_back (messages.Recall key at) h = record { numbers = (IsNumber-decimal a
 message_back (messages.Repack before before_serials after after_serials at) h = record { numbers = (tt, (tt, (texts_have_numbers after_serials, (IsNumber-decimal at (omega arith), (tt, (tt, (texts_have_numbers before_serials, (tt, tt)))))))); same = rw (texts_same after_serials, number_of-decimal at (omega arith), texts_same before_serials) refl }
 message_back (messages.Withdraw gtin at) h = record { numbers = (IsNumber-decimal at (omega arith), (tt, (tt, (IsNumber-decimal 2 (omega arith), tt)))); same = rw (number_of-decimal at (omega arith), number_of-decimal 2 (omega arith)) refl }
 message_back (messages.Query key) h = record { numbers = (tt, (tt, (tt, tt))); same = refl }
-message_back (messages.Answer asker q key found) h = answer_back (found_version found) asker q key.gtin key.serial (found_value (found_version found) found) (omega arith) (omega arith) (found_back (found_version found) found)
+message_back (messages.Answer asker q key found) h = answer_back (found_version found) asker q key found (omega arith) (omega arith) (found_back (found_version found) found)
 
 -- the canonical text of a legal message is read as its value
 pub text_reads : (m : Message) → IsLegal m → read (compact_text (value_of m)) ≡ Some (value_of m)

@@ -1,6 +1,7 @@
 -- The keys, the version and the form of an object.
 use Rattle.std.proofs.Common.{◌≡◌, ◌∙◌, ℕ, true, false, not, cond, List, [], ◌∷◌, ap, sym, subst, refl, arith}
 use Rattle.std.specs.Prelude.{◌==◌, Option, Some, None, Ok, Err, find, Contains}
+use Rattle.std.specs.Option.{ok_or}
 use Rattle.std.specs.List.{AllByRecursion}
 use Rattle.std.specs.Cmp.Lexicographic.{nat_list_eq_equiv}
 use Rattle.std.proofs.lemmas.Bool.Decides.{nat_tests}
@@ -19,13 +20,13 @@ use Rattle.mv_json.specs.Forms.{form_name, forms_of, form_named, form_at, names_
 use Rattle.mv_json.specs.Members.{keys_of, is_among, first_unknown}
 use Rattle.mv_json.specs.Messages.{read_message}
 use Rattle.mv_json.specs.Readers.{message_at}
-use Rattle.mv_json.specs.Reading.{◌and_then◌, some_or, text_at}
+use Rattle.mv_json.specs.Reading.{◌and_then◌, text_at}
 use Rattle.mv_json.specs.Numbers.{whole_number}
 use Rattle.mv_json.specs.Versions.{version_numbered, version_of, version_at}
-use Rattle.mv_json.specs.Reads.{HasText, HasOnly, IsOfVersion, IsOfForm}
-use Rattle.mv_json.specs.Values.{whole}
+use Rattle.mv_json.specs.Reads.{HasOnly}
+use Rattle.mv_json.specs.Values.{whole, since_two}
 use Rattle.mv_json.proofs.NumberLemmas.{whole_number_ok}
-use Rattle.mv_json.proofs.ReadingLemmas.{both_ok, some_or_ok, as_object_ok, text_ok, text_is_read, same_bytes, found_by_name}
+use Rattle.mv_json.proofs.ReadingLemmas.{HasText, both_ok, ok_or_some, as_object_ok, text_ok, text_is_read, same_bytes, found_by_name}
 
 -- no key is unknown, so each is one of the names
 pub all_known : (names keys : List (List ℕ)) → find (λ key. not (is_among names key)) keys ≡ None → AllByRecursion (Contains names) keys
@@ -54,16 +55,23 @@ numbered_ok n version h = elim (n == 2) as (λ b. (n == 2) ≡ b → cond b (Ok 
 
 -- what `v` is where it gives that version
 abbrev IsVersion : Version → Option Data → Type 0
-IsVersion One o = o ≡ None
-IsVersion Two o = o ≡ Some (whole 2)
+IsVersion version o = o ≡ since_two version (whole 2)
+
+-- an object of that version
+abbrev pub IsOfVersion : Version → Data → Type 0
+IsOfVersion version d = IsVersion version (get (field_name fields.V) d)
+
+-- an object that has the name of the form, and no other key than its fields
+abbrev pub IsOfForm : Version → Form → Data → Type 0
+IsOfForm version form d = HasOnly (names_of version form) d × HasText d fields.Msg (form_name form)
 
 version_of_ok : (o : Option Data) (version : Version) → version_of o ≡ Ok version → IsVersion version o
 version_of_ok None One h = refl
 version_of_ok None Two h = cc
 version_of_ok (Some found) version h =
-    let p = both_ok (some_or (Kind fields.V) (whole_number found)) version_numbered version h in
+    let p = both_ok (ok_or (whole_number found) (Kind fields.V)) version_numbered version h in
     let n = numbered_ok p.0 version p.2 in
-    let is_whole : found ≡ whole p.0 = whole_number_ok found p.0 (some_or_ok (Kind fields.V) (whole_number found) p.0 p.1) in
+    let is_whole : found ≡ whole p.0 = whole_number_ok found p.0 (ok_or_some (Kind fields.V) (whole_number found) p.0 p.1) in
     subst (λ w. IsVersion w (Some found)) (sym n.1) (ap (λ x. Some x) (is_whole ∙ ap whole n.0))
 
 -- an object whose version is read is of that version
@@ -107,15 +115,15 @@ form_is_named Two forms.Withdraw h = refl
 form_ok : (version : Version) (d : Data) (form : Form) → form_at version d ≡ Ok form → HasText d fields.Msg (form_name form) × IsIn form version
 unfolding form_at
 form_ok version d form h =
-    let b = both_ok (text_at fields.Msg d) (λ t. some_or (Kind fields.Msg) (form_named version t)) form h in
-    let named = form_has_name version b.0 form (some_or_ok (Kind fields.Msg) (form_named version b.0) form b.2) in
+    let b = both_ok (text_at fields.Msg d) (λ t. ok_or (form_named version t) (Kind fields.Msg)) form h in
+    let named = form_has_name version b.0 form (ok_or_some (Kind fields.Msg) (form_named version b.0) form b.2) in
     (subst (HasText d fields.Msg) named.0 (text_ok fields.Msg d b.0 b.1), named.1)
 
 form_read : (version : Version) (d : Data) (form : Form) → HasText d fields.Msg (form_name form) → IsIn form version → form_at version d ≡ Ok form
 unfolding form_at
 form_read version d form h is_in =
-    ap (λ r. r and_then λ t. some_or (Kind fields.Msg) (form_named version t)) (text_is_read fields.Msg d (form_name form) h)
-    ∙ ap (some_or (Kind fields.Msg)) (form_is_named version form is_in)
+    ap (λ r. r and_then λ t. ok_or (form_named version t) (Kind fields.Msg)) (text_is_read fields.Msg d (form_name form) h)
+    ∙ ap (λ o. ok_or o (Kind fields.Msg)) (form_is_named version form is_in)
 
 same_form : (version : Version) (d : Data) (m : Message) (form known : Form) → form ≡ known → message_at version known d ≡ Ok m → message_at version form d ≡ Ok m
 same_form version d m form known same h = ap (λ f. message_at version f d) same ∙ h
@@ -124,12 +132,12 @@ same_form version d m form known same h = ap (λ f. message_at version f d) same
 pub opened : (d : Data) (m : Message) → read_message d ≡ Ok m → (version : Version) × (form : Form) × IsOfVersion version d × IsOfForm version form d × IsIn form version × (message_at version form d ≡ Ok m)
 unfolding read_message
 opened d m h =
-    let a = both_ok (some_or NotObject (as_object d)) (λ ms. version_at d and_then λ version. form_at version d and_then λ form. known_form_at version form ms and_then λ known. message_at version known d) m h in
+    let a = both_ok (ok_or (as_object d) NotObject) (λ ms. version_at d and_then λ version. form_at version d and_then λ form. known_form_at version form ms and_then λ known. message_at version known d) m h in
     let v = both_ok (version_at d) (λ version. form_at version d and_then λ form. known_form_at version form a.0 and_then λ known. message_at version known d) m a.2 in
     let b = both_ok (form_at v.0 d) (λ form. known_form_at v.0 form a.0 and_then λ known. message_at v.0 known d) m v.2 in
     let k = both_ok (known_form_at v.0 b.0 a.0) (λ known. message_at v.0 known d) m b.2 in
     let u = unless_ok b.0 (first_unknown (names_of v.0 b.0) a.0) k.0 k.1 in
-    let is_object : d ≡ object a.0 = as_object_ok d a.0 (some_or_ok NotObject (as_object d) a.0 a.1) in
+    let is_object : d ≡ object a.0 = as_object_ok d a.0 (ok_or_some NotObject (as_object d) a.0 a.1) in
     let named = form_ok v.0 d b.0 b.1 in (
       v.0,
       b.0,
@@ -143,7 +151,7 @@ opened d m h =
 pub read_by_fields : (d : Data) (version : Version) (form : Form) → version_at d ≡ Ok version → form_at version d ≡ Ok form → HasOnly (names_of version form) d → read_message d ≡ message_at version form d
 unfolding read_message
 read_by_fields d version form of_version of_form (ms, is_object, known) =
-    ap (λ o. some_or NotObject o and_then λ ms. version_at d and_then λ version. form_at version d and_then λ form. known_form_at version form ms and_then λ known. message_at version known d) (ap as_object is_object)
+    ap (λ o. ok_or o NotObject and_then λ ms. version_at d and_then λ version. form_at version d and_then λ form. known_form_at version form ms and_then λ known. message_at version known d) (ap as_object is_object)
     ∙ ap (λ r. r and_then λ version. form_at version d and_then λ form. known_form_at version form ms and_then λ known. message_at version known d) of_version
     ∙ ap (λ r. r and_then λ form. known_form_at version form ms and_then λ known. message_at version known d) of_form
     ∙ ap (λ o. unless_unknown form o and_then λ known. message_at version known d) (none_unknown (names_of version form) (keys_of ms) known)

@@ -1,6 +1,8 @@
 -- What was found of a pack, backwards and forwards.
 use Rattle.std.proofs.Common.{◌≡◌, ◌∙◌, ℕ, Bool, false, cond, List, ap, sym, subst, refl}
 use Rattle.std.specs.Prelude.{Option, Some, None, Result, Ok, Err, is_some}
+use Rattle.std.specs.Option.{ok_or}
+use Rattle.std.specs.Result.{result_ok}
 use Rattle.serde_json.specs.Data.{Data, null, boolean, number, string, array, object, Members}
 use Rattle.serde_json.specs.Find.{as_object}
 use Rattle.mv_pack.specs.Expiry.{CivilDate}
@@ -12,45 +14,41 @@ use Rattle.mv_message.specs.declared.found.Found.TheVariants.{Absent, Present}
 use Rattle.mv_message.specs.declared.standing.Standing.{Standing}
 use Rattle.mv_json.specs.declared.version.Version.{Version}
 use Rattle.mv_json.specs.declared.version.Version.TheVariants.{One, Two}
-use Rattle.mv_json.specs.Found.{present_names, present_in_version_one, present_in_version_two, present_at, present_of, illegal_found, found_of, found_at}
+use Rattle.mv_json.specs.Found.{present_names, withdrawn_at, present_at, present_of, found_of, found_at}
 use Rattle.mv_json.specs.Members.{keys_of, first_unknown}
-use Rattle.mv_json.specs.Reading.{◌and_then◌, some_or, member_at, code_at, expiry_at, national_at, standing_at}
+use Rattle.mv_json.specs.Reading.{◌and_then◌, member_at, code_at, expiry_at, national_at, standing_at}
 use Rattle.mv_json.specs.Numbers.{truth_at}
-use Rattle.mv_json.specs.Reads.{HasOnly, SpellsFound, HasFound}
-use Rattle.mv_json.proofs.ReadingLemmas.{both_ok, some_or_ok, unrefused, as_object_ok, member_ok, member_read, code_ok, code_read, expiry_ok, expiry_read, national_ok, national_read, standing_ok, standing_read}
+use Rattle.mv_json.specs.Reads.{Has, HasOnly, SaysWithdrawn, SpellsFound}
+use Rattle.mv_json.proofs.ReadingLemmas.{both_ok, ok_or_some, unrefused, as_object_ok, member_ok, member_read, code_ok, code_read, expiry_ok, expiry_read, national_ok, national_read, standing_ok, standing_read}
 use Rattle.mv_json.proofs.NumberLemmas.{truth_ok, truth_read}
-use Rattle.mv_json.proofs.ChainLemmas.{four_ok, four_read, six_ok, six_read}
+use Rattle.mv_json.proofs.ChainLemmas.{six_ok, six_read}
 use Rattle.mv_json.proofs.FormLemmas.{all_known, none_unknown}
 
--- the pack of version 1 and of version 2 that these parts make
-abbrev pack_of_version_one : List ℕ → CivilDate → Bool → Standing → Found
-pack_of_version_one batch expiry recalled standing = Present batch expiry None standing recalled false
+-- the pack that these parts make
+abbrev pack_of : List ℕ → CivilDate → Option (List ℕ) → Bool → Standing → Bool → Found
+pack_of batch expiry national recalled standing withdrawn = Present batch expiry national standing recalled withdrawn
 
-abbrev pack_of_version_two : List ℕ → CivilDate → Option (List ℕ) → Bool → Standing → Bool → Found
-pack_of_version_two batch expiry national recalled standing withdrawn = Present batch expiry national standing recalled withdrawn
+withdrawn_ok : (version : Version) (d : Data) (b : Bool) → withdrawn_at version d ≡ Ok b → SaysWithdrawn version d fields.Withdrawn b
+withdrawn_ok One d b h = cc
+withdrawn_ok Two d b h = truth_ok fields.Withdrawn d b h
+
+withdrawn_read : (version : Version) (d : Data) (b : Bool) → SaysWithdrawn version d fields.Withdrawn b → withdrawn_at version d ≡ Ok b
+withdrawn_read One d b h = ap (λ w. Ok w) (sym h)
+withdrawn_read Two d b h = truth_read fields.Withdrawn d b h
 
 -- the fields of an object gave a pack, so they spell it
 fields_spelled : (version : Version) (part : Data) (found : Found) → HasOnly (present_names version) part → present_at version part ≡ Ok found → SpellsFound version part found
-unfolding present_in_version_one present_in_version_two
-fields_spelled One part found only h =
-    let p = four_ok (code_at fields.Batch part) (expiry_at fields.Expiry part) (truth_at fields.Recalled part) (standing_at fields.Standing part) pack_of_version_one found h in
-    subst (SpellsFound One part) p.8 (
-      only,
-      code_ok fields.Batch part p.0 p.4,
-      expiry_ok fields.Expiry part p.1 p.5,
-      standing_ok fields.Standing part p.3 p.7,
-      truth_ok fields.Recalled part p.2 p.6,
-      (refl, refl),
-    )
-fields_spelled Two part found only h =
-    let p = six_ok (code_at fields.Batch part) (expiry_at fields.Expiry part) (national_at fields.National part) (truth_at fields.Recalled part) (standing_at fields.Standing part) (truth_at fields.Withdrawn part) pack_of_version_two found h in
-    subst (SpellsFound Two part) p.12 (
+unfolding present_at
+fields_spelled version part found only h =
+    let p = six_ok (code_at fields.Batch part) (expiry_at fields.Expiry part) (national_at version fields.National part) (truth_at fields.Recalled part) (standing_at fields.Standing part) (withdrawn_at version part) pack_of found h in
+    subst (SpellsFound version part) p.12 (
       only,
       code_ok fields.Batch part p.0 p.6,
       expiry_ok fields.Expiry part p.1 p.7,
-      standing_ok fields.Standing part p.4 p.10,
+      national_ok version fields.National part p.2 p.8,
       truth_ok fields.Recalled part p.3 p.9,
-      (national_ok fields.National part p.2 p.8, truth_ok fields.Withdrawn part p.5 p.11),
+      standing_ok fields.Standing part p.4 p.10,
+      withdrawn_ok version part p.5 p.11,
     )
 
 none_found : {A : Type 0} (o : Option A) → is_some o ≡ false → o ≡ None
@@ -61,14 +59,14 @@ object_spelled : (version : Version) (part : Data) (found : Found) → present_o
 unfolding present_of
 object_spelled version part found h =
     let refused : Members → Bool = λ ms. is_some (first_unknown (present_names version) ms) in
-    let a = both_ok (some_or NotObject (as_object part)) (λ ms. cond (refused ms) (Err (Kind fields.Found)) (present_at version part)) found h in
+    let a = both_ok (ok_or (as_object part) NotObject) (λ ms. cond (refused ms) (Err (Kind fields.Found)) (present_at version part)) found h in
     let k = unrefused (refused a.0) (Kind fields.Found) (present_at version part) found a.2 in
-    let is_object : part ≡ object a.0 = as_object_ok part a.0 (some_or_ok NotObject (as_object part) a.0 a.1) in
+    let is_object : part ≡ object a.0 = as_object_ok part a.0 (ok_or_some NotObject (as_object part) a.0 a.1) in
     fields_spelled version part found (a.0, is_object, all_known (present_names version) (keys_of a.0) (none_found (first_unknown (present_names version) a.0) k.0)) k.1
 
-illegal_ok : (r : Result Found MessageFault) (found : Found) → illegal_found r ≡ Ok found → r ≡ Ok found
-illegal_ok (Ok x) found h = h
-illegal_ok (Err e) found h = cc
+present_ok : (r : Result Found MessageFault) (found : Found) → ok_or (result_ok r) (Kind fields.Found) ≡ Ok found → r ≡ Ok found
+present_ok (Ok x) found h = cc
+present_ok (Err e) found h = cc
 
 null_spelled : (version : Version) (found : Found) → found_of version null ≡ Ok found → SpellsFound version null found
 null_spelled version Absent h = refl
@@ -76,11 +74,15 @@ null_spelled version (Present batch expiry national standing recalled withdrawn)
 
 part_spelled : (version : Version) (part : Data) (found : Found) → found_of version part ≡ Ok found → SpellsFound version part found
 part_spelled version null found h = null_spelled version found h
-part_spelled version (boolean b) found h = object_spelled version (boolean b) found (illegal_ok (present_of version (boolean b)) found h)
-part_spelled version (number n) found h = object_spelled version (number n) found (illegal_ok (present_of version (number n)) found h)
-part_spelled version (string s) found h = object_spelled version (string s) found (illegal_ok (present_of version (string s)) found h)
-part_spelled version (array ds) found h = object_spelled version (array ds) found (illegal_ok (present_of version (array ds)) found h)
-part_spelled version (object ms) found h = object_spelled version (object ms) found (illegal_ok (present_of version (object ms)) found h)
+part_spelled version (boolean b) found h = object_spelled version (boolean b) found (present_ok (present_of version (boolean b)) found h)
+part_spelled version (number n) found h = object_spelled version (number n) found (present_ok (present_of version (number n)) found h)
+part_spelled version (string s) found h = object_spelled version (string s) found (present_ok (present_of version (string s)) found h)
+part_spelled version (array ds) found h = object_spelled version (array ds) found (present_ok (present_of version (array ds)) found h)
+part_spelled version (object ms) found h = object_spelled version (object ms) found (present_ok (present_of version (object ms)) found h)
+
+-- the field `found` says what was found
+abbrev pub HasFound : Version → Data → Found → Type 0
+HasFound version d found = (part : Data) × Has d fields.Found part × SpellsFound version part found
 
 -- a field that is read as what was found spells it
 pub found_ok : (version : Version) (d : Data) (found : Found) → found_at version d ≡ Ok found → HasFound version d found
@@ -91,16 +93,11 @@ found_ok version d found h =
 
 -- the fields of an object spell a pack, so they give it
 fields_read : (version : Version) (part : Data) (batch : List ℕ) (expiry : CivilDate) (national : Option (List ℕ)) (standing : Standing) (recalled withdrawn : Bool) → SpellsFound version part (Present batch expiry national standing recalled withdrawn) → present_at version part ≡ Ok (Present batch expiry national standing recalled withdrawn)
-unfolding present_in_version_one present_in_version_two
-fields_read One part batch expiry national standing recalled withdrawn h =
-    four_read (code_at fields.Batch part) (expiry_at fields.Expiry part) (truth_at fields.Recalled part) (standing_at fields.Standing part) pack_of_version_one batch expiry recalled standing
-    (code_read fields.Batch part batch h.1) (expiry_read fields.Expiry part expiry h.2) (truth_read fields.Recalled part recalled h.4) (standing_read fields.Standing part standing h.3)
-    ∙ ap (λ n. Ok (Present batch expiry n standing recalled false)) (sym h.5.0)
-    ∙ ap (λ w. Ok (Present batch expiry national standing recalled w)) (sym h.5.1)
-fields_read Two part batch expiry national standing recalled withdrawn h =
-    six_read (code_at fields.Batch part) (expiry_at fields.Expiry part) (national_at fields.National part) (truth_at fields.Recalled part) (standing_at fields.Standing part) (truth_at fields.Withdrawn part) pack_of_version_two batch expiry national recalled standing withdrawn
-    (code_read fields.Batch part batch h.1) (expiry_read fields.Expiry part expiry h.2) (national_read fields.National part national h.5.0)
-    (truth_read fields.Recalled part recalled h.4) (standing_read fields.Standing part standing h.3) (truth_read fields.Withdrawn part withdrawn h.5.1)
+unfolding present_at
+fields_read version part batch expiry national standing recalled withdrawn h =
+    six_read (code_at fields.Batch part) (expiry_at fields.Expiry part) (national_at version fields.National part) (truth_at fields.Recalled part) (standing_at fields.Standing part) (withdrawn_at version part) pack_of batch expiry national recalled standing withdrawn
+    (code_read fields.Batch part batch h.1) (expiry_read fields.Expiry part expiry h.2) (national_read version fields.National part national h.3)
+    (truth_read fields.Recalled part recalled h.4) (standing_read fields.Standing part standing h.5) (withdrawn_read version part withdrawn h.6)
 
 part_read : (version : Version) (part : Data) (found : Found) → SpellsFound version part found → found_of version part ≡ Ok found
 unfolding present_of
@@ -113,7 +110,7 @@ part_read version part (Present batch expiry national standing recalled withdraw
     ap (λ o. cond (is_some o) (Err (Kind fields.Found)) (present_at version (object ms))) (none_unknown (present_names version) (keys_of ms) h.0.2)
     ∙ ap (present_at version) (sym is_object)
     ∙ fields_read version part batch expiry national standing recalled withdrawn h in
-    ap (found_of version) is_object ∙ ap illegal_found read
+    ap (found_of version) is_object ∙ ap (λ r. ok_or (result_ok r) (Kind fields.Found)) read
 
 -- a field that spells what was found is read as it
 pub found_read : (version : Version) (d : Data) (found : Found) → HasFound version d found → found_at version d ≡ Ok found

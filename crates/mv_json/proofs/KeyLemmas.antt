@@ -1,9 +1,9 @@
 -- The keys of the values of messages stand in byte order.
 use Rattle.std.proofs.Common.{List, [], ◌∷◌, ℕ, refl}
-use Rattle.std.specs.Prelude.{codes, Some, None}
+use Rattle.std.specs.Prelude.{Some, None}
 use Rattle.std.specs.Ordering.{nat_cmp}
 use Rattle.std.specs.Cmp.Lexicographic.{slice_cmp}
-use Rattle.serde_json.specs.Data.{string, object, member}
+use Rattle.mv_pack.specs.declared.key.PackKey.{PackKey}
 use Rattle.mv_message.specs.declared.found.Found.{Found}
 use Rattle.mv_message.specs.declared.found.Found.TheVariants.{Absent, Present}
 use Rattle.mv_message.specs.declared.message.Message.{Message}
@@ -11,8 +11,8 @@ use Rattle.mv_message.specs.declared.message.Message.TheVariants as messages
 use Rattle.mv_json.specs.declared.version.Version.{Version}
 use Rattle.mv_json.specs.declared.version.Version.TheVariants.{One, Two}
 use Rattle.mv_json.specs.Keys.{KeysAscend, ItemsKeysAscend}
-use Rattle.mv_json.specs.Messages.{value_of}
-use Rattle.mv_json.specs.Values.{strings, whole, version_members, found_version, found_value}
+use Rattle.mv_json.specs.Messages.{value_in, value_of}
+use Rattle.mv_json.specs.Values.{strings, found_version, found_value}
 use Rattle.mv_json.proofs.OrderLemmas.{rises, strictly_sorted}
 
 texts_ascend : (texts : List (List ℕ)) → ItemsKeysAscend (strings texts)
@@ -26,10 +26,10 @@ found_ascends One (Present batch expiry national standing recalled withdrawn) = 
 found_ascends Two (Present batch expiry None standing recalled withdrawn) = (strictly_sorted (slice_cmp nat_cmp) _ refl, (tt, (tt, (tt, (tt, (tt, (tt, tt)))))))
 found_ascends Two (Present batch expiry (Some number) standing recalled withdrawn) = (strictly_sorted (slice_cmp nat_cmp) _ refl, (tt, (tt, (tt, (tt, (tt, (tt, tt)))))))
 
-answer_ascends : (version : Version) (asker q : ℕ) (gtin serial : List ℕ) (found : Found) → KeysAscend (object (member (codes "asker") (whole asker) (member (codes "found") (found_value version found) (member (codes "gtin") (string gtin) (member (codes "msg") (string (codes "answer")) (member (codes "q") (whole q) (member (codes "serial") (string serial) (version_members version))))))))
+answer_ascends : (version : Version) (asker q : ℕ) (key : PackKey) (found : Found) → KeysAscend (value_in version (messages.Answer asker q key found))
 unfolding rises
-answer_ascends One asker q gtin serial found = (strictly_sorted (slice_cmp nat_cmp) _ refl, (tt, (found_ascends One found, (tt, (tt, (tt, (tt, tt)))))))
-answer_ascends Two asker q gtin serial found = (strictly_sorted (slice_cmp nat_cmp) _ refl, (tt, (found_ascends Two found, (tt, (tt, (tt, (tt, (tt, tt))))))))
+answer_ascends One asker q key found = (strictly_sorted (slice_cmp nat_cmp) _ refl, (tt, (found_ascends One found, (tt, (tt, (tt, (tt, tt)))))))
+answer_ascends Two asker q key found = (strictly_sorted (slice_cmp nat_cmp) _ refl, (tt, (found_ascends Two found, (tt, (tt, (tt, (tt, (tt, tt))))))))
 
 -- the keys of each object in the value of a message ascend
 pub keys_ascend : (m : Message) → KeysAscend (value_of m)
@@ -42,4 +42,4 @@ keys_ascend (messages.Recall key at) = (strictly_sorted (slice_cmp nat_cmp) _ re
 keys_ascend (messages.Repack before before_serials after after_serials at) = (strictly_sorted (slice_cmp nat_cmp) _ refl, (tt, (tt, (texts_ascend after_serials, (tt, (tt, (tt, (texts_ascend before_serials, (tt, tt)))))))))
 keys_ascend (messages.Withdraw gtin at) = (strictly_sorted (slice_cmp nat_cmp) _ refl, (tt, (tt, (tt, (tt, tt)))))
 keys_ascend (messages.Query key) = (strictly_sorted (slice_cmp nat_cmp) _ refl, (tt, (tt, (tt, tt))))
-keys_ascend (messages.Answer asker q key found) = answer_ascends (found_version found) asker q key.gtin key.serial found
+keys_ascend (messages.Answer asker q key found) = answer_ascends (found_version found) asker q key found

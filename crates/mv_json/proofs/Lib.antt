@@ -15,3 +15,4 @@ pub mod OrderLemmas
 pub mod FirstFaultLemmas
 pub mod KeyLemmas
 pub mod CanonLemmas
+pub mod PlainMessageLemmas

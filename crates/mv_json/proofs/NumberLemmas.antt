@@ -1,10 +1,11 @@
 -- What reading a number, or true or false, gives, backwards and forwards.
 use Rattle.std.proofs.Common.{◌≡◌, ◌∙◌, ◌≤◌, ◌<◌, ◌^◌, ℕ, Bool, true, false, cond, ap, subst, arith}
 use Rattle.std.specs.Prelude.{Some, Ok, Err, ◌==◌, nat_lt}
+use Rattle.std.specs.Option.{ok_or}
 use Rattle.std.proofs.lemmas.Bool.Decides.{nat_tests}
 use Rattle.serde_json.specs.Data.{Data, null, boolean, number, unsigned, negative, float, string, array, object}
 use Rattle.serde_json.specs.Find.{as_bool}
-use Rattle.mv_pack.specs.Moment.{read_moment}
+use Rattle.mv_pack.specs.Moment.{IsMoment, read_moment}
 use Rattle.mv_pack.specs.declared.fault.PackFault.TheVariants.{Moment}
 use Rattle.mv_pack.specs.declared.moment.TheConstants.{YEAR_2100}
 use Rattle.mv_pack.proofs.MomentLemmas.{read_moment_is_moment, read_moment_of}
@@ -13,9 +14,9 @@ use Rattle.mv_json.specs.declared.field.Field.{Field}
 use Rattle.mv_json.specs.declared.fault.MessageFault.TheVariants.{Kind}
 use Rattle.mv_json.specs.Values.{whole}
 use Rattle.mv_json.specs.Numbers.{truth_at, whole_number, whole_at, moment_at, of_32_bits, number_at, not_zero, count_at}
-use Rattle.mv_json.specs.Reading.{◌and_then◌, some_or, of_field, member_at}
-use Rattle.mv_json.specs.Reads.{Has, HasMoment}
-use Rattle.mv_json.proofs.ReadingLemmas.{both_ok, some_or_ok, of_field_ok, unrefused, member_ok, member_read}
+use Rattle.mv_json.specs.Reading.{◌and_then◌, of_field, member_at}
+use Rattle.mv_json.specs.Reads.{Has}
+use Rattle.mv_json.proofs.ReadingLemmas.{both_ok, ok_or_some, of_field_ok, unrefused, member_ok, member_read}
 
 as_bool_ok : (d : Data) (b : Bool) → as_bool d ≡ Some b → d ≡ boolean b
 as_bool_ok null b h = cc
@@ -29,12 +30,12 @@ as_bool_ok (object ms) b h = cc
 pub truth_ok : (f : Field) (d : Data) (b : Bool) → truth_at f d ≡ Ok b → Has d f (boolean b)
 unfolding truth_at
 truth_ok f d b h =
-    let p = both_ok (member_at f d) (λ x. some_or (Kind f) (as_bool x)) b h in
-    member_ok f d p.0 p.1 ∙ ap (λ x. Some x) (as_bool_ok p.0 b (some_or_ok (Kind f) (as_bool p.0) b p.2))
+    let p = both_ok (member_at f d) (λ x. ok_or (as_bool x) (Kind f)) b h in
+    member_ok f d p.0 p.1 ∙ ap (λ x. Some x) (as_bool_ok p.0 b (ok_or_some (Kind f) (as_bool p.0) b p.2))
 
 pub truth_read : (f : Field) (d : Data) (b : Bool) → Has d f (boolean b) → truth_at f d ≡ Ok b
 unfolding truth_at
-truth_read f d b h = ap (λ r. r and_then λ x. some_or (Kind f) (as_bool x)) (member_read f d (boolean b) h)
+truth_read f d b h = ap (λ r. r and_then λ x. ok_or (as_bool x) (Kind f)) (member_read f d (boolean b) h)
 
 pub whole_number_ok : (d : Data) (n : ℕ) → whole_number d ≡ Some n → d ≡ whole n
 whole_number_ok null n h = cc
@@ -49,25 +50,25 @@ whole_number_ok (object ms) n h = cc
 whole_ok : (f : Field) (d : Data) (n : ℕ) → whole_at f d ≡ Ok n → Has d f (whole n)
 unfolding whole_at
 whole_ok f d n h =
-    let p = both_ok (member_at f d) (λ x. some_or (Kind f) (whole_number x)) n h in
-    member_ok f d p.0 p.1 ∙ ap (λ x. Some x) (whole_number_ok p.0 n (some_or_ok (Kind f) (whole_number p.0) n p.2))
+    let p = both_ok (member_at f d) (λ x. ok_or (whole_number x) (Kind f)) n h in
+    member_ok f d p.0 p.1 ∙ ap (λ x. Some x) (whole_number_ok p.0 n (ok_or_some (Kind f) (whole_number p.0) n p.2))
 
 whole_read : (f : Field) (d : Data) (n : ℕ) → Has d f (whole n) → whole_at f d ≡ Ok n
 unfolding whole_at
-whole_read f d n h = ap (λ r. r and_then λ x. some_or (Kind f) (whole_number x)) (member_read f d (whole n) h)
+whole_read f d n h = ap (λ r. r and_then λ x. ok_or (whole_number x) (Kind f)) (member_read f d (whole n) h)
 
 moment_is_itself : (n m : ℕ) → read_moment n ≡ Ok m → n ≡ m
 moment_is_itself n m h = (given_ok (nat_lt n YEAR_2100) n Moment m h).1
 
 -- a field that is read as a moment is its number of seconds
-pub moment_ok : (f : Field) (d : Data) (m : ℕ) → moment_at f d ≡ Ok m → HasMoment d f m
+pub moment_ok : (f : Field) (d : Data) (m : ℕ) → moment_at f d ≡ Ok m → Has d f (whole m) × IsMoment m
 unfolding moment_at
 moment_ok f d m h =
     let p = both_ok (whole_at f d) (λ n. of_field f (read_moment n)) m h in
     let read = of_field_ok f (read_moment p.0) m p.2 in
     (subst (λ n. Has d f (whole n)) (moment_is_itself p.0 m read) (whole_ok f d p.0 p.1), read_moment_is_moment p.0 m read)
 
-pub moment_read : (f : Field) (d : Data) (m : ℕ) → HasMoment d f m → moment_at f d ≡ Ok m
+pub moment_read : (f : Field) (d : Data) (m : ℕ) → Has d f (whole m) × IsMoment m → moment_at f d ≡ Ok m
 unfolding moment_at
 moment_read f d m h =
     ap (λ r. r and_then λ n. of_field f (read_moment n)) (whole_read f d m h.0) ∙ ap (of_field f) (read_moment_of m h.1)
@@ -99,17 +100,17 @@ is_not_zero : (n : ℕ) → 1 ≤ n → (n == 0) ≡ false
 is_not_zero n h = grind (arith, nat_tests)
 
 -- a field that is read as a number from 1 on is it
-pub count_ok : (f : Field) (d : Data) (n : ℕ) → count_at f d ≡ Ok n → Has d f (whole n) × (1 ≤ n) × (n < 2 ^ 32)
+pub count_ok : (f : Field) (d : Data) (n : ℕ) → count_at f d ≡ Ok n → Has d f (whole n) × ((1 ≤ n) × (n < 2 ^ 32))
 unfolding count_at
 count_ok f d n h =
     let p = both_ok (number_at f d) (not_zero f) n h in
     let kept = unrefused (p.0 == 0) (Kind f) (Ok p.0) n p.2 in
     let same : p.0 ≡ n = cc in
     let held = number_ok f d p.0 p.1 in
-    subst (λ m. Has d f (whole m) × (1 ≤ m) × (m < 2 ^ 32)) same (held.0, not_zero_ok p.0 kept.0, held.1)
+    subst (λ m. Has d f (whole m) × ((1 ≤ m) × (m < 2 ^ 32))) same (held.0, (not_zero_ok p.0 kept.0, held.1))
 
-pub count_read : (f : Field) (d : Data) (n : ℕ) → Has d f (whole n) × (1 ≤ n) × (n < 2 ^ 32) → count_at f d ≡ Ok n
+pub count_read : (f : Field) (d : Data) (n : ℕ) → Has d f (whole n) × ((1 ≤ n) × (n < 2 ^ 32)) → count_at f d ≡ Ok n
 unfolding count_at
 count_read f d n h =
-    ap (λ r. r and_then not_zero f) (number_read f d n h.0 h.2)
-    ∙ ap (λ b. cond b (Err (Kind f)) (Ok n)) (is_not_zero n h.1)
+    ap (λ r. r and_then not_zero f) (number_read f d n h.0 h.1.1)
+    ∙ ap (λ b. cond b (Err (Kind f)) (Ok n)) (is_not_zero n h.1.0)

@@ -1,6 +1,7 @@
 -- What reading a part of a value gives, backwards and forwards.
-use Rattle.std.proofs.Common.{◌≡◌, ◌∙◌, ◌≤◌, ◌||◌, ◌&&◌, ℕ, suc, Bool, true, false, not, cond, List, [], ◌∷◌, length, ap, subst, refl, arith}
+use Rattle.std.proofs.Common.{◌≡◌, ◌∙◌, ◌≤◌, ◌||◌, ◌&&◌, ℕ, suc, Bool, true, false, not, cond, List, [], ◌∷◌, length, ap, sym, subst, refl, arith}
 use Rattle.std.specs.Prelude.{bytes_eq, find, Option, Some, None, Result, Ok, Err, is_some, ◌==◌, nat_lt}
+use Rattle.std.specs.Option.{ok_or}
 use Rattle.std.proofs.lemmas.Bool.Decides.{nat_tests}
 use Rattle.std.proofs.lemmas.Slice.Eq.{bytes_eq-Decides}
 use Rattle.std.specs.List.{AllByRecursion}
@@ -18,9 +19,11 @@ use Rattle.mv_json.specs.Fields.{field_name}
 use Rattle.mv_message.specs.declared.standing.Standing.{Standing}
 use Rattle.mv_message.specs.declared.standing.Standing.TheVariants.{Active, Supplied, Exported, Destruction, Sample, FreeSample, Stolen, Repackaged}
 use Rattle.mv_message.specs.Standings.{standing_name, standings, standing_named}
-use Rattle.mv_json.specs.Reading.{◌and_then◌, some_or, of_field, member_at, text_at, gtin_at, code_at, expiry_at, standing_at, national_of, national_at, limited, free_text_at, are_texts, length_of, texts_at, read_item, read_each, markets_at, serials_at}
-use Rattle.mv_json.specs.Legal.{IsFreeText}
-use Rattle.mv_json.specs.Reads.{Has, HasText, HasFreeText, Spells, SpellsNational, SpellEach, SpellsList, SpellsSerials}
+use Rattle.mv_json.specs.Reading.{◌and_then◌, of_field, member_at, text_at, gtin_at, code_at, expiry_at, standing_at, national_of, national_at, limited, free_text_at, are_texts, length_of, texts_at, read_item, read_each, markets_at, serials_at}
+use Rattle.mv_json.specs.PlainMessages.{IsFreeText}
+use Rattle.mv_json.specs.Reads.{Has, Spells, SpellsNational, SpellEach, SpellsList}
+use Rattle.mv_json.specs.declared.version.Version.{Version}
+use Rattle.mv_json.specs.declared.version.Version.TheVariants.{One, Two}
 use Rattle.mv_json.specs.Limits.{most_markets, most_serials, most_text_bytes}
 
 -- two steps gave a meaning, so each did
@@ -28,9 +31,9 @@ pub both_ok : {A B : Type 0} (r : Result A MessageFault) (f : A → Result B Mes
 both_ok (Ok x) f y h = (x, refl, h)
 both_ok (Err e) f y h = cc
 
-pub some_or_ok : {A : Type 0} (e : MessageFault) (o : Option A) (x : A) → some_or e o ≡ Ok x → o ≡ Some x
-some_or_ok e None x h = cc
-some_or_ok e (Some y) x h = cc
+pub ok_or_some : {A : Type 0} (e : MessageFault) (o : Option A) (x : A) → ok_or o e ≡ Ok x → o ≡ Some x
+ok_or_some e None x h = cc
+ok_or_some e (Some y) x h = cc
 
 pub of_field_ok : {A : Type 0} (f : Field) (r : Result A PackFault) (x : A) → of_field f r ≡ Ok x → r ≡ Ok x
 of_field_ok f (Ok y) x h = cc
@@ -65,15 +68,19 @@ as_object_ok (string s) ms h = cc
 as_object_ok (array ds) ms h = cc
 as_object_ok (object ns) ms h = cc
 
+-- the field is this text
+abbrev pub HasText : Data → Field → List ℕ → Type 0
+HasText d f t = Has d f (string t)
+
 -- a field that is read as a text is that text
 pub text_ok : (f : Field) (d : Data) (t : List ℕ) → text_at f d ≡ Ok t → HasText d f t
 text_ok f d t h =
-    let b = both_ok (member_at f d) (λ x. some_or (Kind f) (as_str x)) t h in
-    some_or_ok (Missing f) (get (field_name f) d) b.0 b.1
-    ∙ ap (λ x. Some x) (as_str_ok b.0 t (some_or_ok (Kind f) (as_str b.0) t b.2))
+    let b = both_ok (member_at f d) (λ x. ok_or (as_str x) (Kind f)) t h in
+    ok_or_some (Missing f) (get (field_name f) d) b.0 b.1
+    ∙ ap (λ x. Some x) (as_str_ok b.0 t (ok_or_some (Kind f) (as_str b.0) t b.2))
 
 pub text_is_read : (f : Field) (d : Data) (t : List ℕ) → HasText d f t → text_at f d ≡ Ok t
-text_is_read f d t h = ap (λ o. some_or (Missing f) o and_then λ x. some_or (Kind f) (as_str x)) h
+text_is_read f d t h = ap (λ o. ok_or o (Missing f) and_then λ x. ok_or (as_str x) (Kind f)) h
 
 -- a field that its reader takes is a spelling
 pub spelled : {A : Type 0} (reader : List ℕ → Result A PackFault) (f : Field) (d : Data) (x : A) → (text_at f d and_then λ t. of_field f (reader t)) ≡ Ok x → Spells reader d f x
@@ -138,26 +145,26 @@ standing_is_named Repackaged = refl
 pub standing_ok : (f : Field) (d : Data) (x : Standing) → standing_at f d ≡ Ok x → HasText d f (standing_name x)
 unfolding standing_at
 standing_ok f d x h =
-    let b = both_ok (text_at f d) (λ t. some_or (Kind f) (standing_named t)) x h in
-    text_ok f d b.0 b.1 ∙ ap (λ t. Some (string t)) (standing_has_name b.0 x (some_or_ok (Kind f) (standing_named b.0) x b.2))
+    let b = both_ok (text_at f d) (λ t. ok_or (standing_named t) (Kind f)) x h in
+    text_ok f d b.0 b.1 ∙ ap (λ t. Some (string t)) (standing_has_name b.0 x (ok_or_some (Kind f) (standing_named b.0) x b.2))
 
 pub standing_read : (f : Field) (d : Data) (x : Standing) → HasText d f (standing_name x) → standing_at f d ≡ Ok x
 unfolding standing_at
 standing_read f d x h =
-    ap (λ r. r and_then λ t. some_or (Kind f) (standing_named t)) (text_is_read f d (standing_name x) h)
-    ∙ ap (some_or (Kind f)) (standing_is_named x)
+    ap (λ r. r and_then λ t. ok_or (standing_named t) (Kind f)) (text_is_read f d (standing_name x) h)
+    ∙ ap (λ o. ok_or o (Kind f)) (standing_is_named x)
 
 pub member_ok : (f : Field) (d part : Data) → member_at f d ≡ Ok part → Has d f part
-member_ok f d part h = some_or_ok (Missing f) (get (field_name f) d) part h
+member_ok f d part h = ok_or_some (Missing f) (get (field_name f) d) part h
 
 pub member_read : (f : Field) (d part : Data) → Has d f part → member_at f d ≡ Ok part
-member_read f d part h = ap (some_or (Missing f)) h
+member_read f d part h = ap (λ o. ok_or o (Missing f)) h
 
 some_number : (f : Field) (t : List ℕ) (o : Option (List ℕ)) → (of_field f (read_code t) and_then λ n. Ok (Some n)) ≡ Ok o → (n : List ℕ) × (read_code t ≡ Ok n) × (Some n ≡ o)
 some_number f t o h =
     let p = both_ok (of_field f (read_code t)) (λ n. Ok (Some n)) o h in (p.0, of_field_ok f (read_code t) p.0 p.1, cc)
 
-national_spelled : (f : Field) (d part : Data) (o : Option (List ℕ)) → Has d f part → national_of f part ≡ Ok o → SpellsNational d f o
+national_spelled : (f : Field) (d part : Data) (o : Option (List ℕ)) → Has d f part → national_of f part ≡ Ok o → SpellsNational Two d f o
 national_spelled f d null None has h = has
 national_spelled f d null (Some n) has h = cc
 national_spelled f d (string t) None has h = let s = some_number f t None h in cc
@@ -171,23 +178,29 @@ national_spelled f d (array ds) o has h = cc
 national_spelled f d (object ms) o has h = cc
 
 -- a field that is read as a national number, or none, spells it
-pub national_ok : (f : Field) (d : Data) (o : Option (List ℕ)) → national_at f d ≡ Ok o → SpellsNational d f o
+pub national_ok : (version : Version) (f : Field) (d : Data) (o : Option (List ℕ)) → national_at version f d ≡ Ok o → SpellsNational version d f o
 unfolding national_at
-national_ok f d o h =
+national_ok One f d o h = cc
+national_ok Two f d o h =
     let p = both_ok (member_at f d) (national_of f) o h in national_spelled f d p.0 o (member_ok f d p.0 p.1) p.2
 
-pub national_read : (f : Field) (d : Data) (o : Option (List ℕ)) → SpellsNational d f o → national_at f d ≡ Ok o
+pub national_read : (version : Version) (f : Field) (d : Data) (o : Option (List ℕ)) → SpellsNational version d f o → national_at version f d ≡ Ok o
 unfolding national_at
-national_read f d None h = ap (λ r. r and_then national_of f) (member_read f d null h)
-national_read f d (Some n) h =
+national_read One f d o h = ap (λ n. Ok n) (sym h)
+national_read Two f d None h = ap (λ r. r and_then national_of f) (member_read f d null h)
+national_read Two f d (Some n) h =
     ap (λ r. r and_then national_of f) (member_read f d (string h.0) h.1)
     ∙ ap (λ r. of_field f r and_then λ x. Ok (Some x)) h.2
 
 count_within : (n most : ℕ) → ((n == 0) || nat_lt most n) ≡ false → (1 ≤ n) × (n ≤ most)
 count_within n most h = (grind (arith, nat_tests), grind (arith, nat_tests))
 
-within_count : (n most : ℕ) → 1 ≤ n → n ≤ most → ((n == 0) || nat_lt most n) ≡ false
+pub within_count : (n most : ℕ) → 1 ≤ n → n ≤ most → ((n == 0) || nat_lt most n) ≡ false
 within_count n most low high = grind (arith, nat_tests)
+
+-- a field that is a text of 1 to 200 bytes
+abbrev pub HasFreeText : Data → Field → List ℕ → Type 0
+HasFreeText d f t = HasText d f t × IsFreeText t
 
 limited_ok : (f : Field) (t x : List ℕ) → limited f t ≡ Ok x → (t ≡ x) × IsFreeText t
 limited_ok f t x h =
@@ -214,11 +227,11 @@ each_spelled reader f no_items (x ∷ xs) h = cc
 each_spelled {A} reader f (item d ds) xs h =
     let a = both_ok (read_item reader f d) (λ y. read_each reader f ds and_then λ ys. Ok (y ∷ ys)) xs h in
     let b = both_ok (read_each reader f ds) (λ ys. Ok (a.0 ∷ ys)) xs a.2 in
-    let t = both_ok (some_or (Kind f) (as_str d)) (λ t. of_field f (reader t)) a.0 a.1 in
+    let t = both_ok (ok_or (as_str d) (Kind f)) (λ t. of_field f (reader t)) a.0 a.1 in
     let rest = each_spelled reader f ds b.0 b.1 in
     let whole : (a.0 ∷ b.0) ≡ xs = cc in
     subst (λ (zs : List A). SpellEach reader (item d ds) zs × (suc (length_of ds) ≡ length zs)) whole
-    ((t.0, as_str_ok d t.0 (some_or_ok (Kind f) (as_str d) t.0 t.1), of_field_ok f (reader t.0) a.0 t.2, rest.0), ap (λ n. suc n) rest.1)
+    ((t.0, as_str_ok d t.0 (ok_or_some (Kind f) (as_str d) t.0 t.1), of_field_ok f (reader t.0) a.0 t.2, rest.0), ap (λ n. suc n) rest.1)
 
 each_is_read : {A : Type 0} (reader : List ℕ → Result A PackFault) (f : Field) (ds : Items) (xs : List A) → SpellEach reader ds xs → (read_each reader f ds ≡ Ok xs) × (are_texts ds ≡ true) × (length_of ds ≡ length xs)
 each_is_read reader f no_items [] h = (refl, refl, refl)
@@ -242,14 +255,14 @@ unfolding texts_at
 texts_ok most f d ds h =
     let counted : Items → Result Items MessageFault = λ es.
     cond (not (are_texts es)) (Err (Kind f)) (cond ((length_of es == 0) || nat_lt most (length_of es)) (Err (Count f)) (Ok es)) in
-    let a = both_ok (member_at f d and_then λ x. some_or (Kind f) (as_array x)) counted ds (regrouped (member_at f d) (λ x. some_or (Kind f) (as_array x)) counted ∙ h) in
-    let b = both_ok (member_at f d) (λ x. some_or (Kind f) (as_array x)) a.0 a.1 in
+    let a = both_ok (member_at f d and_then λ x. ok_or (as_array x) (Kind f)) counted ds (regrouped (member_at f d) (λ x. ok_or (as_array x) (Kind f)) counted ∙ h) in
+    let b = both_ok (member_at f d) (λ x. ok_or (as_array x) (Kind f)) a.0 a.1 in
     let texts = unrefused (not (are_texts a.0)) (Kind f) (cond ((length_of a.0 == 0) || nat_lt most (length_of a.0)) (Err (Count f)) (Ok a.0)) ds a.2 in
     let kept = unrefused ((length_of a.0 == 0) || nat_lt most (length_of a.0)) (Count f) (Ok a.0) ds texts.1 in
     let bounds = count_within (length_of a.0) most kept.0 in
     let same : a.0 ≡ ds = cc in
     subst (λ (es : Items). (get (field_name f) d ≡ Some (array es)) × (1 ≤ length_of es) × (length_of es ≤ most)) same (
-      some_or_ok (Missing f) (get (field_name f) d) b.0 b.1 ∙ ap (λ x. Some x) (as_array_ok b.0 a.0 (some_or_ok (Kind f) (as_array b.0) a.0 b.2)),
+      ok_or_some (Missing f) (get (field_name f) d) b.0 b.1 ∙ ap (λ x. Some x) (as_array_ok b.0 a.0 (ok_or_some (Kind f) (as_array b.0) a.0 b.2)),
       bounds.0,
       bounds.1,
     )
@@ -266,7 +279,7 @@ pub spelling_list_is_read : {A : Type 0} (reader : List ℕ → Result A PackFau
 unfolding texts_at
 spelling_list_is_read reader most f d xs (ds, found, low, high, spelling) =
     let each = each_is_read reader f ds xs spelling in
-    ap (λ o. (some_or (Missing f) o and_then λ x. some_or (Kind f) (as_array x) and_then λ es.
+    ap (λ o. (ok_or o (Missing f) and_then λ x. ok_or (as_array x) (Kind f) and_then λ es.
     cond (not (are_texts es)) (Err (Kind f)) (cond ((length_of es == 0) || nat_lt most (length_of es)) (Err (Count f)) (Ok es))) and_then read_each reader f) found
     ∙ ap (λ b. cond (not b) (Err (Kind f)) (cond ((length_of ds == 0) || nat_lt most (length_of ds)) (Err (Count f)) (Ok ds)) and_then read_each reader f) each.1
     ∙ ap (λ b. cond b (Err (Count f)) (Ok ds) and_then read_each reader f) (ap (λ n. (n == 0) || nat_lt most n) each.2 ∙ within_count (length xs) most low high)
@@ -281,10 +294,10 @@ pub markets_read : (f : Field) (d : Data) (xs : List (List ℕ)) → SpellsList 
 unfolding markets_at
 markets_read f d xs h = spelling_list_is_read read_market most_markets f d xs h
 
-pub serials_ok : (f : Field) (d : Data) (xs : List (List ℕ)) → serials_at f d ≡ Ok xs → SpellsSerials d f xs
+pub serials_ok : (f : Field) (d : Data) (xs : List (List ℕ)) → serials_at f d ≡ Ok xs → SpellsList read_code most_serials d f xs
 unfolding serials_at
 serials_ok f d xs h = spelled_list read_code most_serials f d xs h
 
-pub serials_read : (f : Field) (d : Data) (xs : List (List ℕ)) → SpellsSerials d f xs → serials_at f d ≡ Ok xs
+pub serials_read : (f : Field) (d : Data) (xs : List (List ℕ)) → SpellsList read_code most_serials d f xs → serials_at f d ≡ Ok xs
 unfolding serials_at
 serials_read f d xs h = spelling_list_is_read read_code most_serials f d xs h

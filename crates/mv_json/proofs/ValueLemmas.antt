@@ -3,10 +3,11 @@ use Rattle.std.proofs.Common.{◌≡◌, ◌≤◌, ℕ, suc, sym, subst, arith,
 use Rattle.std.specs.Prelude.{IsUtf8, max, Some, None}
 use Rattle.std.specs.Str.{is_utf8}
 use Rattle.std.proofs.lemmas.Str.{IsUtf8-from_is_utf8, is_utf8-from_IsUtf8}
-use Rattle.serde_json.specs.Data.{depth, items_depth, members_depth}
+use Rattle.serde_json.specs.Data.{depth, items_depth}
 use Rattle.serde_json.specs.Read.{max_depth}
-use Rattle.mv_json.specs.Messages.{value_of}
-use Rattle.mv_json.specs.Values.{strings, version_members, found_version, found_value}
+use Rattle.mv_json.specs.Messages.{value_in, value_of}
+use Rattle.mv_json.specs.Values.{strings, found_version}
+use Rattle.mv_pack.specs.declared.key.PackKey.{PackKey}
 use Rattle.mv_message.specs.declared.found.Found.{Found}
 use Rattle.mv_message.specs.declared.found.Found.TheVariants.{Absent, Present}
 use Rattle.mv_json.specs.declared.version.Version.{Version}
@@ -18,12 +19,12 @@ items_flat : (texts : List (List ℕ)) → items_depth (strings texts) ≡ 0
 items_flat [] = refl
 items_flat (text ∷ texts) = ap (λ n. max 0 n) (items_flat texts)
 
-answer_depth : (version : Version) (f : Found) → suc (max 0 (max (depth (found_value version f)) (max 0 (max 0 (max 0 (max 0 (members_depth (version_members version)))))))) ≤ max_depth
-answer_depth One Absent = omega arith
-answer_depth Two Absent = omega arith
-answer_depth One (Present batch expiry national standing recalled withdrawn) = omega arith
-answer_depth Two (Present batch expiry None standing recalled withdrawn) = omega arith
-answer_depth Two (Present batch expiry (Some number) standing recalled withdrawn) = omega arith
+answer_depth : (version : Version) (asker q : ℕ) (key : PackKey) (f : Found) → depth (value_in version (messages.Answer asker q key f)) ≤ max_depth
+answer_depth One asker q key Absent = omega arith
+answer_depth Two asker q key Absent = omega arith
+answer_depth One asker q key (Present batch expiry national standing recalled withdrawn) = omega arith
+answer_depth Two asker q key (Present batch expiry None standing recalled withdrawn) = omega arith
+answer_depth Two asker q key (Present batch expiry (Some number) standing recalled withdrawn) = omega arith
 
 -- the value of a message nests two deep
 pub value_depth : (m : Message) → depth (value_of m) ≤ max_depth
@@ -39,7 +40,7 @@ value_depth (messages.Repack before before_serials after after_serials at) =
     (subst (λ n. suc (max 0 (max 0 (max 1 (max 0 (max 0 (max 0 (max (suc n) (max 0 0)))))))) ≤ max_depth) (sym (items_flat before_serials)) (omega arith))
 value_depth (messages.Withdraw gtin at) = omega arith
 value_depth (messages.Query key) = omega arith
-value_depth (messages.Answer asker q key found) = answer_depth (found_version found) found
+value_depth (messages.Answer asker q key found) = answer_depth (found_version found) asker q key found
 
 -- bytes that are text pass the test
 pub utf8_test : (bytes : List ℕ) → IsUtf8 bytes → is_utf8 bytes ≡ true

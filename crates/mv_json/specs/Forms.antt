@@ -1,6 +1,9 @@
 -- The forms of messages, by the version and the text of their field `msg`, and the fields of each.
 use Rattle.std.specs.Prelude.{ℕ, List, [], ◌∷◌, ◌++◌, map, codes, bytes_eq, find, Option, Some, None, Result, Ok, Err}
+use Rattle.std.specs.Option.{ok_or}
 use Rattle.serde_json.specs.Data.{Data, Members}
+use Rattle.mv_message.specs.declared.message.Message.{Message}
+use Rattle.mv_message.specs.declared.message.Message.TheVariants as messages
 use Rattle.mv_json.specs.declared.field.Field.{Field}
 use Rattle.mv_json.specs.declared.field.Field.TheVariants as fields
 use Rattle.mv_json.specs.declared.fault.MessageFault.{MessageFault}
@@ -11,7 +14,7 @@ use Rattle.mv_json.specs.declared.version.Version.{Version}
 use Rattle.mv_json.specs.declared.version.Version.TheVariants.{One, Two}
 use Rattle.mv_json.specs.Fields.{field_name}
 use Rattle.mv_json.specs.Members.{first_unknown}
-use Rattle.mv_json.specs.Reading.{◌and_then◌, some_or, text_at}
+use Rattle.mv_json.specs.Reading.{◌and_then◌, text_at}
 
 -- the text of `msg` in a message of the form
 abbrev pub form_name : Form → List ℕ
@@ -23,6 +26,17 @@ form_name forms.Repack = codes "repack"
 form_name forms.Status = codes "status"
 form_name forms.Upload = codes "upload"
 form_name forms.Withdraw = codes "withdraw"
+
+-- the form of a message
+abbrev pub form_of : Message → Form
+form_of (messages.Master gtin product) = forms.Master
+form_of (messages.Upload gtin batch expiry national serials) = forms.Upload
+form_of (messages.Status key to user at) = forms.Status
+form_of (messages.Recall key at) = forms.Recall
+form_of (messages.Repack before before_serials after after_serials at) = forms.Repack
+form_of (messages.Withdraw gtin at) = forms.Withdraw
+form_of (messages.Query key) = forms.Query
+form_of (messages.Answer asker q key found) = forms.Answer
 
 -- the forms of version 1
 abbrev pub forms_of_version_one : List Form
@@ -41,7 +55,7 @@ form_named version text = find (λ form. bytes_eq text (form_name form)) (forms_
 -- the form of an object: M3, M5
 unfoldable pub form_at : Version → Data → Result Form MessageFault
 form_at version value =
-    text_at fields.Msg value and_then λ text. some_or (Kind fields.Msg) (form_named version text)
+    text_at fields.Msg value and_then λ text. ok_or (form_named version text) (Kind fields.Msg)
 
 -- the national number of an upload came with the second version
 abbrev pub upload_fields : Version → List Field

@@ -3,19 +3,16 @@ use Rattle.std.specs.Prelude.{⊤}
 use Rattle.std.specs.Ordering.{nat_cmp}
 use Rattle.std.specs.Cmp.Lexicographic.{slice_cmp}
 use Rattle.std.specs.List.Sorted.{IsStrictlySortedBy}
-use Rattle.serde_json.specs.Data.{Data, null, boolean, number, string, array, object, Items, no_items, item, Members, no_members, member}
+use Rattle.serde_json.specs.Data.{Data, array, object, Items, no_items, item, Members, no_members, member}
 use Rattle.mv_json.specs.Members.{keys_of}
 
 abbrev mutual
   -- in each object that a value is or holds, the keys ascend in byte order, each once
   pub KeysAscend : Data → Type 0
-  KeysAscend null = ⊤
-  KeysAscend (boolean truth) = ⊤
-  KeysAscend (number n) = ⊤
-  KeysAscend (string text) = ⊤
   KeysAscend (array items) = ItemsKeysAscend items
   KeysAscend (object members) =
       IsStrictlySortedBy (slice_cmp nat_cmp) (keys_of members) × MembersKeysAscend members
+  KeysAscend value = ⊤
 
   pub ItemsKeysAscend : Items → Type 0
   ItemsKeysAscend no_items = ⊤

@@ -11,8 +11,10 @@ pub mod Memory
 pub mod Found
 pub mod Readers
 pub mod FieldFaults
+pub mod Contents
 pub mod Values
 pub mod Messages
+pub mod PlainMessages
 pub mod Objects
 pub mod Tokens
 pub mod Legal

@@ -1,5 +1,6 @@
 -- Where reading a message takes memory: want of it stands in place of no other answer.
 use Rattle.std.specs.Prelude.{◌≡◌, Bool, true, false, ◌||◌, is_some, Ok}
+use Rattle.std.specs.Option.{ok_or}
 use Rattle.serde_json.specs.Data.{Data, Members}
 use Rattle.serde_json.specs.Find.{as_object}
 use Rattle.mv_json.specs.declared.fault.MessageFault.TheVariants.{NotObject}
@@ -8,19 +9,16 @@ use Rattle.mv_json.specs.declared.form.Form.TheVariants as forms
 use Rattle.mv_json.specs.declared.version.Version.{Version}
 use Rattle.mv_json.specs.Forms.{form_at, names_of}
 use Rattle.mv_json.specs.Members.{first_unknown}
-use Rattle.mv_json.specs.Reading.{◌and_then◌, some_or}
+use Rattle.mv_json.specs.Reading.{◌and_then◌}
 use Rattle.mv_json.specs.Versions.{version_at}
 
 -- the messages of a form hold free texts, or lists of markets or serial numbers
 abbrev pub holds_texts : Form → Bool
-holds_texts forms.Answer = false
 holds_texts forms.Master = true
-holds_texts forms.Query = false
-holds_texts forms.Recall = false
 holds_texts forms.Repack = true
 holds_texts forms.Status = true
 holds_texts forms.Upload = true
-holds_texts forms.Withdraw = false
+holds_texts form = false
 
 -- an object of that version and form takes memory to read: to name a key that the form does not have, or to keep what it holds
 abbrev pub takes_memory : Version → Form → Members → Bool
@@ -29,7 +27,7 @@ takes_memory version form members = is_some (first_unknown (names_of version for
 -- Reading this value may take memory: it is an object whose version and form are read, and such an object takes it.
 abbrev pub MayTakeMemory : Data → Type 0
 MayTakeMemory value =
-    (some_or NotObject (as_object value) and_then λ members.
+    (ok_or (as_object value) NotObject and_then λ members.
     version_at value and_then λ version.
     form_at version value and_then λ form.
     Ok (takes_memory version form members)) ≡ Ok true

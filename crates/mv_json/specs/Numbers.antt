@@ -1,16 +1,17 @@
 -- What reading a field that is a whole number, or `true` or `false`, gives: its meaning, or the first fault.
 use Rattle.std.specs.Prelude.{ℕ, ◌^◌, ◌==◌, Bool, nat_lt, if◌then◌else◌, option_and_then, Option, Result, Ok, Err}
+use Rattle.std.specs.Option.{ok_or}
 use Rattle.serde_json.specs.Data.{Data}
 use Rattle.serde_json.specs.Find.{as_bool, as_number, as_u64}
 use Rattle.mv_pack.specs.Moment.{read_moment}
 use Rattle.mv_json.specs.declared.field.Field.{Field}
 use Rattle.mv_json.specs.declared.fault.MessageFault.{MessageFault}
 use Rattle.mv_json.specs.declared.fault.MessageFault.TheVariants.{Kind}
-use Rattle.mv_json.specs.Reading.{◌and_then◌, some_or, of_field, member_at}
+use Rattle.mv_json.specs.Reading.{◌and_then◌, of_field, member_at}
 
 -- whether a field says `true`: M3, M5
 unfoldable pub truth_at : Field → Data → Result Bool MessageFault
-truth_at field value = member_at field value and_then λ found. some_or (Kind field) (as_bool found)
+truth_at field value = member_at field value and_then λ found. ok_or (as_bool found) (Kind field)
 
 -- the whole number that a value is; one with a fraction or an exponent is none
 abbrev pub whole_number : Data → Option ℕ
@@ -18,7 +19,7 @@ whole_number value = option_and_then as_u64 (as_number value)
 
 -- the whole number of a field: M3, M5
 unfoldable pub whole_at : Field → Data → Result ℕ MessageFault
-whole_at field value = member_at field value and_then λ found. some_or (Kind field) (whole_number found)
+whole_at field value = member_at field value and_then λ found. ok_or (whole_number found) (Kind field)
 
 -- the moment of a field: M3, M5, M6
 unfoldable pub moment_at : Field → Data → Result ℕ MessageFault

@@ -1,5 +1,5 @@
--- What the fields of an object give, for each form of message: each field is read in byte order of its name.
-use Rattle.std.specs.Prelude.{ℕ, List, Option, None, Result, Ok}
+-- What the fields of an object give, for each form of message.
+use Rattle.std.specs.Prelude.{Result, Ok}
 use Rattle.serde_json.specs.Data.{Data}
 use Rattle.mv_json.specs.declared.field.Field.TheVariants as fields
 use Rattle.mv_json.specs.declared.fault.MessageFault.{MessageFault}
@@ -8,14 +8,13 @@ use Rattle.mv_json.specs.declared.form.Form.TheVariants as forms
 use Rattle.mv_message.specs.declared.message.Message.{Message}
 use Rattle.mv_message.specs.declared.message.Message.TheVariants as messages
 use Rattle.mv_json.specs.declared.version.Version.{Version}
-use Rattle.mv_json.specs.declared.version.Version.TheVariants.{One, Two}
 use Rattle.mv_json.specs.Numbers.{moment_at, number_at, count_at}
 use Rattle.mv_json.specs.Reading.{◌and_then◌, gtin_at, code_at, expiry_at, free_text_at, markets_at, national_at, serials_at, standing_at}
 use Rattle.mv_json.specs.Found.{found_at}
 
--- the product master that the fields give
-unfoldable pub master_at : Data → Result Message MessageFault
-master_at value =
+-- the message of a form that the fields of an object give, each of which is read in byte order of its name
+unfoldable pub message_at : Version → Form → Data → Result Message MessageFault
+message_at version forms.Master value =
     free_text_at fields.Common value and_then λ common.
     free_text_at fields.Form value and_then λ form.
     gtin_at fields.Gtin value and_then λ gtin.
@@ -35,43 +34,26 @@ master_at value =
       pack_size = pack_size;
       markets = markets;
     }))
-
--- the national number of an upload, which version 1 does not have
-abbrev pub upload_national_at : Version → Data → Result (Option (List ℕ)) MessageFault
-upload_national_at One value = Ok None
-upload_national_at Two value = national_at fields.National value
-
--- the upload that the fields give
-unfoldable pub upload_at : Version → Data → Result Message MessageFault
-upload_at version value =
+message_at version forms.Upload value =
     code_at fields.Batch value and_then λ batch.
     expiry_at fields.Expiry value and_then λ expiry.
     gtin_at fields.Gtin value and_then λ gtin.
-    upload_national_at version value and_then λ national.
+    national_at version fields.National value and_then λ national.
     serials_at fields.Serials value and_then λ serials.
     Ok (messages.Upload gtin batch expiry national serials)
-
--- the change of standing that the fields give
-unfoldable pub status_at : Data → Result Message MessageFault
-status_at value =
+message_at version forms.Status value =
     moment_at fields.At value and_then λ at.
     gtin_at fields.Gtin value and_then λ gtin.
     code_at fields.Serial value and_then λ serial.
     standing_at fields.To value and_then λ to.
     free_text_at fields.User value and_then λ user.
     Ok (messages.Status (record { gtin = gtin; serial = serial }) to user at)
-
--- the recall that the fields give
-unfoldable pub recall_at : Data → Result Message MessageFault
-recall_at value =
+message_at version forms.Recall value =
     moment_at fields.At value and_then λ at.
     code_at fields.Batch value and_then λ batch.
     gtin_at fields.Gtin value and_then λ gtin.
     Ok (messages.Recall (record { gtin = gtin; batch = batch }) at)
-
--- the repackaging that the fields give
-unfoldable pub repack_at : Data → Result Message MessageFault
-repack_at value =
+message_at version forms.Repack value =
     code_at fields.AfterBatch value and_then λ after_batch.
     gtin_at fields.AfterGtin value and_then λ after_gtin.
     serials_at fields.AfterSerials value and_then λ after_serials.
@@ -81,38 +63,18 @@ repack_at value =
     serials_at fields.BeforeSerials value and_then λ before_serials.
     Ok (messages.Repack (record { gtin = before_gtin; batch = before_batch }) before_serials
     (record { gtin = after_gtin; batch = after_batch }) after_serials at)
-
--- the withdrawal that the fields give
-unfoldable pub withdraw_at : Data → Result Message MessageFault
-withdraw_at value =
+message_at version forms.Withdraw value =
     moment_at fields.At value and_then λ at.
     gtin_at fields.Gtin value and_then λ gtin.
     Ok (messages.Withdraw gtin at)
-
--- the query that the fields give
-unfoldable pub query_at : Data → Result Message MessageFault
-query_at value =
+message_at version forms.Query value =
     gtin_at fields.Gtin value and_then λ gtin.
     code_at fields.Serial value and_then λ serial.
     Ok (messages.Query (record { gtin = gtin; serial = serial }))
-
--- the answer that the fields give
-unfoldable pub answer_at : Version → Data → Result Message MessageFault
-answer_at version value =
+message_at version forms.Answer value =
     number_at fields.Asker value and_then λ asker.
     found_at version value and_then λ found.
     gtin_at fields.Gtin value and_then λ gtin.
     count_at fields.Q value and_then λ q.
     code_at fields.Serial value and_then λ serial.
     Ok (messages.Answer asker q (record { gtin = gtin; serial = serial }) found)
-
--- the message of a form that the fields of an object give
-abbrev pub message_at : Version → Form → Data → Result Message MessageFault
-message_at version forms.Answer value = answer_at version value
-message_at version forms.Master value = master_at value
-message_at version forms.Query value = query_at value
-message_at version forms.Recall value = recall_at value
-message_at version forms.Repack value = repack_at value
-message_at version forms.Status value = status_at value
-message_at version forms.Upload value = upload_at version value
-message_at version forms.Withdraw value = withdraw_at value

@@ -1,5 +1,6 @@
 -- What reading a part of a JSON value gives: its meaning, or the first fault.
 use Rattle.std.specs.Prelude.{◌≡◌, ◌≢◌, ℕ, suc, ◌==◌, ◌&&◌, ◌||◌, not, Bool, true, nat_lt, if◌then◌else◌, List, [], ◌∷◌, length, is_some, Option, Some, None, Result, Ok, Err}
+use Rattle.std.specs.Option.{ok_or}
 use Rattle.serde_json.specs.Data.{Data, Items, no_items, item}
 use Rattle.serde_json.specs.Find.{get, as_null, as_str, as_array}
 use Rattle.mv_pack.specs.Code.{read_code}
@@ -11,6 +12,8 @@ use Rattle.mv_json.specs.declared.field.Field.{Field}
 use Rattle.mv_json.specs.declared.fault.MessageFault.{MessageFault}
 use Rattle.mv_json.specs.declared.fault.MessageFault.TheVariants.{Missing, Kind, Pack, Count, TextLength, Memory}
 use Rattle.mv_message.specs.declared.standing.Standing.{Standing}
+use Rattle.mv_json.specs.declared.version.Version.{Version}
+use Rattle.mv_json.specs.declared.version.Version.TheVariants.{One, Two}
 use Rattle.mv_json.specs.Fields.{field_name}
 use Rattle.mv_message.specs.Standings.{standing_named}
 use Rattle.mv_json.specs.Limits.{most_markets, most_serials, most_text_bytes}
@@ -21,11 +24,6 @@ abbrev pub ◌and_then◌ : {A B : Type 0} → Result A MessageFault → (A → 
 (Ok meaning) and_then next = next meaning
 (Err fault) and_then next = Err fault
 
--- what there is, or the fault where there is nothing
-abbrev pub some_or : {A : Type 0} → MessageFault → Option A → Result A MessageFault
-some_or fault None = Err fault
-some_or fault (Some x) = Ok x
-
 -- a refusal of a reader of values is a fault of the field (M6)
 abbrev pub of_field : {A : Type 0} → Field → Result A PackFault → Result A MessageFault
 of_field field (Ok meaning) = Ok meaning
@@ -33,11 +31,11 @@ of_field field (Err fault) = Err (Pack field fault)
 
 -- the value of a field, else M3
 abbrev pub member_at : Field → Data → Result Data MessageFault
-member_at field value = some_or (Missing field) (get (field_name field) value)
+member_at field value = ok_or (get (field_name field) value) (Missing field)
 
 -- the text of a field: M3, M5
 abbrev pub text_at : Field → Data → Result (List ℕ) MessageFault
-text_at field value = member_at field value and_then λ found. some_or (Kind field) (as_str found)
+text_at field value = member_at field value and_then λ found. ok_or (as_str found) (Kind field)
 
 -- the product code of a field: M3, M5, M6
 unfoldable pub gtin_at : Field → Data → Result (List ℕ) MessageFault
@@ -53,7 +51,7 @@ expiry_at field value = text_at field value and_then λ text. of_field field (re
 
 -- the standing of a field: M3, M5
 unfoldable pub standing_at : Field → Data → Result Standing MessageFault
-standing_at field value = text_at field value and_then λ text. some_or (Kind field) (standing_named text)
+standing_at field value = text_at field value and_then λ text. ok_or (standing_named text) (Kind field)
 
 -- a text of 1 to 200 bytes, else M8
 abbrev pub limited : Field → List ℕ → Result (List ℕ) MessageFault
@@ -72,12 +70,13 @@ is_null value = is_some (as_null value)
 abbrev pub national_of : Field → Data → Result (Option (List ℕ)) MessageFault
 national_of field found =
     if is_null found then Ok None
-    else (some_or (Kind field) (as_str found) and_then λ text.
+    else (ok_or (as_str found) (Kind field) and_then λ text.
     of_field field (read_code text) and_then λ number. Ok (Some number))
 
--- the national number of a field, or none: M3, M5, M6
-unfoldable pub national_at : Field → Data → Result (Option (List ℕ)) MessageFault
-national_at field value = member_at field value and_then national_of field
+-- the national number of a field, or none, as in version 1, which has no such field: M3, M5, M6
+unfoldable pub national_at : Version → Field → Data → Result (Option (List ℕ)) MessageFault
+national_at One field value = Ok None
+national_at Two field value = member_at field value and_then national_of field
 
 -- whether all members of a list are texts
 abbrev pub are_texts : Items → Bool
@@ -93,14 +92,14 @@ length_of (item value items) = suc (length_of items)
 unfoldable pub texts_at : ℕ → Field → Data → Result Items MessageFault
 texts_at most field value =
     member_at field value and_then λ found.
-    some_or (Kind field) (as_array found) and_then λ items.
+    ok_or (as_array found) (Kind field) and_then λ items.
     if not (are_texts items) then Err (Kind field)
     else (if (length_of items == 0) || nat_lt most (length_of items) then Err (Count field)
     else Ok items)
 
 -- a member of a list, by its reader
 abbrev pub read_item : {A : Type 0} → (List ℕ → Result A PackFault) → Field → Data → Result A MessageFault
-read_item reader field value = some_or (Kind field) (as_str value) and_then λ text. of_field field (reader text)
+read_item reader field value = ok_or (as_str value) (Kind field) and_then λ text. of_field field (reader text)
 
 -- each member of a list in its order, or the fault of the first bad one
 abbrev pub read_each : {A : Type 0} → (List ℕ → Result A PackFault) → Field → Items → Result (List A) MessageFault

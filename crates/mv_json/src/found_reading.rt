@@ -2,7 +2,7 @@
 
 ghost use Rattle.std.specs.Prelude.{◌≡◌, ◌≢◌, map, IfErr};
 ghost use Rattle.serde_json.specs.View.{view};
-ghost use Rattle.mv_json.specs.Found.{present_names, present_in_version_one, present_in_version_two, present_at, present_of, found_of, found_at};
+ghost use Rattle.mv_json.specs.Found.{present_names, withdrawn_at, present_at, present_of, found_of, found_at};
 
 use crate::members::first_unknown;
 use crate::numbers::truth_at;
@@ -43,10 +43,7 @@ fn present_of(value: &Value, version: Version) -> Result<Found, MessageFault>
     if first_unknown(members, present_names(version)).is_some() {
         return Err(MessageFault::Kind(Field::Found));
     }
-    match version {
-        Version::One => present_in_version_one(value),
-        Version::Two => present_in_version_two(value),
-    }
+    present_at(value, version)
 }
 
 /// The names of the fields of a pack that was found, in byte order.
@@ -66,36 +63,17 @@ fn present_names(version: Version) -> &'static [&'static str]
     }
 }
 
-/// The pack that the fields of an object give, in version 1.
-#[tactic(auto, unfolding(crate::specs::Found::present_in_version_one))]
-fn present_in_version_one(value: &Value) -> Result<Found, MessageFault>
-    ensures { result ≡ present_in_version_one (view value.now) }
+/// The pack that the fields of an object give.
+#[tactic(auto, unfolding(crate::specs::Found::present_at))]
+fn present_at(value: &Value, version: Version) -> Result<Found, MessageFault>
+    ensures { result ≡ present_at version (view value.now) }
 {
     let batch = batch_at(value, Field::Batch)?;
     let expiry = expiry_at(value, Field::Expiry)?;
+    let national = national_at(value, Field::National, version)?;
     let recalled = truth_at(value, Field::Recalled)?;
     let standing = standing_at(value, Field::Standing)?;
-    Ok(Found::Present {
-        batch,
-        expiry,
-        national: None,
-        standing,
-        recalled,
-        withdrawn: false,
-    })
-}
-
-/// The pack that the fields of an object give, in version 2.
-#[tactic(auto, unfolding(crate::specs::Found::present_in_version_two))]
-fn present_in_version_two(value: &Value) -> Result<Found, MessageFault>
-    ensures { result ≡ present_in_version_two (view value.now) }
-{
-    let batch = batch_at(value, Field::Batch)?;
-    let expiry = expiry_at(value, Field::Expiry)?;
-    let national = national_at(value, Field::National)?;
-    let recalled = truth_at(value, Field::Recalled)?;
-    let standing = standing_at(value, Field::Standing)?;
-    let withdrawn = truth_at(value, Field::Withdrawn)?;
+    let withdrawn = withdrawn_at(value, version)?;
     Ok(Found::Present {
         batch,
         expiry,
@@ -104,4 +82,14 @@ fn present_in_version_two(value: &Value) -> Result<Found, MessageFault>
         recalled,
         withdrawn,
     })
+}
+
+/// Whether the product is withdrawn, of which version 1 does not speak.
+fn withdrawn_at(value: &Value, version: Version) -> Result<bool, MessageFault>
+    ensures { result ≡ withdrawn_at version (view value.now) }
+{
+    match version {
+        Version::One => Ok(false),
+        Version::Two => truth_at(value, Field::Withdrawn),
+    }
 }

@@ -28,8 +28,10 @@ pub mod members;
 mod message_members;
 mod message_reading;
 mod numbers;
+mod plain_message;
 mod readers;
 mod reading;
+pub mod tokens;
 mod version;
 mod writing;
 
@@ -37,5 +39,6 @@ pub use fault::MessageFault;
 pub use field::Field;
 pub use lists::{MOST_MARKETS, MOST_SERIALS};
 pub use message_reading::{from_value, read};
+pub use plain_message::take_message;
 pub use reading::MOST_TEXT_BYTES;
 pub use writing::{text, to_value, write_text};

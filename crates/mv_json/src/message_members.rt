@@ -2,7 +2,7 @@
 
 ghost use Rattle.std.specs.Prelude.{◌≡◌};
 ghost use Rattle.mv_json.specs.Messages.{value_of};
-ghost use Rattle.mv_json.specs.Values.{master_value, upload_value, status_value, recall_value, repack_value, withdraw_value, query_value, found_version, answer_value};
+ghost use Rattle.mv_json.specs.Values.{found_version};
 
 use crate::member::{Member, Target};
 use crate::version::Version;
@@ -31,7 +31,14 @@ pub(crate) fn put_message<T: Target>(target: &mut T, message: &Message) -> Resul
             after,
             after_serials,
             at,
-        } => put_repack(target, before, before_serials, after, after_serials, *at),
+        } => put_repack(
+            target,
+            before.get(),
+            before_serials,
+            after.get(),
+            after_serials,
+            *at,
+        ),
         Message::Withdraw { gtin, at } => put_withdraw(target, gtin, *at),
         Message::Query { key } => put_query(target, key),
         Message::Answer {
@@ -49,7 +56,7 @@ fn put_master<'a, T: Target>(
     gtin: &'a Gtin,
     product: &'a Product,
 ) -> Result<(), AllocError>
-    ensures { T.puts result target.old target.new (master_value gtin.now product.now) }
+    ensures { T.puts result target.old target.new (value_of (Message.Master gtin.now product.now)) }
 {
     target.object(&[
         Member::Text("common", product.common.as_str()),
@@ -75,7 +82,7 @@ fn put_upload<'a, T: Target>(
     serials: &'a Serials,
 ) -> Result<(), AllocError>
     ensures { T.puts result target.old target.new
-        (upload_value gtin.now batch.now expiry.now national.now serials.now) }
+        (value_of (Message.Upload gtin.now batch.now expiry.now national.now serials.now)) }
 {
     match national {
         None => target.object(&[
@@ -105,7 +112,7 @@ fn put_status<'a, T: Target>(
     user: &'a Text,
     at: Moment,
 ) -> Result<(), AllocError>
-    ensures { T.puts result target.old target.new (status_value key.now to user.now at) }
+    ensures { T.puts result target.old target.new (value_of (Message.Status key.now to user.now at)) }
 {
     target.object(&[
         Member::Whole("at", at.seconds()),
@@ -119,7 +126,7 @@ fn put_status<'a, T: Target>(
 
 /// A recall.
 fn put_recall<T: Target>(target: &mut T, key: &BatchKey, at: Moment) -> Result<(), AllocError>
-    ensures { T.puts result target.old target.new (recall_value key.now at) }
+    ensures { T.puts result target.old target.new (value_of (Message.Recall key.now at)) }
 {
     target.object(&[
         Member::Whole("at", at.seconds()),
@@ -139,7 +146,7 @@ fn put_repack<'a, T: Target>(
     at: Moment,
 ) -> Result<(), AllocError>
     ensures { T.puts result target.old target.new
-        (repack_value before.now before_serials.now after.now after_serials.now at) }
+        (value_of (Message.Repack before.now before_serials.now after.now after_serials.now at)) }
 {
     target.object(&[
         Member::Text("after_batch", after.batch.as_str()),
@@ -155,7 +162,7 @@ fn put_repack<'a, T: Target>(
 
 /// A withdrawal.
 fn put_withdraw<T: Target>(target: &mut T, gtin: &Gtin, at: Moment) -> Result<(), AllocError>
-    ensures { T.puts result target.old target.new (withdraw_value gtin.now at) }
+    ensures { T.puts result target.old target.new (value_of (Message.Withdraw gtin.now at)) }
 {
     target.object(&[
         Member::Whole("at", at.seconds()),
@@ -167,7 +174,7 @@ fn put_withdraw<T: Target>(target: &mut T, gtin: &Gtin, at: Moment) -> Result<()
 
 /// A query.
 fn put_query<T: Target>(target: &mut T, key: &PackKey) -> Result<(), AllocError>
-    ensures { T.puts result target.old target.new (query_value key.now) }
+    ensures { T.puts result target.old target.new (value_of (Message.Query key.now)) }
 {
     target.object(&[
         Member::Text("gtin", key.gtin.as_str()),
@@ -184,7 +191,7 @@ fn put_answer<'a, T: Target>(
     key: &'a PackKey,
     found: &'a Found,
 ) -> Result<(), AllocError>
-    ensures { T.puts result target.old target.new (answer_value asker q key.now found.now) }
+    ensures { T.puts result target.old target.new (value_of (Message.Answer asker q key.now found.now)) }
 {
     let Found::Present {
         batch,

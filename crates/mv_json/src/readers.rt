@@ -4,7 +4,7 @@ ghost use Rattle.std.specs.Prelude.{◌≡◌, ◌≢◌, IfErr, IsTrue};
 ghost use Rattle.serde_json.specs.View.{view};
 ghost use Rattle.mv_json.specs.Memory.{holds_texts};
 ghost use Rattle.mv_json.specs.Reading.{Gives};
-ghost use Rattle.mv_json.specs.Readers.{master_at, upload_national_at, upload_at, status_at, recall_at, repack_at, withdraw_at, query_at, answer_at, message_at};
+ghost use Rattle.mv_json.specs.Readers.{message_at};
 
 use crate::form::Form;
 use crate::found_reading::found_at;
@@ -16,7 +16,7 @@ use crate::reading::{
 use crate::version::Version;
 use crate::{Field, MessageFault};
 use mv_message::{Boxed, Message, Product};
-use mv_pack::{BatchKey, National, PackKey};
+use mv_pack::{BatchKey, PackKey};
 use serde_json::Value;
 use std::alloc::Global;
 
@@ -45,9 +45,9 @@ pub(crate) fn message_at(
 }
 
 /// The product master that the fields give.
-#[tactic(auto, unfolding(crate::specs::Readers::master_at))]
+#[tactic(auto, unfolding(crate::specs::Readers::message_at))]
 fn master_at(alloc: Global, value: &Value) -> Result<Message, MessageFault>
-    ensures { Gives result (master_at (view value.now)) }
+    ensures { (version : Version) → Gives result (message_at version Form.Master (view value.now)) }
 {
     let common = free_text_at(alloc, value, Field::Common)?;
     let form = free_text_at(alloc, value, Field::Form)?;
@@ -75,14 +75,14 @@ fn master_at(alloc: Global, value: &Value) -> Result<Message, MessageFault>
 }
 
 /// The upload that the fields give.
-#[tactic(auto, unfolding(crate::specs::Readers::upload_at))]
+#[tactic(auto, unfolding(crate::specs::Readers::message_at))]
 fn upload_at(alloc: Global, value: &Value, version: Version) -> Result<Message, MessageFault>
-    ensures { Gives result (upload_at version (view value.now)) }
+    ensures { Gives result (message_at version Form.Upload (view value.now)) }
 {
     let batch = batch_at(value, Field::Batch)?;
     let expiry = expiry_at(value, Field::Expiry)?;
     let gtin = gtin_at(value, Field::Gtin)?;
-    let national = upload_national_at(value, version)?;
+    let national = national_at(value, Field::National, version)?;
     let serials = serials_at(alloc, value, Field::Serials)?;
     Ok(Message::Upload {
         gtin,
@@ -93,20 +93,10 @@ fn upload_at(alloc: Global, value: &Value, version: Version) -> Result<Message, 
     })
 }
 
-/// The national number of an upload, which version 1 does not have.
-fn upload_national_at(value: &Value, version: Version) -> Result<Option<National>, MessageFault>
-    ensures { result ≡ upload_national_at version (view value.now) }
-{
-    match version {
-        Version::One => Ok(None),
-        Version::Two => national_at(value, Field::National),
-    }
-}
-
 /// The change of standing that the fields give.
-#[tactic(auto, unfolding(crate::specs::Readers::status_at))]
+#[tactic(auto, unfolding(crate::specs::Readers::message_at))]
 fn status_at(alloc: Global, value: &Value) -> Result<Message, MessageFault>
-    ensures { Gives result (status_at (view value.now)) }
+    ensures { (version : Version) → Gives result (message_at version Form.Status (view value.now)) }
 {
     let at = moment_at(value, Field::At)?;
     let gtin = gtin_at(value, Field::Gtin)?;
@@ -122,9 +112,9 @@ fn status_at(alloc: Global, value: &Value) -> Result<Message, MessageFault>
 }
 
 /// The recall that the fields give.
-#[tactic(auto, unfolding(crate::specs::Readers::recall_at))]
+#[tactic(auto, unfolding(crate::specs::Readers::message_at))]
 fn recall_at(value: &Value) -> Result<Message, MessageFault>
-    ensures gives { result ≡ recall_at (view value.now) }
+    ensures gives { (version : Version) → result ≡ message_at version Form.Recall (view value.now) }
     // It takes no memory.
     ensures no_memory { IfErr result (λ fault. fault ≢ MessageFault.Memory) }
 {
@@ -138,9 +128,9 @@ fn recall_at(value: &Value) -> Result<Message, MessageFault>
 }
 
 /// The repackaging that the fields give.
-#[tactic(auto, unfolding(crate::specs::Readers::repack_at))]
+#[tactic(auto, unfolding(crate::specs::Readers::message_at))]
 fn repack_at(alloc: Global, value: &Value) -> Result<Message, MessageFault>
-    ensures { Gives result (repack_at (view value.now)) }
+    ensures { (version : Version) → Gives result (message_at version Form.Repack (view value.now)) }
 {
     let after_batch = batch_at(value, Field::AfterBatch)?;
     let after_gtin = gtin_at(value, Field::AfterGtin)?;
@@ -149,25 +139,27 @@ fn repack_at(alloc: Global, value: &Value) -> Result<Message, MessageFault>
     let before_batch = batch_at(value, Field::BeforeBatch)?;
     let before_gtin = gtin_at(value, Field::BeforeGtin)?;
     let before_serials = serials_at(alloc, value, Field::BeforeSerials)?;
+    let before = BatchKey {
+        gtin: before_gtin,
+        batch: before_batch,
+    };
+    let after = BatchKey {
+        gtin: after_gtin,
+        batch: after_batch,
+    };
     Ok(Message::Repack {
-        before: BatchKey {
-            gtin: before_gtin,
-            batch: before_batch,
-        },
+        before: Boxed::new(alloc, before)?,
         before_serials,
-        after: BatchKey {
-            gtin: after_gtin,
-            batch: after_batch,
-        },
+        after: Boxed::new(alloc, after)?,
         after_serials,
         at,
     })
 }
 
 /// The withdrawal that the fields give.
-#[tactic(auto, unfolding(crate::specs::Readers::withdraw_at))]
+#[tactic(auto, unfolding(crate::specs::Readers::message_at))]
 fn withdraw_at(value: &Value) -> Result<Message, MessageFault>
-    ensures gives { result ≡ withdraw_at (view value.now) }
+    ensures gives { (version : Version) → result ≡ message_at version Form.Withdraw (view value.now) }
     // It takes no memory.
     ensures no_memory { IfErr result (λ fault. fault ≢ MessageFault.Memory) }
 {
@@ -177,9 +169,9 @@ fn withdraw_at(value: &Value) -> Result<Message, MessageFault>
 }
 
 /// The query that the fields give.
-#[tactic(auto, unfolding(crate::specs::Readers::query_at))]
+#[tactic(auto, unfolding(crate::specs::Readers::message_at))]
 fn query_at(value: &Value) -> Result<Message, MessageFault>
-    ensures gives { result ≡ query_at (view value.now) }
+    ensures gives { (version : Version) → result ≡ message_at version Form.Query (view value.now) }
     // It takes no memory.
     ensures no_memory { IfErr result (λ fault. fault ≢ MessageFault.Memory) }
 {
@@ -191,9 +183,9 @@ fn query_at(value: &Value) -> Result<Message, MessageFault>
 }
 
 /// The answer that the fields give.
-#[tactic(auto, unfolding(crate::specs::Readers::answer_at))]
+#[tactic(auto, unfolding(crate::specs::Readers::message_at))]
 fn answer_at(value: &Value, version: Version) -> Result<Message, MessageFault>
-    ensures gives { result ≡ answer_at version (view value.now) }
+    ensures gives { result ≡ message_at version Form.Answer (view value.now) }
     // It takes no memory.
     ensures no_memory { IfErr result (λ fault. fault ≢ MessageFault.Memory) }
 {

@@ -5,6 +5,7 @@ ghost use Rattle.serde_json.specs.View.{view};
 ghost use Rattle.mv_json.specs.Reading.{member_at, text_at, gtin_at, code_at, expiry_at, standing_at, free_text_at, national_of, national_at, is_null, Gives};
 ghost use Rattle.mv_message.specs.Standings.{standing_named};
 
+use crate::version::Version;
 use crate::{Field, MessageFault};
 use mv_message::{Standing, Text};
 use mv_pack::{Batch, Expiry, Gtin, National, Serial};
@@ -80,14 +81,21 @@ pub(crate) fn expiry_at(value: &Value, field: Field) -> Result<Expiry, MessageFa
     Expiry::read(text_at(value, field)?).map_err(|fault| MessageFault::Pack(field, fault))
 }
 
-/// The national number of a field, or none where there is `null`: M3, M5, M6.
+/// The national number of a field, or none where there is `null`, and in version 1, which has no such field: M3, M5, M6.
 #[tactic(auto, unfolding(crate::specs::Reading::national_at))]
-pub(crate) fn national_at(value: &Value, field: Field) -> Result<Option<National>, MessageFault>
-    ensures gives { result ≡ national_at field (view value.now) }
+pub(crate) fn national_at(
+    value: &Value,
+    field: Field,
+    version: Version,
+) -> Result<Option<National>, MessageFault>
+    ensures gives { result ≡ national_at version field (view value.now) }
     // It takes no memory.
     ensures no_memory { IfErr result (λ fault. fault ≢ MessageFault.Memory) }
 {
-    national_of(member_at(value, field)?, field)
+    match version {
+        Version::One => Ok(None),
+        Version::Two => national_of(member_at(value, field)?, field),
+    }
 }
 
 /// The national number that a value is, or none where it is `null`: M5, M6.
@@ -115,7 +123,7 @@ pub(crate) fn standing_at(value: &Value, field: Field) -> Result<Standing, Messa
 }
 
 /// The standing of that name.
-fn standing_named(name: &str) -> Option<Standing>
+pub(crate) fn standing_named(name: &str) -> Option<Standing>
     ensures { result ≡ standing_named name.now }
 {
     match name {

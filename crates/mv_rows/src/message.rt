@@ -1,9 +1,10 @@
 //! Messages: that copies equal what was copied, and that values are read back. Which lines are read, why others are not, and
 //! what is written is shown by the examples of `mvhub canon`.
 
+use json::{Reader, Scratch};
 use mv_json::MessageFault;
 use mv_message::{Found, Markets, Message, Serials, Shared, Standing, Text, laws};
-use mv_pack::{Batch, BatchKey, Expiry, Gtin, Market, Moment, Serial};
+use mv_pack::{Batch, BatchKey, Expiry, Gtin, Market, Moment, PackKey, Serial};
 use std::alloc::Global;
 
 const MASTER: &str =
@@ -14,6 +15,25 @@ const UPLOAD: &str =
 
 const STATUS: &str =
     "{\"at\":1800000000,\"gtin\":\"09506000134352\",\"msg\":\"status\",\"serial\":\"S1\",\"to\":\"free_sample\",\"user\":\"u1\"}";
+
+/// An upload of version 1 with its keys in order, and the day 00 as the last of its month.
+const PLAIN_UPLOAD: &str =
+    "{\"batch\":\"B1\",\"expiry\":\"280200\",\"gtin\":\"9506000134352\",\"msg\":\"upload\",\"serials\":[\"S1\",\"S2\"]}";
+
+/// What is no message that is plainly written: keys in another order, a key twice, one too few and one too many, a list with
+/// none, one that goes on behind its last member, a moment with an exponent and one that is past, a message of version 2, and one of another form.
+const NOT_PLAIN: [&str; 10] = [
+    "{\"gtin\":\"09506000134352\",\"at\":1800000000,\"msg\":\"status\",\"serial\":\"S1\",\"to\":\"free_sample\",\"user\":\"u1\"}",
+    "{\"at\":1800000000,\"at\":1800000000,\"gtin\":\"09506000134352\",\"msg\":\"status\",\"serial\":\"S1\",\"to\":\"free_sample\",\"user\":\"u1\"}",
+    "{\"at\":1800000000,\"gtin\":\"09506000134352\",\"msg\":\"status\",\"serial\":\"S1\",\"to\":\"free_sample\"}",
+    "{\"at\":1800000000,\"gtin\":\"09506000134352\",\"msg\":\"status\",\"serial\":\"S1\",\"to\":\"free_sample\",\"user\":\"u1\",\"v\":1}",
+    "{\"batch\":\"B1\",\"expiry\":\"280200\",\"gtin\":\"9506000134352\",\"msg\":\"upload\",\"serials\":[]}",
+    "{\"batch\":\"B1\",\"expiry\":\"280200\",\"gtin\":\"9506000134352\",\"msg\":\"upload\",\"serials\":[\"S1\",]}",
+    "{\"at\":18e8,\"gtin\":\"09506000134352\",\"msg\":\"status\",\"serial\":\"S1\",\"to\":\"free_sample\",\"user\":\"u1\"}",
+    "{\"at\":4102444800,\"gtin\":\"09506000134352\",\"msg\":\"status\",\"serial\":\"S1\",\"to\":\"free_sample\",\"user\":\"u1\"}",
+    UPLOAD,
+    QUERY,
+];
 
 const RECALL: &str =
     "{\"at\":1800000010,\"batch\":\"B1\",\"gtin\":\"09506000134352\",\"msg\":\"recall\"}";
@@ -137,6 +157,50 @@ fn recall(alloc: Global, gtin: &str, batch: &str, at: u64) -> Option<Shared<Mess
     let at = Moment::of(at).ok()?;
     let key = BatchKey { gtin, batch };
     Shared::new(alloc, Message::Recall { key, at }).ok()
+}
+
+/// The message that the tokens of a text plainly are.
+fn taken(alloc: Global, text: &str) -> Option<Shared<Message>> {
+    let mut scratch = Scratch::new(alloc);
+    let mut reader = Reader::new(text, &mut scratch).ok()?;
+    Shared::new(alloc, mv_json::take_message(alloc, &mut reader)?).ok()
+}
+
+/// The change of standing that `STATUS` tells.
+fn status(alloc: Global) -> Option<Shared<Message>> {
+    let gtin = Gtin::read("9506000134352").ok()?;
+    let serial = Serial::read("S1").ok()?;
+    let at = Moment::of(1_800_000_000).ok()?;
+    let user = Text::new(String::from_str(alloc, "u1").ok()?);
+    let status = Message::Status {
+        key: PackKey { gtin, serial },
+        to: Standing::FreeSample,
+        user,
+        at,
+    };
+    Shared::new(alloc, status).ok()
+}
+
+/// The upload that `PLAIN_UPLOAD` tells.
+fn upload(alloc: Global) -> Option<Shared<Message>> {
+    let gtin = Gtin::read("9506000134352").ok()?;
+    let batch = Batch::read("B1").ok()?;
+    let expiry = Expiry::read("280229").ok()?;
+    let serials = serials(alloc, "S1", "S2")?;
+    let upload = Message::Upload {
+        gtin,
+        batch,
+        expiry,
+        national: None,
+        serials,
+    };
+    Shared::new(alloc, upload).ok()
+}
+
+/// Whether the messages that are made of their values are those that are taken from the tokens of texts.
+fn are_taken(alloc: Global) -> Option<bool> {
+    let is_status = taken(alloc, STATUS)? == status(alloc)?;
+    Some(is_status && taken(alloc, PLAIN_UPLOAD)? == upload(alloc)?)
 }
 
 /// Whether the recall that is made of its values is the one that is read from a text.
@@ -292,6 +356,14 @@ fn writes_canonical_texts(rt: HostRuntime) {
 #[test]
 fn makes_a_message_of_its_values(rt: HostRuntime) {
     assert_eq!(rt; is_recall_made(rt.alloc()), Some(true));
+}
+
+#[test]
+fn takes_a_message_by_its_tokens(rt: HostRuntime) {
+    assert_eq!(rt; are_taken(rt.alloc()), Some(true));
+    for text in NOT_PLAIN {
+        assert_eq!(rt; taken(rt.alloc(), text).is_none(), true, "at {text}");
+    }
 }
 
 #[test]

@@ -1,0 +1,53 @@
+//! Takes the token that comes next, where it is of the kind that is looked for. Where it is not, it is gone all the same, so
+//! that whoever looked for it reads the text anew in another way.
+
+ghost use Rattle.std.specs.Prelude.{◌≡◌, ℕ, List, ◌∷◌, IfSome, IsTrue, Some};
+ghost use Rattle.json.specs.Token.{key, string, number};
+ghost use Rattle.serde_json.specs.Data.{unsigned};
+ghost use Rattle.serde_json.specs.Read.{number_of};
+
+use fast_float::Numeral;
+use json::{Reader, Token};
+
+/// Takes the key that is next, and says whether it has that name.
+pub fn takes_key(reader: &mut Reader<'_>, name: &str) -> bool
+    ensures { IsTrue result → reader.old ≡ key name.now ∷ reader.new }
+{
+    match reader.next() {
+        Some(Token::Key(found)) => found == name,
+        _ => false,
+    }
+}
+
+/// Takes the text that is next.
+pub fn take_text<'a>(reader: &mut Reader<'a>) -> Option<&'a str>
+    ensures { IfSome result (λ text. reader.old ≡ string text.now ∷ reader.new) }
+{
+    match reader.next() {
+        Some(Token::String(text)) => Some(text),
+        _ => None,
+    }
+}
+
+/// Takes the number that is next, where it is a whole one of 64 bits and has no sign.
+pub fn take_whole(reader: &mut Reader<'_>) -> Option<u64>
+    ensures { IfSome result (λ n. (text : List ℕ)
+        × (reader.old ≡ number text ∷ reader.new) × (number_of text ≡ Some (unsigned n))) }
+{
+    match reader.next() {
+        Some(Token::Number(text)) => whole_of(text),
+        _ => None,
+    }
+}
+
+/// The number that a text is, where it is a whole one of 64 bits and has no sign.
+#[tactic(auto, unfolding(serde_json::specs::Read::number_of))]
+fn whole_of(text: &str) -> Option<u64>
+    ensures { IfSome result (λ n. number_of text.now ≡ Some (unsigned n)) }
+{
+    let bytes = text.as_bytes();
+    if bytes.is_empty() || bytes[0] == b'-' {
+        return None;
+    }
+    Numeral::scan(bytes).to_u64()
+}

@@ -1,41 +1,43 @@
 -- The laws of lines: of the pieces of an input, and of the line that asks a request.
-use Rattle.std.proofs.Common.{◌≡◌, ◌∙◌, ℕ, ◌<◌, ◌^◌, suc, List, [], ◌∷◌, ◌++◌, refl, sym, ap, subst, arith, append_assoc, append-nil, true, false, lt-ltb}
-use Rattle.std.specs.Prelude.{cond, ◌==◌, nat_lt, codes, All, Option, Some, None, option_and_then, Result, Ok, Err, IfOk}
-use Rattle.std.specs.List.{AllByRecursion}
-use Rattle.std.proofs.lemmas.Bool.{eqb-true, eqb-false, ltb-true}
+use Rattle.std.proofs.Common.{◌≡◌, ◌∙◌, ℕ, ◌^◌, suc, List, [], ◌∷◌, ◌++◌, map, refl, sym, ap, subst, arith, append_assoc, append-nil, true, false, true≢false, lt-ltb}
+use Rattle.std.specs.Prelude.{cond, ◌==◌, ◌&&◌, length, nat_lt, ok_or, codes, All, Option, Some, None, option_and_then, Result, Ok, Err, IfOk}
+use Rattle.std.specs.List.{AllByRecursion, list_all}
+use Rattle.std.specs.Result.{is_ok}
+use Rattle.std.proofs.lemmas.Bool.{and_parts, eqb-true, eqb-false, ltb-true}
 use Rattle.std.proofs.lemmas.Grind.{common_steps}
 use Rattle.std.proofs.lemmas.List.Elements.{All-nil, All-cons, All-append}
-use Rattle.serde_json.specs.Data.{Data, Items, no_items, item}
-use Rattle.serde_json.specs.Find.{as_object, as_array, as_str, as_number, as_u64}
+use Rattle.serde_json.specs.Data.{Data, array, Items}
+use Rattle.serde_json.specs.View.{items_of}
+use Rattle.serde_json.specs.Find.{as_object, as_str, as_number, as_u64}
 use Rattle.mv_pack.specs.Code.{IsCode, read_code}
 use Rattle.mv_pack.specs.Gtin.{IsGtin, read_gtin}
-use Rattle.mv_pack.specs.Market.{IsMarket, read_market}
-use Rattle.mv_pack.specs.declared.fault.PackFault.{PackFault}
+use Rattle.mv_pack.specs.Market.{IsMarket, is_capital}
+use Rattle.mv_pack.specs.declared.fault.PackFault.TheVariants.{Market}
 use Rattle.mv_pack.specs.declared.key.PackKey.{PackKey}
 use Rattle.mv_pack.proofs.CodeLemmas.{read_code_of, read_code_is_code}
 use Rattle.mv_pack.proofs.GtinLemmas.{read_gtin_of, read_gtin_is_gtin}
 use Rattle.mv_pack.proofs.MarketLemmas.{read_market_of, read_market_is_market}
 use Rattle.mv_message.specs.declared.message.Message.{Message}
-use Rattle.mv_json.specs.Legal.{IsLegal, IsPackKey}
+use Rattle.mv_json.specs.Legal.{IsLegal}
 use Rattle.mv_json.specs.Messages.{read_message}
-use Rattle.mv_json.specs.Reading.{are_texts}
 use Rattle.mv_json.specs.Values.{strings}
-use Rattle.mv_json.specs.declared.fault.MessageFault.{MessageFault}
 use Rattle.mv_json.proofs.LegalLemmas.{reads_back, read_is_legal}
 use Rattle.mv_machine.specs.declared.step.Step.{Step as AnyStep}
 use Rattle.mv_machine.specs.declared.step.Step.TheVariants as steps
 use Rattle.mv_lines.specs.Kinds.{kind_at, known_kind_at}
-use Rattle.mv_lines.specs.LineLaws.{markets_value, step_value, request_value, Has32Bits, IsLegalStep, IsLegalRequest}
+use Rattle.mv_lines.specs.LineLaws.{request_value, IsLegalRequest}
+use Rattle.mv_lines.specs.Meanings.{Has32Bits, AreMarketLists}
 use Rattle.mv_lines.specs.Lines.{whole_from, rest_from, last_piece, pieces, lines_of, IsUnended}
-use Rattle.mv_lines.specs.Reading.{◌and_then◌, some_or, member_at, text_at, of_field, of_32_bits, of_message, market_item, market_list, text_lists, are_text_lists, gtin_at, serial_at, number_at, message_at, market_lists_at, read_markets, read_market_lists}
+use Rattle.mv_lines.specs.Reading.{◌and_then◌, map_err, member_at, text_at, of_32_bits, read_at, number_at, message_at, each_of, as_list, is_market, market_lists, market_lists_at}
 use Rattle.mv_lines.specs.Replies.{text_lines}
-use Rattle.mv_lines.specs.Requests.{read_request, request_at, open_at, submit_at, route_at, link_at, relay_at, apply_at, repeat_at, close_at, lose_at, verify_at, verdict_at}
+use Rattle.mv_lines.specs.Requests.{read_request, request_at}
 use Rattle.mv_lines.specs.declared.field.LineField.{LineField}
 use Rattle.mv_lines.specs.declared.field.LineField.TheVariants as fields
 use Rattle.mv_lines.specs.declared.kind.LineKind.{LineKind}
 use Rattle.mv_lines.specs.declared.kind.LineKind.TheVariants as kinds
 use Rattle.mv_lines.specs.declared.line_fault.LineFault.{LineFault}
-use Rattle.mv_lines.specs.declared.line_fault.LineFault.TheVariants.{NotObject, Kind}
+use Rattle.mv_lines.specs.declared.line_fault.LineFault.TheVariants.{NotObject, Kind, Pack}
+use Rattle.mv_lines.specs.declared.line_fault.LineFault.TheVariants.{Message as InMessage}
 use Rattle.mv_lines.specs.declared.request.Request.{Request}
 use Rattle.mv_lines.specs.declared.request.Request.TheVariants.{Open, Step}
 use Rattle.mv_lines.proofs.InputLemmas.{whole_from-append, rest_from-append, lines_of-append}
@@ -138,54 +140,56 @@ lines_compose front back =
 
 -- ---- the line that asks a request
 
-verify_back : (party : ℕ) (key : PackKey) → party < 2 ^ 32 → IsPackKey key → read_request (step_value (steps.Verify party key)) ≡ Ok (Step (steps.Verify party key))
-unfolding read_request kind_at verify_at gtin_at serial_at number_at
-verify_back party key hp legal = rw (read_gtin_of key.gtin legal.0, lt-ltb _ _ hp, read_code_of key.serial legal.1)
+verify_back : (party : ℕ) (key : PackKey) → IsLegalRequest (Step (steps.Verify party key))
+    → read_request (request_value (Step (steps.Verify party key))) ≡ Ok (Step (steps.Verify party key))
+unfolding read_request kind_at request_at read_at number_at
+verify_back party key (gtin, (few, (serial, _))) = rw (read_gtin_of key.gtin gtin, lt-ltb _ _ few, read_code_of key.serial serial)
 
-submit_back : (from : ℕ) (message : Message) → from < 2 ^ 32 → IsLegal message → read_request (step_value (steps.Submit from message)) ≡ Ok (Step (steps.Submit from message))
-unfolding read_request kind_at submit_at message_at number_at
-submit_back from message hf legal = rw (lt-ltb _ _ hf, reads_back message legal)
+submit_back : (from : ℕ) (message : Message) → IsLegalRequest (Step (steps.Submit from message))
+    → read_request (request_value (Step (steps.Submit from message))) ≡ Ok (Step (steps.Submit from message))
+unfolding read_request kind_at request_at message_at number_at
+submit_back from message (few, (legal, _)) = rw (lt-ltb _ _ few, reads_back message legal)
 
--- each list of markets is a list of texts, and is read as it stands
-markets_are_texts : (markets : List (List ℕ)) → are_texts (strings markets) ≡ true
-markets_are_texts [] = refl
-markets_are_texts (market ∷ markets) = markets_are_texts markets
+-- each list of markets is a list of texts, and these are markets
+texts_back : (texts : List (List ℕ)) → each_of as_str (strings texts) ≡ Some texts
+texts_back [] = refl
+texts_back (text ∷ texts) = rw (texts_back texts) refl
 
-markets_back : (markets : List (List ℕ)) → AllByRecursion IsMarket markets → read_markets fields.Parties (strings markets) ≡ Ok markets
-markets_back [] legal = refl
-markets_back (market ∷ markets) legal = rw (read_market_of market legal.0, markets_back markets legal.1)
+abbrev lists_value : List (List (List ℕ)) → Items
+lists_value lists = items_of (map (λ markets. array (strings markets)) lists)
 
-lists_are_texts : (lists : List (List (List ℕ))) → are_text_lists (markets_value lists) ≡ true
-lists_are_texts [] = refl
-lists_are_texts (markets ∷ lists) = rw (markets_are_texts markets) (lists_are_texts lists)
+lists_back : (lists : List (List (List ℕ))) → each_of (as_list as_str) (lists_value lists) ≡ Some lists
+lists_back [] = refl
+lists_back (texts ∷ lists) = rw (texts_back texts, lists_back lists) refl
 
-lists_back : (lists : List (List (List ℕ))) → AllByRecursion (AllByRecursion IsMarket) lists → read_market_lists fields.Parties (markets_value lists) ≡ Ok lists
-lists_back [] legal = refl
-lists_back (markets ∷ lists) legal = rw (markets_back markets legal.0, lists_back lists legal.1)
+are_markets : (markets : List (List ℕ)) → AllByRecursion IsMarket markets → list_all is_market markets ≡ true
+are_markets [] legal = refl
+are_markets (market ∷ markets) legal = rw (read_market_of market legal.0) (are_markets markets legal.1)
+
+are_market_lists : (lists : List (List (List ℕ))) → AllByRecursion (AllByRecursion IsMarket) lists → list_all (list_all is_market) lists ≡ true
+are_market_lists [] legal = refl
+are_market_lists (markets ∷ lists) legal = rw (are_markets markets legal.0) (are_market_lists lists legal.1)
 
 open_back : (parties : List (List (List ℕ))) (submissions uplink window wire : ℕ)
     → IsLegalRequest (Open parties submissions uplink window wire)
     → read_request (request_value (Open parties submissions uplink window wire)) ≡ Ok (Open parties submissions uplink window wire)
-unfolding read_request kind_at open_at market_lists_at number_at
-open_back parties submissions uplink window wire legal =
-    rw (lists_are_texts parties, lists_back parties legal.0, lt-ltb _ _ legal.1, lt-ltb _ _ legal.2, lt-ltb _ _ legal.3, lt-ltb _ _ legal.4)
-
--- each step is read back from its line
-steps_back : (step : AnyStep) → IsLegalStep step → read_request (step_value step) ≡ Ok (Step step)
-steps_back (steps.Submit from message) legal = submit_back from message legal.0 legal.1
-steps_back (steps.Verify party key) legal = verify_back party key legal.0 legal.1
-steps_back (steps.Route from) legal = route_request (codes "route") from refl legal
-steps_back (steps.Relay from to) legal = relay_request (codes "relay") from to refl legal.0 legal.1
-steps_back (steps.Apply from to) legal = apply_request (codes "apply") from to refl legal.0 legal.1
-steps_back (steps.Repeat from to number) legal = repeat_request (codes "repeat") from number to refl legal.0 legal.2 legal.1
-steps_back (steps.Close from to) legal = close_request (codes "close") from to refl legal.0 legal.1
-steps_back (steps.Lose from to) legal = lose_request (codes "lose") from to refl legal.0 legal.1
-steps_back (steps.Verdict party q) legal = verdict_request (codes "verdict") party q refl legal.0 legal.1
+unfolding read_request kind_at request_at market_lists_at number_at
+open_back parties submissions uplink window wire (legal, (s, (u, (w, (i, _))))) =
+    rw (lists_back parties, are_market_lists parties legal, lt-ltb _ _ s, lt-ltb _ _ u, lt-ltb _ _ w, lt-ltb _ _ i)
 
 -- each request is read back from its line
 pub requests_read_back : (request : Request) → IsLegalRequest request → read_request (request_value request) ≡ Ok request
 requests_read_back (Open parties submissions uplink window wire) legal = open_back parties submissions uplink window wire legal
-requests_read_back (Step step) legal = steps_back step legal
+requests_read_back (Step (steps.Submit from message)) legal = submit_back from message legal
+requests_read_back (Step (steps.Verify party key)) legal = verify_back party key legal
+requests_read_back (Step (steps.Route from)) (few, _) = route_request (codes "route") from refl few
+requests_read_back (Step (steps.Relay from to)) (few, (less, _)) = relay_request (codes "relay") from to refl few less
+requests_read_back (Step (steps.Apply from to)) (few, (less, _)) = apply_request (codes "apply") from to refl few less
+requests_read_back (Step (steps.Repeat from to number)) (few, (small, (less, _))) =
+    repeat_request (codes "repeat") from number to refl few small less
+requests_read_back (Step (steps.Close from to)) (few, (less, _)) = close_request (codes "close") from to refl few less
+requests_read_back (Step (steps.Lose from to)) (few, (less, _)) = lose_request (codes "lose") from to refl few less
+requests_read_back (Step (steps.Verdict party q)) (few, (less, _)) = verdict_request (codes "verdict") party q refl few less
 
 -- ---- what is read is legal
 
@@ -201,20 +205,16 @@ then_any : {A B : Type 0} (Q : B → Type 0) (reading : Result A LineFault) (nex
 then_any Q (Ok x) next step = step x
 then_any Q (Err fault) next step = tt
 
-field_gave : {A : Type 0} (P : A → Type 0) (field : LineField) (reading : Result A PackFault) → ((x : A) → reading ≡ Ok x → P x)
-    → IfOk (of_field field reading) P
-field_gave P field (Ok x) legal = legal x refl
-field_gave P field (Err fault) legal = tt
+-- the same where a fault is made of the one that there was
+error_gave : {A E : Type 0} (P : A → Type 0) (fault_of : E → LineFault) (reading : Result A E) → ((x : A) → reading ≡ Ok x → P x)
+    → IfOk (map_err fault_of reading) P
+error_gave P fault_of (Ok x) legal = legal x refl
+error_gave P fault_of (Err fault) legal = tt
 
-of_message_gave : (reading : Result Message MessageFault) → ((message : Message) → reading ≡ Ok message → IsLegal message)
-    → IfOk (of_message reading) IsLegal
-of_message_gave (Ok message) legal = legal message refl
-of_message_gave (Err fault) legal = tt
-
-small_gave : (fault : LineFault) (n : Option ℕ) → IfOk (some_or fault (option_and_then of_32_bits n)) Has32Bits
+small_gave : (fault : LineFault) (n : Option ℕ) → IfOk (ok_or (option_and_then of_32_bits n) fault) Has32Bits
 small_gave fault None = tt
 small_gave fault (Some n) =
-    (elim (nat_lt n (2 ^ 32)) as (λ b. nat_lt n (2 ^ 32) ≡ b → IfOk (some_or fault (cond b (Some n) None)) Has32Bits) [
+    (elim (nat_lt n (2 ^ 32)) as (λ b. nat_lt n (2 ^ 32) ≡ b → IfOk (ok_or (cond b (Some n) None) fault) Has32Bits) [
       | true ↦ λ less. ltb-true n (2 ^ 32) less
       | false ↦ λ _. tt
     ]) refl
@@ -223,39 +223,49 @@ number_gave : (field : LineField) (value : Data) → IfOk (number_at field value
 unfolding number_at
 number_gave field value = then_any Has32Bits (member_at field value) _ (λ found. small_gave (Kind field) (option_and_then as_u64 (as_number found)))
 
-gtin_gave : (field : LineField) (value : Data) → IfOk (gtin_at field value) IsGtin
-unfolding gtin_at
-gtin_gave field value = then_any IsGtin (text_at field value) _ (λ text. field_gave IsGtin field (read_gtin text) (read_gtin_is_gtin text))
+gtin_gave : (field : LineField) (value : Data) → IfOk (read_at read_gtin field value) IsGtin
+unfolding read_at
+gtin_gave field value = then_any IsGtin (text_at field value) _ (λ text. error_gave IsGtin (Pack field) (read_gtin text) (read_gtin_is_gtin text))
 
-serial_gave : (field : LineField) (value : Data) → IfOk (serial_at field value) IsCode
-unfolding serial_at
-serial_gave field value = then_any IsCode (text_at field value) _ (λ text. field_gave IsCode field (read_code text) (read_code_is_code text))
+serial_gave : (field : LineField) (value : Data) → IfOk (read_at read_code field value) IsCode
+unfolding read_at
+serial_gave field value = then_any IsCode (text_at field value) _ (λ text. error_gave IsCode (Pack field) (read_code text) (read_code_is_code text))
 
 message_gave : (value : Data) → IfOk (message_at value) IsLegal
 unfolding message_at
-message_gave value = then_any IsLegal (member_at fields.Message value) _ (λ found. of_message_gave (read_message found) (read_is_legal found))
+message_gave value = then_any IsLegal (member_at fields.Message value) _ (λ found. error_gave IsLegal InMessage (read_message found) (read_is_legal found))
 
-markets_gave : (field : LineField) (items : Items) → IfOk (read_markets field items) (AllByRecursion IsMarket)
-markets_gave field no_items = tt
-markets_gave field (item value items) =
-    then_gave IsMarket (AllByRecursion IsMarket) (market_item field value) _
-    (then_any IsMarket (some_or (Kind field) (as_str value)) _ (λ text. field_gave IsMarket field (read_market text) (read_market_is_market text)))
-    (λ market legal. then_gave (AllByRecursion IsMarket) (AllByRecursion IsMarket) (read_markets field items) _ (markets_gave field items) (λ rest are. (legal, are)))
+market_gave : (text : List ℕ) → is_market text ≡ true → IsMarket text
+market_gave text is =
+    (elim ((length text == 2) && list_all is_capital text) as (λ b. ((length text == 2) && list_all is_capital text) ≡ b
+    → is_ok (cond b (Ok text) (Err Market)) ≡ true → IsMarket text) [
+      | true ↦ λ good _. read_market_is_market text text (ap (λ b. cond b (Ok text) (Err Market)) good)
+      | false ↦ λ _ none. absurd (true≢false (sym none))
+    ]) refl is
 
-lists_gave : (field : LineField) (items : Items) → IfOk (read_market_lists field items) (AllByRecursion (AllByRecursion IsMarket))
-lists_gave field no_items = tt
-lists_gave field (item value items) =
-    then_gave (AllByRecursion IsMarket) (AllByRecursion (AllByRecursion IsMarket)) (market_list field value) _
-    (then_any (AllByRecursion IsMarket) (some_or (Kind field) (as_array value)) _ (markets_gave field))
-    (λ markets legal. then_gave (AllByRecursion (AllByRecursion IsMarket)) (AllByRecursion (AllByRecursion IsMarket)) (read_market_lists field items) _
-    (lists_gave field items) (λ rest are. (legal, are)))
+markets_gave : (markets : List (List ℕ)) → list_all is_market markets ≡ true → AllByRecursion IsMarket markets
+markets_gave [] all = tt
+markets_gave (market ∷ markets) all =
+    let parts = and_parts (is_market market) (list_all is_market markets) all in (market_gave market parts.0, markets_gave markets parts.1)
 
-market_lists_gave : (field : LineField) (value : Data) → IfOk (market_lists_at field value) (AllByRecursion (AllByRecursion IsMarket))
+lists_gave : (lists : List (List (List ℕ))) → list_all (list_all is_market) lists ≡ true → AreMarketLists lists
+lists_gave [] all = tt
+lists_gave (markets ∷ lists) all =
+    let parts = and_parts (list_all is_market markets) (list_all (list_all is_market) lists) all in (markets_gave markets parts.0, lists_gave lists parts.1)
+
+all_gave : (field : LineField) (lists : List (List (List ℕ))) → IfOk (market_lists field lists) AreMarketLists
+all_gave field lists =
+    (elim (list_all (list_all is_market) lists) as (λ b. list_all (list_all is_market) lists ≡ b
+    → IfOk (cond b (Ok lists) (Err (Pack field Market))) AreMarketLists) [
+      | true ↦ lists_gave lists
+      | false ↦ λ _. tt
+    ]) refl
+
+market_lists_gave : (field : LineField) (value : Data) → IfOk (market_lists_at field value) AreMarketLists
 unfolding market_lists_at
 market_lists_gave field value =
-    then_any (AllByRecursion (AllByRecursion IsMarket)) (member_at field value) _
-    (λ found. then_any (AllByRecursion (AllByRecursion IsMarket)) (some_or (Kind field) (as_array found)) _
-    (λ items. then_any (AllByRecursion (AllByRecursion IsMarket)) (text_lists field items) _ (lists_gave field)))
+    then_any AreMarketLists (member_at field value) _
+    (λ found. then_any AreMarketLists (ok_or (as_list (as_list as_str) found) (Kind field)) _ (all_gave field))
 
 -- a number of a field, and then the rest
 with_number : {B : Type 0} (Q : B → Type 0) (field : LineField) (value : Data) (next : ℕ → Result B LineFault)
@@ -263,43 +273,41 @@ with_number : {B : Type 0} (Q : B → Type 0) (field : LineField) (value : Data)
 with_number Q field value next step = then_gave Has32Bits Q (number_at field value) next (number_gave field value) step
 
 -- a link, and then the step
-with_link : (value : Data) (make : ℕ → ℕ → AnyStep) → ((from to : ℕ) → Has32Bits from → Has32Bits to → IsLegalStep (make from to))
-    → IfOk (link_at value and_then λ (from, to). Ok (Step (make from to))) IsLegalRequest
-unfolding link_at
+with_link : (value : Data) (make : ℕ → ℕ → AnyStep)
+    → ((from to : ℕ) → Has32Bits from → Has32Bits to → IsLegalRequest (Step (make from to)))
+    → IfOk (number_at fields.From value and_then λ from. number_at fields.To value and_then λ to. Ok (Step (make from to))) IsLegalRequest
 with_link value make legal =
-    then_gave (λ (p : ℕ × ℕ). Has32Bits p.0 × Has32Bits p.1) IsLegalRequest (link_at value) _
-    (with_number (λ (p : ℕ × ℕ). Has32Bits p.0 × Has32Bits p.1) fields.From value _
-    (λ from small. with_number (λ (p : ℕ × ℕ). Has32Bits p.0 × Has32Bits p.1) fields.To value _ (λ to less. (small, less))))
-    (λ p small. legal p.0 p.1 small.0 small.1)
+    with_number IsLegalRequest fields.From value _ (λ from small. with_number IsLegalRequest fields.To value _ (λ to less. legal from to small less))
 
 request_gave : (kind : LineKind) (value : Data) → IfOk (request_at kind value) IsLegalRequest
-unfolding open_at submit_at route_at relay_at apply_at repeat_at close_at lose_at verify_at verdict_at
+unfolding request_at
 request_gave kinds.Open value =
-    then_gave (AllByRecursion (AllByRecursion IsMarket)) IsLegalRequest (market_lists_at fields.Parties value) _ (market_lists_gave fields.Parties value)
+    then_gave AreMarketLists IsLegalRequest (market_lists_at fields.Parties value) _ (market_lists_gave fields.Parties value)
     (λ parties legal. with_number IsLegalRequest fields.Submissions value _ (λ submissions s. with_number IsLegalRequest fields.Uplink value _
-    (λ uplink u. with_number IsLegalRequest fields.Window value _ (λ window w. with_number IsLegalRequest fields.Wire value _ (λ wire i. (legal, s, u, w, i))))))
+    (λ uplink u. with_number IsLegalRequest fields.Window value _ (λ window w. with_number IsLegalRequest fields.Wire value _
+    (λ wire i. (legal, (s, (u, (w, (i, tt))))))))))
 request_gave kinds.Submit value =
     with_number IsLegalRequest fields.From value _ (λ from small. then_gave IsLegal IsLegalRequest (message_at value) _ (message_gave value)
-    (λ message legal. (small, legal)))
-request_gave kinds.Route value = with_number IsLegalRequest fields.From value _ (λ from small. small)
-request_gave kinds.Relay value = with_link value (λ from to. steps.Relay from to) (λ from to small less. (small, less))
-request_gave kinds.Apply value = with_link value (λ from to. steps.Apply from to) (λ from to small less. (small, less))
+    (λ message legal. (small, (legal, tt))))
+request_gave kinds.Route value = with_number IsLegalRequest fields.From value _ (λ from small. (small, tt))
+request_gave kinds.Relay value = with_link value (λ from to. steps.Relay from to) (λ from to small less. (small, (less, tt)))
+request_gave kinds.Apply value = with_link value (λ from to. steps.Apply from to) (λ from to small less. (small, (less, tt)))
 request_gave kinds.Repeat value =
     with_number IsLegalRequest fields.From value _ (λ from small. with_number IsLegalRequest fields.Number value _
-    (λ number less. with_number IsLegalRequest fields.To value _ (λ to few. (small, few, less))))
-request_gave kinds.Close value = with_link value (λ from to. steps.Close from to) (λ from to small less. (small, less))
-request_gave kinds.Lose value = with_link value (λ from to. steps.Lose from to) (λ from to small less. (small, less))
+    (λ number less. with_number IsLegalRequest fields.To value _ (λ to few. (small, (less, (few, tt))))))
+request_gave kinds.Close value = with_link value (λ from to. steps.Close from to) (λ from to small less. (small, (less, tt)))
+request_gave kinds.Lose value = with_link value (λ from to. steps.Lose from to) (λ from to small less. (small, (less, tt)))
 request_gave kinds.Verify value =
-    then_gave IsGtin IsLegalRequest (gtin_at fields.Gtin value) _ (gtin_gave fields.Gtin value)
-    (λ gtin legal. with_number IsLegalRequest fields.Party value _ (λ party small. then_gave IsCode IsLegalRequest (serial_at fields.Serial value) _
-    (serial_gave fields.Serial value) (λ serial coded. (small, (legal, coded)))))
+    then_gave IsGtin IsLegalRequest (read_at read_gtin fields.Gtin value) _ (gtin_gave fields.Gtin value)
+    (λ gtin legal. with_number IsLegalRequest fields.Party value _ (λ party small. then_gave IsCode IsLegalRequest (read_at read_code fields.Serial value) _
+    (serial_gave fields.Serial value) (λ serial coded. (legal, (small, (coded, tt))))))
 request_gave kinds.Verdict value =
-    with_number IsLegalRequest fields.Party value _ (λ party small. with_number IsLegalRequest fields.Q value _ (λ q less. (small, less)))
+    with_number IsLegalRequest fields.Party value _ (λ party small. with_number IsLegalRequest fields.Q value _ (λ q less. (small, (less, tt))))
 
 read_gave : (value : Data) → IfOk (read_request value) IsLegalRequest
 unfolding read_request
 read_gave value =
-    then_any IsLegalRequest (some_or NotObject (as_object value)) _ (λ members. then_any IsLegalRequest (kind_at value) _
+    then_any IsLegalRequest (ok_or (as_object value) NotObject) _ (λ members. then_any IsLegalRequest (kind_at value) _
     (λ kind. then_any IsLegalRequest (known_kind_at kind members) _ (λ known. request_gave known value)))
 
 -- what a line asks is legal

@@ -1,20 +1,23 @@
--- What a line that is plainly of a flat kind asks.
-use Rattle.std.proofs.Common.{◌≡◌, ℕ, ◌<◌, ◌^◌, List, ◌∷◌, Some, ap, ◌∙◌, lt-ltb}
+-- What a line that is plainly written asks.
+use Rattle.std.proofs.Common.{◌≡◌, ℕ, suc, ◌<◌, ◌^◌, List, [], ◌∷◌, Some, ap, ◌∙◌, lt-ltb}
 use Rattle.std.specs.Prelude.{Option, None, IfSome, Ok, IsUtf8}
-use Rattle.json.specs.Json.{value, items, members}
+use Rattle.json.specs.Json.{Json, value, items, members}
+use Rattle.json.specs.Json as json
 use Rattle.json.specs.Lex.{tokens}
 use Rattle.json.specs.Token.{Token, key, number}
 use Rattle.serde_json.specs.Data.{Data, Members, object, member, no_members, string, unsigned}
 use Rattle.serde_json.specs.Data as datas
-use Rattle.serde_json.specs.Read.{read}
+use Rattle.serde_json.specs.Read.{read, of_json}
 use Rattle.mv_machine.specs.declared.step.Step.{Step as AnyStep}
 use Rattle.mv_machine.specs.declared.step.Step.TheVariants as steps
+use Rattle.mv_message.specs.declared.message.Message.{Message}
+use Rattle.mv_json.specs.Messages.{read_message}
 use Rattle.mv_json.proofs.ValueLemmas.{utf8_test}
 use Rattle.mv_lines.specs.Fields.{field_name}
 use Rattle.mv_lines.specs.Kinds.{kind_at, kind_named}
-use Rattle.mv_lines.specs.PlainLines.{IsWhole, HasNumber, AreLink, AreAsked, Asks, value_of, line_tokens, last}
-use Rattle.mv_lines.specs.Reading.{number_at}
-use Rattle.mv_lines.specs.Requests.{read_line, read_request, route_at, link_at, relay_at, apply_at, repeat_at, close_at, lose_at, verdict_at}
+use Rattle.mv_lines.specs.PlainLines.{IsWhole, HasNumber, HasMessage, AreLink, AreAsked, Asks, value_of, line_tokens, last}
+use Rattle.mv_lines.specs.Reading.{number_at, message_at}
+use Rattle.mv_lines.specs.Requests.{read_line, read_request, request_at}
 use Rattle.mv_lines.specs.declared.field.LineField.{LineField}
 use Rattle.mv_lines.specs.declared.field.LineField.TheVariants as fields
 use Rattle.mv_lines.specs.declared.kind.LineKind.TheVariants as kinds
@@ -46,7 +49,30 @@ verdict_line name party q = line name (whole_member fields.Party party (whole_me
 abbrev pub field_tokens : LineField → List ℕ → List Token → List Token
 field_tokens field text rest = key (field_name field) ∷ number text ∷ rest
 
+-- a line that submits: its tokens, in the tree of JSON, and its value
+abbrev submit_tokens : List ℕ → List ℕ → List Token → List Token
+submit_tokens name from more = line_tokens name (field_tokens fields.From from (key (field_name fields.Message) ∷ more))
+
+abbrev submit_json : List ℕ → List ℕ → Json → Json
+submit_json name from message =
+    json.object (json.member (field_name fields.Do) (json.string name) (json.member (field_name fields.From) (json.number from)
+    (json.member (field_name fields.Message) message json.no_members)))
+
+abbrev submit_line : List ℕ → ℕ → Data → Data
+submit_line name from message = line name (whole_member fields.From from (member (field_name fields.Message) message no_members))
+
 -- ---- the values of the tokens
+
+submit_parsed : (depth : ℕ) (name from : List ℕ) (more : List Token) (message : Json) → value (suc depth) more ≡ Some (message, last)
+    → value (suc (suc depth)) (submit_tokens name from more) ≡ Some (submit_json name from message, [])
+unfolding members value
+submit_parsed depth name from more message h = rw h
+
+submit_value : (name from : List ℕ) (n : ℕ) (more : List Token) (message : Json) (found : Data) → IsWhole from n
+    → value 126 more ≡ Some (message, last) → of_json message ≡ Some found
+    → value_of (submit_tokens name from more) ≡ Some (submit_line name n found)
+submit_value name from n more message found is parsed read =
+    rw (submit_parsed 125 name from more message parsed, is.0, read)
 
 route_value : (name a : List ℕ) (m : ℕ) → IsWhole a m
     → value_of (line_tokens name (field_tokens fields.From a last)) ≡ Some (route_line name m)
@@ -79,40 +105,54 @@ link_asks name ts m n step (rest, from, to) asks = (
   asks from.1.1 to.1.1,
 )
 
+submit_request : (name : List ℕ) (n : ℕ) (found : Data) (message : Message) → kind_named name ≡ Some kinds.Submit → n < 2 ^ 32
+    → read_message found ≡ Ok message → read_request (submit_line name n found) ≡ Ok (Step (steps.Submit n message))
+unfolding read_request request_at number_at message_at kind_at
+submit_request name n found message named within read = rw (named, lt-ltb _ _ within, read)
+
 pub route_request : (name : List ℕ) (m : ℕ) → kind_named name ≡ Some kinds.Route → m < 2 ^ 32
     → read_request (route_line name m) ≡ Ok (Step (steps.Route m))
-unfolding read_request route_at number_at kind_at
+unfolding read_request request_at number_at kind_at
 route_request name m named hm = rw (named, lt-ltb _ _ hm)
 
 pub relay_request : (name : List ℕ) (m n : ℕ) → kind_named name ≡ Some kinds.Relay → m < 2 ^ 32 → n < 2 ^ 32
     → read_request (link_line name m n) ≡ Ok (Step (steps.Relay m n))
-unfolding read_request relay_at link_at number_at kind_at
+unfolding read_request request_at number_at kind_at
 relay_request name m n named hm hn = rw (named, lt-ltb _ _ hm, lt-ltb _ _ hn)
 
 pub apply_request : (name : List ℕ) (m n : ℕ) → kind_named name ≡ Some kinds.Apply → m < 2 ^ 32 → n < 2 ^ 32
     → read_request (link_line name m n) ≡ Ok (Step (steps.Apply m n))
-unfolding read_request apply_at link_at number_at kind_at
+unfolding read_request request_at number_at kind_at
 apply_request name m n named hm hn = rw (named, lt-ltb _ _ hm, lt-ltb _ _ hn)
 
 pub repeat_request : (name : List ℕ) (m n o : ℕ) → kind_named name ≡ Some kinds.Repeat → m < 2 ^ 32 → n < 2 ^ 32 → o < 2 ^ 32
     → read_request (repeat_line name m n o) ≡ Ok (Step (steps.Repeat m o n))
-unfolding read_request repeat_at number_at kind_at
+unfolding read_request request_at number_at kind_at
 repeat_request name m n o named hm hn ho = rw (named, lt-ltb _ _ hm, lt-ltb _ _ hn, lt-ltb _ _ ho)
 
 pub close_request : (name : List ℕ) (m n : ℕ) → kind_named name ≡ Some kinds.Close → m < 2 ^ 32 → n < 2 ^ 32
     → read_request (link_line name m n) ≡ Ok (Step (steps.Close m n))
-unfolding read_request close_at link_at number_at kind_at
+unfolding read_request request_at number_at kind_at
 close_request name m n named hm hn = rw (named, lt-ltb _ _ hm, lt-ltb _ _ hn)
 
 pub lose_request : (name : List ℕ) (m n : ℕ) → kind_named name ≡ Some kinds.Lose → m < 2 ^ 32 → n < 2 ^ 32
     → read_request (link_line name m n) ≡ Ok (Step (steps.Lose m n))
-unfolding read_request lose_at link_at number_at kind_at
+unfolding read_request request_at number_at kind_at
 lose_request name m n named hm hn = rw (named, lt-ltb _ _ hm, lt-ltb _ _ hn)
 
 pub verdict_request : (name : List ℕ) (m n : ℕ) → kind_named name ≡ Some kinds.Verdict → m < 2 ^ 32 → n < 2 ^ 32
     → read_request (verdict_line name m n) ≡ Ok (Step (steps.Verdict m n))
-unfolding read_request verdict_at number_at kind_at
+unfolding read_request request_at number_at kind_at
 verdict_request name m n named hm hn = rw (named, lt-ltb _ _ hm, lt-ltb _ _ hn)
+
+pub submit_asks : (name : List ℕ) (ts more : List Token) (n : ℕ) (message : Message) → kind_named name ≡ Some kinds.Submit
+    → HasNumber ts fields.From n more → HasMessage more message last → Asks name ts (steps.Submit n message)
+submit_asks name ts more n message named from (rest, is, (found, (parsed, value_is, read_is), read)) = (
+  _,
+  ap (λ r. value_of (line_tokens name r)) (from.2 ∙ ap (λ r. field_tokens fields.From from.0 r) is)
+      ∙ submit_value name from.0 n rest parsed found from.1 (value_is 124) read_is,
+  submit_request name n found message named from.1.1 read,
+)
 
 pub route_asks : (name : List ℕ) (ts : List Token) (m : ℕ) → kind_named name ≡ Some kinds.Route → HasNumber ts fields.From m last
     → Asks name ts (steps.Route m)

@@ -1,58 +1,71 @@
--- The kinds of lines, by the text of their field `do`, and the fields of each.
-use Rattle.std.specs.Prelude.{ℕ, if◌then◌else◌, List, [], ◌∷◌, map, codes, bytes_eq, Option, Some, None, Result, Ok, Err}
+-- The kinds of lines, by the text of their field `do`, and what the fields of each ask.
+use Rattle.std.specs.Prelude.{ℕ, List, [], ◌∷◌, map, codes, bytes_eq, find, Option, Some, None, option_map, Result, Ok, Err, ok_or}
+use Rattle.std.specs.Option.{option_map_or}
 use Rattle.serde_json.specs.Data.{Data, Members}
 use Rattle.mv_json.specs.Members.{first_unknown}
+use Rattle.mv_machine.specs.declared.step.Step.TheVariants as steps
+use Rattle.mv_pack.specs.Keys.{pack_key}
 use Rattle.mv_lines.specs.declared.field.LineField.{LineField}
 use Rattle.mv_lines.specs.declared.field.LineField.TheVariants as fields
 use Rattle.mv_lines.specs.declared.line_fault.LineFault.{LineFault}
 use Rattle.mv_lines.specs.declared.line_fault.LineFault.TheVariants.{Kind, Unknown}
 use Rattle.mv_lines.specs.declared.kind.LineKind.{LineKind}
 use Rattle.mv_lines.specs.declared.kind.LineKind.TheVariants as kinds
+use Rattle.mv_lines.specs.declared.request.Request.{Request}
+use Rattle.mv_lines.specs.declared.request.Request.TheVariants.{Open, Step}
 use Rattle.mv_lines.specs.Fields.{field_name}
-use Rattle.mv_lines.specs.Reading.{◌and_then◌, some_or, text_at}
+use Rattle.mv_lines.specs.Meanings.{meaning_of}
+use Rattle.mv_lines.specs.Reading.{◌and_then◌, text_at}
+
+-- the kinds by their names
+abbrev pub named_kinds : List (List ℕ × LineKind)
+named_kinds =
+    (codes "open", kinds.Open) ∷ (codes "submit", kinds.Submit) ∷ (codes "route", kinds.Route) ∷ (codes "relay", kinds.Relay)
+    ∷ (codes "apply", kinds.Apply) ∷ (codes "repeat", kinds.Repeat) ∷ (codes "close", kinds.Close) ∷ (codes "lose", kinds.Lose)
+    ∷ (codes "verify", kinds.Verify) ∷ (codes "verdict", kinds.Verdict) ∷ []
 
 -- the kind that a text of `do` names
 abbrev pub kind_named : List ℕ → Option LineKind
-kind_named text =
-    if bytes_eq text (codes "open") then Some kinds.Open
-    else (if bytes_eq text (codes "submit") then Some kinds.Submit
-    else (if bytes_eq text (codes "route") then Some kinds.Route
-    else (if bytes_eq text (codes "relay") then Some kinds.Relay
-    else (if bytes_eq text (codes "apply") then Some kinds.Apply
-    else (if bytes_eq text (codes "repeat") then Some kinds.Repeat
-    else (if bytes_eq text (codes "close") then Some kinds.Close
-    else (if bytes_eq text (codes "lose") then Some kinds.Lose
-    else (if bytes_eq text (codes "verify") then Some kinds.Verify
-    else (if bytes_eq text (codes "verdict") then Some kinds.Verdict
-    else None)))))))))
+kind_named text = option_map (λ row. row.1) (find (λ row. bytes_eq text row.0) named_kinds)
 
--- the fields of a line, in byte order of their names
-abbrev pub fields_of : LineKind → List LineField
-fields_of kinds.Open =
-    fields.Do ∷ fields.Parties ∷ fields.Submissions ∷ fields.Uplink ∷ fields.Window ∷ fields.Wire ∷ []
-fields_of kinds.Submit = fields.Do ∷ fields.From ∷ fields.Message ∷ []
-fields_of kinds.Route = fields.Do ∷ fields.From ∷ []
-fields_of kinds.Relay = fields.Do ∷ fields.From ∷ fields.To ∷ []
-fields_of kinds.Apply = fields.Do ∷ fields.From ∷ fields.To ∷ []
-fields_of kinds.Repeat = fields.Do ∷ fields.From ∷ fields.Number ∷ fields.To ∷ []
-fields_of kinds.Close = fields.Do ∷ fields.From ∷ fields.To ∷ []
-fields_of kinds.Lose = fields.Do ∷ fields.From ∷ fields.To ∷ []
-fields_of kinds.Verify = fields.Do ∷ fields.Gtin ∷ fields.Party ∷ fields.Serial ∷ []
-fields_of kinds.Verdict = fields.Do ∷ fields.Party ∷ fields.Q ∷ []
+-- what is asked, once each of these fields has a value
+abbrev pub Asking : List LineField → Type 0
+Asking [] = Request
+Asking (field ∷ rest) = (meaning_of field).Value → Asking rest
 
--- the names of these fields
+-- the fields of a line behind `do`, in byte order of their names, and what their values ask
+pub record Shape : Type 0 where
+  pub others : List LineField
+  pub asks : Asking others
+
+-- the shape of the lines of a kind
+abbrev pub shape_of : LineKind → Shape
+shape_of kinds.Open = record {
+  others = fields.Parties ∷ fields.Submissions ∷ fields.Uplink ∷ fields.Window ∷ fields.Wire ∷ [];
+  asks = λ parties submissions uplink window wire. Open parties submissions uplink window wire;
+}
+shape_of kinds.Submit = record { others = fields.From ∷ fields.Message ∷ []; asks = λ from message. Step (steps.Submit from message) }
+shape_of kinds.Route = record { others = fields.From ∷ []; asks = λ from. Step (steps.Route from) }
+shape_of kinds.Relay = record { others = fields.From ∷ fields.To ∷ []; asks = λ from to. Step (steps.Relay from to) }
+shape_of kinds.Apply = record { others = fields.From ∷ fields.To ∷ []; asks = λ from to. Step (steps.Apply from to) }
+shape_of kinds.Repeat =
+    record { others = fields.From ∷ fields.Number ∷ fields.To ∷ []; asks = λ from number to. Step (steps.Repeat from to number) }
+shape_of kinds.Close = record { others = fields.From ∷ fields.To ∷ []; asks = λ from to. Step (steps.Close from to) }
+shape_of kinds.Lose = record { others = fields.From ∷ fields.To ∷ []; asks = λ from to. Step (steps.Lose from to) }
+shape_of kinds.Verify = record {
+  others = fields.Gtin ∷ fields.Party ∷ fields.Serial ∷ [];
+  asks = λ gtin party serial. Step (steps.Verify party (pack_key gtin serial));
+}
+shape_of kinds.Verdict = record { others = fields.Party ∷ fields.Q ∷ []; asks = λ party q. Step (steps.Verdict party q) }
+
+-- the names of the fields of a kind, in byte order
 abbrev pub names_of : LineKind → List (List ℕ)
-names_of kind = map field_name (fields_of kind)
+names_of kind = map field_name (fields.Do ∷ (shape_of kind).others)
 
 -- the kind of an object: M3, M5
 unfoldable pub kind_at : Data → Result LineKind LineFault
-kind_at value = text_at fields.Do value and_then λ text. some_or (Kind fields.Do) (kind_named text)
-
--- the kind, unless there is a key that its lines do not have
-abbrev pub unless_unknown : LineKind → Option (List ℕ) → Result LineKind LineFault
-unless_unknown kind None = Ok kind
-unless_unknown kind (Some key) = Err (Unknown key)
+kind_at value = text_at fields.Do value and_then λ text. ok_or (kind_named text) (Kind fields.Do)
 
 -- the kind, where its lines have all keys of the object; else M4 with the first other one
 abbrev pub known_kind_at : LineKind → Members → Result LineKind LineFault
-known_kind_at kind members = unless_unknown kind (first_unknown (names_of kind) members)
+known_kind_at kind members = option_map_or (λ key. Err (Unknown key)) (first_unknown (names_of kind) members) (Ok kind)

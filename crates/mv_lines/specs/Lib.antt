@@ -5,9 +5,12 @@ pub mod Served
 pub mod Taking
 pub mod Fields
 pub mod Reading
+pub mod MarketLists
+pub mod Meanings
 pub mod Kinds
 pub mod Requests
 pub mod PlainLines
+pub mod Objects
 pub mod ReplyLines
 pub mod Writing
 pub mod KeyOrder

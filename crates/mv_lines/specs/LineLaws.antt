@@ -1,17 +1,16 @@
 -- The laws of lines: of the pieces of an input, and of the line that asks a request.
-use Rattle.std.specs.Prelude.{◌≡◌, ◌<◌, ◌^◌, ℕ, List, [], ◌∷◌, ◌++◌, All, map, codes, Ok}
+use Rattle.std.specs.Prelude.{◌≡◌, ℕ, List, [], ◌∷◌, ◌++◌, All, map, codes, Ok}
 use Rattle.std.specs.List.{AllByRecursion}
-use Rattle.serde_json.specs.Data.{Data, string, array, object, Items, no_members, member}
-use Rattle.serde_json.specs.View.{items_of}
-use Rattle.mv_pack.specs.Market.{IsMarket}
-use Rattle.mv_json.specs.Legal.{IsLegal, IsPackKey}
-use Rattle.mv_json.specs.Messages.{value_of}
-use Rattle.mv_json.specs.Values.{strings, whole}
-use Rattle.mv_machine.specs.declared.step.Step.{Step as AnyStep}
+use Rattle.serde_json.specs.Data.{Data, string}
 use Rattle.mv_machine.specs.declared.step.Step.TheVariants as steps
+use Rattle.mv_lines.specs.declared.field.LineField.{LineField}
+use Rattle.mv_lines.specs.declared.field.LineField.TheVariants as fields
 use Rattle.mv_lines.specs.declared.request.Request.{Request}
 use Rattle.mv_lines.specs.declared.request.Request.TheVariants.{Open, Step}
+use Rattle.mv_lines.specs.Fields.{field_name}
 use Rattle.mv_lines.specs.Lines.{whole_from, rest_from, last_piece, pieces, lines_of, IsUnended}
+use Rattle.mv_lines.specs.Meanings.{meaning_of}
+use Rattle.mv_lines.specs.Objects.{object_of}
 use Rattle.mv_lines.specs.Replies.{text_lines}
 use Rattle.mv_lines.specs.Requests.{read_request}
 
@@ -40,83 +39,37 @@ LinesCompose =
     (front back : List ℕ) → lines_of (pieces (front ++ 10 ∷ back))
     ≡ lines_of (pieces front) ++ lines_of (pieces back)
 
--- the value of the line that asks a step, its keys in byte order
-abbrev pub step_value : AnyStep → Data
-step_value (steps.Submit from message) =
-    object (member (codes "do") (string (codes "submit"))
-    (member (codes "from") (whole from)
-    (member (codes "message") (value_of message) no_members)))
-step_value (steps.Verify party key) =
-    object (member (codes "do") (string (codes "verify"))
-    (member (codes "gtin") (string key.gtin)
-    (member (codes "party") (whole party)
-    (member (codes "serial") (string key.serial) no_members))))
-step_value (steps.Route from) =
-    object (member (codes "do") (string (codes "route"))
-    (member (codes "from") (whole from) no_members))
-step_value (steps.Relay from to) =
-    object (member (codes "do") (string (codes "relay"))
-    (member (codes "from") (whole from)
-    (member (codes "to") (whole to) no_members)))
-step_value (steps.Apply from to) =
-    object (member (codes "do") (string (codes "apply"))
-    (member (codes "from") (whole from)
-    (member (codes "to") (whole to) no_members)))
-step_value (steps.Repeat from to number) =
-    object (member (codes "do") (string (codes "repeat"))
-    (member (codes "from") (whole from)
-    (member (codes "number") (whole number)
-    (member (codes "to") (whole to) no_members))))
-step_value (steps.Close from to) =
-    object (member (codes "do") (string (codes "close"))
-    (member (codes "from") (whole from)
-    (member (codes "to") (whole to) no_members)))
-step_value (steps.Lose from to) =
-    object (member (codes "do") (string (codes "lose"))
-    (member (codes "from") (whole from)
-    (member (codes "to") (whole to) no_members)))
-step_value (steps.Verdict party q) =
-    object (member (codes "do") (string (codes "verdict"))
-    (member (codes "party") (whole party)
-    (member (codes "q") (whole q) no_members)))
+-- a field of a line, and the value that it has
+abbrev pub Said : Type 0
+Said = (field : LineField) × (meaning_of field).Value
 
--- the markets of each party, a list of texts each
-abbrev pub markets_value : List (List (List ℕ)) → Items
-markets_value parties = items_of (map (λ markets. array (strings markets)) parties)
+-- the line that asks a request: the name of its kind, and its other fields in byte order of their names
+abbrev pub line_of : Request → List ℕ × List Said
+line_of (Open parties submissions uplink window wire) = (
+  codes "open",
+  (fields.Parties, parties) ∷ (fields.Submissions, submissions) ∷ (fields.Uplink, uplink) ∷ (fields.Window, window) ∷ (fields.Wire, wire) ∷ [],
+)
+line_of (Step (steps.Submit from message)) = (codes "submit", (fields.From, from) ∷ (fields.Message, message) ∷ [])
+line_of (Step (steps.Verify party key)) =
+    (codes "verify", (fields.Gtin, key.gtin) ∷ (fields.Party, party) ∷ (fields.Serial, key.serial) ∷ [])
+line_of (Step (steps.Route from)) = (codes "route", (fields.From, from) ∷ [])
+line_of (Step (steps.Relay from to)) = (codes "relay", (fields.From, from) ∷ (fields.To, to) ∷ [])
+line_of (Step (steps.Apply from to)) = (codes "apply", (fields.From, from) ∷ (fields.To, to) ∷ [])
+line_of (Step (steps.Repeat from to number)) = (codes "repeat", (fields.From, from) ∷ (fields.Number, number) ∷ (fields.To, to) ∷ [])
+line_of (Step (steps.Close from to)) = (codes "close", (fields.From, from) ∷ (fields.To, to) ∷ [])
+line_of (Step (steps.Lose from to)) = (codes "lose", (fields.From, from) ∷ (fields.To, to) ∷ [])
+line_of (Step (steps.Verdict party q)) = (codes "verdict", (fields.Party, party) ∷ (fields.Q, q) ∷ [])
 
 -- the value of the line that asks a request
 abbrev pub request_value : Request → Data
-request_value (Open parties submissions uplink window wire) =
-    object (member (codes "do") (string (codes "open"))
-    (member (codes "parties") (array (markets_value parties))
-    (member (codes "submissions") (whole submissions)
-    (member (codes "uplink") (whole uplink)
-    (member (codes "window") (whole window)
-    (member (codes "wire") (whole wire) no_members))))))
-request_value (Step step) = step_value step
+request_value request = object_of (
+    (field_name fields.Do, string (line_of request).0)
+    ∷ map (λ (field, value). (field_name field, (meaning_of field).value value)) (line_of request).1
+    )
 
--- a number of 32 bits, as types say
-abbrev pub Has32Bits : ℕ → Type 0
-Has32Bits n = n < 2 ^ 32
-
--- The message is legal, the pack is named by values of readers, and the numbers have 32 bits.
-abbrev pub IsLegalStep : AnyStep → Type 0
-IsLegalStep (steps.Submit from message) = Has32Bits from × IsLegal message
-IsLegalStep (steps.Verify party key) = Has32Bits party × IsPackKey key
-IsLegalStep (steps.Route from) = Has32Bits from
-IsLegalStep (steps.Relay from to) = Has32Bits from × Has32Bits to
-IsLegalStep (steps.Apply from to) = Has32Bits from × Has32Bits to
-IsLegalStep (steps.Repeat from to number) = Has32Bits from × Has32Bits to × Has32Bits number
-IsLegalStep (steps.Close from to) = Has32Bits from × Has32Bits to
-IsLegalStep (steps.Lose from to) = Has32Bits from × Has32Bits to
-IsLegalStep (steps.Verdict party q) = Has32Bits party × Has32Bits q
-
--- the same of an opening, whose markets are those of readers
+-- the values that its line has are legal
 abbrev pub IsLegalRequest : Request → Type 0
-IsLegalRequest (Open parties submissions uplink window wire) =
-    AllByRecursion (AllByRecursion IsMarket) parties
-    × Has32Bits submissions × Has32Bits uplink × Has32Bits window × Has32Bits wire
-IsLegalRequest (Step step) = IsLegalStep step
+IsLegalRequest request = AllByRecursion (λ (field, value). (meaning_of field).IsLegal value) (line_of request).1
 
 -- the line that asks a request is read as that request
 abbrev pub RequestsReadBack : Type 0

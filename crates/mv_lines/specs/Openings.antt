@@ -6,6 +6,7 @@ use Rattle.mv_machine.specs.Limits.{Bounds, code_of as limits_code}
 use Rattle.mv_machine.specs.declared.limits.LimitsFault.{LimitsFault}
 use Rattle.mv_lines.specs.declared.open_fault.OpenFault.{OpenFault}
 use Rattle.mv_lines.specs.declared.open_fault.OpenFault.TheVariants.{NotOpen, AlreadyOpen, Parties, Limits, Memory}
+use Rattle.mv_lines.specs.Reading.{map_err}
 
 -- the number of a fault
 abbrev pub code_of : OpenFault → List ℕ
@@ -17,13 +18,11 @@ code_of Memory = codes "H7"
 
 -- the parties of lists of markets, or why there are none
 abbrev pub of_parties : Result (List (List (List ℕ))) HubFault → Result (List (List (List ℕ))) OpenFault
-of_parties (Ok parties) = Ok parties
-of_parties (Err fault) = Err (Parties fault)
+of_parties parties = map_err Parties parties
 
 -- the limits of numbers, or why there are none
 abbrev pub of_limits : Result Bounds LimitsFault → Result Bounds OpenFault
-of_limits (Ok limits) = Ok limits
-of_limits (Err fault) = Err (Limits fault)
+of_limits limits = map_err Limits limits
 
 -- A function returned what an opening gives, or memory was refused.
 abbrev pub Gives : {A : Type 0} → Result A OpenFault → Result A OpenFault → Type 0

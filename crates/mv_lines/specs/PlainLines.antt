@@ -1,10 +1,12 @@
--- The tokens of lines that are plainly of a flat kind: their keys in order, each once, and whole numbers.
+-- The tokens of lines that are plainly written: their keys in order, each once, and whole numbers.
 use Rattle.std.specs.Prelude.{◌≡◌, ℕ, ◌<◌, ◌^◌, List, [], ◌∷◌, Option, Some, Ok, option_and_then}
 use Rattle.json.specs.Json.{value, if_last}
 use Rattle.json.specs.Token.{Token, begin_object, end_object, key, string, number}
 use Rattle.serde_json.specs.Data.{Data, unsigned}
 use Rattle.serde_json.specs.Read.{number_of, of_json, max_depth}
 use Rattle.mv_machine.specs.declared.step.Step.{Step}
+use Rattle.mv_message.specs.declared.message.Message.{Message}
+use Rattle.mv_json.specs.PlainMessages.{BeginWithMessage}
 use Rattle.mv_lines.specs.Fields.{field_name}
 use Rattle.mv_lines.specs.Requests.{read_request}
 use Rattle.mv_lines.specs.declared.field.LineField.{LineField}
@@ -18,6 +20,11 @@ IsWhole text n = (number_of text ≡ Some (unsigned n)) × (n < 2 ^ 32)
 -- a field that is a whole number comes first, then the rest
 abbrev pub HasNumber : List Token → LineField → ℕ → List Token → Type 0
 HasNumber ts field n rest = (text : List ℕ) × IsWhole text n × (ts ≡ key (field_name field) ∷ number text ∷ rest)
+
+-- the message to submit comes first, then the rest
+abbrev pub HasMessage : List Token → Message → List Token → Type 0
+HasMessage ts message rest =
+    (more : List Token) × (ts ≡ key (field_name fields.Message) ∷ more) × BeginWithMessage more message rest
 
 -- the end of an object and of its text
 abbrev pub last : List Token

@@ -1,11 +1,13 @@
 -- The JSON value of each reply. Its text is the value's compact text: no blanks, the keys in byte order.
-use Rattle.std.specs.Prelude.{ℕ, List, map, codes, true, Option, Some, None}
-use Rattle.serde_json.specs.Data.{Data, boolean, number, unsigned, string, array, object, Items, Members, no_members, member}
+use Rattle.std.specs.Prelude.{ℕ, List, [], ◌∷◌, ◌++◌, map, codes, true, Option, Some, None}
+use Rattle.serde_json.specs.Data.{Data, boolean, string, array, Items}
 use Rattle.serde_json.specs.View.{items_of}
 use Rattle.mv_pack.specs.Fault.{code_of as pack_code}
 use Rattle.mv_pack.specs.declared.fault.PackFault.{PackFault}
 use Rattle.mv_pack.specs.declared.fault.PackFault.TheVariants.{Character}
+use Rattle.mv_json.specs.Fault.{code_of as message_code}
 use Rattle.mv_json.specs.Fields.{field_name as message_field_name}
+use Rattle.mv_json.specs.Values.{whole}
 use Rattle.mv_json.specs.declared.fault.MessageFault.{MessageFault}
 use Rattle.mv_json.specs.declared.fault.MessageFault.TheVariants as message
 use Rattle.mv_repository.specs.Effect.{code_of as effect_code}
@@ -23,10 +25,7 @@ use Rattle.mv_machine.specs.Replies.{code_of as refusal_code}
 use Rattle.mv_lines.specs.declared.line_fault.LineFault.{LineFault}
 use Rattle.mv_lines.specs.declared.line_fault.LineFault.TheVariants as line
 use Rattle.mv_lines.specs.Fields.{field_name}
-
--- a whole number
-abbrev pub whole : ℕ → Data
-whole n = number (unsigned n)
+use Rattle.mv_lines.specs.Objects.{object_of}
 
 -- a list of whole numbers
 abbrev pub wholes : List ℕ → Items
@@ -34,28 +33,26 @@ wholes ns = items_of (map whole ns)
 
 -- an object with one whole number
 abbrev pub numbered : List ℕ → ℕ → Data
-numbered key n = object (member key (whole n) no_members)
+numbered key n = object_of ((key, whole n) ∷ [])
 
 -- a refusal by its number
 abbrev pub refused : List ℕ → Data
-refused code = object (member (codes "refused") (string code) no_members)
+refused code = object_of ((codes "refused", string code) ∷ [])
 
 -- a refusal that names a field
 abbrev pub refused_field : List ℕ → List ℕ → Data
-refused_field field code =
-    object (member (codes "field") (string field) (member (codes "refused") (string code) no_members))
+refused_field field code = object_of ((codes "field", string field) ∷ (codes "refused", string code) ∷ [])
 
--- the refusal of a text that is no value (M6): why it is none, its field, and for P6 the place of the character
+-- where in a text the character is that is none of a code (P6)
+abbrev pub place_of : PackFault → List (List ℕ × Data)
+place_of (Character place) = (codes "place", whole place) ∷ []
+place_of fault = []
+
+-- the refusal of a text that is no value (M6): why it is none, and its field
 abbrev pub refused_pack : PackFault → List ℕ → Data
-refused_pack (Character place) field =
-    object (member (codes "fault") (string (codes "P6"))
-    (member (codes "field") (string field)
-    (member (codes "place") (whole place)
-    (member (codes "refused") (string (codes "M6")) no_members))))
-refused_pack fault field =
-    object (member (codes "fault") (string (pack_code fault))
-    (member (codes "field") (string field)
-    (member (codes "refused") (string (codes "M6")) no_members)))
+refused_pack fault field = object_of (
+    (codes "fault", string (pack_code fault)) ∷ (codes "field", string field) ∷ place_of fault ++ (codes "refused", string (codes "M6")) ∷ []
+    )
 
 -- the refusal of a fault of a message
 abbrev pub message_fault_value : MessageFault → Data
@@ -65,9 +62,7 @@ message_fault_value (message.Kind field) = refused_field (message_field_name fie
 message_fault_value (message.Pack field fault) = refused_pack fault (message_field_name field)
 message_fault_value (message.Count field) = refused_field (message_field_name field) (codes "M7")
 message_fault_value (message.TextLength field) = refused_field (message_field_name field) (codes "M8")
-message_fault_value message.NotJson = refused (codes "M1")
-message_fault_value message.NotObject = refused (codes "M2")
-message_fault_value message.Memory = refused (codes "M9")
+message_fault_value fault = refused (message_code fault)
 
 -- the refusal of a fault of a line
 abbrev pub line_fault_value : LineFault → Data
@@ -82,8 +77,7 @@ line_fault_value line.Memory = refused (codes "M9")
 
 -- the refusal of a step: S6 names the party whose link has no room
 abbrev pub refusal_value : Refusal → Data
-refusal_value (Busy party) =
-    object (member (codes "party") (whole party) (member (codes "refused") (string (codes "S6")) no_members))
+refusal_value (Busy party) = object_of ((codes "party", whole party) ∷ (codes "refused", string (codes "S6")) ∷ [])
 refusal_value refusal = refused (refusal_code refusal)
 
 -- the reply to an opening with so many parties
@@ -92,45 +86,39 @@ opened_value count = numbered (codes "opened") count
 
 -- a verdict on a pack
 abbrev pub verdict_value : Verdict → Data
-verdict_value Authentic = object (member (codes "verdict") (string (codes "authentic")) no_members)
+verdict_value Authentic = object_of ((codes "verdict", string (codes "authentic")) ∷ [])
 verdict_value (NotAuthentic falsification) =
-    object (member (codes "falsification") (boolean falsification)
-    (member (codes "verdict") (string (codes "not authentic")) no_members))
+    object_of ((codes "falsification", boolean falsification) ∷ (codes "verdict", string (codes "not authentic")) ∷ [])
 
 -- the verdict of all that were asked
 abbrev pub joint_value : Joint → Data
-joint_value NotAsked = object (member (codes "verdict") (string (codes "not asked")) no_members)
-joint_value (Pending left) =
-    object (member (codes "left") (whole left) (member (codes "verdict") (string (codes "pending")) no_members))
+joint_value NotAsked = object_of ((codes "verdict", string (codes "not asked")) ∷ [])
+joint_value (Pending left) = object_of ((codes "left", whole left) ∷ (codes "verdict", string (codes "pending")) ∷ [])
 joint_value (Decided verdict) = verdict_value verdict
 
--- the members of an effect: its number, and for E12 how many packs were new and how many were there
-abbrev pub effect_members : Effect → Members
-effect_members (Uploaded new old) =
-    member (codes "effect") (string (codes "E12"))
-    (member (codes "new") (whole new) (member (codes "old") (whole old) no_members))
-effect_members effect = member (codes "effect") (string (effect_code effect)) no_members
+-- of an upload (E12), how many packs were new and how many were there
+abbrev pub counts_of : Effect → List (List ℕ × Data)
+counts_of (Uploaded new old) = (codes "new", whole new) ∷ (codes "old", whole old) ∷ []
+counts_of effect = []
 
--- before these, the answer that was called for
-abbrev pub with_answer : Option ℕ → Members → Members
-with_answer None members = members
-with_answer (Some k) members = member (codes "answer") (whole k) members
+-- the answer that was called for
+abbrev pub answer_of : Option ℕ → List (List ℕ × Data)
+answer_of None = []
+answer_of (Some k) = (codes "answer", whole k) ∷ []
 
 -- the reply to a step
 abbrev pub reply_value : Reply → Data
 reply_value (replies.Submitted k) = numbered (codes "submitted") k
-reply_value (replies.Routed k reach) =
-    object (member (codes "reach") (array (wholes reach)) (member (codes "routed") (whole k) no_members))
+reply_value (replies.Routed k reach) = object_of ((codes "reach", array (wholes reach)) ∷ (codes "routed", whole k) ∷ [])
 reply_value (replies.Relayed n) = numbered (codes "relayed") n
 reply_value (replies.Known verdict) = verdict_value verdict
 reply_value (replies.Asked q) = numbered (codes "asked") q
 reply_value (replies.Applied n effect answer) =
-    object (with_answer answer (member (codes "applied") (whole n) (effect_members effect)))
+    object_of (answer_of answer ++ (codes "applied", whole n) ∷ (codes "effect", string (effect_code effect)) ∷ counts_of effect)
 reply_value (replies.Old n) = numbered (codes "old") n
-reply_value (replies.Gap n expected) =
-    object (member (codes "expected") (whole expected) (member (codes "gap") (whole n) no_members))
+reply_value (replies.Gap n expected) = object_of ((codes "expected", whole expected) ∷ (codes "gap", whole n) ∷ [])
 reply_value (replies.Repeated n) = numbered (codes "repeated") n
-reply_value replies.Closed = object (member (codes "closed") (boolean true) no_members)
+reply_value replies.Closed = object_of ((codes "closed", boolean true) ∷ [])
 reply_value (replies.Lost n) = numbered (codes "lost") n
 reply_value (replies.Joint verdict) = joint_value verdict
 reply_value (replies.Refused refusal) = refusal_value refusal

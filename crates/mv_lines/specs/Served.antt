@@ -2,7 +2,7 @@
 use Rattle.std.specs.Prelude.{◌≡◌, ◌≢◌, ℕ, ◌+◌, ◌<◌, List, [], ◌∷◌, ◌++◌, length, Option, ⊤}
 use Rattle.std.specs.Io.KnownBytes.{Appends}
 use Rattle.mv_lines.specs.declared.fault.ServeFault.{ServeFault}
-use Rattle.mv_lines.specs.declared.fault.ServeFault.TheVariants.{Read, Write, Memory, TooManyLines, LineTooLong, Start}
+use Rattle.mv_lines.specs.declared.fault.ServeFault.TheVariants.{Read, Write, Memory, TooManyLines, LineTooLong}
 use Rattle.mv_lines.specs.Lines.{whole_from, rest_from, pieces, lines_of, line_limit, lines_limit, KeepLimits}
 use Rattle.mv_lines.specs.Replies.{ReplyRule, IsReplies}
 
@@ -12,9 +12,6 @@ Wrote old new Fact = (out : List ℕ) × Appends old new out × Fact out
 
 -- why the taking of bytes stops between `good` and `bad`
 abbrev pub StopsAt : ServeFault → List ℕ → ℕ → List ℕ → List ℕ → Type 0
-StopsAt Read begun count good bad = ⊥
-StopsAt Write begun count good bad = ⊥
-StopsAt Start begun count good bad = ⊥
 StopsAt Memory begun count good bad = ⊤
 -- all lines that a run may have are read, and more follows
 StopsAt TooManyLines begun count good bad =
@@ -23,6 +20,8 @@ StopsAt TooManyLines begun count good bad =
 StopsAt LineTooLong begun count good bad =
     (count + length (whole_from begun good) < lines_limit) × (length (rest_from begun good) ≡ line_limit)
     × (next : ℕ) × (more : List ℕ) × (bad ≡ next ∷ more) × (next ≢ 10)
+-- no other fault stops it there
+StopsAt fault begun count good bad = ⊥
 
 -- the taking of bytes of a line stopped among them
 abbrev pub StopsIn : ServeFault → List ℕ → ℕ → List ℕ → Type 0

@@ -1,5 +1,5 @@
 -- What a line may be answered. What is open is the state of the list machine; nothing, before an opening succeeds.
-use Rattle.std.specs.Prelude.{◌≡◌, ℕ, List, length, Option, Some, None, Result, Ok, Err}
+use Rattle.std.specs.Prelude.{◌≡◌, ℕ, List, length, Option, Some, None, Result, Ok, Err, MatchResult}
 use Rattle.serde_json.specs.Data.{Data}
 use Rattle.serde_json.specs.Written.{compact_text}
 use Rattle.mv_hub.specs.Parties.{parties_of}
@@ -8,7 +8,6 @@ use Rattle.mv_machine.specs.declared.step.Step.{Step}
 use Rattle.mv_machine.specs.Limits.{Bounds, limits_of}
 use Rattle.mv_machine.specs.State.{State, opening}
 use Rattle.mv_machine.specs.Runs.{Allows}
-use Rattle.mv_lines.specs.declared.line_fault.LineFault.{LineFault}
 use Rattle.mv_lines.specs.declared.open_fault.OpenFault.{OpenFault}
 use Rattle.mv_lines.specs.declared.open_fault.OpenFault.TheVariants.{NotOpen, AlreadyOpen}
 use Rattle.mv_lines.specs.declared.request.Request.{Request}
@@ -29,17 +28,13 @@ IsAnswer value left text after = (text ≡ compact_text value) × (after ≡ lef
 abbrev pub IsRefusal : OpenFault → Open → List ℕ → Open → Type 0
 IsRefusal fault before text after = IsAnswer (refused (code_of fault)) before text after
 
--- the reply to an opening where nothing is open: H1 to H3, O1 to O4, else the system opens
-abbrev pub IsOpened : Result (List (List (List ℕ))) OpenFault → Result Bounds OpenFault → List ℕ → Open → Type 0
-IsOpened (Err fault) limits text after = IsRefusal fault None text after
-IsOpened (Ok parties) (Err fault) text after = IsRefusal fault None text after
-IsOpened (Ok parties) (Ok limits) text after =
+-- the reply to a line that opens: C2 where something is open; H1 to H3, O1 to O4; else the system opens
+abbrev pub IsOpened : Open → Result (List (List (List ℕ))) OpenFault → Result Bounds OpenFault → List ℕ → Open → Type 0
+IsOpened (Some st) parties limits text after = IsRefusal AlreadyOpen (Some st) text after
+IsOpened None (Err fault) limits text after = IsRefusal fault None text after
+IsOpened None (Ok parties) (Err fault) text after = IsRefusal fault None text after
+IsOpened None (Ok parties) (Ok limits) text after =
     IsAnswer (opened_value (length parties)) (Some (opening parties limits)) text after
-
--- the reply to a line that opens: C2 where something is open
-abbrev pub IsOpenReply : Open → Result (List (List (List ℕ))) OpenFault → Result Bounds OpenFault → List ℕ → Open → Type 0
-IsOpenReply (Some st) parties limits text after = IsRefusal AlreadyOpen (Some st) text after
-IsOpenReply None parties limits text after = IsOpened parties limits text after
 
 -- the reply to a step: C1 where nothing is open, else one that the list machine allows
 abbrev pub IsStepReply : Open → Step → List ℕ → Open → Type 0
@@ -50,14 +45,12 @@ IsStepReply (Some old) step text after =
 -- the reply to what a line asks
 abbrev pub IsRequestReply : Open → Request → List ℕ → Open → Type 0
 IsRequestReply before (requests.Open parties submissions uplink window wire) text after =
-    IsOpenReply before (of_parties (parties_of parties)) (of_limits (limits_of window wire uplink submissions)) text after
+    IsOpened before (of_parties (parties_of parties)) (of_limits (limits_of window wire uplink submissions)) text after
 IsRequestReply before (requests.Step step) text after = IsStepReply before step text after
-
--- the reply to what reading a line gave
-abbrev pub IsReadReply : Open → Result Request LineFault → List ℕ → Open → Type 0
-IsReadReply before (Err fault) text after = IsAnswer (line_fault_value fault) before text after
-IsReadReply before (Ok request) text after = IsRequestReply before request text after
 
 -- the reply to a line: what is open before it, the line, the reply's text, and what is open behind it
 abbrev pub IsReply : Open → List ℕ → List ℕ → Open → Type 0
-IsReply before line text after = IsReadReply before (read_line line) text after
+IsReply before line text after =
+    MatchResult (read_line line)
+    (λ request. IsRequestReply before request text after)
+    (λ fault. IsAnswer (line_fault_value fault) before text after)

@@ -6,7 +6,8 @@ use Rattle.json.specs.Tree.{json_tokens, items_tokens}
 use Rattle.json.specs.Written.{Written}
 use Rattle.serde_json.specs.Data.{Data, Members, no_members, member, string, boolean, array}
 use Rattle.serde_json.specs.Written.{outline, items_outline, compact_text}
-use Rattle.mv_lines.specs.ReplyLines.{whole, wholes}
+use Rattle.mv_json.specs.Values.{whole}
+use Rattle.mv_lines.specs.ReplyLines.{wholes}
 use Rattle.mv_lines.specs.declared.members.Member.{Member}
 use Rattle.mv_lines.specs.declared.members.Member.TheVariants as members
 

@@ -2,7 +2,9 @@
 
 ghost use Rattle.std.specs.Prelude.{◌≡◌, MatchResult, Ok, Err};
 ghost use Rattle.serde_json.specs.View.{view};
-ghost use Rattle.mv_lines.specs.Reading.{member_at, text_at, gtin_at, serial_at, whole_number, number_at, message_at, Gives};
+ghost use Rattle.mv_pack.specs.Code.{read_code};
+ghost use Rattle.mv_pack.specs.Gtin.{read_gtin};
+ghost use Rattle.mv_lines.specs.Reading.{member_at, text_at, read_at, whole_number, number_at, message_at, Gives};
 
 use crate::{LineFault, LineField};
 use mv_json::MessageFault;
@@ -32,17 +34,17 @@ pub(crate) fn text_of(value: &Value, field: LineField) -> Result<&str, LineFault
 }
 
 /// The product code of a field: M3, M5, M6.
-#[tactic(auto, unfolding(crate::specs::Reading::gtin_at))]
+#[tactic(auto, unfolding(crate::specs::Reading::read_at))]
 pub(crate) fn gtin_of(value: &Value, field: LineField) -> Result<Gtin, LineFault>
-    ensures { result ≡ gtin_at field (view value.now) }
+    ensures { result ≡ read_at read_gtin field (view value.now) }
 {
     Gtin::read(text_of(value, field)?).map_err(|fault| LineFault::Pack(field, fault))
 }
 
 /// The serial number of a field: M3, M5, M6.
-#[tactic(auto, unfolding(crate::specs::Reading::serial_at))]
+#[tactic(auto, unfolding(crate::specs::Reading::read_at))]
 pub(crate) fn serial_of(value: &Value, field: LineField) -> Result<Serial, LineFault>
-    ensures { result ≡ serial_at field (view value.now) }
+    ensures { result ≡ read_at read_code field (view value.now) }
 {
     Serial::read(text_of(value, field)?).map_err(|fault| LineFault::Pack(field, fault))
 }

@@ -5,7 +5,8 @@ ghost use Rattle.std.specs.List.{list_all};
 ghost use Rattle.serde_json.specs.Find.{as_str};
 ghost use Rattle.serde_json.specs.View.{view, items_view};
 ghost use Rattle.mv_json.specs.Reading.{are_texts};
-ghost use Rattle.mv_lines.specs.Reading.{Gives, is_text_list, are_text_lists, text_lists, market_item, read_markets, market_list, read_market_lists, market_lists_at};
+ghost use Rattle.mv_lines.specs.MarketLists.{is_text_list, are_text_lists, text_lists, market_item, read_markets, market_list, read_market_lists};
+ghost use Rattle.mv_lines.specs.Reading.{Gives, market_lists_at};
 
 use crate::field_reading::member_of;
 use crate::{LineFault, LineField};
@@ -45,7 +46,7 @@ impl MarketLists {
 }
 
 /// The lists of markets of a field: M3; M5 where it is no list of lists of texts; M6 with P8.
-#[tactic(auto, unfolding(crate::specs::Reading::market_lists_at))]
+#[tactic(auto, using(crate::proofs::ListLemmas::lists_walked), unfolding(crate::specs::MarketLists::walked_lists_at))]
 pub(crate) fn market_lists_of(
     alloc: Global,
     value: &Value,

@@ -2,54 +2,61 @@
 
 ghost use Rattle.std.specs.Prelude.{◌≡◌, ◌∷◌, Ok, IfSome, IsTrue};
 ghost use Rattle.json.specs.Lex.{tokens};
-ghost use Rattle.json.specs.Token.{key, string, begin_object};
+ghost use Rattle.json.specs.Token.{key, begin_object};
 ghost use Rattle.mv_lines.specs.Fields.{field_name};
-ghost use Rattle.mv_lines.specs.PlainLines.{IsWhole, HasNumber, AreLink, Asks, AreAsked, last};
+ghost use Rattle.mv_lines.specs.PlainLines.{HasNumber, HasMessage, AreLink, Asks, AreAsked, last};
 ghost use Rattle.mv_lines.specs.Requests.{read_line};
 ghost use Rattle.mv_lines.specs.declared.request.Request.TheVariants.{Step as AStep};
 
 use crate::LineField;
 use crate::kind::{LineKind, kind_called};
-use fast_float::Numeral;
 use json::{Reader, Scratch, Token};
+use mv_json::take_message;
+use mv_json::tokens::{take_text, take_whole, takes_key};
 use mv_machine::Step;
-use mv_message::Party;
+use mv_message::{Message, Party, Shared};
+use std::alloc::Global;
 
 /// The step that a line asks, where it plainly asks one: its keys in byte order, each once, and its numbers whole. Any
-/// other line gives none, whatever it asks.
-pub(crate) fn plain_step(scratch: &mut Scratch, line: &[u8]) -> Option<Step>
+/// other line gives none, whatever it asks, and so does a refusal of memory.
+pub(crate) fn plain_step(alloc: Global, scratch: &mut Scratch, line: &[u8]) -> Option<Step>
     ensures { IfSome result (λ step. read_line line.now ≡ Ok (AStep step)) }
 {
     match simdutf8::basic::from_utf8(line) {
-        Ok(text) => step_of_text(scratch, text),
+        Ok(text) => step_of_text(alloc, scratch, text),
         Err(_) => None,
     }
 }
 
 /// The step that a text plainly asks.
-fn step_of_text(scratch: &mut Scratch, text: &str) -> Option<Step>
+fn step_of_text(alloc: Global, scratch: &mut Scratch, text: &str) -> Option<Step>
     ensures { IfSome result (AreAsked (tokens text.now)) }
 {
     let mut reader = Reader::new(text, scratch).ok()?;
-    step_of(&mut reader)
+    step_of(alloc, &mut reader)
 }
 
 /// The step that tokens plainly ask.
-fn step_of(reader: &mut Reader<'_>) -> Option<Step>
+fn step_of(alloc: Global, reader: &mut Reader<'_>) -> Option<Step>
     ensures { IfSome result (AreAsked reader.old) }
 {
-    if !takes_opening(reader) || !takes_key(reader, LineField::Do) {
+    if !takes_opening(reader) || !takes_field(reader, LineField::Do) {
         return None;
     }
     let name = take_text(reader)?;
-    step_of_kind(reader, name)
+    step_of_kind(alloc, reader, name)
 }
 
 /// The step that the tokens behind the name of its kind plainly ask.
-fn step_of_kind(reader: &mut Reader<'_>, name: &str) -> Option<Step>
+fn step_of_kind(alloc: Global, reader: &mut Reader<'_>, name: &str) -> Option<Step>
     ensures { IfSome result (Asks name.now reader.old) }
 {
     match kind_called(name)? {
+        LineKind::Submit => {
+            let from = take_number(reader, LineField::From)?;
+            let message = take_last_message(alloc, reader)?;
+            Some(Step::Submit { from, message })
+        }
         LineKind::Route => {
             let from = take_last_number(reader, LineField::From)?;
             Some(Step::Route { from })
@@ -81,8 +88,22 @@ fn step_of_kind(reader: &mut Reader<'_>, name: &str) -> Option<Step>
             let q = take_last_number(reader, LineField::Q)?;
             Some(Step::Verdict { party, q })
         }
-        LineKind::Open | LineKind::Submit | LineKind::Verify => None,
+        LineKind::Open | LineKind::Verify => None,
     }
+}
+
+/// Takes the message to submit, where nothing follows.
+fn take_last_message(alloc: Global, reader: &mut Reader<'_>) -> Option<Shared<Message>>
+    ensures { IfSome result (λ message. HasMessage reader.old message last) }
+{
+    if !takes_field(reader, LineField::Message) {
+        return None;
+    }
+    let message = take_message(alloc, reader)?;
+    if !takes_end(reader) {
+        return None;
+    }
+    Shared::new(alloc, message).ok()
 }
 
 /// Takes the two parties of a link, where nothing follows.
@@ -109,45 +130,17 @@ fn take_last_number(reader: &mut Reader<'_>, field: LineField) -> Option<u32>
 fn take_number(reader: &mut Reader<'_>, field: LineField) -> Option<u32>
     ensures { IfSome result (λ n. HasNumber reader.old field n reader.new) }
 {
-    if !takes_key(reader, field) {
+    if !takes_field(reader, field) {
         return None;
     }
-    match reader.next() {
-        Some(Token::Number(text)) => whole_of_text(text),
-        _ => None,
-    }
-}
-
-/// The number that a text is, where it is a whole one of 32 bits and has no sign.
-#[tactic(auto, unfolding(serde_json::specs::Read::number_of))]
-fn whole_of_text(text: &str) -> Option<u32>
-    ensures { IfSome result (λ n. IsWhole text.now n) }
-{
-    let bytes = text.as_bytes();
-    if bytes.is_empty() || bytes[0] == b'-' {
-        return None;
-    }
-    u32::try_from(Numeral::scan(bytes).to_u64()?).ok()
-}
-
-/// Takes the string that is next.
-fn take_text<'a>(reader: &mut Reader<'a>) -> Option<&'a str>
-    ensures { IfSome result (λ text. reader.old ≡ string text.now ∷ reader.new) }
-{
-    match reader.next() {
-        Some(Token::String(text)) => Some(text),
-        _ => None,
-    }
+    u32::try_from(take_whole(reader)?).ok()
 }
 
 /// Takes the key of a field, and says whether it was next.
-fn takes_key(reader: &mut Reader<'_>, field: LineField) -> bool
+fn takes_field(reader: &mut Reader<'_>, field: LineField) -> bool
     ensures { IsTrue result → reader.old ≡ key (field_name field) ∷ reader.new }
 {
-    match reader.next() {
-        Some(Token::Key(name)) => name == field.as_str(),
-        _ => false,
-    }
+    takes_key(reader, field.as_str())
 }
 
 /// Takes the brace that opens an object, and says whether it was next.

@@ -3,14 +3,14 @@
 ghost use Rattle.std.specs.Prelude.{◌≡◌};
 ghost use Rattle.serde_json.specs.View.{view};
 ghost use Rattle.mv_lines.specs.Reading.{Gives};
-ghost use Rattle.mv_lines.specs.Requests.{open_at, submit_at, route_at, link_at, relay_at, apply_at, repeat_at, close_at, lose_at, verify_at, verdict_at, request_at, read_request, read_line};
+ghost use Rattle.mv_lines.specs.Requests.{request_at, read_request, read_line};
 
 use crate::field_reading::{gtin_of, message_of, number_of, serial_of};
 use crate::kind::{LineKind, kind_of, known_kind};
 use crate::market_lists::market_lists_of;
 use crate::{LineFault, LineField, MarketLists};
 use mv_machine::Step;
-use mv_message::{Party, Shared};
+use mv_message::Shared;
 use mv_pack::PackKey;
 use serde_json::Value;
 use std::alloc::Global;
@@ -84,9 +84,9 @@ impl Request {
     }
 
     /// The opening that the fields of a line ask.
-    #[tactic(auto, unfolding(crate::specs::Requests::open_at))]
+    #[tactic(auto, unfolding(crate::specs::Requests::request_at))]
     fn open_of(alloc: Global, value: &Value) -> Result<Request, LineFault>
-        ensures { Gives result (open_at (view value.now)) }
+        ensures { Gives result (request_at LineKind.Open (view value.now)) }
     {
         let parties = market_lists_of(alloc, value, LineField::Parties)?;
         let submissions = number_of(value, LineField::Submissions)?;
@@ -103,9 +103,9 @@ impl Request {
     }
 
     /// The submission that the fields of a line ask.
-    #[tactic(auto, unfolding(crate::specs::Requests::submit_at))]
+    #[tactic(auto, unfolding(crate::specs::Requests::request_at))]
     fn submit_of(alloc: Global, value: &Value) -> Result<Request, LineFault>
-        ensures { Gives result (submit_at (view value.now)) }
+        ensures { Gives result (request_at LineKind.Submit (view value.now)) }
     {
         let from = number_of(value, LineField::From)?;
         let message = message_of(alloc, value)?;
@@ -116,36 +116,38 @@ impl Request {
     }
 
     /// The routing that the fields of a line ask.
-    #[tactic(auto, unfolding(crate::specs::Requests::route_at))]
+    #[tactic(auto, unfolding(crate::specs::Requests::request_at))]
     fn route_of(value: &Value) -> Result<Request, LineFault>
-        ensures { Gives result (route_at (view value.now)) }
+        ensures { Gives result (request_at LineKind.Route (view value.now)) }
     {
         let from = number_of(value, LineField::From)?;
         Ok(Request::Step(Step::Route { from }))
     }
 
     /// The relay that the fields of a line ask.
-    #[tactic(auto, unfolding(crate::specs::Requests::relay_at))]
+    #[tactic(auto, unfolding(crate::specs::Requests::request_at))]
     fn relay_of(value: &Value) -> Result<Request, LineFault>
-        ensures { Gives result (relay_at (view value.now)) }
+        ensures { Gives result (request_at LineKind.Relay (view value.now)) }
     {
-        let (from, to) = link_of(value)?;
+        let from = number_of(value, LineField::From)?;
+        let to = number_of(value, LineField::To)?;
         Ok(Request::Step(Step::Relay { from, to }))
     }
 
     /// The taking of a frame that the fields of a line ask.
-    #[tactic(auto, unfolding(crate::specs::Requests::apply_at))]
+    #[tactic(auto, unfolding(crate::specs::Requests::request_at))]
     fn apply_of(value: &Value) -> Result<Request, LineFault>
-        ensures { Gives result (apply_at (view value.now)) }
+        ensures { Gives result (request_at LineKind.Apply (view value.now)) }
     {
-        let (from, to) = link_of(value)?;
+        let from = number_of(value, LineField::From)?;
+        let to = number_of(value, LineField::To)?;
         Ok(Request::Step(Step::Apply { from, to }))
     }
 
     /// The repetition of a frame that the fields of a line ask.
-    #[tactic(auto, unfolding(crate::specs::Requests::repeat_at))]
+    #[tactic(auto, unfolding(crate::specs::Requests::request_at))]
     fn repeat_of(value: &Value) -> Result<Request, LineFault>
-        ensures { Gives result (repeat_at (view value.now)) }
+        ensures { Gives result (request_at LineKind.Repeat (view value.now)) }
     {
         let from = number_of(value, LineField::From)?;
         let number = number_of(value, LineField::Number)?;
@@ -154,27 +156,29 @@ impl Request {
     }
 
     /// The closing of a link that the fields of a line ask.
-    #[tactic(auto, unfolding(crate::specs::Requests::close_at))]
+    #[tactic(auto, unfolding(crate::specs::Requests::request_at))]
     fn close_of(value: &Value) -> Result<Request, LineFault>
-        ensures { Gives result (close_at (view value.now)) }
+        ensures { Gives result (request_at LineKind.Close (view value.now)) }
     {
-        let (from, to) = link_of(value)?;
+        let from = number_of(value, LineField::From)?;
+        let to = number_of(value, LineField::To)?;
         Ok(Request::Step(Step::Close { from, to }))
     }
 
     /// The loss of a frame that the fields of a line ask.
-    #[tactic(auto, unfolding(crate::specs::Requests::lose_at))]
+    #[tactic(auto, unfolding(crate::specs::Requests::request_at))]
     fn lose_of(value: &Value) -> Result<Request, LineFault>
-        ensures { Gives result (lose_at (view value.now)) }
+        ensures { Gives result (request_at LineKind.Lose (view value.now)) }
     {
-        let (from, to) = link_of(value)?;
+        let from = number_of(value, LineField::From)?;
+        let to = number_of(value, LineField::To)?;
         Ok(Request::Step(Step::Lose { from, to }))
     }
 
     /// The verifying of a pack that the fields of a line ask.
-    #[tactic(auto, unfolding(crate::specs::Requests::verify_at))]
+    #[tactic(auto, unfolding(crate::specs::Requests::request_at))]
     fn verify_of(value: &Value) -> Result<Request, LineFault>
-        ensures { Gives result (verify_at (view value.now)) }
+        ensures { Gives result (request_at LineKind.Verify (view value.now)) }
     {
         let gtin = gtin_of(value, LineField::Gtin)?;
         let party = number_of(value, LineField::Party)?;
@@ -184,22 +188,12 @@ impl Request {
     }
 
     /// The taking of a verdict that the fields of a line ask.
-    #[tactic(auto, unfolding(crate::specs::Requests::verdict_at))]
+    #[tactic(auto, unfolding(crate::specs::Requests::request_at))]
     fn verdict_of(value: &Value) -> Result<Request, LineFault>
-        ensures { Gives result (verdict_at (view value.now)) }
+        ensures { Gives result (request_at LineKind.Verdict (view value.now)) }
     {
         let party = number_of(value, LineField::Party)?;
         let q = number_of(value, LineField::Q)?;
         Ok(Request::Step(Step::Verdict { party, q }))
     }
-}
-
-/// The two parties of the link that the fields of a line name.
-#[tactic(auto, unfolding(crate::specs::Requests::link_at))]
-fn link_of(value: &Value) -> Result<(Party, Party), LineFault>
-    ensures { result ≡ link_at (view value.now) }
-{
-    let from = number_of(value, LineField::From)?;
-    let to = number_of(value, LineField::To)?;
-    Ok((from, to))
 }

@@ -8,7 +8,7 @@ ghost use Rattle.mv_lines.specs.ReplyLines.{refused, opened_value};
 ghost use Rattle.mv_lines.specs.Requests.{read_line};
 ghost use Rattle.mv_lines.specs.Replies.{Readied};
 ghost use Rattle.mv_machine.specs.State.{opening};
-ghost use Rattle.mv_lines.specs.Sessions.{IsAnswer, IsOpenReply, IsStepReply, IsRequestReply, IsReply};
+ghost use Rattle.mv_lines.specs.Sessions.{IsAnswer, IsOpened, IsStepReply, IsRequestReply, IsReply};
 ghost use Rattle.mv_lines.specs.Writing.{Appended};
 
 use crate::plain_line::plain_step;
@@ -70,7 +70,7 @@ impl Session {
         ensures read { ReadGives result (read_line line.now) }
         ensures kept { self.new ≡ self.old }
     {
-        match plain_step(&mut self.scratch, line) {
+        match plain_step(self.alloc, &mut self.scratch, line) {
             Some(step) => Ok(Request::Step(step)),
             None => Request::read(self.alloc, line),
         }
@@ -105,7 +105,7 @@ impl Session {
         out: &mut Vec<u8>,
     ) -> Result<(), AllocError>
         ensures ok { IfOk result (λ _. Readied out.old.items out.new.items (λ text.
-            IsOpenReply self.old (of_parties (parties_of lists)) limits text self.new)) }
+            IsOpened self.old (of_parties (parties_of lists)) limits text self.new)) }
         ensures err { IfErr result (λ _. out.new.items ≡ out.old.items) }
     {
         if self.world.is_some() {

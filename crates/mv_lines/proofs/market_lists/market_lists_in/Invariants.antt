@@ -1,6 +1,6 @@
 use Rattle.std.proofs.Common.{◌≡◌, drop, map}
 use Rattle.serde_json.specs.View.{items_view}
-use Rattle.mv_lines.specs.Reading.{read_market_lists, with_front}
+use Rattle.mv_lines.specs.MarketLists.{read_market_lists, with_front}
 use Rattle.mv_lines.proofs.market_lists.market_lists_in.Given as goal
 
 -- the lists so far stand before those that are left

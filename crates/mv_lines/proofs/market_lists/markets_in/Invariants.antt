@@ -1,6 +1,6 @@
 use Rattle.std.proofs.Common.{◌≡◌, drop}
 use Rattle.serde_json.specs.View.{items_view}
-use Rattle.mv_lines.specs.Reading.{read_markets, with_front}
+use Rattle.mv_lines.specs.MarketLists.{read_markets, with_front}
 use Rattle.mv_lines.proofs.market_lists.markets_in.Given as goal
 
 -- the markets so far stand before those that are left

@@ -1,6 +1,10 @@
 use Rattle.std.proofs.Common.{Some, ap, sym, ◌∙◌}
-use Rattle.mv_lines.proofs.PlainLineLemmas.{route_asks, relay_asks, apply_asks, repeat_asks, close_asks, lose_asks, verdict_asks}
+use Rattle.mv_lines.proofs.PlainLineLemmas.{submit_asks, route_asks, relay_asks, apply_asks, repeat_asks, close_asks, lose_asks, verdict_asks}
 use Rattle.mv_lines.proofs.plain_line.step_of_kind.Goals as goal
+
+pub returns-in_ok-message-in-Submit : goal.returns-in_ok-message-in-Submit
+returns-in_ok-message-in-Submit c =
+    submit_asks _ _ _ _ _ (sym c.in_ok-kind_called.ensures ∙ ap Some c.in-Submit.is) c.in_ok-from-in-Submit.ensures c.in_ok-message-in-Submit.ensures
 
 pub returns-in_ok-from-in-Route : goal.returns-in_ok-from-in-Route
 returns-in_ok-from-in-Route c = route_asks _ _ _ (sym c.in_ok-kind_called.ensures ∙ ap Some c.in-Route.is) c.in_ok-from-in-Route.ensures

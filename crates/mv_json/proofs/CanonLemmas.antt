@@ -22,7 +22,8 @@ use Rattle.mv_json.specs.declared.version.Version.TheVariants.{One, Two}
 use Rattle.mv_json.specs.Legal.{IsLegal}
 use Rattle.mv_json.specs.Messages.{value_in, value_of, read_bytes}
 use Rattle.mv_json.specs.Tokens.{tokens_of}
-use Rattle.mv_json.specs.Values.{strings, found_version, found_value}
+use Rattle.mv_json.specs.Values.{strings, found_version}
+use Rattle.mv_json.specs.Found.{found_value}
 use Rattle.mv_json.proofs.LegalLemmas.{text_reads_back}
 use Rattle.mv_json.proofs.ValueLemmas.{value_depth}
 

@@ -1,7 +1,7 @@
 -- The keys, the version and the form of an object.
 use Rattle.std.proofs.Common.{◌≡◌, ◌∙◌, ℕ, true, false, not, cond, List, [], ◌∷◌, ap, sym, subst, refl, arith}
-use Rattle.std.specs.Prelude.{◌==◌, Option, Some, None, Ok, Err, find, Contains}
-use Rattle.std.specs.Option.{ok_or}
+use Rattle.std.specs.Prelude.{◌==◌, Option, Some, None, Result, Ok, Err, find, Contains}
+use Rattle.std.specs.Option.{ok_or, option_map_or}
 use Rattle.std.specs.List.{AllByRecursion}
 use Rattle.std.specs.Cmp.Lexicographic.{nat_list_eq_equiv}
 use Rattle.std.proofs.lemmas.Bool.Decides.{nat_tests}
@@ -9,21 +9,22 @@ use Rattle.std.proofs.lemmas.Map.Views.{Contains-from_any, list_any-from_Contain
 use Rattle.serde_json.specs.Data.{Data, object}
 use Rattle.serde_json.specs.Find.{get, as_object}
 use Rattle.mv_json.specs.declared.field.Field.TheVariants as fields
-use Rattle.mv_json.specs.declared.fault.MessageFault.TheVariants.{Kind, NotObject}
+use Rattle.mv_json.specs.declared.fault.MessageFault.{MessageFault}
+use Rattle.mv_json.specs.declared.fault.MessageFault.TheVariants.{Kind, NotObject, Unknown}
 use Rattle.mv_json.specs.declared.form.Form.{Form}
 use Rattle.mv_json.specs.declared.form.Form.TheVariants as forms
 use Rattle.mv_message.specs.declared.message.Message.{Message}
 use Rattle.mv_json.specs.declared.version.Version.{Version}
 use Rattle.mv_json.specs.declared.version.Version.TheVariants.{One, Two}
 use Rattle.mv_json.specs.Fields.{field_name}
-use Rattle.mv_json.specs.Forms.{form_name, forms_of, form_named, form_at, names_of, unless_unknown, known_form_at}
+use Rattle.mv_json.specs.Forms.{form_name, forms_of, form_named, form_at}
 use Rattle.mv_json.specs.Members.{keys_of, is_among, first_unknown}
 use Rattle.mv_json.specs.Messages.{read_message}
-use Rattle.mv_json.specs.Readers.{message_at}
+use Rattle.mv_json.specs.Shapes.{names_of, known_form_at, message_at}
 use Rattle.mv_json.specs.Reading.{◌and_then◌, text_at}
 use Rattle.mv_json.specs.Numbers.{whole_number}
 use Rattle.mv_json.specs.Versions.{version_numbered, version_of, version_at}
-use Rattle.mv_json.specs.Reads.{HasOnly}
+use Rattle.mv_json.specs.Spellings.{HasOnly}
 use Rattle.mv_json.specs.Values.{whole, since_two}
 use Rattle.mv_json.proofs.NumberLemmas.{whole_number_ok}
 use Rattle.mv_json.proofs.ReadingLemmas.{HasText, both_ok, ok_or_some, as_object_ok, text_ok, text_is_read, same_bytes, found_by_name}
@@ -41,6 +42,10 @@ none_unknown names [] h = refl
 none_unknown names (k ∷ ks) h =
     ap (λ b. cond (not b) (Some k) (find (λ key. not (is_among names key)) ks)) (list_any-from_Contains nat_list_eq_equiv k names h.0)
     ∙ none_unknown names ks h.1
+
+-- the form, where no key is unknown
+abbrev unless_unknown : Form → Option (List ℕ) → Result Form MessageFault
+unless_unknown form o = option_map_or (λ key. Err (Unknown key)) o (Ok form)
 
 unless_ok : (form : Form) (o : Option (List ℕ)) (known : Form) → unless_unknown form o ≡ Ok known → (o ≡ None) × (form ≡ known)
 unless_ok form None known h = (refl, cc)

@@ -14,41 +14,51 @@ use Rattle.mv_message.specs.declared.found.Found.TheVariants.{Absent, Present}
 use Rattle.mv_message.specs.declared.standing.Standing.{Standing}
 use Rattle.mv_json.specs.declared.version.Version.{Version}
 use Rattle.mv_json.specs.declared.version.Version.TheVariants.{One, Two}
-use Rattle.mv_json.specs.Found.{present_names, withdrawn_at, present_at, present_of, found_of, found_at}
+use Rattle.mv_json.specs.FieldMeanings.{part_of}
+use Rattle.mv_json.specs.Found.{present_fields, present_names, present_at, present_of, found_of, found_at, SpellsFound}
 use Rattle.mv_json.specs.Members.{keys_of, first_unknown}
-use Rattle.mv_json.specs.Reading.{◌and_then◌, member_at, code_at, expiry_at, national_at, standing_at}
-use Rattle.mv_json.specs.Numbers.{truth_at}
-use Rattle.mv_json.specs.Reads.{Has, HasOnly, SaysWithdrawn, SpellsFound}
-use Rattle.mv_json.proofs.ReadingLemmas.{both_ok, ok_or_some, unrefused, as_object_ok, member_ok, member_read, code_ok, code_read, expiry_ok, expiry_read, national_ok, national_read, standing_ok, standing_read}
-use Rattle.mv_json.proofs.NumberLemmas.{truth_ok, truth_read}
-use Rattle.mv_json.proofs.ChainLemmas.{six_ok, six_read}
+use Rattle.mv_json.specs.Reading.{◌and_then◌, member_at}
+use Rattle.mv_json.specs.Spellings.{Has, HasOnly}
+use Rattle.mv_json.proofs.ReadingLemmas.{both_ok, ok_or_some, unrefused, as_object_ok, member_ok, member_read}
+use Rattle.mv_json.proofs.MeaningLemmas.{made_ok, made_read, Unsaid, is_absent, parts_agree}
 use Rattle.mv_json.proofs.FormLemmas.{all_known, none_unknown}
 
 -- the pack that these parts make
 abbrev pack_of : List ℕ → CivilDate → Option (List ℕ) → Bool → Standing → Bool → Found
 pack_of batch expiry national recalled standing withdrawn = Present batch expiry national standing recalled withdrawn
 
-withdrawn_ok : (version : Version) (d : Data) (b : Bool) → withdrawn_at version d ≡ Ok b → SaysWithdrawn version d fields.Withdrawn b
-withdrawn_ok One d b h = cc
-withdrawn_ok Two d b h = truth_ok fields.Withdrawn d b h
-
-withdrawn_read : (version : Version) (d : Data) (b : Bool) → SaysWithdrawn version d fields.Withdrawn b → withdrawn_at version d ≡ Ok b
-withdrawn_read One d b h = ap (λ w. Ok w) (sym h)
-withdrawn_read Two d b h = truth_read fields.Withdrawn d b h
+-- the names of the fields of a pack leave out what came with the second version
+unsaid_of_pack : (version : Version) (part : Data) → HasOnly (present_names version) part → Unsaid version part
+unsaid_of_pack One part only =
+    record { national = λ _. is_absent fields.National (present_names One) part only refl; withdrawn = λ _. is_absent fields.Withdrawn (present_names One) part only refl }
+unsaid_of_pack Two part only = record { national = λ h. cc; withdrawn = λ h. cc }
 
 -- the fields of an object gave a pack, so they spell it
 fields_spelled : (version : Version) (part : Data) (found : Found) → HasOnly (present_names version) part → present_at version part ≡ Ok found → SpellsFound version part found
 unfolding present_at
 fields_spelled version part found only h =
-    let p = six_ok (code_at fields.Batch part) (expiry_at fields.Expiry part) (national_at version fields.National part) (truth_at fields.Recalled part) (standing_at fields.Standing part) (withdrawn_at version part) pack_of found h in
-    subst (SpellsFound version part) p.12 (
+    let p = made_ok Found (part_of version) present_fields pack_of part found h in
+    let v = p.0 in
+    let r = p.1 in
+    let unsaid = unsaid_of_pack version part only in
+    subst (SpellsFound version part) p.2 (
       only,
-      code_ok fields.Batch part p.0 p.6,
-      expiry_ok fields.Expiry part p.1 p.7,
-      national_ok version fields.National part p.2 p.8,
-      truth_ok fields.Recalled part p.3 p.9,
-      standing_ok fields.Standing part p.4 p.10,
-      withdrawn_ok version part p.5 p.11,
+      (
+        (parts_agree version fields.Batch).ok part v.0 unsaid r.0,
+        (
+          (parts_agree version fields.Expiry).ok part v.1.0 unsaid r.1.0,
+          (
+            (parts_agree version fields.National).ok part v.1.1.0 unsaid r.1.1.0,
+            (
+              (parts_agree version fields.Recalled).ok part v.1.1.1.0 unsaid r.1.1.1.0,
+              (
+                (parts_agree version fields.Standing).ok part v.1.1.1.1.0 unsaid r.1.1.1.1.0,
+                ((parts_agree version fields.Withdrawn).ok part v.1.1.1.1.1.0 unsaid r.1.1.1.1.1.0, tt),
+              ),
+            ),
+          ),
+        ),
+      ),
     )
 
 none_found : {A : Type 0} (o : Option A) → is_some o ≡ false → o ≡ None
@@ -94,10 +104,23 @@ found_ok version d found h =
 -- the fields of an object spell a pack, so they give it
 fields_read : (version : Version) (part : Data) (batch : List ℕ) (expiry : CivilDate) (national : Option (List ℕ)) (standing : Standing) (recalled withdrawn : Bool) → SpellsFound version part (Present batch expiry national standing recalled withdrawn) → present_at version part ≡ Ok (Present batch expiry national standing recalled withdrawn)
 unfolding present_at
-fields_read version part batch expiry national standing recalled withdrawn h =
-    six_read (code_at fields.Batch part) (expiry_at fields.Expiry part) (national_at version fields.National part) (truth_at fields.Recalled part) (standing_at fields.Standing part) (withdrawn_at version part) pack_of batch expiry national recalled standing withdrawn
-    (code_read fields.Batch part batch h.1) (expiry_read fields.Expiry part expiry h.2) (national_read version fields.National part national h.3)
-    (truth_read fields.Recalled part recalled h.4) (standing_read fields.Standing part standing h.5) (withdrawn_read version part withdrawn h.6)
+fields_read version part batch expiry national standing recalled withdrawn (only, (of_batch, (of_expiry, (of_national, (of_recalled, (of_standing, (of_withdrawn, rest))))))) =
+    made_read Found (part_of version) present_fields pack_of part (batch, (expiry, (national, (recalled, (standing, (withdrawn, tt)))))) (
+      (parts_agree version fields.Batch).read part batch of_batch,
+      (
+        (parts_agree version fields.Expiry).read part expiry of_expiry,
+        (
+          (parts_agree version fields.National).read part national of_national,
+          (
+            (parts_agree version fields.Recalled).read part recalled of_recalled,
+            (
+              (parts_agree version fields.Standing).read part standing of_standing,
+              ((parts_agree version fields.Withdrawn).read part withdrawn of_withdrawn, tt),
+            ),
+          ),
+        ),
+      ),
+    )
 
 part_read : (version : Version) (part : Data) (found : Found) → SpellsFound version part found → found_of version part ≡ Ok found
 unfolding present_of

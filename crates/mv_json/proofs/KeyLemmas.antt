@@ -12,7 +12,8 @@ use Rattle.mv_json.specs.declared.version.Version.{Version}
 use Rattle.mv_json.specs.declared.version.Version.TheVariants.{One, Two}
 use Rattle.mv_json.specs.Keys.{KeysAscend, ItemsKeysAscend}
 use Rattle.mv_json.specs.Messages.{value_in, value_of}
-use Rattle.mv_json.specs.Values.{strings, found_version, found_value}
+use Rattle.mv_json.specs.Values.{strings, found_version}
+use Rattle.mv_json.specs.Found.{found_value}
 use Rattle.mv_json.proofs.OrderLemmas.{rises, strictly_sorted}
 
 texts_ascend : (texts : List (List ℕ)) → ItemsKeysAscend (strings texts)

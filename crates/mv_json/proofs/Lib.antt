@@ -5,8 +5,8 @@ pub mod TokenLemmas
 pub mod ObjectLemmas
 pub mod ReadingLemmas
 pub mod NumberLemmas
-pub mod ChainLemmas
 pub mod FormLemmas
+pub mod MeaningLemmas
 pub mod FoundLemmas
 pub mod SpelledLemmas
 pub mod ReadsLemmas

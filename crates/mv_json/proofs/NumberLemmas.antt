@@ -1,10 +1,10 @@
 -- What reading a number, or true or false, gives, backwards and forwards.
-use Rattle.std.proofs.Common.{◌≡◌, ◌∙◌, ◌≤◌, ◌<◌, ◌^◌, ℕ, Bool, true, false, cond, ap, subst, arith}
-use Rattle.std.specs.Prelude.{Some, Ok, Err, ◌==◌, nat_lt}
+use Rattle.std.proofs.Common.{◌≡◌, ◌∙◌, ◌≤◌, ◌<◌, ◌^◌, ℕ, Bool, true, false, cond, ap, sym, subst, refl, arith}
+use Rattle.std.specs.Prelude.{Some, None, Ok, Err, ◌==◌, nat_lt}
 use Rattle.std.specs.Option.{ok_or}
 use Rattle.std.proofs.lemmas.Bool.Decides.{nat_tests}
 use Rattle.serde_json.specs.Data.{Data, null, boolean, number, unsigned, negative, float, string, array, object}
-use Rattle.serde_json.specs.Find.{as_bool}
+use Rattle.serde_json.specs.Find.{get, as_bool}
 use Rattle.mv_pack.specs.Moment.{IsMoment, read_moment}
 use Rattle.mv_pack.specs.declared.fault.PackFault.TheVariants.{Moment}
 use Rattle.mv_pack.specs.declared.moment.TheConstants.{YEAR_2100}
@@ -12,10 +12,14 @@ use Rattle.mv_pack.proofs.MomentLemmas.{read_moment_is_moment, read_moment_of}
 use Rattle.mv_pack.proofs.TextLemmas.{given_ok}
 use Rattle.mv_json.specs.declared.field.Field.{Field}
 use Rattle.mv_json.specs.declared.fault.MessageFault.TheVariants.{Kind}
-use Rattle.mv_json.specs.Values.{whole}
-use Rattle.mv_json.specs.Numbers.{truth_at, whole_number, whole_at, moment_at, of_32_bits, number_at, not_zero, count_at}
+use Rattle.mv_json.specs.declared.version.Version.{Version}
+use Rattle.mv_json.specs.declared.version.Version.TheVariants.{One, Two}
+use Rattle.mv_json.specs.FieldMeanings.{MayBeWithdrawn}
+use Rattle.mv_json.specs.Fields.{field_name}
+use Rattle.mv_json.specs.Values.{whole, since_two}
+use Rattle.mv_json.specs.Numbers.{truth_at, withdrawn_at, whole_number, whole_at, moment_at, of_32_bits, number_at, not_zero, count_at}
 use Rattle.mv_json.specs.Reading.{◌and_then◌, of_field, member_at}
-use Rattle.mv_json.specs.Reads.{Has}
+use Rattle.mv_json.specs.Spellings.{Has}
 use Rattle.mv_json.proofs.ReadingLemmas.{both_ok, ok_or_some, of_field_ok, unrefused, member_ok, member_read}
 
 as_bool_ok : (d : Data) (b : Bool) → as_bool d ≡ Some b → d ≡ boolean b
@@ -36,6 +40,18 @@ truth_ok f d b h =
 pub truth_read : (f : Field) (d : Data) (b : Bool) → Has d f (boolean b) → truth_at f d ≡ Ok b
 unfolding truth_at
 truth_read f d b h = ap (λ r. r and_then λ x. ok_or (as_bool x) (Kind f)) (member_read f d (boolean b) h)
+
+-- what a field is that says whether a product is withdrawn
+abbrev pub SaysWithdrawn : Version → Field → Data → Bool → Type 0
+SaysWithdrawn version f d b = (get (field_name f) d ≡ since_two version (boolean b)) × MayBeWithdrawn version b
+
+pub withdrawn_ok : (version : Version) (f : Field) (d : Data) (b : Bool) → (version ≡ One → get (field_name f) d ≡ None) → withdrawn_at version f d ≡ Ok b → SaysWithdrawn version f d b
+withdrawn_ok One f d b unsaid h = (unsaid refl, cc)
+withdrawn_ok Two f d b unsaid h = (truth_ok f d b h, tt)
+
+pub withdrawn_read : (version : Version) (f : Field) (d : Data) (b : Bool) → SaysWithdrawn version f d b → withdrawn_at version f d ≡ Ok b
+withdrawn_read One f d b h = ap (λ w. Ok w) (sym h.1)
+withdrawn_read Two f d b h = truth_read f d b h.0
 
 pub whole_number_ok : (d : Data) (n : ℕ) → whole_number d ≡ Some n → d ≡ whole n
 whole_number_ok null n h = cc

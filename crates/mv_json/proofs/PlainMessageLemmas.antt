@@ -21,9 +21,10 @@ use Rattle.mv_json.specs.Forms.{form_at}
 use Rattle.mv_json.specs.Limits.{most_serials, most_text_bytes}
 use Rattle.mv_json.specs.Messages.{read_message}
 use Rattle.mv_json.specs.Numbers.{whole_at, moment_at}
-use Rattle.mv_json.specs.PlainMessages.{BeginWithWhole, BeginWithMessage, BeginWithText, BeginWithField, BeginWithSerials, IsFreeText, object_from}
-use Rattle.mv_json.specs.Readers.{message_at}
-use Rattle.mv_json.specs.Reading.{gtin_at, code_at, expiry_at, standing_at, free_text_at, national_at, are_texts, length_of, texts_at, read_each, serials_at}
+use Rattle.mv_json.specs.PlainMessages.{BeginWithWhole, BeginWithMessage, BeginWithText, BeginWithField, BeginWithSerials, object_from}
+use Rattle.mv_json.specs.FieldMeanings.{IsFreeText}
+use Rattle.mv_json.specs.Shapes.{message_at}
+use Rattle.mv_json.specs.Reading.{read_at, standing_at, free_text_at, national_at, are_texts, length_of, texts_at, read_each, list_at}
 use Rattle.mv_json.specs.Versions.{version_at}
 use Rattle.mv_json.proofs.ReadingLemmas.{within_count}
 
@@ -65,7 +66,7 @@ status_is at gtin serial to user n h = rw h
 status_read : (n : ℕ) (g s w user : List ℕ) (at : ℕ) (gtin serial : List ℕ) (to : Standing)
     → read_moment n ≡ Ok at → read_gtin g ≡ Ok gtin → read_code s ≡ Ok serial → standing_named w ≡ Some to → IsFreeText user
     → read_message (status_object n g s w user) ≡ Ok (Status (record { gtin = gtin; serial = serial }) to user at)
-unfolding read_message version_at form_at message_at whole_at moment_at gtin_at code_at standing_at free_text_at
+unfolding read_message version_at form_at message_at whole_at moment_at read_at standing_at free_text_at
 status_read n g s w user at gtin serial to moment coded numbered standing text =
     let fits : ((length user == 0) || nat_lt most_text_bytes (length user)) ≡ false = within_count (length user) most_text_bytes text.0 text.1 in
     rw (moment, coded, numbered, standing, fits)
@@ -178,7 +179,7 @@ upload_read : (b e g : List ℕ) (found : Items) (batch gtin : List ℕ) (expiry
     → read_code b ≡ Ok batch → read_expiry e ≡ Ok expiry → read_gtin g ≡ Ok gtin
     → AreRead found serials → 1 ≤ length serials → length serials ≤ most_serials
     → read_message (upload_object b e g found) ≡ Ok (Upload gtin batch expiry None serials)
-unfolding read_message version_at form_at message_at gtin_at code_at expiry_at national_at serials_at texts_at
+unfolding read_message version_at form_at message_at read_at national_at list_at texts_at
 upload_read b e g found batch gtin expiry serials numbered dated coded (each, texts, count) some few =
     let fits : ((length_of found == 0) || nat_lt most_serials (length_of found)) ≡ false =
     rw count (within_count (length serials) most_serials some few) in

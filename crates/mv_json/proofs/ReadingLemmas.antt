@@ -1,30 +1,33 @@
 -- What reading a part of a value gives, backwards and forwards.
-use Rattle.std.proofs.Common.{◌≡◌, ◌∙◌, ◌≤◌, ◌||◌, ◌&&◌, ℕ, suc, Bool, true, false, not, cond, List, [], ◌∷◌, length, ap, sym, subst, refl, arith}
-use Rattle.std.specs.Prelude.{bytes_eq, find, Option, Some, None, Result, Ok, Err, is_some, ◌==◌, nat_lt}
+use Rattle.std.proofs.Common.{◌≡◌, ◌∙◌, ◌≤◌, ◌||◌, ◌&&◌, ℕ, suc, Bool, true, false, not, cond, List, [], ◌∷◌, length, ap, ap₂, subst, refl, arith}
+use Rattle.std.specs.Prelude.{bytes_eq, find, Option, Some, None, Result, Ok, Err, ◌==◌, nat_lt}
 use Rattle.std.specs.Option.{ok_or}
 use Rattle.std.proofs.lemmas.Bool.Decides.{nat_tests}
 use Rattle.std.proofs.lemmas.Slice.Eq.{bytes_eq-Decides}
-use Rattle.std.specs.List.{AllByRecursion}
+use Rattle.std.specs.List.{AllByRecursion, list_all}
 use Rattle.serde_json.specs.Data.{Data, null, boolean, number, string, array, object, Items, no_items, item, Members}
 use Rattle.serde_json.specs.Find.{get, as_str, as_array, as_object}
-use Rattle.mv_pack.specs.Code.{read_code}
-use Rattle.mv_pack.specs.Expiry.{CivilDate, read_expiry}
-use Rattle.mv_pack.specs.Gtin.{read_gtin}
-use Rattle.mv_pack.specs.Market.{read_market}
+use Rattle.mv_pack.specs.Code.{IsCode, most_code_bytes, read_code, read_characters, first_wrong}
+use Rattle.mv_pack.specs.Market.{IsMarket, is_capital, read_market}
 use Rattle.mv_pack.specs.declared.fault.PackFault.{PackFault}
+use Rattle.mv_pack.specs.declared.fault.PackFault.TheVariants.{Empty, TooLong, Market}
+use Rattle.mv_pack.proofs.CodeLemmas.{read_code_of, read_code_is_code}
+use Rattle.mv_pack.proofs.MarketLemmas.{read_market_of, read_market_is_market}
+use Rattle.mv_pack.proofs.TextLemmas.{given_ok}
 use Rattle.mv_json.specs.declared.field.Field.{Field}
 use Rattle.mv_json.specs.declared.fault.MessageFault.{MessageFault}
 use Rattle.mv_json.specs.declared.fault.MessageFault.TheVariants.{Missing, Kind, Count, TextLength}
+use Rattle.mv_json.specs.FieldMeanings.{IsFreeText, IsListOf, IsNational}
 use Rattle.mv_json.specs.Fields.{field_name}
 use Rattle.mv_message.specs.declared.standing.Standing.{Standing}
 use Rattle.mv_message.specs.declared.standing.Standing.TheVariants.{Active, Supplied, Exported, Destruction, Sample, FreeSample, Stolen, Repackaged}
 use Rattle.mv_message.specs.Standings.{standing_name, standings, standing_named}
-use Rattle.mv_json.specs.Reading.{◌and_then◌, of_field, member_at, text_at, gtin_at, code_at, expiry_at, standing_at, national_of, national_at, limited, free_text_at, are_texts, length_of, texts_at, read_item, read_each, markets_at, serials_at}
-use Rattle.mv_json.specs.PlainMessages.{IsFreeText}
-use Rattle.mv_json.specs.Reads.{Has, Spells, SpellsNational, SpellEach, SpellsList}
+use Rattle.mv_json.specs.Reading.{◌and_then◌, of_field, member_at, text_at, read_at, standing_at, national_of, national_at, limited, free_text_at, are_texts, length_of, texts_at, read_item, read_each, list_at}
+use Rattle.mv_json.specs.Spellings.{Has, Spells}
+use Rattle.mv_json.specs.Values.{strings, text_or_null, since_two}
 use Rattle.mv_json.specs.declared.version.Version.{Version}
 use Rattle.mv_json.specs.declared.version.Version.TheVariants.{One, Two}
-use Rattle.mv_json.specs.Limits.{most_markets, most_serials, most_text_bytes}
+use Rattle.mv_json.specs.Limits.{most_text_bytes}
 
 -- two steps gave a meaning, so each did
 pub both_ok : {A B : Type 0} (r : Result A MessageFault) (f : A → Result B MessageFault) (y : B) → (r and_then f) ≡ Ok y → (x : A) × (r ≡ Ok x) × (f x ≡ Ok y)
@@ -68,6 +71,14 @@ as_object_ok (string s) ms h = cc
 as_object_ok (array ds) ms h = cc
 as_object_ok (object ns) ms h = cc
 
+unempty : {A F : Type 0} (b : Bool) (e : F) (r : Result A F) (x : A) → cond b (Err e) r ≡ Ok x → r ≡ Ok x
+unempty true e r x h = cc
+unempty false e r x h = h
+
+characters_same : (t : List ℕ) (place : Option ℕ) (x : List ℕ) → read_characters t place ≡ Ok x → t ≡ x
+characters_same t None x h = cc
+characters_same t (Some place) x h = cc
+
 -- the field is this text
 abbrev pub HasText : Data → Field → List ℕ → Type 0
 HasText d f t = Has d f (string t)
@@ -83,38 +94,48 @@ pub text_is_read : (f : Field) (d : Data) (t : List ℕ) → HasText d f t → t
 text_is_read f d t h = ap (λ o. ok_or o (Missing f) and_then λ x. ok_or (as_str x) (Kind f)) h
 
 -- a field that its reader takes is a spelling
-pub spelled : {A : Type 0} (reader : List ℕ → Result A PackFault) (f : Field) (d : Data) (x : A) → (text_at f d and_then λ t. of_field f (reader t)) ≡ Ok x → Spells reader d f x
+spelled : {A : Type 0} (reader : List ℕ → Result A PackFault) (f : Field) (d : Data) (x : A) → (text_at f d and_then λ t. of_field f (reader t)) ≡ Ok x → Spells reader f d x
 spelled reader f d x h =
     let b = both_ok (text_at f d) (λ t. of_field f (reader t)) x h in
     (b.0, text_ok f d b.0 b.1, of_field_ok f (reader b.0) x b.2)
 
-pub spelling_is_read : {A : Type 0} (reader : List ℕ → Result A PackFault) (f : Field) (d : Data) (x : A) → Spells reader d f x → (text_at f d and_then λ t. of_field f (reader t)) ≡ Ok x
+spelling_is_read : {A : Type 0} (reader : List ℕ → Result A PackFault) (f : Field) (d : Data) (x : A) → Spells reader f d x → (text_at f d and_then λ t. of_field f (reader t)) ≡ Ok x
 spelling_is_read reader f d x (t, h, e) = ap (λ r. r and_then λ t. of_field f (reader t)) (text_is_read f d t h) ∙ ap (of_field f) e
 
--- a field that is read as a product code, a number of a code, or a date is a spelling of it
-pub gtin_ok : (f : Field) (d : Data) (x : List ℕ) → gtin_at f d ≡ Ok x → Spells read_gtin d f x
-unfolding gtin_at
-gtin_ok f d x h = spelled read_gtin f d x h
+pub taken_ok : {A : Type 0} (reader : List ℕ → Result A PackFault) (f : Field) (d : Data) (x : A) → read_at reader f d ≡ Ok x → Spells reader f d x
+unfolding read_at
+taken_ok reader f d x h = spelled reader f d x h
 
-pub gtin_read : (f : Field) (d : Data) (x : List ℕ) → Spells read_gtin d f x → gtin_at f d ≡ Ok x
-unfolding gtin_at
-gtin_read f d x h = spelling_is_read read_gtin f d x h
+pub taken_read : {A : Type 0} (reader : List ℕ → Result A PackFault) (f : Field) (d : Data) (x : A) → Spells reader f d x → read_at reader f d ≡ Ok x
+unfolding read_at
+taken_read reader f d x h = spelling_is_read reader f d x h
 
-pub code_ok : (f : Field) (d : Data) (x : List ℕ) → code_at f d ≡ Ok x → Spells read_code d f x
-unfolding code_at
-code_ok f d x h = spelled read_code f d x h
+-- a reader gives texts as they are, which hold that, and takes each that does
+pub record TakesAsItself (reader : List ℕ → Result (List ℕ) PackFault) (Holds : List ℕ → Type 0) : Type 0 where
+  pub same : (t x : List ℕ) → reader t ≡ Ok x → t ≡ x
+  pub holds : (t x : List ℕ) → reader t ≡ Ok x → Holds x
+  pub takes : (x : List ℕ) → Holds x → reader x ≡ Ok x
 
-pub code_read : (f : Field) (d : Data) (x : List ℕ) → Spells read_code d f x → code_at f d ≡ Ok x
-unfolding code_at
-code_read f d x h = spelling_is_read read_code f d x h
+code_is_itself : (t x : List ℕ) → read_code t ≡ Ok x → t ≡ x
+code_is_itself t x h =
+    let some = unempty (length t == 0) Empty (cond (nat_lt most_code_bytes (length t)) (Err TooLong) (read_characters t (first_wrong t))) x h in
+    characters_same t (first_wrong t) x (unempty (nat_lt most_code_bytes (length t)) TooLong (read_characters t (first_wrong t)) x some)
 
-pub expiry_ok : (f : Field) (d : Data) (x : CivilDate) → expiry_at f d ≡ Ok x → Spells read_expiry d f x
-unfolding expiry_at
-expiry_ok f d x h = spelled read_expiry f d x h
+pub codes_as_they_are : TakesAsItself read_code IsCode
+codes_as_they_are = record { same = code_is_itself; holds = read_code_is_code; takes = read_code_of }
 
-pub expiry_read : (f : Field) (d : Data) (x : CivilDate) → Spells read_expiry d f x → expiry_at f d ≡ Ok x
-unfolding expiry_at
-expiry_read f d x h = spelling_is_read read_expiry f d x h
+pub markets_as_they_are : TakesAsItself read_market IsMarket
+markets_as_they_are =
+    record { same = λ t x h. (given_ok ((length t == 2) && list_all is_capital t) t Market x h).1; holds = read_market_is_market; takes = read_market_of }
+
+-- a field that is read as a code is that text
+pub code_ok : (f : Field) (d : Data) (x : List ℕ) → read_at read_code f d ≡ Ok x → HasText d f x × IsCode x
+code_ok f d x h =
+    let s = taken_ok read_code f d x h in
+    (s.1 ∙ ap (λ t. Some (string t)) (code_is_itself s.0 x s.2), read_code_is_code s.0 x s.2)
+
+pub code_read : (f : Field) (d : Data) (x : List ℕ) → HasText d f x × IsCode x → read_at read_code f d ≡ Ok x
+code_read f d x h = taken_read read_code f d x (x, h.0, read_code_of x h.1)
 
 pub same_bytes : (s t : List ℕ) → bytes_eq s t ≡ true → s ≡ t
 same_bytes s t e = (bytes_eq-Decides s t).0 e
@@ -164,33 +185,43 @@ some_number : (f : Field) (t : List ℕ) (o : Option (List ℕ)) → (of_field f
 some_number f t o h =
     let p = both_ok (of_field f (read_code t)) (λ n. Ok (Some n)) o h in (p.0, of_field_ok f (read_code t) p.0 p.1, cc)
 
-national_spelled : (f : Field) (d part : Data) (o : Option (List ℕ)) → Has d f part → national_of f part ≡ Ok o → SpellsNational Two d f o
-national_spelled f d null None has h = has
-national_spelled f d null (Some n) has h = cc
-national_spelled f d (string t) None has h = let s = some_number f t None h in cc
-national_spelled f d (string t) (Some n) has h =
+-- what a value is where it gives that national number, or none
+national_same : (f : Field) (part : Data) (o : Option (List ℕ)) → national_of f part ≡ Ok o → (part ≡ text_or_null o) × IsNational Two o
+national_same f null None h = (refl, tt)
+national_same f null (Some n) h = cc
+national_same f (string t) None h = let s = some_number f t None h in cc
+national_same f (string t) (Some n) h =
     let s = some_number f t (Some n) h in
     let same : s.0 ≡ n = cc in
-    (t, has, s.1 ∙ ap (λ x. Ok x) same)
-national_spelled f d (boolean b) o has h = cc
-national_spelled f d (number n) o has h = cc
-national_spelled f d (array ds) o has h = cc
-national_spelled f d (object ms) o has h = cc
+    let read : read_code t ≡ Ok n = s.1 ∙ ap (λ x. Ok x) same in
+    (ap string (code_is_itself t n read), read_code_is_code t n read)
+national_same f (boolean b) o h = cc
+national_same f (number n) o h = cc
+national_same f (array ds) o h = cc
+national_same f (object ms) o h = cc
 
--- a field that is read as a national number, or none, spells it
-pub national_ok : (version : Version) (f : Field) (d : Data) (o : Option (List ℕ)) → national_at version f d ≡ Ok o → SpellsNational version d f o
-unfolding national_at
-national_ok One f d o h = cc
-national_ok Two f d o h =
-    let p = both_ok (member_at f d) (national_of f) o h in national_spelled f d p.0 o (member_ok f d p.0 p.1) p.2
+-- what a field is that says that national number, or none
+abbrev pub HasNational : Version → Field → Data → Option (List ℕ) → Type 0
+HasNational version f d o = (get (field_name f) d ≡ since_two version (text_or_null o)) × IsNational version o
 
-pub national_read : (version : Version) (f : Field) (d : Data) (o : Option (List ℕ)) → SpellsNational version d f o → national_at version f d ≡ Ok o
+-- a field that is read as a national number, or none, is written so
+pub national_ok : (version : Version) (f : Field) (d : Data) (o : Option (List ℕ)) → (version ≡ One → get (field_name f) d ≡ None) → national_at version f d ≡ Ok o → HasNational version f d o
 unfolding national_at
-national_read One f d o h = ap (λ n. Ok n) (sym h)
-national_read Two f d None h = ap (λ r. r and_then national_of f) (member_read f d null h)
+national_ok One f d None unsaid h = (unsaid refl, tt)
+national_ok One f d (Some n) unsaid h = cc
+national_ok Two f d o unsaid h =
+    let p = both_ok (member_at f d) (national_of f) o h in
+    let same = national_same f p.0 o p.2 in
+    (member_ok f d p.0 p.1 ∙ ap (λ x. Some x) same.0, same.1)
+
+pub national_read : (version : Version) (f : Field) (d : Data) (o : Option (List ℕ)) → HasNational version f d o → national_at version f d ≡ Ok o
+unfolding national_at
+national_read One f d None h = refl
+national_read One f d (Some n) h = absurd h.1
+national_read Two f d None h = ap (λ r. r and_then national_of f) (member_read f d null h.0)
 national_read Two f d (Some n) h =
-    ap (λ r. r and_then national_of f) (member_read f d (string h.0) h.1)
-    ∙ ap (λ r. of_field f r and_then λ x. Ok (Some x)) h.2
+    ap (λ r. r and_then national_of f) (member_read f d (string n) h.0)
+    ∙ ap (λ r. of_field f r and_then λ x. Ok (Some x)) (read_code_of n h.1)
 
 count_within : (n most : ℕ) → ((n == 0) || nat_lt most n) ≡ false → (1 ≤ n) × (n ≤ most)
 count_within n most h = (grind (arith, nat_tests), grind (arith, nat_tests))
@@ -221,28 +252,27 @@ free_text_is_read f d t h =
     ap (λ r. r and_then limited f) (text_is_read f d t h.0)
     ∙ ap (λ b. cond b (Err (TextLength f)) (Ok t)) (within_count (length t) most_text_bytes h.1.0 h.1.1)
 
-each_spelled : {A : Type 0} (reader : List ℕ → Result A PackFault) (f : Field) (ds : Items) (xs : List A) → read_each reader f ds ≡ Ok xs → SpellEach reader ds xs × (length_of ds ≡ length xs)
-each_spelled reader f no_items [] h = (tt, refl)
-each_spelled reader f no_items (x ∷ xs) h = cc
-each_spelled {A} reader f (item d ds) xs h =
+each_same : (reader : List ℕ → Result (List ℕ) PackFault) (Holds : List ℕ → Type 0) → TakesAsItself reader Holds → (f : Field) (ds : Items) (xs : List (List ℕ)) → read_each reader f ds ≡ Ok xs → (ds ≡ strings xs) × AllByRecursion Holds xs × (length_of ds ≡ length xs)
+each_same reader Holds good f no_items [] h = (refl, tt, refl)
+each_same reader Holds good f no_items (x ∷ xs) h = cc
+each_same reader Holds good f (item d ds) xs h =
     let a = both_ok (read_item reader f d) (λ y. read_each reader f ds and_then λ ys. Ok (y ∷ ys)) xs h in
     let b = both_ok (read_each reader f ds) (λ ys. Ok (a.0 ∷ ys)) xs a.2 in
     let t = both_ok (ok_or (as_str d) (Kind f)) (λ t. of_field f (reader t)) a.0 a.1 in
-    let rest = each_spelled reader f ds b.0 b.1 in
+    let read = of_field_ok f (reader t.0) a.0 t.2 in
+    let rest = each_same reader Holds good f ds b.0 b.1 in
     let whole : (a.0 ∷ b.0) ≡ xs = cc in
-    subst (λ (zs : List A). SpellEach reader (item d ds) zs × (suc (length_of ds) ≡ length zs)) whole
-    ((t.0, as_str_ok d t.0 (ok_or_some (Kind f) (as_str d) t.0 t.1), of_field_ok f (reader t.0) a.0 t.2, rest.0), ap (λ n. suc n) rest.1)
+    let first : d ≡ string a.0 = as_str_ok d t.0 (ok_or_some (Kind f) (as_str d) t.0 t.1) ∙ ap string (good.same t.0 a.0 read) in
+    subst (λ (zs : List (List ℕ)). (item d ds ≡ strings zs) × AllByRecursion Holds zs × (suc (length_of ds) ≡ length zs)) whole
+    (ap₂ item first rest.0, (good.holds t.0 a.0 read, rest.1), ap (λ n. suc n) rest.2)
 
-each_is_read : {A : Type 0} (reader : List ℕ → Result A PackFault) (f : Field) (ds : Items) (xs : List A) → SpellEach reader ds xs → (read_each reader f ds ≡ Ok xs) × (are_texts ds ≡ true) × (length_of ds ≡ length xs)
-each_is_read reader f no_items [] h = (refl, refl, refl)
-each_is_read reader f no_items (x ∷ xs) h = absurd h
-each_is_read reader f (item d ds) [] h = absurd h
-each_is_read reader f (item d ds) (x ∷ xs) h =
-    let rest = each_is_read reader f ds xs h.3 in (
-      ap (λ d. read_item reader f d and_then λ y. read_each reader f ds and_then λ ys. Ok (y ∷ ys)) h.1
-          ∙ ap (λ r. of_field f r and_then λ y. read_each reader f ds and_then λ ys. Ok (y ∷ ys)) h.2
+each_is_read : (reader : List ℕ → Result (List ℕ) PackFault) (Holds : List ℕ → Type 0) → TakesAsItself reader Holds → (f : Field) (xs : List (List ℕ)) → AllByRecursion Holds xs → (read_each reader f (strings xs) ≡ Ok xs) × (are_texts (strings xs) ≡ true) × (length_of (strings xs) ≡ length xs)
+each_is_read reader Holds good f [] h = (refl, refl, refl)
+each_is_read reader Holds good f (x ∷ xs) h =
+    let rest = each_is_read reader Holds good f xs h.1 in (
+      ap (λ r. of_field f r and_then λ y. read_each reader f (strings xs) and_then λ ys. Ok (y ∷ ys)) (good.takes x h.0)
           ∙ ap (λ r. r and_then λ ys. Ok (x ∷ ys)) rest.0,
-      ap (λ d. is_some (as_str d) && are_texts ds) h.1 ∙ rest.1,
+      rest.1,
       ap (λ n. suc n) rest.2,
     )
 
@@ -267,37 +297,26 @@ texts_ok most f d ds h =
       bounds.1,
     )
 
--- a field that is read as a list is a spelling of it
-pub spelled_list : {A : Type 0} (reader : List ℕ → Result A PackFault) (most : ℕ) (f : Field) (d : Data) (xs : List A) → (texts_at most f d and_then read_each reader f) ≡ Ok xs → SpellsList reader most d f xs
-spelled_list reader most f d xs h =
+-- the field is a list of 1 to most texts that hold that
+abbrev pub HasList : (List ℕ → Type 0) → ℕ → Field → Data → List (List ℕ) → Type 0
+HasList Holds most f d xs = Has d f (array (strings xs)) × IsListOf Holds most xs
+
+-- a field that is read as a list is that list
+pub list_ok : (reader : List ℕ → Result (List ℕ) PackFault) (Holds : List ℕ → Type 0) → TakesAsItself reader Holds → (most : ℕ) (f : Field) (d : Data) (xs : List (List ℕ)) → list_at reader most f d ≡ Ok xs → HasList Holds most f d xs
+unfolding list_at
+list_ok reader Holds good most f d xs h =
     let a = both_ok (texts_at most f d) (read_each reader f) xs h in
     let texts = texts_ok most f d a.0 a.1 in
-    let each = each_spelled reader f a.0 xs a.2 in
-    (a.0, texts.0, omega arith, omega arith, each.0)
+    let each = each_same reader Holds good f a.0 xs a.2 in
+    (texts.0 ∙ ap (λ es. Some (array es)) each.0, (omega arith, omega arith, each.1))
 
-pub spelling_list_is_read : {A : Type 0} (reader : List ℕ → Result A PackFault) (most : ℕ) (f : Field) (d : Data) (xs : List A) → SpellsList reader most d f xs → (texts_at most f d and_then read_each reader f) ≡ Ok xs
-unfolding texts_at
-spelling_list_is_read reader most f d xs (ds, found, low, high, spelling) =
-    let each = each_is_read reader f ds xs spelling in
+pub list_read : (reader : List ℕ → Result (List ℕ) PackFault) (Holds : List ℕ → Type 0) → TakesAsItself reader Holds → (most : ℕ) (f : Field) (d : Data) (xs : List (List ℕ)) → HasList Holds most f d xs → list_at reader most f d ≡ Ok xs
+unfolding list_at texts_at
+list_read reader Holds good most f d xs (found, (low, high, all)) =
+    let ds = strings xs in
+    let each = each_is_read reader Holds good f xs all in
     ap (λ o. (ok_or o (Missing f) and_then λ x. ok_or (as_array x) (Kind f) and_then λ es.
     cond (not (are_texts es)) (Err (Kind f)) (cond ((length_of es == 0) || nat_lt most (length_of es)) (Err (Count f)) (Ok es))) and_then read_each reader f) found
     ∙ ap (λ b. cond (not b) (Err (Kind f)) (cond ((length_of ds == 0) || nat_lt most (length_of ds)) (Err (Count f)) (Ok ds)) and_then read_each reader f) each.1
     ∙ ap (λ b. cond b (Err (Count f)) (Ok ds) and_then read_each reader f) (ap (λ n. (n == 0) || nat_lt most n) each.2 ∙ within_count (length xs) most low high)
     ∙ each.0
-
--- a field that is read as markets or serial numbers is a spelling of them
-pub markets_ok : (f : Field) (d : Data) (xs : List (List ℕ)) → markets_at f d ≡ Ok xs → SpellsList read_market most_markets d f xs
-unfolding markets_at
-markets_ok f d xs h = spelled_list read_market most_markets f d xs h
-
-pub markets_read : (f : Field) (d : Data) (xs : List (List ℕ)) → SpellsList read_market most_markets d f xs → markets_at f d ≡ Ok xs
-unfolding markets_at
-markets_read f d xs h = spelling_list_is_read read_market most_markets f d xs h
-
-pub serials_ok : (f : Field) (d : Data) (xs : List (List ℕ)) → serials_at f d ≡ Ok xs → SpellsList read_code most_serials d f xs
-unfolding serials_at
-serials_ok f d xs h = spelled_list read_code most_serials f d xs h
-
-pub serials_read : (f : Field) (d : Data) (xs : List (List ℕ)) → SpellsList read_code most_serials d f xs → serials_at f d ≡ Ok xs
-unfolding serials_at
-serials_read f d xs h = spelling_list_is_read read_code most_serials f d xs h

@@ -1,10 +1,11 @@
 -- A value is read as a message exactly where it is a spelling of it.
-use Rattle.std.proofs.Common.{◌≡◌, ◌↔◌, ℕ, List}
+use Rattle.std.proofs.Common.{◌≡◌, ◌↔◌, ℕ, List, refl}
 use Rattle.std.specs.Prelude.{Option, Result, Ok}
 use Rattle.serde_json.specs.Data.{Data}
 use Rattle.mv_pack.specs.Expiry.{CivilDate}
 use Rattle.mv_json.specs.declared.field.Field.TheVariants as fields
 use Rattle.mv_json.specs.declared.fault.MessageFault.{MessageFault}
+use Rattle.mv_json.specs.declared.form.Form.{Form}
 use Rattle.mv_json.specs.declared.form.Form.TheVariants as forms
 use Rattle.mv_message.specs.declared.found.Found.{Found}
 use Rattle.mv_message.specs.declared.message.Message.{Message}
@@ -16,65 +17,57 @@ use Rattle.mv_json.specs.declared.version.Version.TheVariants.{Two}
 use Rattle.mv_pack.specs.declared.key.BatchKey.{BatchKey}
 use Rattle.mv_pack.specs.declared.key.PackKey.{PackKey}
 use Rattle.mv_json.specs.Messages.{read_message}
-use Rattle.mv_json.specs.Readers.{message_at}
-use Rattle.mv_json.specs.Found.{found_at}
-use Rattle.mv_json.specs.Reading.{gtin_at, code_at, expiry_at, free_text_at, markets_at, national_at, serials_at, standing_at}
-use Rattle.mv_json.specs.Numbers.{moment_at, number_at, count_at}
 use Rattle.mv_json.specs.Reads.{ReadsIn, Reads}
-use Rattle.mv_json.proofs.NumberLemmas.{moment_read, number_read, count_read}
-use Rattle.mv_json.proofs.ReadingLemmas.{gtin_read, code_read, expiry_read, free_text_is_read, markets_read, national_read, serials_read, standing_read}
-use Rattle.mv_json.proofs.ChainLemmas.{two_read, three_read, five_read, seven_read, nine_read}
+use Rattle.mv_json.specs.Shapes.{meaning_of, shape_of, message_at}
 use Rattle.mv_json.proofs.FormLemmas.{reopened}
 use Rattle.mv_json.proofs.FoundLemmas.{found_read}
-use Rattle.mv_json.proofs.SpelledLemmas.{master_made, upload_made, status_made, recall_made, repack_made, withdraw_made, query_made, answer_made, read_is_spelled}
+use Rattle.mv_json.proofs.MeaningLemmas.{Values, AreRead, made, made_read, parts_agree}
+use Rattle.mv_json.proofs.SpelledLemmas.{read_is_spelled}
 
-master_read : (version : Version) (d : Data) (gtin : List ℕ) (product : Product) → ReadsIn version d (messages.Master gtin product) → message_at version forms.Master d ≡ Ok (messages.Master gtin product)
+-- the fields of an object are read as values that make a message
+given_read : (version : Version) (form : Form) (d : Data) (values : Values (meaning_of version form) (shape_of version form).listed) → AreRead (meaning_of version form) (shape_of version form).listed d values → message_at version form d ≡ Ok (made Message (meaning_of version form) (shape_of version form).listed (shape_of version form).makes values)
 unfolding message_at
-master_read version d gtin product (only, (common, (form, (code, (markets, (msg, (name, (pack_size, (pack_type, (scheme, (strength, rest))))))))))) =
-    nine_read (free_text_at fields.Common d) (free_text_at fields.Form d) (gtin_at fields.Gtin d) (markets_at fields.Markets d) (free_text_at fields.Name d) (free_text_at fields.PackSize d) (free_text_at fields.PackType d) (free_text_at fields.Scheme d) (free_text_at fields.Strength d) master_made product.common product.form gtin product.markets product.name product.pack_size product.pack_type product.scheme product.strength
-    (free_text_is_read fields.Common d product.common common) (free_text_is_read fields.Form d product.form form) (gtin_read fields.Gtin d gtin code) (markets_read fields.Markets d product.markets markets) (free_text_is_read fields.Name d product.name name) (free_text_is_read fields.PackSize d product.pack_size pack_size) (free_text_is_read fields.PackType d product.pack_type pack_type) (free_text_is_read fields.Scheme d product.scheme scheme) (free_text_is_read fields.Strength d product.strength strength)
-
-upload_read : (version : Version) (d : Data) (gtin : List ℕ) (batch : List ℕ) (expiry : CivilDate) (national : Option (List ℕ)) (serials : List (List ℕ)) → ReadsIn version d (messages.Upload gtin batch expiry national serials) → message_at version forms.Upload d ≡ Ok (messages.Upload gtin batch expiry national serials)
-unfolding message_at
-upload_read version d gtin batch expiry national serials (only, (of_batch, (of_expiry, (of_gtin, (msg, (of_national, (of_serials, rest))))))) =
-    five_read (code_at fields.Batch d) (expiry_at fields.Expiry d) (gtin_at fields.Gtin d) (national_at version fields.National d) (serials_at fields.Serials d) upload_made batch expiry gtin national serials
-    (code_read fields.Batch d batch of_batch) (expiry_read fields.Expiry d expiry of_expiry) (gtin_read fields.Gtin d gtin of_gtin) (national_read version fields.National d national of_national) (serials_read fields.Serials d serials of_serials)
-
-status_read : (version : Version) (d : Data) (key : PackKey) (to : Standing) (user : List ℕ) (at : ℕ) → ReadsIn version d (messages.Status key to user at) → message_at version forms.Status d ≡ Ok (messages.Status key to user at)
-unfolding message_at
-status_read version d key to user at (only, (moment, (gtin, (msg, (serial, (standing, (text, rest))))))) =
-    five_read (moment_at fields.At d) (gtin_at fields.Gtin d) (code_at fields.Serial d) (standing_at fields.To d) (free_text_at fields.User d) status_made at key.gtin key.serial to user
-    (moment_read fields.At d at moment) (gtin_read fields.Gtin d key.gtin gtin) (code_read fields.Serial d key.serial serial) (standing_read fields.To d to standing.0) (free_text_is_read fields.User d user text)
-
-recall_read : (version : Version) (d : Data) (key : BatchKey) (at : ℕ) → ReadsIn version d (messages.Recall key at) → message_at version forms.Recall d ≡ Ok (messages.Recall key at)
-unfolding message_at
-recall_read version d key at (only, (moment, (batch, (gtin, rest)))) =
-    three_read (moment_at fields.At d) (code_at fields.Batch d) (gtin_at fields.Gtin d) recall_made at key.batch key.gtin
-    (moment_read fields.At d at moment) (code_read fields.Batch d key.batch batch) (gtin_read fields.Gtin d key.gtin gtin)
-
-repack_read : (version : Version) (d : Data) (before : BatchKey) (before_serials : List (List ℕ)) (after : BatchKey) (after_serials : List (List ℕ)) (at : ℕ) → ReadsIn version d (messages.Repack before before_serials after after_serials at) → message_at version forms.Repack d ≡ Ok (messages.Repack before before_serials after after_serials at)
-unfolding message_at
-repack_read version d before before_serials after after_serials at (only, (after_batch, (after_gtin, (of_after, (moment, (before_batch, (before_gtin, (of_before, rest)))))))) =
-    seven_read (code_at fields.AfterBatch d) (gtin_at fields.AfterGtin d) (serials_at fields.AfterSerials d) (moment_at fields.At d) (code_at fields.BeforeBatch d) (gtin_at fields.BeforeGtin d) (serials_at fields.BeforeSerials d) repack_made after.batch after.gtin after_serials at before.batch before.gtin before_serials
-    (code_read fields.AfterBatch d after.batch after_batch) (gtin_read fields.AfterGtin d after.gtin after_gtin) (serials_read fields.AfterSerials d after_serials of_after) (moment_read fields.At d at moment) (code_read fields.BeforeBatch d before.batch before_batch) (gtin_read fields.BeforeGtin d before.gtin before_gtin) (serials_read fields.BeforeSerials d before_serials of_before)
-
-withdraw_read : (version : Version) (d : Data) (gtin : List ℕ) (at : ℕ) → ReadsIn version d (messages.Withdraw gtin at) → message_at Two forms.Withdraw d ≡ Ok (messages.Withdraw gtin at)
-unfolding message_at
-withdraw_read version d gtin at (only, (moment, (code, rest))) =
-    two_read (moment_at fields.At d) (gtin_at fields.Gtin d) withdraw_made at gtin
-    (moment_read fields.At d at moment) (gtin_read fields.Gtin d gtin code)
-
-query_read : (version : Version) (d : Data) (key : PackKey) → ReadsIn version d (messages.Query key) → message_at version forms.Query d ≡ Ok (messages.Query key)
-unfolding message_at
-query_read version d key (only, (gtin, (msg, (serial, rest)))) =
-    two_read (gtin_at fields.Gtin d) (code_at fields.Serial d) query_made key.gtin key.serial
-    (gtin_read fields.Gtin d key.gtin gtin) (code_read fields.Serial d key.serial serial)
+given_read version form d values h = made_read Message (meaning_of version form) (shape_of version form).listed (shape_of version form).makes d values h
 
 answer_read : (version : Version) (d : Data) (asker : ℕ) (q : ℕ) (key : PackKey) (found : Found) → ReadsIn version d (messages.Answer asker q key found) → message_at version forms.Answer d ≡ Ok (messages.Answer asker q key found)
-unfolding message_at
-answer_read version d asker q key found (only, (asks, (says, (gtin, (msg, (counts, (serial, rest))))))) =
-    five_read (number_at fields.Asker d) (found_at version d) (gtin_at fields.Gtin d) (count_at fields.Q d) (code_at fields.Serial d) answer_made asker found key.gtin q key.serial
-    (number_read fields.Asker d asker asks.0 asks.1) (found_read version d found says) (gtin_read fields.Gtin d key.gtin gtin) (count_read fields.Q d q counts) (code_read fields.Serial d key.serial serial)
+answer_read version d asker q key found (only, (of_asker, (of_found, (of_gtin, (of_msg, (of_q, (of_serial, (of_v, rest)))))))) =
+    given_read version forms.Answer d (asker, (found, (key.gtin, (forms.Answer, (q, (key.serial, (version, tt)))))))
+    ((parts_agree version fields.Asker).read d asker of_asker, (found_read version d found of_found, ((parts_agree version fields.Gtin).read d key.gtin of_gtin, (refl, ((parts_agree version fields.Q).read d q of_q, ((parts_agree version fields.Serial).read d key.serial of_serial, (refl, tt)))))))
+
+master_read : (version : Version) (d : Data) (gtin : List ℕ) (product : Product) → ReadsIn version d (messages.Master gtin product) → message_at version forms.Master d ≡ Ok (messages.Master gtin product)
+master_read version d gtin product (only, (of_common, (of_form, (of_gtin, (of_markets, (of_msg, (of_name, (of_pack_size, (of_pack_type, (of_scheme, (of_strength, (of_v, rest)))))))))))) =
+    given_read version forms.Master d (product.common, (product.form, (gtin, (product.markets, (forms.Master, (product.name, (product.pack_size, (product.pack_type, (product.scheme, (product.strength, (version, tt)))))))))))
+    ((parts_agree version fields.Common).read d product.common of_common, ((parts_agree version fields.Form).read d product.form of_form, ((parts_agree version fields.Gtin).read d gtin of_gtin, ((parts_agree version fields.Markets).read d product.markets of_markets, (refl, ((parts_agree version fields.Name).read d product.name of_name, ((parts_agree version fields.PackSize).read d product.pack_size of_pack_size, ((parts_agree version fields.PackType).read d product.pack_type of_pack_type, ((parts_agree version fields.Scheme).read d product.scheme of_scheme, ((parts_agree version fields.Strength).read d product.strength of_strength, (refl, tt)))))))))))
+
+query_read : (version : Version) (d : Data) (key : PackKey) → ReadsIn version d (messages.Query key) → message_at version forms.Query d ≡ Ok (messages.Query key)
+query_read version d key (only, (of_gtin, (of_msg, (of_serial, (of_v, rest))))) =
+    given_read version forms.Query d (key.gtin, (forms.Query, (key.serial, (version, tt))))
+    ((parts_agree version fields.Gtin).read d key.gtin of_gtin, (refl, ((parts_agree version fields.Serial).read d key.serial of_serial, (refl, tt))))
+
+recall_read : (version : Version) (d : Data) (key : BatchKey) (at : ℕ) → ReadsIn version d (messages.Recall key at) → message_at version forms.Recall d ≡ Ok (messages.Recall key at)
+recall_read version d key at (only, (of_at, (of_batch, (of_gtin, (of_msg, (of_v, rest)))))) =
+    given_read version forms.Recall d (at, (key.batch, (key.gtin, (forms.Recall, (version, tt)))))
+    ((parts_agree version fields.At).read d at of_at, ((parts_agree version fields.Batch).read d key.batch of_batch, ((parts_agree version fields.Gtin).read d key.gtin of_gtin, (refl, (refl, tt)))))
+
+repack_read : (version : Version) (d : Data) (before : BatchKey) (before_serials : List (List ℕ)) (after : BatchKey) (after_serials : List (List ℕ)) (at : ℕ) → ReadsIn version d (messages.Repack before before_serials after after_serials at) → message_at version forms.Repack d ≡ Ok (messages.Repack before before_serials after after_serials at)
+repack_read version d before before_serials after after_serials at (only, (of_after_batch, (of_after_gtin, (of_after_serials, (of_at, (of_before_batch, (of_before_gtin, (of_before_serials, (of_msg, (of_v, rest)))))))))) =
+    given_read version forms.Repack d (after.batch, (after.gtin, (after_serials, (at, (before.batch, (before.gtin, (before_serials, (forms.Repack, (version, tt)))))))))
+    ((parts_agree version fields.AfterBatch).read d after.batch of_after_batch, ((parts_agree version fields.AfterGtin).read d after.gtin of_after_gtin, ((parts_agree version fields.AfterSerials).read d after_serials of_after_serials, ((parts_agree version fields.At).read d at of_at, ((parts_agree version fields.BeforeBatch).read d before.batch of_before_batch, ((parts_agree version fields.BeforeGtin).read d before.gtin of_before_gtin, ((parts_agree version fields.BeforeSerials).read d before_serials of_before_serials, (refl, (refl, tt)))))))))
+
+status_read : (version : Version) (d : Data) (key : PackKey) (to : Standing) (user : List ℕ) (at : ℕ) → ReadsIn version d (messages.Status key to user at) → message_at version forms.Status d ≡ Ok (messages.Status key to user at)
+status_read version d key to user at (only, (of_at, (of_gtin, (of_msg, (of_serial, (of_to, (of_user, (of_v, rest)))))))) =
+    given_read version forms.Status d (at, (key.gtin, (forms.Status, (key.serial, (to, (user, (version, tt)))))))
+    ((parts_agree version fields.At).read d at of_at, ((parts_agree version fields.Gtin).read d key.gtin of_gtin, (refl, ((parts_agree version fields.Serial).read d key.serial of_serial, ((parts_agree version fields.To).read d to of_to, ((parts_agree version fields.User).read d user of_user, (refl, tt)))))))
+
+upload_read : (version : Version) (d : Data) (gtin : List ℕ) (batch : List ℕ) (expiry : CivilDate) (national : Option (List ℕ)) (serials : List (List ℕ)) → ReadsIn version d (messages.Upload gtin batch expiry national serials) → message_at version forms.Upload d ≡ Ok (messages.Upload gtin batch expiry national serials)
+upload_read version d gtin batch expiry national serials (only, (of_batch, (of_expiry, (of_gtin, (of_msg, (of_national, (of_serials, (of_v, rest)))))))) =
+    given_read version forms.Upload d (batch, (expiry, (gtin, (forms.Upload, (national, (serials, (version, tt)))))))
+    ((parts_agree version fields.Batch).read d batch of_batch, ((parts_agree version fields.Expiry).read d expiry of_expiry, ((parts_agree version fields.Gtin).read d gtin of_gtin, (refl, ((parts_agree version fields.National).read d national of_national, ((parts_agree version fields.Serials).read d serials of_serials, (refl, tt)))))))
+
+withdraw_read : (version : Version) (d : Data) (gtin : List ℕ) (at : ℕ) → ReadsIn version d (messages.Withdraw gtin at) → message_at Two forms.Withdraw d ≡ Ok (messages.Withdraw gtin at)
+withdraw_read version d gtin at (only, (of_at, (of_gtin, (of_msg, (of_v, rest))))) =
+    given_read Two forms.Withdraw d (at, (gtin, (forms.Withdraw, (Two, tt))))
+    ((parts_agree Two fields.At).read d at of_at, ((parts_agree Two fields.Gtin).read d gtin of_gtin, (refl, (refl, tt))))
 
 -- what spells a message is read as it
 pub spelled_is_read : (d : Data) (m : Message) → Reads d m → read_message d ≡ Ok m

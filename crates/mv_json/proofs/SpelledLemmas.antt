@@ -1,134 +1,109 @@
 -- A value that is read as a message is a spelling of it.
-use Rattle.std.proofs.Common.{◌≡◌, ℕ, List, subst}
-use Rattle.std.specs.Prelude.{Option, Ok}
+use Rattle.std.proofs.Common.{◌≡◌, refl, true, subst}
+use Rattle.std.specs.Prelude.{Ok}
 use Rattle.serde_json.specs.Data.{Data}
-use Rattle.mv_pack.specs.Expiry.{CivilDate}
 use Rattle.mv_json.specs.declared.field.Field.TheVariants as fields
 use Rattle.mv_json.specs.declared.form.Form.{Form}
 use Rattle.mv_json.specs.declared.form.Form.TheVariants as forms
-use Rattle.mv_message.specs.declared.found.Found.{Found}
 use Rattle.mv_message.specs.declared.message.Message.{Message}
-use Rattle.mv_message.specs.declared.message.Message.TheVariants as messages
-use Rattle.mv_message.specs.declared.standing.Standing.{Standing}
 use Rattle.mv_json.specs.declared.version.Version.{Version}
 use Rattle.mv_json.specs.declared.version.Version.TheVariants.{One, Two}
+use Rattle.mv_json.specs.Fields.{field_name}
 use Rattle.mv_json.specs.Messages.{read_message}
-use Rattle.mv_json.specs.Readers.{message_at}
-use Rattle.mv_json.specs.Found.{found_at}
-use Rattle.mv_json.specs.Reading.{gtin_at, code_at, expiry_at, free_text_at, markets_at, national_at, serials_at, standing_at}
-use Rattle.mv_json.specs.Numbers.{moment_at, number_at, count_at}
 use Rattle.mv_json.specs.Reads.{ReadsIn, Reads}
-use Rattle.mv_json.proofs.NumberLemmas.{moment_ok, number_ok, count_ok}
-use Rattle.mv_json.proofs.ReadingLemmas.{gtin_ok, code_ok, expiry_ok, free_text_ok, markets_ok, national_ok, serials_ok, standing_ok}
-use Rattle.mv_json.proofs.ChainLemmas.{two_ok, three_ok, five_ok, seven_ok, nine_ok}
+use Rattle.mv_json.specs.Shapes.{meaning_of, shape_of, names_of, message_at}
+use Rattle.mv_json.specs.Spellings.{HasOnly}
 use Rattle.mv_json.proofs.FormLemmas.{IsIn, IsOfForm, IsOfVersion, opened}
 use Rattle.mv_json.proofs.FoundLemmas.{found_ok}
+use Rattle.mv_json.proofs.MeaningLemmas.{Values, AreRead, made, made_ok, Unsaid, is_apart, is_absent, parts_agree}
 
-abbrev pub master_made : List ℕ → List ℕ → List ℕ → List (List ℕ) → List ℕ → List ℕ → List ℕ → List ℕ → List ℕ → Message
-master_made common form gtin markets name pack_size pack_type scheme strength = messages.Master gtin (record {
-  scheme = scheme;
-  name = name;
-  common = common;
-  form = form;
-  strength = strength;
-  pack_type = pack_type;
-  pack_size = pack_size;
-  markets = markets;
-})
+-- the names of the fields of a form leave out what came with the second version
+no_national : (form : Form) → is_apart (field_name fields.National) (names_of One form) ≡ true
+no_national forms.Answer = refl
+no_national forms.Master = refl
+no_national forms.Query = refl
+no_national forms.Recall = refl
+no_national forms.Repack = refl
+no_national forms.Status = refl
+no_national forms.Upload = refl
+no_national forms.Withdraw = refl
 
-abbrev pub upload_made : List ℕ → CivilDate → List ℕ → Option (List ℕ) → List (List ℕ) → Message
-upload_made batch expiry gtin national serials = messages.Upload gtin batch expiry national serials
+no_withdrawn : (form : Form) → is_apart (field_name fields.Withdrawn) (names_of One form) ≡ true
+no_withdrawn forms.Answer = refl
+no_withdrawn forms.Master = refl
+no_withdrawn forms.Query = refl
+no_withdrawn forms.Recall = refl
+no_withdrawn forms.Repack = refl
+no_withdrawn forms.Status = refl
+no_withdrawn forms.Upload = refl
+no_withdrawn forms.Withdraw = refl
 
-abbrev pub status_made : ℕ → List ℕ → List ℕ → Standing → List ℕ → Message
-status_made at gtin serial to user = messages.Status (record { gtin = gtin; serial = serial }) to user at
+unsaid_of : (version : Version) (form : Form) (d : Data) → HasOnly (names_of version form) d → Unsaid version d
+unsaid_of One form d only = record {
+  national = λ _. is_absent fields.National (names_of One form) d only (no_national form);
+  withdrawn = λ _. is_absent fields.Withdrawn (names_of One form) d only (no_withdrawn form);
+}
+unsaid_of Two form d only = record { national = λ h. cc; withdrawn = λ h. cc }
 
-abbrev pub recall_made : ℕ → List ℕ → List ℕ → Message
-recall_made at batch gtin = messages.Recall (record { gtin = gtin; batch = batch }) at
+-- values that the fields of an object are read as
+record Given (version : Version) (form : Form) (d : Data) (m : Message) : Type 0 where
+  values : Values (meaning_of version form) (shape_of version form).listed
+  read : AreRead (meaning_of version form) (shape_of version form).listed d values
+  makes : made Message (meaning_of version form) (shape_of version form).listed (shape_of version form).makes values ≡ m
 
-abbrev pub repack_made : List ℕ → List ℕ → List (List ℕ) → ℕ → List ℕ → List ℕ → List (List ℕ) → Message
-repack_made after_batch after_gtin after_serials at before_batch before_gtin before_serials =
-    messages.Repack (record { gtin = before_gtin; batch = before_batch }) before_serials (record { gtin = after_gtin; batch = after_batch }) after_serials at
-
-abbrev pub withdraw_made : ℕ → List ℕ → Message
-withdraw_made at gtin = messages.Withdraw gtin at
-
-abbrev pub query_made : List ℕ → List ℕ → Message
-query_made gtin serial = messages.Query (record { gtin = gtin; serial = serial })
-
-abbrev pub answer_made : ℕ → Found → List ℕ → ℕ → List ℕ → Message
-answer_made asker found gtin q serial = messages.Answer asker q (record { gtin = gtin; serial = serial }) found
-
-master_spelled : (version : Version) (d : Data) (m : Message) → IsOfVersion version d → IsOfForm version forms.Master d → message_at version forms.Master d ≡ Ok m → ReadsIn version d m
+given : (version : Version) (form : Form) (d : Data) (m : Message) → message_at version form d ≡ Ok m → Given version form d m
 unfolding message_at
-master_spelled version d m of_version of_form h =
-    let p = nine_ok (free_text_at fields.Common d) (free_text_at fields.Form d) (gtin_at fields.Gtin d) (markets_at fields.Markets d) (free_text_at fields.Name d) (free_text_at fields.PackSize d) (free_text_at fields.PackType d) (free_text_at fields.Scheme d) (free_text_at fields.Strength d) master_made m h in
-    subst (ReadsIn version d) p.18 (
-      of_form.0,
-      (free_text_ok fields.Common d p.0 p.9, (free_text_ok fields.Form d p.1 p.10, (gtin_ok fields.Gtin d p.2 p.11, (markets_ok fields.Markets d p.3 p.12, ((of_form.1, tt), (free_text_ok fields.Name d p.4 p.13, (free_text_ok fields.PackSize d p.5 p.14, (free_text_ok fields.PackType d p.6 p.15, (free_text_ok fields.Scheme d p.7 p.16, (free_text_ok fields.Strength d p.8 p.17, ((of_version, tt), tt))))))))))),
-    )
-
-upload_spelled : (version : Version) (d : Data) (m : Message) → IsOfVersion version d → IsOfForm version forms.Upload d → message_at version forms.Upload d ≡ Ok m → ReadsIn version d m
-unfolding message_at
-upload_spelled version d m of_version of_form h =
-    let p = five_ok (code_at fields.Batch d) (expiry_at fields.Expiry d) (gtin_at fields.Gtin d) (national_at version fields.National d) (serials_at fields.Serials d) upload_made m h in
-    subst (ReadsIn version d) p.10 (
-      of_form.0,
-      (code_ok fields.Batch d p.0 p.5, (expiry_ok fields.Expiry d p.1 p.6, (gtin_ok fields.Gtin d p.2 p.7, ((of_form.1, tt), (national_ok version fields.National d p.3 p.8, (serials_ok fields.Serials d p.4 p.9, ((of_version, tt), tt))))))),
-    )
-
-status_spelled : (version : Version) (d : Data) (m : Message) → IsOfVersion version d → IsOfForm version forms.Status d → message_at version forms.Status d ≡ Ok m → ReadsIn version d m
-unfolding message_at
-status_spelled version d m of_version of_form h =
-    let p = five_ok (moment_at fields.At d) (gtin_at fields.Gtin d) (code_at fields.Serial d) (standing_at fields.To d) (free_text_at fields.User d) status_made m h in
-    subst (ReadsIn version d) p.10 (
-      of_form.0,
-      (moment_ok fields.At d p.0 p.5, (gtin_ok fields.Gtin d p.1 p.6, ((of_form.1, tt), (code_ok fields.Serial d p.2 p.7, ((standing_ok fields.To d p.3 p.8, tt), (free_text_ok fields.User d p.4 p.9, ((of_version, tt), tt))))))),
-    )
-
-recall_spelled : (version : Version) (d : Data) (m : Message) → IsOfVersion version d → IsOfForm version forms.Recall d → message_at version forms.Recall d ≡ Ok m → ReadsIn version d m
-unfolding message_at
-recall_spelled version d m of_version of_form h =
-    let p = three_ok (moment_at fields.At d) (code_at fields.Batch d) (gtin_at fields.Gtin d) recall_made m h in
-    subst (ReadsIn version d) p.6 (
-      of_form.0,
-      (moment_ok fields.At d p.0 p.3, (code_ok fields.Batch d p.1 p.4, (gtin_ok fields.Gtin d p.2 p.5, ((of_form.1, tt), ((of_version, tt), tt))))),
-    )
-
-repack_spelled : (version : Version) (d : Data) (m : Message) → IsOfVersion version d → IsOfForm version forms.Repack d → message_at version forms.Repack d ≡ Ok m → ReadsIn version d m
-unfolding message_at
-repack_spelled version d m of_version of_form h =
-    let p = seven_ok (code_at fields.AfterBatch d) (gtin_at fields.AfterGtin d) (serials_at fields.AfterSerials d) (moment_at fields.At d) (code_at fields.BeforeBatch d) (gtin_at fields.BeforeGtin d) (serials_at fields.BeforeSerials d) repack_made m h in
-    subst (ReadsIn version d) p.14 (
-      of_form.0,
-      (code_ok fields.AfterBatch d p.0 p.7, (gtin_ok fields.AfterGtin d p.1 p.8, (serials_ok fields.AfterSerials d p.2 p.9, (moment_ok fields.At d p.3 p.10, (code_ok fields.BeforeBatch d p.4 p.11, (gtin_ok fields.BeforeGtin d p.5 p.12, (serials_ok fields.BeforeSerials d p.6 p.13, ((of_form.1, tt), ((of_version, tt), tt))))))))),
-    )
-
-withdraw_spelled : (d : Data) (m : Message) → IsOfVersion Two d → IsOfForm Two forms.Withdraw d → message_at Two forms.Withdraw d ≡ Ok m → ReadsIn Two d m
-unfolding message_at
-withdraw_spelled d m of_version of_form h =
-    let p = two_ok (moment_at fields.At d) (gtin_at fields.Gtin d) withdraw_made m h in
-    subst (ReadsIn Two d) p.4 (
-      of_form.0,
-      (moment_ok fields.At d p.0 p.2, (gtin_ok fields.Gtin d p.1 p.3, ((of_form.1, tt), ((of_version, tt), tt)))),
-    )
-
-query_spelled : (version : Version) (d : Data) (m : Message) → IsOfVersion version d → IsOfForm version forms.Query d → message_at version forms.Query d ≡ Ok m → ReadsIn version d m
-unfolding message_at
-query_spelled version d m of_version of_form h =
-    let p = two_ok (gtin_at fields.Gtin d) (code_at fields.Serial d) query_made m h in
-    subst (ReadsIn version d) p.4 (
-      of_form.0,
-      (gtin_ok fields.Gtin d p.0 p.2, ((of_form.1, tt), (code_ok fields.Serial d p.1 p.3, ((of_version, tt), tt)))),
-    )
+given version form d m h =
+    let p = made_ok Message (meaning_of version form) (shape_of version form).listed (shape_of version form).makes d m h in
+    record { values = p.0; read = p.1; makes = p.2 }
 
 answer_spelled : (version : Version) (d : Data) (m : Message) → IsOfVersion version d → IsOfForm version forms.Answer d → message_at version forms.Answer d ≡ Ok m → ReadsIn version d m
-unfolding message_at
 answer_spelled version d m of_version of_form h =
-    let p = five_ok (number_at fields.Asker d) (found_at version d) (gtin_at fields.Gtin d) (count_at fields.Q d) (code_at fields.Serial d) answer_made m h in
-    subst (ReadsIn version d) p.10 (
-      of_form.0,
-      (number_ok fields.Asker d p.0 p.5, (found_ok version d p.1 p.6, (gtin_ok fields.Gtin d p.2 p.7, ((of_form.1, tt), (count_ok fields.Q d p.3 p.8, (code_ok fields.Serial d p.4 p.9, ((of_version, tt), tt))))))),
-    )
+    let g = given version forms.Answer d m h in
+    let unsaid = unsaid_of version forms.Answer d of_form.0 in
+    subst (ReadsIn version d) g.makes (of_form.0, ((parts_agree version fields.Asker).ok d g.values.0 unsaid g.read.0, (found_ok version d g.values.1.0 g.read.1.0, ((parts_agree version fields.Gtin).ok d g.values.1.1.0 unsaid g.read.1.1.0, ((of_form.1, tt), ((parts_agree version fields.Q).ok d g.values.1.1.1.1.0 unsaid g.read.1.1.1.1.0, ((parts_agree version fields.Serial).ok d g.values.1.1.1.1.1.0 unsaid g.read.1.1.1.1.1.0, ((of_version, tt), tt))))))))
+
+master_spelled : (version : Version) (d : Data) (m : Message) → IsOfVersion version d → IsOfForm version forms.Master d → message_at version forms.Master d ≡ Ok m → ReadsIn version d m
+master_spelled version d m of_version of_form h =
+    let g = given version forms.Master d m h in
+    let unsaid = unsaid_of version forms.Master d of_form.0 in
+    subst (ReadsIn version d) g.makes (of_form.0, ((parts_agree version fields.Common).ok d g.values.0 unsaid g.read.0, ((parts_agree version fields.Form).ok d g.values.1.0 unsaid g.read.1.0, ((parts_agree version fields.Gtin).ok d g.values.1.1.0 unsaid g.read.1.1.0, ((parts_agree version fields.Markets).ok d g.values.1.1.1.0 unsaid g.read.1.1.1.0, ((of_form.1, tt), ((parts_agree version fields.Name).ok d g.values.1.1.1.1.1.0 unsaid g.read.1.1.1.1.1.0, ((parts_agree version fields.PackSize).ok d g.values.1.1.1.1.1.1.0 unsaid g.read.1.1.1.1.1.1.0, ((parts_agree version fields.PackType).ok d g.values.1.1.1.1.1.1.1.0 unsaid g.read.1.1.1.1.1.1.1.0, ((parts_agree version fields.Scheme).ok d g.values.1.1.1.1.1.1.1.1.0 unsaid g.read.1.1.1.1.1.1.1.1.0, ((parts_agree version fields.Strength).ok d g.values.1.1.1.1.1.1.1.1.1.0 unsaid g.read.1.1.1.1.1.1.1.1.1.0, ((of_version, tt), tt))))))))))))
+
+query_spelled : (version : Version) (d : Data) (m : Message) → IsOfVersion version d → IsOfForm version forms.Query d → message_at version forms.Query d ≡ Ok m → ReadsIn version d m
+query_spelled version d m of_version of_form h =
+    let g = given version forms.Query d m h in
+    let unsaid = unsaid_of version forms.Query d of_form.0 in
+    subst (ReadsIn version d) g.makes (of_form.0, ((parts_agree version fields.Gtin).ok d g.values.0 unsaid g.read.0, ((of_form.1, tt), ((parts_agree version fields.Serial).ok d g.values.1.1.0 unsaid g.read.1.1.0, ((of_version, tt), tt)))))
+
+recall_spelled : (version : Version) (d : Data) (m : Message) → IsOfVersion version d → IsOfForm version forms.Recall d → message_at version forms.Recall d ≡ Ok m → ReadsIn version d m
+recall_spelled version d m of_version of_form h =
+    let g = given version forms.Recall d m h in
+    let unsaid = unsaid_of version forms.Recall d of_form.0 in
+    subst (ReadsIn version d) g.makes (of_form.0, ((parts_agree version fields.At).ok d g.values.0 unsaid g.read.0, ((parts_agree version fields.Batch).ok d g.values.1.0 unsaid g.read.1.0, ((parts_agree version fields.Gtin).ok d g.values.1.1.0 unsaid g.read.1.1.0, ((of_form.1, tt), ((of_version, tt), tt))))))
+
+repack_spelled : (version : Version) (d : Data) (m : Message) → IsOfVersion version d → IsOfForm version forms.Repack d → message_at version forms.Repack d ≡ Ok m → ReadsIn version d m
+repack_spelled version d m of_version of_form h =
+    let g = given version forms.Repack d m h in
+    let unsaid = unsaid_of version forms.Repack d of_form.0 in
+    subst (ReadsIn version d) g.makes (of_form.0, ((parts_agree version fields.AfterBatch).ok d g.values.0 unsaid g.read.0, ((parts_agree version fields.AfterGtin).ok d g.values.1.0 unsaid g.read.1.0, ((parts_agree version fields.AfterSerials).ok d g.values.1.1.0 unsaid g.read.1.1.0, ((parts_agree version fields.At).ok d g.values.1.1.1.0 unsaid g.read.1.1.1.0, ((parts_agree version fields.BeforeBatch).ok d g.values.1.1.1.1.0 unsaid g.read.1.1.1.1.0, ((parts_agree version fields.BeforeGtin).ok d g.values.1.1.1.1.1.0 unsaid g.read.1.1.1.1.1.0, ((parts_agree version fields.BeforeSerials).ok d g.values.1.1.1.1.1.1.0 unsaid g.read.1.1.1.1.1.1.0, ((of_form.1, tt), ((of_version, tt), tt))))))))))
+
+status_spelled : (version : Version) (d : Data) (m : Message) → IsOfVersion version d → IsOfForm version forms.Status d → message_at version forms.Status d ≡ Ok m → ReadsIn version d m
+status_spelled version d m of_version of_form h =
+    let g = given version forms.Status d m h in
+    let unsaid = unsaid_of version forms.Status d of_form.0 in
+    subst (ReadsIn version d) g.makes (of_form.0, ((parts_agree version fields.At).ok d g.values.0 unsaid g.read.0, ((parts_agree version fields.Gtin).ok d g.values.1.0 unsaid g.read.1.0, ((of_form.1, tt), ((parts_agree version fields.Serial).ok d g.values.1.1.1.0 unsaid g.read.1.1.1.0, ((parts_agree version fields.To).ok d g.values.1.1.1.1.0 unsaid g.read.1.1.1.1.0, ((parts_agree version fields.User).ok d g.values.1.1.1.1.1.0 unsaid g.read.1.1.1.1.1.0, ((of_version, tt), tt))))))))
+
+upload_spelled : (version : Version) (d : Data) (m : Message) → IsOfVersion version d → IsOfForm version forms.Upload d → message_at version forms.Upload d ≡ Ok m → ReadsIn version d m
+upload_spelled version d m of_version of_form h =
+    let g = given version forms.Upload d m h in
+    let unsaid = unsaid_of version forms.Upload d of_form.0 in
+    subst (ReadsIn version d) g.makes (of_form.0, ((parts_agree version fields.Batch).ok d g.values.0 unsaid g.read.0, ((parts_agree version fields.Expiry).ok d g.values.1.0 unsaid g.read.1.0, ((parts_agree version fields.Gtin).ok d g.values.1.1.0 unsaid g.read.1.1.0, ((of_form.1, tt), ((parts_agree version fields.National).ok d g.values.1.1.1.1.0 unsaid g.read.1.1.1.1.0, ((parts_agree version fields.Serials).ok d g.values.1.1.1.1.1.0 unsaid g.read.1.1.1.1.1.0, ((of_version, tt), tt))))))))
+
+withdraw_spelled : (d : Data) (m : Message) → IsOfVersion Two d → IsOfForm Two forms.Withdraw d → message_at Two forms.Withdraw d ≡ Ok m → ReadsIn Two d m
+withdraw_spelled d m of_version of_form h =
+    let g = given Two forms.Withdraw d m h in
+    let unsaid = unsaid_of Two forms.Withdraw d of_form.0 in
+    subst (ReadsIn Two d) g.makes (of_form.0, ((parts_agree Two fields.At).ok d g.values.0 unsaid g.read.0, ((parts_agree Two fields.Gtin).ok d g.values.1.0 unsaid g.read.1.0, ((of_form.1, tt), ((of_version, tt), tt)))))
 
 message_spelled : (version : Version) (d : Data) (m : Message) (form : Form) → IsOfVersion version d → IsOfForm version form d → IsIn form version → message_at version form d ≡ Ok m → ReadsIn version d m
 message_spelled version d m forms.Answer of_version of_form is_in h = answer_spelled version d m of_version of_form h

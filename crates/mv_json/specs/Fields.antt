@@ -1,7 +1,9 @@
 -- The fields of a message, by the names that they bear in its JSON object.
-use Rattle.std.specs.Prelude.{ℕ, List, codes}
+use Rattle.std.specs.Prelude.{ℕ, Bool, true, false, List, map, filter, codes}
 use Rattle.mv_json.specs.declared.field.Field.{Field}
 use Rattle.mv_json.specs.declared.field.Field.TheVariants as fields
+use Rattle.mv_json.specs.declared.version.Version.{Version}
+use Rattle.mv_json.specs.declared.version.Version.TheVariants.{One}
 
 -- the name of a field
 abbrev pub field_name : Field → List ℕ
@@ -36,3 +38,14 @@ field_name fields.To = codes "to"
 field_name fields.User = codes "user"
 field_name fields.V = codes "v"
 field_name fields.Withdrawn = codes "withdrawn"
+
+-- Whether a field came with that version, or before it. What has the key `v` is not of version 1, so that there it may stand
+-- among the fields.
+abbrev pub is_in : Field → Version → Bool
+is_in fields.National One = false
+is_in fields.Withdrawn One = false
+is_in field version = true
+
+-- the names of fields in a version
+abbrev pub names_in : Version → List Field → List (List ℕ)
+names_in version listed = map field_name (filter (λ field. is_in field version) listed)

@@ -1,8 +1,8 @@
 -- What was found of a pack, as an object of an answer.
-use Rattle.std.specs.Prelude.{ℕ, false, Bool, if◌then◌else◌, List, [], ◌∷◌, map, is_some, Result, Ok, Err}
+use Rattle.std.specs.Prelude.{◌≡◌, ℕ, if◌then◌else◌, List, [], ◌∷◌, is_some, Result, Ok, Err}
 use Rattle.std.specs.Option.{ok_or}
 use Rattle.std.specs.Result.{result_ok}
-use Rattle.serde_json.specs.Data.{Data}
+use Rattle.serde_json.specs.Data.{Data, null}
 use Rattle.serde_json.specs.Find.{as_object}
 use Rattle.mv_json.specs.declared.field.Field.{Field}
 use Rattle.mv_json.specs.declared.field.Field.TheVariants as fields
@@ -11,37 +11,34 @@ use Rattle.mv_json.specs.declared.fault.MessageFault.TheVariants.{NotObject, Kin
 use Rattle.mv_message.specs.declared.found.Found.{Found}
 use Rattle.mv_message.specs.declared.found.Found.TheVariants.{Absent, Present}
 use Rattle.mv_json.specs.declared.version.Version.{Version}
-use Rattle.mv_json.specs.declared.version.Version.TheVariants.{One, Two}
-use Rattle.mv_json.specs.Fields.{field_name}
+use Rattle.mv_json.specs.declared.version.Version.TheVariants.{Two}
+use Rattle.mv_json.specs.FieldMeanings.{part_of}
+use Rattle.mv_json.specs.Fields.{names_in}
+use Rattle.mv_json.specs.Meanings.{Said, made_at, object_of, AreSpelled, AreLegal}
 use Rattle.mv_json.specs.Members.{first_unknown}
-use Rattle.mv_json.specs.Numbers.{truth_at}
-use Rattle.mv_json.specs.Reading.{◌and_then◌, member_at, code_at, expiry_at, national_at, standing_at, is_null}
+use Rattle.mv_json.specs.Reading.{◌and_then◌, member_at, is_null}
+use Rattle.mv_json.specs.Spellings.{HasOnly}
 
 -- the fields of a pack that was found, in byte order of their names
-abbrev pub present_fields : Version → List Field
-present_fields One = fields.Batch ∷ fields.Expiry ∷ fields.Recalled ∷ fields.Standing ∷ []
-present_fields Two =
-    fields.Batch ∷ fields.Expiry ∷ fields.National ∷ fields.Recalled ∷ fields.Standing ∷ fields.Withdrawn ∷ []
+abbrev pub present_fields : List Field
+present_fields = fields.Batch ∷ fields.Expiry ∷ fields.National ∷ fields.Recalled ∷ fields.Standing ∷ fields.Withdrawn ∷ []
 
 -- the names of these fields
 abbrev pub present_names : Version → List (List ℕ)
-present_names version = map field_name (present_fields version)
-
--- whether the product is withdrawn, of which version 1 does not speak
-abbrev pub withdrawn_at : Version → Data → Result Bool MessageFault
-withdrawn_at One value = Ok false
-withdrawn_at Two value = truth_at fields.Withdrawn value
+present_names version = names_in version present_fields
 
 -- the pack that the fields of an object give
 unfoldable pub present_at : Version → Data → Result Found MessageFault
 present_at version value =
-    code_at fields.Batch value and_then λ batch.
-    expiry_at fields.Expiry value and_then λ expiry.
-    national_at version fields.National value and_then λ national.
-    truth_at fields.Recalled value and_then λ recalled.
-    standing_at fields.Standing value and_then λ standing.
-    withdrawn_at version value and_then λ withdrawn.
-    Ok (Present batch expiry national standing recalled withdrawn)
+    made_at (part_of version) present_fields
+    (λ batch expiry national recalled standing withdrawn. Present batch expiry national standing recalled withdrawn) value
+
+-- what the fields of a pack say
+abbrev pub said_of_pack : (version : Version) → Found → List (Said (part_of version))
+said_of_pack version Absent = []
+said_of_pack version (Present batch expiry national standing recalled withdrawn) =
+    (fields.Batch, batch) ∷ (fields.Expiry, expiry) ∷ (fields.National, national) ∷ (fields.Recalled, recalled)
+    ∷ (fields.Standing, standing) ∷ (fields.Withdrawn, withdrawn) ∷ []
 
 -- the pack that an object is, which has no other key than its fields
 unfoldable pub present_of : Version → Data → Result Found MessageFault
@@ -58,3 +55,18 @@ found_of version value =
 -- what the field `found` says: M3, M5
 unfoldable pub found_at : Version → Data → Result Found MessageFault
 found_at version value = member_at fields.Found value and_then found_of version
+
+-- the value of what was found
+abbrev pub found_value : Version → Found → Data
+found_value version Absent = null
+found_value version found = object_of (part_of version) (said_of_pack version found)
+
+-- a part is `null` where nothing was found, else an object with exactly the fields of the pack
+abbrev pub SpellsFound : Version → Data → Found → Type 0
+SpellsFound version part Absent = part ≡ null
+SpellsFound version part found =
+    HasOnly (present_names version) part × AreSpelled (part_of version) (said_of_pack version found) part
+
+-- what a pack that was found says is legal
+abbrev pub IsLegalFound : Found → Type 0
+IsLegalFound found = AreLegal (part_of Two) (said_of_pack Two found)

@@ -8,13 +8,14 @@ use Rattle.serde_json.specs.Data.{Data}
 use Rattle.mv_json.specs.declared.form.Form.{Form}
 use Rattle.mv_message.specs.declared.message.Message.{Message}
 use Rattle.mv_json.specs.declared.version.Version.{Version}
-use Rattle.mv_json.specs.FieldFaults.{first_fault}
-use Rattle.mv_json.specs.Contents.{contents_of}
-use Rattle.mv_json.specs.Forms.{form_of, names_of, form_at}
+use Rattle.mv_json.specs.Forms.{form_at}
 use Rattle.mv_json.specs.Keys.{KeysAscend}
 use Rattle.mv_json.specs.Legal.{IsLegal}
+use Rattle.mv_json.specs.Meanings.{first_fault}
 use Rattle.mv_json.specs.Messages.{read_message, value_of}
-use Rattle.mv_json.specs.Reads.{Reads, HasOnly}
+use Rattle.mv_json.specs.Reads.{Reads}
+use Rattle.mv_json.specs.Shapes.{meaning_of, shape_of, names_of}
+use Rattle.mv_json.specs.Spellings.{HasOnly}
 use Rattle.mv_json.specs.Versions.{version_at}
 
 -- each legal message is read back from its value
@@ -37,14 +38,12 @@ ReadIsLegal = (value : Data) (message : Message) → read_message value ≡ Ok m
 abbrev pub ReadsOne : Type 0
 ReadsOne = (value : Data) (left right : Message) → Reads value left → Reads value right → left ≡ right
 
--- The fault of an object with the version, the form and the keys of a message is that of its first field that has one. Each
--- message of that form has fields of the same kinds, so that it is the same for all of them.
+-- the fault of an object with a version, a form and the keys of that form is that of the first of its fields that has one
 abbrev pub FirstFaultIsGiven : Type 0
 FirstFaultIsGiven =
-    (value : Data) (version : Version) (message : Message)
-    → version_at value ≡ Ok version → form_at version value ≡ Ok (form_of message)
-    → HasOnly (names_of version (form_of message)) value
-    → result_err (read_message value) ≡ first_fault value (contents_of version message)
+    (value : Data) (version : Version) (form : Form)
+    → version_at value ≡ Ok version → form_at version value ≡ Ok form → HasOnly (names_of version form) value
+    → result_err (read_message value) ≡ first_fault (meaning_of version form) (shape_of version form).listed value
 
 -- the fields of a message are in byte order of their names, each once
 abbrev pub FieldsAreInOrder : Type 0

@@ -7,9 +7,10 @@ use Rattle.mv_json.specs.declared.fault.MessageFault.TheVariants.{NotObject}
 use Rattle.mv_json.specs.declared.form.Form.{Form}
 use Rattle.mv_json.specs.declared.form.Form.TheVariants as forms
 use Rattle.mv_json.specs.declared.version.Version.{Version}
-use Rattle.mv_json.specs.Forms.{form_at, names_of}
+use Rattle.mv_json.specs.Forms.{form_at}
 use Rattle.mv_json.specs.Members.{first_unknown}
 use Rattle.mv_json.specs.Reading.{◌and_then◌}
+use Rattle.mv_json.specs.Shapes.{names_of}
 use Rattle.mv_json.specs.Versions.{version_at}
 
 -- the messages of a form hold free texts, or lists of markets or serial numbers

@@ -1,8 +1,8 @@
 -- Messages: what reading a value or bytes gives, and the JSON value of each.
-use Rattle.std.specs.Prelude.{ℕ, List, map, if◌then◌else◌, Some, Result, Err}
+use Rattle.std.specs.Prelude.{ℕ, List, if◌then◌else◌, Some, Result, Err}
 use Rattle.std.specs.Option.{ok_or}
 use Rattle.std.specs.Str.{is_utf8}
-use Rattle.serde_json.specs.Data.{Data, object}
+use Rattle.serde_json.specs.Data.{Data}
 use Rattle.serde_json.specs.Find.{as_object}
 use Rattle.serde_json.specs.Read.{read}
 use Rattle.mv_json.specs.declared.fault.MessageFault.{MessageFault}
@@ -13,10 +13,11 @@ use Rattle.mv_json.specs.declared.version.Version.{Version}
 use Rattle.mv_json.specs.declared.version.Version.TheVariants.{One, Two}
 use Rattle.mv_json.specs.Contents.{contents_of}
 use Rattle.mv_json.specs.Reading.{◌and_then◌}
-use Rattle.mv_json.specs.Forms.{form_at, known_form_at}
-use Rattle.mv_json.specs.Readers.{message_at}
+use Rattle.mv_json.specs.Forms.{form_of, form_at}
+use Rattle.mv_json.specs.Meanings.{object_of}
+use Rattle.mv_json.specs.Shapes.{meaning_of, known_form_at, message_at}
 use Rattle.mv_json.specs.Versions.{version_at}
-use Rattle.mv_json.specs.Values.{members_with, found_version, written}
+use Rattle.mv_json.specs.Values.{found_version}
 
 -- The message that a value is, or the first fault: M2, M5 of `v`, those of `msg`, M4, then those of each field.
 unfoldable pub read_message : Data → Result Message MessageFault
@@ -44,8 +45,7 @@ message_version message = One
 
 -- the value of a message in a version
 abbrev pub value_in : Version → Message → Data
-value_in version message =
-    object (members_with (map (λ (field, content). (field, written content)) (contents_of version message)))
+value_in version message = object_of (meaning_of version (form_of message)) (contents_of version message)
 
 -- the value of a message
 abbrev pub value_of : Message → Data

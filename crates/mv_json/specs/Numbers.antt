@@ -1,5 +1,5 @@
 -- What reading a field that is a whole number, or `true` or `false`, gives: its meaning, or the first fault.
-use Rattle.std.specs.Prelude.{ℕ, ◌^◌, ◌==◌, Bool, nat_lt, if◌then◌else◌, option_and_then, Option, Result, Ok, Err}
+use Rattle.std.specs.Prelude.{ℕ, ◌^◌, ◌==◌, false, Bool, nat_lt, if◌then◌else◌, option_and_then, Option, Result, Ok, Err}
 use Rattle.std.specs.Option.{ok_or}
 use Rattle.serde_json.specs.Data.{Data}
 use Rattle.serde_json.specs.Find.{as_bool, as_number, as_u64}
@@ -7,11 +7,18 @@ use Rattle.mv_pack.specs.Moment.{read_moment}
 use Rattle.mv_json.specs.declared.field.Field.{Field}
 use Rattle.mv_json.specs.declared.fault.MessageFault.{MessageFault}
 use Rattle.mv_json.specs.declared.fault.MessageFault.TheVariants.{Kind}
+use Rattle.mv_json.specs.declared.version.Version.{Version}
+use Rattle.mv_json.specs.declared.version.Version.TheVariants.{One, Two}
 use Rattle.mv_json.specs.Reading.{◌and_then◌, of_field, member_at}
 
 -- whether a field says `true`: M3, M5
 unfoldable pub truth_at : Field → Data → Result Bool MessageFault
 truth_at field value = member_at field value and_then λ found. ok_or (as_bool found) (Kind field)
+
+-- whether a field says that a product is withdrawn, of which version 1 does not speak: M3, M5
+abbrev pub withdrawn_at : Version → Field → Data → Result Bool MessageFault
+withdrawn_at One field value = Ok false
+withdrawn_at Two field value = truth_at field value
 
 -- the whole number that a value is; one with a fraction or an exponent is none
 abbrev pub whole_number : Data → Option ℕ

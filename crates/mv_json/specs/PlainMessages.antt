@@ -7,9 +7,7 @@ use Rattle.serde_json.specs.Read.{number_of, of_json}
 use Rattle.mv_pack.specs.Code.{read_code}
 use Rattle.mv_message.specs.declared.message.Message.{Message}
 use Rattle.mv_json.specs.declared.field.Field.{Field}
-use Rattle.mv_json.specs.Contents.{free_text}
 use Rattle.mv_json.specs.Fields.{field_name}
-use Rattle.mv_json.specs.Legal.{IsLegalContent}
 use Rattle.mv_json.specs.Messages.{read_message}
 
 -- the tokens are this value of JSON, wherever it may nest two deep, then the rest
@@ -33,10 +31,6 @@ BeginWithText ts Holds rest = (text : List ℕ) × (ts ≡ string text ∷ rest)
 -- the tokens are the field, with a text of which this holds, then the rest
 abbrev pub BeginWithField : List Token → Field → (List ℕ → Type 0) → List Token → Type 0
 BeginWithField ts field Holds rest = (text : List ℕ) × (ts ≡ key (field_name field) ∷ string text ∷ rest) × Holds text
-
--- a text of 1 to 200 bytes
-abbrev pub IsFreeText : List ℕ → Type 0
-IsFreeText text = IsLegalContent (free_text text)
 
 -- the tokens are texts of these serial numbers up to the end of their list, then the rest
 abbrev pub BeginWithSerials : List Token → List (List ℕ) → List Token → Type 0

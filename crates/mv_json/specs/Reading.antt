@@ -4,9 +4,6 @@ use Rattle.std.specs.Option.{ok_or}
 use Rattle.serde_json.specs.Data.{Data, Items, no_items, item}
 use Rattle.serde_json.specs.Find.{get, as_null, as_str, as_array}
 use Rattle.mv_pack.specs.Code.{read_code}
-use Rattle.mv_pack.specs.Expiry.{CivilDate, read_expiry}
-use Rattle.mv_pack.specs.Gtin.{read_gtin}
-use Rattle.mv_pack.specs.Market.{read_market}
 use Rattle.mv_pack.specs.declared.fault.PackFault.{PackFault}
 use Rattle.mv_json.specs.declared.field.Field.{Field}
 use Rattle.mv_json.specs.declared.fault.MessageFault.{MessageFault}
@@ -16,7 +13,7 @@ use Rattle.mv_json.specs.declared.version.Version.{Version}
 use Rattle.mv_json.specs.declared.version.Version.TheVariants.{One, Two}
 use Rattle.mv_json.specs.Fields.{field_name}
 use Rattle.mv_message.specs.Standings.{standing_named}
-use Rattle.mv_json.specs.Limits.{most_markets, most_serials, most_text_bytes}
+use Rattle.mv_json.specs.Limits.{most_text_bytes}
 
 -- the next step on what was read, or the fault that there was
 infixl 10 ◌and_then◌
@@ -37,17 +34,9 @@ member_at field value = ok_or (get (field_name field) value) (Missing field)
 abbrev pub text_at : Field → Data → Result (List ℕ) MessageFault
 text_at field value = member_at field value and_then λ found. ok_or (as_str found) (Kind field)
 
--- the product code of a field: M3, M5, M6
-unfoldable pub gtin_at : Field → Data → Result (List ℕ) MessageFault
-gtin_at field value = text_at field value and_then λ text. of_field field (read_gtin text)
-
--- the serial number, batch number or national number of a field: M3, M5, M6
-unfoldable pub code_at : Field → Data → Result (List ℕ) MessageFault
-code_at field value = text_at field value and_then λ text. of_field field (read_code text)
-
--- the expiry date of a field: M3, M5, M6
-unfoldable pub expiry_at : Field → Data → Result CivilDate MessageFault
-expiry_at field value = text_at field value and_then λ text. of_field field (read_expiry text)
+-- what a reader of values takes the text of a field for: M3, M5, M6
+unfoldable pub read_at : {A : Type 0} → (List ℕ → Result A PackFault) → Field → Data → Result A MessageFault
+read_at reader field value = text_at field value and_then λ text. of_field field (reader text)
 
 -- the standing of a field: M3, M5
 unfoldable pub standing_at : Field → Data → Result Standing MessageFault
@@ -107,13 +96,9 @@ read_each reader field no_items = Ok []
 read_each reader field (item value items) =
     read_item reader field value and_then λ first. read_each reader field items and_then λ rest. Ok (first ∷ rest)
 
--- the markets of a field, 1 to 32: M3, M5, M7, M6
-unfoldable pub markets_at : Field → Data → Result (List (List ℕ)) MessageFault
-markets_at field value = texts_at most_markets field value and_then read_each read_market field
-
--- the serial numbers of a field, 1 to 100: M3, M5, M7, M6
-unfoldable pub serials_at : Field → Data → Result (List (List ℕ)) MessageFault
-serials_at field value = texts_at most_serials field value and_then read_each read_code field
+-- what a reader takes the texts of a list for, which are 1 to most: M3, M5, M7, M6
+unfoldable pub list_at : {A : Type 0} → (List ℕ → Result A PackFault) → ℕ → Field → Data → Result (List A) MessageFault
+list_at reader most field value = texts_at most field value and_then read_each reader field
 
 -- A function returned what reading gives, or memory was refused.
 abbrev pub Gives : {A : Type 0} → Result A MessageFault → Result A MessageFault → Type 0

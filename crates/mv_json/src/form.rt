@@ -3,7 +3,8 @@
 ghost use Rattle.std.specs.Prelude.{◌≡◌, ◌≢◌, IfErr, IsSome, map};
 ghost use Rattle.serde_json.specs.View.{view, members_view};
 ghost use Rattle.mv_json.specs.Reading.{Gives};
-ghost use Rattle.mv_json.specs.Forms.{form_named, form_at, names_of, known_form_at};
+ghost use Rattle.mv_json.specs.Forms.{form_named, form_at};
+ghost use Rattle.mv_json.specs.Shapes.{names_of, known_form_at};
 ghost use Rattle.mv_json.specs.Members.{first_unknown};
 
 use crate::members::first_unknown;

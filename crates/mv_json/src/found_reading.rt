@@ -2,7 +2,8 @@
 
 ghost use Rattle.std.specs.Prelude.{◌≡◌, ◌≢◌, map, IfErr};
 ghost use Rattle.serde_json.specs.View.{view};
-ghost use Rattle.mv_json.specs.Found.{present_names, withdrawn_at, present_at, present_of, found_of, found_at};
+ghost use Rattle.mv_json.specs.Found.{present_names, present_at, present_of, found_of, found_at};
+ghost use Rattle.mv_json.specs.Numbers.{withdrawn_at};
 
 use crate::members::first_unknown;
 use crate::numbers::truth_at;
@@ -86,7 +87,7 @@ fn present_at(value: &Value, version: Version) -> Result<Found, MessageFault>
 
 /// Whether the product is withdrawn, of which version 1 does not speak.
 fn withdrawn_at(value: &Value, version: Version) -> Result<bool, MessageFault>
-    ensures { result ≡ withdrawn_at version (view value.now) }
+    ensures { result ≡ withdrawn_at version Field.Withdrawn (view value.now) }
 {
     match version {
         Version::One => Ok(false),

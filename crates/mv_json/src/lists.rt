@@ -7,7 +7,7 @@ ghost use Rattle.serde_json.specs.Find.{as_str};
 ghost use Rattle.serde_json.specs.View.{view, items_view};
 ghost use Rattle.mv_pack.specs.Code.{read_code};
 ghost use Rattle.mv_pack.specs.Market.{read_market};
-ghost use Rattle.mv_json.specs.Reading.{Gives, texts_at, markets_at, serials_at, read_item, read_each};
+ghost use Rattle.mv_json.specs.Reading.{Gives, texts_at, list_at, read_item, read_each};
 
 use crate::reading::member_at;
 use crate::{Field, MessageFault};
@@ -52,13 +52,13 @@ fn are_texts(list: &[Value]) -> bool
 }
 
 /// The markets of a field, 1 to 32: M3, M5, M7, M6.
-#[tactic(auto, unfolding(crate::specs::Reading::markets_at))]
+#[tactic(auto, unfolding(crate::specs::Reading::list_at))]
 pub(crate) fn markets_at(
     alloc: Global,
     value: &Value,
     field: Field,
 ) -> Result<Markets, MessageFault>
-    ensures gives { Gives result (markets_at field (view value.now)) }
+    ensures gives { Gives result (list_at read_market most_markets field (view value.now)) }
     // Memory is asked for only once the members are known to be texts, and neither too few nor too many.
     ensures memory { IfErr result (λ fault. fault ≡ MessageFault.Memory
         → IsOk (texts_at most_markets field (view value.now))) }
@@ -90,13 +90,13 @@ fn market_in(value: &Value, field: Field) -> Result<Market, MessageFault>
 }
 
 /// The serial numbers of a field, 1 to 100: M3, M5, M7, M6.
-#[tactic(auto, unfolding(crate::specs::Reading::serials_at))]
+#[tactic(auto, unfolding(crate::specs::Reading::list_at))]
 pub(crate) fn serials_at(
     alloc: Global,
     value: &Value,
     field: Field,
 ) -> Result<Serials, MessageFault>
-    ensures gives { Gives result (serials_at field (view value.now)) }
+    ensures gives { Gives result (list_at read_code most_serials field (view value.now)) }
     // Memory is asked for only once the members are known to be texts, and neither too few nor too many.
     ensures memory { IfErr result (λ fault. fault ≡ MessageFault.Memory
         → IsOk (texts_at most_serials field (view value.now))) }

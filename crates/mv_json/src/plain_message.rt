@@ -9,7 +9,8 @@ ghost use Rattle.mv_pack.specs.Moment.{read_moment};
 ghost use Rattle.mv_message.specs.Standings.{standing_named};
 ghost use Rattle.mv_json.specs.Fields.{field_name};
 ghost use Rattle.mv_json.specs.Limits.{most_serials};
-ghost use Rattle.mv_json.specs.PlainMessages.{BeginWithWhole, BeginWithMessage, BeginWithText, BeginWithField, BeginWithSerials, IsFreeText, object_from};
+ghost use Rattle.mv_json.specs.PlainMessages.{BeginWithWhole, BeginWithMessage, BeginWithText, BeginWithField, BeginWithSerials, object_from};
+ghost use Rattle.mv_json.specs.FieldMeanings.{IsFreeText};
 
 use crate::Field;
 use crate::lists::MOST_SERIALS;

@@ -4,7 +4,7 @@ ghost use Rattle.std.specs.Prelude.{◌≡◌, ◌≢◌, IfErr, IsTrue};
 ghost use Rattle.serde_json.specs.View.{view};
 ghost use Rattle.mv_json.specs.Memory.{holds_texts};
 ghost use Rattle.mv_json.specs.Reading.{Gives};
-ghost use Rattle.mv_json.specs.Readers.{message_at};
+ghost use Rattle.mv_json.specs.Shapes.{message_at};
 
 use crate::form::Form;
 use crate::found_reading::found_at;
@@ -45,7 +45,7 @@ pub(crate) fn message_at(
 }
 
 /// The product master that the fields give.
-#[tactic(auto, unfolding(crate::specs::Readers::message_at))]
+#[tactic(auto, unfolding(crate::specs::Shapes::message_at))]
 fn master_at(alloc: Global, value: &Value) -> Result<Message, MessageFault>
     ensures { (version : Version) → Gives result (message_at version Form.Master (view value.now)) }
 {
@@ -75,7 +75,7 @@ fn master_at(alloc: Global, value: &Value) -> Result<Message, MessageFault>
 }
 
 /// The upload that the fields give.
-#[tactic(auto, unfolding(crate::specs::Readers::message_at))]
+#[tactic(auto, unfolding(crate::specs::Shapes::message_at))]
 fn upload_at(alloc: Global, value: &Value, version: Version) -> Result<Message, MessageFault>
     ensures { Gives result (message_at version Form.Upload (view value.now)) }
 {
@@ -94,7 +94,7 @@ fn upload_at(alloc: Global, value: &Value, version: Version) -> Result<Message, 
 }
 
 /// The change of standing that the fields give.
-#[tactic(auto, unfolding(crate::specs::Readers::message_at))]
+#[tactic(auto, unfolding(crate::specs::Shapes::message_at))]
 fn status_at(alloc: Global, value: &Value) -> Result<Message, MessageFault>
     ensures { (version : Version) → Gives result (message_at version Form.Status (view value.now)) }
 {
@@ -112,7 +112,7 @@ fn status_at(alloc: Global, value: &Value) -> Result<Message, MessageFault>
 }
 
 /// The recall that the fields give.
-#[tactic(auto, unfolding(crate::specs::Readers::message_at))]
+#[tactic(auto, unfolding(crate::specs::Shapes::message_at))]
 fn recall_at(value: &Value) -> Result<Message, MessageFault>
     ensures gives { (version : Version) → result ≡ message_at version Form.Recall (view value.now) }
     // It takes no memory.
@@ -128,7 +128,7 @@ fn recall_at(value: &Value) -> Result<Message, MessageFault>
 }
 
 /// The repackaging that the fields give.
-#[tactic(auto, unfolding(crate::specs::Readers::message_at))]
+#[tactic(auto, unfolding(crate::specs::Shapes::message_at))]
 fn repack_at(alloc: Global, value: &Value) -> Result<Message, MessageFault>
     ensures { (version : Version) → Gives result (message_at version Form.Repack (view value.now)) }
 {
@@ -157,7 +157,7 @@ fn repack_at(alloc: Global, value: &Value) -> Result<Message, MessageFault>
 }
 
 /// The withdrawal that the fields give.
-#[tactic(auto, unfolding(crate::specs::Readers::message_at))]
+#[tactic(auto, unfolding(crate::specs::Shapes::message_at))]
 fn withdraw_at(value: &Value) -> Result<Message, MessageFault>
     ensures gives { (version : Version) → result ≡ message_at version Form.Withdraw (view value.now) }
     // It takes no memory.
@@ -169,7 +169,7 @@ fn withdraw_at(value: &Value) -> Result<Message, MessageFault>
 }
 
 /// The query that the fields give.
-#[tactic(auto, unfolding(crate::specs::Readers::message_at))]
+#[tactic(auto, unfolding(crate::specs::Shapes::message_at))]
 fn query_at(value: &Value) -> Result<Message, MessageFault>
     ensures gives { (version : Version) → result ≡ message_at version Form.Query (view value.now) }
     // It takes no memory.
@@ -183,7 +183,7 @@ fn query_at(value: &Value) -> Result<Message, MessageFault>
 }
 
 /// The answer that the fields give.
-#[tactic(auto, unfolding(crate::specs::Readers::message_at))]
+#[tactic(auto, unfolding(crate::specs::Shapes::message_at))]
 fn answer_at(value: &Value, version: Version) -> Result<Message, MessageFault>
     ensures gives { result ≡ message_at version Form.Answer (view value.now) }
     // It takes no memory.

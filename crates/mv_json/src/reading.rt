@@ -2,7 +2,10 @@
 
 ghost use Rattle.std.specs.Prelude.{◌≡◌, ◌≢◌, IfErr, IsOk, MatchResult, Ok, Err};
 ghost use Rattle.serde_json.specs.View.{view};
-ghost use Rattle.mv_json.specs.Reading.{member_at, text_at, gtin_at, code_at, expiry_at, standing_at, free_text_at, national_of, national_at, is_null, Gives};
+ghost use Rattle.mv_pack.specs.Code.{read_code};
+ghost use Rattle.mv_pack.specs.Expiry.{read_expiry};
+ghost use Rattle.mv_pack.specs.Gtin.{read_gtin};
+ghost use Rattle.mv_json.specs.Reading.{member_at, text_at, read_at, standing_at, free_text_at, national_of, national_at, is_null, Gives};
 ghost use Rattle.mv_message.specs.Standings.{standing_named};
 
 use crate::version::Version;
@@ -42,9 +45,9 @@ pub(crate) fn text_at(value: &Value, field: Field) -> Result<&str, MessageFault>
 }
 
 /// The product code of a field: M3, M5, M6.
-#[tactic(auto, unfolding(crate::specs::Reading::gtin_at))]
+#[tactic(auto, unfolding(crate::specs::Reading::read_at))]
 pub(crate) fn gtin_at(value: &Value, field: Field) -> Result<Gtin, MessageFault>
-    ensures gives { result ≡ gtin_at field (view value.now) }
+    ensures gives { result ≡ read_at read_gtin field (view value.now) }
     // It takes no memory.
     ensures no_memory { IfErr result (λ fault. fault ≢ MessageFault.Memory) }
 {
@@ -52,9 +55,9 @@ pub(crate) fn gtin_at(value: &Value, field: Field) -> Result<Gtin, MessageFault>
 }
 
 /// The serial number of a field: M3, M5, M6.
-#[tactic(auto, unfolding(crate::specs::Reading::code_at))]
+#[tactic(auto, unfolding(crate::specs::Reading::read_at))]
 pub(crate) fn serial_at(value: &Value, field: Field) -> Result<Serial, MessageFault>
-    ensures gives { result ≡ code_at field (view value.now) }
+    ensures gives { result ≡ read_at read_code field (view value.now) }
     // It takes no memory.
     ensures no_memory { IfErr result (λ fault. fault ≢ MessageFault.Memory) }
 {
@@ -62,9 +65,9 @@ pub(crate) fn serial_at(value: &Value, field: Field) -> Result<Serial, MessageFa
 }
 
 /// The batch number of a field: M3, M5, M6.
-#[tactic(auto, unfolding(crate::specs::Reading::code_at))]
+#[tactic(auto, unfolding(crate::specs::Reading::read_at))]
 pub(crate) fn batch_at(value: &Value, field: Field) -> Result<Batch, MessageFault>
-    ensures gives { result ≡ code_at field (view value.now) }
+    ensures gives { result ≡ read_at read_code field (view value.now) }
     // It takes no memory.
     ensures no_memory { IfErr result (λ fault. fault ≢ MessageFault.Memory) }
 {
@@ -72,9 +75,9 @@ pub(crate) fn batch_at(value: &Value, field: Field) -> Result<Batch, MessageFaul
 }
 
 /// The expiry date of a field: M3, M5, M6.
-#[tactic(auto, unfolding(crate::specs::Reading::expiry_at))]
+#[tactic(auto, unfolding(crate::specs::Reading::read_at))]
 pub(crate) fn expiry_at(value: &Value, field: Field) -> Result<Expiry, MessageFault>
-    ensures gives { result ≡ expiry_at field (view value.now) }
+    ensures gives { result ≡ read_at read_expiry field (view value.now) }
     // It takes no memory.
     ensures no_memory { IfErr result (λ fault. fault ≢ MessageFault.Memory) }
 {

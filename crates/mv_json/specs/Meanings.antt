@@ -1,0 +1,74 @@
+-- What a field means: how its values are read, written and spelled, and which are legal; and what the fields of an object say.
+use Rattle.std.specs.Prelude.{◌≡◌, ℕ, List, [], ◌∷◌, map, Option, Some, None, Result, Ok}
+use Rattle.std.specs.List.{AllByRecursion}
+use Rattle.std.specs.Option.{option_or}
+use Rattle.std.specs.Result.{result_err}
+use Rattle.serde_json.specs.Data.{Data, string, object}
+use Rattle.serde_json.specs.Find.{get}
+use Rattle.mv_pack.specs.declared.fault.PackFault.{PackFault}
+use Rattle.mv_json.specs.declared.field.Field.{Field}
+use Rattle.mv_json.specs.declared.fault.MessageFault.{MessageFault}
+use Rattle.mv_json.specs.Fields.{field_name}
+use Rattle.mv_json.specs.Reading.{◌and_then◌, read_at}
+use Rattle.mv_json.specs.Spellings.{Spells}
+use Rattle.mv_json.specs.Values.{members_with}
+
+-- What a field means: the values that it has, how one is read of an object, how it is written, if it is said at all, which
+-- objects spell it, and which values are legal.
+pub record Meaning : Type 1 where
+  pub Value : Type 0
+  pub read : Data → Result Value MessageFault
+  pub written : Value → Option Data
+  pub Spells : Data → Value → Type 0
+  pub IsLegal : Value → Type 0
+
+-- values that are spelled by all texts that a reader takes for them, and written as one of these
+abbrev pub text_of : {A : Type 0} → (List ℕ → Result A PackFault) → (A → List ℕ) → (A → Type 0) → Field → Meaning
+text_of {A} reader text IsLegal field = record {
+  Value = A;
+  read = read_at reader field;
+  written = λ x. Some (string (text x));
+  Spells = Spells reader field;
+  IsLegal = IsLegal;
+}
+
+-- legal values, which have no spelling but the one in which they are written
+abbrev pub exactly : {A : Type 0} → (Field → Data → Result A MessageFault) → (A → Option Data) → (A → Type 0) → Field → Meaning
+exactly {A} read written IsLegal field = record {
+  Value = A;
+  read = read field;
+  written = written;
+  Spells = λ value x. (get (field_name field) value ≡ written x) × IsLegal x;
+  IsLegal = IsLegal;
+}
+
+-- what values of these fields make
+abbrev pub Making : (Field → Meaning) → Type 0 → List Field → Type 0
+Making meaning A [] = A
+Making meaning A (field ∷ rest) = (meaning field).Value → Making meaning A rest
+
+-- what the fields of an object make, each of which is read in its turn
+abbrev pub made_at : {A : Type 0} → (meaning : Field → Meaning) → (listed : List Field) → Making meaning A listed → Data → Result A MessageFault
+made_at meaning [] made value = Ok made
+made_at meaning (field ∷ rest) makes value = (meaning field).read value and_then λ x. made_at meaning rest (makes x) value
+
+-- the fault of the first of these fields that has one, each looked at by itself
+abbrev pub first_fault : (Field → Meaning) → List Field → Data → Option MessageFault
+first_fault meaning [] value = None
+first_fault meaning (field ∷ rest) value = option_or (result_err ((meaning field).read value)) (first_fault meaning rest value)
+
+-- a field, and the value that it has
+abbrev pub Said : (Field → Meaning) → Type 0
+Said meaning = (field : Field) × (meaning field).Value
+
+-- the object whose fields say that
+abbrev pub object_of : (meaning : Field → Meaning) → List (Said meaning) → Data
+object_of meaning said = object (members_with (map (λ (field, x). (field, (meaning field).written x)) said))
+
+-- the fields of the object spell that
+abbrev pub AreSpelled : (meaning : Field → Meaning) → List (Said meaning) → Data → Type 0
+AreSpelled meaning said value = AllByRecursion (λ (field, x). (meaning field).Spells value x) said
+
+-- what is said is legal
+abbrev pub AreLegal : (meaning : Field → Meaning) → List (Said meaning) → Type 0
+AreLegal meaning said = AllByRecursion (λ (field, x). (meaning field).IsLegal x) said

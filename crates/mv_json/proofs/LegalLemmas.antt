@@ -17,8 +17,9 @@ use Rattle.mv_message.specs.declared.message.Message.{Message}
 use Rattle.mv_message.specs.declared.message.Message.TheVariants as messages
 use Rattle.mv_json.specs.declared.version.Version.{Version}
 use Rattle.mv_json.specs.declared.version.Version.TheVariants.{One, Two}
-use Rattle.mv_json.specs.FieldMeanings.{IsNational}
-use Rattle.mv_json.specs.Found.{present_names, found_value, SpellsFound, IsLegalFound}
+use Rattle.mv_json.specs.FieldMeanings.{IsNational, part_of}
+use Rattle.mv_json.specs.Found.{present_names, said_of_pack, found_value, SpellsFound}
+use Rattle.mv_json.specs.Meanings.{AreLegal}
 use Rattle.mv_json.specs.Legal.{IsLegal}
 use Rattle.mv_json.specs.Members.{keys_of, first_unknown}
 use Rattle.mv_json.specs.Messages.{read_message, read_bytes, value_in, value_of}
@@ -38,7 +39,11 @@ national_legal version None h = tt
 national_legal One (Some number) h = absurd h
 national_legal Two (Some number) h = h
 
-found_legal : (version : Version) (part : Data) (found : Found) → SpellsFound version part found → IsLegalFound found
+-- what a pack that was found says is legal
+abbrev IsLegalPack : Found → Type 0
+IsLegalPack found = AreLegal (part_of Two) (said_of_pack Two found)
+
+found_legal : (version : Version) (part : Data) (found : Found) → SpellsFound version part found → IsLegalPack found
 found_legal version part Absent h = tt
 found_legal version part (Present batch expiry national standing recalled withdrawn) (only, (of_batch, (of_expiry, (of_national, rest)))) = (
   (parts_agree version fields.Batch).legal part batch of_batch,
@@ -76,7 +81,7 @@ only : (names : List (List ℕ)) (ms : Members) → first_unknown names ms ≡ N
 only names ms h = (ms, refl, all_known names (keys_of ms) h)
 
 -- what was found is spelled in the version that says all of it
-found_spelled : (found : Found) → IsLegalFound found → SpellsFound (found_version found) (found_value (found_version found) found) found
+found_spelled : (found : Found) → IsLegalPack found → SpellsFound (found_version found) (found_value (found_version found) found) found
 found_spelled Absent h = refl
 found_spelled (Present batch expiry None standing recalled false) (of_batch, (of_expiry, (of_national, rest))) =
     (only (present_names One) _ refl, ((refl, of_batch), ((expiry_text expiry, refl, read_expiry_text expiry of_expiry), ((refl, of_national), ((refl, tt), ((refl, tt), ((refl, refl), tt)))))))

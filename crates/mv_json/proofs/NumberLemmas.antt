@@ -1,6 +1,6 @@
 -- What reading a number, or true or false, gives, backwards and forwards.
 use Rattle.std.proofs.Common.{◌≡◌, ◌∙◌, ◌≤◌, ◌<◌, ◌^◌, ℕ, Bool, true, false, cond, ap, sym, subst, refl, arith}
-use Rattle.std.specs.Prelude.{Some, None, Ok, Err, ◌==◌, nat_lt}
+use Rattle.std.specs.Prelude.{Some, None, Result, Ok, Err, ◌==◌, nat_lt}
 use Rattle.std.specs.Option.{ok_or}
 use Rattle.std.proofs.lemmas.Bool.Decides.{nat_tests}
 use Rattle.serde_json.specs.Data.{Data, null, boolean, number, unsigned, negative, float, string, array, object}
@@ -11,13 +11,14 @@ use Rattle.mv_pack.specs.declared.moment.TheConstants.{YEAR_2100}
 use Rattle.mv_pack.proofs.MomentLemmas.{read_moment_is_moment, read_moment_of}
 use Rattle.mv_pack.proofs.TextLemmas.{given_ok}
 use Rattle.mv_json.specs.declared.field.Field.{Field}
+use Rattle.mv_json.specs.declared.fault.MessageFault.{MessageFault}
 use Rattle.mv_json.specs.declared.fault.MessageFault.TheVariants.{Kind}
 use Rattle.mv_json.specs.declared.version.Version.{Version}
 use Rattle.mv_json.specs.declared.version.Version.TheVariants.{One, Two}
 use Rattle.mv_json.specs.FieldMeanings.{MayBeWithdrawn}
 use Rattle.mv_json.specs.Fields.{field_name}
 use Rattle.mv_json.specs.Values.{whole, since_two}
-use Rattle.mv_json.specs.Numbers.{truth_at, withdrawn_at, whole_number, whole_at, moment_at, of_32_bits, number_at, not_zero, count_at}
+use Rattle.mv_json.specs.Numbers.{truth_at, withdrawn_at, whole_number, whole_at, moment_at, number_at, count_at}
 use Rattle.mv_json.specs.Reading.{◌and_then◌, of_field, member_at}
 use Rattle.mv_json.specs.Spellings.{Has}
 use Rattle.mv_json.proofs.ReadingLemmas.{both_ok, ok_or_some, of_field_ok, unrefused, member_ok, member_read}
@@ -95,6 +96,10 @@ below n bound h = grind (arith, nat_tests)
 is_below : (n bound : ℕ) → n < bound → nat_lt n bound ≡ true
 is_below n bound h = grind (arith, nat_tests)
 
+-- a number of at most 32 bits
+abbrev of_32_bits : Field → ℕ → Result ℕ MessageFault
+of_32_bits f n = cond (nat_lt n (2 ^ 32)) (Ok n) (Err (Kind f))
+
 -- a field that is read as a number of 32 bits is it
 pub number_ok : (f : Field) (d : Data) (n : ℕ) → number_at f d ≡ Ok n → Has d f (whole n) × (n < 2 ^ 32)
 unfolding number_at
@@ -114,6 +119,10 @@ not_zero_ok n h = grind (arith, nat_tests)
 
 is_not_zero : (n : ℕ) → 1 ≤ n → (n == 0) ≡ false
 is_not_zero n h = grind (arith, nat_tests)
+
+-- a number that is not 0
+abbrev not_zero : Field → ℕ → Result ℕ MessageFault
+not_zero f n = cond (n == 0) (Err (Kind f)) (Ok n)
 
 -- a field that is read as a number from 1 on is it
 pub count_ok : (f : Field) (d : Data) (n : ℕ) → count_at f d ≡ Ok n → Has d f (whole n) × ((1 ≤ n) × (n < 2 ^ 32))

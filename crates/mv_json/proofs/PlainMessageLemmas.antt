@@ -1,11 +1,12 @@
 -- What the tokens of messages that are plainly written are read as.
-use Rattle.std.proofs.Common.{◌≡◌, ℕ, zero, suc, ◌≤◌, List, [], ◌∷◌, length, ap, subst, refl, true, false, Some}
+use Rattle.std.proofs.Common.{◌≡◌, ℕ, zero, suc, ◌≤◌, List, [], ◌∷◌, length, ap, subst, refl, false, Some}
 use Rattle.std.specs.Prelude.{None, Ok, codes, nat_lt, ◌||◌, ◌==◌}
 use Rattle.json.specs.Json.{Json, value, items, members, after_end_array}
 use Rattle.json.specs.Json as json
 use Rattle.json.specs.Token.{Token, begin_object, end_object, begin_array, end_array, key}
 use Rattle.json.specs.Token as token
 use Rattle.serde_json.specs.Data.{Data, Items, no_items, item, Members, object, member, no_members, string, array, number, unsigned}
+use Rattle.serde_json.specs.Find.{as_str}
 use Rattle.serde_json.specs.Read.{number_of, of_json, of_items}
 use Rattle.mv_pack.specs.Code.{read_code}
 use Rattle.mv_pack.specs.Expiry.{CivilDate, read_expiry}
@@ -24,7 +25,7 @@ use Rattle.mv_json.specs.Numbers.{whole_at, moment_at}
 use Rattle.mv_json.specs.PlainMessages.{BeginWithWhole, BeginWithMessage, BeginWithText, BeginWithField, BeginWithSerials, object_from}
 use Rattle.mv_json.specs.FieldMeanings.{IsFreeText}
 use Rattle.mv_json.specs.Shapes.{message_at}
-use Rattle.mv_json.specs.Reading.{read_at, standing_at, free_text_at, national_at, are_texts, length_of, texts_at, read_each, list_at}
+use Rattle.mv_json.specs.Reading.{read_at, standing_at, free_text_at, national_at, each_of, read_each, list_at}
 use Rattle.mv_json.specs.Versions.{version_at}
 use Rattle.mv_json.proofs.ReadingLemmas.{within_count}
 
@@ -109,10 +110,11 @@ list_ended (token.bad ∷ ts) rest h = cc
 
 -- ---- uploads
 
--- members of a list are read as these serial numbers
+-- members of a list are texts, which are read as these serial numbers
 abbrev AreRead : Items → List (List ℕ) → Type 0
-AreRead texts serials =
-    (read_each read_code fields.Serials texts ≡ Ok serials) × (are_texts texts ≡ true) × (length_of texts ≡ length serials)
+AreRead found serials =
+    (texts : List (List ℕ)) × (each_of as_str found ≡ Some texts) × (read_each read_code fields.Serials texts ≡ Ok serials)
+    × (length texts ≡ length serials)
 
 text_parsed : (depth : ℕ) (text : List ℕ) (rest : List Token) → value depth (token.string text ∷ rest) ≡ Some (json.string text, rest)
 unfolding value
@@ -139,14 +141,14 @@ ListRead ts serials rest =
 
 list_read : (ts : List Token) (serials : List (List ℕ)) (rest : List Token) → BeginWithSerials ts serials rest → ListRead ts serials rest
 list_read ts [] rest h =
-    (json.no_items, no_items, λ depth. rw h (no_item depth rest), refl, (refl, refl, refl))
+    (json.no_items, no_items, λ depth. rw h (no_item depth rest), refl, ([], refl, refl, refl))
 list_read ts (serial ∷ serials) rest (more, (text, is, read), then) =
     let others = list_read more serials rest then in (
       json.item (json.string text) others.0,
       item (string text) others.1,
       λ depth. rw is (one_item depth text more rest others.0 (others.2 depth)),
       rw others.3,
-      (rw (read, others.4.0), others.4.1, ap (λ n. suc n) others.4.2),
+      (text ∷ others.4.0, rw others.4.1, rw (read, others.4.2), ap (λ n. suc n) others.4.3),
     )
 
 -- an upload of these texts, and with this list
@@ -179,11 +181,11 @@ upload_read : (b e g : List ℕ) (found : Items) (batch gtin : List ℕ) (expiry
     → read_code b ≡ Ok batch → read_expiry e ≡ Ok expiry → read_gtin g ≡ Ok gtin
     → AreRead found serials → 1 ≤ length serials → length serials ≤ most_serials
     → read_message (upload_object b e g found) ≡ Ok (Upload gtin batch expiry None serials)
-unfolding read_message version_at form_at message_at read_at national_at list_at texts_at
-upload_read b e g found batch gtin expiry serials numbered dated coded (each, texts, count) some few =
-    let fits : ((length_of found == 0) || nat_lt most_serials (length_of found)) ≡ false =
+unfolding read_message version_at form_at message_at read_at national_at list_at
+upload_read b e g found batch gtin expiry serials numbered dated coded (texts, listed, each, count) some few =
+    let fits : ((length texts == 0) || nat_lt most_serials (length texts)) ≡ false =
     rw count (within_count (length serials) most_serials some few) in
-    rw (numbered, dated, coded, texts, fits, each)
+    rw (numbered, dated, coded, listed, fits, each)
 
 -- the tokens of an upload are read as it
 pub upload_message : (ts expiry_on gtin_on form_on list_on list end rest : List Token) (batch gtin : List ℕ) (expiry : CivilDate) (serials : List (List ℕ))

@@ -1,6 +1,6 @@
 -- What reading a part of a value gives, backwards and forwards.
-use Rattle.std.proofs.Common.{◌≡◌, ◌∙◌, ◌≤◌, ◌||◌, ◌&&◌, ℕ, suc, Bool, true, false, not, cond, List, [], ◌∷◌, length, ap, ap₂, subst, refl, arith}
-use Rattle.std.specs.Prelude.{bytes_eq, find, Option, Some, None, Result, Ok, Err, ◌==◌, nat_lt}
+use Rattle.std.proofs.Common.{◌≡◌, ◌∙◌, ◌≤◌, ◌||◌, ◌&&◌, ℕ, Bool, true, false, cond, List, [], ◌∷◌, length, ap, ap₂, subst, refl, arith}
+use Rattle.std.specs.Prelude.{bytes_eq, find, option_map, Option, Some, None, Result, Ok, Err, ◌==◌, nat_lt}
 use Rattle.std.specs.Option.{ok_or}
 use Rattle.std.proofs.lemmas.Bool.Decides.{nat_tests}
 use Rattle.std.proofs.lemmas.Slice.Eq.{bytes_eq-Decides}
@@ -22,7 +22,7 @@ use Rattle.mv_json.specs.Fields.{field_name}
 use Rattle.mv_message.specs.declared.standing.Standing.{Standing}
 use Rattle.mv_message.specs.declared.standing.Standing.TheVariants.{Active, Supplied, Exported, Destruction, Sample, FreeSample, Stolen, Repackaged}
 use Rattle.mv_message.specs.Standings.{standing_name, standings, standing_named}
-use Rattle.mv_json.specs.Reading.{◌and_then◌, of_field, member_at, text_at, read_at, standing_at, national_of, national_at, limited, free_text_at, are_texts, length_of, texts_at, read_item, read_each, list_at}
+use Rattle.mv_json.specs.Reading.{◌and_then◌, of_field, member_at, text_at, read_at, standing_at, national_of, national_at, free_text_at, each_of, as_list, read_each, list_at}
 use Rattle.mv_json.specs.Spellings.{Has, Spells}
 use Rattle.mv_json.specs.Values.{strings, text_or_null, since_two}
 use Rattle.mv_json.specs.declared.version.Version.{Version}
@@ -233,6 +233,10 @@ within_count n most low high = grind (arith, nat_tests)
 abbrev pub HasFreeText : Data → Field → List ℕ → Type 0
 HasFreeText d f t = HasText d f t × IsFreeText t
 
+-- the text, where it has 1 to 200 bytes
+abbrev limited : Field → List ℕ → Result (List ℕ) MessageFault
+limited f t = cond ((length t == 0) || nat_lt most_text_bytes (length t)) (Err (TextLength f)) (Ok t)
+
 limited_ok : (f : Field) (t x : List ℕ) → limited f t ≡ Ok x → (t ≡ x) × IsFreeText t
 limited_ok f t x h =
     let passed = unrefused ((length t == 0) || nat_lt most_text_bytes (length t)) (TextLength f) (Ok t) x h in
@@ -252,71 +256,76 @@ free_text_is_read f d t h =
     ap (λ r. r and_then limited f) (text_is_read f d t h.0)
     ∙ ap (λ b. cond b (Err (TextLength f)) (Ok t)) (within_count (length t) most_text_bytes h.1.0 h.1.1)
 
-each_same : (reader : List ℕ → Result (List ℕ) PackFault) (Holds : List ℕ → Type 0) → TakesAsItself reader Holds → (f : Field) (ds : Items) (xs : List (List ℕ)) → read_each reader f ds ≡ Ok xs → (ds ≡ strings xs) × AllByRecursion Holds xs × (length_of ds ≡ length xs)
-each_same reader Holds good f no_items [] h = (refl, tt, refl)
-each_same reader Holds good f no_items (x ∷ xs) h = cc
-each_same reader Holds good f (item d ds) xs h =
-    let a = both_ok (read_item reader f d) (λ y. read_each reader f ds and_then λ ys. Ok (y ∷ ys)) xs h in
-    let b = both_ok (read_each reader f ds) (λ ys. Ok (a.0 ∷ ys)) xs a.2 in
-    let t = both_ok (ok_or (as_str d) (Kind f)) (λ t. of_field f (reader t)) a.0 a.1 in
-    let read = of_field_ok f (reader t.0) a.0 t.2 in
-    let rest = each_same reader Holds good f ds b.0 b.1 in
+each_same : (reader : List ℕ → Result (List ℕ) PackFault) (Holds : List ℕ → Type 0) → TakesAsItself reader Holds → (f : Field) (ts xs : List (List ℕ)) → read_each reader f ts ≡ Ok xs → (ts ≡ xs) × AllByRecursion Holds xs
+each_same reader Holds good f [] [] h = (refl, tt)
+each_same reader Holds good f [] (x ∷ xs) h = cc
+each_same reader Holds good f (t ∷ ts) xs h =
+    let a = both_ok (of_field f (reader t)) (λ y. read_each reader f ts and_then λ ys. Ok (y ∷ ys)) xs h in
+    let b = both_ok (read_each reader f ts) (λ ys. Ok (a.0 ∷ ys)) xs a.2 in
+    let read = of_field_ok f (reader t) a.0 a.1 in
+    let rest = each_same reader Holds good f ts b.0 b.1 in
     let whole : (a.0 ∷ b.0) ≡ xs = cc in
-    let first : d ≡ string a.0 = as_str_ok d t.0 (ok_or_some (Kind f) (as_str d) t.0 t.1) ∙ ap string (good.same t.0 a.0 read) in
-    subst (λ (zs : List (List ℕ)). (item d ds ≡ strings zs) × AllByRecursion Holds zs × (suc (length_of ds) ≡ length zs)) whole
-    (ap₂ item first rest.0, (good.holds t.0 a.0 read, rest.1), ap (λ n. suc n) rest.2)
+    subst (λ (zs : List (List ℕ)). ((t ∷ ts) ≡ zs) × AllByRecursion Holds zs) whole
+    (ap₂ ◌∷◌ (good.same t a.0 read) rest.0, (good.holds t a.0 read, rest.1))
 
-each_is_read : (reader : List ℕ → Result (List ℕ) PackFault) (Holds : List ℕ → Type 0) → TakesAsItself reader Holds → (f : Field) (xs : List (List ℕ)) → AllByRecursion Holds xs → (read_each reader f (strings xs) ≡ Ok xs) × (are_texts (strings xs) ≡ true) × (length_of (strings xs) ≡ length xs)
-each_is_read reader Holds good f [] h = (refl, refl, refl)
+each_is_read : (reader : List ℕ → Result (List ℕ) PackFault) (Holds : List ℕ → Type 0) → TakesAsItself reader Holds → (f : Field) (xs : List (List ℕ)) → AllByRecursion Holds xs → read_each reader f xs ≡ Ok xs
+each_is_read reader Holds good f [] h = refl
 each_is_read reader Holds good f (x ∷ xs) h =
-    let rest = each_is_read reader Holds good f xs h.1 in (
-      ap (λ r. of_field f r and_then λ y. read_each reader f (strings xs) and_then λ ys. Ok (y ∷ ys)) (good.takes x h.0)
-          ∙ ap (λ r. r and_then λ ys. Ok (x ∷ ys)) rest.0,
-      rest.1,
-      ap (λ n. suc n) rest.2,
-    )
+    ap (λ r. of_field f r and_then λ y. read_each reader f xs and_then λ ys. Ok (y ∷ ys)) (good.takes x h.0)
+    ∙ ap (λ r. r and_then λ ys. Ok (x ∷ ys)) (each_is_read reader Holds good f xs h.1)
 
-regrouped : {A B C : Type 0} (r : Result A MessageFault) (f : A → Result B MessageFault) (g : B → Result C MessageFault) → ((r and_then f) and_then g) ≡ (r and_then λ x. f x and_then g)
-regrouped (Ok x) f g = refl
-regrouped (Err e) f g = refl
+one_more : (t : List ℕ) (o : Option (List (List ℕ))) (ts : List (List ℕ)) → option_map (λ rest. t ∷ rest) o ≡ Some ts → (rest : List (List ℕ)) × (o ≡ Some rest) × ((t ∷ rest) ≡ ts)
+one_more t None ts h = cc
+one_more t (Some rest) ts h = (rest, refl, cc)
 
-texts_ok : (most : ℕ) (f : Field) (d : Data) (ds : Items) → texts_at most f d ≡ Ok ds → (get (field_name f) d ≡ Some (array ds)) × (1 ≤ length_of ds) × (length_of ds ≤ most)
-unfolding texts_at
-texts_ok most f d ds h =
-    let counted : Items → Result Items MessageFault = λ es.
-    cond (not (are_texts es)) (Err (Kind f)) (cond ((length_of es == 0) || nat_lt most (length_of es)) (Err (Count f)) (Ok es)) in
-    let a = both_ok (member_at f d and_then λ x. ok_or (as_array x) (Kind f)) counted ds (regrouped (member_at f d) (λ x. ok_or (as_array x) (Kind f)) counted ∙ h) in
-    let b = both_ok (member_at f d) (λ x. ok_or (as_array x) (Kind f)) a.0 a.1 in
-    let texts = unrefused (not (are_texts a.0)) (Kind f) (cond ((length_of a.0 == 0) || nat_lt most (length_of a.0)) (Err (Count f)) (Ok a.0)) ds a.2 in
-    let kept = unrefused ((length_of a.0 == 0) || nat_lt most (length_of a.0)) (Count f) (Ok a.0) ds texts.1 in
-    let bounds = count_within (length_of a.0) most kept.0 in
-    let same : a.0 ≡ ds = cc in
-    subst (λ (es : Items). (get (field_name f) d ≡ Some (array es)) × (1 ≤ length_of es) × (length_of es ≤ most)) same (
-      ok_or_some (Missing f) (get (field_name f) d) b.0 b.1 ∙ ap (λ x. Some x) (as_array_ok b.0 a.0 (ok_or_some (Kind f) (as_array b.0) a.0 b.2)),
-      bounds.0,
-      bounds.1,
-    )
+items_same : (ds : Items) (ts : List (List ℕ)) → each_of as_str ds ≡ Some ts → ds ≡ strings ts
+items_same no_items [] h = refl
+items_same no_items (t ∷ ts) h = cc
+items_same (item null ds) ts h = cc
+items_same (item (boolean b) ds) ts h = cc
+items_same (item (number n) ds) ts h = cc
+items_same (item (string t) ds) ts h =
+    let p = one_more t (each_of as_str ds) ts h in ap (item (string t)) (items_same ds p.0 p.1) ∙ ap strings p.2
+items_same (item (array es) ds) ts h = cc
+items_same (item (object ms) ds) ts h = cc
+
+list_same : (d : Data) (ts : List (List ℕ)) → as_list as_str d ≡ Some ts → d ≡ array (strings ts)
+list_same null ts h = cc
+list_same (boolean b) ts h = cc
+list_same (number n) ts h = cc
+list_same (string s) ts h = cc
+list_same (array ds) ts h = ap array (items_same ds ts h)
+list_same (object ms) ts h = cc
+
+strings_listed : (ts : List (List ℕ)) → each_of as_str (strings ts) ≡ Some ts
+strings_listed [] = refl
+strings_listed (t ∷ ts) = ap (option_map (λ rest. t ∷ rest)) (strings_listed ts)
 
 -- the field is a list of 1 to most texts that hold that
 abbrev pub HasList : (List ℕ → Type 0) → ℕ → Field → Data → List (List ℕ) → Type 0
 HasList Holds most f d xs = Has d f (array (strings xs)) × IsListOf Holds most xs
 
+-- the texts, where they are 1 to most, each by a reader
+abbrev counted : (List ℕ → Result (List ℕ) PackFault) → ℕ → Field → List (List ℕ) → Result (List (List ℕ)) MessageFault
+counted reader most f ts = cond ((length ts == 0) || nat_lt most (length ts)) (Err (Count f)) (read_each reader f ts)
+
 -- a field that is read as a list is that list
 pub list_ok : (reader : List ℕ → Result (List ℕ) PackFault) (Holds : List ℕ → Type 0) → TakesAsItself reader Holds → (most : ℕ) (f : Field) (d : Data) (xs : List (List ℕ)) → list_at reader most f d ≡ Ok xs → HasList Holds most f d xs
 unfolding list_at
 list_ok reader Holds good most f d xs h =
-    let a = both_ok (texts_at most f d) (read_each reader f) xs h in
-    let texts = texts_ok most f d a.0 a.1 in
-    let each = each_same reader Holds good f a.0 xs a.2 in
-    (texts.0 ∙ ap (λ es. Some (array es)) each.0, (omega arith, omega arith, each.1))
+    let a = both_ok (member_at f d) (λ found. ok_or (as_list as_str found) (Kind f) and_then counted reader most f) xs h in
+    let b = both_ok (ok_or (as_list as_str a.0) (Kind f)) (counted reader most f) xs a.2 in
+    let kept = unrefused ((length b.0 == 0) || nat_lt most (length b.0)) (Count f) (read_each reader f b.0) xs b.2 in
+    let each = each_same reader Holds good f b.0 xs kept.1 in
+    let bounds = subst (λ (zs : List (List ℕ)). (1 ≤ length zs) × (length zs ≤ most)) each.0 (count_within (length b.0) most kept.0) in (
+      member_ok f d a.0 a.1 ∙ ap (λ x. Some x) (list_same a.0 b.0 (ok_or_some (Kind f) (as_list as_str a.0) b.0 b.1)) ∙ ap (λ ts. Some (array (strings ts))) each.0,
+      (bounds.0, bounds.1, each.1),
+    )
 
 pub list_read : (reader : List ℕ → Result (List ℕ) PackFault) (Holds : List ℕ → Type 0) → TakesAsItself reader Holds → (most : ℕ) (f : Field) (d : Data) (xs : List (List ℕ)) → HasList Holds most f d xs → list_at reader most f d ≡ Ok xs
-unfolding list_at texts_at
+unfolding list_at
 list_read reader Holds good most f d xs (found, (low, high, all)) =
-    let ds = strings xs in
-    let each = each_is_read reader Holds good f xs all in
-    ap (λ o. (ok_or o (Missing f) and_then λ x. ok_or (as_array x) (Kind f) and_then λ es.
-    cond (not (are_texts es)) (Err (Kind f)) (cond ((length_of es == 0) || nat_lt most (length_of es)) (Err (Count f)) (Ok es))) and_then read_each reader f) found
-    ∙ ap (λ b. cond (not b) (Err (Kind f)) (cond ((length_of ds == 0) || nat_lt most (length_of ds)) (Err (Count f)) (Ok ds)) and_then read_each reader f) each.1
-    ∙ ap (λ b. cond b (Err (Count f)) (Ok ds) and_then read_each reader f) (ap (λ n. (n == 0) || nat_lt most n) each.2 ∙ within_count (length xs) most low high)
-    ∙ each.0
+    ap (λ r. r and_then λ x. ok_or (as_list as_str x) (Kind f) and_then counted reader most f) (member_read f d (array (strings xs)) found)
+    ∙ ap (λ o. ok_or o (Kind f) and_then counted reader most f) (strings_listed xs)
+    ∙ ap (λ b. cond b (Err (Count f)) (read_each reader f xs)) (within_count (length xs) most low high)
+    ∙ each_is_read reader Holds good f xs all

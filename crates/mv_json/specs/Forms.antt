@@ -1,5 +1,5 @@
 -- The forms of messages, by the version and the text of their field `msg`.
-use Rattle.std.specs.Prelude.{ℕ, List, [], ◌∷◌, ◌++◌, codes, bytes_eq, find, Option, Result}
+use Rattle.std.specs.Prelude.{ℕ, List, [], ◌∷◌, codes, bytes_eq, find, Option, Result}
 use Rattle.std.specs.Option.{ok_or}
 use Rattle.serde_json.specs.Data.{Data}
 use Rattle.mv_message.specs.declared.message.Message.{Message}
@@ -35,15 +35,10 @@ form_of (messages.Withdraw gtin at) = forms.Withdraw
 form_of (messages.Query key) = forms.Query
 form_of (messages.Answer asker q key found) = forms.Answer
 
--- the forms of version 1
-abbrev pub forms_of_version_one : List Form
-forms_of_version_one =
-    forms.Answer ∷ forms.Master ∷ forms.Query ∷ forms.Recall ∷ forms.Repack ∷ forms.Status ∷ forms.Upload ∷ []
-
 -- the forms of a version: a withdrawal came with the second
 abbrev pub forms_of : Version → List Form
-forms_of One = forms_of_version_one
-forms_of Two = forms_of_version_one ++ forms.Withdraw ∷ []
+forms_of One = forms.Answer ∷ forms.Master ∷ forms.Query ∷ forms.Recall ∷ forms.Repack ∷ forms.Status ∷ forms.Upload ∷ []
+forms_of Two = forms.Answer ∷ forms.Master ∷ forms.Query ∷ forms.Recall ∷ forms.Repack ∷ forms.Status ∷ forms.Upload ∷ forms.Withdraw ∷ []
 
 -- the form of a version that a text of `msg` names
 abbrev pub form_named : Version → List ℕ → Option Form

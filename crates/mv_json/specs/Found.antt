@@ -11,10 +11,9 @@ use Rattle.mv_json.specs.declared.fault.MessageFault.TheVariants.{NotObject, Kin
 use Rattle.mv_message.specs.declared.found.Found.{Found}
 use Rattle.mv_message.specs.declared.found.Found.TheVariants.{Absent, Present}
 use Rattle.mv_json.specs.declared.version.Version.{Version}
-use Rattle.mv_json.specs.declared.version.Version.TheVariants.{Two}
 use Rattle.mv_json.specs.FieldMeanings.{part_of}
 use Rattle.mv_json.specs.Fields.{names_in}
-use Rattle.mv_json.specs.Meanings.{Said, made_at, object_of, AreSpelled, AreLegal}
+use Rattle.mv_json.specs.Meanings.{Said, made_at, object_of, AreSpelled}
 use Rattle.mv_json.specs.Members.{first_unknown}
 use Rattle.mv_json.specs.Reading.{◌and_then◌, member_at, is_null}
 use Rattle.mv_json.specs.Spellings.{HasOnly}
@@ -66,7 +65,3 @@ abbrev pub SpellsFound : Version → Data → Found → Type 0
 SpellsFound version part Absent = part ≡ null
 SpellsFound version part found =
     HasOnly (present_names version) part × AreSpelled (part_of version) (said_of_pack version found) part
-
--- what a pack that was found says is legal
-abbrev pub IsLegalFound : Found → Type 0
-IsLegalFound found = AreLegal (part_of Two) (said_of_pack Two found)

@@ -4,6 +4,7 @@ pub mod Fault
 pub mod Members
 pub mod Keys
 pub mod Reading
+pub mod Lists
 pub mod Numbers
 pub mod Versions
 pub mod Forms

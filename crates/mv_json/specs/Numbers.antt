@@ -32,18 +32,11 @@ whole_at field value = member_at field value and_then λ found. ok_or (whole_num
 unfoldable pub moment_at : Field → Data → Result ℕ MessageFault
 moment_at field value = whole_at field value and_then λ seconds. of_field field (read_moment seconds)
 
--- a number of at most 32 bits, else M5
-abbrev pub of_32_bits : Field → ℕ → Result ℕ MessageFault
-of_32_bits field number = if nat_lt number (2 ^ 32) then Ok number else Err (Kind field)
-
 -- the whole number of a field, up to 4,294,967,295: M3, M5
 unfoldable pub number_at : Field → Data → Result ℕ MessageFault
-number_at field value = whole_at field value and_then of_32_bits field
-
--- a number that is not 0, else M5
-abbrev pub not_zero : Field → ℕ → Result ℕ MessageFault
-not_zero field number = if number == 0 then Err (Kind field) else Ok number
+number_at field value =
+    whole_at field value and_then λ number. if nat_lt number (2 ^ 32) then Ok number else Err (Kind field)
 
 -- the whole number of a field, from 1 to 4,294,967,295: M3, M5
 unfoldable pub count_at : Field → Data → Result ℕ MessageFault
-count_at field value = number_at field value and_then not_zero field
+count_at field value = number_at field value and_then λ number. if number == 0 then Err (Kind field) else Ok number

@@ -1,5 +1,5 @@
 -- What reading a part of a JSON value gives: its meaning, or the first fault.
-use Rattle.std.specs.Prelude.{◌≡◌, ◌≢◌, ℕ, suc, ◌==◌, ◌&&◌, ◌||◌, not, Bool, true, nat_lt, if◌then◌else◌, List, [], ◌∷◌, length, is_some, Option, Some, None, Result, Ok, Err}
+use Rattle.std.specs.Prelude.{◌≡◌, ◌≢◌, ℕ, ◌==◌, ◌||◌, Bool, nat_lt, if◌then◌else◌, List, [], ◌∷◌, length, is_some, Option, Some, None, option_and_then, option_map, Result, Ok, Err}
 use Rattle.std.specs.Option.{ok_or}
 use Rattle.serde_json.specs.Data.{Data, Items, no_items, item}
 use Rattle.serde_json.specs.Find.{get, as_null, as_str, as_array}
@@ -42,14 +42,11 @@ read_at reader field value = text_at field value and_then λ text. of_field fiel
 unfoldable pub standing_at : Field → Data → Result Standing MessageFault
 standing_at field value = text_at field value and_then λ text. ok_or (standing_named text) (Kind field)
 
--- a text of 1 to 200 bytes, else M8
-abbrev pub limited : Field → List ℕ → Result (List ℕ) MessageFault
-limited field text =
-    if (length text == 0) || nat_lt most_text_bytes (length text) then Err (TextLength field) else Ok text
-
--- the free text of a field: M3, M5, M8
+-- the free text of a field, of 1 to 200 bytes: M3, M5, M8
 unfoldable pub free_text_at : Field → Data → Result (List ℕ) MessageFault
-free_text_at field value = text_at field value and_then limited field
+free_text_at field value =
+    text_at field value and_then λ text.
+    if (length text == 0) || nat_lt most_text_bytes (length text) then Err (TextLength field) else Ok text
 
 -- whether a value is `null`
 abbrev pub is_null : Data → Bool
@@ -67,38 +64,28 @@ unfoldable pub national_at : Version → Field → Data → Result (Option (List
 national_at One field value = Ok None
 national_at Two field value = member_at field value and_then national_of field
 
--- whether all members of a list are texts
-abbrev pub are_texts : Items → Bool
-are_texts no_items = true
-are_texts (item value items) = is_some (as_str value) && are_texts items
+-- what each of these is, where each is something
+abbrev pub each_of : {A : Type 0} → (Data → Option A) → Items → Option (List A)
+each_of as_one no_items = Some []
+each_of as_one (item value items) =
+    option_and_then (λ first. option_map (λ rest. first ∷ rest) (each_of as_one items)) (as_one value)
 
--- how many members a list has
-abbrev pub length_of : Items → ℕ
-length_of no_items = 0
-length_of (item value items) = suc (length_of items)
+-- the list that a value is, where each of its members is something
+abbrev pub as_list : {A : Type 0} → (Data → Option A) → Data → Option (List A)
+as_list as_one value = option_and_then (each_of as_one) (as_array value)
 
--- the list of a field, all of whose members are texts, 1 to most of them: M3, M5, M7
-unfoldable pub texts_at : ℕ → Field → Data → Result Items MessageFault
-texts_at most field value =
-    member_at field value and_then λ found.
-    ok_or (as_array found) (Kind field) and_then λ items.
-    if not (are_texts items) then Err (Kind field)
-    else (if (length_of items == 0) || nat_lt most (length_of items) then Err (Count field)
-    else Ok items)
-
--- a member of a list, by its reader
-abbrev pub read_item : {A : Type 0} → (List ℕ → Result A PackFault) → Field → Data → Result A MessageFault
-read_item reader field value = ok_or (as_str value) (Kind field) and_then λ text. of_field field (reader text)
-
--- each member of a list in its order, or the fault of the first bad one
-abbrev pub read_each : {A : Type 0} → (List ℕ → Result A PackFault) → Field → Items → Result (List A) MessageFault
-read_each reader field no_items = Ok []
-read_each reader field (item value items) =
-    read_item reader field value and_then λ first. read_each reader field items and_then λ rest. Ok (first ∷ rest)
+-- what a reader takes each of these texts for, or the fault of the first bad one
+abbrev pub read_each : {A : Type 0} → (List ℕ → Result A PackFault) → Field → List (List ℕ) → Result (List A) MessageFault
+read_each reader field [] = Ok []
+read_each reader field (text ∷ texts) =
+    of_field field (reader text) and_then λ first. read_each reader field texts and_then λ rest. Ok (first ∷ rest)
 
 -- what a reader takes the texts of a list for, which are 1 to most: M3, M5, M7, M6
 unfoldable pub list_at : {A : Type 0} → (List ℕ → Result A PackFault) → ℕ → Field → Data → Result (List A) MessageFault
-list_at reader most field value = texts_at most field value and_then read_each reader field
+list_at reader most field value =
+    member_at field value and_then λ found.
+    ok_or (as_list as_str found) (Kind field) and_then λ texts.
+    if (length texts == 0) || nat_lt most (length texts) then Err (Count field) else read_each reader field texts
 
 -- A function returned what reading gives, or memory was refused.
 abbrev pub Gives : {A : Type 0} → Result A MessageFault → Result A MessageFault → Type 0

@@ -16,8 +16,8 @@ use Rattle.mv_json.specs.declared.version.Version.{Version}
 use Rattle.mv_json.specs.FieldMeanings.{part_of}
 use Rattle.mv_json.specs.Fields.{names_in}
 use Rattle.mv_json.specs.Forms.{form_name}
-use Rattle.mv_json.specs.Found.{found_at, found_value, SpellsFound, IsLegalFound}
-use Rattle.mv_json.specs.Meanings.{Meaning, exactly, Making, made_at}
+use Rattle.mv_json.specs.Found.{said_of_pack, found_at, found_value, SpellsFound}
+use Rattle.mv_json.specs.Meanings.{Meaning, exactly, Making, made_at, AreLegal}
 use Rattle.mv_json.specs.Members.{first_unknown}
 use Rattle.mv_json.specs.Spellings.{Has}
 use Rattle.mv_json.specs.Values.{whole, since_two}
@@ -29,7 +29,7 @@ pack_found version = record {
   read = found_at version;
   written = λ found. Some (found_value version found);
   Spells = λ value found. (part : Data) × Has value fields.Found part × SpellsFound version part found;
-  IsLegal = IsLegalFound;
+  IsLegal = λ found. AreLegal (part_of version) (said_of_pack version found);
 }
 
 -- What each field of a message means, whose version and form were read before the other fields.

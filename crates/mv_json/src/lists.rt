@@ -7,7 +7,8 @@ ghost use Rattle.serde_json.specs.Find.{as_str};
 ghost use Rattle.serde_json.specs.View.{view, items_view};
 ghost use Rattle.mv_pack.specs.Code.{read_code};
 ghost use Rattle.mv_pack.specs.Market.{read_market};
-ghost use Rattle.mv_json.specs.Reading.{Gives, texts_at, list_at, read_item, read_each};
+ghost use Rattle.mv_json.specs.Lists.{texts_at, read_item, read_items};
+ghost use Rattle.mv_json.specs.Reading.{Gives, list_at};
 
 use crate::reading::member_at;
 use crate::{Field, MessageFault};
@@ -23,7 +24,7 @@ pub const MOST_MARKETS: usize = 32;
 pub const MOST_SERIALS: usize = 100;
 
 /// The members of a field that is a list of 1 to `most` texts: M3, M5, M7.
-#[tactic(auto, using(crate::proofs::ListLemmas::all_are_texts, crate::proofs::ListLemmas::length_of_view), unfolding(crate::specs::Reading::texts_at))]
+#[tactic(auto, using(crate::proofs::ListLemmas::all_are_texts, crate::proofs::ListLemmas::length_of_view), unfolding(crate::specs::Lists::texts_at))]
 fn texts_at(value: &Value, field: Field, most: usize) -> Result<&[Value], MessageFault>
     ensures gives { MatchResult result
         (λ list. texts_at most field (view value.now) ≡ Ok (items_view list.now))
@@ -52,7 +53,7 @@ fn are_texts(list: &[Value]) -> bool
 }
 
 /// The markets of a field, 1 to 32: M3, M5, M7, M6.
-#[tactic(auto, unfolding(crate::specs::Reading::list_at))]
+#[tactic(auto, using(crate::proofs::ListLemmas::list_walked), unfolding(crate::specs::Lists::walked_list_at))]
 pub(crate) fn markets_at(
     alloc: Global,
     value: &Value,
@@ -70,9 +71,9 @@ pub(crate) fn markets_at(
 /// The markets of a list, or the fault of the first bad member.
 fn markets_in(alloc: Global, list: &[Value], field: Field) -> Result<Vec<Market>, MessageFault>
     ensures ok { IfOk result
-        (λ markets. read_each read_market field (items_view list.now) ≡ Ok markets.items) }
+        (λ markets. read_items read_market field (items_view list.now) ≡ Ok markets.items) }
     ensures err { IfErr result (λ fault. fault ≢ MessageFault.Memory
-        → read_each read_market field (items_view list.now) ≡ Err fault) }
+        → read_items read_market field (items_view list.now) ≡ Err fault) }
 {
     let mut markets = Vec::with_capacity(alloc, list.len())?;
     for value in list {
@@ -90,7 +91,7 @@ fn market_in(value: &Value, field: Field) -> Result<Market, MessageFault>
 }
 
 /// The serial numbers of a field, 1 to 100: M3, M5, M7, M6.
-#[tactic(auto, unfolding(crate::specs::Reading::list_at))]
+#[tactic(auto, using(crate::proofs::ListLemmas::list_walked), unfolding(crate::specs::Lists::walked_list_at))]
 pub(crate) fn serials_at(
     alloc: Global,
     value: &Value,
@@ -108,9 +109,9 @@ pub(crate) fn serials_at(
 /// The serial numbers of a list, or the fault of the first bad member.
 fn serials_in(alloc: Global, list: &[Value], field: Field) -> Result<Vec<Serial>, MessageFault>
     ensures ok { IfOk result
-        (λ serials. read_each read_code field (items_view list.now) ≡ Ok serials.items) }
+        (λ serials. read_items read_code field (items_view list.now) ≡ Ok serials.items) }
     ensures err { IfErr result (λ fault. fault ≢ MessageFault.Memory
-        → read_each read_code field (items_view list.now) ≡ Err fault) }
+        → read_items read_code field (items_view list.now) ≡ Err fault) }
 {
     let mut serials = Vec::with_capacity(alloc, list.len())?;
     for value in list {

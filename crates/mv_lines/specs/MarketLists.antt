@@ -3,7 +3,7 @@ use Rattle.std.specs.Prelude.{◌&&◌, ℕ, Bool, true, false, if◌then◌else
 use Rattle.serde_json.specs.Data.{Data, Items, no_items, item}
 use Rattle.serde_json.specs.Find.{as_str, as_array}
 use Rattle.mv_pack.specs.Market.{read_market}
-use Rattle.mv_json.specs.Reading.{are_texts}
+use Rattle.mv_json.specs.Lists.{are_texts}
 use Rattle.mv_lines.specs.declared.field.LineField.{LineField}
 use Rattle.mv_lines.specs.declared.line_fault.LineFault.{LineFault}
 use Rattle.mv_lines.specs.declared.line_fault.LineFault.TheVariants.{Kind, Pack}

@@ -1,13 +1,14 @@
 -- What reading a field of a line gives: its meaning, or the first fault.
-use Rattle.std.specs.Prelude.{◌≡◌, ◌≢◌, ◌^◌, ℕ, Bool, nat_lt, if◌then◌else◌, is_ok, List, [], ◌∷◌, Option, Some, None, option_map, option_and_then, Result, Ok, Err, ok_or}
+use Rattle.std.specs.Prelude.{◌≡◌, ◌≢◌, ◌^◌, ℕ, Bool, nat_lt, if◌then◌else◌, is_ok, List, Option, Some, None, option_and_then, Result, Ok, Err, ok_or}
 use Rattle.std.specs.List.{list_all}
 use Rattle.std.specs.Result.{result_map_both}
-use Rattle.serde_json.specs.Data.{Data, Items, no_items, item}
-use Rattle.serde_json.specs.Find.{get, as_str, as_array, as_number, as_u64}
+use Rattle.serde_json.specs.Data.{Data}
+use Rattle.serde_json.specs.Find.{get, as_str, as_number, as_u64}
 use Rattle.mv_pack.specs.Market.{read_market}
 use Rattle.mv_pack.specs.declared.fault.PackFault.{PackFault}
 use Rattle.mv_pack.specs.declared.fault.PackFault.TheVariants.{Market}
 use Rattle.mv_json.specs.Messages.{read_message}
+use Rattle.mv_json.specs.Reading.{as_list}
 use Rattle.mv_message.specs.declared.message.Message.{Message}
 use Rattle.mv_lines.specs.declared.field.LineField.{LineField}
 use Rattle.mv_lines.specs.declared.field.LineField.TheVariants as fields
@@ -53,16 +54,6 @@ number_at field value = member_at field value and_then λ found. ok_or (whole_nu
 -- the message of a line: M3, then the message's own faults
 unfoldable pub message_at : Data → Result Message LineFault
 message_at value = member_at fields.Message value and_then λ found. map_err InMessage (read_message found)
-
--- what each of these is, where each is something
-abbrev pub each_of : {A : Type 0} → (Data → Option A) → Items → Option (List A)
-each_of as_one no_items = Some []
-each_of as_one (item value items) =
-    option_and_then (λ first. option_map (λ rest. first ∷ rest) (each_of as_one items)) (as_one value)
-
--- the list that a value is, where each of its members is something
-abbrev pub as_list : {A : Type 0} → (Data → Option A) → Data → Option (List A)
-as_list as_one value = option_and_then (each_of as_one) (as_array value)
 
 -- a text is a market
 abbrev pub is_market : List ℕ → Bool

@@ -4,7 +4,7 @@ ghost use Rattle.std.specs.Prelude.{◌≡◌, ◌≢◌, IfOk, IfErr, MatchResu
 ghost use Rattle.std.specs.List.{list_all};
 ghost use Rattle.serde_json.specs.Find.{as_str};
 ghost use Rattle.serde_json.specs.View.{view, items_view};
-ghost use Rattle.mv_json.specs.Reading.{are_texts};
+ghost use Rattle.mv_json.specs.Lists.{are_texts};
 ghost use Rattle.mv_lines.specs.MarketLists.{is_text_list, are_text_lists, text_lists, market_item, read_markets, market_list, read_market_lists};
 ghost use Rattle.mv_lines.specs.Reading.{Gives, market_lists_at};
 

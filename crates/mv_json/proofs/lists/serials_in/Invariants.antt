@@ -1,11 +1,11 @@
 use Rattle.std.proofs.Common.{◌≡◌, drop}
 use Rattle.serde_json.specs.View.{items_view}
 use Rattle.mv_pack.specs.Code.{read_code}
-use Rattle.mv_json.specs.Reading.{read_each}
+use Rattle.mv_json.specs.Lists.{read_items}
 use Rattle.mv_json.proofs.ListLemmas.{with_front}
 use Rattle.mv_json.proofs.lists.serials_in.Given as goal
 
 abbrev pub invariant-loop-value : goal.invariant-loop-value
 invariant-loop-value l =
-    with_front l.serials.items (read_each read_code l.field (items_view (drop l.value-index l.list)))
-    ≡ read_each read_code l.field (items_view l.list)
+    with_front l.serials.items (read_items read_code l.field (items_view (drop l.value-index l.list)))
+    ≡ read_items read_code l.field (items_view l.list)

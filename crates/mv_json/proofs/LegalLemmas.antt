@@ -1,6 +1,6 @@
 -- What is read is legal, and the value of what is legal spells it.
 use Rattle.std.proofs.Common.{◌≡◌, ◌∙◌, ℕ, true, false, cond, List, ap, refl}
-use Rattle.std.specs.Prelude.{Option, Some, None, Ok, Err, IsUtf8}
+use Rattle.std.specs.Prelude.{Option, Some, None, Ok, IsUtf8}
 use Rattle.std.specs.Option.{ok_or}
 use Rattle.serde_json.specs.Data.{Data, object, Members}
 use Rattle.serde_json.specs.Read.{read}
@@ -124,6 +124,6 @@ reads_back m h = spelled_is_read (value_of m) m (value_spells m h)
 -- each legal message is read back from text that is JSON of its value
 pub text_reads_back : (m : Message) (t : List ℕ) → IsUtf8 t → read t ≡ Some (value_of m) → IsLegal m → read_bytes t ≡ Ok m
 text_reads_back m t utf8 json h =
-    ap (λ b. cond b (ok_or (read t) NotJson) (Err NotJson) and_then read_message) (utf8_test t utf8)
+    ap (λ b. ok_or (cond b (read t) None) NotJson and_then read_message) (utf8_test t utf8)
     ∙ ap (λ o. ok_or o NotJson and_then read_message) json
     ∙ reads_back m h

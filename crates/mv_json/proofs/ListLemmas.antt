@@ -9,11 +9,11 @@ use Rattle.serde_json.specs.Find.{as_str, as_array}
 use Rattle.serde_json.specs.View.{view, items_view}
 use Rattle.serde_json.specs.declared.value.Value.{Value}
 use Rattle.mv_json.specs.Lists.{are_texts, texts_at, read_items, walked_list_at}
-use Rattle.mv_json.specs.Reading.{◌and_then◌, of_field, member_at, each_of, as_list, read_each, list_at}
+use Rattle.mv_json.specs.Reading.{◌and_then◌, map_err, member_at, each_of, as_list, read_each, list_at}
 use Rattle.mv_pack.specs.declared.fault.PackFault.{PackFault}
 use Rattle.mv_json.specs.declared.field.Field.{Field}
 use Rattle.mv_json.specs.declared.fault.MessageFault.{MessageFault}
-use Rattle.mv_json.specs.declared.fault.MessageFault.TheVariants.{Kind, Count}
+use Rattle.mv_json.specs.declared.fault.MessageFault.TheVariants.{Kind, Count, Pack}
 
 -- all values are texts where all members are
 pub all_are_texts : (vs : List Value) → list_all (λ v. is_some (as_str (view v))) vs ≡ are_texts (items_view vs)
@@ -41,7 +41,7 @@ module _ {A : Type 0} (reader : List ℕ → Result A PackFault) (field : Field)
   one_more : (rest : Option (List (List ℕ))) (text : List ℕ) (items : Items) → AreWalked rest items → AreWalked (option_map (λ more. text ∷ more) rest) (item (string text) items)
   one_more None text items h = h
   one_more (Some texts) text items h =
-      (h.0, ap (λ n. suc n) h.1, ap (λ reading. of_field field (reader text) and_then λ first. reading and_then λ rest. Ok (first ∷ rest)) h.2)
+      (h.0, ap (λ n. suc n) h.1, ap (λ reading. map_err (Pack field) (reader text) and_then λ first. reading and_then λ rest. Ok (first ∷ rest)) h.2)
 
   all_walked : (items : Items) → AreWalked (each_of as_str items) items
   all_walked no_items = (refl, refl, refl)

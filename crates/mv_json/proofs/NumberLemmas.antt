@@ -12,14 +12,14 @@ use Rattle.mv_pack.proofs.MomentLemmas.{read_moment_is_moment, read_moment_of}
 use Rattle.mv_pack.proofs.TextLemmas.{given_ok}
 use Rattle.mv_json.specs.declared.field.Field.{Field}
 use Rattle.mv_json.specs.declared.fault.MessageFault.{MessageFault}
-use Rattle.mv_json.specs.declared.fault.MessageFault.TheVariants.{Kind}
+use Rattle.mv_json.specs.declared.fault.MessageFault.TheVariants.{Kind, Pack}
 use Rattle.mv_json.specs.declared.version.Version.{Version}
 use Rattle.mv_json.specs.declared.version.Version.TheVariants.{One, Two}
 use Rattle.mv_json.specs.FieldMeanings.{MayBeWithdrawn}
 use Rattle.mv_json.specs.Fields.{field_name}
 use Rattle.mv_json.specs.Values.{whole, since_two}
 use Rattle.mv_json.specs.Numbers.{truth_at, withdrawn_at, whole_number, whole_at, moment_at, number_at, count_at}
-use Rattle.mv_json.specs.Reading.{◌and_then◌, of_field, member_at}
+use Rattle.mv_json.specs.Reading.{◌and_then◌, map_err, member_at}
 use Rattle.mv_json.specs.Spellings.{Has}
 use Rattle.mv_json.proofs.ReadingLemmas.{both_ok, ok_or_some, of_field_ok, unrefused, member_ok, member_read}
 
@@ -81,14 +81,14 @@ moment_is_itself n m h = (given_ok (nat_lt n YEAR_2100) n Moment m h).1
 pub moment_ok : (f : Field) (d : Data) (m : ℕ) → moment_at f d ≡ Ok m → Has d f (whole m) × IsMoment m
 unfolding moment_at
 moment_ok f d m h =
-    let p = both_ok (whole_at f d) (λ n. of_field f (read_moment n)) m h in
+    let p = both_ok (whole_at f d) (λ n. map_err (Pack f) (read_moment n)) m h in
     let read = of_field_ok f (read_moment p.0) m p.2 in
     (subst (λ n. Has d f (whole n)) (moment_is_itself p.0 m read) (whole_ok f d p.0 p.1), read_moment_is_moment p.0 m read)
 
 pub moment_read : (f : Field) (d : Data) (m : ℕ) → Has d f (whole m) × IsMoment m → moment_at f d ≡ Ok m
 unfolding moment_at
 moment_read f d m h =
-    ap (λ r. r and_then λ n. of_field f (read_moment n)) (whole_read f d m h.0) ∙ ap (of_field f) (read_moment_of m h.1)
+    ap (λ r. r and_then λ n. map_err (Pack f) (read_moment n)) (whole_read f d m h.0) ∙ ap (map_err (Pack f)) (read_moment_of m h.1)
 
 below : (n bound : ℕ) → nat_lt n bound ≡ true → n < bound
 below n bound h = grind (arith, nat_tests)

@@ -16,13 +16,13 @@ use Rattle.mv_pack.proofs.MarketLemmas.{read_market_of, read_market_is_market}
 use Rattle.mv_pack.proofs.TextLemmas.{given_ok}
 use Rattle.mv_json.specs.declared.field.Field.{Field}
 use Rattle.mv_json.specs.declared.fault.MessageFault.{MessageFault}
-use Rattle.mv_json.specs.declared.fault.MessageFault.TheVariants.{Missing, Kind, Count, TextLength}
+use Rattle.mv_json.specs.declared.fault.MessageFault.TheVariants.{Missing, Kind, Count, TextLength, Pack}
 use Rattle.mv_json.specs.FieldMeanings.{IsFreeText, IsListOf, IsNational}
 use Rattle.mv_json.specs.Fields.{field_name}
 use Rattle.mv_message.specs.declared.standing.Standing.{Standing}
 use Rattle.mv_message.specs.declared.standing.Standing.TheVariants.{Active, Supplied, Exported, Destruction, Sample, FreeSample, Stolen, Repackaged}
 use Rattle.mv_message.specs.Standings.{standing_name, standings, standing_named}
-use Rattle.mv_json.specs.Reading.{◌and_then◌, of_field, member_at, text_at, read_at, standing_at, national_of, national_at, free_text_at, each_of, as_list, read_each, list_at}
+use Rattle.mv_json.specs.Reading.{◌and_then◌, map_err, member_at, text_at, read_at, standing_at, national_of, national_at, free_text_at, each_of, as_list, read_each, list_at}
 use Rattle.mv_json.specs.Spellings.{Has, Spells}
 use Rattle.mv_json.specs.Values.{strings, text_or_null, since_two}
 use Rattle.mv_json.specs.declared.version.Version.{Version}
@@ -38,7 +38,7 @@ pub ok_or_some : {A : Type 0} (e : MessageFault) (o : Option A) (x : A) → ok_o
 ok_or_some e None x h = cc
 ok_or_some e (Some y) x h = cc
 
-pub of_field_ok : {A : Type 0} (f : Field) (r : Result A PackFault) (x : A) → of_field f r ≡ Ok x → r ≡ Ok x
+pub of_field_ok : {A : Type 0} (f : Field) (r : Result A PackFault) (x : A) → map_err (Pack f) r ≡ Ok x → r ≡ Ok x
 of_field_ok f (Ok y) x h = cc
 of_field_ok f (Err e) x h = cc
 
@@ -94,13 +94,13 @@ pub text_is_read : (f : Field) (d : Data) (t : List ℕ) → HasText d f t → t
 text_is_read f d t h = ap (λ o. ok_or o (Missing f) and_then λ x. ok_or (as_str x) (Kind f)) h
 
 -- a field that its reader takes is a spelling
-spelled : {A : Type 0} (reader : List ℕ → Result A PackFault) (f : Field) (d : Data) (x : A) → (text_at f d and_then λ t. of_field f (reader t)) ≡ Ok x → Spells reader f d x
+spelled : {A : Type 0} (reader : List ℕ → Result A PackFault) (f : Field) (d : Data) (x : A) → (text_at f d and_then λ t. map_err (Pack f) (reader t)) ≡ Ok x → Spells reader f d x
 spelled reader f d x h =
-    let b = both_ok (text_at f d) (λ t. of_field f (reader t)) x h in
+    let b = both_ok (text_at f d) (λ t. map_err (Pack f) (reader t)) x h in
     (b.0, text_ok f d b.0 b.1, of_field_ok f (reader b.0) x b.2)
 
-spelling_is_read : {A : Type 0} (reader : List ℕ → Result A PackFault) (f : Field) (d : Data) (x : A) → Spells reader f d x → (text_at f d and_then λ t. of_field f (reader t)) ≡ Ok x
-spelling_is_read reader f d x (t, h, e) = ap (λ r. r and_then λ t. of_field f (reader t)) (text_is_read f d t h) ∙ ap (of_field f) e
+spelling_is_read : {A : Type 0} (reader : List ℕ → Result A PackFault) (f : Field) (d : Data) (x : A) → Spells reader f d x → (text_at f d and_then λ t. map_err (Pack f) (reader t)) ≡ Ok x
+spelling_is_read reader f d x (t, h, e) = ap (λ r. r and_then λ t. map_err (Pack f) (reader t)) (text_is_read f d t h) ∙ ap (map_err (Pack f)) e
 
 pub taken_ok : {A : Type 0} (reader : List ℕ → Result A PackFault) (f : Field) (d : Data) (x : A) → read_at reader f d ≡ Ok x → Spells reader f d x
 unfolding read_at
@@ -181,9 +181,9 @@ member_ok f d part h = ok_or_some (Missing f) (get (field_name f) d) part h
 pub member_read : (f : Field) (d part : Data) → Has d f part → member_at f d ≡ Ok part
 member_read f d part h = ap (λ o. ok_or o (Missing f)) h
 
-some_number : (f : Field) (t : List ℕ) (o : Option (List ℕ)) → (of_field f (read_code t) and_then λ n. Ok (Some n)) ≡ Ok o → (n : List ℕ) × (read_code t ≡ Ok n) × (Some n ≡ o)
+some_number : (f : Field) (t : List ℕ) (o : Option (List ℕ)) → (map_err (Pack f) (read_code t) and_then λ n. Ok (Some n)) ≡ Ok o → (n : List ℕ) × (read_code t ≡ Ok n) × (Some n ≡ o)
 some_number f t o h =
-    let p = both_ok (of_field f (read_code t)) (λ n. Ok (Some n)) o h in (p.0, of_field_ok f (read_code t) p.0 p.1, cc)
+    let p = both_ok (map_err (Pack f) (read_code t)) (λ n. Ok (Some n)) o h in (p.0, of_field_ok f (read_code t) p.0 p.1, cc)
 
 -- what a value is where it gives that national number, or none
 national_same : (f : Field) (part : Data) (o : Option (List ℕ)) → national_of f part ≡ Ok o → (part ≡ text_or_null o) × IsNational Two o
@@ -221,7 +221,7 @@ national_read One f d (Some n) h = absurd h.1
 national_read Two f d None h = ap (λ r. r and_then national_of f) (member_read f d null h.0)
 national_read Two f d (Some n) h =
     ap (λ r. r and_then national_of f) (member_read f d (string n) h.0)
-    ∙ ap (λ r. of_field f r and_then λ x. Ok (Some x)) (read_code_of n h.1)
+    ∙ ap (λ r. map_err (Pack f) r and_then λ x. Ok (Some x)) (read_code_of n h.1)
 
 count_within : (n most : ℕ) → ((n == 0) || nat_lt most n) ≡ false → (1 ≤ n) × (n ≤ most)
 count_within n most h = (grind (arith, nat_tests), grind (arith, nat_tests))
@@ -260,7 +260,7 @@ each_same : (reader : List ℕ → Result (List ℕ) PackFault) (Holds : List �
 each_same reader Holds good f [] [] h = (refl, tt)
 each_same reader Holds good f [] (x ∷ xs) h = cc
 each_same reader Holds good f (t ∷ ts) xs h =
-    let a = both_ok (of_field f (reader t)) (λ y. read_each reader f ts and_then λ ys. Ok (y ∷ ys)) xs h in
+    let a = both_ok (map_err (Pack f) (reader t)) (λ y. read_each reader f ts and_then λ ys. Ok (y ∷ ys)) xs h in
     let b = both_ok (read_each reader f ts) (λ ys. Ok (a.0 ∷ ys)) xs a.2 in
     let read = of_field_ok f (reader t) a.0 a.1 in
     let rest = each_same reader Holds good f ts b.0 b.1 in
@@ -271,7 +271,7 @@ each_same reader Holds good f (t ∷ ts) xs h =
 each_is_read : (reader : List ℕ → Result (List ℕ) PackFault) (Holds : List ℕ → Type 0) → TakesAsItself reader Holds → (f : Field) (xs : List (List ℕ)) → AllByRecursion Holds xs → read_each reader f xs ≡ Ok xs
 each_is_read reader Holds good f [] h = refl
 each_is_read reader Holds good f (x ∷ xs) h =
-    ap (λ r. of_field f r and_then λ y. read_each reader f xs and_then λ ys. Ok (y ∷ ys)) (good.takes x h.0)
+    ap (λ r. map_err (Pack f) r and_then λ y. read_each reader f xs and_then λ ys. Ok (y ∷ ys)) (good.takes x h.0)
     ∙ ap (λ r. r and_then λ ys. Ok (x ∷ ys)) (each_is_read reader Holds good f xs h.1)
 
 one_more : (t : List ℕ) (o : Option (List (List ℕ))) (ts : List (List ℕ)) → option_map (λ rest. t ∷ rest) o ≡ Some ts → (rest : List (List ℕ)) × (o ≡ Some rest) × ((t ∷ rest) ≡ ts)

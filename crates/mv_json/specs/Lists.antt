@@ -7,8 +7,8 @@ use Rattle.serde_json.specs.Find.{as_str, as_array}
 use Rattle.mv_pack.specs.declared.fault.PackFault.{PackFault}
 use Rattle.mv_json.specs.declared.field.Field.{Field}
 use Rattle.mv_json.specs.declared.fault.MessageFault.{MessageFault}
-use Rattle.mv_json.specs.declared.fault.MessageFault.TheVariants.{Kind, Count}
-use Rattle.mv_json.specs.Reading.{◌and_then◌, of_field, member_at}
+use Rattle.mv_json.specs.declared.fault.MessageFault.TheVariants.{Kind, Count, Pack}
+use Rattle.mv_json.specs.Reading.{◌and_then◌, map_err, member_at}
 
 -- whether all members of a list are texts
 abbrev pub are_texts : Items → Bool
@@ -26,7 +26,7 @@ texts_at most field value =
 
 -- a member of a list, by its reader
 abbrev pub read_item : {A : Type 0} → (List ℕ → Result A PackFault) → Field → Data → Result A MessageFault
-read_item reader field value = ok_or (as_str value) (Kind field) and_then λ text. of_field field (reader text)
+read_item reader field value = ok_or (as_str value) (Kind field) and_then λ text. map_err (Pack field) (reader text)
 
 -- each member of a list in its order, or the fault of the first bad one
 abbrev pub read_items : {A : Type 0} → (List ℕ → Result A PackFault) → Field → Items → Result (List A) MessageFault

@@ -1,5 +1,5 @@
 -- Messages: what reading a value or bytes gives, and the JSON value of each.
-use Rattle.std.specs.Prelude.{ℕ, List, if◌then◌else◌, Some, Result, Err}
+use Rattle.std.specs.Prelude.{ℕ, List, if◌then◌else◌, Option, Some, None, Result}
 use Rattle.std.specs.Option.{ok_or}
 use Rattle.std.specs.Str.{is_utf8}
 use Rattle.serde_json.specs.Data.{Data}
@@ -28,13 +28,13 @@ read_message value =
     known_form_at version form members and_then λ known.
     message_at version known value
 
--- the value of bytes, else M1
-abbrev pub read_value : List ℕ → Result Data MessageFault
-read_value bytes = if is_utf8 bytes then ok_or (read bytes) NotJson else Err NotJson
+-- the value of bytes, where they are text and JSON
+abbrev pub json_value : List ℕ → Option Data
+json_value bytes = if is_utf8 bytes then read bytes else None
 
--- the message that bytes are, or the first fault
+-- the message that bytes are, or the first fault: M1, then those of their value
 abbrev pub read_bytes : List ℕ → Result Message MessageFault
-read_bytes bytes = read_value bytes and_then read_message
+read_bytes bytes = ok_or (json_value bytes) NotJson and_then read_message
 
 -- the first version that says all that a message holds
 abbrev pub message_version : Message → Version

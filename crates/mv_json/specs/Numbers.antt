@@ -6,10 +6,10 @@ use Rattle.serde_json.specs.Find.{as_bool, as_number, as_u64}
 use Rattle.mv_pack.specs.Moment.{read_moment}
 use Rattle.mv_json.specs.declared.field.Field.{Field}
 use Rattle.mv_json.specs.declared.fault.MessageFault.{MessageFault}
-use Rattle.mv_json.specs.declared.fault.MessageFault.TheVariants.{Kind}
+use Rattle.mv_json.specs.declared.fault.MessageFault.TheVariants.{Kind, Pack}
 use Rattle.mv_json.specs.declared.version.Version.{Version}
 use Rattle.mv_json.specs.declared.version.Version.TheVariants.{One, Two}
-use Rattle.mv_json.specs.Reading.{◌and_then◌, of_field, member_at}
+use Rattle.mv_json.specs.Reading.{◌and_then◌, map_err, member_at}
 
 -- whether a field says `true`: M3, M5
 unfoldable pub truth_at : Field → Data → Result Bool MessageFault
@@ -30,7 +30,7 @@ whole_at field value = member_at field value and_then λ found. ok_or (whole_num
 
 -- the moment of a field: M3, M5, M6
 unfoldable pub moment_at : Field → Data → Result ℕ MessageFault
-moment_at field value = whole_at field value and_then λ seconds. of_field field (read_moment seconds)
+moment_at field value = whole_at field value and_then λ seconds. map_err (Pack field) (read_moment seconds)
 
 -- the whole number of a field, up to 4,294,967,295: M3, M5
 unfoldable pub number_at : Field → Data → Result ℕ MessageFault

@@ -1,6 +1,7 @@
 -- What reading a part of a JSON value gives: its meaning, or the first fault.
 use Rattle.std.specs.Prelude.{◌≡◌, ◌≢◌, ℕ, ◌==◌, ◌||◌, Bool, nat_lt, if◌then◌else◌, List, [], ◌∷◌, length, is_some, Option, Some, None, option_and_then, option_map, Result, Ok, Err}
 use Rattle.std.specs.Option.{ok_or}
+use Rattle.std.specs.Result.{result_map_both}
 use Rattle.serde_json.specs.Data.{Data, Items, no_items, item}
 use Rattle.serde_json.specs.Find.{get, as_null, as_str, as_array}
 use Rattle.mv_pack.specs.Code.{read_code}
@@ -17,14 +18,13 @@ use Rattle.mv_json.specs.Limits.{most_text_bytes}
 
 -- the next step on what was read, or the fault that there was
 infixl 10 ◌and_then◌
-abbrev pub ◌and_then◌ : {A B : Type 0} → Result A MessageFault → (A → Result B MessageFault) → Result B MessageFault
+abbrev pub ◌and_then◌ : {A B E : Type 0} → Result A E → (A → Result B E) → Result B E
 (Ok meaning) and_then next = next meaning
 (Err fault) and_then next = Err fault
 
--- a refusal of a reader of values is a fault of the field (M6)
-abbrev pub of_field : {A : Type 0} → Field → Result A PackFault → Result A MessageFault
-of_field field (Ok meaning) = Ok meaning
-of_field field (Err fault) = Err (Pack field fault)
+-- what there is, or a fault made of the one that there was
+abbrev pub map_err : {A E F : Type 0} → (E → F) → Result A E → Result A F
+map_err fault_of result = result_map_both (λ x. x) fault_of result
 
 -- the value of a field, else M3
 abbrev pub member_at : Field → Data → Result Data MessageFault
@@ -36,7 +36,7 @@ text_at field value = member_at field value and_then λ found. ok_or (as_str fou
 
 -- what a reader of values takes the text of a field for: M3, M5, M6
 unfoldable pub read_at : {A : Type 0} → (List ℕ → Result A PackFault) → Field → Data → Result A MessageFault
-read_at reader field value = text_at field value and_then λ text. of_field field (reader text)
+read_at reader field value = text_at field value and_then λ text. map_err (Pack field) (reader text)
 
 -- the standing of a field: M3, M5
 unfoldable pub standing_at : Field → Data → Result Standing MessageFault
@@ -57,7 +57,7 @@ abbrev pub national_of : Field → Data → Result (Option (List ℕ)) MessageFa
 national_of field found =
     if is_null found then Ok None
     else (ok_or (as_str found) (Kind field) and_then λ text.
-    of_field field (read_code text) and_then λ number. Ok (Some number))
+    map_err (Pack field) (read_code text) and_then λ number. Ok (Some number))
 
 -- the national number of a field, or none, as in version 1, which has no such field: M3, M5, M6
 unfoldable pub national_at : Version → Field → Data → Result (Option (List ℕ)) MessageFault
@@ -78,7 +78,7 @@ as_list as_one value = option_and_then (each_of as_one) (as_array value)
 abbrev pub read_each : {A : Type 0} → (List ℕ → Result A PackFault) → Field → List (List ℕ) → Result (List A) MessageFault
 read_each reader field [] = Ok []
 read_each reader field (text ∷ texts) =
-    of_field field (reader text) and_then λ first. read_each reader field texts and_then λ rest. Ok (first ∷ rest)
+    map_err (Pack field) (reader text) and_then λ first. read_each reader field texts and_then λ rest. Ok (first ∷ rest)
 
 -- what a reader takes the texts of a list for, which are 1 to most: M3, M5, M7, M6
 unfoldable pub list_at : {A : Type 0} → (List ℕ → Result A PackFault) → ℕ → Field → Data → Result (List A) MessageFault

@@ -28,8 +28,8 @@ use Rattle.mv_lines.specs.Kinds.{kind_at, known_kind_at}
 use Rattle.mv_lines.specs.LineLaws.{request_value, IsLegalRequest}
 use Rattle.mv_lines.specs.Meanings.{Has32Bits, AreMarketLists}
 use Rattle.mv_lines.specs.Lines.{whole_from, rest_from, last_piece, pieces, lines_of, IsUnended}
-use Rattle.mv_json.specs.Reading.{each_of, as_list}
-use Rattle.mv_lines.specs.Reading.{◌and_then◌, map_err, member_at, text_at, of_32_bits, read_at, number_at, message_at, is_market, market_lists, market_lists_at}
+use Rattle.mv_json.specs.Reading.{◌and_then◌, map_err, each_of, as_list}
+use Rattle.mv_lines.specs.Reading.{member_at, text_at, of_32_bits, read_at, number_at, message_at, is_market, market_lists, market_lists_at}
 use Rattle.mv_lines.specs.Replies.{text_lines}
 use Rattle.mv_lines.specs.Requests.{read_request, request_at}
 use Rattle.mv_lines.specs.declared.field.LineField.{LineField}

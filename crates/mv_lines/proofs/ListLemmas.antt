@@ -10,9 +10,9 @@ use Rattle.serde_json.specs.declared.value.Value.{Value}
 use Rattle.mv_pack.specs.Market.{is_capital, read_market}
 use Rattle.mv_pack.specs.declared.fault.PackFault.TheVariants.{Market}
 use Rattle.mv_json.specs.Lists.{are_texts}
-use Rattle.mv_json.specs.Reading.{each_of, as_list}
+use Rattle.mv_json.specs.Reading.{◌and_then◌, map_err, each_of, as_list}
 use Rattle.mv_lines.specs.MarketLists.{texts_among, is_text_list, are_text_lists, read_markets, read_market_lists, text_lists, walked_lists_at}
-use Rattle.mv_lines.specs.Reading.{◌and_then◌, map_err, member_at, is_market, market_lists, market_lists_at}
+use Rattle.mv_lines.specs.Reading.{member_at, is_market, market_lists, market_lists_at}
 use Rattle.mv_lines.specs.declared.field.LineField.{LineField}
 use Rattle.mv_lines.specs.declared.line_fault.LineFault.{LineFault}
 use Rattle.mv_lines.specs.declared.line_fault.LineFault.TheVariants.{Kind, Pack}

@@ -15,7 +15,8 @@ use Rattle.mv_lines.specs.declared.request.Request.{Request}
 use Rattle.mv_lines.specs.declared.request.Request.TheVariants.{Open, Step}
 use Rattle.mv_lines.specs.Fields.{field_name}
 use Rattle.mv_lines.specs.Meanings.{meaning_of}
-use Rattle.mv_lines.specs.Reading.{◌and_then◌, text_at}
+use Rattle.mv_json.specs.Reading.{◌and_then◌}
+use Rattle.mv_lines.specs.Reading.{text_at}
 
 -- the kinds by their names
 abbrev pub named_kinds : List (List ℕ × LineKind)

@@ -7,7 +7,8 @@ use Rattle.mv_json.specs.Lists.{are_texts}
 use Rattle.mv_lines.specs.declared.field.LineField.{LineField}
 use Rattle.mv_lines.specs.declared.line_fault.LineFault.{LineFault}
 use Rattle.mv_lines.specs.declared.line_fault.LineFault.TheVariants.{Kind, Pack}
-use Rattle.mv_lines.specs.Reading.{◌and_then◌, map_err, member_at}
+use Rattle.mv_json.specs.Reading.{◌and_then◌, map_err}
+use Rattle.mv_lines.specs.Reading.{member_at}
 
 -- whether a value is a list of texts
 abbrev pub texts_among : Option Items → Bool

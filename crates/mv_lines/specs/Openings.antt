@@ -6,7 +6,7 @@ use Rattle.mv_machine.specs.Limits.{Bounds, code_of as limits_code}
 use Rattle.mv_machine.specs.declared.limits.LimitsFault.{LimitsFault}
 use Rattle.mv_lines.specs.declared.open_fault.OpenFault.{OpenFault}
 use Rattle.mv_lines.specs.declared.open_fault.OpenFault.TheVariants.{NotOpen, AlreadyOpen, Parties, Limits, Memory}
-use Rattle.mv_lines.specs.Reading.{map_err}
+use Rattle.mv_json.specs.Reading.{map_err}
 
 -- the number of a fault
 abbrev pub code_of : OpenFault → List ℕ

@@ -1,14 +1,13 @@
 -- What reading a field of a line gives: its meaning, or the first fault.
 use Rattle.std.specs.Prelude.{◌≡◌, ◌≢◌, ◌^◌, ℕ, Bool, nat_lt, if◌then◌else◌, is_ok, List, Option, Some, None, option_and_then, Result, Ok, Err, ok_or}
 use Rattle.std.specs.List.{list_all}
-use Rattle.std.specs.Result.{result_map_both}
 use Rattle.serde_json.specs.Data.{Data}
 use Rattle.serde_json.specs.Find.{get, as_str, as_number, as_u64}
 use Rattle.mv_pack.specs.Market.{read_market}
 use Rattle.mv_pack.specs.declared.fault.PackFault.{PackFault}
 use Rattle.mv_pack.specs.declared.fault.PackFault.TheVariants.{Market}
 use Rattle.mv_json.specs.Messages.{read_message}
-use Rattle.mv_json.specs.Reading.{as_list}
+use Rattle.mv_json.specs.Reading.{◌and_then◌, map_err, as_list}
 use Rattle.mv_message.specs.declared.message.Message.{Message}
 use Rattle.mv_lines.specs.declared.field.LineField.{LineField}
 use Rattle.mv_lines.specs.declared.field.LineField.TheVariants as fields
@@ -16,16 +15,6 @@ use Rattle.mv_lines.specs.declared.line_fault.LineFault.{LineFault}
 use Rattle.mv_lines.specs.declared.line_fault.LineFault.TheVariants.{Missing, Kind, Pack, Memory}
 use Rattle.mv_lines.specs.declared.line_fault.LineFault.TheVariants.{Message as InMessage}
 use Rattle.mv_lines.specs.Fields.{field_name}
-
--- the next step on what was read, or the fault that there was
-infixl 10 ◌and_then◌
-abbrev pub ◌and_then◌ : {A B : Type 0} → Result A LineFault → (A → Result B LineFault) → Result B LineFault
-(Ok meaning) and_then next = next meaning
-(Err fault) and_then next = Err fault
-
--- what there is, or a fault made of the one that there was
-abbrev pub map_err : {A E F : Type 0} → (E → F) → Result A E → Result A F
-map_err fault_of result = result_map_both (λ x. x) fault_of result
 
 -- the value of a field, else M3
 abbrev pub member_at : LineField → Data → Result Data LineFault

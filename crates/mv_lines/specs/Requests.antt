@@ -1,9 +1,9 @@
 -- What a line asks, or its first fault.
-use Rattle.std.specs.Prelude.{ℕ, List, [], ◌∷◌, if◌then◌else◌, Result, Ok, Err, ok_or}
-use Rattle.std.specs.Str.{is_utf8}
+use Rattle.std.specs.Prelude.{ℕ, List, [], ◌∷◌, Result, Ok, ok_or}
 use Rattle.serde_json.specs.Data.{Data}
 use Rattle.serde_json.specs.Find.{as_object}
-use Rattle.serde_json.specs.Read.{read}
+use Rattle.mv_json.specs.Messages.{json_value}
+use Rattle.mv_json.specs.Reading.{◌and_then◌}
 use Rattle.mv_lines.specs.declared.field.LineField.{LineField}
 use Rattle.mv_lines.specs.declared.line_fault.LineFault.{LineFault}
 use Rattle.mv_lines.specs.declared.line_fault.LineFault.TheVariants.{NotJson, NotObject}
@@ -11,7 +11,6 @@ use Rattle.mv_lines.specs.declared.kind.LineKind.{LineKind}
 use Rattle.mv_lines.specs.declared.request.Request.{Request}
 use Rattle.mv_lines.specs.Kinds.{Asking, shape_of, kind_at, known_kind_at}
 use Rattle.mv_lines.specs.Meanings.{meaning_of}
-use Rattle.mv_lines.specs.Reading.{◌and_then◌}
 
 -- what a line asks by these fields, each of which is read in its turn
 abbrev pub asked_at : (others : List LineField) → Asking others → Data → Result Request LineFault
@@ -30,10 +29,6 @@ read_request value =
     known_kind_at kind members and_then λ known.
     request_at known value
 
--- the value of bytes, else M1
-abbrev pub read_value : List ℕ → Result Data LineFault
-read_value bytes = if is_utf8 bytes then ok_or (read bytes) NotJson else Err NotJson
-
--- what a line asks, or the first fault
+-- what a line asks, or the first fault: M1, then those of its value
 abbrev pub read_line : List ℕ → Result Request LineFault
-read_line line = read_value line and_then read_request
+read_line line = ok_or (json_value line) NotJson and_then read_request

@@ -122,7 +122,7 @@ standing_agrees : (version : Version) (f : Field) → Agrees version (pack_stand
 standing_agrees version f =
     record { ok = λ d x unsaid h. (standing_ok f d x h, tt); read = λ d x h. standing_read f d x h.0; legal = λ d x h. h.1 }
 
-free_text_agrees : (version : Version) (f : Field) → Agrees version (exactly free_text_at (λ text. Some (string text)) IsFreeText f)
+free_text_agrees : (version : Version) (f : Field) → Agrees version (exactly free_text_at string IsFreeText f)
 free_text_agrees version f =
     record { ok = λ d x unsaid h. free_text_ok f d x h; read = λ d x h. free_text_is_read f d x h; legal = λ d x h. h.1 }
 

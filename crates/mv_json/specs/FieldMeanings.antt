@@ -13,7 +13,7 @@ use Rattle.mv_json.specs.declared.field.Field.TheVariants as fields
 use Rattle.mv_json.specs.declared.version.Version.{Version}
 use Rattle.mv_json.specs.declared.version.Version.TheVariants.{One, Two}
 use Rattle.mv_json.specs.Limits.{most_markets, most_serials, most_text_bytes}
-use Rattle.mv_json.specs.Meanings.{Meaning, text_of, exactly}
+use Rattle.mv_json.specs.Meanings.{Meaning, text_of, if_said, exactly}
 use Rattle.mv_json.specs.Numbers.{truth_at, withdrawn_at, moment_at, number_at, count_at}
 use Rattle.mv_json.specs.Reading.{read_at, list_at, standing_at, free_text_at, national_at}
 use Rattle.mv_json.specs.Values.{strings, whole, text_or_null, since_two}
@@ -43,15 +43,15 @@ product_code = text_of read_gtin (λ gtin. gtin) IsGtin
 
 -- a serial number or a batch number
 abbrev pub code : Field → Meaning
-code = exactly (read_at read_code) (λ text. Some (string text)) IsCode
+code = exactly (read_at read_code) string IsCode
 
 -- serial numbers
 abbrev pub serial_list : Field → Meaning
-serial_list = exactly (list_at read_code most_serials) (λ serials. Some (array (strings serials))) (IsListOf IsCode most_serials)
+serial_list = exactly (list_at read_code most_serials) (λ serials. array (strings serials)) (IsListOf IsCode most_serials)
 
 -- the standing of a pack
 abbrev pub pack_standing : Field → Meaning
-pack_standing = exactly standing_at (λ standing. Some (string (standing_name standing))) (λ standing. ⊤)
+pack_standing = exactly standing_at (λ standing. string (standing_name standing)) (λ standing. ⊤)
 
 -- What kind of values each field has in a version: free texts, where nothing else is said. The numbers of parties and queries
 -- have 32 bits, as their types say.
@@ -59,8 +59,8 @@ abbrev pub kind_of : Version → Field → Field → Meaning
 kind_of version fields.AfterBatch = code
 kind_of version fields.AfterGtin = product_code
 kind_of version fields.AfterSerials = serial_list
-kind_of version fields.Asker = exactly number_at (λ party. Some (whole party)) (λ party. party < 2 ^ 32)
-kind_of version fields.At = exactly moment_at (λ seconds. Some (whole seconds)) IsMoment
+kind_of version fields.Asker = exactly number_at whole (λ party. party < 2 ^ 32)
+kind_of version fields.At = exactly moment_at whole IsMoment
 kind_of version fields.Batch = code
 kind_of version fields.BeforeBatch = code
 kind_of version fields.BeforeGtin = product_code
@@ -68,16 +68,16 @@ kind_of version fields.BeforeSerials = serial_list
 kind_of version fields.Expiry = text_of read_expiry expiry_text IsExpiry
 kind_of version fields.Gtin = product_code
 kind_of version fields.Markets =
-    exactly (list_at read_market most_markets) (λ markets. Some (array (strings markets))) (IsListOf IsMarket most_markets)
-kind_of version fields.National = exactly (national_at version) (λ number. since_two version (text_or_null number)) (IsNational version)
-kind_of version fields.Q = exactly count_at (λ number. Some (whole number)) (λ number. (1 ≤ number) × (number < 2 ^ 32))
-kind_of version fields.Recalled = exactly truth_at (λ truth. Some (boolean truth)) (λ truth. ⊤)
+    exactly (list_at read_market most_markets) (λ markets. array (strings markets)) (IsListOf IsMarket most_markets)
+kind_of version fields.National = if_said (national_at version) (λ number. since_two version (text_or_null number)) (IsNational version)
+kind_of version fields.Q = exactly count_at whole (λ number. (1 ≤ number) × (number < 2 ^ 32))
+kind_of version fields.Recalled = exactly truth_at boolean (λ truth. ⊤)
 kind_of version fields.Serial = code
 kind_of version fields.Serials = serial_list
 kind_of version fields.Standing = pack_standing
 kind_of version fields.To = pack_standing
-kind_of version fields.Withdrawn = exactly (withdrawn_at version) (λ truth. since_two version (boolean truth)) (MayBeWithdrawn version)
-kind_of version field = exactly free_text_at (λ text. Some (string text)) IsFreeText
+kind_of version fields.Withdrawn = if_said (withdrawn_at version) (λ truth. since_two version (boolean truth)) (MayBeWithdrawn version)
+kind_of version field = exactly free_text_at string IsFreeText
 
 -- what each field means that is no object, and is neither the version nor the form
 abbrev pub part_of : Version → Field → Meaning

@@ -32,15 +32,19 @@ text_of {A} reader text IsLegal field = record {
   IsLegal = IsLegal;
 }
 
--- legal values, which have no spelling but the one in which they are written
-abbrev pub exactly : {A : Type 0} → (Field → Data → Result A MessageFault) → (A → Option Data) → (A → Type 0) → Field → Meaning
-exactly {A} read written IsLegal field = record {
+-- legal values, which have no spelling but the one in which they are written, if they are said at all
+abbrev pub if_said : {A : Type 0} → (Field → Data → Result A MessageFault) → (A → Option Data) → (A → Type 0) → Field → Meaning
+if_said {A} read written IsLegal field = record {
   Value = A;
   read = read field;
   written = written;
   Spells = λ value x. (get (field_name field) value ≡ written x) × IsLegal x;
   IsLegal = IsLegal;
 }
+
+-- such values, which are always said
+abbrev pub exactly : {A : Type 0} → (Field → Data → Result A MessageFault) → (A → Data) → (A → Type 0) → Field → Meaning
+exactly read value_of IsLegal = if_said read (λ x. Some (value_of x)) IsLegal
 
 -- what values of these fields make
 abbrev pub Making : (Field → Meaning) → Type 0 → List Field → Type 0

@@ -17,7 +17,7 @@ use Rattle.mv_json.specs.FieldMeanings.{part_of}
 use Rattle.mv_json.specs.Fields.{names_in}
 use Rattle.mv_json.specs.Forms.{form_name}
 use Rattle.mv_json.specs.Found.{said_of_pack, found_at, found_value, SpellsFound}
-use Rattle.mv_json.specs.Meanings.{Meaning, exactly, Making, made_at, AreLegal}
+use Rattle.mv_json.specs.Meanings.{Meaning, if_said, exactly, Making, made_at, AreLegal}
 use Rattle.mv_json.specs.Members.{first_unknown}
 use Rattle.mv_json.specs.Spellings.{Has}
 use Rattle.mv_json.specs.Values.{whole, since_two}
@@ -35,8 +35,8 @@ pack_found version = record {
 -- What each field of a message means, whose version and form were read before the other fields.
 abbrev pub meaning_of : Version → Form → Field → Meaning
 meaning_of version form fields.Found = pack_found version
-meaning_of version form fields.Msg = exactly (λ field value. Ok form) (λ said. Some (string (form_name said))) (λ said. ⊤) fields.Msg
-meaning_of version form fields.V = exactly (λ field value. Ok version) (λ said. since_two said (whole 2)) (λ said. ⊤) fields.V
+meaning_of version form fields.Msg = exactly (λ field value. Ok form) (λ said. string (form_name said)) (λ said. ⊤) fields.Msg
+meaning_of version form fields.V = if_said (λ field value. Ok version) (λ said. since_two said (whole 2)) (λ said. ⊤) fields.V
 meaning_of version form field = part_of version field
 
 -- the fields of a message, in byte order of their names, and the message that their values make

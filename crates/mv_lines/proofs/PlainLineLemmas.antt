@@ -5,18 +5,22 @@ use Rattle.json.specs.Json.{Json, value, items, members}
 use Rattle.json.specs.Json as json
 use Rattle.json.specs.Lex.{tokens}
 use Rattle.json.specs.Token.{Token, key, number}
+use Rattle.json.specs.Token as token
 use Rattle.serde_json.specs.Data.{Data, Members, object, member, no_members, string, unsigned}
 use Rattle.serde_json.specs.Data as datas
 use Rattle.serde_json.specs.Read.{read, of_json}
 use Rattle.mv_machine.specs.declared.step.Step.{Step as AnyStep}
 use Rattle.mv_machine.specs.declared.step.Step.TheVariants as steps
 use Rattle.mv_message.specs.declared.message.Message.{Message}
+use Rattle.mv_pack.specs.Code.{read_code}
+use Rattle.mv_pack.specs.Gtin.{read_gtin}
+use Rattle.mv_pack.specs.Keys.{pack_key}
 use Rattle.mv_json.specs.Messages.{read_message}
 use Rattle.mv_json.proofs.ValueLemmas.{utf8_test}
 use Rattle.mv_lines.specs.Fields.{field_name}
 use Rattle.mv_lines.specs.Kinds.{kind_at, kind_named}
-use Rattle.mv_lines.specs.PlainLines.{IsWhole, HasNumber, HasMessage, AreLink, AreAsked, Asks, value_of, line_tokens, last}
-use Rattle.mv_lines.specs.Reading.{number_at, message_at}
+use Rattle.mv_lines.specs.PlainLines.{IsWhole, HasNumber, HasText, HasMessage, AreLink, AreAsked, Asks, value_of, line_tokens, last}
+use Rattle.mv_lines.specs.Reading.{read_at, number_at, message_at}
 use Rattle.mv_lines.specs.Requests.{read_line, read_request, request_at}
 use Rattle.mv_lines.specs.declared.field.LineField.{LineField}
 use Rattle.mv_lines.specs.declared.field.LineField.TheVariants as fields
@@ -44,6 +48,14 @@ repeat_line name from frame to =
 
 abbrev pub verdict_line : List ℕ → ℕ → ℕ → Data
 verdict_line name party q = line name (whole_member fields.Party party (whole_member fields.Q q no_members))
+
+abbrev pub verify_line : List ℕ → List ℕ → ℕ → List ℕ → Data
+verify_line name gtin party serial =
+    line name (member (field_name fields.Gtin) (string gtin) (whole_member fields.Party party (member (field_name fields.Serial) (string serial) no_members)))
+
+-- the tokens of a field, with this text
+abbrev pub text_tokens : LineField → List ℕ → List Token → List Token
+text_tokens field text rest = key (field_name field) ∷ token.string text ∷ rest
 
 -- the tokens of a field, with this text of its number
 abbrev pub field_tokens : LineField → List ℕ → List Token → List Token
@@ -93,6 +105,11 @@ verdict_value : (name a b : List ℕ) (m n : ℕ) → IsWhole a m → IsWhole b 
     → value_of (line_tokens name (field_tokens fields.Party a (field_tokens fields.Q b last))) ≡ Some (verdict_line name m n)
 unfolding items members value
 verdict_value name a b m n ha hb = rw (ha.0, hb.0)
+
+verify_value : (name a b c : List ℕ) (n : ℕ) → IsWhole b n
+    → value_of (line_tokens name (text_tokens fields.Gtin a (field_tokens fields.Party b (text_tokens fields.Serial c last)))) ≡ Some (verify_line name a n c)
+unfolding items members value
+verify_value name a b c n hb = rw (hb.0)
 
 -- ---- what the lines ask
 
@@ -144,6 +161,22 @@ pub verdict_request : (name : List ℕ) (m n : ℕ) → kind_named name ≡ Some
     → read_request (verdict_line name m n) ≡ Ok (Step (steps.Verdict m n))
 unfolding read_request request_at number_at kind_at
 verdict_request name m n named hm hn = rw (named, lt-ltb _ _ hm, lt-ltb _ _ hn)
+
+verify_request : (name a c gtin serial : List ℕ) (n : ℕ) → kind_named name ≡ Some kinds.Verify → read_gtin a ≡ Ok gtin → n < 2 ^ 32
+    → read_code c ≡ Ok serial → read_request (verify_line name a n c) ≡ Ok (Step (steps.Verify n (pack_key gtin serial)))
+unfolding read_request request_at read_at number_at kind_at
+verify_request name a c gtin serial n named coded hn numbered = rw (named, coded, lt-ltb _ _ hn, numbered)
+
+pub verify_asks : (name : List ℕ) (ts second third : List Token) (gtin serial : List ℕ) (n : ℕ) → kind_named name ≡ Some kinds.Verify
+    → HasText ts fields.Gtin (λ text. read_gtin text ≡ Ok gtin) second → HasNumber second fields.Party n third
+    → HasText third fields.Serial (λ text. read_code text ≡ Ok serial) last → Asks name ts (steps.Verify n (pack_key gtin serial))
+verify_asks name ts second third gtin serial n named (a, coded, code_on) party (c, numbered, ends) = (
+  _,
+  ap (λ r. value_of (line_tokens name r))
+      (code_on ∙ ap (λ r. text_tokens fields.Gtin a r) (party.2 ∙ ap (λ r. field_tokens fields.Party party.0 r) ends))
+      ∙ verify_value name a party.0 c n party.1,
+  verify_request name a c gtin serial n named coded party.1.1 numbered,
+)
 
 pub submit_asks : (name : List ℕ) (ts more : List Token) (n : ℕ) (message : Message) → kind_named name ≡ Some kinds.Submit
     → HasNumber ts fields.From n more → HasMessage more message last → Asks name ts (steps.Submit n message)

@@ -21,6 +21,10 @@ IsWhole text n = (number_of text ≡ Some (unsigned n)) × (n < 2 ^ 32)
 abbrev pub HasNumber : List Token → LineField → ℕ → List Token → Type 0
 HasNumber ts field n rest = (text : List ℕ) × IsWhole text n × (ts ≡ key (field_name field) ∷ number text ∷ rest)
 
+-- a field that is a text of which this holds comes first, then the rest
+abbrev pub HasText : List Token → LineField → (List ℕ → Type 0) → List Token → Type 0
+HasText ts field Holds rest = (text : List ℕ) × Holds text × (ts ≡ key (field_name field) ∷ string text ∷ rest)
+
 -- the message to submit comes first, then the rest
 abbrev pub HasMessage : List Token → Message → List Token → Type 0
 HasMessage ts message rest =

@@ -3,8 +3,10 @@
 ghost use Rattle.std.specs.Prelude.{◌≡◌, ◌∷◌, Ok, IfSome, IsTrue};
 ghost use Rattle.json.specs.Lex.{tokens};
 ghost use Rattle.json.specs.Token.{key, begin_object};
+ghost use Rattle.mv_pack.specs.Code.{read_code};
+ghost use Rattle.mv_pack.specs.Gtin.{read_gtin};
 ghost use Rattle.mv_lines.specs.Fields.{field_name};
-ghost use Rattle.mv_lines.specs.PlainLines.{HasNumber, HasMessage, AreLink, Asks, AreAsked, last};
+ghost use Rattle.mv_lines.specs.PlainLines.{HasNumber, HasText, HasMessage, AreLink, Asks, AreAsked, last};
 ghost use Rattle.mv_lines.specs.Requests.{read_line};
 ghost use Rattle.mv_lines.specs.declared.request.Request.TheVariants.{Step as AStep};
 
@@ -15,6 +17,7 @@ use mv_json::take_message;
 use mv_json::tokens::{take_text, take_whole, takes_key};
 use mv_machine::Step;
 use mv_message::{Message, Party, Shared};
+use mv_pack::{Gtin, PackKey, Serial};
 use std::alloc::Global;
 
 /// The step that a line asks, where it plainly asks one: its keys in byte order, each once, and its numbers whole. Any
@@ -83,12 +86,19 @@ fn step_of_kind(alloc: Global, reader: &mut Reader<'_>, name: &str) -> Option<St
             let (from, to) = take_link(reader)?;
             Some(Step::Lose { from, to })
         }
+        LineKind::Verify => {
+            let gtin = take_gtin(reader)?;
+            let party = take_number(reader, LineField::Party)?;
+            let serial = take_last_serial(reader)?;
+            let key = PackKey { gtin, serial };
+            Some(Step::Verify { party, key })
+        }
         LineKind::Verdict => {
             let party = take_number(reader, LineField::Party)?;
             let q = take_last_number(reader, LineField::Q)?;
             Some(Step::Verdict { party, q })
         }
-        LineKind::Open | LineKind::Verify => None,
+        LineKind::Open => None,
     }
 }
 
@@ -104,6 +114,32 @@ fn take_last_message(alloc: Global, reader: &mut Reader<'_>) -> Option<Shared<Me
         return None;
     }
     Shared::new(alloc, message).ok()
+}
+
+/// Takes the product code of a pack.
+fn take_gtin(reader: &mut Reader<'_>) -> Option<Gtin>
+    ensures { IfSome result (λ gtin.
+        HasText reader.old LineField.Gtin (λ text. read_gtin text ≡ Ok gtin) reader.new) }
+{
+    if !takes_field(reader, LineField::Gtin) {
+        return None;
+    }
+    Gtin::read(take_text(reader)?).ok()
+}
+
+/// Takes the serial number of a pack, where nothing follows.
+fn take_last_serial(reader: &mut Reader<'_>) -> Option<Serial>
+    ensures { IfSome result (λ serial.
+        HasText reader.old LineField.Serial (λ text. read_code text ≡ Ok serial) last) }
+{
+    if !takes_field(reader, LineField::Serial) {
+        return None;
+    }
+    let serial = Serial::read(take_text(reader)?).ok()?;
+    if !takes_end(reader) {
+        return None;
+    }
+    Some(serial)
 }
 
 /// Takes the two parties of a link, where nothing follows.

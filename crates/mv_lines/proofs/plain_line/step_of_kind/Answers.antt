@@ -1,5 +1,5 @@
 use Rattle.std.proofs.Common.{Some, ap, sym, ◌∙◌}
-use Rattle.mv_lines.proofs.PlainLineLemmas.{submit_asks, route_asks, relay_asks, apply_asks, repeat_asks, close_asks, lose_asks, verdict_asks}
+use Rattle.mv_lines.proofs.PlainLineLemmas.{submit_asks, route_asks, relay_asks, apply_asks, repeat_asks, close_asks, lose_asks, verify_asks, verdict_asks}
 use Rattle.mv_lines.proofs.plain_line.step_of_kind.Goals as goal
 
 pub returns-in_ok-message-in-Submit : goal.returns-in_ok-message-in-Submit
@@ -25,6 +25,11 @@ returns-in_ok-from-in-Close c = close_asks _ _ _ _ (sym c.in_ok-kind_called.ensu
 
 pub returns-in_ok-from-in-Lose : goal.returns-in_ok-from-in-Lose
 returns-in_ok-from-in-Lose c = lose_asks _ _ _ _ (sym c.in_ok-kind_called.ensures ∙ ap Some c.in-Lose.is) c.in_ok-from-in-Lose.ensures
+
+pub returns-in_ok-serial-in-Verify : goal.returns-in_ok-serial-in-Verify
+returns-in_ok-serial-in-Verify c =
+    verify_asks _ _ _ _ _ _ _ (sym c.in_ok-kind_called.ensures ∙ ap Some c.in-Verify.is)
+    c.in_ok-gtin-in-Verify.ensures c.in_ok-party-in-Verify.ensures c.in_ok-serial-in-Verify.ensures
 
 pub returns-in_ok-q-in-Verdict : goal.returns-in_ok-q-in-Verdict
 returns-in_ok-q-in-Verdict c =

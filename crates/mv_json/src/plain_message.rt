@@ -1,7 +1,7 @@
 //! Reads messages that are plainly written by their tokens, with no value in between.
 
 ghost use Rattle.std.specs.Prelude.{◌≡◌, ◌≤◌, ◌∷◌, length, IfSome, IsTrue, Ok, Some};
-ghost use Rattle.json.specs.Token.{begin_array, begin_object, end_object, key, string};
+ghost use Rattle.json.specs.Token.{begin_array, end_object, key, string};
 ghost use Rattle.mv_pack.specs.Code.{read_code};
 ghost use Rattle.mv_pack.specs.Expiry.{read_expiry};
 ghost use Rattle.mv_pack.specs.Gtin.{read_gtin};
@@ -15,7 +15,7 @@ ghost use Rattle.mv_json.specs.FieldMeanings.{IsFreeText};
 use crate::Field;
 use crate::lists::MOST_SERIALS;
 use crate::reading::{MOST_TEXT_BYTES, standing_named};
-use crate::tokens::{take_text, take_whole, takes_key};
+use crate::tokens::{take_text, take_whole, takes_key, takes_opening};
 use json::{Reader, Token};
 use mv_message::{Message, Serials, Standing, Text};
 use mv_pack::{Batch, Expiry, Gtin, Moment, PackKey, Serial};
@@ -216,13 +216,6 @@ fn take_key<'a>(reader: &mut Reader<'a>) -> Option<&'a str>
         Some(Token::Key(name)) => Some(name),
         _ => None,
     }
-}
-
-/// Takes the brace that opens an object, and says whether it was next.
-fn takes_opening(reader: &mut Reader<'_>) -> bool
-    ensures { IsTrue result → reader.old ≡ begin_object ∷ reader.new }
-{
-    matches!(reader.next(), Some(Token::BeginObject))
 }
 
 /// Takes the brace that closes an object, and says whether it was next.

@@ -1,17 +1,26 @@
 //! Takes the token that comes next, where it is of the kind that is looked for. Where it is not, it is gone all the same, so
 //! that whoever looked for it reads the text anew in another way.
 
-ghost use Rattle.std.specs.Prelude.{◌≡◌, ℕ, List, ◌∷◌, IfSome, IsTrue, Some};
-ghost use Rattle.json.specs.Token.{key, string, number};
+ghost use Rattle.std.specs.Prelude.{◌≡◌, ◌≢◌, ℕ, List, ◌∷◌, IfSome, IfNone, IsTrue, IsFalse, Some};
+ghost use Rattle.json.specs.Token.{Token as AToken, begin_object, key, string, number};
 ghost use Rattle.serde_json.specs.Data.{unsigned};
 ghost use Rattle.serde_json.specs.Read.{number_of};
 
 use fast_float::Numeral;
 use json::{Reader, Token};
 
+/// Takes the brace that opens an object, and says whether it was next.
+pub fn takes_opening(reader: &mut Reader<'_>) -> bool
+    ensures opening { IsTrue result → reader.old ≡ begin_object ∷ reader.new }
+    ensures other { IsFalse result → (rest : List AToken) → reader.old ≢ begin_object ∷ rest }
+{
+    matches!(reader.next(), Some(Token::BeginObject))
+}
+
 /// Takes the key that is next, and says whether it has that name.
 pub fn takes_key(reader: &mut Reader<'_>, name: &str) -> bool
-    ensures { IsTrue result → reader.old ≡ key name.now ∷ reader.new }
+    ensures key { IsTrue result → reader.old ≡ key name.now ∷ reader.new }
+    ensures other { IsFalse result → (rest : List AToken) → reader.old ≢ key name.now ∷ rest }
 {
     match reader.next() {
         Some(Token::Key(found)) => found == name,
@@ -21,7 +30,9 @@ pub fn takes_key(reader: &mut Reader<'_>, name: &str) -> bool
 
 /// Takes the text that is next.
 pub fn take_text<'a>(reader: &mut Reader<'a>) -> Option<&'a str>
-    ensures { IfSome result (λ text. reader.old ≡ string text.now ∷ reader.new) }
+    ensures text { IfSome result (λ text. reader.old ≡ string text.now ∷ reader.new) }
+    ensures none { IfNone result ((text : List ℕ) (rest : List AToken)
+        → reader.old ≢ string text ∷ rest) }
 {
     match reader.next() {
         Some(Token::String(text)) => Some(text),

@@ -1,8 +1,8 @@
-//! Reads lines that are plainly of a flat kind by their tokens, with no value in between.
+//! Reads lines that are plainly written by their tokens, with no value in between.
 
 ghost use Rattle.std.specs.Prelude.{◌≡◌, ◌∷◌, Ok, IfSome, IsTrue};
 ghost use Rattle.json.specs.Lex.{tokens};
-ghost use Rattle.json.specs.Token.{key, begin_object};
+ghost use Rattle.json.specs.Token.{key};
 ghost use Rattle.mv_pack.specs.Code.{read_code};
 ghost use Rattle.mv_pack.specs.Gtin.{read_gtin};
 ghost use Rattle.mv_lines.specs.Fields.{field_name};
@@ -14,7 +14,7 @@ use crate::LineField;
 use crate::kind::{LineKind, kind_called};
 use json::{Reader, Scratch, Token};
 use mv_json::take_message;
-use mv_json::tokens::{take_text, take_whole, takes_key};
+use mv_json::tokens::{take_text, take_whole, takes_key, takes_opening};
 use mv_machine::Step;
 use mv_message::{Message, Party, Shared};
 use mv_pack::{Gtin, PackKey, Serial};
@@ -177,13 +177,6 @@ fn takes_field(reader: &mut Reader<'_>, field: LineField) -> bool
     ensures { IsTrue result → reader.old ≡ key (field_name field) ∷ reader.new }
 {
     takes_key(reader, field.as_str())
-}
-
-/// Takes the brace that opens an object, and says whether it was next.
-fn takes_opening(reader: &mut Reader<'_>) -> bool
-    ensures { IsTrue result → reader.old ≡ begin_object ∷ reader.new }
-{
-    matches!(reader.next(), Some(Token::BeginObject))
 }
 
 /// Takes the brace that ends the object and the text, and says whether it was next.

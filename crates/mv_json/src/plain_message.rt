@@ -100,8 +100,18 @@ fn take_serials(alloc: Global, reader: &mut Reader<'_>) -> Option<Serials>
     if serials.is_empty() {
         return None;
     }
-    serials.shrink_to_fit();
-    Some(Serials::new(serials))
+    Some(Serials::new(fitted(serials)))
+}
+
+/// The same serial numbers in no more place than they take. One alone keeps the place of many: a message copies it out, and what is given
+/// back as a whole leaves no small part behind.
+fn fitted(mut serials: Vec<Serial>) -> Vec<Serial>
+    ensures { result.items ≡ serials.items }
+{
+    if serials.len() > 1 {
+        serials.shrink_to_fit();
+    }
+    serials
 }
 
 /// Takes a serial number of a list.

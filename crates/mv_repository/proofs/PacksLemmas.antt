@@ -1,6 +1,6 @@
 -- Lemmas on the slots of the packs, and on what is kept of each pack by them.
 use Rattle.std.specs.Prelude.{bytes_eq}
-use Rattle.std.proofs.Common.{◌≡◌, ◌≤◌, ◌<◌, ℕ, zero, suc, ◌+◌, List, [], ◌∷◌, ◌++◌, length, filter, take, get_or, refl, sym, ◌∙◌, ap, subst, arith, Bool, true, false, cond, ◌&&◌, ◌||◌, Option, Some, None, is_some, true≢false, slice_get, length-append, Result, Ok, Err, OnOk, OnErr}
+use Rattle.std.proofs.Common.{◌≡◌, ◌≤◌, ◌<◌, ℕ, zero, suc, ◌+◌, List, [], ◌∷◌, ◌++◌, length, filter, take, get_or, refl, sym, ◌∙◌, ap, subst, arith, Bool, true, false, cond, ◌&&◌, ◌||◌, Option, Some, None, is_some, true≢false, slice_get, Result, Ok, Err, OnOk, OnErr}
 use Rattle.std.specs.List.{count_by, list_any}
 use Rattle.std.specs.Map.{lookup, set_value}
 use Rattle.std.specs.Option.{option_map, unwrap_or}
@@ -21,12 +21,13 @@ use Rattle.mv_repository.specs.declared.slot.Slot.TheVariants.{Made, Own}
 use Rattle.mv_repository.specs.declared.held.Held.{Held}
 use Rattle.mv_repository.specs.declared.tally.Tally.{Tally}
 use Rattle.mv_pack.specs.Keys.{is_same_pack, pack_key}
+use Rattle.mv_repository.specs.Counts.{is_held_active}
 use Rattle.mv_repository.specs.PackState.{held_of, has_pack}
 use Rattle.mv_repository.specs.Stops.{StopTables, entry_at}
 use Rattle.mv_repository.specs.Tables.{IsUploadOf}
-use Rattle.mv_repository.specs.Packs.{Born, kept_born, kept_as, kept_table, IsWithin, AreWithin, IsBorn, is_own, is_own_in, IsPut, IsWrittenAnew, FindsTracked, is_in, is_of, batch_serials, is_birth, is_made_at, is_made_there, refreshed_in, IsSettled, AreSettled}
+use Rattle.mv_repository.specs.Packs.{kept_as, kept_table, is_own, is_own_in, IsPut, IsWrittenAnew, FindsTracked, is_in, is_of, batch_serials, is_birth, is_made_at, is_made_there, refreshed_in, IsSettled, AreSettled}
 use Rattle.mv_repository.specs.Tracked.{serials_in, has_serial, is_tracked, KeepsTracked}
-use Rattle.mv_repository.specs.Track.{Kept, nothing_kept, kept_in, pack_made_by, held_made_at, grown_at, marks_at, with_upload, refreshed, IsTrack, is_made, is_active_kept, one_if, IsTally}
+use Rattle.mv_repository.specs.Track.{Kept, born_at, kept_born, nothing_kept, kept_in, pack_made_by, held_made_at, grown_at, marks_at, with_upload, refreshed, IsTrack, is_made, is_active_kept, one_if, IsTally}
 use Rattle.mv_repository.proofs.KeptLemmas.{same_pack, pack-sym, pack-self, text-self, serials_more}
 use Rattle.mv_repository.proofs.TableLemmas.{longer, newest-stands}
 
@@ -180,37 +181,37 @@ written-apart {K} {L} test other (e ∷ es) list apart = by (test e.0) refl (wri
 
 -- what is kept, once a slot is written
 
-pub table-inserted : (births : List Born) (slots : List (PackKey × Slot)) (key : PackKey) (slot : Slot)
-    → kept_table births (insert_entry is_same_pack slots key slot) ≡ insert_entry is_same_pack (kept_table births slots) key (kept_as births slot)
-table-inserted births [] key slot = refl
-table-inserted births (e ∷ es) key slot = by (is_same_pack key e.0) (table-inserted births es key slot)
+pub table-inserted : (slots : List (PackKey × Slot)) (key : PackKey) (slot : Slot)
+    → kept_table (insert_entry is_same_pack slots key slot) ≡ insert_entry is_same_pack (kept_table slots) key (kept_as slot)
+table-inserted [] key slot = refl
+table-inserted (e ∷ es) key slot = by (is_same_pack key e.0) (table-inserted es key slot)
   where
-    by : (b : Bool) → kept_table births (insert_entry is_same_pack es key slot) ≡ insert_entry is_same_pack (kept_table births es) key (kept_as births slot)
-        → kept_table births (cond b ((e.0, slot) ∷ es) (e ∷ insert_entry is_same_pack es key slot))
-        ≡ cond b ((e.0, kept_as births slot) ∷ kept_table births es) ((e.0, kept_as births e.1) ∷ insert_entry is_same_pack (kept_table births es) key (kept_as births slot))
+    by : (b : Bool) → kept_table (insert_entry is_same_pack es key slot) ≡ insert_entry is_same_pack (kept_table es) key (kept_as slot)
+        → kept_table (cond b ((e.0, slot) ∷ es) (e ∷ insert_entry is_same_pack es key slot))
+        ≡ cond b ((e.0, kept_as slot) ∷ kept_table es) ((e.0, kept_as e.1) ∷ insert_entry is_same_pack (kept_table es) key (kept_as slot))
     by true r = refl
-    by false r = ap (λ (l : List (PackKey × Kept)). (e.0, kept_as births e.1) ∷ l) r
+    by false r = ap (λ (l : List (PackKey × Kept)). (e.0, kept_as e.1) ∷ l) r
 
-pub table-written : (births : List Born) (slots : List (PackKey × Slot)) (key : PackKey) (slot : Slot)
-    → kept_table births (set_value (is_same_pack key) slots slot) ≡ set_value (is_same_pack key) (kept_table births slots) (kept_as births slot)
-table-written births [] key slot = refl
-table-written births (e ∷ es) key slot = by (is_same_pack key e.0) (table-written births es key slot)
+pub table-written : (slots : List (PackKey × Slot)) (key : PackKey) (slot : Slot)
+    → kept_table (set_value (is_same_pack key) slots slot) ≡ set_value (is_same_pack key) (kept_table slots) (kept_as slot)
+table-written [] key slot = refl
+table-written (e ∷ es) key slot = by (is_same_pack key e.0) (table-written es key slot)
   where
-    by : (b : Bool) → kept_table births (set_value (is_same_pack key) es slot) ≡ set_value (is_same_pack key) (kept_table births es) (kept_as births slot)
-        → kept_table births (cond b ((e.0, slot) ∷ es) (e ∷ set_value (is_same_pack key) es slot))
-        ≡ cond b ((e.0, kept_as births slot) ∷ kept_table births es) ((e.0, kept_as births e.1) ∷ set_value (is_same_pack key) (kept_table births es) (kept_as births slot))
+    by : (b : Bool) → kept_table (set_value (is_same_pack key) es slot) ≡ set_value (is_same_pack key) (kept_table es) (kept_as slot)
+        → kept_table (cond b ((e.0, slot) ∷ es) (e ∷ set_value (is_same_pack key) es slot))
+        ≡ cond b ((e.0, kept_as slot) ∷ kept_table es) ((e.0, kept_as e.1) ∷ set_value (is_same_pack key) (kept_table es) (kept_as slot))
     by true r = refl
-    by false r = ap (λ (l : List (PackKey × Kept)). (e.0, kept_as births e.1) ∷ l) r
+    by false r = ap (λ (l : List (PackKey × Kept)). (e.0, kept_as e.1) ∷ l) r
 
 -- what is kept of a pack, by its slot
-abbrev pub kept_of : List Born → Option Slot → Kept
-kept_of births None = nothing_kept
-kept_of births (Some slot) = kept_as births slot
+abbrev pub kept_of : Option Slot → Kept
+kept_of None = nothing_kept
+kept_of (Some slot) = kept_as slot
 
-pub kept-by : (births : List Born) (slots : List (PackKey × Slot)) (p : PackKey) → kept_in p (kept_table births slots) ≡ kept_of births (lookup (is_same_pack p) slots)
-kept-by births slots p =
-    ap (λ (o : Option Kept). unwrap_or o nothing_kept) (lookup-map_values (kept_as births) (is_same_pack p) slots)
-    ∙ elim (lookup (is_same_pack p) slots) as (λ o. unwrap_or (option_map (kept_as births) o) nothing_kept ≡ kept_of births o) [ None ↦ refl | Some slot ↦ refl ]
+pub kept-by : (slots : List (PackKey × Slot)) (p : PackKey) → kept_in p (kept_table slots) ≡ kept_of (lookup (is_same_pack p) slots)
+kept-by slots p =
+    ap (λ (o : Option Kept). unwrap_or o nothing_kept) (lookup-map_values kept_as (is_same_pack p) slots)
+    ∙ elim (lookup (is_same_pack p) slots) as (λ o. unwrap_or (option_map kept_as o) nothing_kept ≡ kept_of o) [ None ↦ refl | Some slot ↦ refl ]
 
 pub kept-inserted : (es es' : List (PackKey × Kept)) (key : PackKey) (v : Kept) → es' ≡ insert_entry is_same_pack es key v
     → (p : PackKey) → kept_in p es' ≡ cond (is_same_pack key p) v (kept_in p es)
@@ -262,76 +263,24 @@ count-most {A = A} test xs = omega (arith, sym (length-filter test xs), shorter 
       | false ↦ omega (arith, shorter xs)
     ]
 
--- what the slots point at
-
-pub within-inserted : (n : ℕ) (slots : List (PackKey × Slot)) (key : PackKey) (slot : Slot) → IsWithin n slot → AreWithin n slots → AreWithin n (insert_entry is_same_pack slots key slot)
-within-inserted n [] key slot h w = (h, tt)
-within-inserted n (e ∷ es) key slot h w =
-    elim (is_same_pack key e.0) as (λ b. AreWithin n (cond b ((e.0, slot) ∷ es) (e ∷ insert_entry is_same_pack es key slot))) [
-      | true ↦ (h, w.1)
-      | false ↦ (w.0, within-inserted n es key slot h w.1)
-    ]
-
-pub within-found : (n : ℕ) (slots : List (PackKey × Slot)) (key : PackKey) (slot : Slot) → AreWithin n slots → lookup (is_same_pack key) slots ≡ Some slot → IsWithin n slot
-within-found n [] key slot w h = absurd (true≢false (sym (ap is_some h)))
-within-found n (e ∷ es) key slot w h = by (is_same_pack key e.0) h (λ f. within-found n es key slot w.1 f)
-  where
-    by : (b : Bool) → cond b (Some e.1) (lookup (is_same_pack key) es) ≡ Some slot → (lookup (is_same_pack key) es ≡ Some slot → IsWithin n slot) → IsWithin n slot
-    by true f r = subst (λ (o : Option Slot). IsWithin n (unwrap_or o slot)) f w.0
-    by false f r = r f
-
-pub within-written : (n : ℕ) (slots : List (PackKey × Slot)) (key : PackKey) (slot : Slot) → (AreWithin n slots → IsWithin n slot) → AreWithin n slots → AreWithin n (set_value (is_same_pack key) slots slot)
-within-written n slots key slot h w = by slots (h w) w
-  where
-    by : (slots : List (PackKey × Slot)) → IsWithin n slot → AreWithin n slots → AreWithin n (set_value (is_same_pack key) slots slot)
-    by [] h w = tt
-    by (e ∷ es) h w =
-        elim (is_same_pack key e.0) as (λ b. AreWithin n (cond b ((e.0, slot) ∷ es) (e ∷ set_value (is_same_pack key) es slot))) [
-          | true ↦ (h, w.1)
-          | false ↦ (w.0, by es h w.1)
-        ]
-
-pub within-more : (n m : ℕ) (slots : List (PackKey × Slot)) → n ≤ m → AreWithin n slots → AreWithin m slots
-within-more n m [] l w = tt
-within-more n m (e ∷ es) l w = (one e.1 w.0, within-more n m es l w.1)
-  where
-    one : (slot : Slot) → IsWithin n slot → IsWithin m slot
-    one (Made place) h = omega arith
-    one (Own track) h = tt
-
--- one more upload changes nothing of what the slots point at
-
-get-more : {A : Type 0} (xs : List A) (x : A) (n : ℕ) → n < length xs → slice_get (xs ++ x ∷ []) n ≡ slice_get xs n
-get-more [] x n l = absurd (omega arith)
-get-more (y ∷ ys) x zero l = refl
-get-more (y ∷ ys) x (suc n) l = get-more ys x n (omega arith)
-
 pub get-last : {A : Type 0} (xs : List A) (x : A) → slice_get (xs ++ x ∷ []) (length xs) ≡ Some x
 get-last [] x = refl
 get-last (y ∷ ys) x = get-last ys x
-
-pub table-more : (births : List Born) (birth : Born) (slots : List (PackKey × Slot)) → AreWithin (length births) slots → kept_table (births ++ birth ∷ []) slots ≡ kept_table births slots
-table-more births birth [] w = refl
-table-more births birth (e ∷ es) w = λ i. (e.0, one e.1 w.0 i) ∷ table-more births birth es w.1 i
-  where
-    one : (slot : Slot) → IsWithin (length births) slot → kept_as (births ++ birth ∷ []) slot ≡ kept_as births slot
-    one (Made place) h = ap (λ (o : Option Born). unwrap_or (option_map kept_born o) nothing_kept) (get-more births birth place h)
-    one (Own track) h = refl
-
--- the newest upload stands last among the uploads
-pub newest-born : (births : List Born) (birth : Born) (log : List LogEntry) (entry : LogEntry) → birth.place ≡ length log → birth.held ≡ option_map held_of (pack_made_by entry.item)
-    → IsBorn (births ++ birth ∷ []) (longer log entry) (length log) (length births)
-newest-born births birth log entry at made = record {
-  there = omega (arith, length-append births (birth ∷ []));
-  kept =
-      ap (λ (o : Option Born). unwrap_or (option_map kept_born o) nothing_kept) (get-last births birth)
-      ∙ (λ i. record { birth = Some (at i); places = []; marks = []; held = (made ∙ ap (λ (e : LogEntry). option_map held_of (pack_made_by e.item)) (sym (newest-stands log entry))) i });
-}
 
 -- an upload makes packs
 pub upload-made : (item : Item) (gtin : List ℕ) (serials : List (List ℕ)) → IsUploadOf item gtin serials → option_map held_of (pack_made_by item) ≡ None → ⊥
 upload-made (Carried k stamp (Upload named batch expiry national packs)) gtin serials is e = none-some _ (sym e)
 upload-made _ gtin serials is e = is
+
+-- the newest entry makes packs, where it is an upload
+pub newest-upload : (log : List LogEntry) (entry : LogEntry) (gtin : List ℕ) (serials : List (List ℕ)) → IsUploadOf entry.item gtin serials
+    → is_held_active (held_made_at (longer log entry) (length log)) ≡ true
+newest-upload log entry gtin serials is =
+    ap (λ (e : LogEntry). is_held_active (option_map held_of (pack_made_by e.item))) (newest-stands log entry) ∙ active entry.item is
+  where
+    active : (item : Item) → IsUploadOf item gtin serials → is_held_active (option_map held_of (pack_made_by item)) ≡ true
+    active (Carried k stamp (Upload named batch expiry national packs)) is = refl
+    active _ is = absurd is
 
 -- where one pack is written, the packs with a track of their own are found
 
@@ -415,16 +364,12 @@ moves-written test es es' key v was is e w i =
     ∙ (λ j. length-filter (λ e. test e.1) es j + one_if (sym (i ∙ ap (λ (l : List (PackKey × Kept)). test (kept_in key l)) e) j))
 
 -- a pack that no status names has no place of a status
-unowned : (births : List Born) (slots : List (PackKey × Slot)) (p : PackKey) → is_own_in p slots ≡ false → (kept_in p (kept_table births slots)).places ≡ []
-unowned births slots p h = ap (λ (k : Kept). k.places) (kept-by births slots p) ∙ by (lookup (is_same_pack p) slots) h
+unowned : (slots : List (PackKey × Slot)) (p : PackKey) → is_own_in p slots ≡ false → (kept_in p (kept_table slots)).places ≡ []
+unowned slots p h = ap (λ (k : Kept). k.places) (kept-by slots p) ∙ by (lookup (is_same_pack p) slots) h
   where
-    made : (o : Option Born) → (unwrap_or (option_map kept_born o) nothing_kept).places ≡ []
-    made None = refl
-    made (Some birth) = refl
-
-    by : (o : Option Slot) → unwrap_or (option_map is_own o) false ≡ false → (kept_of births o).places ≡ []
+    by : (o : Option Slot) → unwrap_or (option_map is_own o) false ≡ false → (kept_of o).places ≡ []
     by None e = refl
-    by (Some (Made place)) e = made (slice_get births place)
+    by (Some (Made birth)) e = refl
     by (Some (Own track)) e = absurd (true≢false e)
 
 module _ (log : List LogEntry) (tables : StopTables) (maker : Option ℕ) where
@@ -487,20 +432,20 @@ module _ (log : List LogEntry) (tables : StopTables) where
       by false false = refl
 
   -- where the packs of a product that statuses name are worked out, all of the product are
-  pub again-all : (births : List Born) (slots : List (PackKey × Slot)) (packs' : List (PackKey × Kept)) (products : List (List ℕ × List (List ℕ))) (gtin : List ℕ) → FindsTracked slots products
-      → AreSettled log tables (kept_table births slots)
-      → ((p : PackKey) → kept_in p packs' ≡ cond (has_pack gtin (serials_in (bytes_eq gtin) products) p) (refreshed_in log tables None p (kept_in p (kept_table births slots))) (kept_in p (kept_table births slots)))
-      → (p : PackKey) → kept_in p packs' ≡ cond (is_of gtin None p (kept_in p (kept_table births slots))) (refreshed log tables p (kept_in p (kept_table births slots))) (kept_in p (kept_table births slots))
-  again-all births slots packs' products gtin finds settled looks p = looks p ∙ by (bytes_eq gtin p.gtin) refl
+  pub again-all : (slots : List (PackKey × Slot)) (packs' : List (PackKey × Kept)) (products : List (List ℕ × List (List ℕ))) (gtin : List ℕ) → FindsTracked slots products
+      → AreSettled log tables (kept_table slots)
+      → ((p : PackKey) → kept_in p packs' ≡ cond (has_pack gtin (serials_in (bytes_eq gtin) products) p) (refreshed_in log tables None p (kept_in p (kept_table slots))) (kept_in p (kept_table slots)))
+      → (p : PackKey) → kept_in p packs' ≡ cond (is_of gtin None p (kept_in p (kept_table slots))) (refreshed log tables p (kept_in p (kept_table slots))) (kept_in p (kept_table slots))
+  again-all slots packs' products gtin finds settled looks p = looks p ∙ by (bytes_eq gtin p.gtin) refl
     where
       kept : Kept
-      kept = kept_in p (kept_table births slots)
+      kept = kept_in p (kept_table slots)
 
       among : List ℕ → Bool
       among named = list_any (λ serial. bytes_eq serial p.serial) (serials_in (bytes_eq named) products)
 
       still : is_own_in p slots ≡ false → (c : Bool) → kept ≡ cond c (refreshed log tables p kept) kept
-      still h true = sym (settled p (unowned births slots p h))
+      still h true = sym (settled p (unowned slots p h))
       still h false = refl
 
       own : (b : Bool) → is_own_in p slots ≡ b → is_tracked p products ≡ false → is_own_in p slots ≡ false
@@ -532,11 +477,11 @@ module _ (log : List LogEntry) (tables : StopTables) where
 
 -- what stands for a pack
 
-pub found-kept : (births : List Born) (slots : List (PackKey × Slot)) (key : PackKey) (slot : Slot) → lookup (is_same_pack key) slots ≡ Some slot → kept_in key (kept_table births slots) ≡ kept_as births slot
-found-kept births slots key slot h = kept-by births slots key ∙ ap (kept_of births) h
+pub found-kept : (slots : List (PackKey × Slot)) (key : PackKey) (slot : Slot) → lookup (is_same_pack key) slots ≡ Some slot → kept_in key (kept_table slots) ≡ kept_as slot
+found-kept slots key slot h = kept-by slots key ∙ ap kept_of h
 
-pub absent-kept : (births : List Born) (slots : List (PackKey × Slot)) (key : PackKey) → lookup (is_same_pack key) slots ≡ None → kept_in key (kept_table births slots) ≡ nothing_kept
-absent-kept births slots key h = kept-by births slots key ∙ ap (kept_of births) h
+pub absent-kept : (slots : List (PackKey × Slot)) (key : PackKey) → lookup (is_same_pack key) slots ≡ None → kept_in key (kept_table slots) ≡ nothing_kept
+absent-kept slots key h = kept-by slots key ∙ ap kept_of h
 
 pub none-own : (slots : List (PackKey × Slot)) (key : PackKey) → lookup (is_same_pack key) slots ≡ None → is_own_in key slots ≡ false
 none-own slots key h = ap (λ (o : Option Slot). unwrap_or (option_map is_own o) false) h
@@ -545,37 +490,40 @@ pub found-own : (slots : List (PackKey × Slot)) (key : PackKey) (slot : Slot) �
 found-own slots key slot h = ap (λ (o : Option Slot). unwrap_or (option_map is_own o) false) h
 
 -- a pack that the newest upload makes is as that upload makes it
-pub born-fresh : (births : List Born) (log : List LogEntry) (tables : StopTables) (key : PackKey) (new at : ℕ) (kept : Kept) → IsBorn births log new at → kept ≡ nothing_kept
-    → kept_as births (Made at) ≡ with_upload log tables key new kept
-born-fresh births log tables key new at kept born none =
-    born.kept ∙ (λ i. record { birth = Some new; places = []; marks = []; held = same (held_made_at log new) i }) ∙ ap (with_upload log tables key new) (sym none)
+pub born-fresh : (log : List LogEntry) (tables : StopTables) (key : PackKey) (new : ℕ) (kept : Kept) → kept ≡ nothing_kept
+    → kept_born (born_at log new) ≡ with_upload log tables key new kept
+born-fresh log tables key new kept none =
+    (λ i. record { birth = Some new; places = []; marks = []; held = same (held_made_at log new) i }) ∙ ap (with_upload log tables key new) (sym none)
   where
     same : (o : Option Held) → o ≡ option_map (λ held. held) o
     same None = refl
     same (Some held) = refl
 
+-- an upload that makes packs stands in its log
+pub upload-there : (log : List LogEntry) (place : ℕ) → is_held_active (held_made_at log place) ≡ true → place < length log
+upload-there [] place h = absurd (true≢false (sym h))
+upload-there (entry ∷ log) zero h = omega arith
+upload-there (entry ∷ log) (suc place) h = omega (arith, upload-there log place h)
+
 -- a table once a slot is put in
-module _ (births : List Born) (old new : List (PackKey × Slot)) (key : PackKey) (kept : Kept) (own : Bool) (put : IsPut births old new key kept own) where
-  put-table : kept_table births new ≡ insert_entry is_same_pack (kept_table births old) key kept
-  put-table = ap (kept_table births) put.entries ∙ table-inserted births old key put.slot ∙ ap (insert_entry is_same_pack (kept_table births old) key) put.kept_is
+module _ (old new : List (PackKey × Slot)) (key : PackKey) (kept : Kept) (own : Bool) (put : IsPut old new key kept own) where
+  put-table : kept_table new ≡ insert_entry is_same_pack (kept_table old) key kept
+  put-table = ap kept_table put.entries ∙ table-inserted old key put.slot ∙ ap (insert_entry is_same_pack (kept_table old) key) put.kept_is
 
-  pub put-kept : (p : PackKey) → kept_in p (kept_table births new) ≡ cond (is_same_pack key p) kept (kept_in p (kept_table births old))
-  put-kept = kept-inserted (kept_table births old) (kept_table births new) key kept put-table
+  pub put-kept : (p : PackKey) → kept_in p (kept_table new) ≡ cond (is_same_pack key p) kept (kept_in p (kept_table old))
+  put-kept = kept-inserted (kept_table old) (kept_table new) key kept put-table
 
-  pub put-moves : (test : Kept → Bool) (was is : Bool) → test nothing_kept ≡ false → was ≡ test (kept_in key (kept_table births old)) → is ≡ test kept → Moves test (kept_table births old) (kept_table births new) was is
+  pub put-moves : (test : Kept → Bool) (was is : Bool) → test nothing_kept ≡ false → was ≡ test (kept_in key (kept_table old)) → is ≡ test kept → Moves test (kept_table old) (kept_table new) was is
   put-moves test was is none w i =
-      moves-inserted test (kept_table births old) (kept_table births new) key kept was is none put-table w
-      (i ∙ ap test (sym (put-kept key ∙ ap (λ b. cond b kept (kept_in key (kept_table births old))) (pack-self key))))
+      moves-inserted test (kept_table old) (kept_table new) key kept was is none put-table w
+      (i ∙ ap test (sym (put-kept key ∙ ap (λ b. cond b kept (kept_in key (kept_table old))) (pack-self key))))
 
-  pub put-within : AreWithin (length births) old → AreWithin (length births) new
-  put-within w = subst (AreWithin (length births)) (sym put.entries) (within-inserted (length births) old key put.slot (put.within w) w)
+pub put-own : (old new : List (PackKey × Slot)) (key : PackKey) (kept : Kept) → IsPut old new key kept (is_own_in key old) → (p : PackKey) → is_own_in p new ≡ is_own_in p old
+put-own old new key kept put p = ap (is_own_in p) put.entries ∙ own-inserted old key put.slot put.own_is p
 
-pub put-own : (births : List Born) (old new : List (PackKey × Slot)) (key : PackKey) (kept : Kept) → IsPut births old new key kept (is_own_in key old) → (p : PackKey) → is_own_in p new ≡ is_own_in p old
-put-own births old new key kept put p = ap (is_own_in p) put.entries ∙ own-inserted old key put.slot put.own_is p
-
-pub put-finds : (births : List Born) (old new : List (PackKey × Slot)) (key : PackKey) (kept : Kept) (own : Bool) (products products' : List (List ℕ × List (List ℕ))) → IsPut births old new key kept own
+pub put-finds : (old new : List (PackKey × Slot)) (key : PackKey) (kept : Kept) (own : Bool) (products products' : List (List ℕ × List (List ℕ))) → IsPut old new key kept own
     → KeepsTracked products products' → (is_own_in key old ≡ false → is_tracked key products' ≡ true) → FindsTracked old products → FindsTracked new products'
-put-finds births old new key kept own products products' put keeps added finds =
+put-finds old new key kept own products products' put keeps added finds =
     subst (λ (slots : List (PackKey × Slot)). FindsTracked slots products') (sym put.entries) (finds-inserted old key put.slot products products' keeps added finds)
 
 -- a table once a slot is written anew
@@ -589,35 +537,28 @@ written-absent {X = X} (e ∷ es) key v h = by (is_same_pack key e.0) h (written
     by true f r = absurd (none-some _ (sym f))
     by false f r = ap (λ (l : List (PackKey × X)). e ∷ l) (r f)
 
-module _ (births : List Born) (old new : List (PackKey × Slot)) (key : PackKey) (f : Kept → Kept) (none : f nothing_kept ≡ nothing_kept)
-    (written : IsWrittenAnew births old new key (f (kept_in key (kept_table births old)))) where
-  written-table : kept_table births new ≡ set_value (is_same_pack key) (kept_table births old) (f (kept_in key (kept_table births old)))
+module _ (old new : List (PackKey × Slot)) (key : PackKey) (f : Kept → Kept) (none : f nothing_kept ≡ nothing_kept)
+    (written : IsWrittenAnew old new key (f (kept_in key (kept_table old)))) where
+  written-table : kept_table new ≡ set_value (is_same_pack key) (kept_table old) (f (kept_in key (kept_table old)))
   written-table =
-      ap (kept_table births) written.entries ∙ table-written births old key written.slot
+      ap kept_table written.entries ∙ table-written old key written.slot
       ∙ by (lookup (is_same_pack key) old) refl
     where
       by : (o : Option Slot) → lookup (is_same_pack key) old ≡ o
-          → set_value (is_same_pack key) (kept_table births old) (kept_as births written.slot) ≡ set_value (is_same_pack key) (kept_table births old) (f (kept_in key (kept_table births old)))
+          → set_value (is_same_pack key) (kept_table old) (kept_as written.slot) ≡ set_value (is_same_pack key) (kept_table old) (f (kept_in key (kept_table old)))
       by None e =
-          let absent : lookup (is_same_pack key) (kept_table births old) ≡ None = lookup-map_values (kept_as births) (is_same_pack key) old ∙ ap (option_map (kept_as births)) e in
-          written-absent (kept_table births old) key (kept_as births written.slot) absent
-          ∙ sym (written-absent (kept_table births old) key (f (kept_in key (kept_table births old))) absent)
-      by (Some slot) e = ap (set_value (is_same_pack key) (kept_table births old)) (written.kept_is (ap is_some e))
+          let absent : lookup (is_same_pack key) (kept_table old) ≡ None = lookup-map_values kept_as (is_same_pack key) old ∙ ap (option_map kept_as) e in
+          written-absent (kept_table old) key (kept_as written.slot) absent
+          ∙ sym (written-absent (kept_table old) key (f (kept_in key (kept_table old))) absent)
+      by (Some slot) e = ap (set_value (is_same_pack key) (kept_table old)) (written.kept_is (ap is_some e))
 
-  pub written-kept : (p : PackKey) → kept_in p (kept_table births new) ≡ cond (is_same_pack key p) (f (kept_in key (kept_table births old))) (kept_in p (kept_table births old))
-  written-kept = kept-written f (kept_table births old) (kept_table births new) key none written-table
+  pub written-kept : (p : PackKey) → kept_in p (kept_table new) ≡ cond (is_same_pack key p) (f (kept_in key (kept_table old))) (kept_in p (kept_table old))
+  written-kept = kept-written f (kept_table old) (kept_table new) key none written-table
 
-  pub written-moves : (test : Kept → Bool) (was is : Bool) → was ≡ test (kept_in key (kept_table births old)) → is ≡ test (f (kept_in key (kept_table births old))) → Moves test (kept_table births old) (kept_table births new) was is
+  pub written-moves : (test : Kept → Bool) (was is : Bool) → was ≡ test (kept_in key (kept_table old)) → is ≡ test (f (kept_in key (kept_table old))) → Moves test (kept_table old) (kept_table new) was is
   written-moves test was is w i =
-      moves-written test (kept_table births old) (kept_table births new) key (f (kept_in key (kept_table births old))) was is written-table w
-      (i ∙ ap test (sym (written-kept key ∙ ap (λ b. cond b (f (kept_in key (kept_table births old))) (kept_in key (kept_table births old))) (pack-self key))))
-
-  pub written-within : AreWithin (length births) old → AreWithin (length births) new
-  written-within w = subst (AreWithin (length births)) (sym written.entries) (by (lookup (is_same_pack key) old) refl)
-    where
-      by : (o : Option Slot) → lookup (is_same_pack key) old ≡ o → AreWithin (length births) (set_value (is_same_pack key) old written.slot)
-      by None e = subst (AreWithin (length births)) (sym (written-absent old key written.slot e)) w
-      by (Some slot) e = within-written (length births) old key written.slot (written.within (ap is_some e)) w
+      moves-written test (kept_table old) (kept_table new) key (f (kept_in key (kept_table old))) was is written-table w
+      (i ∙ ap test (sym (written-kept key ∙ ap (λ b. cond b (f (kept_in key (kept_table old))) (kept_in key (kept_table old))) (pack-self key))))
 
   pub written-own : (p : PackKey) → is_own_in p new ≡ is_own_in p old
   written-own p = ap (is_own_in p) written.entries ∙ own-written old key written.slot written.own_is p
@@ -625,13 +566,13 @@ module _ (births : List Born) (old new : List (PackKey × Slot)) (key : PackKey)
 -- the tally of a table, once one pack is written
 
 -- a tally is no greater than the table
-pub tally-most : (births : List Born) (slots : List (PackKey × Slot)) (tally : Tally) (most : ℕ) → IsTally (kept_table births slots) tally → length slots ≤ most → (tally.held ≤ most) × (tally.active ≤ most)
-tally-most births slots tally most t l = (
-  omega (arith, t.held, count-most (λ (entry : PackKey × Kept). is_made entry.1) (kept_table births slots), long slots),
-  omega (arith, t.active, count-most (λ (entry : PackKey × Kept). is_active_kept entry.1) (kept_table births slots), long slots),
+pub tally-most : (slots : List (PackKey × Slot)) (tally : Tally) (most : ℕ) → IsTally (kept_table slots) tally → length slots ≤ most → (tally.held ≤ most) × (tally.active ≤ most)
+tally-most slots tally most t l = (
+  omega (arith, t.held, count-most (λ (entry : PackKey × Kept). is_made entry.1) (kept_table slots), long slots),
+  omega (arith, t.active, count-most (λ (entry : PackKey × Kept). is_active_kept entry.1) (kept_table slots), long slots),
 )
   where
-    long : (es : List (PackKey × Slot)) → length (kept_table births es) ≡ length es
+    long : (es : List (PackKey × Slot)) → length (kept_table es) ≡ length es
     long [] = refl
     long (e ∷ es) = omega (arith, long es)
 
@@ -644,10 +585,6 @@ tally-moved es es' tally tally' was is was' is' t h a h' a' = record {
 
 pub moves-least : (test : Kept → Bool) (es es' : List (PackKey × Kept)) (total : ℕ) (was is : Bool) → total ≡ count_by (λ e. test e.1) es → Moves test es es' was is → one_if was ≤ total + one_if is
 moves-least test es es' total was is t m = omega (arith, t, m)
-
-pub own-within : (n : ℕ) (slot : Slot) → is_own slot ≡ true → IsWithin n slot
-own-within n (Made place) h = absurd (true≢false (sym h))
-own-within n (Own track) h = tt
 
 -- what a result holds may say more
 pub on-ok : {A E : Type 0} {P Q : Type 0} → (P → Q) → (r : Result A E) → OnOk r P → OnOk r Q

@@ -17,7 +17,7 @@ use Rattle.mv_repository.specs.declared.slot.Slot.{Slot}
 use Rattle.mv_repository.specs.declared.slots.PackName.{PackName}
 use Rattle.mv_pack.specs.Keys.{is_same_pack, pack_key}
 use Rattle.mv_repository.specs.PackState.{has_pack}
-use Rattle.mv_repository.specs.Packs.{Born, kept_table, refreshed_in}
+use Rattle.mv_repository.specs.Packs.{kept_table, refreshed_in}
 use Rattle.mv_repository.specs.Stops.{StopTables}
 use Rattle.mv_repository.specs.Track.{Kept, kept_in}
 use Rattle.mv_repository.specs.Slots.{is_same_name, pack_named, pack_slots, AreNamed, IsNamed, HasNoPackOf}
@@ -208,16 +208,16 @@ module _ (products products' : List (List ℕ)) (gtin : List ℕ) (absent : list
       record { named = named-more (length products) (length products') slots (omega arith) named.named; distinct = distinct; few = omega arith }
 
 -- where nothing stands for any pack of a product, working its packs out again changes nothing
-pub none-refreshed : (log : List LogEntry) (tables : StopTables) (maker : Option ℕ) (births : List Born) (slots : List (PackKey × Slot)) (gtin : List ℕ) (serials : List (List ℕ)) → HasNoPackOf gtin slots
-    → (p : PackKey) → kept_in p (kept_table births slots) ≡ cond (has_pack gtin serials p) (refreshed_in log tables maker p (kept_in p (kept_table births slots))) (kept_in p (kept_table births slots))
-none-refreshed log tables maker births slots gtin serials none p = by (bytes_eq gtin p.gtin) (list_any (λ serial. bytes_eq serial p.serial) serials) refl
+pub none-refreshed : (log : List LogEntry) (tables : StopTables) (maker : Option ℕ) (slots : List (PackKey × Slot)) (gtin : List ℕ) (serials : List (List ℕ)) → HasNoPackOf gtin slots
+    → (p : PackKey) → kept_in p (kept_table slots) ≡ cond (has_pack gtin serials p) (refreshed_in log tables maker p (kept_in p (kept_table slots))) (kept_in p (kept_table slots))
+none-refreshed log tables maker slots gtin serials none p = by (bytes_eq gtin p.gtin) (list_any (λ serial. bytes_eq serial p.serial) serials) refl
   where
     kept : Kept
-    kept = kept_in p (kept_table births slots)
+    kept = kept_in p (kept_table slots)
 
     by : (b c : Bool) → bytes_eq gtin p.gtin ≡ b → kept ≡ cond (b && c) (refreshed_in log tables maker p kept) kept
     by true true e =
-        let empty = absent-kept births slots p (none p e) in
+        let empty = absent-kept slots p (none p e) in
         empty ∙ sym (refreshed-nothing log tables maker p) ∙ ap (refreshed_in log tables maker p) (sym empty)
     by true false e = refl
     by false c e = refl

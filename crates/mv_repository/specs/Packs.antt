@@ -1,13 +1,11 @@
 -- The table of packs: a pack is as an upload made it until a status names it, and has a track of its own from then on.
-use Rattle.std.specs.Bool.{⊤}
-use Rattle.std.specs.Prelude.{◌≡◌, ◌<◌, ℕ, List, [], ◌∷◌, map, length, slice_get, Bool, true, false, nat_eq, ◌&&◌, Option, Some, None, IfSome, is_some, if◌then◌else◌, bytes_eq}
+use Rattle.std.specs.Prelude.{◌≡◌, ℕ, List, [], map, Bool, true, false, nat_eq, ◌&&◌, Option, Some, None, IfSome, is_some, if◌then◌else◌, bytes_eq}
 use Rattle.std.specs.List.{list_any}
 use Rattle.mv_pack.specs.declared.key.BatchKey.{BatchKey}
 use Rattle.std.specs.Map.{lookup, set_value}
 use Rattle.indexmap.specs.IndexMap.{insert_entry}
 use Rattle.std.specs.Option.{option_map, unwrap_or}
 use Rattle.mv_pack.specs.declared.key.PackKey.{PackKey}
-use Rattle.mv_message.specs.declared.message.Message.{Message}
 use Rattle.mv_message.specs.declared.message.Message.TheVariants.{Upload}
 use Rattle.mv_link.specs.declared.item.Item.{Item}
 use Rattle.mv_link.specs.declared.item.Item.TheVariants.{Carried}
@@ -17,50 +15,24 @@ use Rattle.mv_repository.specs.declared.slot.Slot.{Slot}
 use Rattle.mv_repository.specs.declared.slot.Slot.TheVariants.{Made, Own}
 use Rattle.mv_repository.specs.declared.tally.Tally.{Tally}
 use Rattle.mv_pack.specs.Keys.{is_same_pack, batch_key}
-use Rattle.mv_repository.specs.PackState.{has_pack, held_of}
+use Rattle.mv_repository.specs.PackState.{has_pack}
 use Rattle.mv_repository.specs.Batches.{is_listed}
 use Rattle.mv_repository.specs.Stops.{StopTables, entry_at}
 use Rattle.mv_repository.specs.Tracked.{is_tracked}
-use Rattle.mv_repository.specs.Track.{Kept, is_upload_of, uploaded_batch, nothing_kept, kept_in, held_made_at, pack_made_of, refreshed, IsTrack, IsTally}
-
--- an upload, by its place in the log, and what each pack is that it makes
-pub record Born : Type 0 where
-  pub place : ℕ
-  pub held : Option Held
-
-abbrev pub born_by : ℕ → Message → Born
-born_by place message = record { place = place; held = option_map held_of (pack_made_of message) }
-
--- what is kept of a pack that is as an upload made it
-abbrev pub kept_born : Born → Kept
-kept_born birth = record { birth = Some birth.place; places = []; marks = []; held = birth.held }
+use Rattle.mv_repository.specs.Track.{Kept, kept_born, is_upload_of, uploaded_batch, kept_in, held_made_at, refreshed, IsTrack, IsTally}
 
 -- what is kept of a pack, by what stands in the table
-abbrev pub kept_as : List Born → Slot → Kept
-kept_as births (Made place) = unwrap_or (option_map kept_born (slice_get births place)) nothing_kept
-kept_as births (Own track) = track.value
+abbrev pub kept_as : Slot → Kept
+kept_as (Made birth) = kept_born birth
+kept_as (Own track) = track.value
 
 -- the table, with what is kept of each pack
-abbrev pub kept_table : List Born → List (PackKey × Slot) → List (PackKey × Kept)
-kept_table births slots = map (λ entry. (entry.0, kept_as births entry.1)) slots
-
--- what a slot points at is there
-abbrev pub IsWithin : ℕ → Slot → Type 0
-IsWithin count (Made place) = place < count
-IsWithin count (Own track) = ⊤
-
-abbrev pub AreWithin : ℕ → List (PackKey × Slot) → Type 0
-AreWithin count [] = ⊤
-AreWithin count (entry ∷ rest) = IsWithin count entry.1 × AreWithin count rest
-
--- the newest entry, an upload, stands at a place among the uploads
-pub record IsBorn (births : List Born) (log : List LogEntry) (new at : ℕ) : Type 0 where
-  pub there : at < length births
-  pub kept : kept_as births (Made at) ≡ record { birth = Some new; places = []; marks = []; held = held_made_at log new }
+abbrev pub kept_table : List (PackKey × Slot) → List (PackKey × Kept)
+kept_table slots = map (λ entry. (entry.0, kept_as entry.1)) slots
 
 -- a pack has a track of its own
 abbrev pub is_own : Slot → Bool
-is_own (Made place) = false
+is_own (Made birth) = false
 is_own (Own track) = true
 
 abbrev pub is_own_in : PackKey → List (PackKey × Slot) → Bool
@@ -71,19 +43,17 @@ abbrev pub FindsTracked : List (PackKey × Slot) → List (List ℕ × List (Lis
 FindsTracked slots products = (pack : PackKey) → is_own_in pack slots ≡ true → is_tracked pack products ≡ true
 
 -- one slot was put in: the pack has what is kept by it
-pub record IsPut (births : List Born) (old new : List (PackKey × Slot)) (key : PackKey) (kept : Kept) (own : Bool) : Type 0 where
+pub record IsPut (old new : List (PackKey × Slot)) (key : PackKey) (kept : Kept) (own : Bool) : Type 0 where
   pub slot : Slot
   pub entries : new ≡ insert_entry is_same_pack old key slot
-  pub kept_is : kept_as births slot ≡ kept
-  pub within : AreWithin (length births) old → IsWithin (length births) slot
+  pub kept_is : kept_as slot ≡ kept
   pub own_is : is_own slot ≡ own
 
 -- one slot was written, where there is one: the pack has what is kept by it, and a track of its own only if it had one
-pub record IsWrittenAnew (births : List Born) (old new : List (PackKey × Slot)) (key : PackKey) (kept : Kept) : Type 0 where
+pub record IsWrittenAnew (old new : List (PackKey × Slot)) (key : PackKey) (kept : Kept) : Type 0 where
   pub slot : Slot
   pub entries : new ≡ set_value (is_same_pack key) old slot
-  pub kept_is : is_some (lookup (is_same_pack key) old) ≡ true → kept_as births slot ≡ kept
-  pub within : is_some (lookup (is_same_pack key) old) ≡ true → AreWithin (length births) old → IsWithin (length births) slot
+  pub kept_is : is_some (lookup (is_same_pack key) old) ≡ true → kept_as slot ≡ kept
   pub own_is : is_some (lookup (is_same_pack key) old) ≡ true → is_own slot ≡ is_own_in key old
 
 -- the upload that made a pack is listed under the batch of the pack
@@ -134,12 +104,11 @@ is_made_at log batch places pack birth =
     places
 
 -- what stands in the parts of the table belongs together
-pub record IsTable (births : List Born) (slots : List (PackKey × Slot)) (products : List (List ℕ × List (List ℕ)))
+pub record IsTable (slots : List (PackKey × Slot)) (products : List (List ℕ × List (List ℕ)))
     (uploads : List (BatchKey × List ℕ)) (count : Tally) : Type 0 where
-  pub within : AreWithin (length births) slots
   pub tracked : FindsTracked slots products
-  pub listed : AreFound uploads (kept_table births slots)
-  pub tally : IsTally (kept_table births slots) count
+  pub listed : AreFound uploads (kept_table slots)
+  pub tally : IsTally (kept_table slots) count
 
 -- a pack is of a batch, where one is named
 abbrev pub is_held_in : List ℕ → Option Held → Bool

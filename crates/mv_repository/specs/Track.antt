@@ -6,7 +6,6 @@ use Rattle.mv_repository.specs.declared.tally.Tally.{Tally}
 use Rattle.std.specs.Option.{option_map, unwrap_or}
 use Rattle.mv_pack.specs.declared.key.PackKey.{PackKey}
 use Rattle.mv_pack.specs.declared.key.BatchKey.{BatchKey}
-use Rattle.mv_message.specs.declared.message.Message.{Message}
 use Rattle.mv_message.specs.declared.message.Message.TheVariants.{Upload, Status}
 use Rattle.mv_link.specs.declared.item.Item.{Item}
 use Rattle.mv_link.specs.declared.item.Item.TheVariants.{Carried}
@@ -46,13 +45,9 @@ first_upload pack entries = find (λ placed. is_upload_of pack placed.entry.item
 abbrev pub statuses_of : PackKey → List Placed → List Placed
 statuses_of pack entries = filter (λ placed. is_status_of pack placed.entry.item) entries
 
--- the pack that an upload makes; none where a message, or what an item carries, is no upload
-abbrev pub pack_made_of : Message → Option KnownPack
-pack_made_of (Upload gtin batch expiry national serials) = Some (new_pack batch expiry national)
-pack_made_of _ = None
-
+-- the pack that an upload makes; none where an item is no upload
 abbrev pub pack_made_by : Item → Option KnownPack
-pack_made_by (Carried k stamp message) = pack_made_of message
+pack_made_by (Carried k stamp (Upload gtin batch expiry national serials)) = Some (new_pack batch expiry national)
 pack_made_by _ = None
 
 -- a pack that is held, once an entry follows that may be a status of it
@@ -158,6 +153,22 @@ pub record Kept : Type 0 where
   pub places : List ℕ
   pub marks : List ℕ
   pub held : Option Held
+
+-- an upload, by its place in the log, and what each pack is that it makes
+pub record Born : Type 0 where
+  pub place : ℕ
+  pub held : Option Held
+
+abbrev pub born_by : ℕ → Item → Born
+born_by place item = record { place = place; held = option_map held_of (pack_made_by item) }
+
+-- what is kept of a pack that is as an upload made it
+abbrev pub kept_born : Born → Kept
+kept_born birth = record { birth = Some birth.place; places = []; marks = []; held = birth.held }
+
+-- the upload at a place of the log
+abbrev pub born_at : List LogEntry → ℕ → Born
+born_at log place = born_by place (entry_at log place).entry.item
 
 -- the effect of a status of a pack that is held, where the status stands; nothing else has one
 abbrev pub effect_at : List LogEntry → FirstStops → PackKey → Held → Placed → Effect

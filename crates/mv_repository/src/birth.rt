@@ -1,17 +1,13 @@
-//! An upload, by which packs are as it made them. The table of packs has one for all packs of an upload.
+//! An upload, by which a pack is as it made it. The table of packs has one for each pack that no status names.
 
-ghost use Rattle.std.specs.Prelude.{◌≡◌, Some, true};
-ghost use Rattle.std.specs.Option.{option_map};
-ghost use Rattle.mv_repository.specs.PackState.{held_of};
+ghost use Rattle.std.specs.Prelude.{◌≡◌, true};
 ghost use Rattle.mv_repository.specs.Counts.{is_held_active};
-ghost use Rattle.mv_repository.specs.Packs.{kept_born};
-ghost use Rattle.mv_repository.specs.Track.{pack_made_by, held_made_at, is_made, is_active_kept};
+ghost use Rattle.mv_repository.specs.Track.{held_made_at, born_at, kept_born, is_made, is_active_kept};
 
 use crate::tally::Share;
 use crate::track::made_at;
 use crate::{Held, LogEntry};
 use mv_link::Item;
-use mv_message::Message;
 use std::marker::Model;
 use std::snapshot::Snapshot;
 
@@ -20,34 +16,30 @@ use std::snapshot::Snapshot;
 pub(crate) struct Birth {
     /// Its place in the log.
     place: u32,
-    /// Its message, which stands in the log: contracts alone see it here, and it takes no memory.
-    upload: Snapshot<Message>,
+    /// The item there: contracts alone see it here, and it takes no memory.
+    item: Snapshot<Item>,
 }
 
 impl Model for Birth {
     ghost use Rattle.std.specs.Prelude.{◌≡◌, true};
     ghost use Rattle.mv_repository.specs.Counts.{is_held_active};
-    ghost use Rattle.mv_repository.specs.Packs.{Born, born_by};
+    ghost use Rattle.mv_repository.specs.Track.{Born, born_by};
 
     ghost Value = { Born };
 
-    ghost view = { λ b. born_by b.place b.upload.value };
+    ghost view = { λ b. born_by b.place b.item.value };
 
-    ghost invariant = { λ b. is_held_active (born_by b.place b.upload.value).held ≡ true };
+    ghost invariant = { λ b. is_held_active (born_by b.place b.item.value).held ≡ true };
 }
 
 impl Birth {
-    /// The upload of an item, which stands at a place of the log.
-    pub fn of(item: &Item, place: u32) -> Birth
-        requires upload { is_held_active (option_map held_of (pack_made_by item.now)) ≡ true }
-        ensures place { result.place ≡ place }
-        ensures held { result.held ≡ option_map held_of (pack_made_by item.now) }
+    /// The upload at a place of the log.
+    pub fn at(log: &[LogEntry], place: u32) -> Birth
+        requires upload { is_held_active (held_made_at log.now place) ≡ true }
+        ensures { result ≡ born_at log.now place }
     {
-        let Item::Carried { message, .. } = item else {
-            unreachable!();
-        };
-        let upload = Snapshot::of(message.get());
-        Birth { place, upload }
+        let item = Snapshot::of(&log[place as usize].item);
+        Birth { place, item }
     }
 
     /// Its place in the log.
@@ -71,7 +63,7 @@ impl Birth {
         ensures active { result.active ≡ is_active_kept (kept_born self.now) }
     {
         // The prover knows the invariant, that this is an upload, once a field is named.
-        let _ = &self.upload;
+        let _ = &self.item;
         Share {
             held: true,
             active: true,

@@ -11,7 +11,6 @@ ghost use Rattle.mv_repository.specs.Tables.{IsUploadOf};
 ghost use Rattle.mv_repository.specs.Track.{kept_in, IsTrack, AreTracks, with_status, with_upload, newest_effect, made_count, IsTally};
 
 use crate::batches::Batches;
-use crate::birth::Birth;
 use crate::slots::Slots;
 use crate::stops::Stops;
 use crate::table::Table;
@@ -28,8 +27,6 @@ use std::marker::Model;
 pub(crate) struct Packs {
     /// What memory is got from.
     alloc: Global,
-    /// The uploads in the order in which they came, also those that made no pack.
-    births: Vec<Birth>,
     /// What stands for each pack.
     table: Table,
     /// The packs that statuses name.
@@ -46,9 +43,9 @@ impl Model for Packs {
 
     ghost Value = { List (PackKey × Kept) };
 
-    ghost view = { λ a. kept_table a.births.items a.table.slots.entries };
+    ghost view = { λ a. kept_table a.table.slots.entries };
 
-    ghost invariant = { λ a. IsTable a.births.items a.table.slots.entries a.tracked a.batches a.table.tally };
+    ghost invariant = { λ a. IsTable a.table.slots.entries a.tracked a.batches a.table.tally };
 }
 
 impl Packs {
@@ -62,7 +59,6 @@ impl Packs {
     {
         Packs {
             alloc,
-            births: Vec::new(alloc),
             table: Table {
                 slots: Slots::new(alloc),
                 tally: Tally { held: 0, active: 0 },
@@ -78,7 +74,7 @@ impl Packs {
         ensures { result ≡ (kept_in key.now self.now).held }
     {
         let slot = self.table.slots.get(key)?;
-        slot.held(self.births.as_slice(), log)
+        slot.held(log)
     }
 
     /// How many packs are held, and how many of them are active.
@@ -117,10 +113,7 @@ impl Packs {
         let Some(held) = made_by(&entry.item) else {
             unreachable!();
         };
-        let new = log.len();
-        let place = place_of(new)?;
-        let birth = Birth::of(&entry.item, place);
-        self.births.reserve(1)?;
+        let place = place_of(log.len())?;
         self.table.slots.reserve(serials.len())?;
         let product = self.table.slots.add_product(gtin)?;
         let batch = BatchKey {
@@ -129,20 +122,10 @@ impl Packs {
         };
         self.batches.add(batch.copy(), place)?;
         // All room is got: nothing fails from here on.
-        let at = self.births.len();
         log.push_reserved(entry);
-        self.births.push_reserved(birth);
-        let births = self.births.as_slice();
-        let count = self.table.add_uploads(
-            births,
-            log.as_slice(),
-            stops,
-            product,
-            gtin,
-            serials,
-            new,
-            at,
-        );
+        let count = self
+            .table
+            .add_uploads(log.as_slice(), stops, product, gtin, serials, place);
         self.batches.settle_last(&batch, count > 0);
         Ok(count)
     }
@@ -170,16 +153,8 @@ impl Packs {
         ensures log_err { OnErr result (log.new.items ≡ log.old.items) }
         ensures err { OnErr result (self.new ≡ self.old) }
     {
-        let births = self.births.as_slice();
-        self.table.add_status(
-            self.alloc,
-            births,
-            &mut self.tracked,
-            log,
-            entry,
-            stops,
-            key,
-        )
+        self.table
+            .add_status(self.alloc, &mut self.tracked, log, entry, stops, key)
     }
 
     /// Works out again the packs of a batch, each by the upload that made it. Only those are looked at that its uploads name.
@@ -191,10 +166,8 @@ impl Packs {
             then refreshed log.now stops.now pack (kept_in pack self.old)
             else kept_in pack self.old) }
     {
-        let births = self.births.as_slice();
         let places = self.batches.uploads_of(batch);
-        self.table
-            .refresh_uploads(births, log, stops, batch, places);
+        self.table.refresh_uploads(log, stops, batch, places);
     }
 
     /// Works out again the packs of a product. Only those are looked at that a status names.
@@ -205,10 +178,8 @@ impl Packs {
             then refreshed log.now stops.now pack (kept_in pack self.old)
             else kept_in pack self.old) }
     {
-        let births = self.births.as_slice();
         let serials = self.tracked.of_product(gtin);
-        self.table
-            .refresh_all(births, log, stops, *gtin, None, serials);
+        self.table.refresh_all(log, stops, *gtin, None, serials);
     }
 }
 

@@ -2,11 +2,11 @@
 //! its own from then on. This file knows no other pack.
 
 ghost use Rattle.std.specs.Prelude.{◌≡◌, ◌<◌, ◌∷◌, ◌++◌, [], ℕ, length, vec_len, vec_capacity, OnOk, OnErr, IfOk, None, true, false, if◌then◌else◌};
+ghost use Rattle.mv_repository.specs.Counts.{is_held_active};
 ghost use Rattle.mv_repository.specs.Stops.{comes_first};
 ghost use Rattle.mv_repository.specs.Packs.{kept_as};
 ghost use Rattle.mv_repository.specs.Tracked.{is_tracked, KeepsTracked};
-ghost use Rattle.mv_repository.specs.declared.slot.Slot.TheVariants.{Made};
-ghost use Rattle.mv_repository.specs.Track.{IsTrack, with_status, with_upload, newest_effect, is_made, is_active_kept};
+ghost use Rattle.mv_repository.specs.Track.{held_made_at, IsTrack, with_status, with_upload, newest_effect, is_made, is_active_kept};
 
 use crate::birth::Birth;
 use crate::order::comes_first;
@@ -21,69 +21,55 @@ use std::alloc::{AllocError, Global};
 /// What stands in the table for a pack.
 #[derive(Drop)]
 pub(crate) enum Slot {
-    /// The pack is as an upload made it, which stands at this place among the uploads.
-    Made(usize),
+    /// The pack is as this upload made it.
+    Made(Birth),
     /// The pack has a track of its own, since a status names it.
     Own(Box<Track>),
 }
 
 impl Slot {
-    ghost use Rattle.mv_repository.specs.Packs.{IsWithin, is_own, refreshed_in, IsSettled, IsBorn, IsAsMade};
+    ghost use Rattle.mv_repository.specs.Packs.{is_own, refreshed_in, IsSettled, IsAsMade};
 
     /// What the pack is; none where no upload names it.
-    pub fn held(&self, births: &[Birth], log: &[LogEntry]) -> Option<Held>
-        requires { IsAsMade log.now (kept_as births.now self.now) }
-        ensures { result ≡ (kept_as births.now self.now).held }
+    pub fn held(&self, log: &[LogEntry]) -> Option<Held>
+        requires { IsAsMade log.now (kept_as self.now) }
+        ensures { result ≡ (kept_as self.now).held }
     {
         match self {
-            Slot::Made(place) => births.get(*place)?.held(log),
+            Slot::Made(birth) => birth.held(log),
             Slot::Own(track) => track.held(),
         }
     }
 
     /// What the pack adds to the tally.
-    pub fn share(&self, births: &[Birth]) -> Share
-        ensures held { result.held ≡ is_made (kept_as births.now self.now) }
-        ensures active { result.active ≡ is_active_kept (kept_as births.now self.now) }
+    pub fn share(&self) -> Share
+        ensures held { result.held ≡ is_made (kept_as self.now) }
+        ensures active { result.active ≡ is_active_kept (kept_as self.now) }
     {
         match self {
-            Slot::Made(place) => match births.get(*place) {
-                Some(birth) => birth.share(),
-                None => Share::NONE,
-            },
+            Slot::Made(birth) => birth.share(),
             Slot::Own(track) => track.share(),
         }
     }
 
-    /// Adds the newest entry, an upload that names the pack; whether it is the first such by stamp. The upload stands at a
-    /// place among the uploads.
-    pub fn add_upload(
-        &mut self,
-        births: &[Birth],
-        log: &[LogEntry],
-        stops: &Stops,
-        pack: &PackKey,
-        new: usize,
-        at: usize,
-    ) -> bool
-        requires born { IsBorn births.now log.now new at }
-        requires track { IsTrack log.now stops.now pack.now (kept_as births.now self.old) }
-        ensures kept { kept_as births.now self.new
-            ≡ with_upload log.now stops.now pack.now new (kept_as births.now self.old) }
-        ensures first { result ≡ comes_first log.now new (kept_as births.now self.old).birth }
-        ensures within { IsWithin (length births.now) self.old → IsWithin (length births.now) self.new }
+    /// Adds the newest entry, an upload that names the pack; whether it is the first such by stamp.
+    pub fn add_upload(&mut self, log: &[LogEntry], stops: &Stops, pack: &PackKey, new: u32) -> bool
+        requires upload { is_held_active (held_made_at log.now new) ≡ true }
+        requires track { IsTrack log.now stops.now pack.now (kept_as self.old) }
+        ensures kept { kept_as self.new
+            ≡ with_upload log.now stops.now pack.now new (kept_as self.old) }
+        ensures first { result ≡ comes_first log.now new (kept_as self.old).birth }
         ensures own { is_own self.new ≡ is_own self.old }
     {
         match self {
-            Slot::Made(place) => {
-                let birth = birth_at(births, *place);
-                let is_first = comes_first(log, new, birth);
+            Slot::Made(birth) => {
+                let is_first = comes_first(log, new as usize, Some(birth.place()));
                 if is_first {
-                    *place = at;
+                    *birth = Birth::at(log, new);
                 }
                 is_first
             }
-            Slot::Own(track) => track.add_upload(log, stops, pack, new),
+            Slot::Own(track) => track.add_upload(log, stops, pack, new as usize),
         }
     }
 
@@ -92,7 +78,6 @@ impl Slot {
     pub fn add_status(
         &mut self,
         alloc: Global,
-        births: &[Birth],
         tracked: &mut Tracked,
         log: &mut Vec<LogEntry>,
         entry: LogEntry,
@@ -100,14 +85,14 @@ impl Slot {
         pack: &PackKey,
     ) -> Result<Effect, AllocError>
         requires room { vec_len log.old < vec_capacity log.old }
-        requires track { IsTrack (log.old.items ++ entry ∷ []) stops.now pack.now (kept_as births.now self.old) }
+        requires track { IsTrack (log.old.items ++ entry ∷ []) stops.now pack.now (kept_as self.old) }
         ensures log { OnOk result (log.new.items ≡ log.old.items ++ entry ∷ []) }
-        ensures kept { OnOk result (kept_as births.now self.new
+        ensures kept { OnOk result (kept_as self.new
             ≡ with_status (log.old.items ++ entry ∷ []) stops.now pack.now (length log.old.items)
-            (kept_as births.now self.old)) }
+            (kept_as self.old)) }
         ensures effect { IfOk result (λ effect. effect
             ≡ newest_effect (log.old.items ++ entry ∷ []) stops.now pack.now (length log.old.items)
-            (kept_as births.now self.old)) }
+            (kept_as self.old)) }
         ensures own { OnOk result (is_own self.new ≡ true) }
         ensures keeps { KeepsTracked tracked.old tracked.new }
         ensures added { OnOk result (is_own self.old ≡ false → is_tracked pack.now tracked.new ≡ true) }
@@ -115,8 +100,8 @@ impl Slot {
         ensures err { OnErr result (self.new ≡ self.old) }
     {
         match self {
-            Slot::Made(place) => {
-                let birth = birth_at(births, *place);
+            Slot::Made(birth) => {
+                let birth = Some(birth.place());
                 let started = start(alloc, tracked, log, entry, stops, pack, birth)?;
                 *self = Slot::Own(started.track);
                 Ok(started.effect)
@@ -127,18 +112,10 @@ impl Slot {
 
     /// Works the pack out again, where an upload made it, if one is named by its place in the log. A pack that no status
     /// names stays as it is.
-    pub fn refresh(
-        &mut self,
-        births: &[Birth],
-        log: &[LogEntry],
-        stops: &Stops,
-        pack: &PackKey,
-        maker: Option<usize>,
-    )
-        requires settled { IsSettled log.now stops.now pack.now (kept_as births.now self.old) }
-        ensures kept { kept_as births.now self.new
-            ≡ refreshed_in log.now stops.now maker pack.now (kept_as births.now self.old) }
-        ensures within { IsWithin (length births.now) self.old → IsWithin (length births.now) self.new }
+    pub fn refresh(&mut self, log: &[LogEntry], stops: &Stops, pack: &PackKey, maker: Option<usize>)
+        requires settled { IsSettled log.now stops.now pack.now (kept_as self.old) }
+        ensures kept { kept_as self.new
+            ≡ refreshed_in log.now stops.now maker pack.now (kept_as self.old) }
         ensures own { is_own self.new ≡ is_own self.old }
     {
         if let Slot::Own(track) = self {
@@ -147,13 +124,6 @@ impl Slot {
             }
         }
     }
-}
-
-/// The place in the log of an upload.
-fn birth_at(births: &[Birth], place: usize) -> Option<usize>
-    ensures { result ≡ (kept_as births.now (Made place)).birth }
-{
-    Some(births.get(place)?.place())
 }
 
 /// A track that begins with its first status.

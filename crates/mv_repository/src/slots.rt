@@ -6,9 +6,10 @@ ghost use Rattle.std.specs.List.{IsDistinct};
 ghost use Rattle.std.specs.Map.{lookup, keys_of};
 ghost use Rattle.std.specs.Option.{option_copied};
 ghost use Rattle.mv_pack.specs.Keys.{is_same_pack};
+ghost use Rattle.mv_repository.specs.Counts.{is_held_active};
 ghost use Rattle.mv_repository.specs.Stops.{comes_first};
 ghost use Rattle.mv_repository.specs.Tracked.{is_tracked, KeepsTracked};
-ghost use Rattle.mv_repository.specs.Track.{kept_in, IsTrack, with_status, with_upload, newest_effect, is_made, is_active_kept};
+ghost use Rattle.mv_repository.specs.Track.{held_made_at, kept_in, IsTrack, with_status, with_upload, newest_effect, is_made, is_active_kept};
 
 use crate::birth::Birth;
 use crate::slot::{Slot, start};
@@ -96,7 +97,7 @@ impl Model for Slots {
 }
 
 impl Slots {
-    ghost use Rattle.mv_repository.specs.Packs.{kept_table, is_own_in, IsPut, IsWrittenAnew, IsBorn, IsSettled, refreshed_in};
+    ghost use Rattle.mv_repository.specs.Packs.{kept_table, is_own_in, IsPut, IsWrittenAnew, IsSettled, refreshed_in};
     ghost use Rattle.mv_repository.specs.Slots.{HasNoPackOf};
 
     /// No pack.
@@ -165,49 +166,47 @@ impl Slots {
     /// Adds the newest entry, an upload, to what stands for one pack, whose product stands at a place.
     pub fn put_upload(
         &mut self,
-        births: &[Birth],
         log: &[LogEntry],
         stops: &Stops,
         product: u32,
         key: &PackKey,
-        new: usize,
-        at: usize,
+        new: u32,
     ) -> Added
         requires room { 0 < self.old.room }
         requires product { slice_get self.old.products product ≡ Some key.now.gtin }
-        requires born { IsBorn births.now log.now new at }
-        requires track { IsTrack log.now stops.now key.now (kept_in key.now (kept_table births.now self.old.entries)) }
+        requires upload { is_held_active (held_made_at log.now new) ≡ true }
+        requires track { IsTrack log.now stops.now key.now (kept_in key.now (kept_table self.old.entries)) }
         ensures room { self.old.room ≤ self.new.room + 1 }
         ensures products { self.new.products ≡ self.old.products }
-        ensures put { IsPut births.now self.old.entries self.new.entries key.now
-            (with_upload log.now stops.now key.now new (kept_in key.now (kept_table births.now self.old.entries)))
+        ensures put { IsPut self.old.entries self.new.entries key.now
+            (with_upload log.now stops.now key.now new (kept_in key.now (kept_table self.old.entries)))
             (is_own_in key.now self.old.entries) }
         ensures first { result.is_new
-            ≡ comes_first log.now new (kept_in key.now (kept_table births.now self.old.entries)).birth }
-        ensures was_held { result.was.held ≡ is_made (kept_in key.now (kept_table births.now self.old.entries)) }
+            ≡ comes_first log.now new (kept_in key.now (kept_table self.old.entries)).birth }
+        ensures was_held { result.was.held ≡ is_made (kept_in key.now (kept_table self.old.entries)) }
         ensures was_active { result.was.active
-            ≡ is_active_kept (kept_in key.now (kept_table births.now self.old.entries)) }
+            ≡ is_active_kept (kept_in key.now (kept_table self.old.entries)) }
         ensures held { result.is.held ≡ is_made
-            (with_upload log.now stops.now key.now new (kept_in key.now (kept_table births.now self.old.entries))) }
+            (with_upload log.now stops.now key.now new (kept_in key.now (kept_table self.old.entries))) }
         ensures active { result.is.active ≡ is_active_kept
-            (with_upload log.now stops.now key.now new (kept_in key.now (kept_table births.now self.old.entries))) }
+            (with_upload log.now stops.now key.now new (kept_in key.now (kept_table self.old.entries))) }
     {
         let place = match self.slots.entry(PackName::new(product, key)) {
             Ok(Entry::Occupied(place)) => {
                 let slot = place.into_mut();
-                let was = slot.share(births);
-                let is_new = slot.add_upload(births, log, stops, key, new, at);
-                let is = slot.share(births);
+                let was = slot.share();
+                let is_new = slot.add_upload(log, stops, key, new);
+                let is = slot.share();
                 return Added { is_new, was, is };
             }
             Ok(Entry::Vacant(place)) => place,
             Err(_) => unreachable!(),
         };
-        let slot = place.insert(Slot::Made(at));
+        let slot = place.insert(Slot::Made(Birth::at(log, new)));
         Added {
             is_new: true,
             was: Share::NONE,
-            is: slot.share(births),
+            is: slot.share(),
         }
     }
 
@@ -216,7 +215,6 @@ impl Slots {
     pub fn put_status(
         &mut self,
         alloc: Global,
-        births: &[Birth],
         tracked: &mut Tracked,
         log: &mut Vec<LogEntry>,
         entry: LogEntry,
@@ -225,24 +223,24 @@ impl Slots {
     ) -> Result<Noted, AllocError>
         requires room { vec_len log.old < vec_capacity log.old }
         requires track { IsTrack (log.old.items ++ entry ∷ []) stops.now key.now
-            (kept_in key.now (kept_table births.now self.old.entries)) }
+            (kept_in key.now (kept_table self.old.entries)) }
         ensures log { OnOk result (log.new.items ≡ log.old.items ++ entry ∷ []) }
-        ensures put { OnOk result (IsPut births.now self.old.entries self.new.entries key.now
+        ensures put { OnOk result (IsPut self.old.entries self.new.entries key.now
             (with_status (log.old.items ++ entry ∷ []) stops.now key.now (length log.old.items)
-            (kept_in key.now (kept_table births.now self.old.entries))) true) }
+            (kept_in key.now (kept_table self.old.entries))) true) }
         ensures effect { IfOk result (λ noted. noted.effect
             ≡ newest_effect (log.old.items ++ entry ∷ []) stops.now key.now (length log.old.items)
-            (kept_in key.now (kept_table births.now self.old.entries))) }
+            (kept_in key.now (kept_table self.old.entries))) }
         ensures was_held { IfOk result (λ noted. noted.was.held
-            ≡ is_made (kept_in key.now (kept_table births.now self.old.entries))) }
+            ≡ is_made (kept_in key.now (kept_table self.old.entries))) }
         ensures was_active { IfOk result (λ noted. noted.was.active
-            ≡ is_active_kept (kept_in key.now (kept_table births.now self.old.entries))) }
+            ≡ is_active_kept (kept_in key.now (kept_table self.old.entries))) }
         ensures held { IfOk result (λ noted. noted.is.held
             ≡ is_made (with_status (log.old.items ++ entry ∷ []) stops.now key.now (length log.old.items)
-            (kept_in key.now (kept_table births.now self.old.entries)))) }
+            (kept_in key.now (kept_table self.old.entries)))) }
         ensures active { IfOk result (λ noted. noted.is.active
             ≡ is_active_kept (with_status (log.old.items ++ entry ∷ []) stops.now key.now (length log.old.items)
-            (kept_in key.now (kept_table births.now self.old.entries)))) }
+            (kept_in key.now (kept_table self.old.entries)))) }
         ensures keeps { KeepsTracked tracked.old tracked.new }
         ensures added { OnOk result (is_own_in key.now self.old.entries ≡ false
             → is_tracked key.now tracked.new ≡ true) }
@@ -253,9 +251,9 @@ impl Slots {
         let place = match self.slots.entry(PackName::new(product, key))? {
             Entry::Occupied(place) => {
                 let slot = place.into_mut();
-                let was = slot.share(births);
-                let effect = slot.add_status(alloc, births, tracked, log, entry, stops, key)?;
-                let is = slot.share(births);
+                let was = slot.share();
+                let effect = slot.add_status(alloc, tracked, log, entry, stops, key)?;
+                let is = slot.share();
                 return Ok(Noted { effect, was, is });
             }
             Entry::Vacant(place) => place,
@@ -266,7 +264,7 @@ impl Slots {
         Ok(Noted {
             effect,
             was: Share::NONE,
-            is: slot.share(births),
+            is: slot.share(),
         })
     }
 
@@ -274,7 +272,6 @@ impl Slots {
     /// the log.
     pub fn put_refreshed(
         &mut self,
-        births: &[Birth],
         log: &[LogEntry],
         stops: &Stops,
         product: u32,
@@ -282,17 +279,17 @@ impl Slots {
         maker: Option<usize>,
     ) -> Again
         requires product { slice_get self.old.products product ≡ Some key.now.gtin }
-        requires settled { IsSettled log.now stops.now key.now (kept_in key.now (kept_table births.now self.old.entries)) }
+        requires settled { IsSettled log.now stops.now key.now (kept_in key.now (kept_table self.old.entries)) }
         ensures products { self.new.products ≡ self.old.products }
-        ensures written { IsWrittenAnew births.now self.old.entries self.new.entries key.now
-            (refreshed_in log.now stops.now maker key.now (kept_in key.now (kept_table births.now self.old.entries))) }
-        ensures was_held { result.was.held ≡ is_made (kept_in key.now (kept_table births.now self.old.entries)) }
+        ensures written { IsWrittenAnew self.old.entries self.new.entries key.now
+            (refreshed_in log.now stops.now maker key.now (kept_in key.now (kept_table self.old.entries))) }
+        ensures was_held { result.was.held ≡ is_made (kept_in key.now (kept_table self.old.entries)) }
         ensures was_active { result.was.active
-            ≡ is_active_kept (kept_in key.now (kept_table births.now self.old.entries)) }
+            ≡ is_active_kept (kept_in key.now (kept_table self.old.entries)) }
         ensures held { result.is.held ≡ is_made
-            (refreshed_in log.now stops.now maker key.now (kept_in key.now (kept_table births.now self.old.entries))) }
+            (refreshed_in log.now stops.now maker key.now (kept_in key.now (kept_table self.old.entries))) }
         ensures active { result.is.active ≡ is_active_kept
-            (refreshed_in log.now stops.now maker key.now (kept_in key.now (kept_table births.now self.old.entries))) }
+            (refreshed_in log.now stops.now maker key.now (kept_in key.now (kept_table self.old.entries))) }
     {
         let name = PackName::new(product, key);
         let Some(slot) = self.slots.get_mut(&name) else {
@@ -301,9 +298,9 @@ impl Slots {
                 is: Share::NONE,
             };
         };
-        let was = slot.share(births);
-        slot.refresh(births, log, stops, key, maker);
-        let is = slot.share(births);
+        let was = slot.share();
+        slot.refresh(log, stops, key, maker);
+        let is = slot.share();
         Again { was, is }
     }
 }

@@ -1,14 +1,14 @@
 //! The slots of the packs, with their tally.
 
-ghost use Rattle.std.specs.Prelude.{◌≡◌, ◌<◌, ◌≤◌, ◌+◌, ◌^◌, ◌∷◌, ◌++◌, [], length, slice_get, vec_len, vec_capacity, OnOk, OnErr, IfOk, Some, if◌then◌else◌};
+ghost use Rattle.std.specs.Prelude.{◌≡◌, ◌<◌, ◌≤◌, ◌+◌, ◌^◌, ◌∷◌, ◌++◌, [], length, slice_get, vec_len, vec_capacity, OnOk, OnErr, IfOk, Some, true, if◌then◌else◌};
 ghost use Rattle.mv_pack.specs.declared.key.PackKey.{PackKey as APackKey};
 ghost use Rattle.mv_pack.specs.Keys.{is_same_pack};
 ghost use Rattle.mv_repository.specs.PackState.{has_pack};
-ghost use Rattle.mv_repository.specs.Packs.{kept_table, AreWithin, is_own_in, FindsTracked, IsBorn, IsSettled, AreSettled, refreshed_in, is_made_at, batch_serials};
+ghost use Rattle.mv_repository.specs.Packs.{kept_table, is_own_in, FindsTracked, IsSettled, AreSettled, refreshed_in, is_made_at, batch_serials};
+ghost use Rattle.mv_repository.specs.Counts.{is_held_active};
 ghost use Rattle.mv_repository.specs.Stops.{comes_first, entry_at};
-ghost use Rattle.mv_repository.specs.Track.{kept_in, IsTrack, AreTracks, with_status, with_upload, newest_effect, made_count, refreshed, IsTally};
+ghost use Rattle.mv_repository.specs.Track.{held_made_at, kept_in, IsTrack, AreTracks, with_status, with_upload, newest_effect, made_count, refreshed, IsTally};
 
-use crate::birth::Birth;
 use crate::slots::Slots;
 use crate::stops::Stops;
 use crate::tally::Tally;
@@ -33,37 +33,31 @@ impl Table {
     /// first by stamp that names the pack.
     fn add_upload(
         &mut self,
-        births: &[Birth],
         log: &[LogEntry],
         stops: &Stops,
         product: u32,
         key: &PackKey,
-        new: usize,
-        at: usize,
+        new: u32,
     ) -> bool
         requires room { 0 < self.old.slots.room }
         requires product { slice_get self.old.slots.products product ≡ Some key.now.gtin }
-        requires born { IsBorn births.now log.now new at }
+        requires upload { is_held_active (held_made_at log.now new) ≡ true }
         requires track { IsTrack log.now stops.now key.now
-            (kept_in key.now (kept_table births.now self.old.slots.entries)) }
-        requires tally { IsTally (kept_table births.now self.old.slots.entries) self.old.tally }
+            (kept_in key.now (kept_table self.old.slots.entries)) }
+        requires tally { IsTally (kept_table self.old.slots.entries) self.old.tally }
         ensures room { self.old.slots.room ≤ self.new.slots.room + 1 }
         ensures products { self.new.slots.products ≡ self.old.slots.products }
-        ensures kept { (pack : APackKey) → kept_in pack (kept_table births.now self.new.slots.entries)
+        ensures kept { (pack : APackKey) → kept_in pack (kept_table self.new.slots.entries)
             ≡ (if is_same_pack key.now pack
-            then with_upload log.now stops.now key.now new (kept_in key.now (kept_table births.now self.old.slots.entries))
-            else kept_in pack (kept_table births.now self.old.slots.entries)) }
+            then with_upload log.now stops.now key.now new (kept_in key.now (kept_table self.old.slots.entries))
+            else kept_in pack (kept_table self.old.slots.entries)) }
         ensures first { result
-            ≡ comes_first log.now new (kept_in key.now (kept_table births.now self.old.slots.entries)).birth }
-        ensures tally { IsTally (kept_table births.now self.new.slots.entries) self.new.tally }
-        ensures within { AreWithin (length births.now) self.old.slots.entries
-            → AreWithin (length births.now) self.new.slots.entries }
+            ≡ comes_first log.now new (kept_in key.now (kept_table self.old.slots.entries)).birth }
+        ensures tally { IsTally (kept_table self.new.slots.entries) self.new.tally }
         ensures own { (pack : APackKey) → is_own_in pack self.new.slots.entries ≡ is_own_in pack self.old.slots.entries }
     {
         prove!(self.slots.len() <= usize::MAX / 2);
-        let added = self
-            .slots
-            .put_upload(births, log, stops, product, key, new, at);
+        let added = self.slots.put_upload(log, stops, product, key, new);
         let tally = self.tally.moved(added.was, added.is);
         self.tally = tally;
         added.is_new
@@ -73,37 +67,33 @@ impl Table {
     /// many packs it is the first by stamp.
     pub fn add_uploads(
         &mut self,
-        births: &[Birth],
         log: &[LogEntry],
         stops: &Stops,
         product: u32,
         gtin: Gtin,
         serials: &[Serial],
-        new: usize,
-        at: usize,
+        new: u32,
     ) -> usize
         requires room { length serials.now ≤ self.old.slots.room }
         requires product { slice_get self.old.slots.products product ≡ Some gtin }
-        requires born { IsBorn births.now log.now new at }
-        requires tracks { AreTracks log.now stops.now (kept_table births.now self.old.slots.entries) }
-        requires tally { IsTally (kept_table births.now self.old.slots.entries) self.old.tally }
-        requires within { AreWithin (length births.now) self.old.slots.entries }
-        ensures kept { (pack : APackKey) → kept_in pack (kept_table births.now self.new.slots.entries)
+        requires upload { is_held_active (held_made_at log.now new) ≡ true }
+        requires tracks { AreTracks log.now stops.now (kept_table self.old.slots.entries) }
+        requires tally { IsTally (kept_table self.old.slots.entries) self.old.tally }
+        ensures kept { (pack : APackKey) → kept_in pack (kept_table self.new.slots.entries)
             ≡ (if has_pack gtin serials.now pack
-            then with_upload log.now stops.now pack new (kept_in pack (kept_table births.now self.old.slots.entries))
-            else kept_in pack (kept_table births.now self.old.slots.entries)) }
+            then with_upload log.now stops.now pack new (kept_in pack (kept_table self.old.slots.entries))
+            else kept_in pack (kept_table self.old.slots.entries)) }
         ensures count { result
-            ≡ made_count log.now new (kept_table births.now self.old.slots.entries) gtin serials.now }
+            ≡ made_count log.now new (kept_table self.old.slots.entries) gtin serials.now }
         ensures least { result ≤ length serials.now }
-        ensures tally { IsTally (kept_table births.now self.new.slots.entries) self.new.tally }
-        ensures within { AreWithin (length births.now) self.new.slots.entries }
+        ensures tally { IsTally (kept_table self.new.slots.entries) self.new.tally }
         ensures own { (pack : APackKey) → is_own_in pack self.new.slots.entries ≡ is_own_in pack self.old.slots.entries }
     {
         let mut count = 0;
         for serial in serials {
             let serial = serial.copy();
             let key = PackKey { gtin, serial };
-            let is_new = self.add_upload(births, log, stops, product, &key, new, at);
+            let is_new = self.add_upload(log, stops, product, &key, new);
             count = one_more_if(count, is_new);
         }
         count
@@ -114,7 +104,6 @@ impl Table {
     pub fn add_status(
         &mut self,
         alloc: Global,
-        births: &[Birth],
         tracked: &mut Tracked,
         log: &mut Vec<LogEntry>,
         entry: LogEntry,
@@ -123,21 +112,19 @@ impl Table {
     ) -> Result<Effect, AllocError>
         requires room { vec_len log.old < vec_capacity log.old }
         requires track { IsTrack (log.old.items ++ entry ∷ []) stops.now key.now
-            (kept_in key.now (kept_table births.now self.old.slots.entries)) }
-        requires tally { IsTally (kept_table births.now self.old.slots.entries) self.old.tally }
-        requires within { AreWithin (length births.now) self.old.slots.entries }
+            (kept_in key.now (kept_table self.old.slots.entries)) }
+        requires tally { IsTally (kept_table self.old.slots.entries) self.old.tally }
         requires tracked { FindsTracked self.old.slots.entries tracked.old }
         ensures log { OnOk result (log.new.items ≡ log.old.items ++ entry ∷ []) }
-        ensures kept { OnOk result ((pack : APackKey) → kept_in pack (kept_table births.now self.new.slots.entries)
+        ensures kept { OnOk result ((pack : APackKey) → kept_in pack (kept_table self.new.slots.entries)
             ≡ (if is_same_pack key.now pack
             then with_status (log.old.items ++ entry ∷ []) stops.now key.now (length log.old.items)
-            (kept_in key.now (kept_table births.now self.old.slots.entries))
-            else kept_in pack (kept_table births.now self.old.slots.entries))) }
+            (kept_in key.now (kept_table self.old.slots.entries))
+            else kept_in pack (kept_table self.old.slots.entries))) }
         ensures effect { IfOk result (λ effect. effect
             ≡ newest_effect (log.old.items ++ entry ∷ []) stops.now key.now (length log.old.items)
-            (kept_in key.now (kept_table births.now self.old.slots.entries))) }
-        ensures tally { IsTally (kept_table births.now self.new.slots.entries) self.new.tally }
-        ensures within { AreWithin (length births.now) self.new.slots.entries }
+            (kept_in key.now (kept_table self.old.slots.entries))) }
+        ensures tally { IsTally (kept_table self.new.slots.entries) self.new.tally }
         ensures tracked { FindsTracked self.new.slots.entries tracked.new }
         ensures log_err { OnErr result (log.new.items ≡ log.old.items) }
         ensures err { OnErr result (self.new.slots.entries ≡ self.old.slots.entries) }
@@ -145,7 +132,7 @@ impl Table {
         prove!(self.slots.len() <= usize::MAX / 2);
         let noted = self
             .slots
-            .put_status(alloc, births, tracked, log, entry, stops, key)?;
+            .put_status(alloc, tracked, log, entry, stops, key)?;
         let tally = self.tally.moved(noted.was, noted.is);
         self.tally = tally;
         Ok(noted.effect)
@@ -155,7 +142,6 @@ impl Table {
     /// the log.
     fn refresh(
         &mut self,
-        births: &[Birth],
         log: &[LogEntry],
         stops: &Stops,
         product: u32,
@@ -164,23 +150,19 @@ impl Table {
     )
         requires product { slice_get self.old.slots.products product ≡ Some key.now.gtin }
         requires settled { IsSettled log.now stops.now key.now
-            (kept_in key.now (kept_table births.now self.old.slots.entries)) }
-        requires tally { IsTally (kept_table births.now self.old.slots.entries) self.old.tally }
+            (kept_in key.now (kept_table self.old.slots.entries)) }
+        requires tally { IsTally (kept_table self.old.slots.entries) self.old.tally }
         ensures products { self.new.slots.products ≡ self.old.slots.products }
-        ensures kept { (pack : APackKey) → kept_in pack (kept_table births.now self.new.slots.entries)
+        ensures kept { (pack : APackKey) → kept_in pack (kept_table self.new.slots.entries)
             ≡ (if is_same_pack key.now pack
             then refreshed_in log.now stops.now maker key.now
-            (kept_in key.now (kept_table births.now self.old.slots.entries))
-            else kept_in pack (kept_table births.now self.old.slots.entries)) }
-        ensures tally { IsTally (kept_table births.now self.new.slots.entries) self.new.tally }
-        ensures within { AreWithin (length births.now) self.old.slots.entries
-            → AreWithin (length births.now) self.new.slots.entries }
+            (kept_in key.now (kept_table self.old.slots.entries))
+            else kept_in pack (kept_table self.old.slots.entries)) }
+        ensures tally { IsTally (kept_table self.new.slots.entries) self.new.tally }
         ensures own { (pack : APackKey) → is_own_in pack self.new.slots.entries ≡ is_own_in pack self.old.slots.entries }
     {
         prove!(self.slots.len() <= usize::MAX / 2);
-        let again = self
-            .slots
-            .put_refreshed(births, log, stops, product, key, maker);
+        let again = self.slots.put_refreshed(log, stops, product, key, maker);
         let tally = self.tally.moved(again.was, again.is);
         self.tally = tally;
     }
@@ -188,23 +170,20 @@ impl Table {
     /// Works out again these packs of a product, where an upload made them, if one is named by its place in the log.
     pub fn refresh_all(
         &mut self,
-        births: &[Birth],
         log: &[LogEntry],
         stops: &Stops,
         gtin: Gtin,
         maker: Option<usize>,
         serials: &[Serial],
     )
-        requires settled { AreSettled log.now stops.now (kept_table births.now self.old.slots.entries) }
-        requires tally { IsTally (kept_table births.now self.old.slots.entries) self.old.tally }
-        requires within { AreWithin (length births.now) self.old.slots.entries }
-        ensures kept { (pack : APackKey) → kept_in pack (kept_table births.now self.new.slots.entries)
+        requires settled { AreSettled log.now stops.now (kept_table self.old.slots.entries) }
+        requires tally { IsTally (kept_table self.old.slots.entries) self.old.tally }
+        ensures kept { (pack : APackKey) → kept_in pack (kept_table self.new.slots.entries)
             ≡ (if has_pack gtin serials.now pack
             then refreshed_in log.now stops.now maker pack
-            (kept_in pack (kept_table births.now self.old.slots.entries))
-            else kept_in pack (kept_table births.now self.old.slots.entries)) }
-        ensures tally { IsTally (kept_table births.now self.new.slots.entries) self.new.tally }
-        ensures within { AreWithin (length births.now) self.new.slots.entries }
+            (kept_in pack (kept_table self.old.slots.entries))
+            else kept_in pack (kept_table self.old.slots.entries)) }
+        ensures tally { IsTally (kept_table self.new.slots.entries) self.new.tally }
         ensures own { (pack : APackKey) → is_own_in pack self.new.slots.entries ≡ is_own_in pack self.old.slots.entries }
     {
         let Some(product) = self.slots.place_of(&gtin) else {
@@ -213,7 +192,7 @@ impl Table {
         for serial in serials {
             let serial = serial.copy();
             let key = PackKey { gtin, serial };
-            self.refresh(births, log, stops, product, &key, maker);
+            self.refresh(log, stops, product, &key, maker);
         }
     }
 
@@ -221,28 +200,25 @@ impl Table {
     /// by its own upload alone, though others name it too.
     pub fn refresh_uploads(
         &mut self,
-        births: &[Birth],
         log: &[LogEntry],
         stops: &Stops,
         batch: &BatchKey,
         places: &[u32],
     )
-        requires settled { AreSettled log.now stops.now (kept_table births.now self.old.slots.entries) }
-        requires tally { IsTally (kept_table births.now self.old.slots.entries) self.old.tally }
-        requires within { AreWithin (length births.now) self.old.slots.entries }
-        ensures kept { (pack : APackKey) → kept_in pack (kept_table births.now self.new.slots.entries)
+        requires settled { AreSettled log.now stops.now (kept_table self.old.slots.entries) }
+        requires tally { IsTally (kept_table self.old.slots.entries) self.old.tally }
+        ensures kept { (pack : APackKey) → kept_in pack (kept_table self.new.slots.entries)
             ≡ (if is_made_at log.now batch.now places.now pack
-            (kept_in pack (kept_table births.now self.old.slots.entries)).birth
-            then refreshed log.now stops.now pack (kept_in pack (kept_table births.now self.old.slots.entries))
-            else kept_in pack (kept_table births.now self.old.slots.entries)) }
-        ensures tally { IsTally (kept_table births.now self.new.slots.entries) self.new.tally }
-        ensures within { AreWithin (length births.now) self.new.slots.entries }
+            (kept_in pack (kept_table self.old.slots.entries)).birth
+            then refreshed log.now stops.now pack (kept_in pack (kept_table self.old.slots.entries))
+            else kept_in pack (kept_table self.old.slots.entries)) }
+        ensures tally { IsTally (kept_table self.new.slots.entries) self.new.tally }
         ensures own { (pack : APackKey) → is_own_in pack self.new.slots.entries ≡ is_own_in pack self.old.slots.entries }
     {
         for place in places {
             let place = *place as usize;
             let serials = serials_at(log, place, &batch.batch);
-            self.refresh_all(births, log, stops, batch.gtin, Some(place), serials);
+            self.refresh_all(log, stops, batch.gtin, Some(place), serials);
         }
     }
 }

@@ -8,7 +8,7 @@ ghost use Rattle.mv_repository.specs.Pack.{pack_after_status};
 ghost use Rattle.mv_repository.specs.PackState.{held_of};
 ghost use Rattle.mv_pack.specs.declared.key.PackKey.{PackKey as APackKey};
 ghost use Rattle.mv_repository.specs.Stops.{StopTables, entry_at, stops_in, comes_first};
-ghost use Rattle.mv_repository.specs.Track.{known_of, pack_made_of, pack_made_by, held_made_at, held_step, grown_at, put_place, IsTrack, with_status, with_upload, refreshed, places_before, held_before, effect_when, newest_effect, stands_by, is_made, is_active_kept};
+ghost use Rattle.mv_repository.specs.Track.{known_of, pack_made_by, held_made_at, held_step, grown_at, put_place, IsTrack, with_status, with_upload, refreshed, places_before, held_before, effect_when, newest_effect, stands_by, is_made, is_active_kept};
 
 use crate::order::{comes_first, stands_before};
 use crate::status::{change_effect, is_active};
@@ -36,22 +36,15 @@ pub(crate) fn copy_of(national: &Option<National>) -> Option<National>
 pub(crate) fn made_by(item: &Item) -> Option<Held>
     ensures { result ≡ option_map held_of (pack_made_by item.now) }
 {
-    match item {
-        Item::Carried { message, .. } => made_of(message.get()),
-        Item::Receipt { .. } => None,
-    }
-}
-
-/// The pack that a message makes, where it is an upload.
-fn made_of(message: &Message) -> Option<Held>
-    ensures { result ≡ option_map held_of (pack_made_of message.now) }
-{
+    let Item::Carried { message, .. } = item else {
+        return None;
+    };
     let Message::Upload {
         batch,
         expiry,
         national,
         ..
-    } = message
+    } = message.get()
     else {
         return None;
     };

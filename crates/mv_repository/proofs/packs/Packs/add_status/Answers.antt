@@ -6,32 +6,25 @@ use Rattle.mv_repository.proofs.BatchLemmas.{found-status}
 use Rattle.mv_repository.proofs.packs.Packs.add_status.Goals as goal
 
 pub add_status-requires-clause-track : goal.add_status-requires-clause-track
-add_status-requires-clause-track c = rw c.as_slice-births.ensures.value (rw (← c.self.view_is) at c.requires.track)
-
-pub add_status-requires-clause-tally : goal.add_status-requires-clause-tally
-add_status-requires-clause-tally c = rw c.as_slice-births.ensures.value c.self.invariant.tally
-
-pub add_status-requires-clause-within : goal.add_status-requires-clause-within
-add_status-requires-clause-within c = rw c.as_slice-births.ensures.value c.self.invariant.within
+add_status-requires-clause-track c = rw (← c.self.view_is) at c.requires.track
 
 pub invariant_of-self : goal.invariant_of-self
 invariant_of-self c = record {
-  within = rw c.as_slice-births.ensures.value at c.add_status.ensures.within;
   tracked = c.add_status.ensures.tracked;
   listed = found-status c.self.inside.batches (c.args.log.now.items ++ c.args.entry ∷ []) c.args.stops.now c.args.key.now (length c.args.log.now.items)
-      (kept_table c.self.inside.births.items c.self.inside.table.slots.entries) (kept_table c.self.inside.births.items c.add_status.new.self.slots.entries) (rw (← c.self.view_is) at c.requires.track) c.self.invariant.listed
-      c.add_status.result (rw c.as_slice-births.ensures.value at c.add_status.ensures.kept)
-      (on-err (λ (e : c.add_status.new.self.slots.entries ≡ c.self.inside.table.slots.entries). ap (kept_table c.self.inside.births.items) e) c.add_status.result c.add_status.ensures.err);
-  tally = rw c.as_slice-births.ensures.value at c.add_status.ensures.tally;
+      (kept_table c.self.inside.table.slots.entries) (kept_table c.add_status.new.self.slots.entries) (rw (← c.self.view_is) at c.requires.track) c.self.invariant.listed
+      c.add_status.result c.add_status.ensures.kept
+      (on-err (λ (e : c.add_status.new.self.slots.entries ≡ c.self.inside.table.slots.entries). ap kept_table e) c.add_status.result c.add_status.ensures.err);
+  tally = c.add_status.ensures.tally;
 }
 
 pub returns-clause-kept : goal.returns-clause-kept
-returns-clause-kept c = rw (← c.self.view_is) (rw c.as_slice-births.ensures.value at c.add_status.ensures.kept)
+returns-clause-kept c = rw (← c.self.view_is) c.add_status.ensures.kept
 
 pub returns-clause-effect : goal.returns-clause-effect
-returns-clause-effect c = rw (← c.self.view_is) (rw c.as_slice-births.ensures.value at c.add_status.ensures.effect)
+returns-clause-effect c = rw (← c.self.view_is) c.add_status.ensures.effect
 
 pub returns-clause-err : goal.returns-clause-err
 returns-clause-err c =
     rw (← c.self.view_is)
-    (on-err (λ (e : c.add_status.new.self.slots.entries ≡ c.self.inside.table.slots.entries). ap (kept_table c.self.inside.births.items) e) c.add_status.result c.add_status.ensures.err)
+    (on-err (λ (e : c.add_status.new.self.slots.entries ≡ c.self.inside.table.slots.entries). ap kept_table e) c.add_status.result c.add_status.ensures.err)

@@ -1,6 +1,6 @@
 -- What stands for the pack says what it is.
 use Rattle.std.proofs.Common.{◌∙◌, ap, subst, sym}
-use Rattle.mv_repository.specs.Packs.{kept_as, IsAsMade}
+use Rattle.mv_repository.specs.Packs.{IsAsMade}
 use Rattle.mv_repository.specs.Track.{Kept}
 use Rattle.mv_repository.proofs.PacksLemmas.{found-kept, absent-kept}
 use Rattle.mv_repository.proofs.packs.Packs.get.Goals as goal
@@ -8,14 +8,13 @@ use Rattle.mv_repository.proofs.packs.Packs.get.Goals as goal
 pub returns-in_err-slot : goal.returns-in_err-slot
 returns-in_err-slot c =
     c.from_residual.ensures
-    ∙ rw (← c.self.view_is) (sym (ap (λ (k : Kept). k.held) (absent-kept c.self.inside.births.items c.self.inside.table.slots.entries c.args.key.now (sym c.in_err-slot.ensures.value))))
+    ∙ rw (← c.self.view_is) (sym (ap (λ (k : Kept). k.held) (absent-kept c.self.inside.table.slots.entries c.args.key.now (sym c.in_err-slot.ensures.value))))
 
 pub held-requires : goal.held-requires
 held-requires c =
-    rw c.as_slice.ensures.value
-    (subst (IsAsMade c.args.log.now) (found-kept c.self.inside.births.items c.self.inside.table.slots.entries c.args.key.now c.in_ok-slot.slot.now (sym c.in_ok-slot.ensures.value)) (rw (← c.self.view_is) at c.requires))
+    subst (IsAsMade c.args.log.now) (found-kept c.self.inside.table.slots.entries c.args.key.now c.in_ok-slot.slot.now (sym c.in_ok-slot.ensures.value)) (rw (← c.self.view_is) at c.requires)
 
 pub returns : goal.returns
 returns c =
-    c.held.ensures ∙ (λ i. (kept_as (c.as_slice.ensures.value i) c.in_ok-slot.slot.now).held)
-    ∙ rw (← c.self.view_is) (sym (ap (λ (k : Kept). k.held) (found-kept c.self.inside.births.items c.self.inside.table.slots.entries c.args.key.now c.in_ok-slot.slot.now (sym c.in_ok-slot.ensures.value))))
+    c.held.ensures
+    ∙ rw (← c.self.view_is) (sym (ap (λ (k : Kept). k.held) (found-kept c.self.inside.table.slots.entries c.args.key.now c.in_ok-slot.slot.now (sym c.in_ok-slot.ensures.value))))

@@ -11,35 +11,27 @@ use Rattle.mv_repository.proofs.packs.Packs.refresh_batch.Goals as goal
 pub refresh_uploads-requires-clause-settled : goal.refresh_uploads-requires-clause-settled
 refresh_uploads-requires-clause-settled c =
     let tracks = rw (← c.self.view_is) at c.requires.tracks in
-    rw c.as_slice-births.ensures.value
-    (λ pack. settled-track c.args.log.now c.args.stops.now (tracks pack).before pack (kept_in pack (kept_table c.self.inside.births.items c.self.inside.table.slots.entries)) (tracks pack).track)
-
-pub refresh_uploads-requires-clause-tally : goal.refresh_uploads-requires-clause-tally
-refresh_uploads-requires-clause-tally c = rw c.as_slice-births.ensures.value c.self.invariant.tally
-
-pub refresh_uploads-requires-clause-within : goal.refresh_uploads-requires-clause-within
-refresh_uploads-requires-clause-within c = rw c.as_slice-births.ensures.value c.self.invariant.within
+    (λ pack. settled-track c.args.log.now c.args.stops.now (tracks pack).before pack (kept_in pack (kept_table c.self.inside.table.slots.entries)) (tracks pack).track)
 
 pub invariant_of-self : goal.invariant_of-self
 invariant_of-self c =
     let tracks = rw (← c.self.view_is) at c.requires.tracks in
-    let looks = rw (c.as_slice-births.ensures.value, c.uploads_of-places.ensures) at c.refresh_uploads.ensures.kept in
+    let looks = rw c.uploads_of-places.ensures at c.refresh_uploads.ensures.kept in
     record {
-      within = rw c.as_slice-births.ensures.value at c.refresh_uploads.ensures.within;
       tracked = λ pack h. c.self.invariant.tracked pack (sym (c.refresh_uploads.ensures.own pack) ∙ h);
       listed = λ pack. subst (IsFound c.self.inside.batches pack) (sym (looks pack))
-          (found-refreshed c.self.inside.batches c.args.log.now c.args.stops.now pack (kept_in pack (kept_table c.self.inside.births.items c.self.inside.table.slots.entries)) (tracks pack) (c.self.invariant.listed pack)
-          (is_made_at c.args.log.now c.args.batch.now (uploads_in (is_same_batch c.args.batch.now) c.self.inside.batches) pack (kept_in pack (kept_table c.self.inside.births.items c.self.inside.table.slots.entries)).birth));
-      tally = rw c.as_slice-births.ensures.value at c.refresh_uploads.ensures.tally;
+          (found-refreshed c.self.inside.batches c.args.log.now c.args.stops.now pack (kept_in pack (kept_table c.self.inside.table.slots.entries)) (tracks pack) (c.self.invariant.listed pack)
+          (is_made_at c.args.log.now c.args.batch.now (uploads_in (is_same_batch c.args.batch.now) c.self.inside.batches) pack (kept_in pack (kept_table c.self.inside.table.slots.entries)).birth));
+      tally = c.refresh_uploads.ensures.tally;
     }
 
 pub returns : goal.returns
 returns c =
     let tracks = rw (← c.self.view_is) at c.requires.tracks in
     let made = rw (← c.self.view_is) at c.requires.made in
-    let looks = rw (c.as_slice-births.ensures.value, c.uploads_of-places.ensures) at c.refresh_uploads.ensures.kept in
+    let looks = rw c.uploads_of-places.ensures at c.refresh_uploads.ensures.kept in
     record {
       kept = rw (← c.self.view_is)
-          (λ pack. uploads-all c.args.log.now c.args.stops.now c.self.inside.batches c.args.batch.now pack (kept_in pack (kept_table c.self.inside.births.items c.self.inside.table.slots.entries))
-          (kept_in pack (kept_table c.self.inside.births.items c.refresh_uploads.new.self.slots.entries)) (tracks pack) (c.self.invariant.listed pack) (made pack) (looks pack));
+          (λ pack. uploads-all c.args.log.now c.args.stops.now c.self.inside.batches c.args.batch.now pack (kept_in pack (kept_table c.self.inside.table.slots.entries))
+          (kept_in pack (kept_table c.refresh_uploads.new.self.slots.entries)) (tracks pack) (c.self.invariant.listed pack) (made pack) (looks pack));
     }

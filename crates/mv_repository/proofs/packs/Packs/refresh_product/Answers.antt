@@ -12,26 +12,18 @@ use Rattle.mv_repository.proofs.packs.Packs.refresh_product.Goals as goal
 pub refresh_all-requires-clause-settled : goal.refresh_all-requires-clause-settled
 refresh_all-requires-clause-settled c =
     let tracks = rw (← c.self.view_is) at c.requires.tracks in
-    rw c.as_slice-births.ensures.value
-    (λ pack. settled-track c.args.log.now c.args.stops.now (tracks pack).before pack (kept_in pack (kept_table c.self.inside.births.items c.self.inside.table.slots.entries)) (tracks pack).track)
-
-pub refresh_all-requires-clause-tally : goal.refresh_all-requires-clause-tally
-refresh_all-requires-clause-tally c = rw c.as_slice-births.ensures.value c.self.invariant.tally
-
-pub refresh_all-requires-clause-within : goal.refresh_all-requires-clause-within
-refresh_all-requires-clause-within c = rw c.as_slice-births.ensures.value c.self.invariant.within
+    (λ pack. settled-track c.args.log.now c.args.stops.now (tracks pack).before pack (kept_in pack (kept_table c.self.inside.table.slots.entries)) (tracks pack).track)
 
 pub invariant_of-self : goal.invariant_of-self
 invariant_of-self c =
     let tracks = rw (← c.self.view_is) at c.requires.tracks in
-    let looks = rw (c.as_slice-births.ensures.value, c.of_product-serials.ensures) at c.refresh_all.ensures.kept in
+    let looks = rw c.of_product-serials.ensures at c.refresh_all.ensures.kept in
     record {
-      within = rw c.as_slice-births.ensures.value at c.refresh_all.ensures.within;
       tracked = λ pack h. c.self.invariant.tracked pack (sym (c.refresh_all.ensures.own pack) ∙ h);
       listed = λ pack. subst (IsFound c.self.inside.batches pack) (sym (looks pack))
-          (found-refreshed c.self.inside.batches c.args.log.now c.args.stops.now pack (kept_in pack (kept_table c.self.inside.births.items c.self.inside.table.slots.entries)) (tracks pack) (c.self.invariant.listed pack)
+          (found-refreshed c.self.inside.batches c.args.log.now c.args.stops.now pack (kept_in pack (kept_table c.self.inside.table.slots.entries)) (tracks pack) (c.self.invariant.listed pack)
           (has_pack c.args.gtin.now (serials_in (bytes_eq c.args.gtin.now) c.self.inside.tracked) pack));
-      tally = rw c.as_slice-births.ensures.value at c.refresh_all.ensures.tally;
+      tally = c.refresh_all.ensures.tally;
     }
 
 pub returns : goal.returns
@@ -39,8 +31,8 @@ returns c =
     let tracks = rw (← c.self.view_is) at c.requires.tracks in
     record {
       kept = rw (← c.self.view_is)
-          (again-all c.args.log.now c.args.stops.now c.self.inside.births.items c.self.inside.table.slots.entries (kept_table c.self.inside.births.items c.refresh_all.new.self.slots.entries) c.self.inside.tracked c.args.gtin.now
+          (again-all c.args.log.now c.args.stops.now c.self.inside.table.slots.entries (kept_table c.refresh_all.new.self.slots.entries) c.self.inside.tracked c.args.gtin.now
           c.self.invariant.tracked
-          (λ pack. settled-track c.args.log.now c.args.stops.now (tracks pack).before pack (kept_in pack (kept_table c.self.inside.births.items c.self.inside.table.slots.entries)) (tracks pack).track)
-          (rw (c.as_slice-births.ensures.value, c.of_product-serials.ensures) at c.refresh_all.ensures.kept));
+          (λ pack. settled-track c.args.log.now c.args.stops.now (tracks pack).before pack (kept_in pack (kept_table c.self.inside.table.slots.entries)) (tracks pack).track)
+          (rw c.of_product-serials.ensures at c.refresh_all.ensures.kept));
     }

@@ -1,12 +1,12 @@
 -- What stands for the pack is worked out again; where nothing stands nothing is written.
-use Rattle.std.proofs.Common.{◌≡◌, ◌∙◌, ap, sym, subst, rules, Some, None, is_some, slice_get, true≢false}
+use Rattle.std.proofs.Common.{◌≡◌, ◌∙◌, [], ap, sym, subst, rules, Some, None, is_some, slice_get, true≢false}
 use Rattle.std.specs.Map.{lookup, set_value}
 use Rattle.mv_repository.specs.declared.slot.Slot.TheVariants.{Made}
 use Rattle.mv_pack.specs.Keys.{is_same_pack}
 use Rattle.mv_repository.specs.Packs.{IsSettled, refreshed_in}
 use Rattle.mv_repository.specs.Slots.{is_same_name, pack_slots, IsNamed}
-use Rattle.mv_repository.specs.Track.{is_made, is_active_kept}
-use Rattle.mv_repository.proofs.PacksLemmas.{found-kept, absent-kept, found-own, written-absent, within-found, refreshed-nothing}
+use Rattle.mv_repository.specs.Track.{born_at, is_made, is_active_kept}
+use Rattle.mv_repository.proofs.PacksLemmas.{found-kept, absent-kept, found-own, written-absent, refreshed-nothing}
 use Rattle.mv_repository.proofs.SlotsLemmas.{found-named, written-named, still-written}
 use Rattle.mv_repository.proofs.slots.Slots.put_refreshed.Goals as goal
 
@@ -18,10 +18,9 @@ returns-in_default-clause-written c =
     found-named c.self.inside.products.keys c.self.inside.slots.entries c.self.invariant c.args.self.now.entries (λ i. (c.self.view_is i).entries) c.new-name.result c.args.key.now place c.new-name.ensures.serial None absent in
     let same : c.get_mut.follows.lender-at-none.entries ≡ c.self.inside.slots.entries = search rules in
     record {
-      slot = Made 0;
-      entries = ap (pack_slots c.self.inside.products.keys) same ∙ (λ i. (c.self.view_is i).entries) ∙ sym (written-absent c.args.self.now.entries c.args.key.now (Made 0) none);
+      slot = Made (born_at [] 0);
+      entries = ap (pack_slots c.self.inside.products.keys) same ∙ (λ i. (c.self.view_is i).entries) ∙ sym (written-absent c.args.self.now.entries c.args.key.now (Made (born_at [] 0)) none);
       kept_is = λ h. absurd (true≢false (sym h ∙ ap is_some none));
-      within = λ h. absurd (true≢false (sym h ∙ ap is_some none));
       own_is = λ h. absurd (true≢false (sym h ∙ ap is_some none));
     }
 
@@ -31,7 +30,7 @@ returns-in_default-clause-was_held c =
     let absent : lookup (is_same_name c.new-name.result) c.self.inside.slots.entries ≡ None = search rules in
     let none : lookup (is_same_pack c.args.key.now) c.args.self.now.entries ≡ None =
     found-named c.self.inside.products.keys c.self.inside.slots.entries c.self.invariant c.args.self.now.entries (λ i. (c.self.view_is i).entries) c.new-name.result c.args.key.now place c.new-name.ensures.serial None absent in
-    ap is_made (sym (absent-kept c.args.births.now c.args.self.now.entries c.args.key.now none))
+    ap is_made (sym (absent-kept c.args.self.now.entries c.args.key.now none))
 
 pub returns-in_default-clause-was_active : goal.returns-in_default-clause-was_active
 returns-in_default-clause-was_active c =
@@ -39,7 +38,7 @@ returns-in_default-clause-was_active c =
     let absent : lookup (is_same_name c.new-name.result) c.self.inside.slots.entries ≡ None = search rules in
     let none : lookup (is_same_pack c.args.key.now) c.args.self.now.entries ≡ None =
     found-named c.self.inside.products.keys c.self.inside.slots.entries c.self.invariant c.args.self.now.entries (λ i. (c.self.view_is i).entries) c.new-name.result c.args.key.now place c.new-name.ensures.serial None absent in
-    ap is_active_kept (sym (absent-kept c.args.births.now c.args.self.now.entries c.args.key.now none))
+    ap is_active_kept (sym (absent-kept c.args.self.now.entries c.args.key.now none))
 
 pub returns-in_default-clause-held : goal.returns-in_default-clause-held
 returns-in_default-clause-held c =
@@ -47,7 +46,7 @@ returns-in_default-clause-held c =
     let absent : lookup (is_same_name c.new-name.result) c.self.inside.slots.entries ≡ None = search rules in
     let none : lookup (is_same_pack c.args.key.now) c.args.self.now.entries ≡ None =
     found-named c.self.inside.products.keys c.self.inside.slots.entries c.self.invariant c.args.self.now.entries (λ i. (c.self.view_is i).entries) c.new-name.result c.args.key.now place c.new-name.ensures.serial None absent in
-    ap is_made (sym (refreshed-nothing c.args.log.now c.args.stops.now c.args.maker c.args.key.now) ∙ ap (refreshed_in c.args.log.now c.args.stops.now c.args.maker c.args.key.now) (sym (absent-kept c.args.births.now c.args.self.now.entries c.args.key.now none)))
+    ap is_made (sym (refreshed-nothing c.args.log.now c.args.stops.now c.args.maker c.args.key.now) ∙ ap (refreshed_in c.args.log.now c.args.stops.now c.args.maker c.args.key.now) (sym (absent-kept c.args.self.now.entries c.args.key.now none)))
 
 pub returns-in_default-clause-active : goal.returns-in_default-clause-active
 returns-in_default-clause-active c =
@@ -55,7 +54,7 @@ returns-in_default-clause-active c =
     let absent : lookup (is_same_name c.new-name.result) c.self.inside.slots.entries ≡ None = search rules in
     let none : lookup (is_same_pack c.args.key.now) c.args.self.now.entries ≡ None =
     found-named c.self.inside.products.keys c.self.inside.slots.entries c.self.invariant c.args.self.now.entries (λ i. (c.self.view_is i).entries) c.new-name.result c.args.key.now place c.new-name.ensures.serial None absent in
-    ap is_active_kept (sym (refreshed-nothing c.args.log.now c.args.stops.now c.args.maker c.args.key.now) ∙ ap (refreshed_in c.args.log.now c.args.stops.now c.args.maker c.args.key.now) (sym (absent-kept c.args.births.now c.args.self.now.entries c.args.key.now none)))
+    ap is_active_kept (sym (refreshed-nothing c.args.log.now c.args.stops.now c.args.maker c.args.key.now) ∙ ap (refreshed_in c.args.log.now c.args.stops.now c.args.maker c.args.key.now) (sym (absent-kept c.args.self.now.entries c.args.key.now none)))
 
 pub refresh-requires : goal.refresh-requires
 refresh-requires c =
@@ -63,7 +62,7 @@ refresh-requires c =
     let stands : lookup (is_same_name c.new-name.result) c.self.inside.slots.entries ≡ Some c.in-Some.slot.now = search rules in
     let found : lookup (is_same_pack c.args.key.now) c.args.self.now.entries ≡ Some c.in-Some.slot.now =
     found-named c.self.inside.products.keys c.self.inside.slots.entries c.self.invariant c.args.self.now.entries (λ i. (c.self.view_is i).entries) c.new-name.result c.args.key.now place c.new-name.ensures.serial (Some c.in-Some.slot.now) stands in
-    let kept = found-kept c.args.births.now c.args.self.now.entries c.args.key.now c.in-Some.slot.now found in
+    let kept = found-kept c.args.self.now.entries c.args.key.now c.in-Some.slot.now found in
     record { settled = subst (IsSettled c.args.log.now c.args.stops.now c.args.key.now) kept c.requires.settled }
 
 pub invariant_of-self-2 : goal.invariant_of-self-2
@@ -77,13 +76,12 @@ returns-clause-written c =
     let stands : lookup (is_same_name c.new-name.result) c.self.inside.slots.entries ≡ Some c.in-Some.slot.now = search rules in
     let found : lookup (is_same_pack c.args.key.now) c.args.self.now.entries ≡ Some c.in-Some.slot.now =
     found-named c.self.inside.products.keys c.self.inside.slots.entries c.self.invariant c.args.self.now.entries (λ i. (c.self.view_is i).entries) c.new-name.result c.args.key.now place c.new-name.ensures.serial (Some c.in-Some.slot.now) stands in
-    let kept = found-kept c.args.births.now c.args.self.now.entries c.args.key.now c.in-Some.slot.now found in
+    let kept = found-kept c.args.self.now.entries c.args.key.now c.in-Some.slot.now found in
     let wrote : (c.get_mut.follows.lender c.refresh.new.self).entries ≡ set_value (is_same_name c.new-name.result) c.self.inside.slots.entries c.refresh.new.self = search rules in
     record {
       slot = c.refresh.new.self;
       entries = ap (pack_slots c.self.inside.products.keys) wrote ∙ written-named c.self.inside.products.keys c.self.inside.slots.entries c.self.invariant c.args.self.now.entries (λ i. (c.self.view_is i).entries) c.new-name.result c.args.key.now place c.new-name.ensures.serial c.refresh.new.self;
       kept_is = λ h. c.refresh.ensures.kept ∙ ap (refreshed_in c.args.log.now c.args.stops.now c.args.maker c.args.key.now) (sym kept);
-      within = λ h w. c.refresh.ensures.within (within-found _ c.args.self.now.entries c.args.key.now c.in-Some.slot.now w found);
       own_is = λ h. c.refresh.ensures.own ∙ sym (found-own c.args.self.now.entries c.args.key.now c.in-Some.slot.now found);
     }
 
@@ -93,7 +91,7 @@ returns-clause-was_held c =
     let stands : lookup (is_same_name c.new-name.result) c.self.inside.slots.entries ≡ Some c.in-Some.slot.now = search rules in
     let found : lookup (is_same_pack c.args.key.now) c.args.self.now.entries ≡ Some c.in-Some.slot.now =
     found-named c.self.inside.products.keys c.self.inside.slots.entries c.self.invariant c.args.self.now.entries (λ i. (c.self.view_is i).entries) c.new-name.result c.args.key.now place c.new-name.ensures.serial (Some c.in-Some.slot.now) stands in
-    let kept = found-kept c.args.births.now c.args.self.now.entries c.args.key.now c.in-Some.slot.now found in
+    let kept = found-kept c.args.self.now.entries c.args.key.now c.in-Some.slot.now found in
     c.share-was.ensures.held ∙ ap is_made (sym kept)
 
 pub returns-clause-was_active : goal.returns-clause-was_active
@@ -102,7 +100,7 @@ returns-clause-was_active c =
     let stands : lookup (is_same_name c.new-name.result) c.self.inside.slots.entries ≡ Some c.in-Some.slot.now = search rules in
     let found : lookup (is_same_pack c.args.key.now) c.args.self.now.entries ≡ Some c.in-Some.slot.now =
     found-named c.self.inside.products.keys c.self.inside.slots.entries c.self.invariant c.args.self.now.entries (λ i. (c.self.view_is i).entries) c.new-name.result c.args.key.now place c.new-name.ensures.serial (Some c.in-Some.slot.now) stands in
-    let kept = found-kept c.args.births.now c.args.self.now.entries c.args.key.now c.in-Some.slot.now found in
+    let kept = found-kept c.args.self.now.entries c.args.key.now c.in-Some.slot.now found in
     c.share-was.ensures.active ∙ ap is_active_kept (sym kept)
 
 pub returns-clause-held : goal.returns-clause-held
@@ -111,7 +109,7 @@ returns-clause-held c =
     let stands : lookup (is_same_name c.new-name.result) c.self.inside.slots.entries ≡ Some c.in-Some.slot.now = search rules in
     let found : lookup (is_same_pack c.args.key.now) c.args.self.now.entries ≡ Some c.in-Some.slot.now =
     found-named c.self.inside.products.keys c.self.inside.slots.entries c.self.invariant c.args.self.now.entries (λ i. (c.self.view_is i).entries) c.new-name.result c.args.key.now place c.new-name.ensures.serial (Some c.in-Some.slot.now) stands in
-    let kept = found-kept c.args.births.now c.args.self.now.entries c.args.key.now c.in-Some.slot.now found in
+    let kept = found-kept c.args.self.now.entries c.args.key.now c.in-Some.slot.now found in
     c.share-is.ensures.held ∙ ap is_made (c.refresh.ensures.kept ∙ ap (refreshed_in c.args.log.now c.args.stops.now c.args.maker c.args.key.now) (sym kept))
 
 pub returns-clause-active : goal.returns-clause-active
@@ -120,5 +118,5 @@ returns-clause-active c =
     let stands : lookup (is_same_name c.new-name.result) c.self.inside.slots.entries ≡ Some c.in-Some.slot.now = search rules in
     let found : lookup (is_same_pack c.args.key.now) c.args.self.now.entries ≡ Some c.in-Some.slot.now =
     found-named c.self.inside.products.keys c.self.inside.slots.entries c.self.invariant c.args.self.now.entries (λ i. (c.self.view_is i).entries) c.new-name.result c.args.key.now place c.new-name.ensures.serial (Some c.in-Some.slot.now) stands in
-    let kept = found-kept c.args.births.now c.args.self.now.entries c.args.key.now c.in-Some.slot.now found in
+    let kept = found-kept c.args.self.now.entries c.args.key.now c.in-Some.slot.now found in
     c.share-is.ensures.active ∙ ap is_active_kept (c.refresh.ensures.kept ∙ ap (refreshed_in c.args.log.now c.args.stops.now c.args.maker c.args.key.now) (sym kept))

@@ -10,7 +10,7 @@ use Rattle.mv_pack.specs.Keys.{is_same_pack}
 use Rattle.mv_repository.specs.Packs.{kept_as, is_own}
 use Rattle.mv_repository.specs.Slots.{is_same_name, pack_slots, IsNamed}
 use Rattle.mv_repository.specs.Track.{IsTrack, with_status, newest_effect, is_made, is_active_kept}
-use Rattle.mv_repository.proofs.PacksLemmas.{found-kept, absent-kept, found-own, inserted-same, own-within}
+use Rattle.mv_repository.proofs.PacksLemmas.{found-kept, absent-kept, found-own, inserted-same}
 use Rattle.mv_repository.proofs.SlotsLemmas.{found-named, put-named, still-put}
 use Rattle.mv_repository.proofs.slots.Slots.put_status.Goals as goal
 
@@ -21,7 +21,7 @@ add_status-requires-clause-track c =
     let found : lookup (is_same_pack c.args.key.now) c.args.self.now.entries ≡ Some c.into_mut-slot.result.now =
     found-named c.self.inside.products.keys c.self.inside.slots.entries c.self.invariant c.args.self.now.entries seen c.new.result c.args.key.now place c.new.ensures.serial
     (Some c.into_mut-slot.result.now) (sym c.in_ok-place.ensures.value ∙ ap entry_value c.in-Occupied.is ∙ c.into_mut-slot.ensures.value) in
-    let kept = found-kept c.args.births.now c.args.self.now.entries c.args.key.now c.into_mut-slot.result.now found in
+    let kept = found-kept c.args.self.now.entries c.args.key.now c.into_mut-slot.result.now found in
     subst (IsTrack (c.args.log.now.items ++ c.args.entry ∷ []) c.args.stops.now c.args.key.now) kept c.requires.track
 
 pub invariant_of-self-in_err-effect-in-Occupied : goal.invariant_of-self-in_err-effect-in-Occupied
@@ -75,7 +75,7 @@ returns-in-Occupied-clause-put c =
     let found : lookup (is_same_pack c.args.key.now) c.args.self.now.entries ≡ Some c.into_mut-slot.result.now =
     found-named c.self.inside.products.keys c.self.inside.slots.entries c.self.invariant c.args.self.now.entries seen c.new.result c.args.key.now place c.new.ensures.serial
     (Some c.into_mut-slot.result.now) (sym c.in_ok-place.ensures.value ∙ ap entry_value c.in-Occupied.is ∙ c.into_mut-slot.ensures.value) in
-    let kept = found-kept c.args.births.now c.args.self.now.entries c.args.key.now c.into_mut-slot.result.now found in
+    let kept = found-kept c.args.self.now.entries c.args.key.now c.into_mut-slot.result.now found in
     let wrote : (slots : IndexMap PackName Slot (BuildHasherDefault FoldHasher)) → slots ≡ map_with_value (Occupied c.in-Occupied.place) c.add_status.new.self
     → pack_slots c.self.inside.products.keys slots.entries ≡ insert_entry is_same_pack c.args.self.now.entries c.args.key.now c.add_status.new.self =
     λ slots same.
@@ -87,7 +87,6 @@ returns-in-Occupied-clause-put c =
       slot = c.add_status.new.self;
       entries = search (rules, wrote);
       kept_is = c.in_ok-effect-in-Occupied.ensures.kept ∙ ap (with_status (c.args.log.now.items ++ c.args.entry ∷ []) c.args.stops.now c.args.key.now (length c.args.log.now.items)) (sym kept);
-      within = λ w. own-within _ c.add_status.new.self c.in_ok-effect-in-Occupied.ensures.own;
       own_is = c.in_ok-effect-in-Occupied.ensures.own;
     }
 
@@ -98,7 +97,7 @@ returns-in-Occupied-clause-effect c =
     let found : lookup (is_same_pack c.args.key.now) c.args.self.now.entries ≡ Some c.into_mut-slot.result.now =
     found-named c.self.inside.products.keys c.self.inside.slots.entries c.self.invariant c.args.self.now.entries seen c.new.result c.args.key.now place c.new.ensures.serial
     (Some c.into_mut-slot.result.now) (sym c.in_ok-place.ensures.value ∙ ap entry_value c.in-Occupied.is ∙ c.into_mut-slot.ensures.value) in
-    let kept = found-kept c.args.births.now c.args.self.now.entries c.args.key.now c.into_mut-slot.result.now found in
+    let kept = found-kept c.args.self.now.entries c.args.key.now c.into_mut-slot.result.now found in
     c.in_ok-effect-in-Occupied.ensures.effect ∙ ap (newest_effect (c.args.log.now.items ++ c.args.entry ∷ []) c.args.stops.now c.args.key.now (length c.args.log.now.items)) (sym kept)
 
 pub returns-in-Occupied-clause-was_held : goal.returns-in-Occupied-clause-was_held
@@ -108,7 +107,7 @@ returns-in-Occupied-clause-was_held c =
     let found : lookup (is_same_pack c.args.key.now) c.args.self.now.entries ≡ Some c.into_mut-slot.result.now =
     found-named c.self.inside.products.keys c.self.inside.slots.entries c.self.invariant c.args.self.now.entries seen c.new.result c.args.key.now place c.new.ensures.serial
     (Some c.into_mut-slot.result.now) (sym c.in_ok-place.ensures.value ∙ ap entry_value c.in-Occupied.is ∙ c.into_mut-slot.ensures.value) in
-    let kept = found-kept c.args.births.now c.args.self.now.entries c.args.key.now c.into_mut-slot.result.now found in
+    let kept = found-kept c.args.self.now.entries c.args.key.now c.into_mut-slot.result.now found in
     c.share-was.ensures.held ∙ ap is_made (sym kept)
 
 pub returns-in-Occupied-clause-was_active : goal.returns-in-Occupied-clause-was_active
@@ -118,7 +117,7 @@ returns-in-Occupied-clause-was_active c =
     let found : lookup (is_same_pack c.args.key.now) c.args.self.now.entries ≡ Some c.into_mut-slot.result.now =
     found-named c.self.inside.products.keys c.self.inside.slots.entries c.self.invariant c.args.self.now.entries seen c.new.result c.args.key.now place c.new.ensures.serial
     (Some c.into_mut-slot.result.now) (sym c.in_ok-place.ensures.value ∙ ap entry_value c.in-Occupied.is ∙ c.into_mut-slot.ensures.value) in
-    let kept = found-kept c.args.births.now c.args.self.now.entries c.args.key.now c.into_mut-slot.result.now found in
+    let kept = found-kept c.args.self.now.entries c.args.key.now c.into_mut-slot.result.now found in
     c.share-was.ensures.active ∙ ap is_active_kept (sym kept)
 
 pub returns-in-Occupied-clause-held : goal.returns-in-Occupied-clause-held
@@ -128,7 +127,7 @@ returns-in-Occupied-clause-held c =
     let found : lookup (is_same_pack c.args.key.now) c.args.self.now.entries ≡ Some c.into_mut-slot.result.now =
     found-named c.self.inside.products.keys c.self.inside.slots.entries c.self.invariant c.args.self.now.entries seen c.new.result c.args.key.now place c.new.ensures.serial
     (Some c.into_mut-slot.result.now) (sym c.in_ok-place.ensures.value ∙ ap entry_value c.in-Occupied.is ∙ c.into_mut-slot.ensures.value) in
-    let kept = found-kept c.args.births.now c.args.self.now.entries c.args.key.now c.into_mut-slot.result.now found in
+    let kept = found-kept c.args.self.now.entries c.args.key.now c.into_mut-slot.result.now found in
     c.share-is.ensures.held ∙ ap is_made (c.in_ok-effect-in-Occupied.ensures.kept ∙ ap (with_status (c.args.log.now.items ++ c.args.entry ∷ []) c.args.stops.now c.args.key.now (length c.args.log.now.items)) (sym kept))
 
 pub returns-in-Occupied-clause-active : goal.returns-in-Occupied-clause-active
@@ -138,7 +137,7 @@ returns-in-Occupied-clause-active c =
     let found : lookup (is_same_pack c.args.key.now) c.args.self.now.entries ≡ Some c.into_mut-slot.result.now =
     found-named c.self.inside.products.keys c.self.inside.slots.entries c.self.invariant c.args.self.now.entries seen c.new.result c.args.key.now place c.new.ensures.serial
     (Some c.into_mut-slot.result.now) (sym c.in_ok-place.ensures.value ∙ ap entry_value c.in-Occupied.is ∙ c.into_mut-slot.ensures.value) in
-    let kept = found-kept c.args.births.now c.args.self.now.entries c.args.key.now c.into_mut-slot.result.now found in
+    let kept = found-kept c.args.self.now.entries c.args.key.now c.into_mut-slot.result.now found in
     c.share-is.ensures.active ∙ ap is_active_kept (c.in_ok-effect-in-Occupied.ensures.kept ∙ ap (with_status (c.args.log.now.items ++ c.args.entry ∷ []) c.args.stops.now c.args.key.now (length c.args.log.now.items)) (sym kept))
 
 pub returns-in-Occupied-clause-added : goal.returns-in-Occupied-clause-added
@@ -170,7 +169,7 @@ returns-clause-put c =
     let none : lookup (is_same_pack c.args.key.now) c.args.self.now.entries ≡ None =
     found-named c.self.inside.products.keys c.self.inside.slots.entries c.self.invariant c.args.self.now.entries seen c.new.result c.args.key.now place c.new.ensures.serial
     None (rw c.in-Vacant.is at c.in_ok-place.ensures.found) in
-    let empty = absent-kept c.args.births.now c.args.self.now.entries c.args.key.now none in
+    let empty = absent-kept c.args.self.now.entries c.args.key.now none in
     let wrote : (slots : IndexMap PackName Slot (BuildHasherDefault FoldHasher)) → slots ≡ map_with_value (Vacant c.in-Vacant.place) c.insert-slot.result.now
     → pack_slots c.self.inside.products.keys slots.entries ≡ insert_entry is_same_pack c.args.self.now.entries c.args.key.now c.insert-slot.result.now =
     λ slots same.
@@ -182,8 +181,7 @@ returns-clause-put c =
     record {
       slot = c.insert-slot.result.now;
       entries = search (rules, wrote);
-      kept_is = ap (kept_as c.args.births.now) c.insert-slot.ensures.value ∙ c.in_ok-started.ensures.kept ∙ ap (with_status (c.args.log.now.items ++ c.args.entry ∷ []) c.args.stops.now c.args.key.now (length c.args.log.now.items)) (sym empty);
-      within = λ w. own-within _ c.insert-slot.result.now own;
+      kept_is = ap kept_as c.insert-slot.ensures.value ∙ c.in_ok-started.ensures.kept ∙ ap (with_status (c.args.log.now.items ++ c.args.entry ∷ []) c.args.stops.now c.args.key.now (length c.args.log.now.items)) (sym empty);
       own_is = own;
     }
 
@@ -194,7 +192,7 @@ returns-clause-effect c =
     let none : lookup (is_same_pack c.args.key.now) c.args.self.now.entries ≡ None =
     found-named c.self.inside.products.keys c.self.inside.slots.entries c.self.invariant c.args.self.now.entries seen c.new.result c.args.key.now place c.new.ensures.serial
     None (rw c.in-Vacant.is at c.in_ok-place.ensures.found) in
-    let empty = absent-kept c.args.births.now c.args.self.now.entries c.args.key.now none in
+    let empty = absent-kept c.args.self.now.entries c.args.key.now none in
     c.in_ok-started.ensures.effect ∙ ap (newest_effect (c.args.log.now.items ++ c.args.entry ∷ []) c.args.stops.now c.args.key.now (length c.args.log.now.items)) (sym empty)
 
 pub returns-clause-was_held : goal.returns-clause-was_held
@@ -204,7 +202,7 @@ returns-clause-was_held c =
     let none : lookup (is_same_pack c.args.key.now) c.args.self.now.entries ≡ None =
     found-named c.self.inside.products.keys c.self.inside.slots.entries c.self.invariant c.args.self.now.entries seen c.new.result c.args.key.now place c.new.ensures.serial
     None (rw c.in-Vacant.is at c.in_ok-place.ensures.found) in
-    let empty = absent-kept c.args.births.now c.args.self.now.entries c.args.key.now none in
+    let empty = absent-kept c.args.self.now.entries c.args.key.now none in
     ap is_made (sym empty)
 
 pub returns-clause-was_active : goal.returns-clause-was_active
@@ -214,7 +212,7 @@ returns-clause-was_active c =
     let none : lookup (is_same_pack c.args.key.now) c.args.self.now.entries ≡ None =
     found-named c.self.inside.products.keys c.self.inside.slots.entries c.self.invariant c.args.self.now.entries seen c.new.result c.args.key.now place c.new.ensures.serial
     None (rw c.in-Vacant.is at c.in_ok-place.ensures.found) in
-    let empty = absent-kept c.args.births.now c.args.self.now.entries c.args.key.now none in
+    let empty = absent-kept c.args.self.now.entries c.args.key.now none in
     ap is_active_kept (sym empty)
 
 pub returns-clause-held : goal.returns-clause-held
@@ -224,8 +222,8 @@ returns-clause-held c =
     let none : lookup (is_same_pack c.args.key.now) c.args.self.now.entries ≡ None =
     found-named c.self.inside.products.keys c.self.inside.slots.entries c.self.invariant c.args.self.now.entries seen c.new.result c.args.key.now place c.new.ensures.serial
     None (rw c.in-Vacant.is at c.in_ok-place.ensures.found) in
-    let empty = absent-kept c.args.births.now c.args.self.now.entries c.args.key.now none in
-    c.share.ensures.held ∙ ap is_made (ap (kept_as c.args.births.now) c.insert-slot.ensures.value ∙ c.in_ok-started.ensures.kept ∙ ap (with_status (c.args.log.now.items ++ c.args.entry ∷ []) c.args.stops.now c.args.key.now (length c.args.log.now.items)) (sym empty))
+    let empty = absent-kept c.args.self.now.entries c.args.key.now none in
+    c.share.ensures.held ∙ ap is_made (ap kept_as c.insert-slot.ensures.value ∙ c.in_ok-started.ensures.kept ∙ ap (with_status (c.args.log.now.items ++ c.args.entry ∷ []) c.args.stops.now c.args.key.now (length c.args.log.now.items)) (sym empty))
 
 pub returns-clause-active : goal.returns-clause-active
 returns-clause-active c =
@@ -234,5 +232,5 @@ returns-clause-active c =
     let none : lookup (is_same_pack c.args.key.now) c.args.self.now.entries ≡ None =
     found-named c.self.inside.products.keys c.self.inside.slots.entries c.self.invariant c.args.self.now.entries seen c.new.result c.args.key.now place c.new.ensures.serial
     None (rw c.in-Vacant.is at c.in_ok-place.ensures.found) in
-    let empty = absent-kept c.args.births.now c.args.self.now.entries c.args.key.now none in
-    c.share.ensures.active ∙ ap is_active_kept (ap (kept_as c.args.births.now) c.insert-slot.ensures.value ∙ c.in_ok-started.ensures.kept ∙ ap (with_status (c.args.log.now.items ++ c.args.entry ∷ []) c.args.stops.now c.args.key.now (length c.args.log.now.items)) (sym empty))
+    let empty = absent-kept c.args.self.now.entries c.args.key.now none in
+    c.share.ensures.active ∙ ap is_active_kept (ap kept_as c.insert-slot.ensures.value ∙ c.in_ok-started.ensures.kept ∙ ap (with_status (c.args.log.now.items ++ c.args.entry ∷ []) c.args.stops.now c.args.key.now (length c.args.log.now.items)) (sym empty))

@@ -1,5 +1,5 @@
 -- What stands for the pack has the upload.
-use Rattle.std.proofs.Common.{◌≡◌, ◌∙◌, ap, sym, subst, rules, Some, None, length, slice_get, BuildHasherDefault, FoldHasher}
+use Rattle.std.proofs.Common.{◌≡◌, ◌∙◌, ap, sym, subst, rules, Some, None, slice_get, BuildHasherDefault, FoldHasher}
 use Rattle.std.specs.Map.{lookup}
 use Rattle.indexmap.specs.declared.map.entry.Entry.TheVariants.{Occupied, Vacant}
 use Rattle.indexmap.specs.Entry.{entry_value, map_with_value}
@@ -7,11 +7,11 @@ use Rattle.indexmap.specs.IndexMap.{IndexMap, insert_entry}
 use Rattle.mv_repository.specs.declared.slot.Slot.{Slot}
 use Rattle.mv_repository.specs.declared.slots.PackName.{PackName}
 use Rattle.mv_pack.specs.Keys.{is_same_pack}
-use Rattle.mv_repository.specs.Packs.{kept_as, kept_table, IsWithin, is_own}
+use Rattle.mv_repository.specs.Packs.{kept_as, kept_table, is_own}
 use Rattle.mv_repository.specs.Slots.{is_same_name, pack_slots, IsNamed}
 use Rattle.mv_repository.specs.Stops.{comes_first}
-use Rattle.mv_repository.specs.Track.{Kept, kept_in, IsTrack, with_upload, is_made, is_active_kept}
-use Rattle.mv_repository.proofs.PacksLemmas.{found-kept, absent-kept, found-own, none-own, within-found, born-fresh}
+use Rattle.mv_repository.specs.Track.{Kept, kept_born, kept_in, IsTrack, with_upload, is_made, is_active_kept}
+use Rattle.mv_repository.proofs.PacksLemmas.{found-kept, absent-kept, found-own, none-own, born-fresh}
 use Rattle.mv_repository.proofs.SlotsLemmas.{found-named, put-named, still-put}
 use Rattle.mv_repository.proofs.slots.Slots.put_upload.Goals as goal
 
@@ -21,7 +21,7 @@ add_upload-is_new-requires-clause-track c =
     let found : lookup (is_same_pack c.args.key.now) c.args.self.now.entries ≡ Some c.into_mut-slot.result.now =
     found-named c.self.inside.products.keys c.self.inside.slots.entries c.self.invariant c.args.self.now.entries (λ i. (c.self.view_is i).entries) c.new.result c.args.key.now place c.new.ensures.serial
     (Some c.into_mut-slot.result.now) (sym c.in-Ok-Occupied.ensures.value ∙ ap entry_value c.in-Ok-Occupied.field-0-is ∙ c.into_mut-slot.ensures.value) in
-    let kept = found-kept c.args.births.now c.args.self.now.entries c.args.key.now c.into_mut-slot.result.now found in
+    let kept = found-kept c.args.self.now.entries c.args.key.now c.into_mut-slot.result.now found in
     subst (IsTrack c.args.log.now c.args.stops.now c.args.key.now) kept c.requires.track
 
 pub invariant_of-self : goal.invariant_of-self
@@ -42,7 +42,7 @@ returns-in-Ok-Occupied-clause-put c =
     let found : lookup (is_same_pack c.args.key.now) c.args.self.now.entries ≡ Some c.into_mut-slot.result.now =
     found-named c.self.inside.products.keys c.self.inside.slots.entries c.self.invariant c.args.self.now.entries (λ i. (c.self.view_is i).entries) c.new.result c.args.key.now place c.new.ensures.serial
     (Some c.into_mut-slot.result.now) (sym c.in-Ok-Occupied.ensures.value ∙ ap entry_value c.in-Ok-Occupied.field-0-is ∙ c.into_mut-slot.ensures.value) in
-    let kept = found-kept c.args.births.now c.args.self.now.entries c.args.key.now c.into_mut-slot.result.now found in
+    let kept = found-kept c.args.self.now.entries c.args.key.now c.into_mut-slot.result.now found in
     let wrote : (slots : IndexMap PackName Slot (BuildHasherDefault FoldHasher)) → slots ≡ map_with_value (Occupied c.in-Ok-Occupied.place) c.add_upload-is_new.new.self
     → pack_slots c.self.inside.products.keys slots.entries ≡ insert_entry is_same_pack c.args.self.now.entries c.args.key.now c.add_upload-is_new.new.self =
     λ slots same.
@@ -54,7 +54,6 @@ returns-in-Ok-Occupied-clause-put c =
       slot = c.add_upload-is_new.new.self;
       entries = search (rules, wrote);
       kept_is = c.add_upload-is_new.ensures.kept ∙ ap (with_upload c.args.log.now c.args.stops.now c.args.key.now c.args.new) (sym kept);
-      within = λ w. c.add_upload-is_new.ensures.within (within-found _ c.args.self.now.entries c.args.key.now c.into_mut-slot.result.now w found);
       own_is = c.add_upload-is_new.ensures.own ∙ sym (found-own c.args.self.now.entries c.args.key.now c.into_mut-slot.result.now found);
     }
 
@@ -64,7 +63,7 @@ returns-in-Ok-Occupied-clause-first c =
     let found : lookup (is_same_pack c.args.key.now) c.args.self.now.entries ≡ Some c.into_mut-slot.result.now =
     found-named c.self.inside.products.keys c.self.inside.slots.entries c.self.invariant c.args.self.now.entries (λ i. (c.self.view_is i).entries) c.new.result c.args.key.now place c.new.ensures.serial
     (Some c.into_mut-slot.result.now) (sym c.in-Ok-Occupied.ensures.value ∙ ap entry_value c.in-Ok-Occupied.field-0-is ∙ c.into_mut-slot.ensures.value) in
-    let kept = found-kept c.args.births.now c.args.self.now.entries c.args.key.now c.into_mut-slot.result.now found in
+    let kept = found-kept c.args.self.now.entries c.args.key.now c.into_mut-slot.result.now found in
     c.add_upload-is_new.ensures.first ∙ ap (λ (k : Kept). comes_first c.args.log.now c.args.new k.birth) (sym kept)
 
 pub returns-in-Ok-Occupied-clause-was_held : goal.returns-in-Ok-Occupied-clause-was_held
@@ -73,7 +72,7 @@ returns-in-Ok-Occupied-clause-was_held c =
     let found : lookup (is_same_pack c.args.key.now) c.args.self.now.entries ≡ Some c.into_mut-slot.result.now =
     found-named c.self.inside.products.keys c.self.inside.slots.entries c.self.invariant c.args.self.now.entries (λ i. (c.self.view_is i).entries) c.new.result c.args.key.now place c.new.ensures.serial
     (Some c.into_mut-slot.result.now) (sym c.in-Ok-Occupied.ensures.value ∙ ap entry_value c.in-Ok-Occupied.field-0-is ∙ c.into_mut-slot.ensures.value) in
-    let kept = found-kept c.args.births.now c.args.self.now.entries c.args.key.now c.into_mut-slot.result.now found in
+    let kept = found-kept c.args.self.now.entries c.args.key.now c.into_mut-slot.result.now found in
     c.share-was.ensures.held ∙ ap is_made (sym kept)
 
 pub returns-in-Ok-Occupied-clause-was_active : goal.returns-in-Ok-Occupied-clause-was_active
@@ -82,7 +81,7 @@ returns-in-Ok-Occupied-clause-was_active c =
     let found : lookup (is_same_pack c.args.key.now) c.args.self.now.entries ≡ Some c.into_mut-slot.result.now =
     found-named c.self.inside.products.keys c.self.inside.slots.entries c.self.invariant c.args.self.now.entries (λ i. (c.self.view_is i).entries) c.new.result c.args.key.now place c.new.ensures.serial
     (Some c.into_mut-slot.result.now) (sym c.in-Ok-Occupied.ensures.value ∙ ap entry_value c.in-Ok-Occupied.field-0-is ∙ c.into_mut-slot.ensures.value) in
-    let kept = found-kept c.args.births.now c.args.self.now.entries c.args.key.now c.into_mut-slot.result.now found in
+    let kept = found-kept c.args.self.now.entries c.args.key.now c.into_mut-slot.result.now found in
     c.share-was.ensures.active ∙ ap is_active_kept (sym kept)
 
 pub returns-in-Ok-Occupied-clause-held : goal.returns-in-Ok-Occupied-clause-held
@@ -91,7 +90,7 @@ returns-in-Ok-Occupied-clause-held c =
     let found : lookup (is_same_pack c.args.key.now) c.args.self.now.entries ≡ Some c.into_mut-slot.result.now =
     found-named c.self.inside.products.keys c.self.inside.slots.entries c.self.invariant c.args.self.now.entries (λ i. (c.self.view_is i).entries) c.new.result c.args.key.now place c.new.ensures.serial
     (Some c.into_mut-slot.result.now) (sym c.in-Ok-Occupied.ensures.value ∙ ap entry_value c.in-Ok-Occupied.field-0-is ∙ c.into_mut-slot.ensures.value) in
-    let kept = found-kept c.args.births.now c.args.self.now.entries c.args.key.now c.into_mut-slot.result.now found in
+    let kept = found-kept c.args.self.now.entries c.args.key.now c.into_mut-slot.result.now found in
     c.share-is.ensures.held ∙ ap is_made (c.add_upload-is_new.ensures.kept ∙ ap (with_upload c.args.log.now c.args.stops.now c.args.key.now c.args.new) (sym kept))
 
 pub returns-in-Ok-Occupied-clause-active : goal.returns-in-Ok-Occupied-clause-active
@@ -100,7 +99,7 @@ returns-in-Ok-Occupied-clause-active c =
     let found : lookup (is_same_pack c.args.key.now) c.args.self.now.entries ≡ Some c.into_mut-slot.result.now =
     found-named c.self.inside.products.keys c.self.inside.slots.entries c.self.invariant c.args.self.now.entries (λ i. (c.self.view_is i).entries) c.new.result c.args.key.now place c.new.ensures.serial
     (Some c.into_mut-slot.result.now) (sym c.in-Ok-Occupied.ensures.value ∙ ap entry_value c.in-Ok-Occupied.field-0-is ∙ c.into_mut-slot.ensures.value) in
-    let kept = found-kept c.args.births.now c.args.self.now.entries c.args.key.now c.into_mut-slot.result.now found in
+    let kept = found-kept c.args.self.now.entries c.args.key.now c.into_mut-slot.result.now found in
     c.share-is.ensures.active ∙ ap is_active_kept (c.add_upload-is_new.ensures.kept ∙ ap (with_upload c.args.log.now c.args.stops.now c.args.key.now c.args.new) (sym kept))
 
 pub invariant_of-self-2 : goal.invariant_of-self-2
@@ -121,8 +120,8 @@ returns-clause-put c =
     let none : lookup (is_same_pack c.args.key.now) c.args.self.now.entries ≡ None =
     found-named c.self.inside.products.keys c.self.inside.slots.entries c.self.invariant c.args.self.now.entries (λ i. (c.self.view_is i).entries) c.new.result c.args.key.now place c.new.ensures.serial
     None (rw c.in-Ok-Vacant.field-0-is at c.in-Ok-Vacant.ensures.found) in
-    let empty = absent-kept c.args.births.now c.args.self.now.entries c.args.key.now none in
-    let fresh = ap (kept_as c.args.births.now) c.insert-slot.ensures.value ∙ born-fresh c.args.births.now c.args.log.now c.args.stops.now c.args.key.now c.args.new c.args.at (kept_in c.args.key.now (kept_table c.args.births.now c.args.self.now.entries)) c.requires.born empty in
+    let empty = absent-kept c.args.self.now.entries c.args.key.now none in
+    let fresh = ap kept_as c.insert-slot.ensures.value ∙ ap kept_born c.at.ensures ∙ born-fresh c.args.log.now c.args.stops.now c.args.key.now c.args.new (kept_in c.args.key.now (kept_table c.args.self.now.entries)) empty in
     let wrote : (slots : IndexMap PackName Slot (BuildHasherDefault FoldHasher)) → slots ≡ map_with_value (Vacant c.in-Ok-Vacant.place) c.insert-slot.result.now
     → pack_slots c.self.inside.products.keys slots.entries ≡ insert_entry is_same_pack c.args.self.now.entries c.args.key.now c.insert-slot.result.now =
     λ slots same.
@@ -134,7 +133,6 @@ returns-clause-put c =
       slot = c.insert-slot.result.now;
       entries = search (rules, wrote);
       kept_is = fresh;
-      within = λ w. subst (λ (slot : Slot). IsWithin (length c.args.births.now) slot) (sym c.insert-slot.ensures.value) c.requires.born.there;
       own_is = ap is_own c.insert-slot.ensures.value ∙ sym (none-own c.args.self.now.entries c.args.key.now none);
     }
 
@@ -144,7 +142,7 @@ returns-clause-first c =
     let none : lookup (is_same_pack c.args.key.now) c.args.self.now.entries ≡ None =
     found-named c.self.inside.products.keys c.self.inside.slots.entries c.self.invariant c.args.self.now.entries (λ i. (c.self.view_is i).entries) c.new.result c.args.key.now place c.new.ensures.serial
     None (rw c.in-Ok-Vacant.field-0-is at c.in-Ok-Vacant.ensures.found) in
-    let empty = absent-kept c.args.births.now c.args.self.now.entries c.args.key.now none in
+    let empty = absent-kept c.args.self.now.entries c.args.key.now none in
     ap (λ (k : Kept). comes_first c.args.log.now c.args.new k.birth) (sym empty)
 
 pub returns-clause-was_held : goal.returns-clause-was_held
@@ -153,7 +151,7 @@ returns-clause-was_held c =
     let none : lookup (is_same_pack c.args.key.now) c.args.self.now.entries ≡ None =
     found-named c.self.inside.products.keys c.self.inside.slots.entries c.self.invariant c.args.self.now.entries (λ i. (c.self.view_is i).entries) c.new.result c.args.key.now place c.new.ensures.serial
     None (rw c.in-Ok-Vacant.field-0-is at c.in-Ok-Vacant.ensures.found) in
-    let empty = absent-kept c.args.births.now c.args.self.now.entries c.args.key.now none in
+    let empty = absent-kept c.args.self.now.entries c.args.key.now none in
     ap is_made (sym empty)
 
 pub returns-clause-was_active : goal.returns-clause-was_active
@@ -162,7 +160,7 @@ returns-clause-was_active c =
     let none : lookup (is_same_pack c.args.key.now) c.args.self.now.entries ≡ None =
     found-named c.self.inside.products.keys c.self.inside.slots.entries c.self.invariant c.args.self.now.entries (λ i. (c.self.view_is i).entries) c.new.result c.args.key.now place c.new.ensures.serial
     None (rw c.in-Ok-Vacant.field-0-is at c.in-Ok-Vacant.ensures.found) in
-    let empty = absent-kept c.args.births.now c.args.self.now.entries c.args.key.now none in
+    let empty = absent-kept c.args.self.now.entries c.args.key.now none in
     ap is_active_kept (sym empty)
 
 pub returns-clause-held : goal.returns-clause-held
@@ -171,8 +169,8 @@ returns-clause-held c =
     let none : lookup (is_same_pack c.args.key.now) c.args.self.now.entries ≡ None =
     found-named c.self.inside.products.keys c.self.inside.slots.entries c.self.invariant c.args.self.now.entries (λ i. (c.self.view_is i).entries) c.new.result c.args.key.now place c.new.ensures.serial
     None (rw c.in-Ok-Vacant.field-0-is at c.in-Ok-Vacant.ensures.found) in
-    let empty = absent-kept c.args.births.now c.args.self.now.entries c.args.key.now none in
-    let fresh = ap (kept_as c.args.births.now) c.insert-slot.ensures.value ∙ born-fresh c.args.births.now c.args.log.now c.args.stops.now c.args.key.now c.args.new c.args.at (kept_in c.args.key.now (kept_table c.args.births.now c.args.self.now.entries)) c.requires.born empty in
+    let empty = absent-kept c.args.self.now.entries c.args.key.now none in
+    let fresh = ap kept_as c.insert-slot.ensures.value ∙ ap kept_born c.at.ensures ∙ born-fresh c.args.log.now c.args.stops.now c.args.key.now c.args.new (kept_in c.args.key.now (kept_table c.args.self.now.entries)) empty in
     c.share.ensures.held ∙ ap is_made fresh
 
 pub returns-clause-active : goal.returns-clause-active
@@ -181,6 +179,6 @@ returns-clause-active c =
     let none : lookup (is_same_pack c.args.key.now) c.args.self.now.entries ≡ None =
     found-named c.self.inside.products.keys c.self.inside.slots.entries c.self.invariant c.args.self.now.entries (λ i. (c.self.view_is i).entries) c.new.result c.args.key.now place c.new.ensures.serial
     None (rw c.in-Ok-Vacant.field-0-is at c.in-Ok-Vacant.ensures.found) in
-    let empty = absent-kept c.args.births.now c.args.self.now.entries c.args.key.now none in
-    let fresh = ap (kept_as c.args.births.now) c.insert-slot.ensures.value ∙ born-fresh c.args.births.now c.args.log.now c.args.stops.now c.args.key.now c.args.new c.args.at (kept_in c.args.key.now (kept_table c.args.births.now c.args.self.now.entries)) c.requires.born empty in
+    let empty = absent-kept c.args.self.now.entries c.args.key.now none in
+    let fresh = ap kept_as c.insert-slot.ensures.value ∙ ap kept_born c.at.ensures ∙ born-fresh c.args.log.now c.args.stops.now c.args.key.now c.args.new (kept_in c.args.key.now (kept_table c.args.self.now.entries)) empty in
     c.share.ensures.active ∙ ap is_active_kept fresh

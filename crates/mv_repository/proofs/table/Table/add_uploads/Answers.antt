@@ -17,9 +17,9 @@ pub loop-serial-preserved : goal.loop-serial-preserved
 loop-serial-preserved c =
     let place = c.loop-serial.serial-index in
     let serial : c.copy-serial.result ≡ get_or c.args.serials.now place [] = c.copy-serial.ensures ∙ c.serial-item.is ∙ get_or_default c.args.serials.now place _ [] c.loop-serial-test.true in
-    let first = kept_table c.args.births.now c.args.self.now.slots.entries in
-    let before = kept_table c.args.births.now c.loop-serial.self.slots.entries in
-    let after = kept_table c.args.births.now c.add_upload-is_new.new.self.slots.entries in
+    let first = kept_table c.args.self.now.slots.entries in
+    let before = kept_table c.loop-serial.self.slots.entries in
+    let after = kept_table c.add_upload-is_new.new.self.slots.entries in
     let kept = rw serial at c.add_upload-is_new.ensures.kept in
     record {
       room = omega (arith, c.loop-serial.invariant.room, c.add_upload-is_new.ensures.room);
@@ -28,7 +28,6 @@ loop-serial-preserved c =
       looks = looks_more c.args.log.now c.args.stops.now first before after c.args.gtin c.args.serials.now place c.args.new c.loop-serial-test.true c.loop-serial.invariant.looks kept;
       count = c.one_more_if-count.ensures ∙ made-more c.args.log.now c.args.stops.now first before c.args.gtin c.args.serials.now place c.args.new c.loop-serial.count c.add_upload-is_new.result c.loop-serial-test.true c.loop-serial.invariant.looks (rw serial at c.add_upload-is_new.ensures.first) c.loop-serial.invariant.count;
       tally = c.add_upload-is_new.ensures.tally;
-      within = c.add_upload-is_new.ensures.within c.loop-serial.invariant.within;
       own = λ pack. c.add_upload-is_new.ensures.own pack ∙ c.loop-serial.invariant.own pack;
       least = least c.add_upload-is_new.result c.one_more_if-count.ensures;
     }

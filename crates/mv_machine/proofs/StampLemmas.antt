@@ -1,6 +1,6 @@
 -- The stamps of a log name places of the record, each of which has one sender; and the stamps on one link rise. So none stands
 -- twice in a log.
-use Rattle.std.proofs.Common.{◌≡◌, ℕ, zero, suc, ◌+◌, ◌-◌, ◌<◌, List, [], ◌∷◌, length, Some, refl, ap, arith, ◌⊎◌, inl, inr}
+use Rattle.std.proofs.Common.{◌≡◌, ℕ, zero, suc, ◌+◌, ◌<◌, List, [], ◌∷◌, length, Some, refl, ap, arith, ◌⊎◌, inl, inr}
 use Rattle.std.specs.Prelude.{All, slice_get}
 use Rattle.std.proofs.lemmas.Grind.{common_steps}
 use Rattle.std.proofs.lemmas.Option.{gets}
@@ -14,8 +14,8 @@ use Rattle.mv_hub.specs.declared.entry.Entry.{Entry}
 use Rattle.mv_hub.specs.declared.entry.Entry.TheVariants.{Routed}
 use Rattle.mv_repository.specs.declared.entry.LogEntry.{LogEntry}
 use Rattle.mv_repository.specs.Log.{items_from}
-use Rattle.mv_repository.specs.Agreement.{stamp_in, stamp_at, HasDistinctStamps}
 use Rattle.mv_repository.proofs.SameAboutLemmas.{same_about}
+use Rattle.mv_repository.proofs.StampsLemmas.{stamp_in, stamp_at, HasNoStampTwice, distinct-stamps}
 use Rattle.mv_machine.specs.State.{State, log_of}
 use Rattle.mv_machine.specs.Lawful.{IsLawful}
 use Rattle.mv_machine.specs.Stamps.{StampsAreDistinct, RepositoriesAgree}
@@ -67,7 +67,7 @@ module _ (parties : List (List (List ℕ))) (entries : List Entry) (to : ℕ) wh
               other-stamps sender entry.sender own.0 k (own.0 + 1) 0 own.2.message (items_from log sender) own.2.routed (λ _. omega arith) (rw same own.3)
           among sender (inr other) put = other-stamps sender entry.sender own.0 k 0 0 own.2.message (items_from log sender) own.2.routed (λ same. absurd (other same)) put
 
-  log-distinct : (count : ℕ) (log : List LogEntry) → AllByRecursion (λ (entry : LogEntry). entry.sender < count) log → IsPutLog count log → HasDistinctStamps log
+  log-distinct : (count : ℕ) (log : List LogEntry) → AllByRecursion (λ (entry : LogEntry). entry.sender < count) log → IsPutLog count log → HasNoStampTwice log
   log-distinct count [] all put first second stamp a b = absurd (cc)
   log-distinct count (entry ∷ log) all put zero zero stamp a b = refl
   log-distinct count (entry ∷ log) all put zero (suc second) stamp a b = absurd (first-alone count entry log second stamp all.1 put all.0 a b)
@@ -77,8 +77,9 @@ module _ (parties : List (List (List ℕ))) (entries : List Entry) (to : ℕ) wh
 
 pub stamps_distinct : (st : State) → IsLawful st → StampsAreDistinct st
 stamps_distinct st lawful party is_party =
-    log-distinct st.parties st.entries party (length st.parties) (log_of st party) (lawful.of_party party is_party).from_parties
-    (λ sender sender_is_party. log-put st sender party lawful sender_is_party is_party)
+    distinct-stamps (log_of st party)
+    (log-distinct st.parties st.entries party (length st.parties) (log_of st party) (lawful.of_party party is_party).from_parties
+    (λ sender sender_is_party. log-put st sender party lawful sender_is_party is_party))
 
 pub stamps_are_distinct : LawfulStampsAreDistinct
 stamps_are_distinct st lawful = (applied_submitted st lawful, stamps_distinct st lawful)

@@ -1,5 +1,5 @@
 -- The stamps in the logs of a state, and the agreement of its repositories, which rests on them.
-use Rattle.std.specs.Prelude.{◌<◌, ℕ, List, length}
+use Rattle.std.specs.Prelude.{◌<◌, ℕ, length}
 use Rattle.mv_pack.specs.declared.key.PackKey.{PackKey}
 use Rattle.mv_repository.specs.Agreement.{HasDistinctStamps, HaveSameAbout, AgreeOn}
 use Rattle.mv_machine.specs.State.{State, log_of}

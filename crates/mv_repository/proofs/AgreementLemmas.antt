@@ -22,9 +22,9 @@ use Rattle.mv_repository.specs.declared.verdict.Local.{Local}
 use Rattle.mv_repository.specs.declared.verdict.Local.TheVariants.{Known, Absent}
 use Rattle.mv_repository.specs.Order.{Placed, ordered}
 use Rattle.mv_pack.specs.Keys.{is_same_pack, batch_key}
-use Rattle.mv_repository.specs.Pack.{KnownChange, KnownPack, new_pack, change_effect, revert_effect, is_final, is_active, is_done, change_to, pack_after_status}
-use Rattle.mv_repository.specs.PackState.{has_pack, is_recall_of, is_withdrawal_of, batch_standing, pack_after_item, pack_after, known_pack_from, known_pack, held_of, is_recalled, is_withdrawn}
-use Rattle.mv_repository.specs.Verdict.{local_verdict, local_verdict_of, verdict_when, is_explained}
+use Rattle.mv_repository.specs.Pack.{KnownChange, KnownPack, new_pack, change_effect, revert_effect, is_final, is_active, is_done, pack_after_status}
+use Rattle.mv_repository.specs.PackState.{has_pack, is_recall_of, is_withdrawal_of, batch_standing, pack_after_item, known_pack_from, known_pack, held_of, is_recalled, is_withdrawn}
+use Rattle.mv_repository.specs.Verdict.{local_verdict, local_verdict_of, verdict_when, is_for_destruction}
 use Rattle.mv_repository.specs.Agreement.{Sent, sent_in, sent_by, bears_on, batch_in, about, unplaced, unplaced_state, is_batch_recalled, AgreeOn}
 
 -- a sent message as an entry of no place
@@ -107,7 +107,7 @@ batch_of held = held.batch
 pub batch-status : (held : KnownPack) (standing : BatchStanding) (to : Standing) (sender : ℕ) (user : List ℕ) (at entry : ℕ)
     → (pack_after_status held standing to sender user at entry).batch ≡ held.batch
 batch-status held standing to sender user at entry =
-    elim (is_done (change_effect held standing to sender user at)) as (λ b. (cond b (record held { standing = to; change = change_to to (record { by = sender; user = user; at = at; entry = entry }) }) held).batch ≡ held.batch) [
+    elim (is_done (change_effect held standing to sender user at)) as (λ b. (cond b (record held { standing = to; change = cond (is_active to) None (Some (record { by = sender; user = user; at = at; entry = entry })) }) held).batch ≡ held.batch) [
       | true ↦ refl
       | false ↦ refl
     ]
@@ -129,7 +129,7 @@ batch-from : (before xs : List Placed) (pack : PackKey) (known : Option KnownPac
     → option_map batch_of known ≡ Some batch → option_map batch_of (known_pack_from before xs pack known) ≡ Some batch
 batch-from before [] pack known batch e = e
 batch-from before (x ∷ xs) pack known batch e =
-    batch-from (before ++ x ∷ []) xs pack (pack_after (batch_standing before) x pack known) batch
+    batch-from (before ++ x ∷ []) xs pack (pack_after_item (batch_standing before) x.place x.entry.sender x.entry.item pack known) batch
     (batch-after (batch_standing before) x.place x.entry.sender x.entry.item pack known batch e)
 
 -- a pack that is held has this batch
@@ -154,7 +154,7 @@ effect-unplaced held standing to sender user at =
     (cond (is_active held.standing) effects.AlreadyActive (cond (is_final held.standing) effects.Fixed effect))
     (cond (is_active held.standing) effects.Done effects.NotActive)) (revert-unplaced held.expiry standing held.change sender user at)
 
-change-unplaced : (to : Standing) (change : KnownChange) → option_map unplaced_change (change_to to change) ≡ change_to to (unplaced_change change)
+change-unplaced : (to : Standing) (change : KnownChange) → option_map unplaced_change (cond (is_active to) None (Some change)) ≡ cond (is_active to) None (Some (unplaced_change change))
 change-unplaced to change =
     elim (is_active to) as (λ b. option_map unplaced_change (cond b None (Some change)) ≡ cond b None (Some (unplaced_change change))) [ true ↦ refl | false ↦ refl ]
 
@@ -162,11 +162,11 @@ status-unplaced : (held : KnownPack) (standing : BatchStanding) (to : Standing) 
     → unplaced (pack_after_status held standing to sender user at entry) ≡ pack_after_status (unplaced held) standing to sender user at 0
 status-unplaced held standing to sender user at entry =
     by (is_done (change_effect held standing to sender user at))
-    ∙ ap (λ (effect : Effect). cond (is_done effect) (record (unplaced held) { standing = to; change = change_to to (record { by = sender; user = user; at = at; entry = 0 }) }) (unplaced held))
+    ∙ ap (λ (effect : Effect). cond (is_done effect) (record (unplaced held) { standing = to; change = cond (is_active to) None (Some (record { by = sender; user = user; at = at; entry = 0 })) }) (unplaced held))
     (effect-unplaced held standing to sender user at)
   where
-    by : (b : Bool) → unplaced (cond b (record held { standing = to; change = change_to to (record { by = sender; user = user; at = at; entry = entry }) }) held)
-        ≡ cond b (record (unplaced held) { standing = to; change = change_to to (record { by = sender; user = user; at = at; entry = 0 }) }) (unplaced held)
+    by : (b : Bool) → unplaced (cond b (record held { standing = to; change = cond (is_active to) None (Some (record { by = sender; user = user; at = at; entry = entry })) }) held)
+        ≡ cond b (record (unplaced held) { standing = to; change = cond (is_active to) None (Some (record { by = sender; user = user; at = at; entry = 0 })) }) (unplaced held)
     by true = ap (λ (change : Option KnownChange). record held { standing = to; change = change }) (change-unplaced to (record { by = sender; user = user; at = at; entry = entry }))
     by false = refl
 
@@ -250,7 +250,7 @@ pack-about : (pack : PackKey) (batch : Option (List ℕ)) (before xs : List Plac
 pack-about pack batch before [] known e = refl
 pack-about pack batch before (x ∷ xs) known e =
     entry-about pack batch before xs x.place x.entry.sender x.entry.item known (has_batch before (x ∷ xs) pack batch known e)
-    (pack-about pack batch (before ++ x ∷ []) xs (pack_after (batch_standing before) x pack known) e)
+    (pack-about pack batch (before ++ x ∷ []) xs (pack_after_item (batch_standing before) x.place x.entry.sender x.entry.item pack known) e)
 
 -- what is said of a pack by what a log has about it
 named-unplaced : (known : Option KnownPack) → option_map unplaced (option_map unplaced known) ≡ option_map unplaced known
@@ -298,7 +298,7 @@ withdrawal-about pack log = withdrawn-about pack (batch_in pack log) (ordered lo
 -- the verdict goes by the state, the recall and the withdrawal
 abbrev verdict_by : Option KnownPack → Bool → Bool → Local
 verdict_by None recalled withdrawn = Absent
-verdict_by (Some held) recalled withdrawn = Known (verdict_when (is_active held.standing) (is_explained recalled withdrawn held.standing))
+verdict_by (Some held) recalled withdrawn = Known (verdict_when (is_active held.standing) (recalled || withdrawn || is_for_destruction held.standing))
 
 verdict-by : (pack : PackKey) (log : List LogEntry)
     → local_verdict pack log ≡ verdict_by (unplaced_state pack log) (is_batch_recalled pack.gtin (batch_in pack log) log) (is_withdrawn pack.gtin log)

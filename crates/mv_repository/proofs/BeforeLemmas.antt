@@ -12,7 +12,7 @@ use Rattle.mv_repository.specs.Order.{Placed, rank, passes, stands_before, order
 use Rattle.mv_repository.specs.Pack.{KnownPack}
 use Rattle.mv_repository.specs.PackState.{is_recall_of, is_withdrawal_of, is_recalled_by, is_withdrawn_by, batch_standing, known_pack}
 use Rattle.mv_repository.specs.Effect.{entries_before}
-use Rattle.mv_repository.specs.Stops.{FirstStops, first_recall, first_withdrawal, first_stops, is_before, standing_at}
+use Rattle.mv_repository.specs.Stops.{FirstStops, first_stops, is_before, standing_at}
 use Rattle.mv_repository.specs.Track.{is_upload_of, is_status_of, first_upload, statuses_of, pack_made_by, pack_changed, pack_step, pack_grown}
 use Rattle.mv_repository.proofs.OrderLemmas.{StandsBeforeAll, passes_behind, AreBelow, ordered-ascends, ordered-below}
 use Rattle.mv_repository.proofs.StateLemmas.{known-grown}
@@ -84,13 +84,13 @@ any-before f x xs a u = any-find f (filter (stays_before x) xs) ∙ ap is_some (
 
 -- a batch is recalled by the entries before one that comes last, where its first recall stands before that one
 pub recalled-before : (batch : BatchKey) (log : List LogEntry) (entry : LogEntry)
-    → is_recalled_by batch (entries_before log entry) ≡ is_before (first_recall batch (ordered log)) (newest log entry)
+    → is_recalled_by batch (entries_before log entry) ≡ is_before ((first_stops (ordered log)).recall batch) (newest log entry)
 recalled-before batch log entry =
     any-before (λ placed. is_recall_of batch placed.entry.item) (newest log entry) (ordered log) (ordered-ascends log) (ordered-below log)
 
 -- the same of a product and its first withdrawal
 pub withdrawn-before : (gtin : List ℕ) (log : List LogEntry) (entry : LogEntry)
-    → is_withdrawn_by gtin (entries_before log entry) ≡ is_before (first_withdrawal gtin (ordered log)) (newest log entry)
+    → is_withdrawn_by gtin (entries_before log entry) ≡ is_before ((first_stops (ordered log)).withdrawal gtin) (newest log entry)
 withdrawn-before gtin log entry =
     any-before (λ placed. is_withdrawal_of gtin placed.entry.item) (newest log entry) (ordered log) (ordered-ascends log) (ordered-below log)
 

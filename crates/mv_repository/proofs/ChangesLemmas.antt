@@ -11,8 +11,8 @@ use Rattle.mv_repository.specs.declared.entry.LogEntry.{LogEntry}
 use Rattle.mv_repository.specs.declared.stops.BatchStanding.{BatchStanding}
 use Rattle.mv_repository.specs.Order.{Placed, ordered}
 use Rattle.mv_pack.specs.Keys.{is_same_pack, batch_key}
-use Rattle.mv_repository.specs.Pack.{KnownChange, KnownPack, new_pack, change_effect, is_active, is_done, change_to, pack_after_status}
-use Rattle.mv_repository.specs.PackState.{has_pack, batch_standing, pack_after_item, pack_after, known_pack_from}
+use Rattle.mv_repository.specs.Pack.{KnownChange, KnownPack, new_pack, change_effect, is_active, is_done, pack_after_status}
+use Rattle.mv_repository.specs.PackState.{has_pack, batch_standing, pack_after_item, known_pack_from}
 use Rattle.mv_repository.specs.Changes.{NamesStatus, ChangeNamesStatus}
 use Rattle.mv_repository.proofs.OrderLemmas.{AreOf, ordered-of}
 
@@ -23,7 +23,7 @@ names-status : (log : List LogEntry) (pack : PackKey) (held : KnownPack) (standi
     → slice_get log place ≡ Some (record { sender = sender; item = Carried k stamp (Status key to user at) }) → is_same_pack key pack ≡ true
     → NamesIts log pack (Some held) → NamesIts log pack (Some (pack_after_status held standing to sender user at place))
 names-status log pack held standing place sender k stamp key to user at there same names =
-    elim (is_done (change_effect held standing to sender user at)) as (λ b. NamesIts log pack (Some (cond b (record held { standing = to; change = change_to to change }) held))) [
+    elim (is_done (change_effect held standing to sender user at)) as (λ b. NamesIts log pack (Some (cond b (record held { standing = to; change = cond (is_active to) None (Some change) }) held))) [
       | true ↦ elim (is_active to) as (λ b. IfSome (cond b None (Some change)) (NamesStatus log pack to)) [
         | true ↦ tt
         | false ↦ record { k = k; stamp = stamp; key = key; same = same; there = there }
@@ -55,7 +55,7 @@ names-from : (log : List LogEntry) (pack : PackKey) (before xs : List Placed) (k
     → NamesIts log pack known → NamesIts log pack (known_pack_from before xs pack known)
 names-from log pack before [] known of names = names
 names-from log pack before (x ∷ xs) known of names =
-    names-from log pack (before ++ x ∷ []) xs (pack_after (batch_standing before) x pack known) of.1
+    names-from log pack (before ++ x ∷ []) xs (pack_after_item (batch_standing before) x.place x.entry.sender x.entry.item pack known) of.1
     (names-item log pack (batch_standing before) x.place x.entry.sender x.entry.item known of.0 names)
 
 pub change_names_status : (pack : PackKey) (log : List LogEntry) → ChangeNamesStatus pack log

@@ -1,6 +1,6 @@
 -- The counts of a log, by the tables.
 use Rattle.std.specs.Prelude.{bytes_eq}
-use Rattle.std.proofs.Common.{◌≡◌, ℕ, ◌+◌, List, [], ◌∷◌, ◌++◌, length, refl, sym, ◌∙◌, ap, Bool, true, false, cond, ◌&&◌, ◌||◌, Option, Some, None, is_some, filter, map}
+use Rattle.std.proofs.Common.{◌≡◌, ℕ, List, [], ◌∷◌, ◌++◌, length, refl, sym, ◌∙◌, ap, Bool, true, false, cond, ◌&&◌, ◌||◌, Option, Some, None, is_some, filter, map}
 use Rattle.std.specs.Cmp.{IsEquivalence}
 use Rattle.std.specs.Cmp.Lexicographic.{nat_list_eq_equiv}
 use Rattle.std.specs.List.{list_any, flat_map, IsDistinct, count_by}
@@ -18,13 +18,13 @@ use Rattle.mv_link.specs.declared.item.Item.TheVariants.{Carried}
 use Rattle.mv_repository.specs.declared.entry.LogEntry.{LogEntry}
 use Rattle.mv_repository.specs.declared.held.Held.{Held}
 use Rattle.mv_pack.specs.Keys.{is_same_pack, is_same_batch, pack_key}
-use Rattle.mv_repository.specs.Order.{Placed, passes, put_in, ordered_after, ordered}
+use Rattle.mv_repository.specs.Order.{Placed, passes, put_in, ordered}
 use Rattle.mv_repository.specs.Masters.{is_master, last_master, AreMastersOf}
 use Rattle.mv_repository.specs.PackState.{has_pack, is_recall_of, pack_state, held_of}
 use Rattle.mv_repository.specs.Counts.{mastered_in, uploaded_in, recalled_in, uploaded_packs, is_held_active}
 use Rattle.mv_repository.specs.Stops.{StopTables, AreStopsOf, place_of, first_stops}
 use Rattle.mv_repository.specs.Track.{Kept, is_upload_of, first_upload, statuses_of, pack_grown, nothing_kept, kept_in, AreTracksOf, is_made, is_active_kept}
-use Rattle.mv_repository.proofs.OrderLemmas.{ordered-ascends}
+use Rattle.mv_repository.proofs.OrderLemmas.{placed_after, ordered-ascends}
 use Rattle.mv_repository.proofs.StateLemmas.{known-grown}
 use Rattle.mv_repository.proofs.KeptLemmas.{text-sym, text-self, pack-sym, pack-self, same_pack, same_batch}
 use Rattle.mv_repository.proofs.LedgerLemmas.{found-any}
@@ -44,12 +44,12 @@ any-put_in f x (y ∷ ys) =
     swap true false c = refl
     swap false b c = refl
 
-any-after : (f : Item → Bool) (xs : List Placed) (n : ℕ) (log : List LogEntry)
-    → list_any (λ placed. f placed.entry.item) (ordered_after xs n log) ≡ (list_any (λ placed. f placed.entry.item) xs || list_any (λ entry. f entry.item) log)
-any-after f xs n [] = elim (list_any (λ placed. f placed.entry.item) xs) as (λ b. b ≡ (b || false)) [ true ↦ refl | false ↦ refl ]
-any-after f xs n (entry ∷ log) =
-    any-after f (put_in (record { place = n; entry = entry }) xs) (n + 1) log
-    ∙ ap (λ b. b || list_any (λ entry. f entry.item) log) (any-put_in (λ placed. f placed.entry.item) (record { place = n; entry = entry }) xs)
+any-after : (f : Item → Bool) (xs : List Placed) (log : List LogEntry)
+    → list_any (λ placed. f placed.entry.item) (placed_after xs log) ≡ (list_any (λ placed. f placed.entry.item) xs || list_any (λ entry. f entry.item) log)
+any-after f xs [] = elim (list_any (λ placed. f placed.entry.item) xs) as (λ b. b ≡ (b || false)) [ true ↦ refl | false ↦ refl ]
+any-after f xs (entry ∷ log) =
+    any-after f (put_in (record { place = length xs; entry = entry }) xs) log
+    ∙ ap (λ b. b || list_any (λ entry. f entry.item) log) (any-put_in (λ placed. f placed.entry.item) (record { place = length xs; entry = entry }) xs)
     ∙ shift (f entry.item) (list_any (λ placed. f placed.entry.item) xs) (list_any (λ entry. f entry.item) log)
   where
     shift : (a b c : Bool) → ((a || b) || c) ≡ (b || (a || c))
@@ -58,7 +58,7 @@ any-after f xs n (entry ∷ log) =
     shift false b c = refl
 
 pub any-ordered : (f : Item → Bool) (log : List LogEntry) → list_any (λ placed. f placed.entry.item) (ordered log) ≡ list_any (λ entry. f entry.item) log
-any-ordered f log = any-after f [] 0 log
+any-ordered f log = any-after f [] log
 
 any-append : {K : Type 0} → (f : K → Bool) (xs ys : List K) → list_any f (xs ++ ys) ≡ (list_any f xs || list_any f ys)
 any-append f [] ys = refl

@@ -23,8 +23,8 @@ use Rattle.mv_pack.specs.Keys.{is_same_batch, pack_key, batch_key}
 use Rattle.mv_repository.specs.Order.{Placed, passes, ordered}
 use Rattle.mv_repository.specs.Pack.{KnownPack, change_effect}
 use Rattle.mv_repository.specs.PackState.{has_pack, is_recall_of, is_withdrawal_of, is_recalled_by, is_withdrawn_by, batch_standing, known_pack, held_of}
-use Rattle.mv_repository.specs.Effect.{entries_before, new_count, upload_effect, lasting_effect, effect_after, effect_of}
-use Rattle.mv_repository.specs.Stops.{FirstStops, StopTables, first_stops, is_before, standing_at, entry_at, place_of, no_entry, first_recall, first_withdrawal, AreStopsOf, comes_first}
+use Rattle.mv_repository.specs.Effect.{entries_before, upload_effect, lasting_effect, effect_after, effect_of}
+use Rattle.mv_repository.specs.Stops.{FirstStops, StopTables, first_stops, is_before, standing_at, entry_at, place_of, no_entry, AreStopsOf, comes_first}
 use Rattle.mv_repository.specs.Tables.{IsUploadOf}
 use Rattle.mv_repository.specs.Track.{Kept, is_upload_of, is_status_of, first_upload, statuses_of, pack_made_by, pack_step, pack_grown, known_of, effect_by, effect_when, counted_place, places_before, held_before, newest_effect, grown_at, kept_in, AreTracksOf, with_upload, made_count}
 use Rattle.mv_repository.proofs.OrderLemmas.{Stand, still-stand, ordered-below}
@@ -145,7 +145,7 @@ pub recall-effect : (log : List LogEntry) (entry : LogEntry) (tables : StopTable
     → first ≡ comes_first (longer log entry) (length log) (lookup (is_same_batch key) tables.recalls) → lasting_effect (not first) ≡ effect_of log entry
 recall-effect log entry tables key first stops e h =
     ap (λ b. lasting_effect (not b)) (h ∙ first-effect (λ placed. is_recall_of key placed.entry.item) log entry (lookup (is_same_batch key) tables.recalls) (stops.recalls key))
-    ∙ first-lasting (is_before (first_recall key (ordered log)) (newest log entry))
+    ∙ first-lasting (is_before ((first_stops (ordered log)).recall key) (newest log entry))
     ∙ ap lasting_effect (sym (recalled-before key log entry))
     ∙ by entry.item e
   where
@@ -157,7 +157,7 @@ pub withdrawal-effect : (log : List LogEntry) (entry : LogEntry) (tables : StopT
     → first ≡ comes_first (longer log entry) (length log) (lookup (bytes_eq key) tables.withdrawals) → lasting_effect (not first) ≡ effect_of log entry
 withdrawal-effect log entry tables key first stops e h =
     ap (λ b. lasting_effect (not b)) (h ∙ first-effect (λ placed. is_withdrawal_of key placed.entry.item) log entry (lookup (bytes_eq key) tables.withdrawals) (stops.withdrawals key))
-    ∙ first-lasting (is_before (first_withdrawal key (ordered log)) (newest log entry))
+    ∙ first-lasting (is_before ((first_stops (ordered log)).withdrawal key) (newest log entry))
     ∙ ap lasting_effect (sym (withdrawn-before key log entry))
     ∙ by entry.item e
   where
@@ -291,7 +291,7 @@ made-more log tables first packs gtin serials i new count is_new l looks e h =
         count_cases false n = omega arith
 
 made-all : (log : List LogEntry) (entry : LogEntry) (table : List (PackKey × Kept)) (gtin : List ℕ) (serials : List (List ℕ)) → AreTracksOf log table
-    → made_count (longer log entry) (length log) table gtin serials ≡ new_count (entries_before log entry) gtin serials
+    → made_count (longer log entry) (length log) table gtin serials ≡ distinct_count bytes_eq (filter (λ serial. not (is_some (known_pack (pack_key gtin serial) (entries_before log entry)))) serials)
 made-all log entry table gtin serials tracks =
     ap (λ (f : List ℕ → Bool). distinct_count bytes_eq (filter f serials)) (λ i serial. absent-before log entry table (pack_key gtin serial) tracks i)
 

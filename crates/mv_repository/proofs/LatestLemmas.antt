@@ -1,7 +1,7 @@
 -- An entry that stops a batch or a product changes no pack where its stamp is the greatest so far, nor where it is not the
 -- first that stops it.
 use Rattle.std.specs.Prelude.{bytes_eq}
-use Rattle.std.proofs.Common.{◌≡◌, ℕ, ◌+◌, ◌<◌, ◌≤◌, max, List, [], ◌∷◌, ◌++◌, refl, sym, ◌∙◌, ap, arith, Bool, true, false, cond, ◌&&◌, ◌||◌, ◌==◌, nat_lt, Option, Some, None, IfSome, true≢false, length, get_or, find, map, fold, take, zero, suc}
+use Rattle.std.proofs.Common.{◌≡◌, ℕ, ◌<◌, ◌≤◌, max, List, [], ◌∷◌, ◌++◌, refl, sym, ◌∙◌, ap, arith, Bool, true, false, cond, ◌&&◌, ◌||◌, ◌==◌, nat_lt, Option, Some, None, IfSome, true≢false, length, get_or, find, map, fold, take, zero, suc}
 use Rattle.std.proofs.lemmas.Bool.Decides.{nat_tests}
 use Rattle.std.specs.Bool.{⊤}
 use Rattle.std.specs.Cmp.Lexicographic.{same_text}
@@ -13,14 +13,14 @@ use Rattle.mv_link.specs.declared.item.Item.{Item}
 use Rattle.mv_link.specs.declared.item.Item.TheVariants.{Carried, Receipt}
 use Rattle.mv_repository.specs.declared.entry.LogEntry.{LogEntry}
 use Rattle.mv_repository.specs.declared.stops.BatchStanding.{BatchStanding}
-use Rattle.mv_repository.specs.Order.{Placed, rank, passes, put_in, stands_before, ordered_after, ordered}
+use Rattle.mv_repository.specs.Order.{Placed, rank, passes, put_in, stands_before, ordered}
 use Rattle.mv_pack.specs.Keys.{is_same_batch}
 use Rattle.mv_repository.specs.Pack.{KnownPack}
 use Rattle.mv_repository.specs.PackState.{is_recall_of, is_withdrawal_of, known_pack, held_of}
 use Rattle.mv_repository.specs.Stops.{FirstStops, StopTables, AreStopsOf, first_stops, is_before, standing_at, place_of, no_entry, comes_first}
 use Rattle.mv_repository.specs.Tables.{stamp_of, greatest_stamp}
 use Rattle.mv_repository.specs.Track.{Kept, is_upload_of, is_status_of, first_upload, statuses_of, pack_made_by, pack_changed, pack_step, pack_grown, pack_marks, AreTracksOf, track_of}
-use Rattle.mv_repository.proofs.OrderLemmas.{AreBelow, over, ordered-ascends, ordered-below, still-stand}
+use Rattle.mv_repository.proofs.OrderLemmas.{placed_after, AreBelow, over, ordered-ascends, ordered-below, still-stand}
 use Rattle.mv_repository.proofs.KeptLemmas.{same_batch}
 use Rattle.mv_repository.proofs.StateLemmas.{known-grown, find-stand}
 use Rattle.mv_repository.proofs.TableLemmas.{earlier, longer, newest, newest-stands, find-more, find-none, filter-none, parts-same}
@@ -54,11 +54,11 @@ upto-put_in n x (y ∷ ys) h u =
       | false ↦ (u.0, upto-put_in n x ys h u.1)
     ]
 
-upto-ordered : (n : ℕ) (placed : List Placed) (place : ℕ) (log : List LogEntry) → AllUpTo n placed → greatest_stamp log ≤ n → AllUpTo n (ordered_after placed place log)
-upto-ordered n placed place [] u l = u
-upto-ordered n placed place (entry ∷ log) u l =
-    let x : Placed = record { place = place; entry = entry } in
-    upto-ordered n (put_in x placed) (place + 1) log (upto-put_in n x placed (upto n entry.item (omega arith)) u) (omega arith)
+upto-ordered : (n : ℕ) (placed : List Placed) (log : List LogEntry) → AllUpTo n placed → greatest_stamp log ≤ n → AllUpTo n (placed_after placed log)
+upto-ordered n placed [] u l = u
+upto-ordered n placed (entry ∷ log) u l =
+    let x : Placed = record { place = length placed; entry = entry } in
+    upto-ordered n (put_in x placed) log (upto-put_in n x placed (upto n entry.item (omega arith)) u) (omega arith)
 
 stamp-rank : (item : Item) → stamp_of item ≤ rank item
 stamp-rank (Carried k stamp message) = omega arith
@@ -152,7 +152,7 @@ pub tracks-last : (log : List LogEntry) (entry : LogEntry) (table : List (PackKe
     → AreTracksOf log table → AreTracksOf (longer log entry) table
 tracks-last log entry table l uploads statuses = tracks-grown log entry table uploads statuses (λ pack count.
     grown-same (first_stops (ordered log)) (first_stops (ordered (longer log entry))) pack (newest log entry) (first_upload pack (ordered log)) (take count (statuses_of pack (ordered log))) same
-    (none-take (newest log entry) count (statuses_of pack (ordered log)) (before_none pack (newest log entry) (greatest_stamp log) (ordered log) (omega (arith, l, stamp-rank entry.item)) (upto-ordered (greatest_stamp log) [] 0 log tt (omega arith)) (ordered-below log))))
+    (none-take (newest log entry) count (statuses_of pack (ordered log)) (before_none pack (newest log entry) (greatest_stamp log) (ordered log) (omega (arith, l, stamp-rank entry.item)) (upto-ordered (greatest_stamp log) [] log tt (omega arith)) (ordered-below log))))
   where
     same : (y : Placed) → stands_before (newest log entry) y ≡ false → standing_at (first_stops (ordered (longer log entry))) y ≡ standing_at (first_stops (ordered log)) y
     same y e = (λ i batch. record { recalled = sees-before (λ placed. is_recall_of batch placed.entry.item) log entry y e i; withdrawn = sees-before (λ placed. is_withdrawal_of batch.gtin placed.entry.item) log entry y e i })

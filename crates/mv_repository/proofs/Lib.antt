@@ -17,4 +17,5 @@ pub mod ProductLemmas
 pub mod InquiriesLemmas
 pub mod ChangesLemmas
 pub mod AgreementLemmas
+pub mod StampsLemmas
 pub mod SameAboutLemmas

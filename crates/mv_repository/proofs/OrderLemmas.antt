@@ -1,5 +1,5 @@
 -- Lemmas on the order of stamps.
-use Rattle.std.proofs.Common.{◌≡◌, ℕ, suc, ◌+◌, ◌<◌, ◌≤◌, List, [], ◌∷◌, ◌++◌, length, refl, ◌∙◌, ap, subst, arith, Bool, true, false, cond, ◌&&◌, ◌||◌, nat_lt, ◌==◌}
+use Rattle.std.proofs.Common.{◌≡◌, ℕ, suc, ◌+◌, ◌<◌, ◌≤◌, List, [], ◌∷◌, ◌++◌, length, fold, refl, sym, ◌∙◌, ap, subst, arith, Bool, true, false, cond, ◌&&◌, ◌||◌, nat_lt, ◌==◌}
 use Rattle.std.specs.Bool.{⊤}
 use Rattle.std.specs.List.{AllByRecursion}
 use Rattle.std.specs.Prelude.{slice_get, Some, get_or}
@@ -8,7 +8,7 @@ use Rattle.std.proofs.lemmas.List.{get_or_append_left}
 use Rattle.mv_repository.specs.Stops.{no_entry}
 use Rattle.std.proofs.lemmas.Bool.Decides.{nat_tests}
 use Rattle.mv_repository.specs.declared.entry.LogEntry.{LogEntry}
-use Rattle.mv_repository.specs.Order.{Placed, rank, passes, put_in, ordered_after, ordered, stands_before, Ascends, IsOrderOf}
+use Rattle.mv_repository.specs.Order.{Placed, rank, passes, put_in, ordered, stands_before, Ascends, IsOrderOf}
 
 -- an entry stands before each of these
 abbrev pub StandsBeforeAll : Placed → List Placed → Type 0
@@ -69,6 +69,18 @@ stands-self x = self_stamps (rank x.entry.item) x.place
 pub behind_passes : (x y : Placed) → stands_before x y ≡ true → passes y x ≡ false
 behind_passes x y e = behind_stamps (rank x.entry.item) (rank y.entry.item) x.place y.place e
 
+-- entries are put in behind those that were, one after another
+abbrev pub placed_after : List Placed → List LogEntry → List Placed
+placed_after first log = fold (λ placed entry. put_in (record { place = length placed; entry = entry }) placed) first log
+
+length-put_in : (x : Placed) (xs : List Placed) → length (put_in x xs) ≡ length xs + 1
+length-put_in x [] = refl
+length-put_in x (y ∷ ys) =
+    elim (passes x y) as (λ b. length (cond b (x ∷ y ∷ ys) (y ∷ put_in x ys)) ≡ length (y ∷ ys) + 1) [
+      | true ↦ omega arith
+      | false ↦ omega (arith, length-put_in x ys)
+    ]
+
 -- all places are below n
 abbrev pub AreBelow : ℕ → List Placed → Type 0
 AreBelow n [] = ⊤
@@ -106,29 +118,30 @@ ascends-put_in x (y ∷ ys) a u = by (passes x y) refl (ascends-put_in x ys a.1 
     by true e r = ((passed x y e, before_passed x y ys e a.0), a)
     by false e r = (before-put_in y x ys (kept x y e u.0) a.0, r)
 
-ascends-after : (xs : List Placed) (n : ℕ) (log : List LogEntry) → Ascends xs → AreBelow n xs → Ascends (ordered_after xs n log)
-ascends-after xs n [] a u = a
-ascends-after xs n (entry ∷ log) a u =
-    ascends-after (put_in (placed_at n entry) xs) (n + 1) log
-    (ascends-put_in (placed_at n entry) xs a u)
-    (below-put_in (n + 1) (placed_at n entry) xs (omega arith) (below-more n (n + 1) xs (omega arith) u))
+ascends-after : (xs : List Placed) (log : List LogEntry) → Ascends xs → AreBelow (length xs) xs → Ascends (placed_after xs log)
+ascends-after xs [] a u = a
+ascends-after xs (entry ∷ log) a u =
+    let x = placed_at (length xs) entry in
+    ascends-after (put_in x xs) log (ascends-put_in x xs a u)
+    (subst (λ n. AreBelow n (put_in x xs)) (sym (length-put_in x xs))
+    (below-put_in (length xs + 1) x xs (omega arith) (below-more (length xs) (length xs + 1) xs (omega arith) u)))
 
 pub ordered-ascends : (log : List LogEntry) → Ascends (ordered log)
-ordered-ascends log = ascends-after [] 0 log tt tt
+ordered-ascends log = ascends-after [] log tt tt
 
-after-push : (xs : List Placed) (n : ℕ) (log : List LogEntry) (entry : LogEntry)
-    → ordered_after xs n (log ++ entry ∷ []) ≡ put_in (placed_at (n + length log) entry) (ordered_after xs n log)
-after-push xs n [] entry = let k : n ≡ n + 0 = omega arith in ap (λ m. put_in (placed_at m entry) xs) k
-after-push xs n (first ∷ log) entry =
-    let k : n + 1 + length log ≡ n + length (first ∷ log) = omega arith in
-    let more = put_in (placed_at n first) xs in
-    after-push more (n + 1) log entry ∙ ap (λ m. put_in (placed_at m entry) (ordered_after more (n + 1) log)) k
+after-push : (xs : List Placed) (log : List LogEntry) (entry : LogEntry)
+    → placed_after xs (log ++ entry ∷ []) ≡ put_in (placed_at (length xs + length log) entry) (placed_after xs log)
+after-push xs [] entry = let k : length xs ≡ length xs + 0 = omega arith in ap (λ m. put_in (placed_at m entry) xs) k
+after-push xs (first ∷ log) entry =
+    let more = put_in (placed_at (length xs) first) xs in
+    let k : length more + length log ≡ length xs + length (first ∷ log) = omega (arith, length-put_in (placed_at (length xs) first) xs) in
+    after-push more log entry ∙ ap (λ m. put_in (placed_at m entry) (placed_after more log)) k
 
 -- the order with one more entry
 pub ordered-push : (log : List LogEntry) (entry : LogEntry) → ordered (log ++ entry ∷ []) ≡ put_in (placed_at (length log) entry) (ordered log)
 ordered-push log entry =
     let k : 0 + length log ≡ length log = omega arith in
-    after-push [] 0 log entry ∙ ap (λ m. put_in (placed_at m entry) (ordered log)) k
+    after-push [] log entry ∙ ap (λ m. put_in (placed_at m entry) (ordered log)) k
 
 -- each entry of the order is the one at its place in the log
 of-put_in : (log : List LogEntry) (x : Placed) (xs : List Placed) → slice_get log x.place ≡ Some x.entry → AreOf log xs → AreOf log (put_in x xs)
@@ -139,42 +152,35 @@ of-put_in log x (y ∷ ys) e s =
       | false ↦ (s.0, of-put_in log x ys e s.1)
     ]
 
-of-after : (whole : List LogEntry) (xs : List Placed) (n : ℕ) (log : List LogEntry)
-    → ((k : ℕ) (entry : LogEntry) → slice_get log k ≡ Some entry → slice_get whole (n + k) ≡ Some entry)
-    → AreOf whole xs → AreOf whole (ordered_after xs n log)
-of-after whole xs n [] at s = s
-of-after whole xs n (first ∷ log) at s =
-    of-after whole (put_in (placed_at n first) xs) (n + 1) log
+of-after : (whole : List LogEntry) (xs : List Placed) (log : List LogEntry)
+    → ((k : ℕ) (entry : LogEntry) → slice_get log k ≡ Some entry → slice_get whole (length xs + k) ≡ Some entry)
+    → AreOf whole xs → AreOf whole (placed_after xs log)
+of-after whole xs [] at s = s
+of-after whole xs (first ∷ log) at s =
+    let x = placed_at (length xs) first in
+    of-after whole (put_in x xs) log
     (λ k entry h.
-    let m : n + suc k ≡ n + 1 + k = omega arith in
+    let m : length xs + suc k ≡ length (put_in x xs) + k = omega (arith, length-put_in x xs) in
     subst (λ i. slice_get whole i ≡ Some entry) m (at (suc k) entry h))
-    (of-put_in whole (placed_at n first) xs
-    (let m : n + 0 ≡ n = omega arith in subst (λ i. slice_get whole i ≡ Some first) m (at 0 first refl))
+    (of-put_in whole x xs
+    (let m : length xs + 0 ≡ length xs = omega arith in subst (λ i. slice_get whole i ≡ Some first) m (at 0 first refl))
     s)
 
 pub ordered-of : (log : List LogEntry) → AreOf log (ordered log)
 ordered-of log =
-    of-after log [] 0 log (λ k entry h. let m : k ≡ 0 + k = omega arith in subst (λ i. slice_get log i ≡ Some entry) m h) tt
+    of-after log [] log (λ k entry h. let m : k ≡ 0 + k = omega arith in subst (λ i. slice_get log i ≡ Some entry) m h) tt
 
-length-put_in : (x : Placed) (xs : List Placed) → length (put_in x xs) ≡ length xs + 1
-length-put_in x [] = refl
-length-put_in x (y ∷ ys) =
-    elim (passes x y) as (λ b. length (cond b (x ∷ y ∷ ys) (y ∷ put_in x ys)) ≡ length (y ∷ ys) + 1) [
-      | true ↦ omega arith
-      | false ↦ omega (arith, length-put_in x ys)
-    ]
-
-length-after : (xs : List Placed) (n : ℕ) (log : List LogEntry) → length (ordered_after xs n log) ≡ length xs + length log
-length-after xs n [] = omega arith
-length-after xs n (entry ∷ log) =
-    omega (arith, length-after (put_in (placed_at n entry) xs) (n + 1) log, length-put_in (placed_at n entry) xs)
+length-after : (xs : List Placed) (log : List LogEntry) → length (placed_after xs log) ≡ length xs + length log
+length-after xs [] = omega arith
+length-after xs (entry ∷ log) =
+    omega (arith, length-after (put_in (placed_at (length xs) entry) xs) log, length-put_in (placed_at (length xs) entry) xs)
 
 -- the order has each entry of the log once, by stamp and then by place
 pub order_of : (log : List LogEntry) → IsOrderOf log (ordered log)
 order_of log = record {
   entries = ordered-of log;
   ascends = ordered-ascends log;
-  count = omega (arith, length-after [] 0 log);
+  count = omega (arith, length-after [] log);
 }
 
 -- each entry is the one at its place in the log, also where the log is longer

@@ -13,7 +13,7 @@ use Rattle.mv_link.specs.declared.item.Item.TheVariants.{Carried}
 use Rattle.mv_repository.specs.declared.entry.LogEntry.{LogEntry}
 use Rattle.mv_repository.specs.Order.{Placed, passes, put_in, ordered, Ascends}
 use Rattle.mv_repository.specs.Stops.{place_of}
-use Rattle.mv_repository.specs.Product.{product_under, last_product}
+use Rattle.mv_repository.specs.Product.{product_under}
 use Rattle.mv_repository.specs.Masters.{is_master, product_in, last_master, entry_of, is_late, AreMastersOf}
 use Rattle.mv_repository.proofs.OrderLemmas.{StandsBeforeAll, AreOf, placed_at, passes_behind, ordered-ascends, ordered-push, ordered-of}
 
@@ -123,7 +123,7 @@ or_none (Some product) = refl
 
 -- the product of a code is that of the entry of its last master
 pub product_of_last : (gtin : List ℕ) (xs : List Placed) (last : Option LogEntry) → last ≡ option_map entry_of (last_master gtin xs)
-    → option_and_then (λ entry. product_in entry.item) last ≡ last_product xs gtin
+    → option_and_then (λ entry. product_in entry.item) last ≡ last_or None (filter_map (λ placed. product_under gtin placed.entry.item) xs)
 product_of_last gtin xs last e =
     ap (option_and_then (λ (entry : LogEntry). product_in entry.item)) e
     ∙ sym (product_after_last gtin None xs ∙ or_none (option_and_then (λ z. product_in z.entry.item) (last_master gtin xs)) ∙ by (last_master gtin xs))

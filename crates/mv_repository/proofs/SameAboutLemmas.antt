@@ -1,5 +1,5 @@
 -- Two logs with distinct stamps that have the same messages about a pack have them in the same order.
-use Rattle.std.proofs.Common.{◌≡◌, ℕ, zero, suc, ◌+◌, ◌<◌, List, [], ◌∷◌, length, get_or, refl, sym, ◌∙◌, ap, subst, arith, Bool, true, false, cond, ◌&&◌, ◌||◌, ◌==◌, nat_lt, Option, Some, filter, true≢false, ◌⊎◌, inl, inr}
+use Rattle.std.proofs.Common.{◌≡◌, ℕ, zero, suc, ◌<◌, List, [], ◌∷◌, length, get_or, refl, sym, ◌∙◌, ap, subst, arith, Bool, true, false, cond, ◌&&◌, ◌||◌, ◌==◌, nat_lt, Option, Some, filter, true≢false, ◌⊎◌, inl, inr}
 use Rattle.std.specs.Bool.{⊤}
 use Rattle.std.specs.List.{Contains}
 use Rattle.std.specs.Option.{option_and_then}
@@ -11,10 +11,11 @@ use Rattle.mv_link.specs.declared.item.Item.{Item}
 use Rattle.mv_link.specs.declared.item.Item.TheVariants.{Receipt, Carried}
 use Rattle.mv_repository.specs.declared.entry.LogEntry.{LogEntry}
 use Rattle.std.proofs.lemmas.Option.{slice_get_within, get_or_from_slice_get, slice_get-get_or}
-use Rattle.mv_repository.specs.Order.{Placed, ordered, ordered_after, put_in, passes, stands_before, Ascends}
-use Rattle.mv_repository.specs.Agreement.{Sent, sent_in, sent_by, bears_on, batch_in, about, AgreeOn, stamp_in, stamp_at, HasDistinctStamps, HaveSameAbout, HaveSameEntries}
-use Rattle.mv_repository.proofs.OrderLemmas.{StandsBeforeAll, AreOf, ordered-ascends, ordered-of}
+use Rattle.mv_repository.specs.Order.{Placed, ordered, put_in, passes, stands_before, Ascends}
+use Rattle.mv_repository.specs.Agreement.{Sent, sent_in, sent_by, bears_on, batch_in, about, AgreeOn, HasDistinctStamps, HaveSameAbout, HaveSameEntries}
+use Rattle.mv_repository.proofs.OrderLemmas.{placed_after, StandsBeforeAll, AreOf, ordered-ascends, ordered-of}
 use Rattle.mv_repository.proofs.AgreementLemmas.{agree, first_batch, batch-first}
+use Rattle.mv_repository.proofs.StampsLemmas.{stamp_in, stamp_at, HasNoStampTwice, not-twice}
 
 -- each stamp is greater
 abbrev AllAbove : ℕ → List Sent → Type 0
@@ -105,7 +106,7 @@ less-stamp a b m n e same = by (nat_lt a b) refl (a == b) refl (nat_lt m n) refl
 stamp-there : (log : List LogEntry) (x : Placed) → slice_get log x.place ≡ Some x.entry → stamp_at log x.place ≡ stamp_in x.entry.item
 stamp-there log x there = ap (option_and_then (λ (entry : LogEntry). stamp_in entry.item)) there
 
-above-behind : (log : List LogEntry) (place sender k stamp : ℕ) (message : Message) (xs : List Placed) → HasDistinctStamps log → stamp_at log place ≡ Some stamp
+above-behind : (log : List LogEntry) (place sender k stamp : ℕ) (message : Message) (xs : List Placed) → HasNoStampTwice log → stamp_at log place ≡ Some stamp
     → StandsBeforeAll (record { place = place; entry = record { sender = sender; item = Carried k stamp message } }) xs → AreOf log xs → AllAbove stamp (sent_by xs)
 above-behind log place sender k stamp message [] distinct there before of = tt
 above-behind log place sender k stamp message (x ∷ xs) distinct there before of =
@@ -118,7 +119,7 @@ above-behind log place sender k stamp message (x ∷ xs) distinct there before o
     by (Carried l later sent) less at rest =
         (less-stamp stamp later place x.place less (λ same. distinct place x.place stamp there (at ∙ ap Some (sym same))), rest)
 
-increases-by : (log : List LogEntry) (xs : List Placed) → HasDistinctStamps log → Ascends xs → AreOf log xs → Increases (sent_by xs)
+increases-by : (log : List LogEntry) (xs : List Placed) → HasNoStampTwice log → Ascends xs → AreOf log xs → Increases (sent_by xs)
 increases-by log [] distinct ascends of = tt
 increases-by log (x ∷ xs) distinct ascends of = by x.entry.item ascends.0 (stamp-there log x of.0) (increases-by log xs distinct ascends.1 of.1)
   where
@@ -131,7 +132,7 @@ increases-by log (x ∷ xs) distinct ascends of = by x.entry.item ascends.0 (sta
 about-increases : (pack : PackKey) (log : List LogEntry) → HasDistinctStamps log → Increases (about pack log)
 about-increases pack log distinct =
     increases-filter (λ sent. bears_on pack (batch_in pack log) sent.message) (sent_by (ordered log))
-    (increases-by log (ordered log) distinct (ordered-ascends log) (ordered-of log))
+    (increases-by log (ordered log) (not-twice log distinct) (ordered-ascends log) (ordered-of log))
 
 pub same_about : (pack : PackKey) (one other : List LogEntry) → HasDistinctStamps one → HasDistinctStamps other → HaveSameAbout pack one other → AgreeOn pack one other
 same_about pack one other distinct apart same =
@@ -191,20 +192,22 @@ sent-kept x (y ∷ ys) sent c = by (passes x y) (sent-either y ys sent c) (sent-
     by false (inl first) kept = sent-first y (put_in x ys) sent first
     by false (inr later) kept = sent-later y (put_in x ys) sent (kept later)
 
-sent-stays : (placed : List Placed) (place : ℕ) (log : List LogEntry) (sent : Sent) → Contains (sent_by placed) sent → Contains (sent_by (ordered_after placed place log)) sent
-sent-stays placed place [] sent c = c
-sent-stays placed place (entry ∷ log) sent c =
-    sent-stays (put_in (record { place = place; entry = entry }) placed) (place + 1) log sent (sent-kept (record { place = place; entry = entry }) placed sent c)
+sent-stays : (placed : List Placed) (log : List LogEntry) (sent : Sent) → Contains (sent_by placed) sent → Contains (sent_by (placed_after placed log)) sent
+sent-stays placed [] sent c = c
+sent-stays placed (entry ∷ log) sent c =
+    let x : Placed = record { place = length placed; entry = entry } in
+    sent-stays (put_in x placed) log sent (sent-kept x placed sent c)
 
 -- each message of a log stands in its order
-sent-at : (placed : List Placed) (place : ℕ) (log : List LogEntry) (i : ℕ) (entry : LogEntry) (sent : Sent) → slice_get log i ≡ Some entry
-    → sent_in entry.sender entry.item ≡ Some sent → Contains (sent_by (ordered_after placed place log)) sent
-sent-at placed place [] i entry sent at e = absurd (cc)
-sent-at placed place (first ∷ log) zero entry sent at e =
+sent-at : (placed : List Placed) (log : List LogEntry) (i : ℕ) (entry : LogEntry) (sent : Sent) → slice_get log i ≡ Some entry
+    → sent_in entry.sender entry.item ≡ Some sent → Contains (sent_by (placed_after placed log)) sent
+sent-at placed [] i entry sent at e = absurd (cc)
+sent-at placed (first ∷ log) zero entry sent at e =
+    let x : Placed = record { place = length placed; entry = first } in
     let same : first ≡ entry = cc at in
-    sent-stays (put_in (record { place = place; entry = first }) placed) (place + 1) log sent
-    (sent-put (record { place = place; entry = first }) placed sent (ap (λ (x : LogEntry). sent_in x.sender x.item) same ∙ e))
-sent-at placed place (first ∷ log) (suc i) entry sent at e = sent-at (put_in (record { place = place; entry = first }) placed) (place + 1) log i entry sent at e
+    sent-stays (put_in x placed) log sent
+    (sent-put x placed sent (ap (λ (x : LogEntry). sent_in x.sender x.item) same ∙ e))
+sent-at placed (first ∷ log) (suc i) entry sent at e = sent-at (put_in (record { place = length placed; entry = first }) placed) log i entry sent at e
 
 -- and each message in that order is one of the log
 sent-from : (log : List LogEntry) (xs : List Placed) (sent : Sent) → AreOf log xs → Contains (sent_by xs) sent
@@ -224,13 +227,13 @@ sent-also : (one other : List LogEntry) (sent : Sent) → ((entry : LogEntry) �
 sent-also one other sent also c =
     let here = sent-from one (ordered one) sent (ordered-of one) c in
     let there = also here.1 (here.0, slice_get_within one here.0 here.1 here.2, get_or_from_slice_get one here.0 here.1 here.1 here.2) in
-    sent-at [] 0 other there.0 here.1 sent (slice_get-get_or other there.0 here.1 there.1 ∙ ap Some there.2) here.3
+    sent-at [] other there.0 here.1 sent (slice_get-get_or other there.0 here.1 there.1 ∙ ap Some there.2) here.3
 
 -- two logs with distinct stamps and the same entries agree on every pack
 pub same_entries : (pack : PackKey) (one other : List LogEntry) → HasDistinctStamps one → HasDistinctStamps other → HaveSameEntries one other → AgreeOn pack one other
 same_entries pack one other distinct apart same =
     let sent : sent_by (ordered one) ≡ sent_by (ordered other) =
-    same-order (sent_by (ordered one)) (sent_by (ordered other)) (increases-by one (ordered one) distinct (ordered-ascends one) (ordered-of one)) (increases-by other (ordered other) apart (ordered-ascends other) (ordered-of other))
+    same-order (sent_by (ordered one)) (sent_by (ordered other)) (increases-by one (ordered one) (not-twice one distinct) (ordered-ascends one) (ordered-of one)) (increases-by other (ordered other) (not-twice other apart) (ordered-ascends other) (ordered-of other))
     (λ s. sent-also one other s (λ entry. (same entry).0)) (λ s. sent-also other one s (λ entry. (same entry).1)) in
     let batch : batch_in pack one ≡ batch_in pack other = batch-first pack one ∙ ap (first_batch pack) sent ∙ sym (batch-first pack other) in
     agree pack one other (λ i. filter (λ s. bears_on pack (batch i) s.message) (sent i))

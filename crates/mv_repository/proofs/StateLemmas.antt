@@ -11,8 +11,8 @@ use Rattle.mv_repository.specs.declared.entry.LogEntry.{LogEntry}
 use Rattle.mv_repository.specs.declared.stops.BatchStanding.{BatchStanding}
 use Rattle.mv_pack.specs.Keys.{batch_key}
 use Rattle.mv_repository.specs.Order.{Placed, stands_before, Ascends}
-use Rattle.mv_repository.specs.Pack.{KnownPack, KnownChange, is_active, is_done, change_effect, change_to}
-use Rattle.mv_repository.specs.PackState.{is_recall_of, is_withdrawal_of, batch_standing, pack_after_item, pack_after, known_pack_from, known_pack, held_of}
+use Rattle.mv_repository.specs.Pack.{KnownPack, KnownChange, is_active, is_done, change_effect}
+use Rattle.mv_repository.specs.PackState.{is_recall_of, is_withdrawal_of, batch_standing, pack_after_item, known_pack_from, known_pack, held_of}
 use Rattle.mv_repository.specs.Stops.{FirstStops, StopTables, first_stops, is_before, standing_at, entry_at, place_of, stops_in, no_entry}
 use Rattle.mv_repository.specs.Track.{is_upload_of, is_status_of, first_upload, statuses_of, pack_made_by, pack_changed, pack_step, pack_grown, user_in, user_at, known_of, held_step, grown_at}
 use Rattle.mv_repository.proofs.OrderLemmas.{StandsBeforeAll, stands-asym, stands-self, Stand}
@@ -46,7 +46,7 @@ first-before f (z ∷ zs) y rest a =
 
 -- one entry, where the first stops are known
 abbrev next : FirstStops → PackKey → Option KnownPack → Placed → Option KnownPack
-next stops pack known x = pack_after (standing_at stops x) x pack known
+next stops pack known x = pack_after_item (standing_at stops x) x.place x.entry.sender x.entry.item pack known
 
 state-fold : (all before rest : List Placed) (pack : PackKey) (known : Option KnownPack) → all ≡ before ++ rest → Ascends all
     → known_pack_from before rest pack known ≡ fold (next (first_stops all) pack) known rest
@@ -56,8 +56,8 @@ state-fold all before (x ∷ xs) pack known e a =
     λ f. subst (λ (l : List Placed). list_any f before ≡ is_before (find f l) x) (sym e) (first-before f before x xs (subst Ascends e a)) in
     let standing : batch_standing before ≡ standing_at (first_stops all) x =
     (λ i batch. record { recalled = same (λ placed. is_recall_of batch placed.entry.item) i; withdrawn = same (λ placed. is_withdrawal_of batch.gtin placed.entry.item) i }) in
-    state-fold all (before ++ x ∷ []) xs pack (pack_after (batch_standing before) x pack known) (e ∙ sym (append_assoc before (x ∷ []) xs)) a
-    ∙ ap (λ (f : BatchKey → BatchStanding). fold (next (first_stops all) pack) (pack_after f x pack known) xs) standing
+    state-fold all (before ++ x ∷ []) xs pack (pack_after_item (batch_standing before) x.place x.entry.sender x.entry.item pack known) (e ∙ sym (append_assoc before (x ∷ []) xs)) a
+    ∙ ap (λ (f : BatchKey → BatchStanding). fold (next (first_stops all) pack) (pack_after_item f x.place x.entry.sender x.entry.item pack known) xs) standing
 
 -- an entry makes a pack, changes it, or leaves it
 after_item : (standing : BatchKey → BatchStanding) (place sender : ℕ) (item : Item) (pack : PackKey) (known : Option KnownPack)
@@ -167,7 +167,7 @@ changed-seen log standing place sender (Carried k stamp (Status key to user at))
     reverted true = refl
     reverted false = λ i. record held { standing = to; change = Some (record change { user = e i }) }
 
-    by : (done : Bool) → IsSeen log (cond done (record held { standing = to; change = change_to to change }) held)
+    by : (done : Bool) → IsSeen log (cond done (record held { standing = to; change = cond (is_active to) None (Some change) }) held)
     by true = reverted (is_active to)
     by false = h
 changed-seen log standing place sender _ pack held e h = h

@@ -19,8 +19,8 @@ use Rattle.mv_repository.specs.declared.held.Change.{Change}
 use Rattle.mv_repository.specs.declared.stops.BatchStanding.{BatchStanding}
 use Rattle.mv_pack.specs.Keys.{batch_key}
 use Rattle.mv_repository.specs.Order.{Placed, stands_before}
-use Rattle.mv_repository.specs.Pack.{KnownPack, is_active, is_done, change_effect}
-use Rattle.mv_repository.specs.PackState.{held_of, change_of}
+use Rattle.mv_repository.specs.Pack.{KnownChange, KnownPack, is_active, is_done, change_effect}
+use Rattle.mv_repository.specs.PackState.{held_of}
 use Rattle.mv_repository.specs.Stops.{FirstStops, StopTables, entry_at, stops_in, standing_at, no_entry}
 use Rattle.mv_repository.specs.declared.steps.Step.{Step}
 use Rattle.mv_repository.specs.Steps.{step_place, step_mark, WasWorked}
@@ -51,7 +51,7 @@ changed-keeps place sender _ held = (refl, refl, refl)
 held-known : (log : List LogEntry) (held : Held) → held_of (known_of log held) ≡ held
 held-known log held = λ i. record held { change = by held.change i }
   where
-    by : (change : Option Change) → option_map change_of (option_map (known_change log) change) ≡ change
+    by : (change : Option Change) → option_map (λ (change : KnownChange). record { by = change.by; at = change.at; entry = change.entry }) (option_map (known_change log) change) ≡ change
     by None = refl
     by (Some change) = refl
 

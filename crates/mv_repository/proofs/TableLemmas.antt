@@ -15,7 +15,7 @@ use Rattle.mv_pack.specs.Keys.{is_same_pack, is_same_batch}
 use Rattle.mv_repository.specs.Order.{Placed, passes, put_in, ordered, Ascends}
 use Rattle.mv_repository.specs.Packs.{IsAsMade}
 use Rattle.mv_repository.specs.PackState.{is_recall_of, is_withdrawal_of, held_of, known_pack, pack_state}
-use Rattle.mv_repository.specs.Stops.{FirstStops, StopTables, first_stops, stops_in, entry_at, place_of, no_entry, first_recall, first_withdrawal, AreStopsOf, earlier_place}
+use Rattle.mv_repository.specs.Stops.{FirstStops, StopTables, first_stops, stops_in, entry_at, place_of, no_entry, AreStopsOf, earlier_place}
 use Rattle.mv_repository.specs.Track.{Kept, is_upload_of, is_status_of, first_upload, statuses_of, pack_grown, pack_marks, held_made_at, grown_at, marks_at, stands_by, put_place, worked_out, with_status, with_upload, refreshed, IsTrack, kept_in, track_of, AreTracksOf}
 use Rattle.mv_repository.proofs.OrderLemmas.{StandsBeforeAll, placed_at, passes_behind, ordered-ascends, ordered-push, Stand, ordered-stand, still-stand}
 use Rattle.mv_repository.proofs.StateLemmas.{known-grown, grown-stands, map-stands, find-stand, find-stands}
@@ -167,9 +167,9 @@ filter-some f log entry h =
 -- what the tables of stops find is the first of each kind, also where the log is longer
 pub stops-found : (whole log : List LogEntry) (tables : StopTables) → Stand whole (ordered log) → AreStopsOf log tables → stops_in whole tables ≡ first_stops (ordered log)
 stops-found whole log tables s stops =
-    let recall : (batch : BatchKey) → option_map (entry_at whole) (lookup (is_same_batch batch) tables.recalls) ≡ first_recall batch (ordered log) =
+    let recall : (batch : BatchKey) → option_map (entry_at whole) (lookup (is_same_batch batch) tables.recalls) ≡ (first_stops (ordered log)).recall batch =
     λ batch. ap (option_map (entry_at whole)) (stops.recalls batch) ∙ find-stands (λ placed. is_recall_of batch placed.entry.item) whole (ordered log) s in
-    let withdrawal : (gtin : List ℕ) → option_map (entry_at whole) (lookup (bytes_eq gtin) tables.withdrawals) ≡ first_withdrawal gtin (ordered log) =
+    let withdrawal : (gtin : List ℕ) → option_map (entry_at whole) (lookup (bytes_eq gtin) tables.withdrawals) ≡ (first_stops (ordered log)).withdrawal gtin =
     λ gtin. ap (option_map (entry_at whole)) (stops.withdrawals gtin) ∙ find-stands (λ placed. is_withdrawal_of gtin placed.entry.item) whole (ordered log) s in
     λ i. record { recall = λ batch. recall batch i; withdrawal = λ gtin. withdrawal gtin i }
 
@@ -266,8 +266,8 @@ untouched : (log : List LogEntry) (entry : LogEntry) (pack : PackKey) → is_upl
 untouched log entry pack n s none =
     let first : first_upload pack (ordered (longer log entry)) ≡ first_upload pack (ordered log) = find-none (λ placed. is_upload_of pack placed.entry.item) log entry n in
     let own : statuses_of pack (ordered (longer log entry)) ≡ statuses_of pack (ordered log) = filter-none (λ placed. is_status_of pack placed.entry.item) log entry s in
-    let recall : (batch : BatchKey) → first_recall batch (ordered (longer log entry)) ≡ first_recall batch (ordered log) = λ batch. find-none (λ placed. is_recall_of batch placed.entry.item) log entry (none.0 batch) in
-    let withdrawal : (gtin : List ℕ) → first_withdrawal gtin (ordered (longer log entry)) ≡ first_withdrawal gtin (ordered log) = λ gtin. find-none (λ placed. is_withdrawal_of gtin placed.entry.item) log entry (none.1 gtin) in
+    let recall : (batch : BatchKey) → (first_stops (ordered (longer log entry))).recall batch ≡ (first_stops (ordered log)).recall batch = λ batch. find-none (λ placed. is_recall_of batch placed.entry.item) log entry (none.0 batch) in
+    let withdrawal : (gtin : List ℕ) → (first_stops (ordered (longer log entry))).withdrawal gtin ≡ (first_stops (ordered log)).withdrawal gtin = λ gtin. find-none (λ placed. is_withdrawal_of gtin placed.entry.item) log entry (none.1 gtin) in
     let known : known_pack pack (ordered (longer log entry)) ≡ known_pack pack (ordered log) =
     known-grown pack (ordered (longer log entry)) (ordered-ascends (longer log entry))
     ∙ (λ i. pack_grown (record { recall = λ batch. recall batch i; withdrawal = λ gtin. withdrawal gtin i }) pack (first i) (own i))
@@ -341,7 +341,7 @@ stops-recall log entry tables tables' key stops r none looks same = record {
 }
   where
     by : (batch : BatchKey) (b : Bool) → is_same_batch key batch ≡ b
-        → cond b (earlier_place (longer log entry) (length log) (lookup (is_same_batch key) tables.recalls)) (lookup (is_same_batch batch) tables.recalls) ≡ option_map place_of (first_recall batch (ordered (longer log entry)))
+        → cond b (earlier_place (longer log entry) (length log) (lookup (is_same_batch key) tables.recalls)) (lookup (is_same_batch batch) tables.recalls) ≡ option_map place_of ((first_stops (ordered (longer log entry))).recall batch)
     by batch true h =
         ap (λ (c : BatchKey). earlier_place (longer log entry) (length log) (lookup (is_same_batch c) tables.recalls)) (same_batch key batch h)
         ∙ ap (earlier_place (longer log entry) (length log)) (stops.recalls batch)
@@ -359,7 +359,7 @@ stops-withdrawal log entry tables tables' key stops w none looks same = record {
 }
   where
     by : (gtin : List ℕ) (b : Bool) → bytes_eq key gtin ≡ b
-        → cond b (earlier_place (longer log entry) (length log) (lookup (bytes_eq key) tables.withdrawals)) (lookup (bytes_eq gtin) tables.withdrawals) ≡ option_map place_of (first_withdrawal gtin (ordered (longer log entry)))
+        → cond b (earlier_place (longer log entry) (length log) (lookup (bytes_eq key) tables.withdrawals)) (lookup (bytes_eq gtin) tables.withdrawals) ≡ option_map place_of ((first_stops (ordered (longer log entry))).withdrawal gtin)
     by gtin true h =
         ap (λ (c : List ℕ). earlier_place (longer log entry) (length log) (lookup (bytes_eq c) tables.withdrawals)) (same_text key gtin (sym h))
         ∙ ap (earlier_place (longer log entry) (length log)) (stops.withdrawals gtin)

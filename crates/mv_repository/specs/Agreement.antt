@@ -1,7 +1,7 @@
 -- What of a log bears on one pack, and what two logs agree on that have the same of it.
-use Rattle.std.specs.Prelude.{◌≡◌, ◌↔◌, slice_get, ℕ, List, Bool, false, filter, Option, Some, None, bytes_eq}
-use Rattle.std.specs.List.{filter_map, Contains}
-use Rattle.std.specs.Option.{option_map, option_map_or, option_and_then}
+use Rattle.std.specs.Prelude.{◌≡◌, ◌↔◌, ℕ, nat_eq, List, Bool, false, filter, Option, Some, None, bytes_eq}
+use Rattle.std.specs.List.{filter_map, Contains, IsDistinct}
+use Rattle.std.specs.Option.{option_map, option_map_or}
 use Rattle.mv_pack.specs.declared.key.PackKey.{PackKey}
 use Rattle.mv_message.specs.declared.message.Message.{Message}
 use Rattle.mv_message.specs.declared.message.Message.TheVariants.{Upload, Status, Recall, Withdraw}
@@ -65,17 +65,10 @@ pub record AgreeOn (pack : PackKey) (one other : List LogEntry) : Type 0 where
   pub withdrawal : is_withdrawn pack.gtin one ≡ is_withdrawn pack.gtin other
   pub verdict : local_verdict pack one ≡ local_verdict pack other
 
--- the stamp that the entry at a place of a log bears, where there is one that was carried
-abbrev pub stamp_in : Item → Option ℕ
-stamp_in (Carried k stamp message) = Some stamp
-stamp_in (Receipt k reach query) = None
-
-abbrev pub stamp_at : List LogEntry → ℕ → Option ℕ
-stamp_at log place = option_and_then (λ entry. stamp_in entry.item) (slice_get log place)
-
 -- no stamp stands at two places of a log
 abbrev pub HasDistinctStamps : List LogEntry → Type 0
-HasDistinctStamps log = (first second stamp : ℕ) → stamp_at log first ≡ Some stamp → stamp_at log second ≡ Some stamp → first ≡ second
+HasDistinctStamps log =
+    IsDistinct nat_eq (filter_map (λ entry. option_map (λ (sent : Sent). sent.stamp) (sent_in entry.sender entry.item)) log)
 
 -- two logs have the same messages about a pack, in whatever order these came
 abbrev pub HaveSameAbout : PackKey → List LogEntry → List LogEntry → Type 0

@@ -17,15 +17,12 @@ use Rattle.mv_repository.specs.PackState.{is_recalled_by, is_withdrawn_by, batch
 abbrev pub entries_before : List LogEntry → LogEntry → List Placed
 entries_before log entry = filter (λ placed. not (passes (record { place = length log; entry = entry }) placed)) (ordered log)
 
--- how many packs an upload makes: those that these entries don't make; one that it names twice is made once
-abbrev pub new_count : List Placed → List ℕ → List (List ℕ) → ℕ
-new_count before gtin serials =
-    distinct_count bytes_eq (filter (λ serial. not (is_some (known_pack (pack_key gtin serial) before))) serials)
-
--- the effect of an upload: how many packs it makes, and how many of those that it names were there
+-- the effect of an upload: how many packs it makes, which are those that these entries don't make, one that it names twice
+-- once; and how many of those that it names were there
 abbrev pub upload_effect : List Placed → List ℕ → List (List ℕ) → Effect
 upload_effect before gtin serials =
-    effects.Uploaded (new_count before gtin serials) (length serials - new_count before gtin serials)
+    let new = distinct_count bytes_eq (filter (λ serial. not (is_some (known_pack (pack_key gtin serial) before))) serials) in
+    effects.Uploaded new (length serials - new)
 
 -- the effect of what holds for ever: it is done once
 abbrev pub lasting_effect : Bool → Effect

@@ -1,7 +1,7 @@
 -- A log in the order of the hub's stamps, which have 32 bits: carried entries by stamp, those of one stamp in the order of the
 -- log, and behind them the receipts in the order of the log.
 use Rattle.std.specs.Bool.{⊤}
-use Rattle.std.specs.Prelude.{◌≡◌, ℕ, List, [], ◌∷◌, ◌++◌, ◌+◌, ◌^◌, length, Bool, true, ◌||◌, ◌&&◌, ◌==◌, nat_lt, Some, slice_get, if◌then◌else◌}
+use Rattle.std.specs.Prelude.{◌≡◌, ℕ, List, [], ◌∷◌, ◌^◌, fold, length, Bool, true, ◌||◌, ◌&&◌, ◌==◌, nat_lt, Some, slice_get, if◌then◌else◌}
 use Rattle.std.specs.List.{AllByRecursion}
 use Rattle.mv_link.specs.declared.item.Item.{Item}
 use Rattle.mv_link.specs.declared.item.Item.TheVariants.{Receipt, Carried}
@@ -27,14 +27,9 @@ abbrev pub put_in : Placed → List Placed → List Placed
 put_in entry [] = entry ∷ []
 put_in entry (first ∷ rest) = if passes entry first then entry ∷ first ∷ rest else first ∷ put_in entry rest
 
--- entries from a place of the log on are put in, one after another
-abbrev pub ordered_after : List Placed → ℕ → List LogEntry → List Placed
-ordered_after placed place [] = placed
-ordered_after placed place (entry ∷ log) = ordered_after (put_in (record { place = place; entry = entry }) placed) (place + 1) log
-
--- the log in the order of stamps
+-- the log in the order of stamps: its entries are put in, one after another
 abbrev pub ordered : List LogEntry → List Placed
-ordered log = ordered_after [] 0 log
+ordered log = fold (λ placed entry. put_in (record { place = length placed; entry = entry }) placed) [] log
 
 -- an entry stands before another: by stamp, and of one stamp by its place in the log
 abbrev pub stands_before : Placed → Placed → Bool
@@ -45,11 +40,6 @@ stands_before first second =
 abbrev pub Ascends : List Placed → Type 0
 Ascends [] = ⊤
 Ascends (first ∷ rest) = AllByRecursion (λ second. stands_before first second ≡ true) rest × Ascends rest
-
--- the order of a log with one more entry is the order before, with that entry put in its place
-abbrev pub OneMoreIsPutIn : Type 0
-OneMoreIsPutIn = (log : List LogEntry) (entry : LogEntry)
-    → ordered (log ++ entry ∷ []) ≡ put_in (record { place = length log; entry = entry }) (ordered log)
 
 -- the order has each entry of the log once, as the one at its place, by stamp and then by place
 pub record IsOrderOf (log : List LogEntry) (placed : List Placed) : Type 0 where

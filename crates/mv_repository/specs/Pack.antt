@@ -41,10 +41,6 @@ abbrev pub new_pack : List ℕ → CivilDate → Option (List ℕ) → KnownPack
 new_pack batch expiry national =
     record { batch = batch; expiry = expiry; national = national; standing = standings.Active; change = None }
 
--- a change was asked for by this party as this user
-abbrev pub is_change_by : KnownChange → ℕ → List ℕ → Bool
-is_change_by change sender user = (change.by == sender) && bytes_eq change.user user
-
 -- the seconds within which a change may be reverted: ten days (Article 13(1)(b))
 abbrev pub revert_seconds : ℕ
 revert_seconds = 10 * seconds_of_day
@@ -55,7 +51,7 @@ revert_seconds = 10 * seconds_of_day
 abbrev pub revert_effect : CivilDate → BatchStanding → Option KnownChange → ℕ → List ℕ → ℕ → Effect
 revert_effect expiry batch None sender user at = effects.OtherUser
 revert_effect expiry batch (Some change) sender user at =
-    if not (is_change_by change sender user) then effects.OtherUser
+    if not ((change.by == sender) && bytes_eq change.user user) then effects.OtherUser
     else (if nat_lt at change.at then effects.TooEarly
     else (if nat_lt (change.at + revert_seconds) at then effects.TooLate
     else (if is_expired_at expiry at then effects.Expired
@@ -77,16 +73,13 @@ abbrev pub is_done : Effect → Bool
 is_done effects.Done = true
 is_done _ = false
 
--- the change that a status makes; a revert leaves none
-abbrev pub change_to : Standing → KnownChange → Option KnownChange
-change_to to change = if is_active to then None else Some change
-
--- a pack that is held, once a status comes that stands at a place of the log: only one that is done changes it
+-- a pack that is held, once a status comes that stands at a place of the log: only one that is done changes it, and a
+-- revert leaves no change
 abbrev pub pack_after_status : KnownPack → BatchStanding → Standing → ℕ → List ℕ → ℕ → ℕ → KnownPack
 pack_after_status pack batch to sender user at entry =
     if is_done (change_effect pack batch to sender user at)
     then record pack {
       standing = to;
-      change = change_to to (record { by = sender; user = user; at = at; entry = entry });
+      change = if is_active to then None else Some (record { by = sender; user = user; at = at; entry = entry });
     }
     else pack

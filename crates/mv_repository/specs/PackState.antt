@@ -9,7 +9,6 @@ use Rattle.mv_link.specs.declared.item.Item.{Item}
 use Rattle.mv_link.specs.declared.item.Item.TheVariants.{Carried}
 use Rattle.mv_repository.specs.declared.entry.LogEntry.{LogEntry}
 use Rattle.mv_repository.specs.declared.held.Held.{Held}
-use Rattle.mv_repository.specs.declared.held.Change.{Change}
 use Rattle.mv_repository.specs.Order.{Placed, ordered}
 use Rattle.mv_pack.specs.Keys.{is_same_pack, is_same_batch, batch_key}
 use Rattle.mv_repository.specs.declared.stops.BatchStanding.{BatchStanding}
@@ -55,33 +54,25 @@ pack_after_item standing place sender (Carried k stamp (Status key to user at)) 
     else known
 pack_after_item standing place sender _ pack known = known
 
--- a pack once one more entry follows
-abbrev pub pack_after : (BatchKey → BatchStanding) → Placed → PackKey → Option KnownPack → Option KnownPack
-pack_after standing placed pack known =
-    pack_after_item standing placed.place placed.entry.sender placed.entry.item pack known
-
 -- a pack once the rest of these entries follow those before
 abbrev pub known_pack_from : List Placed → List Placed → PackKey → Option KnownPack → Option KnownPack
 known_pack_from before [] pack known = known
 known_pack_from before (placed ∷ rest) pack known =
-    known_pack_from (before ++ placed ∷ []) rest pack (pack_after (batch_standing before) placed pack known)
+    known_pack_from (before ++ placed ∷ []) rest pack
+    (pack_after_item (batch_standing before) placed.place placed.entry.sender placed.entry.item pack known)
 
 -- a pack by these entries, in this order; none where no upload names it
 abbrev pub known_pack : PackKey → List Placed → Option KnownPack
 known_pack pack entries = known_pack_from [] entries pack None
 
--- a change as a repository shows it: its user is that of the status at its place in the log
-abbrev pub change_of : KnownChange → Change
-change_of change = record { by = change.by; at = change.at; entry = change.entry }
-
--- a pack as a repository shows it
+-- a pack as a repository shows it; the user of its change is that of the status at its place in the log
 abbrev pub held_of : KnownPack → Held
 held_of pack = record {
   batch = pack.batch;
   expiry = pack.expiry;
   national = pack.national;
   standing = pack.standing;
-  change = option_map change_of pack.change;
+  change = option_map (λ (change : KnownChange). record { by = change.by; at = change.at; entry = change.entry }) pack.change;
 }
 
 -- a pack by a log

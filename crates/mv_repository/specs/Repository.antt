@@ -1,10 +1,11 @@
 -- What a repository is seen as. No table is part of it: all that it answers is the meaning of its log by stamp order.
-use Rattle.std.specs.Prelude.{ℕ, List, [], ◌∷◌, ◌++◌, Option}
+use Rattle.std.specs.Prelude.{ℕ, List, [], ◌∷◌, ◌++◌, Option, None}
+use Rattle.std.specs.List.{filter_map, last_or}
 use Rattle.mv_message.specs.declared.message.Product.{Product}
 use Rattle.mv_link.specs.declared.item.Item.{Item}
 use Rattle.mv_repository.specs.declared.entry.LogEntry.{LogEntry}
 use Rattle.mv_repository.specs.Order.{ordered}
-use Rattle.mv_repository.specs.Product.{last_product}
+use Rattle.mv_repository.specs.Product.{product_under}
 
 pub record RepositoryState : Type 0 where
   pub party : ℕ  -- whose repository it is
@@ -19,6 +20,6 @@ abbrev pub with_applied : RepositoryState → ℕ → Item → RepositoryState
 with_applied repository sender item =
     record repository { log = repository.log ++ record { sender = sender; item = item } ∷ [] }
 
--- the product that a log means under a code: that of the master with the greatest stamp
+-- the product that a log means under a code: that of the master with the greatest stamp, none where there is no master
 abbrev pub product_of : List LogEntry → List ℕ → Option Product
-product_of log gtin = last_product (ordered log) gtin
+product_of log gtin = last_or None (filter_map (λ placed. product_under gtin placed.entry.item) (ordered log))

@@ -27,16 +27,10 @@ pub record FirstStops : Type 0 where
   pub recall : BatchKey → Option Placed
   pub withdrawal : List ℕ → Option Placed
 
-abbrev pub first_recall : BatchKey → List Placed → Option Placed
-first_recall batch entries = find (λ placed. is_recall_of batch placed.entry.item) entries
-
-abbrev pub first_withdrawal : List ℕ → List Placed → Option Placed
-first_withdrawal gtin entries = find (λ placed. is_withdrawal_of gtin placed.entry.item) entries
-
 abbrev pub first_stops : List Placed → FirstStops
 first_stops entries = record {
-  recall = λ batch. first_recall batch entries;
-  withdrawal = λ gtin. first_withdrawal gtin entries;
+  recall = λ batch. find (λ placed. is_recall_of batch placed.entry.item) entries;
+  withdrawal = λ gtin. find (λ placed. is_withdrawal_of gtin placed.entry.item) entries;
 }
 
 -- an entry, if there is one, stands before another
@@ -65,8 +59,8 @@ stops_in log tables = record {
 
 -- the tables are those of a log
 pub record AreStopsOf (log : List LogEntry) (tables : StopTables) : Type 0 where
-  pub recalls : (batch : BatchKey) → lookup (is_same_batch batch) tables.recalls ≡ option_map place_of (first_recall batch (ordered log))
-  pub withdrawals : (gtin : List ℕ) → lookup (bytes_eq gtin) tables.withdrawals ≡ option_map place_of (first_withdrawal gtin (ordered log))
+  pub recalls : (batch : BatchKey) → lookup (is_same_batch batch) tables.recalls ≡ option_map place_of ((first_stops (ordered log)).recall batch)
+  pub withdrawals : (gtin : List ℕ) → lookup (bytes_eq gtin) tables.withdrawals ≡ option_map place_of ((first_stops (ordered log)).withdrawal gtin)
 
 -- the newest entry comes first: there is none so far, or it stands before the first so far, which is at that place
 abbrev pub comes_first : List LogEntry → ℕ → Option ℕ → Bool

@@ -26,19 +26,15 @@ abbrev pub is_for_destruction : Standing → Bool
 is_for_destruction standings.Destruction = true
 is_for_destruction _ = false
 
--- a pack is recalled, withdrawn, or to be destroyed: something other than a falsification explains it
-abbrev pub is_explained : Bool → Bool → Standing → Bool
-is_explained recalled withdrawn standing = recalled || withdrawn || is_for_destruction standing
-
 -- a pack was found active
 abbrev pub found_active : Found → Bool
 found_active founds.Absent = false
 found_active (founds.Present batch expiry national standing recalled withdrawn) = is_active standing
 
--- a pack was found so that something other than a falsification explains it
+-- a pack was found recalled, withdrawn, or to be destroyed: something other than a falsification explains it
 abbrev pub found_explained : Found → Bool
 found_explained founds.Absent = false
-found_explained (founds.Present batch expiry national standing recalled withdrawn) = is_explained recalled withdrawn standing
+found_explained (founds.Present batch expiry national standing recalled withdrawn) = recalled || withdrawn || is_for_destruction standing
 
 -- The verdict where a finding is active or not, and where one is explained or not: authentic where one is active; else a
 -- falsification is suspected, unless there is another reason. An active pack is authentic also where it is recalled or
@@ -49,8 +45,7 @@ verdict_when active explained = if active then Authentic else NotAuthentic (not 
 -- the verdict on what one repository found
 abbrev pub local_verdict_of : Found → Local
 local_verdict_of founds.Absent = Absent
-local_verdict_of (founds.Present batch expiry national standing recalled withdrawn) =
-    Known (verdict_when (is_active standing) (is_explained recalled withdrawn standing))
+local_verdict_of found = Known (verdict_when (found_active found) (found_explained found))
 
 -- the verdict of a log on a pack
 abbrev pub local_verdict : PackKey → List LogEntry → Local

@@ -6,15 +6,10 @@ ghost use Rattle.mv_pack.specs.declared.key.PackKey.{PackKey as APackKey};
 ghost use Rattle.mv_repository.specs.declared.entry.LogEntry.{LogEntry as AnEntry};
 ghost use Rattle.mv_repository.specs.Agreement.{about, AgreeOn, HasDistinctStamps, HaveSameAbout, HaveSameEntries};
 ghost use Rattle.mv_repository.specs.Changes.{ChangeNamesStatus};
-ghost use Rattle.mv_repository.specs.Order.{OneMoreIsPutIn, IsOrderOf, ordered};
+ghost use Rattle.mv_repository.specs.Order.{IsOrderOf, ordered};
 ghost use Rattle.mv_repository.specs.PackState.{known_pack};
 ghost use Rattle.mv_repository.specs.Stops.{first_stops};
 ghost use Rattle.mv_repository.specs.Track.{pack_grown, first_upload, statuses_of};
-
-/// Whatever came before, one more entry is put in at the place that its stamp gives it.
-pub fn one_more_is_put_in()
-    ensures { OneMoreIsPutIn }
-{}
 
 /// The order has each entry of the log once, by stamp, and those of one stamp as they stand in the log.
 pub fn ordered_is_the_order()

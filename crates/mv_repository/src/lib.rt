@@ -47,8 +47,8 @@ pub use effect::Effect;
 pub use entry::LogEntry;
 pub use held::{Change, Held, REVERT_SECONDS};
 pub use laws::{
-    about_decides, change_names_its_status, one_more_is_put_in, ordered_is_the_order,
-    pack_is_of_its_own_entries, same_entries_agree, same_messages_agree,
+    about_decides, change_names_its_status, ordered_is_the_order, pack_is_of_its_own_entries,
+    same_entries_agree, same_messages_agree,
 };
 pub use repository::Repository;
 pub use sender::FromSender;

@@ -2,7 +2,7 @@
 
 ghost use Rattle.std.specs.Prelude.{◌≡◌, IsTrue, ◌↔◌};
 ghost use Rattle.std.specs.Option.{option_map};
-ghost use Rattle.mv_repository.specs.Pack.{is_active, is_final, is_change_by, revert_effect, change_effect, pack_after_status};
+ghost use Rattle.mv_repository.specs.Pack.{is_active, is_final, revert_effect, change_effect, pack_after_status};
 ghost use Rattle.mv_repository.specs.PackState.{held_of};
 ghost use Rattle.mv_repository.specs.Track.{user_in, user_at, known_of, known_change};
 

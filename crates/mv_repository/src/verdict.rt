@@ -1,7 +1,7 @@
 //! Verdicts on packs: authentic or not.
 
-ghost use Rattle.std.specs.Prelude.{◌≡◌};
-ghost use Rattle.mv_repository.specs.Verdict.{is_for_destruction, is_explained, verdict_when};
+ghost use Rattle.std.specs.Prelude.{◌≡◌, ◌||◌};
+ghost use Rattle.mv_repository.specs.Verdict.{is_for_destruction, verdict_when};
 
 use mv_message::Standing;
 
@@ -46,7 +46,7 @@ fn is_for_destruction(standing: Standing) -> bool
 
 /// Whether something other than a falsification explains a pack: it is recalled, withdrawn, or to be destroyed.
 pub(crate) fn is_explained(recalled: bool, withdrawn: bool, standing: Standing) -> bool
-    ensures { result ≡ is_explained recalled withdrawn standing }
+    ensures { result ≡ (recalled || withdrawn || is_for_destruction standing) }
 {
     recalled || withdrawn || is_for_destruction(standing)
 }

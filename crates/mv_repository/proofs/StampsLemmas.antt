@@ -1,0 +1,90 @@
+-- Lemmas on the stamps of a log: they are distinct where none stands at two places.
+use Rattle.std.proofs.Common.{◌≡◌, ℕ, zero, suc, List, [], ◌∷◌, refl, sym, ◌∙◌, ap, arith, Bool, true, false, nat_eq, Option, Some, None}
+use Rattle.std.specs.List.{filter_map, AllByRecursion, IsDistinct}
+use Rattle.std.specs.Option.{option_map, option_and_then}
+use Rattle.std.specs.Prelude.{slice_get}
+use Rattle.std.proofs.lemmas.Bool.Decides.{nat_tests}
+use Rattle.mv_link.specs.declared.item.Item.{Item}
+use Rattle.mv_link.specs.declared.item.Item.TheVariants.{Receipt, Carried}
+use Rattle.mv_repository.specs.declared.entry.LogEntry.{LogEntry}
+use Rattle.mv_repository.specs.Agreement.{Sent, sent_in, HasDistinctStamps}
+
+-- the stamp of an item that was carried, and of the one at a place of a log
+abbrev pub stamp_in : Item → Option ℕ
+stamp_in (Carried k stamp message) = Some stamp
+stamp_in (Receipt k reach query) = None
+
+abbrev pub stamp_at : List LogEntry → ℕ → Option ℕ
+stamp_at log place = option_and_then (λ entry. stamp_in entry.item) (slice_get log place)
+
+-- a stamp that stands at two places stands at one
+abbrev pub HasNoStampTwice : List LogEntry → Type 0
+HasNoStampTwice log = (first second stamp : ℕ) → stamp_at log first ≡ Some stamp → stamp_at log second ≡ Some stamp → first ≡ second
+
+abbrev stamps_of : List LogEntry → List ℕ
+stamps_of log = filter_map (λ entry. option_map (λ (sent : Sent). sent.stamp) (sent_in entry.sender entry.item)) log
+
+same : (a b : ℕ) → nat_eq a b ≡ true → a ≡ b
+same a b e = grind (arith, nat_tests)
+
+not-same : (a b : ℕ) → nat_eq a b ≡ false → b ≡ a → ⊥
+not-same a b e h = grind (arith, nat_tests)
+
+apart : (a b : ℕ) → (b ≡ a → ⊥) → nat_eq a b ≡ false
+apart a b other = by (nat_eq a b) refl
+  where
+    by : (c : Bool) → nat_eq a b ≡ c → c ≡ false
+    by true e = absurd (other (sym (same a b e)))
+    by false e = refl
+
+-- an entry with its item
+abbrev with : LogEntry → Item → LogEntry
+with entry item = record { sender = entry.sender; item = item }
+
+-- a stamp that is none of a log's stands at no place of it
+nowhere : (stamp : ℕ) (log : List LogEntry) → AllByRecursion (λ other. nat_eq stamp other ≡ false) (stamps_of log) → (place : ℕ) → stamp_at log place ≡ Some stamp → ⊥
+nowhere stamp [] all place at = absurd (cc)
+nowhere stamp (entry ∷ log) all place at = by entry.item (nowhere stamp log) all place at
+  where
+    by : (item : Item) → (AllByRecursion (λ other. nat_eq stamp other ≡ false) (stamps_of log) → (place : ℕ) → stamp_at log place ≡ Some stamp → ⊥)
+        → AllByRecursion (λ other. nat_eq stamp other ≡ false) (stamps_of (with entry item ∷ log)) → (place : ℕ) → stamp_at (with entry item ∷ log) place ≡ Some stamp → ⊥
+    by (Receipt k reach query) later all zero at = absurd (cc)
+    by (Receipt k reach query) later all (suc place) at = later all place at
+    by (Carried k other message) later all zero at = not-same stamp other all.0 (cc at)
+    by (Carried k other message) later all (suc place) at = later all.1 place at
+
+none : (stamp : ℕ) (log : List LogEntry) → ((place : ℕ) → stamp_at log place ≡ Some stamp → ⊥) → AllByRecursion (λ other. nat_eq stamp other ≡ false) (stamps_of log)
+none stamp [] h = tt
+none stamp (entry ∷ log) h = by entry.item (none stamp log (λ place. h (suc place))) h
+  where
+    by : (item : Item) → AllByRecursion (λ other. nat_eq stamp other ≡ false) (stamps_of log)
+        → ((place : ℕ) → stamp_at (with entry item ∷ log) place ≡ Some stamp → ⊥) → AllByRecursion (λ other. nat_eq stamp other ≡ false) (stamps_of (with entry item ∷ log))
+    by (Receipt k reach query) later h = later
+    by (Carried k other message) later h = (apart stamp other (λ e. h 0 (ap Some e)), later)
+
+-- where stamps are distinct none stands at two places
+pub not-twice : (log : List LogEntry) → HasDistinctStamps log → HasNoStampTwice log
+unfolding IsDistinct
+not-twice [] distinct first second stamp a b = absurd (cc)
+not-twice (entry ∷ log) distinct first second stamp a b = by entry.item (λ apart i j. not-twice log apart i j stamp) distinct first second a b
+  where
+    by : (item : Item) → (IsDistinct nat_eq (stamps_of log) → (i j : ℕ) → stamp_at log i ≡ Some stamp → stamp_at log j ≡ Some stamp → i ≡ j)
+        → IsDistinct nat_eq (stamps_of (with entry item ∷ log)) → (first second : ℕ)
+        → stamp_at (with entry item ∷ log) first ≡ Some stamp → stamp_at (with entry item ∷ log) second ≡ Some stamp → first ≡ second
+    by (Receipt k reach query) later distinct zero second a b = absurd (cc)
+    by (Receipt k reach query) later distinct (suc first) zero a b = absurd (cc)
+    by (Receipt k reach query) later distinct (suc first) (suc second) a b = ap suc (later distinct first second a b)
+    by (Carried k own message) later distinct zero zero a b = refl
+    by (Carried k own message) later distinct zero (suc second) a b = absurd (nowhere own log distinct.0 second (b ∙ sym a))
+    by (Carried k own message) later distinct (suc first) zero a b = absurd (nowhere own log distinct.0 first (a ∙ sym b))
+    by (Carried k own message) later distinct (suc first) (suc second) a b = ap suc (later distinct.1 first second a b)
+
+-- and where none does they are distinct
+pub distinct-stamps : (log : List LogEntry) → HasNoStampTwice log → HasDistinctStamps log
+unfolding IsDistinct
+distinct-stamps [] h = tt
+distinct-stamps (entry ∷ log) h = by entry.item (distinct-stamps log (λ first second stamp a b. omega (arith, h (suc first) (suc second) stamp a b))) h
+  where
+    by : (item : Item) → IsDistinct nat_eq (stamps_of log) → HasNoStampTwice (with entry item ∷ log) → IsDistinct nat_eq (stamps_of (with entry item ∷ log))
+    by (Receipt k reach query) later h = later
+    by (Carried k stamp message) later h = (none stamp log (λ place at. omega (arith, h 0 (suc place) stamp refl at)), later)

@@ -35,10 +35,9 @@ use Rattle.mv_machine.proofs.PrefixLemmas.{slice_get-append}
 use Rattle.mv_ends.specs.declared.inlets.Inlets.{Inlets}
 use Rattle.mv_ends.specs.declared.wires.Wires.{Wires}
 use Rattle.mv_ends.specs.declared.hub_end.HubEnd.{HubEnd}
-use Rattle.mv_ends.specs.HubEnd.{hub_of, is_party, IsUnchanged, Routes}
-use Rattle.mv_ends.specs.Inlets.{starts_of, SameInlets, TakesNothing, Takes}
-use Rattle.mv_ends.specs.Outlets.{ends_of}
-use Rattle.mv_ends.specs.Wires.{outlets_of, wire_of, SameWires, PutsNoFrame, PutsFrame}
+use Rattle.mv_ends.specs.HubEnd.{IsUnchanged, Routes}
+use Rattle.mv_ends.specs.Inlets.{SameInlets, TakesNothing, Takes}
+use Rattle.mv_ends.specs.Wires.{wire_of, SameWires, PutsNoFrame, PutsFrame}
 use Rattle.mv_ends.specs.Valid.{TookAll, IsFor, AreOfLinks, AreWithin}
 
 -- the front of what is known is what is taken
@@ -70,16 +69,16 @@ of_links_entered hub entry wires all from to none absent in_range below =
 -- nothing was put
 pub of_links_same : (hub : HubState) (old new : Wires) → SameWires old new → PutsNoFrame old new → AreOfLinks hub old → AreOfLinks hub new
 of_links_same hub old new same nothing all from to none absent in_range below =
-    let there : to < length (outlets_of old) = subst (λ n. to < n) same.0 in_range in
-    let between : from < length (ends_of (slice_index_or (outlets_of old) to none)) = subst (λ n. from < n) (same.1 to none there).0 below in
+    let there : to < length old.outlets.items = subst (λ n. to < n) same.0 in_range in
+    let between : from < length (slice_index_or old.outlets.items to none).ends.items = subst (λ n. from < n) (same.1 to none there).0 below in
     subst (All (IsFrameOf (items_on hub from to))) (sym (nothing from to none absent there between)) (all from to none absent there between)
 
 -- a frame of a link was put on its ring
 pub of_links_put : (hub : HubState) (old new : Wires) (sender receiver : ℕ) (frame : Frame) → SameWires old new → PutsFrame sender receiver frame old new
     → IsFrameOf (items_on hub sender receiver) frame → AreOfLinks hub old → AreOfLinks hub new
 of_links_put hub old new sender receiver frame same puts one all from to none absent in_range below =
-    let there : to < length (outlets_of old) = subst (λ n. to < n) same.0 in_range in
-    let between : from < length (ends_of (slice_index_or (outlets_of old) to none)) = subst (λ n. from < n) (same.1 to none there).0 below in
+    let there : to < length old.outlets.items = subst (λ n. to < n) same.0 in_range in
+    let between : from < length (slice_index_or old.outlets.items to none).ends.items = subst (λ n. from < n) (same.1 to none there).0 below in
     subst (All (IsFrameOf (items_on hub from to))) (sym (puts from to none absent there between))
     (by (eqb to receiver) (eqb from sender) (eqb-true to receiver) (eqb-true from sender) (all from to none absent there between))
   where
@@ -107,7 +106,7 @@ eqb-swap a b = by (eqb a b) (eqb b a) refl refl
 pub took_routed : (entries : List Entry) (sender k : ℕ) (message : Message) (old new : Inlets Message) → SameInlets old new → Takes sender message old new
     → TookAll entries old → TookAll (entries ++ Routed sender k message ∷ []) new
 took_routed entries sender k message old new same takes took from absent in_range =
-    let there : from < length (starts_of old) = subst (λ n. from < n) same.0 in_range in
+    let there : from < length old.ends.items = subst (λ n. from < n) same.0 in_range in
     takes from absent there
     ∙ ap (λ l. l ++ cond (eqb from sender) (message ∷ []) []) (took from absent there)
     ∙ ap (λ b. routed_from entries from ++ cond b (message ∷ []) []) (eqb-swap from sender)
@@ -121,7 +120,7 @@ took_closed entries sender receiver uplinks took from absent in_range =
 -- nothing was taken
 pub took_same : (entries : List Entry) (old new : Inlets Message) → SameInlets old new → TakesNothing old new → TookAll entries old → TookAll entries new
 took_same entries old new same nothing took from absent in_range =
-    let there : from < length (starts_of old) = subst (λ n. from < n) same.0 in_range in
+    let there : from < length old.ends.items = subst (λ n. from < n) same.0 in_range in
     nothing from absent there ∙ took from absent there
 
 -- one more message of a party that may submit more
@@ -167,14 +166,14 @@ refused_by None fault e = ap hub_refusal_of e
 refused_by (Some other) fault e = ap hub_refusal_of e
 
 -- where the hub does not route a message of a party, the refusal is its fault's
-pub route_refused : (old new : HubEnd) (from : ℕ) (message : Message) (fault : RouteFault) → is_party old from → IsUnchanged old new
-    → FailsBy {A = ℕ × List ℕ} routing.Memory (route_fault (hub_of old) from message) (Err fault) → Routes from old new (Refused (route_refusal_of fault))
+pub route_refused : (old new : HubEnd) (from : ℕ) (message : Message) (fault : RouteFault) → from < length old.hub.parties → IsUnchanged old new
+    → FailsBy {A = ℕ × List ℕ} routing.Memory (route_fault old.hub from message) (Err fault) → Routes from old new (Refused (route_refusal_of fault))
 unfolding route_fault
 route_refused old new from message fault party unchanged fails =
-    let busy = option_map routing.Busy (busy_party (hub_of old) from message) in
-    by (busy_party (hub_of old) from message) (ap (λ b. cond b busy (Some routing.StrangerParty)) (lt-ltb from (length (hub_of old).parties) party)) fails
+    let busy = option_map routing.Busy (busy_party old.hub from message) in
+    by (busy_party old.hub from message) (ap (λ b. cond b busy (Some routing.StrangerParty)) (lt-ltb from (length old.hub.parties) party)) fails
   where
-    by : (full : Option ℕ) → route_fault (hub_of old) from message ≡ option_map routing.Busy full → fault ≡ unwrap_or (route_fault (hub_of old) from message) routing.Memory
+    by : (full : Option ℕ) → route_fault old.hub from message ≡ option_map routing.Busy full → fault ≡ unwrap_or (route_fault old.hub from message) routing.Memory
         → Routes from old new (Refused (route_refusal_of fault))
     by None is e = subst (λ f. Routes from old new (Refused (route_refusal_of f))) (sym (e ∙ ap (λ f. unwrap_or f routing.Memory) is)) (unchanged, party)
     by (Some to) is e = subst (λ f. Routes from old new (Refused (route_refusal_of f))) (sym (e ∙ ap (λ f. unwrap_or f routing.Memory) is)) (unchanged, (message, is))

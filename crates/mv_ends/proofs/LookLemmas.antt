@@ -22,12 +22,12 @@ use Rattle.mv_ends.specs.declared.outlets.Outlets.{Outlets}
 use Rattle.mv_ends.specs.declared.wires.Wires.{Wires}
 use Rattle.mv_ends.specs.declared.hub_end.HubEnd.{HubEnd}
 use Rattle.mv_ends.specs.declared.repo_end.RepoEnd.{RepoEnd}
-use Rattle.mv_ends.specs.Inlets.{starts_of, SameInlets, TakesNothing}
-use Rattle.mv_ends.specs.Outlets.{ends_of, SameOutlets, PutsNothing}
-use Rattle.mv_ends.specs.Wires.{outlets_of, SameWires}
+use Rattle.mv_ends.specs.Inlets.{SameInlets, TakesNothing}
+use Rattle.mv_ends.specs.Outlets.{SameOutlets, PutsNothing}
+use Rattle.mv_ends.specs.Wires.{SameWires}
 use Rattle.mv_ends.specs.Rings.{AreJoined}
-use Rattle.mv_ends.specs.HubEnd.{uplinks_of, wires_of, SameHubEnd}
-use Rattle.mv_ends.specs.RepoEnd.{inlets_of, SameRepoEnd, IsRepoUnchanged}
+use Rattle.mv_ends.specs.HubEnd.{SameHubEnd}
+use Rattle.mv_ends.specs.RepoEnd.{SameRepoEnd, IsRepoUnchanged}
 use Rattle.mv_ends.specs.Whole.{AreEnds, IsEndOf}
 use Rattle.mv_ends.specs.Laws.{AreSameRepos}
 
@@ -45,7 +45,7 @@ inlets_further : (T : Type 0) (a b c : Inlets T) → SameInlets a b → SameInle
 inlets_further T a b c p q = (
   q.0 ∙ p.0,
   λ from absent below.
-      consumer_further T (slice_index_or (starts_of a) from absent) (slice_index_or (starts_of b) from absent) (slice_index_or (starts_of c) from absent)
+      consumer_further T (slice_index_or a.ends.items from absent) (slice_index_or b.ends.items from absent) (slice_index_or c.ends.items from absent)
       (p.1 from absent below) (q.1 from absent (omega (arith, p.0, below))),
 )
 
@@ -56,7 +56,7 @@ pub outlets_further : (a b c : Outlets) → SameOutlets a b → SameOutlets b c 
 outlets_further a b c p q = (
   q.0 ∙ p.0,
   λ from absent below.
-      producer_further Frame (slice_index_or (ends_of a) from absent) (slice_index_or (ends_of b) from absent) (slice_index_or (ends_of c) from absent)
+      producer_further Frame (slice_index_or a.ends.items from absent) (slice_index_or b.ends.items from absent) (slice_index_or c.ends.items from absent)
       (p.1 from absent below) (q.1 from absent (omega (arith, p.0, below))),
 )
 
@@ -69,14 +69,14 @@ repo_further a b c p q = record {
   parties = q.parties ∙ p.parties;
   limit = q.limit ∙ p.limit;
   uplink = producer_further Message a.uplink b.uplink c.uplink p.uplink q.uplink;
-  inlets = inlets_further Frame (inlets_of a) (inlets_of b) (inlets_of c) p.inlets q.inlets;
+  inlets = inlets_further Frame a.inlets b.inlets c.inlets p.inlets q.inlets;
 }
 
 pub repo_unchanged_further : (a b c : RepoEnd) → SameRepoEnd a b → IsRepoUnchanged a b → IsRepoUnchanged b c → IsRepoUnchanged a c
 repo_unchanged_further a b c same p q = record {
   site = q.site ∙ p.site;
   pushed = q.pushed ∙ p.pushed;
-  taken = nothing_further Frame (inlets_of a) (inlets_of b) (inlets_of c) same.inlets p.taken q.taken;
+  taken = nothing_further Frame a.inlets b.inlets c.inlets same.inlets p.taken q.taken;
 }
 
 pub repo_itself : (a : RepoEnd) → SameRepoEnd a a
@@ -93,7 +93,7 @@ wires_further : (a b c : Wires) → SameWires a b → SameWires b c → SameWire
 wires_further a b c p q = (
   q.0 ∙ p.0,
   λ to none below.
-      outlets_further (slice_index_or (outlets_of a) to none) (slice_index_or (outlets_of b) to none) (slice_index_or (outlets_of c) to none)
+      outlets_further (slice_index_or a.outlets.items to none) (slice_index_or b.outlets.items to none) (slice_index_or c.outlets.items to none)
       (p.1 to none below) (q.1 to none (omega (arith, p.0, below))),
 )
 
@@ -101,8 +101,8 @@ pub hub_further : (a b c : HubEnd) → SameHubEnd a b → SameHubEnd b c → Sam
 hub_further a b c p q = record {
   parties = q.parties ∙ p.parties;
   limits = q.limits ∙ p.limits;
-  uplinks = inlets_further Message (uplinks_of a) (uplinks_of b) (uplinks_of c) p.uplinks q.uplinks;
-  wires = wires_further (wires_of a) (wires_of b) (wires_of c) p.wires q.wires;
+  uplinks = inlets_further Message a.uplinks b.uplinks c.uplinks p.uplinks q.uplinks;
+  wires = wires_further a.wires b.wires c.wires p.wires q.wires;
 }
 
 pub hub_itself : (a : HubEnd) → SameHubEnd a a
@@ -128,22 +128,22 @@ joined_kept : (o o' : Outlets) (i i' : Inlets Frame) → SameOutlets o o' → Sa
 joined_kept o o' i i' x y joined = (
   x.0 ∙ joined.0 ∙ sym y.0,
   λ from put taken below.
-      let low : from < length (starts_of i) = omega (arith, y.0, below) in
-      pair_kept Frame (slice_index_or (ends_of o) from put) (slice_index_or (ends_of o') from put) (slice_index_or (starts_of i) from taken) (slice_index_or (starts_of i') from taken)
+      let low : from < length i.ends.items = omega (arith, y.0, below) in
+      pair_kept Frame (slice_index_or o.ends.items from put) (slice_index_or o'.ends.items from put) (slice_index_or i.ends.items from taken) (slice_index_or i'.ends.items from taken)
       (x.1 from put (omega (arith, joined.0, low))) (y.1 from taken low) (joined.1 from put taken low),
 )
 
-end_kept : (h h' : HubEnd) (party : ℕ) (r r' : RepoEnd) → party < length (starts_of (uplinks_of h)) → party < length (outlets_of (wires_of h)) → SameHubEnd h h' → SameRepoEnd r r'
+end_kept : (h h' : HubEnd) (party : ℕ) (r r' : RepoEnd) → party < length h.uplinks.ends.items → party < length h.wires.outlets.items → SameHubEnd h h' → SameRepoEnd r r'
     → IsEndOf h party r → IsEndOf h' party r'
 end_kept h h' party r r' is_uplink is_wire x y end = record {
   party_is = y.party ∙ end.party_is;
   parties = y.parties ∙ end.parties ∙ ap length (sym x.parties);
   limit = y.limit ∙ end.limit ∙ ap (λ l. l.submissions) (sym x.limits);
   uplink = λ absent.
-      pair_kept Message r.uplink r'.uplink (slice_index_or (starts_of (uplinks_of h)) party absent) (slice_index_or (starts_of (uplinks_of h')) party absent)
+      pair_kept Message r.uplink r'.uplink (slice_index_or h.uplinks.ends.items party absent) (slice_index_or h'.uplinks.ends.items party absent)
       y.uplink (x.uplinks.1 party absent is_uplink) (end.uplink absent);
   links = λ none.
-      joined_kept (slice_index_or (outlets_of (wires_of h)) party none) (slice_index_or (outlets_of (wires_of h')) party none) (inlets_of r) (inlets_of r')
+      joined_kept (slice_index_or h.wires.outlets.items party none) (slice_index_or h'.wires.outlets.items party none) r.inlets r'.inlets
       (x.wires.1 party none is_wire) y.inlets (end.links none);
 }
 

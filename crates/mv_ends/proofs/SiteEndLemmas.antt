@@ -14,20 +14,40 @@ use Rattle.mv_party.specs.declared.fault.SiteFault.{SiteFault}
 use Rattle.mv_party.specs.declared.fault.SiteFault.TheVariants as site_fault
 use Rattle.mv_party.specs.Site.{SiteState, entry_from, count_from}
 use Rattle.mv_link.specs.Fault.{FailsBy}
-use Rattle.mv_party.specs.Calls.{with_taken}
+use Rattle.mv_party.specs.declared.taken.Taken.{Taken}
+use Rattle.mv_party.specs.declared.taken.Taken.TheVariants as took
+use Rattle.mv_party.specs.Calls.{apply_fault, with_taken}
 use Rattle.mv_party.proofs.SiteLemmas.{items_from-push}
-use Rattle.mv_machine.specs.Replies.{refusal_of}
+use Rattle.mv_machine.specs.declared.reply.Reply.TheVariants.{Refused}
+use Rattle.mv_machine.specs.Replies.{refusal_of, reply_to}
 use Rattle.mv_ends.specs.declared.inlets.Inlets.{Inlets}
-use Rattle.mv_ends.specs.Inlets.{starts_of, taken_of, SameInlets, TakesNothing, Takes}
+use Rattle.mv_ends.specs.declared.repo_end.RepoEnd.{RepoEnd}
+use Rattle.mv_ends.specs.Inlets.{taken_of, SameInlets, TakesNothing, Takes}
 use Rattle.mv_ends.specs.Answering.{answer_by, stands_to}
 use Rattle.mv_ends.specs.Accepted.{AreAccepted}
 use Rattle.mv_ends.specs.Refusals.{IsRefusedBy}
+use Rattle.mv_ends.specs.RepoEnd.{IsRepoUnchanged, TakesFrame, Applies}
 
 -- a fault of the party calls for its refusal
 pub refused_for : (A : Type 0) (expected : Option SiteFault) (fault : SiteFault) → FailsBy {A = A} site_fault.Memory expected (Err fault)
     → IsRefusedBy refusal_of expected (refusal_of fault)
 refused_for A None fault is = ap refusal_of is
 refused_for A (Some other) fault is = ap refusal_of is
+
+-- where the party refuses a frame, no frame was taken
+pub apply_refused : (from : ℕ) (old new : RepoEnd) (full : Bool) (frame : Frame) (fault : SiteFault) → IsRepoUnchanged old new
+    → IsRefusedBy refusal_of (apply_fault full old.site from frame.item (stands_to old.site from frame)) (refusal_of fault) → Applies from old new (Refused (refusal_of fault))
+apply_refused from old new full frame site_fault.NotYours unchanged why = (unchanged, (full, frame, why))
+apply_refused from old new full frame site_fault.UplinkFull unchanged why = (unchanged, (full, frame, why))
+apply_refused from old new full frame site_fault.SenderFull unchanged why = (unchanged, (full, frame, why))
+apply_refused from old new full frame site_fault.AnswerBusy unchanged why = (unchanged, (full, frame, why))
+apply_refused from old new full frame site_fault.Memory unchanged why = (unchanged, (full, frame, why))
+
+-- where it took the frame, the reply says so
+pub apply_taken : (from number : ℕ) (old new : RepoEnd) (taken : Taken) → TakesFrame from old new (reply_to number taken) → Applies from old new (reply_to number taken)
+apply_taken from number old new (took.Applied effect answer) takes = takes
+apply_taken from number old new took.Old takes = takes
+apply_taken from number old new (took.Gap expected) takes = takes
 
 -- what the party submitted once it took a frame
 pub submitted_by : (site : SiteState) (sender : ℕ) (item : Item) (stands : Look)
@@ -69,7 +89,7 @@ from_sender site sender frame frames seen = by (nat_le frame.number (count_from 
 pub accepted_taken : (site : SiteState) (sender : ℕ) (frame : Frame) (old new : Inlets Frame) → SameInlets old new → Takes sender frame old new → AreAccepted site.log old
     → AreAccepted (with_taken site sender frame.item (stands_to site sender frame)).log new
 accepted_taken site sender frame old new same takes all from absent below =
-    let there : from < length (starts_of old) = subst (λ n. from < n) same.0 below in
+    let there : from < length old.ends.items = subst (λ n. from < n) same.0 below in
     ap accepted (takes from absent there) ∙ by (eqb from sender) (eqb-true from sender) refl (all from absent there)
   where
     by : (b : Bool) → (b ≡ true → from ≡ sender) → eqb from sender ≡ b → accepted (taken_of old from absent) ≡ items_from site.log from
@@ -85,5 +105,5 @@ accepted_taken site sender frame old new same takes all from absent below =
 -- nothing was taken
 pub accepted_same : (log : List LogEntry) (old new : Inlets Frame) → SameInlets old new → TakesNothing old new → AreAccepted log old → AreAccepted log new
 accepted_same log old new same nothing all from absent below =
-    let there : from < length (starts_of old) = subst (λ n. from < n) same.0 below in
+    let there : from < length old.ends.items = subst (λ n. from < n) same.0 below in
     ap accepted (nothing from absent there) ∙ all from absent there

@@ -8,9 +8,9 @@ use Rattle.mv_link.specs.Frames.{accepted}
 use Rattle.mv_repository.specs.declared.entry.LogEntry.{LogEntry}
 use Rattle.mv_repository.specs.Log.{items_from}
 use Rattle.mv_ends.specs.declared.inlets.Inlets.{Inlets}
-use Rattle.mv_ends.specs.Inlets.{starts_of, taken_of}
+use Rattle.mv_ends.specs.Inlets.{taken_of}
 
 -- of the frames that were taken from each link, just those were accepted that the log has from its sender
 abbrev pub AreAccepted : List LogEntry → Inlets Frame → Type 0
-AreAccepted log inlets = (from : ℕ) (absent : Consumer Frame Global AnyItems) → from < length (starts_of inlets)
+AreAccepted log inlets = (from : ℕ) (absent : Consumer Frame Global AnyItems) → from < length inlets.ends.items
     → accepted (taken_of inlets from absent) ≡ items_from log from

@@ -7,43 +7,37 @@ use Rattle.rtrb.specs.declared.producer.Producer.{Producer}
 use Rattle.rtrb.specs.declared.consumer.Consumer.{Consumer}
 use Rattle.rtrb.specs.declared.AnyItems.{AnyItems}
 use Rattle.mv_ends.specs.declared.inlets.Inlets.{Inlets}
+use Rattle.mv_ends.specs.Same.{SameEach}
 
 module _ {T : Type 0} where
-  -- the ends, by the party that puts there
-  abbrev pub starts_of : Inlets T → List (Consumer T Global AnyItems)
-  starts_of inlets = inlets.ends.items
-
   -- what was taken from the ring from a party
   abbrev pub taken_of : Inlets T → ℕ → Consumer T Global AnyItems → List T
-  taken_of inlets from absent = received (slice_index_or (starts_of inlets) from absent)
+  taken_of inlets from absent = received (slice_index_or inlets.ends.items from absent)
 
   -- something is seen on the ring from a party
   abbrev pub HasFront : Inlets T → ℕ → Type 0
-  HasFront inlets from = (absent : Consumer T Global AnyItems) → 0 < length (known_items (slice_index_or (starts_of inlets) from absent))
+  HasFront inlets from = (absent : Consumer T Global AnyItems) → 0 < length (known_items (slice_index_or inlets.ends.items from absent))
 
   -- this is at the front of the ring from a party
   abbrev pub IsFront : Inlets T → ℕ → T → Type 0
-  IsFront inlets from front = (absent : Consumer T Global AnyItems) → IsPrefix (front ∷ []) (known_items (slice_index_or (starts_of inlets) from absent))
+  IsFront inlets from front = (absent : Consumer T Global AnyItems) → IsPrefix (front ∷ []) (known_items (slice_index_or inlets.ends.items from absent))
 
   -- the ends of the same rings, at two moments
   abbrev pub SameInlets : Inlets T → Inlets T → Type 0
-  SameInlets old new =
-      (length (starts_of new) ≡ length (starts_of old))
-      × ((from : ℕ) (absent : Consumer T Global AnyItems) → from < length (starts_of old)
-      → SameConsumer (slice_index_or (starts_of old) from absent) (slice_index_or (starts_of new) from absent))
+  SameInlets old new = SameEach SameConsumer old.ends.items new.ends.items
 
   -- nothing was taken from any of the rings
   abbrev pub TakesNothing : Inlets T → Inlets T → Type 0
-  TakesNothing old new = (from : ℕ) (absent : Consumer T Global AnyItems) → from < length (starts_of old) → taken_of new from absent ≡ taken_of old from absent
+  TakesNothing old new = (from : ℕ) (absent : Consumer T Global AnyItems) → from < length old.ends.items → taken_of new from absent ≡ taken_of old from absent
 
   -- just this was taken, from the ring from a party
   abbrev pub Takes : ℕ → T → Inlets T → Inlets T → Type 0
-  Takes sender taken old new = (from : ℕ) (absent : Consumer T Global AnyItems) → from < length (starts_of old)
+  Takes sender taken old new = (from : ℕ) (absent : Consumer T Global AnyItems) → from < length old.ends.items
       → taken_of new from absent ≡ taken_of old from absent ++ (if from == sender then taken ∷ [] else [])
 
   -- this is the other end of the ring from a party
   abbrev pub IsPairAt : ℕ → Producer T Global AnyItems → Inlets T → Type 0
-  IsPairAt from producer inlets = (absent : Consumer T Global AnyItems) → IsPair producer (slice_index_or (starts_of inlets) from absent)
+  IsPairAt from producer inlets = (absent : Consumer T Global AnyItems) → IsPair producer (slice_index_or inlets.ends.items from absent)
 
   -- what was taken from the ring from a party is a front of this list
   abbrev pub IsFrontOf : ℕ → Inlets T → List T → Type 0

@@ -1,3 +1,4 @@
+pub mod Same
 pub mod Inlets
 pub mod Outlets
 pub mod Wires

@@ -8,17 +8,15 @@ use Rattle.mv_message.specs.declared.message.Message.{Message}
 use Rattle.mv_party.specs.Site.{new_site}
 use Rattle.mv_ends.specs.declared.outlets.Outlets.{Outlets}
 use Rattle.mv_ends.specs.declared.repo_end.RepoEnd.{RepoEnd}
-use Rattle.mv_ends.specs.Outlets.{ends_of}
 use Rattle.mv_ends.specs.Rings.{AreJoined, IsUnused}
-use Rattle.mv_ends.specs.RepoEnd.{site_of, inlets_of}
 
 -- the ends of the rings of a party, one of so many, that submits so many messages at most; nothing has happened yet
 pub record IsOpened (count limit party : ℕ) (uplink : Consumer Message Global AnyItems) (outlets : Outlets) (repo : RepoEnd) : Type 0 where
-  pub site : site_of repo ≡ new_site party count limit
+  pub site : repo.site ≡ new_site party count limit
   pub pair : IsPair repo.uplink uplink
   pub untaken : received uplink ≡ []
-  pub joined : AreJoined outlets (inlets_of repo)
-  pub wide : length (ends_of outlets) ≡ count
+  pub joined : AreJoined outlets repo.inlets
+  pub wide : length outlets.ends.items ≡ count
   pub unused : IsUnused outlets
 
 -- the same of so many parties, one of so many each, place by place

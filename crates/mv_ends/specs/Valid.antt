@@ -1,6 +1,6 @@
 -- What the hub's end keeps of its rings, beside the hub.
 use Rattle.std.specs.Prelude.{◌≡◌, ℕ, ◌+◌, ◌<◌, ◌≤◌, true, List, [], ◌∷◌, ◌++◌, length, slice_index_or}
-use Rattle.std.specs.List.{All, AllByRecursion}
+use Rattle.std.specs.List.{All, AllByRecursion-prop}
 use Rattle.mv_link.specs.Frames.{IsFrameOf}
 use Rattle.std.specs.Coded.{×_prop, Unit-prop, le_prop, Coded-set, coded_bool}
 use Rattle.std.proofs.Math.Nat.{ℕ_set}
@@ -16,28 +16,28 @@ use Rattle.rtrb.specs.declared.AnyItems.{AnyItems}
 use Rattle.mv_message.specs.declared.message.Message.{Message}
 use Rattle.mv_ends.specs.declared.inlets.Inlets.{Inlets}
 use Rattle.mv_ends.specs.declared.wires.Wires.{Wires}
-use Rattle.mv_ends.specs.Inlets.{starts_of, taken_of}
-use Rattle.mv_ends.specs.Outlets.{Outlet, ends_of}
-use Rattle.mv_ends.specs.Wires.{outlets_of, wire_of}
+use Rattle.mv_ends.specs.Inlets.{taken_of}
+use Rattle.mv_ends.specs.Outlets.{Outlet}
+use Rattle.mv_ends.specs.Wires.{wire_of}
 
 -- what was taken from each uplink is what was routed from its party, in order
 abbrev pub TookAll : List Entry → Inlets Message → Type 0
-TookAll entries uplinks = (from : ℕ) (absent : Consumer Message Global AnyItems) → from < length (starts_of uplinks) → taken_of uplinks from absent ≡ routed_from entries from
+TookAll entries uplinks = (from : ℕ) (absent : Consumer Message Global AnyItems) → from < length uplinks.ends.items → taken_of uplinks from absent ≡ routed_from entries from
 
 -- there is a link for each ordered pair of so many parties
 abbrev pub IsFor : ℕ → Wires → Type 0
-IsFor count wires = (length (outlets_of wires) ≡ count)
-    × ((to : ℕ) (none : Outlets) → to < count → length (ends_of (slice_index_or (outlets_of wires) to none)) ≡ count)
+IsFor count wires = (length wires.outlets.items ≡ count)
+    × ((to : ℕ) (none : Outlets) → to < count → length (slice_index_or wires.outlets.items to none).ends.items ≡ count)
 
 -- nothing was put on any ring
 abbrev pub AreUnused : Wires → Type 0
-AreUnused wires = (from to : ℕ) (none : Outlets) (absent : Outlet) → to < length (outlets_of wires)
-    → from < length (ends_of (slice_index_or (outlets_of wires) to none)) → wire_of wires from to none absent ≡ []
+AreUnused wires = (from to : ℕ) (none : Outlets) (absent : Outlet) → to < length wires.outlets.items
+    → from < length (slice_index_or wires.outlets.items to none).ends.items → wire_of wires from to none absent ≡ []
 
 -- on the ring of each link only frames of the link were put
 abbrev pub AreOfLinks : HubState → Wires → Type 0
-AreOfLinks hub wires = (from to : ℕ) (none : Outlets) (absent : Outlet) → to < length (outlets_of wires)
-    → from < length (ends_of (slice_index_or (outlets_of wires) to none)) → All (IsFrameOf (items_on hub from to)) (wire_of wires from to none absent)
+AreOfLinks hub wires = (from to : ℕ) (none : Outlets) (absent : Outlet) → to < length wires.outlets.items
+    → from < length (slice_index_or wires.outlets.items to none).ends.items → All (IsFrameOf (items_on hub from to)) (wire_of wires from to none absent)
 
 -- no more messages of any party were routed than it may submit
 abbrev pub AreWithin : ℕ → HubState → Type 0
@@ -57,12 +57,8 @@ NamesParties-prop : (count : ℕ) (entry : Entry) → IsProp (NamesParties count
 NamesParties-prop count (Routed from k message) = hlevel le_prop
 NamesParties-prop count (Closed from to) = hlevel le_prop
 
-name_parties-prop : (count : ℕ) (entries : List Entry) → IsProp (AllByRecursion (NamesParties count) entries)
-name_parties-prop count [] = Unit-prop
-name_parties-prop count (entry ∷ entries) = ×_prop (NamesParties-prop count entry) (name_parties-prop count entries)
-
 pub IsLawfulRecord-prop : (count : ℕ) (entries : List Entry) → IsProp (IsLawfulRecord count entries)
 IsLawfulRecord-prop count entries one other = λ i. record {
   fit = AllFit-prop [] entries one.fit other.fit i;
-  name_parties = name_parties-prop count entries one.name_parties other.name_parties i;
+  name_parties = AllByRecursion-prop (NamesParties count) (NamesParties-prop count) entries one.name_parties other.name_parties i;
 }

@@ -1,9 +1,8 @@
 //! The hub's end: the hub, the ends of the uplinks that it takes messages from, and those of the links that it puts frames on.
 
-ghost use Rattle.std.specs.Prelude.{◌≡◌, ◌<◌, ◌&&◌, length, nat_lt, IfOk};
+ghost use Rattle.std.specs.Prelude.{◌≡◌, ◌<◌, length, IfOk};
 ghost use Rattle.mv_machine.specs.Lawful.{IsLawfulRecord};
 ghost use Rattle.mv_ends.specs.Valid.{TookAll, IsFor, AreUnused, AreOfLinks, AreWithin, IsLawfulRecord-prop};
-ghost use Rattle.mv_ends.specs.Inlets.{starts_of};
 
 use crate::inlets::Inlets;
 use crate::parcel::{FrameParcel, MessageParcel};
@@ -30,7 +29,7 @@ pub struct HubEnd {
     /// The window of the hub is that of the limits.
     ghost window: { hub.window ≡ limits.window },
     /// There is an uplink for each party.
-    ghost each: { length (starts_of uplinks) ≡ length hub.parties },
+    ghost each: { length uplinks.ends.items ≡ length hub.parties },
     /// There is a link for each ordered pair of parties.
     ghost square: { IsFor (length hub.parties) wires },
     /// What was taken from each uplink is what was routed from its party.
@@ -44,10 +43,10 @@ pub struct HubEnd {
 }
 
 impl HubEnd {
-    ghost use Rattle.mv_hub.specs.Hub.{new_hub};
+    ghost use Rattle.mv_hub.specs.Hub.{new_hub, are_parties};
     ghost use Rattle.mv_ends.specs.Rings.{IsUntaken};
-    ghost use Rattle.mv_ends.specs.HubEnd.{hub_of, uplinks_of, wires_of, SameHubEnd, IsUnchanged, Routes, Relays, Repeats, Closes};
-    ghost use Rattle.mv_ends.specs.RepoEnd.{site_of, SameRepoEnd, IsRepoUnchanged};
+    ghost use Rattle.mv_ends.specs.HubEnd.{SameHubEnd, IsUnchanged, Routes, Relays, Repeats, Closes};
+    ghost use Rattle.mv_ends.specs.RepoEnd.{SameRepoEnd, IsRepoUnchanged};
     ghost use Rattle.mv_ends.specs.Whole.{IsEndOf};
     ghost use Rattle.mv_ends.specs.Looking.{IsLawfulAt};
 
@@ -59,14 +58,14 @@ impl HubEnd {
         uplinks: Inlets<MessageParcel>,
         wires: Wires,
     ) -> Result<HubEnd, AllocError>
-        requires each { length (starts_of uplinks) ≡ length parties }
+        requires each { length uplinks.ends.items ≡ length parties }
         requires square { IsFor (length parties) wires }
         requires untaken { IsUntaken uplinks }
         requires unused { AreUnused wires }
-        ensures hub { IfOk result (λ end. hub_of end ≡ new_hub parties limits.window) }
+        ensures hub { IfOk result (λ end. end.hub ≡ new_hub parties limits.window) }
         ensures limits { IfOk result (λ end. end.limits ≡ limits) }
-        ensures uplinks { IfOk result (λ end. uplinks_of end ≡ uplinks) }
-        ensures wires { IfOk result (λ end. wires_of end ≡ wires) }
+        ensures uplinks { IfOk result (λ end. end.uplinks ≡ uplinks) }
+        ensures wires { IfOk result (λ end. end.wires ≡ wires) }
     {
         let hub = Hub::new(alloc, parties, limits.window())?;
         Ok(HubEnd {
@@ -80,15 +79,15 @@ impl HubEnd {
 
     /// The hub.
     pub fn hub(&self) -> &Hub
-        ensures { result.now ≡ hub_of self.now }
+        ensures { result.now ≡ self.now.hub }
     {
         &self.hub
     }
 
     /// The hub's record, the oldest entry first.
     pub fn record(&self) -> &[Entry]
-        ensures entries { result.now ≡ (hub_of self.now).entries }
-        ensures lawful { IsLawfulRecord (length (hub_of self.now).parties) (hub_of self.now).entries }
+        ensures entries { result.now ≡ self.now.hub.entries }
+        ensures lawful { IsLawfulRecord (length self.now.hub.parties) self.now.hub.entries }
     {
         self.hub.record()
     }
@@ -197,13 +196,13 @@ impl HubEnd {
     /// Looks at both ends of all rings of a party: the party is lawful beside the hub.
     #[tactic(auto, using(crate::proofs::EndLemmas::of_links_same, crate::proofs::EndLemmas::took_same, crate::proofs::EndLemmas::for_same))]
     pub(crate) fn look_beside(&mut self, party: Party, repo: &mut RepoEnd)
-        requires party { party < length (hub_of self.old).parties }
+        requires party { party < length self.old.hub.parties }
         requires end { IsEndOf self.old party repo.old }
         ensures same { SameHubEnd self.old self.new }
         ensures hub { IsUnchanged self.old self.new }
         ensures repo { SameRepoEnd repo.old repo.new }
         ensures unchanged { IsRepoUnchanged repo.old repo.new }
-        ensures lawful { IsLawfulAt (hub_of self.old) (site_of repo.old) }
+        ensures lawful { IsLawfulAt self.old.hub repo.old.site }
     {
         // The party is lawful: its submissions are looked at for that alone.
         let _ = repo.sub();
@@ -214,7 +213,7 @@ impl HubEnd {
 
     /// Whether both are parties.
     fn are_parties(&self, from: Party, to: Party) -> bool
-        ensures { result ≡ (nat_lt from (length (hub_of self.now).parties) && nat_lt to (length (hub_of self.now).parties)) }
+        ensures { result ≡ are_parties self.now.hub from to }
     {
         let count = self.hub.parties().len();
         from < count && to < count

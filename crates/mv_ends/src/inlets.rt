@@ -17,25 +17,25 @@ pub struct Inlets<T> {
 
 impl<T: Drop> Inlets<T> {
     ghost use Rattle.rtrb.specs.Ring.{sent, SameProducer};
-    ghost use Rattle.mv_ends.specs.Inlets.{starts_of, SameInlets, TakesNothing, Takes, HasFront, IsFront, IsPairAt, IsFrontOf};
+    ghost use Rattle.mv_ends.specs.Inlets.{SameInlets, TakesNothing, Takes, HasFront, IsFront, IsPairAt, IsFrontOf};
 
     /// The ends of these rings.
     pub(crate) fn new(ends: Vec<Consumer<T>>) -> Inlets<T>
-        ensures { starts_of result ≡ ends.items }
+        ensures { result.ends.items ≡ ends.items }
     {
         Inlets { ends }
     }
 
     /// How many rings there are.
     pub(crate) fn len(&self) -> usize
-        ensures { result ≡ length (starts_of self.now) }
+        ensures { result ≡ length self.now.ends.items }
     {
         self.ends.len()
     }
 
     /// Whether nothing is seen on the ring from a party. The party may put something there at any time.
     pub(crate) fn is_empty(&mut self, from: Party) -> bool
-        requires { from < length (starts_of self.old) }
+        requires { from < length self.old.ends.items }
         ensures same { SameInlets self.old self.new }
         ensures nothing { TakesNothing self.old self.new }
         ensures front { IsFalse result → HasFront self.new from }
@@ -45,7 +45,7 @@ impl<T: Drop> Inlets<T> {
 
     /// What is at the front of the ring from a party.
     pub(crate) fn front(&self, from: Party) -> &T
-        requires from { from < length (starts_of self.now) }
+        requires from { from < length self.now.ends.items }
         requires some { HasFront self.now from }
         ensures { IsFront self.now from result.now }
     {
@@ -54,7 +54,7 @@ impl<T: Drop> Inlets<T> {
 
     /// Takes what is at the front of the ring from a party.
     pub(crate) fn take(&mut self, from: Party) -> T
-        requires from { from < length (starts_of self.old) }
+        requires from { from < length self.old.ends.items }
         requires some { HasFront self.old from }
         ensures same { SameInlets self.old self.new }
         ensures takes { Takes from result self.old self.new }
@@ -65,7 +65,7 @@ impl<T: Drop> Inlets<T> {
 
     /// Looks at both ends of the ring from a party: what was taken is a front of what was put.
     pub(crate) fn look_beside(&mut self, from: Party, producer: &mut Producer<T>)
-        requires from { from < length (starts_of self.old) }
+        requires from { from < length self.old.ends.items }
         requires pair { IsPairAt from producer.old self.old }
         ensures same { SameInlets self.old self.new }
         ensures nothing { TakesNothing self.old self.new }

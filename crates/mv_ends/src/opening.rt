@@ -1,7 +1,6 @@
 //! The ends of one opening.
 
 ghost use Rattle.std.specs.Prelude.{◌≡◌, ◌<◌, ◌≤◌, ◌++◌, ◌∷◌, [], length, vec_len, vec_capacity, IfOk};
-ghost use Rattle.mv_ends.specs.Outlets.{ends_of};
 ghost use Rattle.mv_ends.specs.Rings.{AreJoined, IsUnused, IsUntaken};
 ghost use Rattle.mv_ends.specs.Whole.{AreEnds, AreFresh};
 ghost use Rattle.mv_ends.specs.Opened.{IsOpened, AreOpened};
@@ -135,7 +134,7 @@ fn open_links(
     room: u32,
 ) -> Result<(Outlets, Inlets<FrameParcel>), AllocError>
     ensures joined { IfOk result (λ ends. AreJoined ends.0 ends.1) }
-    ensures wide { IfOk result (λ ends. length (ends_of ends.0) ≡ count) }
+    ensures wide { IfOk result (λ ends. length ends.0.ends.items ≡ count) }
     ensures unused { IfOk result (λ ends. IsUnused ends.0) }
     ensures untaken { IfOk result (λ ends. IsUntaken ends.1) }
 {

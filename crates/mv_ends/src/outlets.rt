@@ -16,20 +16,20 @@ pub struct Outlets {
 }
 
 impl Outlets {
-    ghost use Rattle.mv_ends.specs.Inlets.{starts_of, SameInlets, TakesNothing, IsFrontOf};
+    ghost use Rattle.mv_ends.specs.Inlets.{SameInlets, TakesNothing, IsFrontOf};
     ghost use Rattle.mv_ends.specs.Rings.{AreJoined};
-    ghost use Rattle.mv_ends.specs.Outlets.{Outlet, ends_of, put_of, HasRoomFor, SameOutlets, PutsNothing, Puts};
+    ghost use Rattle.mv_ends.specs.Outlets.{Outlet, put_of, HasRoomFor, SameOutlets, PutsNothing, Puts};
 
     /// The ends of these rings.
     pub(crate) fn new(ends: Vec<Producer<FrameParcel>>) -> Outlets
-        ensures { ends_of result ≡ ends.items }
+        ensures { result.ends.items ≡ ends.items }
     {
         Outlets { ends }
     }
 
     /// Whether the ring of the link from a sender has no room. The repository may make room at any time.
     pub(crate) fn is_full(&mut self, from: Party) -> bool
-        requires { from < length (ends_of self.old) }
+        requires { from < length self.old.ends.items }
         ensures same { SameOutlets self.old self.new }
         ensures nothing { PutsNothing self.old self.new }
         ensures room { IsFalse result → HasRoomFor self.new from }
@@ -39,7 +39,7 @@ impl Outlets {
 
     /// Puts a frame on the ring of the link from a sender.
     pub(crate) fn put(&mut self, from: Party, parcel: FrameParcel)
-        requires from { from < length (ends_of self.old) }
+        requires from { from < length self.old.ends.items }
         requires room { HasRoomFor self.old from }
         ensures same { SameOutlets self.old self.new }
         ensures puts { Puts from parcel self.old self.new }
@@ -50,7 +50,7 @@ impl Outlets {
     /// Looks at both ends of the ring of the link from a sender: what the receiver took is a front of what was put.
     pub(crate) fn look_beside(&mut self, from: Party, inlets: &mut Inlets<FrameParcel>)
         requires joined { AreJoined self.old inlets.old }
-        requires from { from < length (starts_of inlets.old) }
+        requires from { from < length inlets.old.ends.items }
         ensures same { SameOutlets self.old self.new }
         ensures nothing { PutsNothing self.old self.new }
         ensures inlets { SameInlets inlets.old inlets.new }

@@ -3,7 +3,6 @@
 
 ghost use Rattle.std.specs.Prelude.{◌≡◌, [], length, IfOk};
 ghost use Rattle.rtrb.specs.Ring.{sent};
-ghost use Rattle.mv_ends.specs.Inlets.{starts_of};
 ghost use Rattle.mv_ends.specs.Accepted.{AreAccepted};
 ghost use Rattle.mv_repository.specs.Verdict.{joint_verdict};
 ghost use Rattle.mv_party.specs.Site.{IsLawfulParty, new_site};
@@ -35,14 +34,14 @@ pub struct RepoEnd {
     /// What was put on the uplink is what the party submitted.
     ghost pushed: { sent uplink ≡ site.submissions },
     /// There is a link from each party.
-    ghost each: { length (starts_of inlets) ≡ site.parties },
+    ghost each: { length inlets.ends.items ≡ site.parties },
     /// Of the frames that were taken from each link, just those were accepted that the log has from its sender.
     ghost accepted: { AreAccepted site.log inlets },
 }
 
 impl RepoEnd {
     ghost use Rattle.mv_ends.specs.Rings.{IsUntaken};
-    ghost use Rattle.mv_ends.specs.RepoEnd.{site_of, inlets_of, SameRepoEnd, Submits, Asks, Verifies, Applies};
+    ghost use Rattle.mv_ends.specs.RepoEnd.{SameRepoEnd, Submits, Asks, Verifies, Applies};
 
     /// The end of a party that did nothing yet, one of so many, with its ends of rings that were not used yet. Refused for want of
     /// memory.
@@ -55,11 +54,11 @@ impl RepoEnd {
         inlets: Inlets<FrameParcel>,
     ) -> Result<RepoEnd, AllocError>
         requires pushed { sent uplink ≡ [] }
-        requires each { length (starts_of inlets) ≡ count }
+        requires each { length inlets.ends.items ≡ count }
         requires untaken { IsUntaken inlets }
-        ensures site { IfOk result (λ end. site_of end ≡ new_site party count limits.submissions) }
+        ensures site { IfOk result (λ end. end.site ≡ new_site party count limits.submissions) }
         ensures uplink { IfOk result (λ end. end.uplink ≡ uplink) }
-        ensures inlets { IfOk result (λ end. inlets_of end ≡ inlets) }
+        ensures inlets { IfOk result (λ end. end.inlets ≡ inlets) }
     {
         let site = Site::new(alloc, party, count, limits.submissions())?;
         Ok(RepoEnd {
@@ -72,30 +71,30 @@ impl RepoEnd {
 
     /// The party.
     pub fn party(&self) -> Party
-        ensures { result ≡ (site_of self.now).party }
+        ensures { result ≡ self.now.site.party }
     {
         self.site.repository().party()
     }
 
     /// What the party submitted, the oldest message first.
     pub fn sub(&self) -> &[Shared<Message>]
-        ensures value { result.now ≡ (site_of self.now).submissions }
-        ensures lawful { IsLawfulParty (site_of self.now).parties (site_of self.now).submissions (site_of self.now).log }
+        ensures value { result.now ≡ self.now.site.submissions }
+        ensures lawful { IsLawfulParty self.now.site.parties self.now.site.submissions self.now.site.log }
     {
         self.site.submissions()
     }
 
     /// What the party's repository applied, the oldest entry first.
     pub fn log(&self) -> &[LogEntry]
-        ensures { result.now ≡ (site_of self.now).log }
+        ensures { result.now ≡ self.now.site.log }
     {
         self.site.repository().log()
     }
 
     /// The party's repository.
     pub fn repository(&self) -> &Repository
-        ensures party { result.now.party ≡ (site_of self.now).party }
-        ensures log { result.now.log ≡ (site_of self.now).log }
+        ensures party { result.now.party ≡ self.now.site.party }
+        ensures log { result.now.log ≡ self.now.site.log }
     {
         self.site.repository()
     }
@@ -164,7 +163,7 @@ impl RepoEnd {
 
     /// The verdict of all that were asked, on the query that was the `q`-th message of the party.
     pub fn verdict(&self, q: u32) -> Reply
-        ensures { result ≡ Reply.Joint (joint_verdict (site_of self.now).party (site_of self.now).log q) }
+        ensures { result ≡ Reply.Joint (joint_verdict self.now.site.party self.now.site.log q) }
     {
         Reply::Joint(self.site.repository().verdict(q))
     }
@@ -174,6 +173,7 @@ impl RepoEnd {
     /// Answers `Applied`, `Old` or `Gap`, or the first of these refusals that holds: S1, there is no such party; S8, no frame is
     /// there; S13, the frame is the next and carries a query, and the party can submit no answer now; S14, memory was refused.
     /// S8 and S13 may be told though a frame was just put there, or room just made.
+    #[tactic(auto, using(crate::proofs::SiteEndLemmas::apply_taken))]
     pub fn apply(&mut self, from: Party) -> Reply
         ensures same { SameRepoEnd self.old self.new }
         ensures reply { Applies from self.old self.new result }

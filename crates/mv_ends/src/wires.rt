@@ -20,15 +20,14 @@ pub struct Wires {
 
 impl Wires {
     ghost use Rattle.mv_ends.specs.declared.outlets.Outlets.{Outlets as AnOutlets};
-    ghost use Rattle.mv_ends.specs.Inlets.{starts_of};
     ghost use Rattle.mv_ends.specs.Outlets.{Outlet};
     ghost use Rattle.mv_ends.specs.Rings.{AreJoined};
-    ghost use Rattle.mv_ends.specs.RepoEnd.{site_of, inlets_of, SameRepoEnd, IsRepoUnchanged};
-    ghost use Rattle.mv_ends.specs.Wires.{wire_of, outlets_of, AreBetween, HasRoomOn, SameWires, PutsNoFrame, PutsFrame};
+    ghost use Rattle.mv_ends.specs.RepoEnd.{SameRepoEnd, IsRepoUnchanged};
+    ghost use Rattle.mv_ends.specs.Wires.{wire_of, AreBetween, HasRoomOn, SameWires, PutsNoFrame, PutsFrame};
 
     /// The ends of these links.
     pub(crate) fn new(outlets: Vec<Outlets>) -> Wires
-        ensures { outlets_of result ≡ outlets.items }
+        ensures { result.outlets.items ≡ outlets.items }
     {
         Wires { outlets }
     }
@@ -56,16 +55,16 @@ impl Wires {
     /// Looks at both ends of all rings of the links to a party, from so many: what its repository applied from each is a front of
     /// each list whose frames were put there.
     pub(crate) fn look_beside(&mut self, to: Party, count: u32, repo: &mut RepoEnd)
-        requires to { to < length (outlets_of self.old) }
-        requires count { count ≡ length (starts_of (inlets_of repo.old)) }
-        requires joined { (none : AnOutlets) → AreJoined (slice_index_or (outlets_of self.old) to none) (inlets_of repo.old) }
+        requires to { to < length self.old.outlets.items }
+        requires count { count ≡ length repo.old.inlets.ends.items }
+        requires joined { (none : AnOutlets) → AreJoined (slice_index_or self.old.outlets.items to none) repo.old.inlets }
         ensures same { SameWires self.old self.new }
         ensures nothing { PutsNoFrame self.old self.new }
         ensures repo { SameRepoEnd repo.old repo.new }
         ensures unchanged { IsRepoUnchanged repo.old repo.new }
         ensures applied { (from : ℕ) (items : List AnItem) → from < count
             → ((none : AnOutlets) (absent : Outlet) → All (IsFrameOf items) (wire_of self.old from to none absent))
-            → IsPrefix (items_from (site_of repo.old).log from) items }
+            → IsPrefix (items_from repo.old.site.log from) items }
     {
         repo.look_at_links(count, &mut self.outlets[to as usize]);
     }

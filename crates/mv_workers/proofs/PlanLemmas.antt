@@ -4,6 +4,7 @@ use Rattle.mv_message.specs.declared.message.Message.{Message}
 use Rattle.mv_hub.specs.Hub.{HubState}
 use Rattle.mv_party.specs.Site.{SiteState}
 use Rattle.mv_machine.specs.Limits.{Bounds}
+use Rattle.mv_machine.specs.State.{State, submissions_of}
 use Rattle.mv_ends.specs.declared.hub_end.HubEnd.{HubEnd}
 use Rattle.mv_ends.specs.declared.repo_end.RepoEnd.{RepoEnd}
 use Rattle.mv_ends.specs.HubEnd.{SameHubEnd}
@@ -13,9 +14,17 @@ use Rattle.mv_ends.specs.Outcome.{state_of}
 use Rattle.mv_ends.proofs.OpeningLemmas.{some_of}
 use Rattle.mv_ends.proofs.OutcomeLemmas.{at_site}
 use Rattle.mv_workers.specs.declared.plan.Plan.{Plan}
-use Rattle.mv_workers.specs.Work.{list_at, own_among, Begins}
+use Rattle.mv_workers.specs.Work.{Work, list_at, own_among, Begins}
+use Rattle.mv_workers.specs.Done.{IsDone}
 use Rattle.mv_workers.specs.Crews.{AllUnused, AllBegin}
 use Rattle.mv_workers.specs.Plans.{KeepsPlan}
+
+-- each party is done with its list; and has begun with it
+abbrev pub AreDone : State → Work → Type 0
+AreDone outcome work = (party : ℕ) → party < length outcome.parties → IsDone outcome party (list_at work party)
+
+abbrev pub HaveBegun : State → Work → Type 0
+HaveBegun outcome work = (party : ℕ) → party < length outcome.parties → Begins (own_among (submissions_of outcome party)) (list_at work party)
 
 -- there is an end for each party
 pub fresh_each : (parties : List (List (List ℕ))) (limits : Bounds) (hub : HubEnd) (repos : List RepoEnd) → AreEnds hub repos → AreFresh parties limits hub repos

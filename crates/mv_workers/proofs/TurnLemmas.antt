@@ -1,5 +1,5 @@
 -- What the tries of a turn leave of what a party submitted of its own.
-use Rattle.std.proofs.Common.{◌≡◌, ◌<◌, ◌+◌, ℕ, false, List, [], ◌∷◌, ◌++◌, length, get_or, take, append-nil, sym, refl, ap, ◌∙◌, inl, inr}
+use Rattle.std.proofs.Common.{◌≡◌, ◌<◌, ◌+◌, ℕ, false, List, [], ◌∷◌, ◌++◌, length, get_or, take, append-nil, sym, refl, ap, ◌∙◌}
 use Rattle.std.proofs.lemmas.List.{take_more}
 use Rattle.std.specs.Prelude.{option_to_list}
 use Rattle.mv_message.specs.declared.message.Message.{Message}
@@ -13,10 +13,11 @@ use Rattle.mv_repository.specs.Query.{answer_after}
 use Rattle.mv_party.specs.Site.{SiteState}
 use Rattle.mv_party.proofs.SiteLemmas.{submit-free}
 use Rattle.mv_machine.specs.declared.reply.Reply.{Reply}
-use Rattle.mv_machine.specs.declared.reply.Reply.TheVariants.{Submitted, Asked}
+use Rattle.mv_machine.specs.declared.reply.Reply.TheVariants.{Submitted, Asked, Refused}
+use Rattle.mv_machine.specs.declared.reply.Refusal.TheVariants.{Party, WireEmpty}
 use Rattle.mv_ends.specs.declared.repo_end.RepoEnd.{RepoEnd}
 use Rattle.mv_ends.specs.Answering.{answer_by, stands_to}
-use Rattle.mv_ends.specs.RepoEnd.{site_of, Puts, Applies}
+use Rattle.mv_ends.specs.RepoEnd.{IsRepoUnchanged, Puts, Applies}
 use Rattle.mv_ends.proofs.SiteEndLemmas.{submitted_by}
 use Rattle.mv_workers.specs.Work.{own_among}
 use Rattle.mv_workers.specs.Turns.{own_of, HasSubmitted, Tries}
@@ -39,31 +40,34 @@ answered site sender item look.Next = called_for site.log sender item
 answered site sender item look.Old = refl
 answered site sender item (look.Gap expected) = refl
 
+unchanged_own : (old new : RepoEnd) → IsRepoUnchanged old new → own_of new ≡ own_of old
+unchanged_own old new unchanged = ap (λ (site : SiteState). own_among site.submissions) unchanged.site
+
 -- a look for a frame leaves what the party submitted of its own
 pub own_applied : (from : ℕ) (old new : RepoEnd) (reply : Reply) → Applies from old new reply → own_of new ≡ own_of old
-own_applied from old new reply applies = elim applies [
-  | inl took ↦
-      let stands = stands_to (site_of old) from took.frame in
-      ap (λ (site : SiteState). own_among site.submissions) took.takes.site
-      ∙ ap own_among (submitted_by (site_of old) from took.frame.item stands)
-      ∙ own_among-append (site_of old).submissions (option_to_list (answer_by (site_of old) from took.frame.item stands))
-      ∙ ap (λ l. own_of old ++ l) (answered (site_of old) from took.frame.item stands)
-      ∙ append-nil (own_of old)
-  | inr refused ↦ ap (λ (site : SiteState). own_among site.submissions) refused.unchanged.site
-]
+own_applied from old new (Refused Party) applies = unchanged_own old new applies.0
+own_applied from old new (Refused WireEmpty) applies = unchanged_own old new applies.0
+own_applied from old new (Refused refusal) applies = unchanged_own old new applies.0
+own_applied from old new reply applies =
+    let stands = stands_to old.site from applies.frame in
+    ap (λ (site : SiteState). own_among site.submissions) applies.site
+    ∙ ap own_among (submitted_by old.site from applies.frame.item stands)
+    ∙ own_among-append old.site.submissions (option_to_list (answer_by old.site from applies.frame.item stands))
+    ∙ ap (λ l. own_of old ++ l) (answered old.site from applies.frame.item stands)
+    ∙ append-nil (own_of old)
 
 puts_own : (message : Message) (old new : RepoEnd) (number : ℕ) → Puts message old new number → own_among (message ∷ []) ≡ message ∷ []
     → own_of new ≡ own_of old ++ message ∷ []
 puts_own message old new number puts own =
     ap (λ (site : SiteState). own_among site.submissions) puts.site
-    ∙ own_among-append (site_of old).submissions (message ∷ [])
+    ∙ own_among-append old.site.submissions (message ∷ [])
     ∙ ap (λ l. own_of old ++ l) own
 
 -- what was submitted by a try is the message
 own_submitted : (message : Message) (old new : RepoEnd) (k : ℕ) → Tries message old new (Submitted k) → own_of new ≡ own_of old ++ message ∷ []
 own_submitted (Query key) old new k tries = absurd tries
 own_submitted (Answer asker q key found) old new k tries =
-    let taken = (submit-free false (site_of old) (Answer asker q key found) tries.1).0 in absurd (cc)
+    let taken = (submit-free false old.site (Answer asker q key found) tries.1).0 in absurd (cc)
 own_submitted (Master gtin product) old new k tries = puts_own (Master gtin product) old new k tries.0 refl
 own_submitted (Upload gtin batch expiry national serials) old new k tries = puts_own (Upload gtin batch expiry national serials) old new k tries.0 refl
 own_submitted (Status key to user at) old new k tries = puts_own (Status key to user at) old new k tries.0 refl

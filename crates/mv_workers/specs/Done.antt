@@ -1,21 +1,14 @@
--- What is carried out of what parties are to submit.
+-- What is carried out of what a party is to submit.
 use Rattle.std.specs.Prelude.{◌≡◌, ℕ, ◌<◌, List, length}
 use Rattle.mv_message.specs.declared.message.Message.{Message}
 use Rattle.mv_hub.specs.Record.{routed_from}
+use Rattle.mv_hub.specs.Hub.{items_on}
 use Rattle.mv_repository.specs.Log.{items_from}
-use Rattle.mv_machine.specs.State.{State, submissions_of, log_of, items_on}
-use Rattle.mv_workers.specs.Work.{Work, list_at, own_among, Begins}
+use Rattle.mv_machine.specs.State.{State, submissions_of, log_of, hub_of}
+use Rattle.mv_workers.specs.Work.{own_among}
 
 -- A party is done with its list: it submitted just that and answers, all of it was routed, and it applied all that was routed to it.
 pub record IsDone (outcome : State) (party : ℕ) (list : List Message) : Type 0 where
   pub submitted : own_among (submissions_of outcome party) ≡ list
   pub routed : routed_from outcome.entries party ≡ submissions_of outcome party
-  pub applied : (from : ℕ) → from < length outcome.parties → items_from (log_of outcome party) from ≡ items_on outcome from party
-
--- each party is done
-abbrev pub AreDone : State → Work → Type 0
-AreDone outcome work = (party : ℕ) → party < length outcome.parties → IsDone outcome party (list_at work party)
-
--- each party has at least begun with its list, and submitted no more than that and answers
-abbrev pub HaveBegun : State → Work → Type 0
-HaveBegun outcome work = (party : ℕ) → party < length outcome.parties → Begins (own_among (submissions_of outcome party)) (list_at work party)
+  pub applied : (from : ℕ) → from < length outcome.parties → items_from (log_of outcome party) from ≡ items_on (hub_of outcome) from party

@@ -1,28 +1,30 @@
 -- What a run leaves, by its plan.
-use Rattle.std.specs.Prelude.{◌≡◌, length}
-use Rattle.mv_machine.specs.State.{State}
+use Rattle.std.specs.Prelude.{◌≡◌, ◌<◌, ℕ, [], length}
+use Rattle.mv_party.specs.Site.{answers_in}
+use Rattle.mv_machine.specs.State.{State, submissions_of}
 use Rattle.mv_workers.specs.declared.plan.Plan.{Plan}
 use Rattle.mv_workers.specs.declared.plan.WorkFault.{WorkFault}
 use Rattle.mv_workers.specs.declared.plan.WorkFault.TheVariants as fault
-use Rattle.mv_workers.specs.Work.{PlansNoAnswer}
-use Rattle.mv_workers.specs.Done.{AreDone, HaveBegun}
+use Rattle.mv_workers.specs.Work.{list_at, own_among, Begins}
+use Rattle.mv_workers.specs.Done.{IsDone}
 
 -- A plan can be run: it has a list for each party, and no answer is planned.
 pub record IsSound (plan : Plan) : Type 0 where
   pub each : length plan.work.items ≡ length plan.parties
-  pub no_answers : PlansNoAnswer plan.work.items
+  pub no_answers : (party : ℕ) → party < length plan.work.items → answers_in (list_at plan.work.items party) ≡ []
 
 -- An outcome is one of a plan: it has the plan's parties and limits, and what each party submitted of its own is where its list
 -- begins.
 pub record KeepsPlan (plan : Plan) (outcome : State) : Type 0 where
   pub parties : outcome.parties ≡ plan.parties
   pub limits : outcome.limits ≡ plan.limits
-  pub submitted : HaveBegun outcome plan.work.items
+  pub submitted : (party : ℕ) → party < length outcome.parties
+      → Begins (own_among (submissions_of outcome party)) (list_at plan.work.items party)
 
 -- An outcome is complete: every planned message was submitted in order, all that was submitted was routed, and all that was routed was
 -- applied.
 abbrev pub IsComplete : Plan → State → Type 0
-IsComplete plan outcome = AreDone outcome plan.work.items
+IsComplete plan outcome = (party : ℕ) → party < length outcome.parties → IsDone outcome party (list_at plan.work.items party)
 
 -- why a run has no complete outcome
 abbrev pub Faults : Plan → WorkFault → Type 0

@@ -4,16 +4,16 @@ use Rattle.mv_message.specs.declared.message.Message.{Message}
 use Rattle.mv_message.specs.declared.message.Message.TheVariants.{Query}
 use Rattle.mv_ends.specs.declared.repo_end.RepoEnd.{RepoEnd}
 use Rattle.mv_machine.specs.declared.reply.Reply.{Reply}
-use Rattle.mv_ends.specs.RepoEnd.{site_of, Submits, Asks}
+use Rattle.mv_ends.specs.RepoEnd.{Submits, Asks}
 use Rattle.mv_workers.specs.Work.{own_among}
 
 -- what was submitted at an end of the party's own
 abbrev pub own_of : RepoEnd → List Message
-own_of end = own_among (site_of end).submissions
+own_of end = own_among end.site.submissions
 
 -- nothing was submitted at an end
 pub record IsUnused (end : RepoEnd) : Type 0 where
-  pub none : (site_of end).submissions ≡ []
+  pub none : end.site.submissions ≡ []
 
 -- just the first messages of a list were submitted at an end, so many, but for answers
 abbrev pub HasSubmitted : RepoEnd → ℕ → List Message → Type 0

@@ -1,10 +1,9 @@
 -- What parties are to submit.
-use Rattle.std.specs.Prelude.{◌≡◌, ◌<◌, ℕ, Bool, true, false, List, [], length, map, filter, not, take, slice_index_or}
+use Rattle.std.specs.Prelude.{◌≡◌, ℕ, Bool, true, false, List, [], length, map, filter, not, take, slice_index_or}
 use Rattle.std.specs.declared.alloc.Global.{Global}
 use Rattle.std.specs.declared.vec.Vec.{Vec}
 use Rattle.mv_message.specs.declared.message.Message.{Message}
 use Rattle.mv_message.specs.declared.message.Message.TheVariants.{Answer}
-use Rattle.mv_party.specs.Site.{answers_in}
 
 -- what each party is to submit, party 0 first
 abbrev pub Work : Type 0
@@ -22,10 +21,6 @@ is_answer message = false
 -- what a party submits of its own: all but the answers to queries
 abbrev pub own_among : List Message → List Message
 own_among messages = filter (λ message. not (is_answer message)) messages
-
--- no answer is among what parties are to submit
-abbrev pub PlansNoAnswer : Work → Type 0
-PlansNoAnswer work = (party : ℕ) → party < length work → answers_in (list_at work party) ≡ []
 
 -- a list is where another begins
 abbrev pub Begins : List Message → List Message → Type 0

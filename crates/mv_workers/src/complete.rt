@@ -5,10 +5,11 @@
 
 ghost use Rattle.std.specs.Prelude.{◌≡◌, ◌↔◌, ◌<◌, ℕ, length, IsTrue};
 ghost use Rattle.mv_hub.specs.Record.{routed_from};
+ghost use Rattle.mv_hub.specs.Hub.{items_on};
 ghost use Rattle.mv_repository.specs.Log.{items_from};
-ghost use Rattle.mv_machine.specs.State.{is_party, submissions_of, log_of, items_on};
-ghost use Rattle.mv_workers.specs.Work.{own_among, is_answer, Begins};
-ghost use Rattle.mv_workers.specs.Done.{IsDone, AreDone, HaveBegun};
+ghost use Rattle.mv_machine.specs.State.{is_party, submissions_of, log_of, hub_of};
+ghost use Rattle.mv_workers.specs.Work.{list_at, own_among, is_answer, Begins};
+ghost use Rattle.mv_workers.specs.Done.{IsDone};
 
 use mv_ends::Outcome;
 use mv_message::{Message, Party, Shared};
@@ -42,7 +43,7 @@ fn entries_from(log: &[LogEntry], party: Party) -> usize
 fn has_applied(outcome: &Outcome, party: Party) -> bool
     requires { IsTrue (is_party outcome.now party) }
     ensures { IsTrue result ↔ ((from : ℕ) → from < length outcome.now.parties
-        → items_from (log_of outcome.now party) from ≡ items_on outcome.now from party) }
+        → items_from (log_of outcome.now party) from ≡ items_on (hub_of outcome.now) from party) }
 {
     // The outcome is lawful: its record is looked at for that alone.
     let _ = outcome.record();
@@ -81,8 +82,10 @@ fn is_done(outcome: &Outcome, party: Party, list: &[Shared<Message>]) -> bool
 /// Whether each party is done with its list.
 pub(crate) fn is_complete(outcome: &Outcome, work: &[Vec<Shared<Message>>]) -> bool
     requires each { length work.now ≡ length outcome.now.parties }
-    requires begun { HaveBegun outcome.now work.now }
-    ensures { IsTrue result ↔ AreDone outcome.now work.now }
+    requires begun { (party : ℕ) → party < length outcome.now.parties
+        → Begins (own_among (submissions_of outcome.now party)) (list_at work.now party) }
+    ensures { IsTrue result ↔ ((party : ℕ) → party < length outcome.now.parties
+        → IsDone outcome.now party (list_at work.now party)) }
 {
     for party in 0..outcome.parties().len() {
         if !is_done(outcome, party, work[party as usize].as_slice()) {

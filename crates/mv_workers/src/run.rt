@@ -1,9 +1,10 @@
 //! A run by a plan.
 
-ghost use Rattle.std.specs.Prelude.{◌≡◌, ◌↔◌, length, vec_len, IfOk, IfErr, IfSome, IsTrue};
+ghost use Rattle.std.specs.Prelude.{◌≡◌, ◌↔◌, ◌<◌, ℕ, [], length, vec_len, IfOk, IfErr, IfSome, IsTrue};
 ghost use Rattle.mv_ends.specs.HubEnd.{SameHubEnd};
 ghost use Rattle.mv_ends.specs.Laws.{AreSameRepos};
-ghost use Rattle.mv_workers.specs.Work.{PlansNoAnswer};
+ghost use Rattle.mv_party.specs.Site.{answers_in};
+ghost use Rattle.mv_workers.specs.Work.{list_at};
 ghost use Rattle.mv_workers.specs.Crews.{AllUnused, AllBegin};
 ghost use Rattle.mv_workers.specs.Plans.{IsSound, KeepsPlan, IsComplete, Faults};
 
@@ -22,7 +23,7 @@ use std::thread::Threads;
 
 /// Whether no answer is among what parties are to submit.
 fn plans_no_answer(work: &[Vec<Shared<Message>>]) -> bool
-    ensures { IsTrue result ↔ PlansNoAnswer work.now }
+    ensures { IsTrue result ↔ ((party : ℕ) → party < length work.now → answers_in (list_at work.now party) ≡ []) }
 {
     for party in 0..work.len() {
         let list = work[party].as_slice();

@@ -1,7 +1,6 @@
 use Rattle.std.proofs.Common.{◌<◌, ◌∙◌, length, slice_index_or, sym, ap, subst, refl, arith}
 use Rattle.mv_pairs.specs.Pairs.{IsSquare}
 use Rattle.mv_hub.specs.Hub.{HubState}
-use Rattle.mv_ends.specs.RepoEnd.{site_of}
 use Rattle.mv_ends.specs.Whole.{IsEndOf}
 use Rattle.mv_ends.specs.Looking.{IsLawfulAt}
 use Rattle.mv_ends.proofs.OutcomeLemmas.{gathering_more, outcome_of, gathered}
@@ -10,7 +9,7 @@ use Rattle.mv_ends.proofs.gathering.gather.Goals as goal
 pub loop-party-init : goal.loop-party-init
 loop-party-init c = (
   c.len-count.ensures.value ∙ ap length c.parties.ensures.value ∙ ap (λ (h : HubState). length h.parties) c.hub.ensures,
-  record { hub_is = refl; limits_are = refl; sites = refl; ends = c.requires; each = λ party repo below. absurd (omega arith) },
+  record { hub_is = refl; limits_are = refl; submissions = refl; logs = refl; ends = c.requires; each = λ party repo below. absurd (omega arith) },
 )
 
 pub look_beside-requires-clause-party : goal.look_beside-requires-clause-party
@@ -41,7 +40,7 @@ new-requires c =
     outcome_of c.loop-party.hub c.loop-party.repos.items
     (subst (λ (h : HubState). IsSquare (length h.parties) h.sent) (c.hub.ensures ∙ hub) c.parties.ensures.pairs)
     c.loop-party.hub.lawful was.ends
-    (λ party repo below. subst (λ h. IsLawfulAt h (site_of (slice_index_or c.loop-party.repos.items party repo))) hub
+    (λ party repo below. subst (λ h. IsLawfulAt h (slice_index_or c.loop-party.repos.items party repo).site) hub
     (was.each party repo (omega (arith, below, c.loop-party-test.false, c.loop-party.invariant.0, ap (λ (h : HubState). length h.parties) was.hub_is, was.ends.each))))
 
 pub returns : goal.returns

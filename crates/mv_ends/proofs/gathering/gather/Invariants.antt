@@ -1,7 +1,6 @@
 use Rattle.std.proofs.Common.{◌≡◌, length, vec_items}
-use Rattle.mv_ends.specs.HubEnd.{hub_of}
 use Rattle.mv_ends.proofs.OutcomeLemmas.{IsGathering}
 use Rattle.mv_ends.proofs.gathering.gather.Given as goal
 
 abbrev pub invariant-loop-party : goal.invariant-loop-party
-invariant-loop-party l = (l.count ≡ length (hub_of l.fn.hub).parties) × IsGathering l.fn.hub (vec_items l.fn.repos) l.hub (vec_items l.repos) l.party
+invariant-loop-party l = (l.count ≡ length l.fn.hub.hub.parties) × IsGathering l.fn.hub (vec_items l.fn.repos) l.hub (vec_items l.repos) l.party

@@ -2,9 +2,8 @@ use Rattle.std.proofs.Common.{◌≡◌, ◌∙◌, length, vec_len, sym, ap, su
 use Rattle.mv_ends.proofs.LookLemmas.{ends_kept}
 use Rattle.mv_workers.specs.Work.{Work}
 use Rattle.mv_workers.specs.Crews.{AllUnused, AllBegin}
-use Rattle.mv_workers.specs.Done.{HaveBegun, AreDone}
 use Rattle.mv_workers.specs.Plans.{IsSound, KeepsPlan}
-use Rattle.mv_workers.proofs.PlanLemmas.{fresh_each, fresh_unused, keeps_plan}
+use Rattle.mv_workers.proofs.PlanLemmas.{AreDone, HaveBegun, fresh_each, fresh_unused, keeps_plan}
 use Rattle.mv_workers.proofs.run.run_workers.Goals as goal
 
 -- the ends that were opened are unused, one for each list

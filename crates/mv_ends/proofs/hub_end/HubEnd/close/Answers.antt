@@ -3,7 +3,6 @@ use Rattle.std.proofs.Common.{◌≡◌, length}
 use Rattle.mv_hub.specs.declared.entry.Entry.TheVariants.{Closed}
 use Rattle.mv_hub.specs.Hub.{HubState}
 use Rattle.mv_machine.specs.Lawful.{IsLawfulRecord}
-use Rattle.mv_ends.specs.Inlets.{starts_of}
 use Rattle.mv_ends.specs.Valid.{IsFor, TookAll, AreOfLinks, AreWithin}
 use Rattle.mv_ends.proofs.EndLemmas.{of_links_entered, took_closed, within_closed, lawful_closed, closable, closed_or_same}
 use Rattle.mv_ends.proofs.hub_end.HubEnd.close.Goals as goal
@@ -15,7 +14,7 @@ invariant_of-self-clause-square c =
 
 pub invariant_of-self-clause-each : goal.invariant_of-self-clause-each
 invariant_of-self-clause-each c =
-    closed_or_same (λ (h : HubState). length (starts_of c.args.self.now.uplinks) ≡ length h.parties) c.args.self.now.hub c.close.new.self c.args.from c.args.to c.close.result
+    closed_or_same (λ (h : HubState). length c.args.self.now.uplinks.ends.items ≡ length h.parties) c.args.self.now.hub c.close.new.self c.args.from c.args.to c.close.result
     c.close.ensures.ok c.close.ensures.err c.close.ensures.fault (c.args.self.now.each) (λ fault. c.args.self.now.each)
 
 pub invariant_of-self-clause-window : goal.invariant_of-self-clause-window

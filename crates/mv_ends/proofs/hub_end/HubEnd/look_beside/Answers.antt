@@ -3,19 +3,16 @@ use mathlib.Core.List.{IsPrefix}
 use Rattle.mv_party.specs.Site.{SiteState, IsLawfulParty}
 use Rattle.mv_repository.specs.Log.{items_from}
 use Rattle.mv_hub.specs.Hub.{items_on}
-use Rattle.mv_ends.specs.Inlets.{starts_of}
-use Rattle.mv_ends.specs.HubEnd.{hub_of, uplinks_of}
-use Rattle.mv_ends.specs.RepoEnd.{site_of}
 use Rattle.mv_ends.proofs.OpeningLemmas.{some_of}
 use Rattle.mv_ends.proofs.hub_end.HubEnd.look_beside.Goals as goal
 
 pub returns-clause-lawful : goal.returns-clause-lawful
 returns-clause-lawful c =
     let end = c.args.self.now in
-    let hub = hub_of end in
-    let site = site_of c.args.repo.now in
-    let is_uplink : site.party < length (starts_of (uplinks_of end)) = omega (arith, c.requires.party, c.requires.end.party_is, end.each) in
-    let absent = some_of (starts_of (uplinks_of end)) site.party is_uplink in
+    let hub = end.hub in
+    let site = c.args.repo.now.site in
+    let is_uplink : site.party < length end.uplinks.ends.items = omega (arith, c.requires.party, c.requires.end.party_is, end.each) in
+    let absent = some_of end.uplinks.ends.items site.party is_uplink in
     let to_is : c.args.party < length hub.parties = c.requires.party in
     record {
       party = subst (λ n. IsLawfulParty n site.submissions site.log) c.requires.end.parties c.sub.ensures.lawful;

@@ -1,5 +1,5 @@
 -- The party took the frame that is taken from the link, and what it answers is on its uplink.
-use Rattle.std.proofs.Common.{◌≡◌, ◌∙◌, inr, refl, sym, subst, ap, rules, ◌++◌}
+use Rattle.std.proofs.Common.{◌≡◌, ◌∙◌, refl, sym, subst, ap, rules, ◌++◌}
 use Rattle.std.specs.Prelude.{option_to_list}
 use Rattle.rtrb.specs.Ring.{sent}
 use Rattle.mv_party.specs.declared.taken.Taken.{Taken}
@@ -10,24 +10,19 @@ use Rattle.mv_ends.specs.Inlets.{Takes}
 use Rattle.mv_ends.specs.Answering.{stands_to}
 use Rattle.mv_ends.specs.Accepted.{AreAccepted}
 use Rattle.mv_ends.specs.Refusals.{IsRefusedBy}
-use Rattle.mv_ends.proofs.SiteEndLemmas.{refused_for, submitted_by, accepted_taken, accepted_same}
+use Rattle.mv_ends.proofs.SiteEndLemmas.{apply_refused, refused_for, submitted_by, accepted_taken, accepted_same}
 use Rattle.mv_ends.proofs.repo_end.RepoEnd.apply.Goals as goal
 
 pub returns-in_default-clause-reply : goal.returns-in_default-clause-reply
-returns-in_default-clause-reply c = inr (record {
-  refusal = Memory;
-  unchanged = search rules;
-  why = inr (inr (c.is_full-full.result, c.frame-frame.result.now, subst (λ o. IsRefusedBy refusal_of o Memory) (sym c.in_default.ensures.free) refl));
-  reply_is = refl;
-})
+returns-in_default-clause-reply c = (
+  search rules,
+  (c.is_full-full.result, c.frame-frame.result.now, subst (λ o. IsRefusedBy refusal_of o Memory) (sym c.in_default.ensures.free) refl),
+)
 
 pub returns-in-Err-clause-reply : goal.returns-in-Err-clause-reply
-returns-in-Err-clause-reply c = inr (record {
-  refusal = c.from.result;
-  unchanged = search rules;
-  why = inr (inr (c.is_full-full.result, c.frame-frame.result.now, subst (IsRefusedBy refusal_of _) (sym c.from.ensures) (refused_for Taken _ c.in-Err.fault c.in-Err.ensures.fault)));
-  reply_is = refl;
-})
+returns-in-Err-clause-reply c =
+    rw c.from.ensures (apply_refused c.args.from c.args.self.now _ c.is_full-full.result c.frame-frame.result.now c.in-Err.fault (search rules)
+    (refused_for Taken _ c.in-Err.fault c.in-Err.ensures.fault))
 
 pub invariant_of-self-in-Ok-apply-clause-pushed : goal.invariant_of-self-in-Ok-apply-clause-pushed
 invariant_of-self-in-Ok-apply-clause-pushed c =

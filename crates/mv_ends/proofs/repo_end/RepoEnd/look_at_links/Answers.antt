@@ -4,8 +4,7 @@ use Rattle.std.proofs.lemmas.Bool.{cases_lt}
 use mathlib.Core.List.{IsPrefix}
 use Rattle.mv_link.specs.Frames.{IsFrameOf}
 use Rattle.mv_repository.specs.Log.{items_from}
-use Rattle.mv_ends.specs.Outlets.{ends_of, put_of}
-use Rattle.mv_ends.specs.RepoEnd.{site_of}
+use Rattle.mv_ends.specs.Outlets.{put_of}
 use Rattle.mv_ends.proofs.LookLemmas.{repo_further, repo_unchanged_further, outlets_further, puts_nothing_further, repo_itself}
 use Rattle.mv_ends.proofs.repo_end.RepoEnd.look_at_links.Goals as goal
 
@@ -41,8 +40,8 @@ loop-from-preserved c =
         | inl before ↦ was.5 from items before valid
         | inr after ↦
             let here : from ≡ c.loop-from.from = omega arith in
-            let in_range : from < length (ends_of c.args.outlets.now) = omega (arith, c.loop-from-test.true, c.requires.count, c.requires.joined.0) in
-            subst (λ k. IsPrefix (items_from (site_of first).log k) items) (sym here)
+            let in_range : from < length c.args.outlets.now.ends.items = omega (arith, c.loop-from-test.true, c.requires.count, c.requires.joined.0) in
+            subst (λ k. IsPrefix (items_from first.site.log k) items) (sym here)
             (subst (λ s. IsPrefix (items_from s.log c.loop-from.from) items) was.1.site
             (step.applied items (λ absent. subst (λ k. All (IsFrameOf items) (put_of c.loop-from.outlets k absent)) here
             (subst (λ l. All (IsFrameOf items) l) (sym (was.3 from absent in_range)) (valid absent)))))

@@ -13,7 +13,7 @@ use Rattle.mv_machine.specs.State.{State, submissions_of, log_of}
 use Rattle.mv_hub.specs.Record.{routed_count}
 use Rattle.mv_repository.specs.declared.counts.Counts.{Counts}
 use Rattle.mv_repository.specs.Counts.{counts_of}
-use Rattle.mv_report.specs.Report.{closed_count, in_ten_places, entries_text, numbers_of, party_line, head_line, closed_line, report_text}
+use Rattle.mv_report.specs.Report.{closed_count, in_ten_places, numbers_of, party_line, head_line, closed_line, report_text}
 
 -- blanks, one by one
 blanks : (n : ℕ) → repeat {A = ℕ} n (32 ∷ []) ≡ replicate n 32
@@ -21,7 +21,7 @@ blanks zero = refl
 blanks (suc n) = ap (λ l. 32 ∷ l) (blanks n)
 
 -- a number as the library writes it in ten places
-pub padded_number : (n : ℕ) → padded_integral (format_spec 32 3 0 10 (2 ^ 64 - 1)) false [] (decimal n) ≡ in_ten_places (decimal n)
+pub padded_number : (n : ℕ) → padded_integral (format_spec 32 3 0 10 (2 ^ 64 - 1)) false [] (decimal n) ≡ in_ten_places n
 unfolding padded_integral char_count in_ten_places
 padded_number n =
     let d = decimal n in
@@ -57,13 +57,13 @@ lines_more f head was now n before line =
 -- the line of a party is written
 pub line_ended : {E : Type 0} (r : Result (Unit {0}) E) (outcome : State) (party submitted routed : ℕ) (counts : Counts) (old mid new : List ℕ)
     → submitted ≡ length (submissions_of outcome party) → routed ≡ routed_count outcome.entries party → counts ≡ counts_of (log_of outcome party)
-    → mid ≡ old ++ entries_text (party ∷ numbers_of submitted routed counts) → new ≡ (if is_ok r then mid ++ 10 ∷ [] else mid)
+    → mid ≡ old ++ flat_map in_ten_places (party ∷ numbers_of submitted routed counts) → new ≡ (if is_ok r then mid ++ 10 ∷ [] else mid)
     → IfOk r (λ _. new ≡ old ++ party_line outcome party)
 unfolding party_line
 line_ended (Ok u) outcome party submitted routed counts old mid new subs routes counted numbers whole =
-    whole ∙ ap (λ l. l ++ 10 ∷ []) (numbers ∙ ap (λ n. old ++ entries_text (party ∷ numbers_of n routed counts)) subs
-    ∙ ap (λ n. old ++ entries_text (party ∷ numbers_of (length (submissions_of outcome party)) n counts)) routes
-    ∙ ap (λ n. old ++ entries_text (party ∷ numbers_of (length (submissions_of outcome party)) (routed_count outcome.entries party) n)) counted)
+    whole ∙ ap (λ l. l ++ 10 ∷ []) (numbers ∙ ap (λ n. old ++ flat_map in_ten_places (party ∷ numbers_of n routed counts)) subs
+    ∙ ap (λ n. old ++ flat_map in_ten_places (party ∷ numbers_of (length (submissions_of outcome party)) n counts)) routes
+    ∙ ap (λ n. old ++ flat_map in_ten_places (party ∷ numbers_of (length (submissions_of outcome party)) (routed_count outcome.entries party) n)) counted)
     ∙ append_assoc old _ (10 ∷ [])
 line_ended (Err e) outcome party submitted routed counts old mid new subs routes counted numbers whole = tt
 

@@ -14,13 +14,9 @@ closed_count [] = 0
 closed_count (Routed from k message ∷ entries) = closed_count entries
 closed_count (Closed from to ∷ entries) = suc (closed_count entries)
 
--- a text on the right of ten places, blanks (32) before it; one that is wider is written whole
-unfoldable pub in_ten_places : List ℕ → List ℕ
-in_ten_places text = replicate (10 - length text) 32 ++ text
-
--- numbers, each in ten places
-abbrev pub entries_text : List ℕ → List ℕ
-entries_text numbers = flat_map (λ number. in_ten_places (decimal number)) numbers
+-- a number on the right of ten places, blanks (32) before it; one that is wider is written whole
+unfoldable pub in_ten_places : ℕ → List ℕ
+in_ten_places number = replicate (10 - length (decimal number)) 32 ++ decimal number
 
 -- what the report says of a party, beside its number: how many messages it submitted, how many of these were routed, and what its
 -- repository has
@@ -30,7 +26,7 @@ numbers_of submitted routed counts =
 
 -- the line of a party, ended by a line feed (10)
 unfoldable pub party_line : State → ℕ → List ℕ
-party_line outcome party = entries_text (party ∷ numbers_of
+party_line outcome party = flat_map in_ten_places (party ∷ numbers_of
     (length (submissions_of outcome party)) (routed_count outcome.entries party) (counts_of (log_of outcome party))) ++ 10 ∷ []
 
 -- the head line

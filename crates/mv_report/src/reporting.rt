@@ -1,8 +1,8 @@
 //! The report of a run, as a table of texts.
 
-ghost use Rattle.std.specs.Prelude.{◌≡◌, ◌++◌, IfOk, IsTrue, decimal, string_bytes};
+ghost use Rattle.std.specs.Prelude.{◌≡◌, ◌++◌, IfOk, IsTrue, flat_map, string_bytes};
 ghost use Rattle.mv_machine.specs.State.{is_party};
-ghost use Rattle.mv_report.specs.Report.{closed_count, in_ten_places, entries_text, party_line, report_text};
+ghost use Rattle.mv_report.specs.Report.{closed_count, in_ten_places, party_line, report_text};
 
 use mv_ends::Outcome;
 use mv_hub::Entry;
@@ -72,7 +72,7 @@ fn push_party(
 
 /// Writes numbers, each in ten places.
 fn push_numbers(alloc: Global, text: &mut String, numbers: &[usize]) -> Result<(), AllocError>
-    ensures { IfOk result (λ _. string_bytes text.new ≡ string_bytes text.old ++ entries_text numbers.now) }
+    ensures { IfOk result (λ _. string_bytes text.new ≡ string_bytes text.old ++ flat_map in_ten_places numbers.now) }
 {
     for number in numbers {
         let entry = in_ten_places(alloc, *number)?;
@@ -84,7 +84,7 @@ fn push_numbers(alloc: Global, text: &mut String, numbers: &[usize]) -> Result<(
 /// A number on the right of ten places; one that is wider is written whole.
 #[tactic(auto, using(crate::proofs::ReportLemmas::padded_number))]
 fn in_ten_places(alloc: Global, number: usize) -> Result<String, AllocError>
-    ensures { IfOk result (λ text. string_bytes text ≡ in_ten_places (decimal number)) }
+    ensures { IfOk result (λ text. string_bytes text ≡ in_ten_places number) }
 {
     format!(in alloc; "{number:>10}")
 }

@@ -1,5 +1,5 @@
 -- What lines plan: a plan, once a line has opened it, or the refusal of the first line that is refused.
-use Rattle.std.specs.Prelude.{◌≡◌, ℕ, List, [], ◌∷◌, length, nat_lt, codes, string_bytes, if◌then◌else◌, Option, Some, None, Result, Ok, Err}
+use Rattle.std.specs.Prelude.{◌≡◌, ℕ, List, length, nat_lt, codes, string_bytes, if◌then◌else◌, Option, Some, None, Result, Ok, Err}
 use Rattle.serde_json.specs.Data.{Data}
 use Rattle.serde_json.specs.Written.{compact_text}
 use Rattle.mv_message.specs.declared.message.Message.TheVariants.{Query}
@@ -24,10 +24,6 @@ use Rattle.mv_lines.specs.Requests.{read_line}
 -- what some lines plan: nothing yet, a plan, or the text of a refusal
 abbrev pub Planned : Type 0
 Planned = Result (Option Parts) (List ℕ)
-
--- some lines plan something
-abbrev pub PlansSome : Planned → Type 0
-PlansSome planned = (parts : Parts) × (planned ≡ Ok (Some parts))
 
 -- what is kept of a plan
 abbrev pub planned_of : HeldPlan → Planned
@@ -81,8 +77,3 @@ plan_line (Ok plan) line = plan_read plan (read_line line)
 -- the plan behind the line is this; nothing is asked of the text of a reply
 abbrev pub IsPlanned : Planned → List ℕ → List ℕ → Planned → Type 0
 IsPlanned before line text after = after ≡ plan_line before line
-
--- the plan behind lines
-abbrev pub plan_lines : Planned → List (List ℕ) → Planned
-plan_lines planned [] = planned
-plan_lines planned (line ∷ lines) = plan_lines (plan_line planned line) lines

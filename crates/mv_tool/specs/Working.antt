@@ -1,5 +1,5 @@
 -- What `work` writes.
-use Rattle.std.specs.Prelude.{◌≡◌, ℕ, List, ◌∷◌, [], ◌++◌, codes, Bool, true, false, if◌then◌else◌, Option, Some, None, Ok, Err, IfSome}
+use Rattle.std.specs.Prelude.{◌≡◌, ◌↔◌, ℕ, List, ◌∷◌, [], ◌++◌, codes, Bool, false, IsTrue, if◌then◌else◌, Option, Some, None, Ok, Err, IfSome}
 use Rattle.std.specs.Io.KnownBytes.{Appends, Keeps}
 use Rattle.serde_json.specs.Written.{compact_text}
 use Rattle.mv_machine.specs.State.{State}
@@ -8,18 +8,13 @@ use Rattle.mv_workers.specs.Plans.{KeepsPlan, IsComplete}
 use Rattle.mv_lines.specs.declared.fault.ServeFault.{ServeFault}
 use Rattle.mv_lines.specs.declared.fault.ServeFault.TheVariants.{Write, Start}
 use Rattle.mv_lines.specs.declared.open_fault.OpenFault.TheVariants.{NotOpen}
-use Rattle.mv_lines.specs.Lines.{pieces, lines_of, KeepLimits}
 use Rattle.mv_lines.specs.Openings.{code_of}
 use Rattle.mv_lines.specs.Output.{WrotePart}
 use Rattle.mv_lines.specs.ReplyLines.{refused}
 use Rattle.mv_plan.specs.Drafts.{Parts, parts_in}
-use Rattle.mv_plan.specs.Planning.{Planned, PlansSome, plan_lines}
+use Rattle.mv_plan.specs.Planning.{Planned}
 use Rattle.mv_plan.specs.Reading.{IsRead, Unread}
 use Rattle.mv_report.specs.Report.{report_text}
-
--- the parts of a plan that can be run
-abbrev pub parts_of : Plan → Parts
-parts_of plan = parts_in plan.parties plan.limits plan.work.items
 
 -- the last line: whether the plan was finished
 abbrev pub end_line : Bool → List ℕ
@@ -28,11 +23,10 @@ end_line finished = if finished then codes "finished\n" else codes "unfinished\n
 -- The output is the report of an outcome of the plan, and says that it is finished exactly where that is complete.
 pub record IsReported (parts : Parts) (out : List ℕ) (finished : Bool) : Type 0 where
   pub plan : Plan
-  pub planned : parts_of plan ≡ parts
+  pub planned : parts_in plan.parties plan.limits plan.work.items ≡ parts
   pub outcome : State
   pub keeps : KeepsPlan plan outcome
-  pub complete : finished ≡ true → IsComplete plan outcome
-  pub incomplete : finished ≡ false → IsComplete plan outcome → ⊥
+  pub complete : IsTrue finished ↔ IsComplete plan outcome
   pub text : out ≡ report_text outcome ++ end_line finished
 
 -- the output of what some lines plan, and whether the plan was finished: a refusal, that no line has opened a plan, or a report
@@ -41,25 +35,20 @@ IsOutput (Err text) out finished = (out ≡ text ++ 10 ∷ []) × (finished ≡ 
 IsOutput (Ok None) out finished = (out ≡ compact_text (refused (code_of NotOpen)) ++ 10 ∷ []) × (finished ≡ false)
 IsOutput (Ok (Some parts)) out finished = IsReported parts out finished
 
--- the output of an input, and whether its plan was finished
+-- the output of an input that was read whole, and whether its plan was finished
 abbrev pub IsWorked : List ℕ → List ℕ → Bool → Type 0
-IsWorked bytes out finished = IsOutput (plan_lines (Ok None) (lines_of (pieces bytes))) out finished
+IsWorked bytes out finished = (planned : Planned) × IsRead bytes planned × IsOutput planned out finished
 
--- All lines of an input keep the limits, and its output went out.
+-- the output of an input went out
 pub record Worked (bytes : List ℕ) (finished : Bool) (old new : Option (List ℕ)) : Type 0 where
-  pub kept : KeepLimits 0 (pieces bytes)
   pub out : List ℕ
   pub worked : IsWorked bytes out finished
   pub written : Appends old new out
-
--- an input was read whole, and its lines plan something
-abbrev pub HasPlan : List ℕ → Type 0
-HasPlan bytes = (planned : Planned) × IsRead bytes planned × PlansSome planned
 
 -- What a run that ended by a fault has written. Where a write failed: the first bytes of an output of the input. Else nothing: the
 -- input was not read, or memory was refused; or, only where the input is a plan, it could not be started.
 abbrev pub Failed : ServeFault → Option (List ℕ) → Option (List ℕ) → Option (List ℕ) → Option (List ℕ) → Type 0
 Failed Write input rest old new =
     IfSome input (λ bytes. (out : List ℕ) × (finished : Bool) × IsWorked bytes out finished × WrotePart out old new)
-Failed Start input rest old new = Keeps old new × IfSome input HasPlan
+Failed Start input rest old new = Keeps old new × IfSome input (λ bytes. (parts : Parts) × IsRead bytes (Ok (Some parts)))
 Failed fault input rest old new = Keeps old new × Unread fault input rest

@@ -2,9 +2,10 @@
 
 ghost use Rattle.std.specs.Prelude.{◌≡◌, ◌++◌, ◌∷◌, [], ◌⊎◌, false, IfOk, IfErr, IfSome, string_bytes};
 ghost use Rattle.mv_workers.specs.Plans.{IsSound};
-ghost use Rattle.mv_plan.specs.Planning.{planned_of, PlansSome};
+ghost use Rattle.mv_plan.specs.Planning.{planned_of};
+ghost use Rattle.mv_plan.specs.Drafts.{Parts, parts_in};
 ghost use Rattle.mv_report.specs.Report.{report_text};
-ghost use Rattle.mv_tool.specs.Working.{parts_of, end_line, IsReported, IsOutput, Worked, Failed};
+ghost use Rattle.mv_tool.specs.Working.{end_line, IsReported, IsOutput, Worked, Failed};
 
 use mv_ends::Outcome;
 use mv_lines::{OpenFault, ServeFault, put_out, refusal_text};
@@ -61,7 +62,7 @@ fn carry_out<H: Threads + Wait + Sync, G: Gate>(
     ensures ok { IfOk result (λ output.
         IsOutput (planned_of planned) (string_bytes output.text) output.finished) }
     ensures err { IfErr result (λ fault. (fault ≡ ServeFault.Memory)
-        ⊎ ((fault ≡ ServeFault.Start) × PlansSome (planned_of planned))) }
+        ⊎ ((fault ≡ ServeFault.Start) × ((parts : Parts) × (planned_of planned ≡ Ok (Some parts))))) }
 {
     match planned {
         Planned::Nothing => refusal(refusal_text(alloc, OpenFault::NotOpen.code())?),
@@ -73,7 +74,7 @@ fn carry_out<H: Threads + Wait + Sync, G: Gate>(
 /// The plan of these parts.
 #[tactic(auto, using(crate::proofs::WorkLemmas::sound_of))]
 fn plan_of(draft: Draft) -> Plan
-    ensures parts { parts_of result ≡ draft }
+    ensures parts { parts_in result.parties result.limits result.work.items ≡ draft }
     ensures sound { IsSound result }
 {
     let (parties, limits, work) = draft.into_parts();
@@ -107,7 +108,8 @@ fn run<H: Threads + Wait + Sync, G: Gate>(
     gate: &G,
 ) -> Result<Output, ServeFault>
     requires sound { IsSound plan }
-    ensures ok { IfOk result (λ output. IsReported (parts_of plan) (string_bytes output.text) output.finished) }
+    ensures ok { IfOk result (λ output. IsReported (parts_in plan.parties plan.limits plan.work.items)
+        (string_bytes output.text) output.finished) }
     ensures err { IfErr result (λ fault. (fault ≡ ServeFault.Memory) ⊎ (fault ≡ ServeFault.Start)) }
 {
     match run_workers(rt, alloc, plan, turns, gate) {

@@ -20,12 +20,13 @@ use Rattle.mv_message.specs.declared.message.Message.TheVariants as messages
 use Rattle.mv_json.specs.declared.version.Version.{Version}
 use Rattle.mv_json.specs.declared.version.Version.TheVariants.{One, Two}
 use Rattle.mv_json.specs.Legal.{IsLegal}
-use Rattle.mv_json.specs.Messages.{value_in, value_of, read_bytes}
+use Rattle.mv_json.specs.Messages.{value_of, read_bytes}
 use Rattle.mv_json.specs.Tokens.{tokens_of}
-use Rattle.mv_json.specs.Values.{strings, found_version}
+use Rattle.mv_json.specs.Values.{strings}
 use Rattle.mv_json.specs.Found.{found_value}
+use Rattle.mv_json.specs.Objects.{found_version}
 use Rattle.mv_json.proofs.LegalLemmas.{text_reads_back}
-use Rattle.mv_json.proofs.ValueLemmas.{value_depth}
+use Rattle.mv_json.proofs.ValueLemmas.{value_in, answer_version, value_depth}
 
 -- a value nests as deep as its tokens
 mutual
@@ -85,7 +86,9 @@ message_back (messages.Recall key at) h = record { numbers = (IsNumber-decimal a
 message_back (messages.Repack before before_serials after after_serials at) h = record { numbers = (tt, (tt, (texts_have_numbers after_serials, (IsNumber-decimal at (omega arith), (tt, (tt, (texts_have_numbers before_serials, (tt, tt)))))))); same = rw (texts_same after_serials, number_of-decimal at (omega arith), texts_same before_serials) refl }
 message_back (messages.Withdraw gtin at) h = record { numbers = (IsNumber-decimal at (omega arith), (tt, (tt, (IsNumber-decimal 2 (omega arith), tt)))); same = rw (number_of-decimal at (omega arith), number_of-decimal 2 (omega arith)) refl }
 message_back (messages.Query key) h = record { numbers = (tt, (tt, (tt, tt))); same = refl }
-message_back (messages.Answer asker q key found) h = answer_back (found_version found) asker q key found (omega arith) (omega arith) (found_back (found_version found) found)
+message_back (messages.Answer asker q key found) h =
+    subst (λ version. ReadsBack (value_in version (messages.Answer asker q key found))) (answer_version asker q key found)
+    (answer_back (found_version found) asker q key found (omega arith) (omega arith) (found_back (found_version found) found))
 
 -- the canonical text of a legal message is read as its value
 pub text_reads : (m : Message) → IsLegal m → read (compact_text (value_of m)) ≡ Some (value_of m)

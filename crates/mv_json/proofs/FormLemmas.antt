@@ -1,8 +1,8 @@
 -- The keys, the version and the form of an object.
 use Rattle.std.proofs.Common.{◌≡◌, ◌∙◌, ℕ, true, false, not, cond, List, [], ◌∷◌, ap, sym, subst, refl, arith}
-use Rattle.std.specs.Prelude.{◌==◌, Option, Some, None, Result, Ok, Err, find, Contains}
+use Rattle.std.specs.Prelude.{◌==◌, Bool, bytes_eq, Option, Some, None, Result, Ok, Err, find, Contains}
 use Rattle.std.specs.Option.{ok_or, option_map_or}
-use Rattle.std.specs.List.{AllByRecursion}
+use Rattle.std.specs.List.{AllByRecursion, list_any}
 use Rattle.std.specs.Cmp.Lexicographic.{nat_list_eq_equiv}
 use Rattle.std.proofs.lemmas.Bool.Decides.{nat_tests}
 use Rattle.std.proofs.lemmas.Map.Views.{Contains-from_any, list_any-from_Contains}
@@ -18,16 +18,20 @@ use Rattle.mv_json.specs.declared.version.Version.{Version}
 use Rattle.mv_json.specs.declared.version.Version.TheVariants.{One, Two}
 use Rattle.mv_json.specs.Fields.{field_name}
 use Rattle.mv_json.specs.Forms.{form_name, forms_of, form_named, form_at}
-use Rattle.mv_json.specs.Members.{keys_of, is_among, first_unknown}
+use Rattle.mv_json.specs.Members.{keys_of, first_unknown}
 use Rattle.mv_json.specs.Messages.{read_message}
 use Rattle.mv_json.specs.Shapes.{names_of, known_form_at, message_at}
 use Rattle.mv_json.specs.Reading.{◌and_then◌, text_at}
 use Rattle.mv_json.specs.Numbers.{whole_number}
-use Rattle.mv_json.specs.Versions.{version_numbered, version_of, version_at}
+use Rattle.mv_json.specs.Versions.{version_of, version_at}
 use Rattle.mv_json.specs.Spellings.{HasOnly}
 use Rattle.mv_json.specs.Values.{whole, since_two}
 use Rattle.mv_json.proofs.NumberLemmas.{whole_number_ok}
 use Rattle.mv_json.proofs.ReadingLemmas.{HasText, both_ok, ok_or_some, as_object_ok, text_ok, text_is_read, same_bytes, found_by_name}
+
+-- whether a key is one of these names
+abbrev is_among : List (List ℕ) → List ℕ → Bool
+is_among names key = list_any (bytes_eq key) names
 
 -- no key is unknown, so each is one of the names
 pub all_known : (names keys : List (List ℕ)) → find (λ key. not (is_among names key)) keys ≡ None → AllByRecursion (Contains names) keys
@@ -53,6 +57,10 @@ unless_ok form (Some key) known h = cc
 
 is_two : (n : ℕ) → (n == 2) ≡ true → n ≡ 2
 is_two n h = grind (arith, nat_tests)
+
+-- the version that a number names
+abbrev version_numbered : ℕ → Result Version MessageFault
+version_numbered n = cond (n == 2) (Ok Two) (Err (Kind fields.V))
 
 numbered_ok : (n : ℕ) (version : Version) → version_numbered n ≡ Ok version → (n ≡ 2) × (version ≡ Two)
 numbered_ok n version h = elim (n == 2) as (λ b. (n == 2) ≡ b → cond b (Ok Two) (Err (Kind fields.V)) ≡ Ok version → (n ≡ 2) × (version ≡ Two))

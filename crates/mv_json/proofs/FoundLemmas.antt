@@ -15,7 +15,9 @@ use Rattle.mv_message.specs.declared.standing.Standing.{Standing}
 use Rattle.mv_json.specs.declared.version.Version.{Version}
 use Rattle.mv_json.specs.declared.version.Version.TheVariants.{One, Two}
 use Rattle.mv_json.specs.FieldMeanings.{part_of}
-use Rattle.mv_json.specs.Found.{present_fields, present_names, present_at, present_of, found_of, found_at, SpellsFound}
+use Rattle.mv_json.specs.Fields.{names_in}
+use Rattle.mv_json.specs.Found.{present_fields, present_of, found_of, found_at, SpellsFound}
+use Rattle.mv_json.specs.Meanings.{made_at}
 use Rattle.mv_json.specs.Members.{keys_of, first_unknown}
 use Rattle.mv_json.specs.Reading.{◌and_then◌, member_at}
 use Rattle.mv_json.specs.Spellings.{Has, HasOnly}
@@ -27,15 +29,18 @@ use Rattle.mv_json.proofs.FormLemmas.{all_known, none_unknown}
 abbrev pack_of : List ℕ → CivilDate → Option (List ℕ) → Bool → Standing → Bool → Found
 pack_of batch expiry national recalled standing withdrawn = Present batch expiry national standing recalled withdrawn
 
+-- the pack that the fields of an object give
+abbrev present_at : Version → Data → Result Found MessageFault
+present_at version part = made_at (part_of version) present_fields pack_of part
+
 -- the names of the fields of a pack leave out what came with the second version
-unsaid_of_pack : (version : Version) (part : Data) → HasOnly (present_names version) part → Unsaid version part
+unsaid_of_pack : (version : Version) (part : Data) → HasOnly (names_in version present_fields) part → Unsaid version part
 unsaid_of_pack One part only =
-    record { national = λ _. is_absent fields.National (present_names One) part only refl; withdrawn = λ _. is_absent fields.Withdrawn (present_names One) part only refl }
+    record { national = λ _. is_absent fields.National (names_in One present_fields) part only refl; withdrawn = λ _. is_absent fields.Withdrawn (names_in One present_fields) part only refl }
 unsaid_of_pack Two part only = record { national = λ h. cc; withdrawn = λ h. cc }
 
 -- the fields of an object gave a pack, so they spell it
-fields_spelled : (version : Version) (part : Data) (found : Found) → HasOnly (present_names version) part → present_at version part ≡ Ok found → SpellsFound version part found
-unfolding present_at
+fields_spelled : (version : Version) (part : Data) (found : Found) → HasOnly (names_in version present_fields) part → present_at version part ≡ Ok found → SpellsFound version part found
 fields_spelled version part found only h =
     let p = made_ok Found (part_of version) present_fields pack_of part found h in
     let v = p.0 in
@@ -68,11 +73,11 @@ none_found (Some x) h = cc
 object_spelled : (version : Version) (part : Data) (found : Found) → present_of version part ≡ Ok found → SpellsFound version part found
 unfolding present_of
 object_spelled version part found h =
-    let refused : Members → Bool = λ ms. is_some (first_unknown (present_names version) ms) in
+    let refused : Members → Bool = λ ms. is_some (first_unknown (names_in version present_fields) ms) in
     let a = both_ok (ok_or (as_object part) NotObject) (λ ms. cond (refused ms) (Err (Kind fields.Found)) (present_at version part)) found h in
     let k = unrefused (refused a.0) (Kind fields.Found) (present_at version part) found a.2 in
     let is_object : part ≡ object a.0 = as_object_ok part a.0 (ok_or_some NotObject (as_object part) a.0 a.1) in
-    fields_spelled version part found (a.0, is_object, all_known (present_names version) (keys_of a.0) (none_found (first_unknown (present_names version) a.0) k.0)) k.1
+    fields_spelled version part found (a.0, is_object, all_known (names_in version present_fields) (keys_of a.0) (none_found (first_unknown (names_in version present_fields) a.0) k.0)) k.1
 
 present_ok : (r : Result Found MessageFault) (found : Found) → ok_or (result_ok r) (Kind fields.Found) ≡ Ok found → r ≡ Ok found
 present_ok (Ok x) found h = cc
@@ -103,7 +108,6 @@ found_ok version d found h =
 
 -- the fields of an object spell a pack, so they give it
 fields_read : (version : Version) (part : Data) (batch : List ℕ) (expiry : CivilDate) (national : Option (List ℕ)) (standing : Standing) (recalled withdrawn : Bool) → SpellsFound version part (Present batch expiry national standing recalled withdrawn) → present_at version part ≡ Ok (Present batch expiry national standing recalled withdrawn)
-unfolding present_at
 fields_read version part batch expiry national standing recalled withdrawn (only, (of_batch, (of_expiry, (of_national, (of_recalled, (of_standing, (of_withdrawn, rest))))))) =
     made_read Found (part_of version) present_fields pack_of part (batch, (expiry, (national, (recalled, (standing, (withdrawn, tt)))))) (
       (parts_agree version fields.Batch).read part batch of_batch,
@@ -130,7 +134,7 @@ part_read version part (Present batch expiry national standing recalled withdraw
     let is_object = h.0.1 in
     let ms = h.0.0 in
     let read : present_of version (object ms) ≡ Ok found =
-    ap (λ o. cond (is_some o) (Err (Kind fields.Found)) (present_at version (object ms))) (none_unknown (present_names version) (keys_of ms) h.0.2)
+    ap (λ o. cond (is_some o) (Err (Kind fields.Found)) (present_at version (object ms))) (none_unknown (names_in version present_fields) (keys_of ms) h.0.2)
     ∙ ap (present_at version) (sym is_object)
     ∙ fields_read version part batch expiry national standing recalled withdrawn h in
     ap (found_of version) is_object ∙ ap (λ r. ok_or (result_ok r) (Kind fields.Found)) read

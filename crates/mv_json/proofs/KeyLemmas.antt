@@ -1,5 +1,5 @@
 -- The keys of the values of messages stand in byte order.
-use Rattle.std.proofs.Common.{List, [], ◌∷◌, ℕ, refl}
+use Rattle.std.proofs.Common.{List, [], ◌∷◌, ℕ, subst, refl}
 use Rattle.std.specs.Prelude.{Some, None}
 use Rattle.std.specs.Ordering.{nat_cmp}
 use Rattle.std.specs.Cmp.Lexicographic.{slice_cmp}
@@ -11,10 +11,12 @@ use Rattle.mv_message.specs.declared.message.Message.TheVariants as messages
 use Rattle.mv_json.specs.declared.version.Version.{Version}
 use Rattle.mv_json.specs.declared.version.Version.TheVariants.{One, Two}
 use Rattle.mv_json.specs.Keys.{KeysAscend, ItemsKeysAscend}
-use Rattle.mv_json.specs.Messages.{value_in, value_of}
-use Rattle.mv_json.specs.Values.{strings, found_version}
+use Rattle.mv_json.specs.Messages.{value_of}
+use Rattle.mv_json.specs.Values.{strings}
 use Rattle.mv_json.specs.Found.{found_value}
+use Rattle.mv_json.specs.Objects.{found_version}
 use Rattle.mv_json.proofs.OrderLemmas.{rises, strictly_sorted}
+use Rattle.mv_json.proofs.ValueLemmas.{value_in, answer_version}
 
 texts_ascend : (texts : List (List ℕ)) → ItemsKeysAscend (strings texts)
 texts_ascend [] = tt
@@ -43,4 +45,6 @@ keys_ascend (messages.Recall key at) = (strictly_sorted (slice_cmp nat_cmp) _ re
 keys_ascend (messages.Repack before before_serials after after_serials at) = (strictly_sorted (slice_cmp nat_cmp) _ refl, (tt, (tt, (texts_ascend after_serials, (tt, (tt, (tt, (texts_ascend before_serials, (tt, tt)))))))))
 keys_ascend (messages.Withdraw gtin at) = (strictly_sorted (slice_cmp nat_cmp) _ refl, (tt, (tt, (tt, (tt, tt)))))
 keys_ascend (messages.Query key) = (strictly_sorted (slice_cmp nat_cmp) _ refl, (tt, (tt, (tt, tt))))
-keys_ascend (messages.Answer asker q key found) = answer_ascends (found_version found) asker q key found
+keys_ascend (messages.Answer asker q key found) =
+    subst (λ version. KeysAscend (value_in version (messages.Answer asker q key found))) (answer_version asker q key found)
+    (answer_ascends (found_version found) asker q key found)

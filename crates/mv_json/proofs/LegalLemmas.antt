@@ -1,5 +1,5 @@
 -- What is read is legal, and the value of what is legal spells it.
-use Rattle.std.proofs.Common.{◌≡◌, ◌∙◌, ℕ, true, false, cond, List, ap, refl}
+use Rattle.std.proofs.Common.{◌≡◌, ◌∙◌, ℕ, true, false, cond, List, ap, subst, refl}
 use Rattle.std.specs.Prelude.{Option, Some, None, Ok, IsUtf8}
 use Rattle.std.specs.Option.{ok_or}
 use Rattle.serde_json.specs.Data.{Data, object, Members}
@@ -18,21 +18,22 @@ use Rattle.mv_message.specs.declared.message.Message.TheVariants as messages
 use Rattle.mv_json.specs.declared.version.Version.{Version}
 use Rattle.mv_json.specs.declared.version.Version.TheVariants.{One, Two}
 use Rattle.mv_json.specs.FieldMeanings.{IsNational, part_of}
-use Rattle.mv_json.specs.Found.{present_names, said_of_pack, found_value, SpellsFound}
+use Rattle.mv_json.specs.Fields.{names_in}
+use Rattle.mv_json.specs.Found.{present_fields, said_of_pack, found_value, SpellsFound}
 use Rattle.mv_json.specs.Meanings.{AreLegal}
 use Rattle.mv_json.specs.Legal.{IsLegal}
 use Rattle.mv_json.specs.Members.{keys_of, first_unknown}
-use Rattle.mv_json.specs.Messages.{read_message, read_bytes, value_in, value_of}
+use Rattle.mv_json.specs.Objects.{found_version}
+use Rattle.mv_json.specs.Messages.{read_message, read_bytes, value_of}
 use Rattle.mv_json.specs.Reading.{◌and_then◌}
 use Rattle.mv_json.specs.Reads.{Reads}
 use Rattle.mv_json.specs.Shapes.{names_of}
 use Rattle.mv_json.specs.Spellings.{HasOnly}
-use Rattle.mv_json.specs.Values.{found_version}
 use Rattle.mv_json.proofs.FormLemmas.{all_known}
 use Rattle.mv_json.proofs.MeaningLemmas.{parts_agree}
 use Rattle.mv_json.proofs.ReadsLemmas.{spelled_is_read}
 use Rattle.mv_json.proofs.SpelledLemmas.{read_is_spelled}
-use Rattle.mv_json.proofs.ValueLemmas.{utf8_test}
+use Rattle.mv_json.proofs.ValueLemmas.{value_in, answer_version, utf8_test}
 
 national_legal : (version : Version) (o : Option (List ℕ)) → IsNational version o → IsNational Two o
 national_legal version None h = tt
@@ -84,11 +85,11 @@ only names ms h = (ms, refl, all_known names (keys_of ms) h)
 found_spelled : (found : Found) → IsLegalPack found → SpellsFound (found_version found) (found_value (found_version found) found) found
 found_spelled Absent h = refl
 found_spelled (Present batch expiry None standing recalled false) (of_batch, (of_expiry, (of_national, rest))) =
-    (only (present_names One) _ refl, ((refl, of_batch), ((expiry_text expiry, refl, read_expiry_text expiry of_expiry), ((refl, of_national), ((refl, tt), ((refl, tt), ((refl, refl), tt)))))))
+    (only (names_in One present_fields) _ refl, ((refl, of_batch), ((expiry_text expiry, refl, read_expiry_text expiry of_expiry), ((refl, of_national), ((refl, tt), ((refl, tt), ((refl, refl), tt)))))))
 found_spelled (Present batch expiry None standing recalled true) (of_batch, (of_expiry, (of_national, rest))) =
-    (only (present_names Two) _ refl, ((refl, of_batch), ((expiry_text expiry, refl, read_expiry_text expiry of_expiry), ((refl, of_national), ((refl, tt), ((refl, tt), ((refl, tt), tt)))))))
+    (only (names_in Two present_fields) _ refl, ((refl, of_batch), ((expiry_text expiry, refl, read_expiry_text expiry of_expiry), ((refl, of_national), ((refl, tt), ((refl, tt), ((refl, tt), tt)))))))
 found_spelled (Present batch expiry (Some number) standing recalled withdrawn) (of_batch, (of_expiry, (of_national, rest))) =
-    (only (present_names Two) _ refl, ((refl, of_batch), ((expiry_text expiry, refl, read_expiry_text expiry of_expiry), ((refl, of_national), ((refl, tt), ((refl, tt), ((refl, tt), tt)))))))
+    (only (names_in Two present_fields) _ refl, ((refl, of_batch), ((expiry_text expiry, refl, read_expiry_text expiry of_expiry), ((refl, of_national), ((refl, tt), ((refl, tt), ((refl, tt), tt)))))))
 
 answer_spelled : (version : Version) (asker q : ℕ) (key : PackKey) (found : Found) → IsLegal (messages.Answer asker q key found) → SpellsFound version (found_value version found) found → Reads (value_in version (messages.Answer asker q key found)) (messages.Answer asker q key found)
 answer_spelled One asker q key found (of_asker, (of_found, (of_gtin, (of_msg, (of_q, (of_serial, (of_v, rest))))))) spells =
@@ -115,7 +116,8 @@ value_spells (messages.Withdraw gtin at) (of_at, (of_gtin, (of_msg, (of_v, rest)
 value_spells (messages.Query key) (of_gtin, (of_msg, (of_serial, (of_v, rest)))) =
     (One, (only (names_of One forms.Query) _ refl, ((key.gtin, refl, read_gtin_of key.gtin of_gtin), ((refl, tt), ((refl, of_serial), ((refl, tt), tt))))))
 value_spells (messages.Answer asker q key found) h =
-    answer_spelled (found_version found) asker q key found h (found_spelled found h.1.0)
+    subst (λ version. Reads (value_in version (messages.Answer asker q key found)) (messages.Answer asker q key found)) (answer_version asker q key found)
+    (answer_spelled (found_version found) asker q key found h (found_spelled found h.1.0))
 
 -- each legal message is read back from its value
 pub reads_back : (m : Message) → IsLegal m → read_message (value_of m) ≡ Ok m

@@ -1,7 +1,7 @@
 -- What reading a part of a value gives, backwards and forwards.
 use Rattle.std.proofs.Common.{◌≡◌, ◌∙◌, ◌≤◌, ◌||◌, ◌&&◌, ℕ, Bool, true, false, cond, List, [], ◌∷◌, length, ap, ap₂, subst, refl, arith}
 use Rattle.std.specs.Prelude.{bytes_eq, find, option_map, Option, Some, None, Result, Ok, Err, ◌==◌, nat_lt}
-use Rattle.std.specs.Option.{ok_or}
+use Rattle.std.specs.Option.{ok_or, option_map_or}
 use Rattle.std.proofs.lemmas.Bool.Decides.{nat_tests}
 use Rattle.std.proofs.lemmas.Slice.Eq.{bytes_eq-Decides}
 use Rattle.std.specs.List.{AllByRecursion, list_all}
@@ -24,7 +24,7 @@ use Rattle.mv_message.specs.declared.standing.Standing.TheVariants.{Active, Supp
 use Rattle.mv_message.specs.Standings.{standing_name, standings, standing_named}
 use Rattle.mv_json.specs.Reading.{◌and_then◌, map_err, member_at, text_at, read_at, standing_at, national_of, national_at, free_text_at, each_of, as_list, read_each, list_at}
 use Rattle.mv_json.specs.Spellings.{Has, Spells}
-use Rattle.mv_json.specs.Values.{strings, text_or_null, since_two}
+use Rattle.mv_json.specs.Values.{strings, since_two}
 use Rattle.mv_json.specs.declared.version.Version.{Version}
 use Rattle.mv_json.specs.declared.version.Version.TheVariants.{One, Two}
 use Rattle.mv_json.specs.Limits.{most_text_bytes}
@@ -186,7 +186,7 @@ some_number f t o h =
     let p = both_ok (map_err (Pack f) (read_code t)) (λ n. Ok (Some n)) o h in (p.0, of_field_ok f (read_code t) p.0 p.1, cc)
 
 -- what a value is where it gives that national number, or none
-national_same : (f : Field) (part : Data) (o : Option (List ℕ)) → national_of f part ≡ Ok o → (part ≡ text_or_null o) × IsNational Two o
+national_same : (f : Field) (part : Data) (o : Option (List ℕ)) → national_of f part ≡ Ok o → (part ≡ option_map_or string o null) × IsNational Two o
 national_same f null None h = (refl, tt)
 national_same f null (Some n) h = cc
 national_same f (string t) None h = let s = some_number f t None h in cc
@@ -202,7 +202,7 @@ national_same f (object ms) o h = cc
 
 -- what a field is that says that national number, or none
 abbrev pub HasNational : Version → Field → Data → Option (List ℕ) → Type 0
-HasNational version f d o = (get (field_name f) d ≡ since_two version (text_or_null o)) × IsNational version o
+HasNational version f d o = (get (field_name f) d ≡ since_two version (option_map_or string o null)) × IsNational version o
 
 -- a field that is read as a national number, or none, is written so
 pub national_ok : (version : Version) (f : Field) (d : Data) (o : Option (List ℕ)) → (version ≡ One → get (field_name f) d ≡ None) → national_at version f d ≡ Ok o → HasNational version f d o

@@ -17,12 +17,12 @@ use Rattle.mv_json.specs.declared.version.Version.TheVariants.{Two}
 use Rattle.mv_pack.specs.declared.key.BatchKey.{BatchKey}
 use Rattle.mv_pack.specs.declared.key.PackKey.{PackKey}
 use Rattle.mv_json.specs.Messages.{read_message}
-use Rattle.mv_json.specs.Reads.{ReadsIn, Reads}
+use Rattle.mv_json.specs.Reads.{Reads}
 use Rattle.mv_json.specs.Shapes.{meaning_of, shape_of, message_at}
 use Rattle.mv_json.proofs.FormLemmas.{reopened}
 use Rattle.mv_json.proofs.FoundLemmas.{found_read}
 use Rattle.mv_json.proofs.MeaningLemmas.{Values, AreRead, made, made_read, parts_agree}
-use Rattle.mv_json.proofs.SpelledLemmas.{read_is_spelled}
+use Rattle.mv_json.proofs.SpelledLemmas.{ReadsIn, read_is_spelled}
 
 -- the fields of an object are read as values that make a message
 given_read : (version : Version) (form : Form) (d : Data) (values : Values (meaning_of version form) (shape_of version form).listed) → AreRead (meaning_of version form) (shape_of version form).listed d values → message_at version form d ≡ Ok (made Message (meaning_of version form) (shape_of version form).listed (shape_of version form).makes values)

@@ -8,14 +8,21 @@ use Rattle.mv_json.specs.declared.form.Form.TheVariants as forms
 use Rattle.mv_message.specs.declared.message.Message.{Message}
 use Rattle.mv_json.specs.declared.version.Version.{Version}
 use Rattle.mv_json.specs.declared.version.Version.TheVariants.{One, Two}
+use Rattle.mv_json.specs.Contents.{contents_of}
 use Rattle.mv_json.specs.Fields.{field_name}
+use Rattle.mv_json.specs.Forms.{form_of}
+use Rattle.mv_json.specs.Meanings.{AreSpelled}
 use Rattle.mv_json.specs.Messages.{read_message}
-use Rattle.mv_json.specs.Reads.{ReadsIn, Reads}
+use Rattle.mv_json.specs.Reads.{Reads}
 use Rattle.mv_json.specs.Shapes.{meaning_of, shape_of, names_of, message_at}
 use Rattle.mv_json.specs.Spellings.{HasOnly}
 use Rattle.mv_json.proofs.FormLemmas.{IsIn, IsOfForm, IsOfVersion, opened}
 use Rattle.mv_json.proofs.FoundLemmas.{found_ok}
 use Rattle.mv_json.proofs.MeaningLemmas.{Values, AreRead, made, made_ok, Unsaid, is_apart, is_absent, parts_agree}
+
+-- the value is an object of that version with exactly the message's fields, each a spelling of what the message's says
+abbrev pub ReadsIn : Version → Data → Message → Type 0
+ReadsIn version d m = HasOnly (names_of version (form_of m)) d × AreSpelled (meaning_of version (form_of m)) (contents_of version m) d
 
 -- the names of the fields of a form leave out what came with the second version
 no_national : (form : Form) → is_apart (field_name fields.National) (names_of One form) ≡ true

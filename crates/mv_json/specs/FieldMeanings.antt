@@ -1,7 +1,8 @@
 -- What each field means that is no object: the table by which it is read, written and spelled, and by which its values are legal.
 use Rattle.std.specs.Prelude.{◌≡◌, ◌≤◌, ◌<◌, ◌^◌, ⊤, ℕ, false, Bool, List, length, Option, Some, None}
 use Rattle.std.specs.List.{AllByRecursion}
-use Rattle.serde_json.specs.Data.{boolean, string, array}
+use Rattle.std.specs.Option.{option_map_or}
+use Rattle.serde_json.specs.Data.{null, boolean, string, array}
 use Rattle.mv_pack.specs.Code.{IsCode, read_code}
 use Rattle.mv_pack.specs.Expiry.{IsExpiry, expiry_text, read_expiry}
 use Rattle.mv_pack.specs.Gtin.{IsGtin, read_gtin}
@@ -16,7 +17,7 @@ use Rattle.mv_json.specs.Limits.{most_markets, most_serials, most_text_bytes}
 use Rattle.mv_json.specs.Meanings.{Meaning, text_of, if_said, exactly}
 use Rattle.mv_json.specs.Numbers.{truth_at, withdrawn_at, moment_at, number_at, count_at}
 use Rattle.mv_json.specs.Reading.{read_at, list_at, standing_at, free_text_at, national_at}
-use Rattle.mv_json.specs.Values.{strings, whole, text_or_null, since_two}
+use Rattle.mv_json.specs.Values.{strings, whole, since_two}
 
 -- a text of 1 to 200 bytes
 abbrev pub IsFreeText : List ℕ → Type 0
@@ -69,7 +70,8 @@ kind_of version fields.Expiry = text_of read_expiry expiry_text IsExpiry
 kind_of version fields.Gtin = product_code
 kind_of version fields.Markets =
     exactly (list_at read_market most_markets) (λ markets. array (strings markets)) (IsListOf IsMarket most_markets)
-kind_of version fields.National = if_said (national_at version) (λ number. since_two version (text_or_null number)) (IsNational version)
+kind_of version fields.National =
+    if_said (national_at version) (λ number. since_two version (option_map_or string number null)) (IsNational version)
 kind_of version fields.Q = exactly count_at whole (λ number. (1 ≤ number) × (number < 2 ^ 32))
 kind_of version fields.Recalled = exactly truth_at boolean (λ truth. ⊤)
 kind_of version fields.Serial = code

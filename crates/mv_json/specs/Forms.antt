@@ -46,5 +46,4 @@ form_named version text = find (λ form. bytes_eq text (form_name form)) (forms_
 
 -- the form of an object: M3, M5
 unfoldable pub form_at : Version → Data → Result Form MessageFault
-form_at version value =
-    text_at fields.Msg value and_then λ text. ok_or (form_named version text) (Kind fields.Msg)
+form_at version value = text_at fields.Msg value and_then λ text. ok_or (form_named version text) (Kind fields.Msg)

@@ -1,9 +1,9 @@
 -- What was found of a pack, as an object of an answer.
-use Rattle.std.specs.Prelude.{◌≡◌, ℕ, if◌then◌else◌, List, [], ◌∷◌, is_some, Result, Ok, Err}
+use Rattle.std.specs.Prelude.{◌≡◌, if◌then◌else◌, List, [], ◌∷◌, is_some, Result, Ok, Err}
 use Rattle.std.specs.Option.{ok_or}
 use Rattle.std.specs.Result.{result_ok}
 use Rattle.serde_json.specs.Data.{Data, null}
-use Rattle.serde_json.specs.Find.{as_object}
+use Rattle.serde_json.specs.Find.{as_null, as_object}
 use Rattle.mv_json.specs.declared.field.Field.{Field}
 use Rattle.mv_json.specs.declared.field.Field.TheVariants as fields
 use Rattle.mv_json.specs.declared.fault.MessageFault.{MessageFault}
@@ -15,22 +15,12 @@ use Rattle.mv_json.specs.FieldMeanings.{part_of}
 use Rattle.mv_json.specs.Fields.{names_in}
 use Rattle.mv_json.specs.Meanings.{Said, made_at, object_of, AreSpelled}
 use Rattle.mv_json.specs.Members.{first_unknown}
-use Rattle.mv_json.specs.Reading.{◌and_then◌, member_at, is_null}
+use Rattle.mv_json.specs.Reading.{◌and_then◌, member_at}
 use Rattle.mv_json.specs.Spellings.{HasOnly}
 
 -- the fields of a pack that was found, in byte order of their names
 abbrev pub present_fields : List Field
 present_fields = fields.Batch ∷ fields.Expiry ∷ fields.National ∷ fields.Recalled ∷ fields.Standing ∷ fields.Withdrawn ∷ []
-
--- the names of these fields
-abbrev pub present_names : Version → List (List ℕ)
-present_names version = names_in version present_fields
-
--- the pack that the fields of an object give
-unfoldable pub present_at : Version → Data → Result Found MessageFault
-present_at version value =
-    made_at (part_of version) present_fields
-    (λ batch expiry national recalled standing withdrawn. Present batch expiry national standing recalled withdrawn) value
 
 -- what the fields of a pack say
 abbrev pub said_of_pack : (version : Version) → Found → List (Said (part_of version))
@@ -39,17 +29,18 @@ said_of_pack version (Present batch expiry national standing recalled withdrawn)
     (fields.Batch, batch) ∷ (fields.Expiry, expiry) ∷ (fields.National, national) ∷ (fields.Recalled, recalled)
     ∷ (fields.Standing, standing) ∷ (fields.Withdrawn, withdrawn) ∷ []
 
--- the pack that an object is, which has no other key than its fields
+-- the pack that the fields of an object give, which has no other key
 unfoldable pub present_of : Version → Data → Result Found MessageFault
 present_of version value =
     ok_or (as_object value) NotObject and_then λ members.
-    if is_some (first_unknown (present_names version) members) then Err (Kind fields.Found)
-    else present_at version value
+    if is_some (first_unknown (names_in version present_fields) members) then Err (Kind fields.Found)
+    else made_at (part_of version) present_fields
+    (λ batch expiry national recalled standing withdrawn. Present batch expiry national standing recalled withdrawn) value
 
 -- what a value says was found: nothing where it is `null`; M5 of `found` where it is neither `null` nor a legal pack
 abbrev pub found_of : Version → Data → Result Found MessageFault
 found_of version value =
-    if is_null value then Ok Absent else ok_or (result_ok (present_of version value)) (Kind fields.Found)
+    if is_some (as_null value) then Ok Absent else ok_or (result_ok (present_of version value)) (Kind fields.Found)
 
 -- what the field `found` says: M3, M5
 unfoldable pub found_at : Version → Data → Result Found MessageFault
@@ -64,4 +55,4 @@ found_value version found = object_of (part_of version) (said_of_pack version fo
 abbrev pub SpellsFound : Version → Data → Found → Type 0
 SpellsFound version part Absent = part ≡ null
 SpellsFound version part found =
-    HasOnly (present_names version) part × AreSpelled (part_of version) (said_of_pack version found) part
+    HasOnly (names_in version present_fields) part × AreSpelled (part_of version) (said_of_pack version found) part

@@ -47,8 +47,7 @@ FirstFaultIsGiven =
 
 -- the fields of a message are in byte order of their names, each once
 abbrev pub FieldsAreInOrder : Type 0
-FieldsAreInOrder =
-    (version : Version) (form : Form) → IsStrictlySortedBy (slice_cmp nat_cmp) (names_of version form)
+FieldsAreInOrder = (version : Version) (form : Form) → IsStrictlySortedBy (slice_cmp nat_cmp) (names_of version form)
 
 -- the keys of each object in the value of a message ascend
 abbrev pub KeysOfValuesAscend : Type 0

@@ -1,5 +1,5 @@
 -- What a field means: how its values are read, written and spelled, and which are legal; and what the fields of an object say.
-use Rattle.std.specs.Prelude.{◌≡◌, ℕ, List, [], ◌∷◌, map, Option, Some, None, Result, Ok}
+use Rattle.std.specs.Prelude.{◌≡◌, ℕ, List, [], ◌∷◌, filter_map, Option, Some, None, option_map, Result, Ok}
 use Rattle.std.specs.List.{AllByRecursion}
 use Rattle.std.specs.Option.{option_or}
 use Rattle.std.specs.Result.{result_err}
@@ -65,9 +65,10 @@ first_fault meaning (field ∷ rest) value = option_or (result_err ((meaning fie
 abbrev pub Said : (Field → Meaning) → Type 0
 Said meaning = (field : Field) × (meaning field).Value
 
--- the object whose fields say that
+-- the object whose fields say that; where nothing is said there is no member
 abbrev pub object_of : (meaning : Field → Meaning) → List (Said meaning) → Data
-object_of meaning said = object (members_with (map (λ (field, x). (field, (meaning field).written x)) said))
+object_of meaning said =
+    object (members_with (filter_map (λ (field, x). option_map (λ value. (field_name field, value)) ((meaning field).written x)) said))
 
 -- the fields of the object spell that
 abbrev pub AreSpelled : (meaning : Field → Meaning) → List (Said meaning) → Data → Type 0

@@ -1,5 +1,5 @@
 -- The keys of a JSON object, in the byte order in which an object holds them.
-use Rattle.std.specs.Prelude.{ℕ, not, Bool, List, [], ◌∷◌, bytes_eq, find, Option}
+use Rattle.std.specs.Prelude.{ℕ, not, List, [], ◌∷◌, bytes_eq, find, Option}
 use Rattle.std.specs.List.{list_any}
 use Rattle.serde_json.specs.Data.{Members, no_members, member}
 
@@ -8,10 +8,6 @@ abbrev pub keys_of : Members → List (List ℕ)
 keys_of no_members = []
 keys_of (member key value members) = key ∷ keys_of members
 
--- whether a name is one of these
-abbrev pub is_among : List (List ℕ) → List ℕ → Bool
-is_among names name = list_any (bytes_eq name) names
-
 -- the first key of an object that is none of these names
 abbrev pub first_unknown : List (List ℕ) → Members → Option (List ℕ)
-first_unknown names members = find (λ key. not (is_among names key)) (keys_of members)
+first_unknown names members = find (λ key. not (list_any (bytes_eq key) names)) (keys_of members)

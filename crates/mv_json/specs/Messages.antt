@@ -1,5 +1,5 @@
 -- Messages: what reading a value or bytes gives, and the JSON value of each.
-use Rattle.std.specs.Prelude.{ℕ, List, if◌then◌else◌, Option, Some, None, Result}
+use Rattle.std.specs.Prelude.{ℕ, true, List, if◌then◌else◌, Option, Some, None, Result}
 use Rattle.std.specs.Option.{ok_or}
 use Rattle.std.specs.Str.{is_utf8}
 use Rattle.serde_json.specs.Data.{Data}
@@ -7,6 +7,7 @@ use Rattle.serde_json.specs.Find.{as_object}
 use Rattle.serde_json.specs.Read.{read}
 use Rattle.mv_json.specs.declared.fault.MessageFault.{MessageFault}
 use Rattle.mv_json.specs.declared.fault.MessageFault.TheVariants.{NotJson, NotObject}
+use Rattle.mv_message.specs.declared.found.Found.TheVariants.{Present}
 use Rattle.mv_message.specs.declared.message.Message.{Message}
 use Rattle.mv_message.specs.declared.message.Message.TheVariants as messages
 use Rattle.mv_json.specs.declared.version.Version.{Version}
@@ -17,7 +18,6 @@ use Rattle.mv_json.specs.Forms.{form_of, form_at}
 use Rattle.mv_json.specs.Meanings.{object_of}
 use Rattle.mv_json.specs.Shapes.{meaning_of, known_form_at, message_at}
 use Rattle.mv_json.specs.Versions.{version_at}
-use Rattle.mv_json.specs.Values.{found_version}
 
 -- The message that a value is, or the first fault: M2, M5 of `v`, those of `msg`, M4, then those of each field.
 unfoldable pub read_message : Data → Result Message MessageFault
@@ -36,17 +36,16 @@ json_value bytes = if is_utf8 bytes then read bytes else None
 abbrev pub read_bytes : List ℕ → Result Message MessageFault
 read_bytes bytes = ok_or (json_value bytes) NotJson and_then read_message
 
--- the first version that says all that a message holds
+-- The first version that says all that a message holds: the second where it has a national number, is a withdrawal, or says that
+-- the product of a pack is withdrawn.
 abbrev pub message_version : Message → Version
 message_version (messages.Upload gtin batch expiry (Some national) serials) = Two
 message_version (messages.Withdraw gtin at) = Two
-message_version (messages.Answer asker q key found) = found_version found
+message_version (messages.Answer asker q key (Present batch expiry (Some national) standing recalled withdrawn)) = Two
+message_version (messages.Answer asker q key (Present batch expiry None standing recalled true)) = Two
 message_version message = One
-
--- the value of a message in a version
-abbrev pub value_in : Version → Message → Data
-value_in version message = object_of (meaning_of version (form_of message)) (contents_of version message)
 
 -- the value of a message
 abbrev pub value_of : Message → Data
-value_of message = value_in (message_version message) message
+value_of message =
+    object_of (meaning_of (message_version message) (form_of message)) (contents_of (message_version message) message)

@@ -34,8 +34,7 @@ moment_at field value = whole_at field value and_then λ seconds. map_err (Pack 
 
 -- the whole number of a field, up to 4,294,967,295: M3, M5
 unfoldable pub number_at : Field → Data → Result ℕ MessageFault
-number_at field value =
-    whole_at field value and_then λ number. if nat_lt number (2 ^ 32) then Ok number else Err (Kind field)
+number_at field value = whole_at field value and_then λ number. if nat_lt number (2 ^ 32) then Ok number else Err (Kind field)
 
 -- the whole number of a field, from 1 to 4,294,967,295: M3, M5
 unfoldable pub count_at : Field → Data → Result ℕ MessageFault

@@ -1,8 +1,13 @@
 -- The members that an object is put together from.
-use Rattle.std.specs.Prelude.{ℕ, List, [], ◌∷◌}
+use Rattle.std.specs.Prelude.{ℕ, false, List, [], ◌∷◌, None}
+use Rattle.std.specs.Option.{option_map_or}
 use Rattle.serde_json.specs.Data.{Data, null, boolean, string, array, object, Members, no_members, member, put}
 use Rattle.mv_pack.specs.Expiry.{expiry_text}
-use Rattle.mv_json.specs.Values.{strings, whole, text_or_null}
+use Rattle.mv_message.specs.declared.found.Found.{Found}
+use Rattle.mv_message.specs.declared.found.Found.TheVariants.{Absent, Present}
+use Rattle.mv_json.specs.declared.version.Version.{Version}
+use Rattle.mv_json.specs.declared.version.Version.TheVariants.{One, Two}
+use Rattle.mv_json.specs.Values.{strings, whole}
 use Rattle.mv_json.specs.declared.member.Member.{Member}
 use Rattle.mv_json.specs.declared.member.Member.TheVariants as parts
 
@@ -24,7 +29,7 @@ member_value (parts.Text name text) = string text.now
 member_value (parts.Whole name number) = whole number
 member_value (parts.Truth name truth) = boolean truth
 member_value (parts.Expiry name expiry) = string (expiry_text expiry.now)
-member_value (parts.National name national) = text_or_null national.now
+member_value (parts.National name national) = option_map_or string national.now null
 member_value (parts.Serials name serials) = array (strings serials.now)
 member_value (parts.Markets name markets) = array (strings markets.now)
 
@@ -42,3 +47,9 @@ nested_members first name inner rest =
 abbrev pub put_all : List Member → Members → Members
 put_all [] members = members
 put_all (part ∷ rest) members = put_all rest (put (name_of part) (member_value part) members)
+
+-- the version in which an answer that this was found is written
+abbrev pub found_version : Found → Version
+found_version Absent = One
+found_version (Present batch expiry None standing recalled false) = One
+found_version found = Two

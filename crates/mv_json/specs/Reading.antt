@@ -1,5 +1,5 @@
 -- What reading a part of a JSON value gives: its meaning, or the first fault.
-use Rattle.std.specs.Prelude.{◌≡◌, ◌≢◌, ℕ, ◌==◌, ◌||◌, Bool, nat_lt, if◌then◌else◌, List, [], ◌∷◌, length, is_some, Option, Some, None, option_and_then, option_map, Result, Ok, Err}
+use Rattle.std.specs.Prelude.{◌≡◌, ◌≢◌, ℕ, ◌==◌, ◌||◌, nat_lt, if◌then◌else◌, List, [], ◌∷◌, length, is_some, Option, Some, None, option_and_then, option_map, Result, Ok, Err}
 use Rattle.std.specs.Option.{ok_or}
 use Rattle.std.specs.Result.{result_map_both}
 use Rattle.serde_json.specs.Data.{Data, Items, no_items, item}
@@ -8,7 +8,7 @@ use Rattle.mv_pack.specs.Code.{read_code}
 use Rattle.mv_pack.specs.declared.fault.PackFault.{PackFault}
 use Rattle.mv_json.specs.declared.field.Field.{Field}
 use Rattle.mv_json.specs.declared.fault.MessageFault.{MessageFault}
-use Rattle.mv_json.specs.declared.fault.MessageFault.TheVariants.{Missing, Kind, Pack, Count, TextLength, Memory}
+use Rattle.mv_json.specs.declared.fault.MessageFault.TheVariants.{Missing, Kind, Pack, Count, TextLength}
 use Rattle.mv_message.specs.declared.standing.Standing.{Standing}
 use Rattle.mv_json.specs.declared.version.Version.{Version}
 use Rattle.mv_json.specs.declared.version.Version.TheVariants.{One, Two}
@@ -48,14 +48,10 @@ free_text_at field value =
     text_at field value and_then λ text.
     if (length text == 0) || nat_lt most_text_bytes (length text) then Err (TextLength field) else Ok text
 
--- whether a value is `null`
-abbrev pub is_null : Data → Bool
-is_null value = is_some (as_null value)
-
 -- a national number, or none where there is `null`: M5, M6
 abbrev pub national_of : Field → Data → Result (Option (List ℕ)) MessageFault
 national_of field found =
-    if is_null found then Ok None
+    if is_some (as_null found) then Ok None
     else (ok_or (as_str found) (Kind field) and_then λ text.
     map_err (Pack field) (read_code text) and_then λ number. Ok (Some number))
 
@@ -87,7 +83,7 @@ list_at reader most field value =
     ok_or (as_list as_str found) (Kind field) and_then λ texts.
     if (length texts == 0) || nat_lt most (length texts) then Err (Count field) else read_each reader field texts
 
--- A function returned what reading gives, or memory was refused.
-abbrev pub Gives : {A : Type 0} → Result A MessageFault → Result A MessageFault → Type 0
-Gives (Ok meaning) reading = reading ≡ Ok meaning
-Gives (Err fault) reading = fault ≢ Memory → reading ≡ Err fault
+-- A function returned what reading gives, or that fault in its place.
+abbrev pub GivesOr : {A E : Type 0} → Result A E → Result A E → E → Type 0
+GivesOr (Ok meaning) reading other = reading ≡ Ok meaning
+GivesOr (Err fault) reading other = fault ≢ other → reading ≡ Err fault

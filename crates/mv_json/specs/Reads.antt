@@ -8,12 +8,8 @@ use Rattle.mv_json.specs.Meanings.{AreSpelled}
 use Rattle.mv_json.specs.Shapes.{meaning_of, names_of}
 use Rattle.mv_json.specs.Spellings.{HasOnly}
 
--- the value is an object of that version with exactly the message's fields, each a spelling of what the message's says
-abbrev pub ReadsIn : Version → Data → Message → Type 0
-ReadsIn version value message =
-    HasOnly (names_of version (form_of message)) value
-    × AreSpelled (meaning_of version (form_of message)) (contents_of version message) value
-
--- the value is an object with exactly the fields of the message in one of the versions, each a spelling of the message's
+-- the value is an object with exactly the fields of the message in one of the versions, each a spelling of what the message's says
 abbrev pub Reads : Data → Message → Type 0
-Reads value message = (version : Version) × ReadsIn version value message
+Reads value message =
+    (version : Version) × (HasOnly (names_of version (form_of message)) value
+    × AreSpelled (meaning_of version (form_of message)) (contents_of version message) value)

@@ -2,7 +2,7 @@
 
 ghost use Rattle.std.specs.Prelude.{◌≡◌, ◌≢◌, IfErr, IsSome, map};
 ghost use Rattle.serde_json.specs.View.{view, members_view};
-ghost use Rattle.mv_json.specs.Reading.{Gives};
+ghost use Rattle.mv_json.specs.Reading.{GivesOr};
 ghost use Rattle.mv_json.specs.Forms.{form_named, form_at};
 ghost use Rattle.mv_json.specs.Shapes.{names_of, known_form_at};
 ghost use Rattle.mv_json.specs.Members.{first_unknown};
@@ -116,7 +116,7 @@ pub(crate) fn known_form_at(
     version: Version,
     form: Form,
 ) -> Result<Form, MessageFault>
-    ensures gives { Gives result (known_form_at version form (members_view members.now.entries)) }
+    ensures gives { GivesOr result (known_form_at version form (members_view members.now.entries)) MessageFault.Memory }
     // Memory is asked for only to name another key.
     ensures memory { IfErr result (λ fault. fault ≡ MessageFault.Memory
         → IsSome (first_unknown (names_of version form) (members_view members.now.entries))) }

@@ -2,7 +2,10 @@
 
 ghost use Rattle.std.specs.Prelude.{◌≡◌, ◌≢◌, map, IfErr};
 ghost use Rattle.serde_json.specs.View.{view};
-ghost use Rattle.mv_json.specs.Found.{present_names, present_at, present_of, found_of, found_at};
+ghost use Rattle.mv_json.specs.FieldMeanings.{part_of};
+ghost use Rattle.mv_json.specs.Fields.{names_in};
+ghost use Rattle.mv_json.specs.Found.{present_fields, present_of, found_of, found_at};
+ghost use Rattle.mv_json.specs.Meanings.{made_at};
 ghost use Rattle.mv_json.specs.Numbers.{withdrawn_at};
 
 use crate::members::first_unknown;
@@ -49,7 +52,7 @@ fn present_of(value: &Value, version: Version) -> Result<Found, MessageFault>
 
 /// The names of the fields of a pack that was found, in byte order.
 fn present_names(version: Version) -> &'static [&'static str]
-    ensures { map (λ name. name.now) result.now ≡ present_names version }
+    ensures { map (λ name. name.now) result.now ≡ names_in version present_fields }
 {
     match version {
         Version::One => &["batch", "expiry", "recalled", "standing"],
@@ -65,9 +68,10 @@ fn present_names(version: Version) -> &'static [&'static str]
 }
 
 /// The pack that the fields of an object give.
-#[tactic(auto, unfolding(crate::specs::Found::present_at))]
 fn present_at(value: &Value, version: Version) -> Result<Found, MessageFault>
-    ensures { result ≡ present_at version (view value.now) }
+    ensures { result ≡ made_at (part_of version) present_fields
+        (λ batch expiry national recalled standing withdrawn.
+        Found.Present batch expiry national standing recalled withdrawn) (view value.now) }
 {
     let batch = batch_at(value, Field::Batch)?;
     let expiry = expiry_at(value, Field::Expiry)?;

@@ -8,7 +8,7 @@ ghost use Rattle.serde_json.specs.View.{view, items_view};
 ghost use Rattle.mv_pack.specs.Code.{read_code};
 ghost use Rattle.mv_pack.specs.Market.{read_market};
 ghost use Rattle.mv_json.specs.Lists.{texts_at, read_item, read_items};
-ghost use Rattle.mv_json.specs.Reading.{Gives, list_at};
+ghost use Rattle.mv_json.specs.Reading.{GivesOr, list_at};
 
 use crate::reading::member_at;
 use crate::{Field, MessageFault};
@@ -59,7 +59,7 @@ pub(crate) fn markets_at(
     value: &Value,
     field: Field,
 ) -> Result<Markets, MessageFault>
-    ensures gives { Gives result (list_at read_market most_markets field (view value.now)) }
+    ensures gives { GivesOr result (list_at read_market most_markets field (view value.now)) MessageFault.Memory }
     // Memory is asked for only once the members are known to be texts, and neither too few nor too many.
     ensures memory { IfErr result (λ fault. fault ≡ MessageFault.Memory
         → IsOk (texts_at most_markets field (view value.now))) }
@@ -97,7 +97,7 @@ pub(crate) fn serials_at(
     value: &Value,
     field: Field,
 ) -> Result<Serials, MessageFault>
-    ensures gives { Gives result (list_at read_code most_serials field (view value.now)) }
+    ensures gives { GivesOr result (list_at read_code most_serials field (view value.now)) MessageFault.Memory }
     // Memory is asked for only once the members are known to be texts, and neither too few nor too many.
     ensures memory { IfErr result (λ fault. fault ≡ MessageFault.Memory
         → IsOk (texts_at most_serials field (view value.now))) }

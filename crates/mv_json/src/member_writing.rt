@@ -1,10 +1,11 @@
 //! Puts objects into texts, as the tokens of their members.
 
+ghost use Rattle.std.specs.Option.{option_map_or};
 ghost use Rattle.std.specs.Prelude.{flat_map};
-ghost use Rattle.serde_json.specs.Data.{array, object};
+ghost use Rattle.serde_json.specs.Data.{null, string, array, object};
 ghost use Rattle.mv_json.specs.Objects.{members_of};
 ghost use Rattle.mv_json.specs.Tokens.{Puts, tokens_of, member_tokens};
-ghost use Rattle.mv_json.specs.Values.{strings, text_or_null};
+ghost use Rattle.mv_json.specs.Values.{strings};
 
 use crate::member::{Member, Target};
 use json::Writer;
@@ -95,7 +96,7 @@ fn put_member(writer: &mut Writer, member: Member<'_>) -> Result<(), AllocError>
 
 /// A national number, or `null`.
 fn put_national(writer: &mut Writer, national: &Option<National>) -> Result<(), AllocError>
-    ensures { Puts result writer.old writer.new (tokens_of (text_or_null national.now)) }
+    ensures { Puts result writer.old writer.new (tokens_of (option_map_or string national.now null)) }
 {
     match national {
         Some(number) => writer.string(number.as_str()),

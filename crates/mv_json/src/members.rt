@@ -5,7 +5,7 @@ ghost use Rattle.std.specs.Option.{option_copied};
 ghost use Rattle.std.specs.BTreeMap.{keys};
 ghost use Rattle.std.specs.List.{list_any};
 ghost use Rattle.serde_json.specs.View.{members_view};
-ghost use Rattle.mv_json.specs.Members.{is_among, first_unknown};
+ghost use Rattle.mv_json.specs.Members.{first_unknown};
 
 use serde_json::{Map, Value};
 
@@ -25,7 +25,7 @@ pub fn first_unknown<'a>(members: &'a Map<String, Value>, names: &[&str]) -> Opt
 /// The first such key, as the object holds it.
 fn unknown_key<'a>(members: &'a Map<String, Value>, names: &[&str]) -> Option<&'a String>
     ensures { option_copied result
-        ≡ find (λ key. not (is_among (map (λ name. name.now) names.now) (string_bytes key)))
+        ≡ find (λ key. not (list_any (bytes_eq (string_bytes key)) (map (λ name. name.now) names.now)))
         (keys members.now) }
 {
     members.keys().find(|key| !has_name(names, key.as_str()))
@@ -34,7 +34,7 @@ fn unknown_key<'a>(members: &'a Map<String, Value>, names: &[&str]) -> Option<&'
 /// Whether a key is one of these names.
 #[tactic(auto, using(crate::proofs::MembersLemmas::list_any_of_map))]
 fn has_name(names: &[&str], key: &str) -> bool
-    ensures { result ≡ is_among (map (λ name. name.now) names.now) key.now }
+    ensures { result ≡ list_any (bytes_eq key.now) (map (λ name. name.now) names.now) }
 {
     any_name(names, key)
 }

@@ -2,7 +2,7 @@
 
 ghost use Rattle.std.specs.Prelude.{◌≡◌};
 ghost use Rattle.mv_json.specs.Messages.{value_of};
-ghost use Rattle.mv_json.specs.Values.{found_version};
+ghost use Rattle.mv_json.specs.Objects.{found_version};
 
 use crate::member::{Member, Target};
 use crate::version::Version;

@@ -4,7 +4,7 @@ ghost use Rattle.std.specs.Prelude.{◌≡◌, IfErr};
 ghost use Rattle.serde_json.specs.View.{view};
 ghost use Rattle.mv_json.specs.Memory.{MayTakeMemory};
 ghost use Rattle.mv_json.specs.Messages.{read_bytes, read_message};
-ghost use Rattle.mv_json.specs.Reading.{Gives};
+ghost use Rattle.mv_json.specs.Reading.{GivesOr};
 
 use crate::MessageFault;
 use crate::form::{form_at, known_form_at};
@@ -20,7 +20,7 @@ use std::alloc::Global;
 /// place of any answer where memory was refused.
 #[tactic(auto, using(crate::proofs::ValueLemmas::utf8_test, crate::proofs::ValueLemmas::utf8_fact))]
 pub fn read(alloc: Global, bytes: &[u8]) -> Result<Message, MessageFault>
-    ensures { Gives result (read_bytes bytes.now) }
+    ensures { GivesOr result (read_bytes bytes.now) MessageFault.Memory }
 {
     let value = Value::from_slice(alloc, bytes).map_err(|error| {
         if error.is_memory() {
@@ -40,7 +40,7 @@ pub fn read(alloc: Global, bytes: &[u8]) -> Result<Message, MessageFault>
 /// of a master, an upload, a status or a repack give, which hold texts and lists; in place of nothing else.
 #[tactic(auto, unfolding(crate::specs::Messages::read_message))]
 pub fn from_value(alloc: Global, value: &Value) -> Result<Message, MessageFault>
-    ensures gives { Gives result (read_message (view value.now)) }
+    ensures gives { GivesOr result (read_message (view value.now)) MessageFault.Memory }
     ensures memory { IfErr result (λ fault. fault ≡ MessageFault.Memory
         → MayTakeMemory (view value.now)) }
 {

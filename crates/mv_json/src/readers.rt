@@ -3,7 +3,7 @@
 ghost use Rattle.std.specs.Prelude.{◌≡◌, ◌≢◌, IfErr, IsTrue};
 ghost use Rattle.serde_json.specs.View.{view};
 ghost use Rattle.mv_json.specs.Memory.{holds_texts};
-ghost use Rattle.mv_json.specs.Reading.{Gives};
+ghost use Rattle.mv_json.specs.Reading.{GivesOr};
 ghost use Rattle.mv_json.specs.Shapes.{message_at};
 
 use crate::form::Form;
@@ -27,8 +27,8 @@ pub(crate) fn message_at(
     version: Version,
     form: Form,
 ) -> Result<Message, MessageFault>
-    ensures gives { Gives result (message_at version form (view value.now)) }
-    // Memory is asked for only to keep texts or lists.
+    ensures gives { GivesOr result (message_at version form (view value.now)) MessageFault.Memory }
+    // Memory is asked for only where the messages of the form hold texts or lists, to keep them.
     ensures memory { IfErr result (λ fault. fault ≡ MessageFault.Memory
         → IsTrue (holds_texts form)) }
 {
@@ -47,7 +47,7 @@ pub(crate) fn message_at(
 /// The product master that the fields give.
 #[tactic(auto, unfolding(crate::specs::Shapes::message_at))]
 fn master_at(alloc: Global, value: &Value) -> Result<Message, MessageFault>
-    ensures { (version : Version) → Gives result (message_at version Form.Master (view value.now)) }
+    ensures { (version : Version) → GivesOr result (message_at version Form.Master (view value.now)) MessageFault.Memory }
 {
     let common = free_text_at(alloc, value, Field::Common)?;
     let form = free_text_at(alloc, value, Field::Form)?;
@@ -77,7 +77,7 @@ fn master_at(alloc: Global, value: &Value) -> Result<Message, MessageFault>
 /// The upload that the fields give.
 #[tactic(auto, unfolding(crate::specs::Shapes::message_at))]
 fn upload_at(alloc: Global, value: &Value, version: Version) -> Result<Message, MessageFault>
-    ensures { Gives result (message_at version Form.Upload (view value.now)) }
+    ensures { GivesOr result (message_at version Form.Upload (view value.now)) MessageFault.Memory }
 {
     let batch = batch_at(value, Field::Batch)?;
     let expiry = expiry_at(value, Field::Expiry)?;
@@ -96,7 +96,7 @@ fn upload_at(alloc: Global, value: &Value, version: Version) -> Result<Message, 
 /// The change of standing that the fields give.
 #[tactic(auto, unfolding(crate::specs::Shapes::message_at))]
 fn status_at(alloc: Global, value: &Value) -> Result<Message, MessageFault>
-    ensures { (version : Version) → Gives result (message_at version Form.Status (view value.now)) }
+    ensures { (version : Version) → GivesOr result (message_at version Form.Status (view value.now)) MessageFault.Memory }
 {
     let at = moment_at(value, Field::At)?;
     let gtin = gtin_at(value, Field::Gtin)?;
@@ -130,7 +130,7 @@ fn recall_at(value: &Value) -> Result<Message, MessageFault>
 /// The repackaging that the fields give.
 #[tactic(auto, unfolding(crate::specs::Shapes::message_at))]
 fn repack_at(alloc: Global, value: &Value) -> Result<Message, MessageFault>
-    ensures { (version : Version) → Gives result (message_at version Form.Repack (view value.now)) }
+    ensures { (version : Version) → GivesOr result (message_at version Form.Repack (view value.now)) MessageFault.Memory }
 {
     let after_batch = batch_at(value, Field::AfterBatch)?;
     let after_gtin = gtin_at(value, Field::AfterGtin)?;

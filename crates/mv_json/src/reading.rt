@@ -5,7 +5,7 @@ ghost use Rattle.serde_json.specs.View.{view};
 ghost use Rattle.mv_pack.specs.Code.{read_code};
 ghost use Rattle.mv_pack.specs.Expiry.{read_expiry};
 ghost use Rattle.mv_pack.specs.Gtin.{read_gtin};
-ghost use Rattle.mv_json.specs.Reading.{member_at, text_at, read_at, standing_at, free_text_at, national_of, national_at, is_null, Gives};
+ghost use Rattle.mv_json.specs.Reading.{member_at, text_at, read_at, standing_at, free_text_at, national_of, national_at, GivesOr};
 ghost use Rattle.mv_message.specs.Standings.{standing_named};
 
 use crate::version::Version;
@@ -145,7 +145,7 @@ pub(crate) fn standing_named(name: &str) -> Option<Standing>
 /// The free text of a field: M3, M5, M8.
 #[tactic(auto, unfolding(crate::specs::Reading::free_text_at))]
 pub(crate) fn free_text_at(alloc: Global, value: &Value, field: Field) -> Result<Text, MessageFault>
-    ensures gives { Gives result (free_text_at field (view value.now)) }
+    ensures gives { GivesOr result (free_text_at field (view value.now)) MessageFault.Memory }
     // Memory is asked for only once the text is known to be right.
     ensures memory { IfErr result (λ fault. fault ≡ MessageFault.Memory
         → IsOk (free_text_at field (view value.now))) }

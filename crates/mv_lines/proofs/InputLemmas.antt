@@ -6,7 +6,7 @@ use Rattle.std.specs.Prelude.{cond, ◌==◌, map, filter, Result, Ok, Err, OnOk
 use Rattle.std.specs.Io.BufRead.{strip_last}
 use Rattle.mv_lines.specs.declared.fault.ServeFault.{ServeFault}
 use Rattle.mv_lines.specs.declared.fault.ServeFault.TheVariants.{Read, Write, Memory, TooManyLines, LineTooLong, Start}
-use Rattle.mv_lines.specs.Lines.{whole_from, rest_from, lines_of, has_byte, line_limit, lines_limit, IsUnended, IsShort, KeepLimits}
+use Rattle.mv_lines.specs.Lines.{whole_from, rest_from, lines_of, has_byte, line_limit, lines_limit, IsUnended, KeepLimits}
 use Rattle.mv_lines.specs.Replies.{IsReplies}
 use Rattle.mv_lines.specs.Served.{StopsAt, StopsIn, Stopped}
 use Rattle.mv_lines.specs.Taking.{Taken}
@@ -49,7 +49,7 @@ KeepLimits-nil count few = record { few = omega (arith, few); short = search rul
 pub KeepLimits-append : (count : ℕ) (ps qs : List (List ℕ)) → KeepLimits count ps → KeepLimits (count + length ps) qs → KeepLimits count (ps ++ qs)
 KeepLimits-append count ps qs first next = record {
   few = rw length-append (omega (arith, next.few));
-  short = All-append IsShort ps qs first.short next.short;
+  short = All-append (λ piece. length piece ≤ line_limit) ps qs first.short next.short;
 }
 
 -- the place where a later part stops is one of the whole

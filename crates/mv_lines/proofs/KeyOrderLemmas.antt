@@ -26,7 +26,7 @@ use Rattle.mv_lines.specs.declared.line_fault.LineFault.{LineFault}
 use Rattle.mv_lines.specs.declared.line_fault.LineFault.TheVariants as line
 use Rattle.mv_lines.specs.Fields.{field_name}
 use Rattle.mv_lines.specs.KeyOrder.{IsOrdered, RepliesAreOrdered}
-use Rattle.mv_lines.specs.ReplyLines.{wholes, numbered, refused, refused_field, refused_pack, verdict_value, joint_value, reply_value, refusal_value, message_fault_value, line_fault_value}
+use Rattle.mv_lines.specs.ReplyLines.{wholes, numbered, refused, refused_field, refused_pack, verdict_value, reply_value, refusal_value, message_fault_value, line_fault_value}
 
 -- there is no object in a list of numbers
 wholes_ascend : (ns : List ℕ) → ItemsKeysAscend (wholes ns)
@@ -81,7 +81,7 @@ unfolding rises
 verdict_ordered Authentic = (_, refl, (strictly_sorted (slice_cmp nat_cmp) _ refl, (tt, tt)))
 verdict_ordered (NotAuthentic falsification) = (_, refl, (strictly_sorted (slice_cmp nat_cmp) _ refl, (tt, (tt, tt))))
 
-joint_ordered : (verdict : Joint) → IsOrdered (joint_value verdict)
+joint_ordered : (verdict : Joint) → IsOrdered (reply_value (replies.Joint verdict))
 unfolding rises
 joint_ordered NotAsked = (_, refl, (strictly_sorted (slice_cmp nat_cmp) _ refl, (tt, tt)))
 joint_ordered (Pending left) = (_, refl, (strictly_sorted (slice_cmp nat_cmp) _ refl, (tt, (tt, tt))))

@@ -1,5 +1,5 @@
 -- The laws of lines: of the pieces of an input, and of the line that asks a request.
-use Rattle.std.proofs.Common.{◌≡◌, ◌∙◌, ℕ, ◌^◌, suc, List, [], ◌∷◌, ◌++◌, map, refl, sym, ap, subst, arith, append_assoc, append-nil, true, false, true≢false, lt-ltb}
+use Rattle.std.proofs.Common.{◌≡◌, ◌∙◌, ◌<◌, ℕ, ◌^◌, suc, List, [], ◌∷◌, ◌++◌, map, refl, sym, ap, subst, arith, append_assoc, append-nil, true, false, true≢false, lt-ltb}
 use Rattle.std.specs.Prelude.{cond, ◌==◌, ◌&&◌, length, nat_lt, ok_or, codes, All, Option, Some, None, option_and_then, Result, Ok, Err, IfOk}
 use Rattle.std.specs.List.{AllByRecursion, list_all}
 use Rattle.std.specs.Result.{is_ok}
@@ -26,10 +26,10 @@ use Rattle.mv_machine.specs.declared.step.Step.{Step as AnyStep}
 use Rattle.mv_machine.specs.declared.step.Step.TheVariants as steps
 use Rattle.mv_lines.specs.Kinds.{kind_at, known_kind_at}
 use Rattle.mv_lines.specs.LineLaws.{request_value, IsLegalRequest}
-use Rattle.mv_lines.specs.Meanings.{Has32Bits, AreMarketLists}
+use Rattle.mv_lines.specs.Meanings.{AreMarketLists}
 use Rattle.mv_lines.specs.Lines.{whole_from, rest_from, last_piece, pieces, lines_of, IsUnended}
 use Rattle.mv_json.specs.Reading.{◌and_then◌, map_err, each_of, as_list}
-use Rattle.mv_lines.specs.Reading.{member_at, text_at, of_32_bits, read_at, number_at, message_at, is_market, market_lists, market_lists_at}
+use Rattle.mv_lines.specs.Reading.{member_at, text_at, of_32_bits, read_at, number_at, message_at, market_lists_at}
 use Rattle.mv_lines.specs.Replies.{text_lines}
 use Rattle.mv_lines.specs.Requests.{read_request, request_at}
 use Rattle.mv_lines.specs.declared.field.LineField.{LineField}
@@ -42,6 +42,7 @@ use Rattle.mv_lines.specs.declared.line_fault.LineFault.TheVariants.{Message as 
 use Rattle.mv_lines.specs.declared.request.Request.{Request}
 use Rattle.mv_lines.specs.declared.request.Request.TheVariants.{Open, Step}
 use Rattle.mv_lines.proofs.InputLemmas.{whole_from-append, rest_from-append, lines_of-append}
+use Rattle.mv_lines.proofs.ListLemmas.{is_market, market_lists}
 use Rattle.mv_lines.proofs.PartLemmas.{unended_whole, unended_rest}
 use Rattle.mv_lines.proofs.PlainLineLemmas.{route_request, relay_request, apply_request, repeat_request, close_request, lose_request, verdict_request}
 
@@ -211,6 +212,10 @@ error_gave : {A E : Type 0} (P : A → Type 0) (fault_of : E → LineFault) (rea
     → IfOk (map_err fault_of reading) P
 error_gave P fault_of (Ok x) legal = legal x refl
 error_gave P fault_of (Err fault) legal = tt
+
+-- a number has 32 bits
+abbrev Has32Bits : ℕ → Type 0
+Has32Bits n = n < 2 ^ 32
 
 small_gave : (fault : LineFault) (n : Option ℕ) → IfOk (ok_or (option_and_then of_32_bits n) fault) Has32Bits
 small_gave fault None = tt

@@ -12,7 +12,7 @@ use Rattle.mv_pack.specs.declared.fault.PackFault.TheVariants.{Market}
 use Rattle.mv_json.specs.Lists.{are_texts}
 use Rattle.mv_json.specs.Reading.{◌and_then◌, map_err, each_of, as_list}
 use Rattle.mv_lines.specs.MarketLists.{texts_among, is_text_list, are_text_lists, read_markets, read_market_lists, text_lists, walked_lists_at}
-use Rattle.mv_lines.specs.Reading.{member_at, is_market, market_lists, market_lists_at}
+use Rattle.mv_lines.specs.Reading.{member_at, market_lists_at}
 use Rattle.mv_lines.specs.declared.field.LineField.{LineField}
 use Rattle.mv_lines.specs.declared.line_fault.LineFault.{LineFault}
 use Rattle.mv_lines.specs.declared.line_fault.LineFault.TheVariants.{Kind, Pack}
@@ -28,6 +28,14 @@ all_are_text_lists [] = refl
 all_are_text_lists (v ∷ vs) = ap (λ b. is_text_list (view v) && b) (all_are_text_lists vs)
 
 -- ---- lists of markets, looked at member by member
+
+-- whether a text is a market
+abbrev pub is_market : List ℕ → Bool
+is_market text = is_ok (read_market text)
+
+-- the lists, where all texts in them are markets
+abbrev pub market_lists : LineField → List (List (List ℕ)) → Result (List (List (List ℕ))) LineFault
+market_lists field lists = cond (list_all (list_all is_market) lists) (Ok lists) (Err (Pack field Market))
 
 module _ (field : LineField) where
   -- these texts, where all are markets

@@ -41,10 +41,8 @@ pub record Shape : Type 0 where
 
 -- the shape of the lines of a kind
 abbrev pub shape_of : LineKind → Shape
-shape_of kinds.Open = record {
-  others = fields.Parties ∷ fields.Submissions ∷ fields.Uplink ∷ fields.Window ∷ fields.Wire ∷ [];
-  asks = λ parties submissions uplink window wire. Open parties submissions uplink window wire;
-}
+shape_of kinds.Open =
+    record { others = fields.Parties ∷ fields.Submissions ∷ fields.Uplink ∷ fields.Window ∷ fields.Wire ∷ []; asks = Open }
 shape_of kinds.Submit = record { others = fields.From ∷ fields.Message ∷ []; asks = λ from message. Step (steps.Submit from message) }
 shape_of kinds.Route = record { others = fields.From ∷ []; asks = λ from. Step (steps.Route from) }
 shape_of kinds.Relay = record { others = fields.From ∷ fields.To ∷ []; asks = λ from to. Step (steps.Relay from to) }

@@ -30,21 +30,14 @@ PiecesReadBack =
 
 -- behind a line feed the pieces begin anew
 abbrev pub PiecesCompose : Type 0
-PiecesCompose =
-    (front back : List ℕ) → pieces (front ++ 10 ∷ back) ≡ pieces (front ++ 10 ∷ []) ++ pieces back
+PiecesCompose = (front back : List ℕ) → pieces (front ++ 10 ∷ back) ≡ pieces (front ++ 10 ∷ []) ++ pieces back
 
 -- the lines of two parts with a line feed between them are those of the one and then those of the other
 abbrev pub LinesCompose : Type 0
-LinesCompose =
-    (front back : List ℕ) → lines_of (pieces (front ++ 10 ∷ back))
-    ≡ lines_of (pieces front) ++ lines_of (pieces back)
+LinesCompose = (front back : List ℕ) → lines_of (pieces (front ++ 10 ∷ back)) ≡ lines_of (pieces front) ++ lines_of (pieces back)
 
--- a field of a line, and the value that it has
-abbrev pub Said : Type 0
-Said = (field : LineField) × (meaning_of field).Value
-
--- the line that asks a request: the name of its kind, and its other fields in byte order of their names
-abbrev pub line_of : Request → List ℕ × List Said
+-- the line that asks a request: the name of its kind, and its other fields in byte order of their names, each with its value
+abbrev pub line_of : Request → List ℕ × List ((field : LineField) × (meaning_of field).Value)
 line_of (Open parties submissions uplink window wire) = (
   codes "open",
   (fields.Parties, parties) ∷ (fields.Submissions, submissions) ∷ (fields.Uplink, uplink) ∷ (fields.Window, window) ∷ (fields.Wire, wire) ∷ [],
@@ -73,10 +66,8 @@ IsLegalRequest request = AllByRecursion (λ (field, value). (meaning_of field).I
 
 -- the line that asks a request is read as that request
 abbrev pub RequestsReadBack : Type 0
-RequestsReadBack =
-    (request : Request) → IsLegalRequest request → read_request (request_value request) ≡ Ok request
+RequestsReadBack = (request : Request) → IsLegalRequest request → read_request (request_value request) ≡ Ok request
 
 -- what a line asks is legal
 abbrev pub ReadRequestsAreLegal : Type 0
-ReadRequestsAreLegal =
-    (value : Data) (request : Request) → read_request value ≡ Ok request → IsLegalRequest request
+ReadRequestsAreLegal = (value : Data) (request : Request) → read_request value ≡ Ok request → IsLegalRequest request

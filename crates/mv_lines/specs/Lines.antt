@@ -42,11 +42,7 @@ line_limit = 65536
 abbrev pub lines_limit : ℕ
 lines_limit = 1000000
 
--- a piece is no longer than a line may be, its carriage return counted
-abbrev pub IsShort : List ℕ → Type 0
-IsShort piece = length piece ≤ line_limit
-
--- Behind `count` lines these pieces are no more than a run may have, and none is longer than a line may be.
+-- Behind `count` lines these pieces are no more than a run may have, and none is longer than a line may be, its carriage return counted.
 pub record KeepLimits (count : ℕ) (ps : List (List ℕ)) : Type 0 where
   pub few : count + length ps ≤ lines_limit
-  pub short : All IsShort ps
+  pub short : All (λ piece. length piece ≤ line_limit) ps

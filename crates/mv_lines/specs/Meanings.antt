@@ -22,10 +22,6 @@ pub record Meaning : Type 1 where
   pub value : Value → Data
   pub IsLegal : Value → Type 0
 
--- a number of 32 bits, as types say
-abbrev pub Has32Bits : ℕ → Type 0
-Has32Bits n = n < 2 ^ 32
-
 -- the markets of each party are those of readers
 abbrev pub AreMarketLists : List (List (List ℕ)) → Type 0
 AreMarketLists parties = AllByRecursion (AllByRecursion IsMarket) parties
@@ -34,11 +30,11 @@ AreMarketLists parties = AllByRecursion (AllByRecursion IsMarket) parties
 abbrev pub markets_value : List (List (List ℕ)) → Data
 markets_value parties = array (items_of (map (λ markets. array (strings markets)) parties))
 
--- what each field means: a whole number, where nothing else is said
+-- what each field means: a whole number of 32 bits, where nothing else is said
 abbrev pub meaning_of : LineField → Meaning
 meaning_of fields.Gtin = record { Value = List ℕ; read = read_at read_gtin fields.Gtin; value = string; IsLegal = IsGtin }
 meaning_of fields.Serial = record { Value = List ℕ; read = read_at read_code fields.Serial; value = string; IsLegal = IsCode }
 meaning_of fields.Message = record { Value = Message; read = message_at; value = value_of; IsLegal = IsLegal }
 meaning_of fields.Parties =
     record { Value = List (List (List ℕ)); read = market_lists_at fields.Parties; value = markets_value; IsLegal = AreMarketLists }
-meaning_of field = record { Value = ℕ; read = number_at field; value = whole; IsLegal = Has32Bits }
+meaning_of field = record { Value = ℕ; read = number_at field; value = whole; IsLegal = λ n. n < 2 ^ 32 }

@@ -13,7 +13,6 @@ use Rattle.mv_json.specs.declared.fault.MessageFault.TheVariants as message
 use Rattle.mv_repository.specs.Effect.{code_of as effect_code}
 use Rattle.mv_repository.specs.declared.effect.Effect.{Effect}
 use Rattle.mv_repository.specs.declared.effect.Effect.TheVariants.{Uploaded}
-use Rattle.mv_repository.specs.declared.verdict.Joint.{Joint}
 use Rattle.mv_repository.specs.declared.verdict.Joint.TheVariants.{NotAsked, Pending, Decided}
 use Rattle.mv_repository.specs.declared.verdict.Verdict.{Verdict}
 use Rattle.mv_repository.specs.declared.verdict.Verdict.TheVariants.{Authentic, NotAuthentic}
@@ -80,21 +79,11 @@ abbrev pub refusal_value : Refusal → Data
 refusal_value (Busy party) = object_of ((codes "party", whole party) ∷ (codes "refused", string (codes "S6")) ∷ [])
 refusal_value refusal = refused (refusal_code refusal)
 
--- the reply to an opening with so many parties
-abbrev pub opened_value : ℕ → Data
-opened_value count = numbered (codes "opened") count
-
 -- a verdict on a pack
 abbrev pub verdict_value : Verdict → Data
 verdict_value Authentic = object_of ((codes "verdict", string (codes "authentic")) ∷ [])
 verdict_value (NotAuthentic falsification) =
     object_of ((codes "falsification", boolean falsification) ∷ (codes "verdict", string (codes "not authentic")) ∷ [])
-
--- the verdict of all that were asked
-abbrev pub joint_value : Joint → Data
-joint_value NotAsked = object_of ((codes "verdict", string (codes "not asked")) ∷ [])
-joint_value (Pending left) = object_of ((codes "left", whole left) ∷ (codes "verdict", string (codes "pending")) ∷ [])
-joint_value (Decided verdict) = verdict_value verdict
 
 -- of an upload (E12), how many packs were new and how many were there
 abbrev pub counts_of : Effect → List (List ℕ × Data)
@@ -120,5 +109,7 @@ reply_value (replies.Gap n expected) = object_of ((codes "expected", whole expec
 reply_value (replies.Repeated n) = numbered (codes "repeated") n
 reply_value replies.Closed = object_of ((codes "closed", boolean true) ∷ [])
 reply_value (replies.Lost n) = numbered (codes "lost") n
-reply_value (replies.Joint verdict) = joint_value verdict
+reply_value (replies.Joint NotAsked) = object_of ((codes "verdict", string (codes "not asked")) ∷ [])
+reply_value (replies.Joint (Pending left)) = object_of ((codes "left", whole left) ∷ (codes "verdict", string (codes "pending")) ∷ [])
+reply_value (replies.Joint (Decided verdict)) = verdict_value verdict
 reply_value (replies.Refused refusal) = refusal_value refusal

@@ -1,19 +1,20 @@
 -- What a line may be answered. What is open is the state of the list machine; nothing, before an opening succeeds.
-use Rattle.std.specs.Prelude.{◌≡◌, ℕ, List, length, Option, Some, None, Result, Ok, Err, MatchResult}
+use Rattle.std.specs.Prelude.{◌≡◌, ℕ, List, codes, length, Option, Some, None, Result, Ok, Err, MatchResult}
 use Rattle.serde_json.specs.Data.{Data}
 use Rattle.serde_json.specs.Written.{compact_text}
 use Rattle.mv_hub.specs.Parties.{parties_of}
+use Rattle.mv_json.specs.Reading.{map_err}
 use Rattle.mv_machine.specs.declared.reply.Reply.{Reply}
 use Rattle.mv_machine.specs.declared.step.Step.{Step}
 use Rattle.mv_machine.specs.Limits.{Bounds, limits_of}
 use Rattle.mv_machine.specs.State.{State, opening}
 use Rattle.mv_machine.specs.Runs.{Allows}
 use Rattle.mv_lines.specs.declared.open_fault.OpenFault.{OpenFault}
-use Rattle.mv_lines.specs.declared.open_fault.OpenFault.TheVariants.{NotOpen, AlreadyOpen}
+use Rattle.mv_lines.specs.declared.open_fault.OpenFault.TheVariants.{NotOpen, AlreadyOpen, Parties, Limits}
 use Rattle.mv_lines.specs.declared.request.Request.{Request}
 use Rattle.mv_lines.specs.declared.request.Request.TheVariants as requests
-use Rattle.mv_lines.specs.Openings.{code_of, of_parties, of_limits}
-use Rattle.mv_lines.specs.ReplyLines.{refused, line_fault_value, opened_value, reply_value}
+use Rattle.mv_lines.specs.Openings.{code_of}
+use Rattle.mv_lines.specs.ReplyLines.{numbered, refused, line_fault_value, reply_value}
 use Rattle.mv_lines.specs.Requests.{read_line}
 
 -- what is open, and nothing before the first opening
@@ -34,7 +35,7 @@ IsOpened (Some st) parties limits text after = IsRefusal AlreadyOpen (Some st) t
 IsOpened None (Err fault) limits text after = IsRefusal fault None text after
 IsOpened None (Ok parties) (Err fault) text after = IsRefusal fault None text after
 IsOpened None (Ok parties) (Ok limits) text after =
-    IsAnswer (opened_value (length parties)) (Some (opening parties limits)) text after
+    IsAnswer (numbered (codes "opened") (length parties)) (Some (opening parties limits)) text after
 
 -- the reply to a step: C1 where nothing is open, else one that the list machine allows
 abbrev pub IsStepReply : Open → Step → List ℕ → Open → Type 0
@@ -45,7 +46,7 @@ IsStepReply (Some old) step text after =
 -- the reply to what a line asks
 abbrev pub IsRequestReply : Open → Request → List ℕ → Open → Type 0
 IsRequestReply before (requests.Open parties submissions uplink window wire) text after =
-    IsOpened before (of_parties (parties_of parties)) (of_limits (limits_of window wire uplink submissions)) text after
+    IsOpened before (map_err Parties (parties_of parties)) (map_err Limits (limits_of window wire uplink submissions)) text after
 IsRequestReply before (requests.Step step) text after = IsStepReply before step text after
 
 -- the reply to a line: what is open before it, the line, the reply's text, and what is open behind it

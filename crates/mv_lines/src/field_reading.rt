@@ -1,10 +1,12 @@
 //! Reads the fields of a line, one at a time, each with its own faults in their order.
 
-ghost use Rattle.std.specs.Prelude.{◌≡◌, MatchResult, Ok, Err};
+ghost use Rattle.std.specs.Prelude.{◌≡◌, option_and_then, MatchResult, Ok, Err};
 ghost use Rattle.serde_json.specs.View.{view};
 ghost use Rattle.mv_pack.specs.Code.{read_code};
 ghost use Rattle.mv_pack.specs.Gtin.{read_gtin};
-ghost use Rattle.mv_lines.specs.Reading.{member_at, text_at, read_at, whole_number, number_at, message_at, Gives};
+ghost use Rattle.mv_json.specs.Numbers.{whole_number};
+ghost use Rattle.mv_json.specs.Reading.{GivesOr};
+ghost use Rattle.mv_lines.specs.Reading.{member_at, text_at, read_at, of_32_bits, number_at, message_at};
 
 use crate::{LineFault, LineField};
 use mv_json::MessageFault;
@@ -59,7 +61,7 @@ pub(crate) fn number_of(value: &Value, field: LineField) -> Result<u32, LineFaul
 
 /// The whole number of 32 bits that a value is.
 fn whole_number(value: &Value) -> Option<u32>
-    ensures { result ≡ whole_number (view value.now) }
+    ensures { result ≡ option_and_then of_32_bits (whole_number (view value.now)) }
 {
     u32::try_from(value.as_u64()?).ok()
 }
@@ -67,7 +69,7 @@ fn whole_number(value: &Value) -> Option<u32>
 /// The message of a line: M3, then the message's own faults.
 #[tactic(auto, unfolding(crate::specs::Reading::message_at))]
 pub(crate) fn message_of(alloc: Global, value: &Value) -> Result<Message, LineFault>
-    ensures { Gives result (message_at (view value.now)) }
+    ensures { GivesOr result (message_at (view value.now)) LineFault.Memory }
 {
     match mv_json::from_value(alloc, member_of(value, LineField::Message)?) {
         Ok(message) => Ok(message),

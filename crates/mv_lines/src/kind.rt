@@ -2,7 +2,7 @@
 
 ghost use Rattle.std.specs.Prelude.{◌≡◌, map};
 ghost use Rattle.serde_json.specs.View.{view, members_view};
-ghost use Rattle.mv_lines.specs.Reading.{Gives};
+ghost use Rattle.mv_json.specs.Reading.{GivesOr};
 ghost use Rattle.mv_lines.specs.Kinds.{kind_named, kind_at, names_of, known_kind_at};
 
 use crate::field_reading::text_of;
@@ -90,7 +90,7 @@ pub(crate) fn known_kind(
     members: &Map<String, Value>,
     kind: LineKind,
 ) -> Result<LineKind, LineFault>
-    ensures { Gives result (known_kind_at kind (members_view members.now.entries)) }
+    ensures { GivesOr result (known_kind_at kind (members_view members.now.entries)) LineFault.Memory }
 {
     match first_unknown(members, kind.names()) {
         Some(key) => Err(LineFault::Unknown(Text::new(String::from_str(alloc, key)?))),

@@ -6,7 +6,8 @@ ghost use Rattle.serde_json.specs.Find.{as_str};
 ghost use Rattle.serde_json.specs.View.{view, items_view};
 ghost use Rattle.mv_json.specs.Lists.{are_texts};
 ghost use Rattle.mv_lines.specs.MarketLists.{is_text_list, are_text_lists, text_lists, market_item, read_markets, market_list, read_market_lists};
-ghost use Rattle.mv_lines.specs.Reading.{Gives, market_lists_at};
+ghost use Rattle.mv_json.specs.Reading.{GivesOr};
+ghost use Rattle.mv_lines.specs.Reading.{market_lists_at};
 
 use crate::field_reading::member_of;
 use crate::{LineFault, LineField};
@@ -52,7 +53,7 @@ pub(crate) fn market_lists_of(
     value: &Value,
     field: LineField,
 ) -> Result<MarketLists, LineFault>
-    ensures { Gives result (market_lists_at field (view value.now)) }
+    ensures { GivesOr result (market_lists_at field (view value.now)) LineFault.Memory }
 {
     let list = member_of(value, field)?
         .as_array()

@@ -3,7 +3,7 @@
 ghost use Rattle.std.specs.Prelude.{◌≡◌};
 ghost use Rattle.mv_hub.specs.Parties.{parties_of};
 ghost use Rattle.mv_machine.specs.Limits.{limits_of};
-ghost use Rattle.mv_lines.specs.Openings.{Gives, of_parties, of_limits};
+ghost use Rattle.mv_json.specs.Reading.{GivesOr, map_err};
 
 use crate::{MarketLists, OpenFault};
 use mv_hub::{HubFault, Parties};
@@ -12,7 +12,7 @@ use std::alloc::Global;
 
 /// The parties of lists of markets: H1 to H3.
 pub fn parties_of(alloc: Global, lists: MarketLists) -> Result<Parties, OpenFault>
-    ensures { Gives result (of_parties (parties_of lists)) }
+    ensures { GivesOr result (map_err OpenFault.Parties (parties_of lists)) OpenFault.Memory }
 {
     match Parties::new(alloc, lists.into_lists()) {
         Ok(parties) => Ok(parties),
@@ -23,7 +23,7 @@ pub fn parties_of(alloc: Global, lists: MarketLists) -> Result<Parties, OpenFaul
 
 /// The limits of numbers: O1 to O4.
 pub fn limits_of(window: u32, wire: u32, uplink: u32, submissions: u32) -> Result<Limits, OpenFault>
-    ensures { result ≡ of_limits (limits_of window wire uplink submissions) }
+    ensures { result ≡ map_err OpenFault.Limits (limits_of window wire uplink submissions) }
 {
     Limits::of(window, wire, uplink, submissions).map_err(OpenFault::Limits)
 }

@@ -1,10 +1,10 @@
 //! The replies, each written as the canonical text of one JSON object.
 
-ghost use Rattle.std.specs.Prelude.{◌≡◌, IfOk, string_bytes};
+ghost use Rattle.std.specs.Prelude.{◌≡◌, codes, IfOk, string_bytes};
 ghost use Rattle.serde_json.specs.Data.{Data};
 ghost use Rattle.serde_json.specs.Written.{compact_text};
 ghost use Rattle.mv_lines.specs.Writing.{Appended, Adds};
-ghost use Rattle.mv_lines.specs.ReplyLines.{refused, refused_field, refused_pack, message_fault_value, line_fault_value, refusal_value, opened_value, verdict_value, joint_value, reply_value};
+ghost use Rattle.mv_lines.specs.ReplyLines.{numbered, refused, refused_field, refused_pack, message_fault_value, line_fault_value, refusal_value, verdict_value, reply_value};
 
 use crate::LineFault;
 use crate::members::{Member, write_object};
@@ -183,7 +183,7 @@ pub(crate) struct Opened {
 }
 
 impl ReplyLine for Opened {
-    ghost value = { λ opened. opened_value opened.count };
+    ghost value = { λ opened. numbered (codes "opened") opened.count };
 
     fn write(&self, writer: &mut Writer) -> Result<(), AllocError> {
         write_object(writer, &[Member::Number("opened", u64::from(self.count))])
@@ -285,7 +285,7 @@ fn write_verdict(writer: &mut Writer, verdict: Verdict) -> Result<(), AllocError
 /// Writes the verdict of all that were asked.
 fn write_joint(writer: &mut Writer, verdict: Joint) -> Result<(), AllocError>
     ensures before { writer.new.before ≡ writer.old.before }
-    ensures added { Adds result writer.old writer.new (joint_value verdict) }
+    ensures added { Adds result writer.old writer.new (reply_value (Reply.Joint verdict)) }
 {
     match verdict {
         Joint::NotAsked => write_object(writer, &[Member::Text("verdict", "not asked")]),

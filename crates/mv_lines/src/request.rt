@@ -2,7 +2,7 @@
 
 ghost use Rattle.std.specs.Prelude.{◌≡◌};
 ghost use Rattle.serde_json.specs.View.{view};
-ghost use Rattle.mv_lines.specs.Reading.{Gives};
+ghost use Rattle.mv_json.specs.Reading.{GivesOr};
 ghost use Rattle.mv_lines.specs.Requests.{request_at, read_request, read_line};
 
 use crate::field_reading::{gtin_of, message_of, number_of, serial_of};
@@ -43,7 +43,7 @@ impl Request {
     /// order of their names. Want of memory may stand in place of any answer.
     #[tactic(auto, using(mv_json::proofs::ValueLemmas::utf8_test, mv_json::proofs::ValueLemmas::utf8_fact))]
     pub fn read(alloc: Global, line: &[u8]) -> Result<Request, LineFault>
-        ensures { Gives result (read_line line.now) }
+        ensures { GivesOr result (read_line line.now) LineFault.Memory }
     {
         let value = Value::from_slice(alloc, line).map_err(|error| {
             if error.is_memory() {
@@ -58,7 +58,7 @@ impl Request {
     /// What the value of a line asks.
     #[tactic(auto, unfolding(crate::specs::Requests::read_request))]
     fn from_value(alloc: Global, value: &Value) -> Result<Request, LineFault>
-        ensures { Gives result (read_request (view value.now)) }
+        ensures { GivesOr result (read_request (view value.now)) LineFault.Memory }
     {
         let members = value.as_object().ok_or(LineFault::NotObject)?;
         let kind = known_kind(alloc, members, kind_of(value)?)?;
@@ -67,7 +67,7 @@ impl Request {
 
     /// What the fields of a line of that kind ask.
     fn of_kind(alloc: Global, kind: LineKind, value: &Value) -> Result<Request, LineFault>
-        ensures { Gives result (request_at kind (view value.now)) }
+        ensures { GivesOr result (request_at kind (view value.now)) LineFault.Memory }
     {
         match kind {
             LineKind::Open => Request::open_of(alloc, value),
@@ -86,7 +86,7 @@ impl Request {
     /// The opening that the fields of a line ask.
     #[tactic(auto, unfolding(crate::specs::Requests::request_at))]
     fn open_of(alloc: Global, value: &Value) -> Result<Request, LineFault>
-        ensures { Gives result (request_at LineKind.Open (view value.now)) }
+        ensures { GivesOr result (request_at LineKind.Open (view value.now)) LineFault.Memory }
     {
         let parties = market_lists_of(alloc, value, LineField::Parties)?;
         let submissions = number_of(value, LineField::Submissions)?;
@@ -105,7 +105,7 @@ impl Request {
     /// The submission that the fields of a line ask.
     #[tactic(auto, unfolding(crate::specs::Requests::request_at))]
     fn submit_of(alloc: Global, value: &Value) -> Result<Request, LineFault>
-        ensures { Gives result (request_at LineKind.Submit (view value.now)) }
+        ensures { GivesOr result (request_at LineKind.Submit (view value.now)) LineFault.Memory }
     {
         let from = number_of(value, LineField::From)?;
         let message = message_of(alloc, value)?;
@@ -118,7 +118,7 @@ impl Request {
     /// The routing that the fields of a line ask.
     #[tactic(auto, unfolding(crate::specs::Requests::request_at))]
     fn route_of(value: &Value) -> Result<Request, LineFault>
-        ensures { Gives result (request_at LineKind.Route (view value.now)) }
+        ensures { GivesOr result (request_at LineKind.Route (view value.now)) LineFault.Memory }
     {
         let from = number_of(value, LineField::From)?;
         Ok(Request::Step(Step::Route { from }))
@@ -127,7 +127,7 @@ impl Request {
     /// The relay that the fields of a line ask.
     #[tactic(auto, unfolding(crate::specs::Requests::request_at))]
     fn relay_of(value: &Value) -> Result<Request, LineFault>
-        ensures { Gives result (request_at LineKind.Relay (view value.now)) }
+        ensures { GivesOr result (request_at LineKind.Relay (view value.now)) LineFault.Memory }
     {
         let from = number_of(value, LineField::From)?;
         let to = number_of(value, LineField::To)?;
@@ -137,7 +137,7 @@ impl Request {
     /// The taking of a frame that the fields of a line ask.
     #[tactic(auto, unfolding(crate::specs::Requests::request_at))]
     fn apply_of(value: &Value) -> Result<Request, LineFault>
-        ensures { Gives result (request_at LineKind.Apply (view value.now)) }
+        ensures { GivesOr result (request_at LineKind.Apply (view value.now)) LineFault.Memory }
     {
         let from = number_of(value, LineField::From)?;
         let to = number_of(value, LineField::To)?;
@@ -147,7 +147,7 @@ impl Request {
     /// The repetition of a frame that the fields of a line ask.
     #[tactic(auto, unfolding(crate::specs::Requests::request_at))]
     fn repeat_of(value: &Value) -> Result<Request, LineFault>
-        ensures { Gives result (request_at LineKind.Repeat (view value.now)) }
+        ensures { GivesOr result (request_at LineKind.Repeat (view value.now)) LineFault.Memory }
     {
         let from = number_of(value, LineField::From)?;
         let number = number_of(value, LineField::Number)?;
@@ -158,7 +158,7 @@ impl Request {
     /// The closing of a link that the fields of a line ask.
     #[tactic(auto, unfolding(crate::specs::Requests::request_at))]
     fn close_of(value: &Value) -> Result<Request, LineFault>
-        ensures { Gives result (request_at LineKind.Close (view value.now)) }
+        ensures { GivesOr result (request_at LineKind.Close (view value.now)) LineFault.Memory }
     {
         let from = number_of(value, LineField::From)?;
         let to = number_of(value, LineField::To)?;
@@ -168,7 +168,7 @@ impl Request {
     /// The loss of a frame that the fields of a line ask.
     #[tactic(auto, unfolding(crate::specs::Requests::request_at))]
     fn lose_of(value: &Value) -> Result<Request, LineFault>
-        ensures { Gives result (request_at LineKind.Lose (view value.now)) }
+        ensures { GivesOr result (request_at LineKind.Lose (view value.now)) LineFault.Memory }
     {
         let from = number_of(value, LineField::From)?;
         let to = number_of(value, LineField::To)?;
@@ -178,7 +178,7 @@ impl Request {
     /// The verifying of a pack that the fields of a line ask.
     #[tactic(auto, unfolding(crate::specs::Requests::request_at))]
     fn verify_of(value: &Value) -> Result<Request, LineFault>
-        ensures { Gives result (request_at LineKind.Verify (view value.now)) }
+        ensures { GivesOr result (request_at LineKind.Verify (view value.now)) LineFault.Memory }
     {
         let gtin = gtin_of(value, LineField::Gtin)?;
         let party = number_of(value, LineField::Party)?;
@@ -190,7 +190,7 @@ impl Request {
     /// The taking of a verdict that the fields of a line ask.
     #[tactic(auto, unfolding(crate::specs::Requests::request_at))]
     fn verdict_of(value: &Value) -> Result<Request, LineFault>
-        ensures { Gives result (request_at LineKind.Verdict (view value.now)) }
+        ensures { GivesOr result (request_at LineKind.Verdict (view value.now)) LineFault.Memory }
     {
         let party = number_of(value, LineField::Party)?;
         let q = number_of(value, LineField::Q)?;

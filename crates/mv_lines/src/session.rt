@@ -1,10 +1,10 @@
 //! Answers the lines of a run of steps.
 
-ghost use Rattle.std.specs.Prelude.{◌≡◌, length, Ok, Some, None, IfOk, IfErr};
+ghost use Rattle.std.specs.Prelude.{◌≡◌, codes, length, Ok, Some, None, IfOk, IfErr};
 ghost use Rattle.mv_hub.specs.Parties.{parties_of};
-ghost use Rattle.mv_lines.specs.Openings.{code_of, of_parties};
-ghost use Rattle.mv_lines.specs.Reading.{Gives as ReadGives};
-ghost use Rattle.mv_lines.specs.ReplyLines.{refused, opened_value};
+ghost use Rattle.mv_json.specs.Reading.{GivesOr, map_err};
+ghost use Rattle.mv_lines.specs.Openings.{code_of};
+ghost use Rattle.mv_lines.specs.ReplyLines.{numbered, refused};
 ghost use Rattle.mv_lines.specs.Requests.{read_line};
 ghost use Rattle.mv_lines.specs.Replies.{Readied};
 ghost use Rattle.mv_machine.specs.State.{opening};
@@ -67,7 +67,7 @@ impl Session {
 
     /// Reads a line, as `Request::read` does: a plain one by its tokens, any other by its value.
     fn read(&mut self, line: &[u8]) -> Result<Request, LineFault>
-        ensures read { ReadGives result (read_line line.now) }
+        ensures read { GivesOr result (read_line line.now) LineFault.Memory }
         ensures kept { self.new ≡ self.old }
     {
         match plain_step(self.alloc, &mut self.scratch, line) {
@@ -105,7 +105,7 @@ impl Session {
         out: &mut Vec<u8>,
     ) -> Result<(), AllocError>
         ensures ok { IfOk result (λ _. Readied out.old.items out.new.items (λ text.
-            IsOpened self.old (of_parties (parties_of lists)) limits text self.new)) }
+            IsOpened self.old (map_err OpenFault.Parties (parties_of lists)) limits text self.new)) }
         ensures err { IfErr result (λ _. out.new.items ≡ out.old.items) }
     {
         if self.world.is_some() {
@@ -131,7 +131,7 @@ impl Session {
         out: &mut Vec<u8>,
     ) -> Result<(), AllocError>
         ensures ok { IfOk result (λ _. Readied out.old.items out.new.items (λ text.
-            IsAnswer (opened_value (length parties)) (Some (opening parties limits)) text self.new)) }
+            IsAnswer (numbered (codes "opened") (length parties)) (Some (opening parties limits)) text self.new)) }
         ensures err { IfErr result (λ _. out.new.items ≡ out.old.items) }
     {
         let count = parties.len();

@@ -11,13 +11,13 @@ use Rattle.mv_machine.specs.declared.step.Step.{Step}
 use Rattle.mv_machine.specs.declared.step.Step.TheVariants.{Submit, Verify}
 use Rattle.mv_lines.specs.declared.line_fault.LineFault.{LineFault}
 use Rattle.mv_lines.specs.declared.open_fault.OpenFault.{OpenFault}
-use Rattle.mv_lines.specs.declared.open_fault.OpenFault.TheVariants.{NotOpen, AlreadyOpen}
+use Rattle.mv_lines.specs.declared.open_fault.OpenFault.TheVariants.{NotOpen, AlreadyOpen, Parties, Limits}
 use Rattle.mv_plan.specs.declared.planned.Planned.{Planned as HeldPlan}
 use Rattle.mv_plan.specs.declared.planned.Planned.TheVariants as held
 use Rattle.mv_lines.specs.declared.request.Request.{Request}
 use Rattle.mv_lines.specs.declared.request.Request.TheVariants as requests
 use Rattle.mv_plan.specs.Drafts.{Parts, new_parts, with_message}
-use Rattle.mv_lines.specs.Openings.{code_of, of_parties, of_limits}
+use Rattle.mv_lines.specs.Openings.{map_err, code_of}
 use Rattle.mv_lines.specs.ReplyLines.{refused, line_fault_value, refusal_value}
 use Rattle.mv_lines.specs.Requests.{read_line}
 
@@ -59,7 +59,7 @@ plan_step plan step = refuses (refused (codes "C3"))
 -- the plan behind what a line asks: C1, C2
 abbrev pub plan_request : Option Parts → Request → Planned
 plan_request None (requests.Open parties submissions uplink window wire) =
-    begins (of_parties (parties_of parties)) (of_limits (limits_of window wire uplink submissions))
+    begins (map_err Parties (parties_of parties)) (map_err Limits (limits_of window wire uplink submissions))
 plan_request None (requests.Step step) = refuses (refused (code_of NotOpen))
 plan_request (Some plan) (requests.Open parties submissions uplink window wire) = refuses (refused (code_of AlreadyOpen))
 plan_request (Some plan) (requests.Step step) = plan_step plan step

@@ -2,7 +2,7 @@
 
 ghost use Rattle.std.specs.Prelude.{◌≡◌, Ok, Some, IfOk, option_map, string_bytes};
 ghost use Rattle.serde_json.specs.Written.{compact_text};
-ghost use Rattle.mv_lines.specs.Openings.{of_parties, code_of};
+ghost use Rattle.mv_lines.specs.Openings.{map_err, code_of};
 ghost use Rattle.mv_lines.specs.ReplyLines.{refused, refusal_value};
 ghost use Rattle.mv_hub.specs.Parties.{parties_of};
 ghost use Rattle.mv_plan.specs.Planning.{planned_by, begins, plan_step, plan_request, plan_line};
@@ -72,7 +72,7 @@ fn begin(
     limits: Result<Limits, OpenFault>,
 ) -> Result<Option<String>, AllocError>
     ensures { IfOk result (λ refusal. planned_by (option_map string_bytes refusal) draft.new
-        ≡ begins (of_parties (parties_of lists)) limits) }
+        ≡ begins (map_err OpenFault.Parties (parties_of lists)) limits) }
 {
     let parties = match parties_of(alloc, lists) {
         Ok(parties) => parties,

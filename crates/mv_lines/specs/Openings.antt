@@ -4,7 +4,7 @@ use Rattle.mv_hub.specs.Fault.{code_of as hub_code}
 use Rattle.mv_machine.specs.Limits.{code_of as limits_code}
 use Rattle.mv_lines.specs.declared.open_fault.OpenFault.{OpenFault}
 use Rattle.mv_lines.specs.declared.open_fault.OpenFault.TheVariants.{NotOpen, AlreadyOpen, Parties, Limits, Memory}
--- passed on to who reads openings
+-- the word for what an opening gives, for those who read openings
 pub use Rattle.mv_json.specs.Reading.{map_err}
 
 -- the number of a fault

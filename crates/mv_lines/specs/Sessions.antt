@@ -5,7 +5,6 @@ use Rattle.serde_json.specs.Written.{compact_text}
 use Rattle.mv_hub.specs.Parties.{parties_of}
 use Rattle.mv_json.specs.Reading.{map_err}
 use Rattle.mv_machine.specs.declared.reply.Reply.{Reply}
-use Rattle.mv_machine.specs.declared.step.Step.{Step}
 use Rattle.mv_machine.specs.Limits.{Bounds, limits_of}
 use Rattle.mv_machine.specs.State.{State, opening}
 use Rattle.mv_machine.specs.Runs.{Allows}
@@ -37,17 +36,13 @@ IsOpened None (Ok parties) (Err fault) text after = IsRefusal fault None text af
 IsOpened None (Ok parties) (Ok limits) text after =
     IsAnswer (numbered (codes "opened") (length parties)) (Some (opening parties limits)) text after
 
--- the reply to a step: C1 where nothing is open, else one that the list machine allows
-abbrev pub IsStepReply : Open → Step → List ℕ → Open → Type 0
-IsStepReply None step text after = IsRefusal NotOpen None text after
-IsStepReply (Some old) step text after =
-    (reply : Reply) × (new : State) × Allows old step reply new × IsAnswer (reply_value reply) (Some new) text after
-
--- the reply to what a line asks
+-- the reply to what a line asks: to a step C1 where nothing is open, else one that the list machine allows
 abbrev pub IsRequestReply : Open → Request → List ℕ → Open → Type 0
 IsRequestReply before (requests.Open parties submissions uplink window wire) text after =
     IsOpened before (map_err Parties (parties_of parties)) (map_err Limits (limits_of window wire uplink submissions)) text after
-IsRequestReply before (requests.Step step) text after = IsStepReply before step text after
+IsRequestReply None (requests.Step step) text after = IsRefusal NotOpen None text after
+IsRequestReply (Some old) (requests.Step step) text after =
+    (reply : Reply) × (new : State) × Allows old step reply new × IsAnswer (reply_value reply) (Some new) text after
 
 -- the reply to a line: what is open before it, the line, the reply's text, and what is open behind it
 abbrev pub IsReply : Open → List ℕ → List ℕ → Open → Type 0

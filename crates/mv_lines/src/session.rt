@@ -8,7 +8,7 @@ ghost use Rattle.mv_lines.specs.ReplyLines.{numbered, refused};
 ghost use Rattle.mv_lines.specs.Requests.{read_line};
 ghost use Rattle.mv_lines.specs.Replies.{Readied};
 ghost use Rattle.mv_machine.specs.State.{opening};
-ghost use Rattle.mv_lines.specs.Sessions.{IsAnswer, IsOpened, IsStepReply, IsRequestReply, IsReply};
+ghost use Rattle.mv_lines.specs.Sessions.{IsAnswer, IsOpened, IsRequestReply, IsReply};
 ghost use Rattle.mv_lines.specs.Writing.{Appended};
 
 use crate::plain_line::plain_step;
@@ -150,7 +150,7 @@ impl Session {
     /// Writes the reply to a step: C1, else what the system answers.
     fn step(&mut self, step: &Step, out: &mut Vec<u8>) -> Result<(), AllocError>
         ensures ok { IfOk result (λ _. Readied out.old.items out.new.items (λ text.
-            IsStepReply self.old step.now text self.new)) }
+            IsRequestReply self.old (Request.Step step.now) text self.new)) }
         ensures err { IfErr result (λ _. out.new.items ≡ out.old.items) }
     {
         match &mut self.world {

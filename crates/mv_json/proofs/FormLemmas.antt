@@ -10,7 +10,7 @@ use Rattle.serde_json.specs.Data.{Data, object}
 use Rattle.serde_json.specs.Find.{get, as_object}
 use Rattle.mv_json.specs.declared.field.Field.TheVariants as fields
 use Rattle.mv_json.specs.declared.fault.MessageFault.{MessageFault}
-use Rattle.mv_json.specs.declared.fault.MessageFault.TheVariants.{Kind, NotObject, Unknown}
+use Rattle.mv_json.specs.declared.fault.MessageFault.TheVariants.{Kind, Memory, NotObject, Unknown}
 use Rattle.mv_json.specs.declared.form.Form.{Form}
 use Rattle.mv_json.specs.declared.form.Form.TheVariants as forms
 use Rattle.mv_message.specs.declared.message.Message.{Message}
@@ -20,8 +20,8 @@ use Rattle.mv_json.specs.Fields.{field_name}
 use Rattle.mv_json.specs.Forms.{form_name, forms_of, form_named, form_at}
 use Rattle.mv_json.specs.Members.{keys_of, first_unknown}
 use Rattle.mv_json.specs.Messages.{read_message}
-use Rattle.mv_json.specs.Shapes.{names_of, known_form_at, message_at}
-use Rattle.mv_json.specs.Reading.{◌and_then◌, text_at}
+use Rattle.mv_json.specs.Shapes.{names_of, message_at}
+use Rattle.mv_json.specs.Reading.{◌and_then◌, text_at, GivesOr}
 use Rattle.mv_json.specs.Numbers.{whole_number}
 use Rattle.mv_json.specs.Versions.{version_of, version_at}
 use Rattle.mv_json.specs.Spellings.{HasOnly}
@@ -47,13 +47,21 @@ none_unknown names (k ∷ ks) h =
     ap (λ b. cond (not b) (Some k) (find (λ key. not (is_among names key)) ks)) (list_any-from_Contains nat_list_eq_equiv k names h.0)
     ∙ none_unknown names ks h.1
 
--- the form, where no key is unknown
-abbrev unless_unknown : Form → Option (List ℕ) → Result Form MessageFault
-unless_unknown form o = option_map_or (λ key. Err (Unknown key)) o (Ok form)
+-- what reading gives, where no key is unknown
+abbrev unless_unknown : {A : Type 0} → Option (List ℕ) → Result A MessageFault → Result A MessageFault
+unless_unknown o reading = option_map_or (λ key. Err (Unknown key)) o reading
 
-unless_ok : (form : Form) (o : Option (List ℕ)) (known : Form) → unless_unknown form o ≡ Ok known → (o ≡ None) × (form ≡ known)
-unless_ok form None known h = (refl, cc)
-unless_ok form (Some key) known h = cc
+unless_ok : {A : Type 0} (o : Option (List ℕ)) (reading : Result A MessageFault) (x : A) → unless_unknown o reading ≡ Ok x → (o ≡ None) × (reading ≡ Ok x)
+unless_ok None reading x h = (refl, h)
+unless_ok (Some key) reading x h = cc
+
+-- whoever takes the form, where no key is unknown, and then reads the fields by it, reads them where no key is unknown
+pub known_gives : (result : Result Message MessageFault) (o : Option (List ℕ)) (version : Version) (form known : Form) (d : Data)
+    → unless_unknown o (Ok form) ≡ Ok known → GivesOr result (message_at version known d) Memory
+    → GivesOr result (unless_unknown o (message_at version form d)) Memory
+known_gives result None version form known d taken gives =
+    let same : known ≡ form = cc in subst (λ f. GivesOr result (message_at version f d) Memory) same gives
+known_gives result (Some key) version form known d taken gives = cc
 
 is_two : (n : ℕ) → (n == 2) ≡ true → n ≡ 2
 is_two n h = grind (arith, nat_tests)
@@ -138,18 +146,14 @@ form_read version d form h is_in =
     ap (λ r. r and_then λ t. ok_or (form_named version t) (Kind fields.Msg)) (text_is_read fields.Msg d (form_name form) h)
     ∙ ap (λ o. ok_or o (Kind fields.Msg)) (form_is_named version form is_in)
 
-same_form : (version : Version) (d : Data) (m : Message) (form known : Form) → form ≡ known → message_at version known d ≡ Ok m → message_at version form d ≡ Ok m
-same_form version d m form known same h = ap (λ f. message_at version f d) same ∙ h
-
 -- a message was read, so the object has a version and a form, and its fields give the message
 pub opened : (d : Data) (m : Message) → read_message d ≡ Ok m → (version : Version) × (form : Form) × IsOfVersion version d × IsOfForm version form d × IsIn form version × (message_at version form d ≡ Ok m)
 unfolding read_message
 opened d m h =
-    let a = both_ok (ok_or (as_object d) NotObject) (λ ms. version_at d and_then λ version. form_at version d and_then λ form. known_form_at version form ms and_then λ known. message_at version known d) m h in
-    let v = both_ok (version_at d) (λ version. form_at version d and_then λ form. known_form_at version form a.0 and_then λ known. message_at version known d) m a.2 in
-    let b = both_ok (form_at v.0 d) (λ form. known_form_at v.0 form a.0 and_then λ known. message_at v.0 known d) m v.2 in
-    let k = both_ok (known_form_at v.0 b.0 a.0) (λ known. message_at v.0 known d) m b.2 in
-    let u = unless_ok b.0 (first_unknown (names_of v.0 b.0) a.0) k.0 k.1 in
+    let a = both_ok (ok_or (as_object d) NotObject) (λ ms. version_at d and_then λ version. form_at version d and_then λ form. unless_unknown (first_unknown (names_of version form) ms) (message_at version form d)) m h in
+    let v = both_ok (version_at d) (λ version. form_at version d and_then λ form. unless_unknown (first_unknown (names_of version form) a.0) (message_at version form d)) m a.2 in
+    let b = both_ok (form_at v.0 d) (λ form. unless_unknown (first_unknown (names_of v.0 form) a.0) (message_at v.0 form d)) m v.2 in
+    let u = unless_ok (first_unknown (names_of v.0 b.0) a.0) (message_at v.0 b.0 d) m b.2 in
     let is_object : d ≡ object a.0 = as_object_ok d a.0 (ok_or_some NotObject (as_object d) a.0 a.1) in
     let named = form_ok v.0 d b.0 b.1 in (
       v.0,
@@ -157,17 +161,17 @@ opened d m h =
       version_ok d v.0 v.1,
       ((a.0, is_object, all_known (names_of v.0 b.0) (keys_of a.0) u.0), named.0),
       named.1,
-      same_form v.0 d m b.0 k.0 u.1 k.2,
+      u.1,
     )
 
 -- an object of that version and form, with no other key, is read by its fields
 pub read_by_fields : (d : Data) (version : Version) (form : Form) → version_at d ≡ Ok version → form_at version d ≡ Ok form → HasOnly (names_of version form) d → read_message d ≡ message_at version form d
 unfolding read_message
 read_by_fields d version form of_version of_form (ms, is_object, known) =
-    ap (λ o. ok_or o NotObject and_then λ ms. version_at d and_then λ version. form_at version d and_then λ form. known_form_at version form ms and_then λ known. message_at version known d) (ap as_object is_object)
-    ∙ ap (λ r. r and_then λ version. form_at version d and_then λ form. known_form_at version form ms and_then λ known. message_at version known d) of_version
-    ∙ ap (λ r. r and_then λ form. known_form_at version form ms and_then λ known. message_at version known d) of_form
-    ∙ ap (λ o. unless_unknown form o and_then λ known. message_at version known d) (none_unknown (names_of version form) (keys_of ms) known)
+    ap (λ o. ok_or o NotObject and_then λ ms. version_at d and_then λ version. form_at version d and_then λ form. unless_unknown (first_unknown (names_of version form) ms) (message_at version form d)) (ap as_object is_object)
+    ∙ ap (λ r. r and_then λ version. form_at version d and_then λ form. unless_unknown (first_unknown (names_of version form) ms) (message_at version form d)) of_version
+    ∙ ap (λ r. r and_then λ form. unless_unknown (first_unknown (names_of version form) ms) (message_at version form d)) of_form
+    ∙ ap (λ o. unless_unknown o (message_at version form d)) (none_unknown (names_of version form) (keys_of ms) known)
 
 -- an object of that version and form is read as what its fields give
 pub reopened : (d : Data) (m : Message) (version : Version) (form : Form) → IsOfVersion version d → IsOfForm version form d → IsIn form version → message_at version form d ≡ Ok m → read_message d ≡ Ok m

@@ -1,12 +1,12 @@
 -- Messages: what reading a value or bytes gives, and the JSON value of each.
-use Rattle.std.specs.Prelude.{ℕ, true, List, if◌then◌else◌, Option, Some, None, Result}
-use Rattle.std.specs.Option.{ok_or}
+use Rattle.std.specs.Prelude.{ℕ, true, List, if◌then◌else◌, Option, Some, None, Result, Err}
+use Rattle.std.specs.Option.{ok_or, option_map_or}
 use Rattle.std.specs.Str.{is_utf8}
 use Rattle.serde_json.specs.Data.{Data}
 use Rattle.serde_json.specs.Find.{as_object}
 use Rattle.serde_json.specs.Read.{read}
 use Rattle.mv_json.specs.declared.fault.MessageFault.{MessageFault}
-use Rattle.mv_json.specs.declared.fault.MessageFault.TheVariants.{NotJson, NotObject}
+use Rattle.mv_json.specs.declared.fault.MessageFault.TheVariants.{NotJson, NotObject, Unknown}
 use Rattle.mv_message.specs.declared.found.Found.TheVariants.{Present}
 use Rattle.mv_message.specs.declared.message.Message.{Message}
 use Rattle.mv_message.specs.declared.message.Message.TheVariants as messages
@@ -16,17 +16,18 @@ use Rattle.mv_json.specs.Contents.{contents_of}
 use Rattle.mv_json.specs.Reading.{◌and_then◌}
 use Rattle.mv_json.specs.Forms.{form_of, form_at}
 use Rattle.mv_json.specs.Meanings.{object_of}
-use Rattle.mv_json.specs.Shapes.{meaning_of, known_form_at, message_at}
+use Rattle.mv_json.specs.Members.{first_unknown}
+use Rattle.mv_json.specs.Shapes.{meaning_of, names_of, message_at}
 use Rattle.mv_json.specs.Versions.{version_at}
 
--- The message that a value is, or the first fault: M2, M5 of `v`, those of `msg`, M4, then those of each field.
+-- The message that a value is, or the first fault: M2, M5 of `v`, those of `msg`, M4 with the first key that the form does not have,
+-- then those of each field.
 unfoldable pub read_message : Data → Result Message MessageFault
 read_message value =
     ok_or (as_object value) NotObject and_then λ members.
     version_at value and_then λ version.
     form_at version value and_then λ form.
-    known_form_at version form members and_then λ known.
-    message_at version known value
+    option_map_or (λ key. Err (Unknown key)) (first_unknown (names_of version form) members) (message_at version form value)
 
 -- the value of bytes, where they are text and JSON
 abbrev pub json_value : List ℕ → Option Data

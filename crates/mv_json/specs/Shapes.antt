@@ -1,7 +1,6 @@
 -- The shape of each form of message: its fields, what each of them means, and the message that their values make.
-use Rattle.std.specs.Prelude.{⊤, ℕ, List, [], ◌∷◌, Some, Result, Ok, Err}
-use Rattle.std.specs.Option.{option_map_or}
-use Rattle.serde_json.specs.Data.{Data, Members, string}
+use Rattle.std.specs.Prelude.{⊤, ℕ, List, [], ◌∷◌, Some, Result, Ok}
+use Rattle.serde_json.specs.Data.{Data, string}
 use Rattle.mv_pack.specs.Keys.{pack_key, batch_key}
 use Rattle.mv_message.specs.declared.found.Found.{Found}
 use Rattle.mv_message.specs.declared.message.Message.{Message}
@@ -9,7 +8,6 @@ use Rattle.mv_message.specs.declared.message.Message.TheVariants as messages
 use Rattle.mv_json.specs.declared.field.Field.{Field}
 use Rattle.mv_json.specs.declared.field.Field.TheVariants as fields
 use Rattle.mv_json.specs.declared.fault.MessageFault.{MessageFault}
-use Rattle.mv_json.specs.declared.fault.MessageFault.TheVariants.{Unknown}
 use Rattle.mv_json.specs.declared.form.Form.{Form}
 use Rattle.mv_json.specs.declared.form.Form.TheVariants as forms
 use Rattle.mv_json.specs.declared.version.Version.{Version}
@@ -18,7 +16,6 @@ use Rattle.mv_json.specs.Fields.{names_in}
 use Rattle.mv_json.specs.Forms.{form_name}
 use Rattle.mv_json.specs.Found.{said_of_pack, found_at, found_value, SpellsFound}
 use Rattle.mv_json.specs.Meanings.{Meaning, if_said, exactly, Making, made_at, AreLegal}
-use Rattle.mv_json.specs.Members.{first_unknown}
 use Rattle.mv_json.specs.Spellings.{Has}
 use Rattle.mv_json.specs.Values.{whole, since_two}
 
@@ -92,10 +89,6 @@ shape_of version forms.Withdraw =
 -- the names of the fields of a form
 abbrev pub names_of : Version → Form → List (List ℕ)
 names_of version form = names_in version (shape_of version form).listed
-
--- the form, where its messages have all keys of the object; else M4 with the first other one
-abbrev pub known_form_at : Version → Form → Members → Result Form MessageFault
-known_form_at version form members = option_map_or (λ key. Err (Unknown key)) (first_unknown (names_of version form) members) (Ok form)
 
 -- the message of a form that the fields of an object give
 unfoldable pub message_at : Version → Form → Data → Result Message MessageFault

@@ -10,8 +10,7 @@ use Rattle.mv_json.specs.Members.{keys_of}
 
 -- the value is an object that has no key but these
 abbrev pub HasOnly : List (List ℕ) → Data → Type 0
-HasOnly names value =
-    (members : Members) × (value ≡ object members) × AllByRecursion (Contains names) (keys_of members)
+HasOnly names value = (members : Members) × (value ≡ object members) × AllByRecursion (Contains names) (keys_of members)
 
 -- the field is this value
 abbrev pub Has : Data → Field → Data → Type 0

@@ -1,10 +1,11 @@
 //! The forms of messages, and the names of the fields of each.
 
-ghost use Rattle.std.specs.Prelude.{◌≡◌, ◌≢◌, IfErr, IsSome, map};
+ghost use Rattle.std.specs.Prelude.{◌≡◌, ◌≢◌, IfErr, IsSome, map, Ok, Err};
+ghost use Rattle.std.specs.Option.{option_map_or};
 ghost use Rattle.serde_json.specs.View.{view, members_view};
 ghost use Rattle.mv_json.specs.Reading.{GivesOr};
 ghost use Rattle.mv_json.specs.Forms.{form_named, form_at};
-ghost use Rattle.mv_json.specs.Shapes.{names_of, known_form_at};
+ghost use Rattle.mv_json.specs.Shapes.{names_of};
 ghost use Rattle.mv_json.specs.Members.{first_unknown};
 
 use crate::members::first_unknown;
@@ -116,7 +117,8 @@ pub(crate) fn known_form_at(
     version: Version,
     form: Form,
 ) -> Result<Form, MessageFault>
-    ensures gives { GivesOr result (known_form_at version form (members_view members.now.entries)) MessageFault.Memory }
+    ensures gives { GivesOr result (option_map_or (λ key. Err (MessageFault.Unknown key))
+        (first_unknown (names_of version form) (members_view members.now.entries)) (Ok form)) MessageFault.Memory }
     // Memory is asked for only to name another key.
     ensures memory { IfErr result (λ fault. fault ≡ MessageFault.Memory
         → IsSome (first_unknown (names_of version form) (members_view members.now.entries))) }

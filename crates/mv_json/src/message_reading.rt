@@ -38,7 +38,7 @@ pub fn read(alloc: Global, bytes: &[u8]) -> Result<Message, MessageFault>
 /// of `msg`; M4 with the first key, in byte order, that the message does not have; then the faults of the fields, in byte
 /// order of their names. M9 may stand, where memory was refused, in place of M4, which names a key, and of what the fields
 /// of a master, an upload, a status or a repack give, which hold texts and lists; in place of nothing else.
-#[tactic(auto, unfolding(crate::specs::Messages::read_message))]
+#[tactic(auto, unfolding(crate::specs::Messages::read_message), using(crate::proofs::FormLemmas::known_gives))]
 pub fn from_value(alloc: Global, value: &Value) -> Result<Message, MessageFault>
     ensures gives { GivesOr result (read_message (view value.now)) MessageFault.Memory }
     ensures memory { IfErr result (λ fault. fault ≡ MessageFault.Memory

@@ -2,6 +2,7 @@
 use Rattle.std.proofs.Common.{◌≡◌, ◌∙◌, ◌<◌, ℕ, ◌^◌, suc, List, [], ◌∷◌, ◌++◌, map, refl, sym, ap, subst, arith, append_assoc, append-nil, true, false, true≢false, lt-ltb}
 use Rattle.std.specs.Prelude.{cond, ◌==◌, ◌&&◌, length, nat_lt, ok_or, codes, All, Option, Some, None, option_and_then, Result, Ok, Err, IfOk}
 use Rattle.std.specs.List.{AllByRecursion, list_all}
+use Rattle.std.specs.Option.{option_map_or}
 use Rattle.std.specs.Result.{is_ok}
 use Rattle.std.proofs.lemmas.Bool.{and_parts, eqb-true, eqb-false, ltb-true}
 use Rattle.std.proofs.lemmas.Grind.{common_steps}
@@ -24,11 +25,12 @@ use Rattle.mv_json.specs.Values.{strings}
 use Rattle.mv_json.proofs.LegalLemmas.{reads_back, read_is_legal}
 use Rattle.mv_machine.specs.declared.step.Step.{Step as AnyStep}
 use Rattle.mv_machine.specs.declared.step.Step.TheVariants as steps
-use Rattle.mv_lines.specs.Kinds.{kind_at, known_kind_at}
+use Rattle.mv_lines.specs.Kinds.{names_of, kind_at}
 use Rattle.mv_lines.specs.LineLaws.{request_value, IsLegalRequest}
 use Rattle.mv_lines.specs.Meanings.{AreMarketLists}
 use Rattle.mv_lines.specs.Lines.{whole_from, rest_from, last_piece, pieces, lines_of, IsUnended}
-use Rattle.mv_json.specs.Reading.{◌and_then◌, map_err, each_of, as_list}
+use Rattle.mv_json.specs.Members.{first_unknown}
+use Rattle.mv_json.specs.Reading.{◌and_then◌, map_err, each_of, as_list, GivesOr}
 use Rattle.mv_lines.specs.Reading.{member_at, text_at, of_32_bits, read_at, number_at, message_at, market_lists_at}
 use Rattle.mv_lines.specs.Replies.{text_lines}
 use Rattle.mv_lines.specs.Requests.{read_request, request_at}
@@ -37,7 +39,7 @@ use Rattle.mv_lines.specs.declared.field.LineField.TheVariants as fields
 use Rattle.mv_lines.specs.declared.kind.LineKind.{LineKind}
 use Rattle.mv_lines.specs.declared.kind.LineKind.TheVariants as kinds
 use Rattle.mv_lines.specs.declared.line_fault.LineFault.{LineFault}
-use Rattle.mv_lines.specs.declared.line_fault.LineFault.TheVariants.{NotObject, Kind, Pack}
+use Rattle.mv_lines.specs.declared.line_fault.LineFault.TheVariants.{NotObject, Unknown, Kind, Pack, Memory}
 use Rattle.mv_lines.specs.declared.line_fault.LineFault.TheVariants.{Message as InMessage}
 use Rattle.mv_lines.specs.declared.request.Request.{Request}
 use Rattle.mv_lines.specs.declared.request.Request.TheVariants.{Open, Step}
@@ -310,11 +312,27 @@ request_gave kinds.Verify value =
 request_gave kinds.Verdict value =
     with_number IsLegalRequest fields.Party value _ (λ party small. with_number IsLegalRequest fields.Q value _ (λ q less. (small, (less, tt))))
 
+-- what reading gives, where no key is unknown
+abbrev unless_unknown : {A : Type 0} → Option (List ℕ) → Result A LineFault → Result A LineFault
+unless_unknown o reading = option_map_or (λ key. Err (Unknown key)) o reading
+
+-- whoever takes the kind, where no key is unknown, and then reads the fields by it, reads them where no key is unknown
+pub known_gives : (result : Result Request LineFault) (o : Option (List ℕ)) (kind known : LineKind) (value : Data)
+    → unless_unknown o (Ok kind) ≡ Ok known → GivesOr result (request_at known value) Memory
+    → GivesOr result (unless_unknown o (request_at kind value)) Memory
+known_gives result None kind known value taken gives =
+    let same : known ≡ kind = cc in subst (λ k. GivesOr result (request_at k value) Memory) same gives
+known_gives result (Some key) kind known value taken gives = cc
+
+known_gave : (o : Option (List ℕ)) (reading : Result Request LineFault) → IfOk reading IsLegalRequest → IfOk (unless_unknown o reading) IsLegalRequest
+known_gave None reading gave = gave
+known_gave (Some key) reading gave = tt
+
 read_gave : (value : Data) → IfOk (read_request value) IsLegalRequest
 unfolding read_request
 read_gave value =
     then_any IsLegalRequest (ok_or (as_object value) NotObject) _ (λ members. then_any IsLegalRequest (kind_at value) _
-    (λ kind. then_any IsLegalRequest (known_kind_at kind members) _ (λ known. request_gave known value)))
+    (λ kind. known_gave (first_unknown (names_of kind) members) (request_at kind value) (request_gave kind value)))
 
 -- what a line asks is legal
 pub read_requests_are_legal : (value : Data) (request : Request) → read_request value ≡ Ok request → IsLegalRequest request

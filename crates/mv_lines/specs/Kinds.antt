@@ -1,14 +1,12 @@
 -- The kinds of lines, by the text of their field `do`, and what the fields of each ask.
-use Rattle.std.specs.Prelude.{ℕ, List, [], ◌∷◌, map, codes, bytes_eq, find, Option, option_map, Result, Ok, Err, ok_or}
-use Rattle.std.specs.Option.{option_map_or}
-use Rattle.serde_json.specs.Data.{Data, Members}
-use Rattle.mv_json.specs.Members.{first_unknown}
+use Rattle.std.specs.Prelude.{ℕ, List, [], ◌∷◌, map, codes, bytes_eq, find, Option, option_map, Result, ok_or}
+use Rattle.serde_json.specs.Data.{Data}
 use Rattle.mv_machine.specs.declared.step.Step.TheVariants as steps
 use Rattle.mv_pack.specs.Keys.{pack_key}
 use Rattle.mv_lines.specs.declared.field.LineField.{LineField}
 use Rattle.mv_lines.specs.declared.field.LineField.TheVariants as fields
 use Rattle.mv_lines.specs.declared.line_fault.LineFault.{LineFault}
-use Rattle.mv_lines.specs.declared.line_fault.LineFault.TheVariants.{Kind, Unknown}
+use Rattle.mv_lines.specs.declared.line_fault.LineFault.TheVariants.{Kind}
 use Rattle.mv_lines.specs.declared.kind.LineKind.{LineKind}
 use Rattle.mv_lines.specs.declared.kind.LineKind.TheVariants as kinds
 use Rattle.mv_lines.specs.declared.request.Request.{Request}
@@ -64,7 +62,3 @@ names_of kind = map field_name (fields.Do ∷ (shape_of kind).others)
 -- the kind of an object: M3, M5
 unfoldable pub kind_at : Data → Result LineKind LineFault
 kind_at value = text_at fields.Do value and_then λ text. ok_or (kind_named text) (Kind fields.Do)
-
--- the kind, where its lines have all keys of the object; else M4 with the first other one
-abbrev pub known_kind_at : LineKind → Members → Result LineKind LineFault
-known_kind_at kind members = option_map_or (λ key. Err (Unknown key)) (first_unknown (names_of kind) members) (Ok kind)

@@ -1,9 +1,11 @@
 //! The kinds of lines, and the names of the fields of each.
 
-ghost use Rattle.std.specs.Prelude.{◌≡◌, map};
+ghost use Rattle.std.specs.Option.{option_map_or};
+ghost use Rattle.std.specs.Prelude.{◌≡◌, map, Ok, Err};
 ghost use Rattle.serde_json.specs.View.{view, members_view};
+ghost use Rattle.mv_json.specs.Members.{first_unknown};
 ghost use Rattle.mv_json.specs.Reading.{GivesOr};
-ghost use Rattle.mv_lines.specs.Kinds.{kind_named, kind_at, names_of, known_kind_at};
+ghost use Rattle.mv_lines.specs.Kinds.{kind_named, kind_at, names_of};
 
 use crate::field_reading::text_of;
 use crate::{LineFault, LineField};
@@ -90,7 +92,8 @@ pub(crate) fn known_kind(
     members: &Map<String, Value>,
     kind: LineKind,
 ) -> Result<LineKind, LineFault>
-    ensures { GivesOr result (known_kind_at kind (members_view members.now.entries)) LineFault.Memory }
+    ensures { GivesOr result (option_map_or (λ key. Err (LineFault.Unknown key))
+        (first_unknown (names_of kind) (members_view members.now.entries)) (Ok kind)) LineFault.Memory }
 {
     match first_unknown(members, kind.names()) {
         Some(key) => Err(LineFault::Unknown(Text::new(String::from_str(alloc, key)?))),

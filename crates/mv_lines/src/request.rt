@@ -56,7 +56,7 @@ impl Request {
     }
 
     /// What the value of a line asks.
-    #[tactic(auto, unfolding(crate::specs::Requests::read_request))]
+    #[tactic(auto, unfolding(crate::specs::Requests::read_request), using(crate::proofs::LineLawsLemmas::known_gives))]
     fn from_value(alloc: Global, value: &Value) -> Result<Request, LineFault>
         ensures { GivesOr result (read_request (view value.now)) LineFault.Memory }
     {

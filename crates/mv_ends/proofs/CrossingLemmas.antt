@@ -12,10 +12,10 @@ use Rattle.rtrb.specs.contracts.AnyItemsProtocol.TheImpl as any_members
 use Rattle.rtrb.specs.contracts.producer.Producer as producer_row
 use Rattle.rtrb.proofs.producer.Producer.TheSendSync as producer
 use Rattle.mv_message.proofs.message.Message.TheSendSync as message
+use Rattle.mv_repository.specs.contracts.slots.Slots as slots
 use Rattle.mv_repository.specs.contracts.packs.Packs as packs
 use Rattle.mv_repository.specs.contracts.ledger.Ledger as ledger
 use Rattle.mv_repository.specs.contracts.repository.Repository as repository
-use Rattle.mv_repository.proofs.slots.Slots.TheSendSync as slots
 use Rattle.mv_party.specs.contracts.site.Site as site
 use Rattle.mv_ends.proofs.inlets.Inlets.TheSendSync as inlets
 use Rattle.mv_ends.proofs.parcel.MessageParcel.TheSendSync as message_parcel
@@ -25,8 +25,11 @@ use Rattle.mv_ends.specs.contracts.parcel.FrameParcel as frame_parcel_row
 use Rattle.mv_ends.specs.contracts.inlets.Inlets as inlets_row
 use Rattle.mv_ends.specs.contracts.repo_end.RepoEnd as repo_end
 
+slots_send : IsSend slots.the_row
+slots_send = search (sendable, crosses) depth 80 fits 20000
+
 packs_send : IsSend packs.the_row
-packs_send = search (sendable, crosses, slots.the_send) depth 80 fits 20000
+packs_send = search (sendable, crosses, slots_send) depth 80 fits 20000
 
 ledger_send : IsSend ledger.the_row
 ledger_send = search (sendable, crosses, message.the_send, message.the_sync, packs_send) depth 80 fits 20000

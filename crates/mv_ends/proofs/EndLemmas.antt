@@ -149,11 +149,11 @@ room_left count most hub each lawful few bounded within =
 pub lawful_routed : (hub : HubState) (sender : ℕ) (message : Message) → sender < length hub.parties → IsLawfulRecord (length hub.parties) hub.entries
     → IsLawfulRecord (length hub.parties) (hub.entries ++ Routed sender (routed_count hub.entries sender + 1) message ∷ [])
 lawful_routed hub sender message in_range lawful =
-    record-entered (length hub.parties) hub.entries (Routed sender (routed_count hub.entries sender + 1) message) lawful refl in_range
+    record-entered (length hub.parties) hub.entries (Routed sender (routed_count hub.entries sender + 1) message) lawful (in_range, refl)
 
 pub lawful_closed : (hub : HubState) (sender receiver : ℕ) → sender < length hub.parties → receiver < length hub.parties → is_open hub.entries sender receiver ≡ true
     → IsLawfulRecord (length hub.parties) hub.entries → IsLawfulRecord (length hub.parties) (hub.entries ++ Closed sender receiver ∷ [])
-lawful_closed hub sender receiver one other was_open lawful = record-entered (length hub.parties) hub.entries (Closed sender receiver) lawful was_open (one, other)
+lawful_closed hub sender receiver one other was_open lawful = record-entered (length hub.parties) hub.entries (Closed sender receiver) lawful (one, other, was_open)
 
 -- what is taken next to nothing is all that is taken
 pub takes_after : (sender : ℕ) (message : Message) (first second third : Inlets Message) → SameInlets first second → TakesNothing first second → Takes sender message second third → Takes sender message first third

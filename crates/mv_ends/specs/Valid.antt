@@ -1,12 +1,12 @@
 -- What the hub's end keeps of its rings, beside the hub.
-use Rattle.std.specs.Prelude.{◌≡◌, ℕ, ◌+◌, ◌<◌, ◌≤◌, true, List, [], ◌∷◌, ◌++◌, length, slice_index_or}
-use Rattle.std.specs.List.{All, AllByRecursion-prop}
+use Rattle.std.specs.Prelude.{◌≡◌, ℕ, ◌+◌, ◌<◌, ◌≤◌, true, List, [], length, take, slice_index_or}
+use Rattle.std.specs.List.{All}
 use Rattle.mv_link.specs.Frames.{IsFrameOf}
-use Rattle.std.specs.Coded.{×_prop, Unit-prop, le_prop, Coded-set, coded_bool}
+use Rattle.std.specs.Coded.{×_prop, le_prop, Coded-set, coded_bool}
 use Rattle.std.proofs.Math.Nat.{ℕ_set}
 use Rattle.mv_hub.specs.declared.entry.Entry.{Entry}
 use Rattle.mv_hub.specs.declared.entry.Entry.TheVariants.{Routed, Closed}
-use Rattle.mv_machine.specs.Lawful.{Fits, AllFit, NamesParties, IsLawfulRecord}
+use Rattle.mv_machine.specs.Lawful.{Fits, IsLawfulRecord}
 use Rattle.mv_hub.specs.Record.{routed_from, routed_count, is_open}
 use Rattle.mv_hub.specs.Hub.{HubState, items_on}
 use Rattle.mv_ends.specs.declared.outlets.Outlets.{Outlets}
@@ -45,20 +45,18 @@ AreWithin most hub = (from : ℕ) → from < length hub.parties → routed_count
 
 -- that a record is lawful has one proof at most
 
-Fits-prop : (before : List Entry) (entry : Entry) → IsProp (Fits before entry)
-Fits-prop before (Routed from k message) = ℕ_set k (routed_count before from + 1)
-Fits-prop before (Closed from to) = Coded-set coded_bool (is_open before from to) true
+below-prop : (party count : ℕ) → IsProp (party < count)
+below-prop party count = hlevel le_prop
 
-AllFit-prop : (before entries : List Entry) → IsProp (AllFit before entries)
-AllFit-prop before [] = Unit-prop
-AllFit-prop before (entry ∷ entries) = ×_prop (Fits-prop before entry) (AllFit-prop (before ++ entry ∷ []) entries)
-
-NamesParties-prop : (count : ℕ) (entry : Entry) → IsProp (NamesParties count entry)
-NamesParties-prop count (Routed from k message) = hlevel le_prop
-NamesParties-prop count (Closed from to) = hlevel le_prop
+Fits-prop : (count : ℕ) (before : List Entry) (entry : Entry) → IsProp (Fits count before entry)
+Fits-prop count before (Routed from k message) = ×_prop (below-prop from count) (ℕ_set k (routed_count before from + 1))
+Fits-prop count before (Closed from to) = λ one other i. (
+  below-prop from count one.0 other.0 i,
+  below-prop to count one.1 other.1 i,
+  Coded-set coded_bool (is_open before from to) true one.2 other.2 i,
+)
 
 pub IsLawfulRecord-prop : (count : ℕ) (entries : List Entry) → IsProp (IsLawfulRecord count entries)
 IsLawfulRecord-prop count entries one other = λ i. record {
-  fit = AllFit-prop [] entries one.fit other.fit i;
-  name_parties = AllByRecursion-prop (NamesParties count) (NamesParties-prop count) entries one.name_parties other.name_parties i;
+  fits = λ place entry at. Fits-prop count (take place entries) entry (one.fits place entry at) (other.fits place entry at) i;
 }

@@ -1,22 +1,21 @@
 -- How long the record can grow: each sender routes what it submitted, and each link is closed at most once.
-use Rattle.std.proofs.Common.{◌≡◌, ℕ, zero, suc, ◌+◌, ◌*◌, ◌<◌, ◌≤◌, List, [], ◌∷◌, ◌++◌, length, length-append, cond, false, refl, ap, append_assoc, append-nil, arith}
-use Rattle.std.specs.Prelude.{◌&&◌, nat_lt}
+use Rattle.std.proofs.Common.{◌≡◌, ℕ, zero, suc, ◌+◌, ◌*◌, ◌<◌, ◌≤◌, List, [], ◌∷◌, ◌++◌, length, take, length-append, cond, Some, false, refl, ap, subst, append_assoc, append-nil, arith}
+use Rattle.std.specs.Prelude.{◌&&◌, nat_lt, slice_get}
 use Rattle.std.proofs.Math.Nat.{mul-le-mul_left}
 use Rattle.std.proofs.lemmas.Bool.{eq-eqb, cases_eq, le-ltb}
-use Rattle.std.specs.List.{AllByRecursion}
 use Rattle.mv_message.specs.declared.message.Message.{Message}
 use Rattle.mv_hub.specs.declared.entry.Entry.{Entry}
 use Rattle.mv_hub.specs.declared.entry.Entry.TheVariants.{Routed, Closed}
 use Rattle.mv_hub.specs.Record.{routed_from, routed_count, is_open}
 use Rattle.mv_hub.specs.Links.{gained, link_items, link_items_after}
-use Rattle.mv_hub.specs.Hub.{is_busy, next_items}
+use Rattle.mv_hub.specs.Hub.{is_busy, next_items, items_on}
 use Rattle.mv_hub.proofs.RecordLemmas.{gained_other}
 use Rattle.mv_link.specs.declared.limits.TheConstants.{PARTIES_LIMIT, NUMBER_LIMIT}
 use Rattle.mv_party.specs.declared.limits.TheConstants.{SUBMISSIONS_LIMIT}
 use Rattle.mv_machine.specs.Limits.{most_entries}
-use Rattle.mv_machine.specs.State.{State, submissions_of, items_on, hub_of}
+use Rattle.mv_machine.specs.State.{State, submissions_of, hub_of}
 use Rattle.mv_machine.specs.Laws.{NumbersSuffice}
-use Rattle.mv_machine.specs.Lawful.{AllFit, NamesParties, IsLawfulRecord, IsLawful}
+use Rattle.mv_machine.specs.Lawful.{Fits, IsLawfulRecord, IsLawful}
 use Rattle.mv_machine.proofs.PutLemmas.{routed_count-push}
 
 -- the sum of what a function gives for the numbers below another
@@ -57,23 +56,35 @@ open_from-fewer : (count : ℕ) (before : List Entry) (entry : Entry) (from : �
 unfolding open_from
 open_from-fewer count before entry from = sum_below-mono count _ _ (open-fewer before entry from)
 
+-- each entry fits behind those that stand before it, and behind others
+abbrev AllFit : ℕ → List Entry → List Entry → Type 0
+AllFit count before entries = (place : ℕ) (entry : Entry) → slice_get entries place ≡ Some entry → Fits count (before ++ take place entries) entry
+
+first-fits : (count : ℕ) (before : List Entry) (entry : Entry) (entries : List Entry) → AllFit count before (entry ∷ entries) → Fits count before entry
+first-fits count before entry entries fit = subst (λ (l : List Entry). Fits count l entry) (append-nil before) (fit zero entry refl)
+
+rest-fit : (count : ℕ) (before : List Entry) (entry : Entry) (entries : List Entry) → AllFit count before (entry ∷ entries) → AllFit count (before ++ entry ∷ []) entries
+rest-fit count before entry entries fit place x at = rw append_assoc (fit (suc place) x at)
+
 -- each entry routes a message of a party, or closes a link that was open
-entries-most : (count : ℕ) (before entries : List Entry) → AllFit before entries → AllByRecursion (NamesParties count) entries
+entries-most : (count : ℕ) (before entries : List Entry) → AllFit count before entries
     → length entries + sum_below count (open_from count (before ++ entries)) ≤ sum_below count (open_from count before) + sum_below count (routed_count entries)
-entries-most count before [] fit names = rw append-nil (omega arith)
-entries-most count before (Routed sender k message ∷ entries) fit names =
+entries-most count before [] fit = rw append-nil (omega arith)
+entries-most count before (Routed sender k message ∷ entries) fit =
     let entry = Routed sender k message in
-    let rest = rw append_assoc at (entries-most count (before ++ entry ∷ []) entries fit.1 names.1) in
+    let here = first-fits count before entry entries fit in
+    let rest = rw append_assoc at (entries-most count (before ++ entry ∷ []) entries (rest-fit count before entry entries fit)) in
     let still_open = sum_below-mono count (open_from count (before ++ entry ∷ [])) (open_from count before) (open_from-fewer count before entry) in
-    let more = sum_below-more count sender (routed_count entries) (routed_count (entry ∷ entries)) names.0
+    let more = sum_below-more count sender (routed_count entries) (routed_count (entry ∷ entries)) here.0
     (λ i. omega (arith, routed_count-push (entry ∷ []) entries i)) (rw (eq-eqb sender sender refl) (omega arith)) in
     omega (arith, rest, still_open, more)
-entries-most count before (Closed sender receiver ∷ entries) fit names =
+entries-most count before (Closed sender receiver ∷ entries) fit =
     let entry = Closed sender receiver in
-    let rest = rw append_assoc at (entries-most count (before ++ entry ∷ []) entries fit.1 names.1) in
-    let closed = sum_below-more count sender (open_from count (before ++ entry ∷ [])) (open_from count before) names.0.0 (open_from-fewer count before entry)
-    (unfold open_from in sum_below-more count receiver _ _ names.0.1 (open-fewer before entry sender)
-    (rw (is_open-push before entry sender receiver, fit.0, eq-eqb sender sender refl, eq-eqb receiver receiver refl) (omega arith))) in
+    let here = first-fits count before entry entries fit in
+    let rest = rw append_assoc at (entries-most count (before ++ entry ∷ []) entries (rest-fit count before entry entries fit)) in
+    let closed = sum_below-more count sender (open_from count (before ++ entry ∷ [])) (open_from count before) here.0 (open_from-fewer count before entry)
+    (unfold open_from in sum_below-more count receiver _ _ here.1 (open-fewer before entry sender)
+    (rw (is_open-push before entry sender receiver, here.2, eq-eqb sender sender refl, eq-eqb receiver receiver refl) (omega arith))) in
     omega (arith, rest, closed)
 
 -- what was routed from a party is no more than what it submitted
@@ -87,7 +98,7 @@ pub record-few : (count : ℕ) (entries : List Entry) → IsLawfulRecord count e
     → ((party : ℕ) → party < count → routed_count entries party ≤ SUBMISSIONS_LIMIT) → length entries ≤ most_entries
 unfolding open_from
 record-few count entries lawful parties_few short =
-    let all = entries-most count [] entries lawful.fit lawful.name_parties in
+    let all = entries-most count [] entries lawful.fits in
     let links = sum_below-most count (count * 1) (open_from count []) (λ from lt. sum_below-most count 1 _ (λ to below. omega arith)) in
     let messages = sum_below-most count SUBMISSIONS_LIMIT (routed_count entries) short in
     omega (arith, all, links, messages, mul-le-mul_left count parties_few)
@@ -120,11 +131,6 @@ unfolding is_busy link_items
 numbers_suffice st from to message lawful is_party few =
     let items = items-few st.parties [] st.entries from to in
     let more = gained-few st.parties st.entries from (routed_count st.entries from + 1) message from to in
-    let numbers : nat_lt NUMBER_LIMIT (length (items_on st from to) + length (next_items (hub_of st) from message to)) ≡ false =
+    let numbers : nat_lt NUMBER_LIMIT (length (items_on (hub_of st) from to) + length (next_items (hub_of st) from message to)) ≡ false =
     le-ltb _ _ (omega (arith, items, more, routed_count-few st from lawful is_party, few)) in
     rw numbers (grind arith)
-
--- so is that of a state of so many parties that submitted so many messages each, at most
-pub entries_few : (st : State) → IsLawful st → length st.parties ≤ PARTIES_LIMIT → ((party : ℕ) → length (submissions_of st party) ≤ SUBMISSIONS_LIMIT) → length st.entries ≤ most_entries
-entries_few st lawful parties_few short =
-    record-few (length st.parties) st.entries lawful.of_record parties_few (λ party lt. omega (arith, routed_count-few st party lawful lt, short party))

@@ -1,6 +1,7 @@
 -- Nothing that is routed after the closing of a link goes over it, and the record only grows.
-use Rattle.std.proofs.Common.{◌≡◌, ℕ, zero, suc, ◌+◌, ◌≤◌, Bool, true, false, List, [], ◌∷◌, ◌++◌, length, take, Some, sym, refl, ap, ◌∙◌, append_assoc, append-nil, arith}
+use Rattle.std.proofs.Common.{◌≡◌, ℕ, zero, suc, ◌+◌, ◌≤◌, Bool, true, false, List, [], ◌∷◌, ◌++◌, length, take, cond, Some, sym, refl, ap, ◌∙◌, append_assoc, append-nil, arith}
 use Rattle.std.specs.Prelude.{slice_get}
+use Rattle.std.specs.List.{prefix_len}
 use Rattle.std.proofs.lemmas.Bool.{eq-eqb}
 use Rattle.std.proofs.lemmas.List.Elements.{All-weaker}
 use Rattle.mv_message.specs.declared.message.Message.{Message}
@@ -18,11 +19,20 @@ use Rattle.mv_machine.specs.Replies.{changes_nothing}
 use Rattle.mv_machine.specs.Runs.{Runs}
 use Rattle.mv_machine.specs.Lawful.{IsLawfulRecord, IsLawfulLink, IsLawful}
 use Rattle.mv_machine.specs.Headline.{Follows}
-use Rattle.mv_machine.specs.Laws.{StepsFollow}
+use Rattle.mv_machine.specs.Laws.{InSteps}
 use Rattle.mv_machine.specs.Closing.{before_closing, AreAboutFirst, NothingRoutedLater, NothingSubmittedLater}
-use Rattle.mv_machine.proofs.PutLemmas.{put-each, applied-put, number-at}
+use Rattle.mv_machine.proofs.PutLemmas.{put-each, applied-put}
 use Rattle.mv_machine.proofs.BoundLemmas.{routed_count-few}
 use Rattle.mv_machine.proofs.StepLemmas.{Change, routed, closed, step-changes, asked-changes, run-keeps}
+
+take-more : {A : Type 0} (more : Bool) (n : ℕ) (x : A) (xs : List A) → take (cond more (1 + n) 0) (x ∷ xs) ≡ cond more (x ∷ take n xs) []
+take-more true n x xs = let one : 1 + n ≡ suc n = omega arith in ap (λ m. take m (x ∷ xs)) one
+take-more false n x xs = refl
+
+-- what stands before the closing of a link goes on behind an entry that does not close it
+before_closing-next : (entry : Entry) (entries : List Entry) (from to : ℕ)
+    → before_closing (entry ∷ entries) from to ≡ cond (is_open (entry ∷ []) from to) (entry ∷ before_closing entries from to) []
+before_closing-next entry entries from to = take-more (is_open (entry ∷ []) from to) (prefix_len (λ entry. is_open (entry ∷ []) from to) entries) entry entries
 
 -- a message that was routed while a link was open was routed before its closing
 open-before : (entries : List Entry) (place from to k : ℕ) (message : Message) → slice_get entries place ≡ Some (Routed from k message) → is_open (take place entries) from to ≡ true
@@ -30,9 +40,9 @@ open-before : (entries : List Entry) (place from to k : ℕ) (message : Message)
 open-before [] place from to k message at open_then = absurd (cc)
 open-before (Closed sender receiver ∷ entries) zero from to k message at open_then = absurd (cc)
 open-before (Routed sender number sent ∷ entries) zero from to k message at open_then =
-    let same : sender ≡ from = cc at in rw (eq-eqb sender from same) (omega arith)
-open-before (Routed sender number sent ∷ entries) (suc place) from to k message at open_then = grind (arith, open-before entries place from to k message at open_then)
-open-before (Closed sender receiver ∷ entries) (suc place) from to k message at open_then = grind (arith, open-before entries place from to k message at)
+    let same : sender ≡ from = cc at in rw (before_closing-next (Routed sender number sent) entries from to, eq-eqb sender from same) (omega arith)
+open-before (Routed sender number sent ∷ entries) (suc place) from to k message at open_then = grind (arith, before_closing-next (Routed sender number sent) entries from to, open-before entries place from to k message at open_then)
+open-before (Closed sender receiver ∷ entries) (suc place) from to k message at open_then = grind (arith, before_closing-next (Closed sender receiver) entries from to, open-before entries place from to k message at)
 
 -- what was applied over a link is about messages that were routed before its closing
 pub link_closed : (count : ℕ) (parties : List (List (List ℕ))) (entries : List Entry) (from to : ℕ) (submissions : List Message) (log : List LogEntry)
@@ -42,7 +52,7 @@ link_closed count parties entries from to submissions log lawful link =
     put-each parties entries from to (λ item. number_of item ≤ routed_count (before_closing entries from to) from)
     (λ place item put. omega (
       arith,
-      number-at entries place from (number_of item) put.message lawful.fit put.routed,
+      (lawful.fits place (Routed from (number_of item) put.message) put.routed).1,
       open-before entries place from to (number_of item) put.message put.routed put.still_open,
     ))
     0 0 (items_from log from) (applied-put parties entries from to submissions log link)
@@ -54,12 +64,13 @@ nothing_routed_later st lawful from to from_is_party to_is_party =
 -- once a link is closed, what stands before its closing stays
 before_closing-append : (entries more : List Entry) (from to : ℕ) → is_open entries from to ≡ false → before_closing (entries ++ more) from to ≡ before_closing entries from to
 before_closing-append [] more from to shut = absurd (cc)
-before_closing-append (entry ∷ entries) more from to shut = grind (arith, before_closing-append entries more from to)
+before_closing-append (entry ∷ entries) more from to shut =
+    grind (arith, before_closing-next entry entries from to, before_closing-next entry (entries ++ more) from to, before_closing-append entries more from to)
 
 -- it is no more than was routed at all
 before_closing-few : (entries : List Entry) (from to party : ℕ) → routed_count (before_closing entries from to) party ≤ routed_count entries party
 before_closing-few [] from to party = omega arith
-before_closing-few (entry ∷ entries) from to party = grind (arith, before_closing-few entries from to party)
+before_closing-few (entry ∷ entries) from to party = grind (arith, before_closing-next entry entries from to, before_closing-few entries from to party)
 
 -- the record only grows
 pub follows-same : (st : State) → Follows st st
@@ -79,7 +90,7 @@ change-follows st _ _ (routed from message is_party next free) = record { partie
 change-follows st _ _ (closed from to from_is_party to_is_party still_open) = record { parties = refl; limits = refl; entries = (Closed from to ∷ [], refl) }
 change-follows st _ _ _ = record { parties = refl; limits = refl; entries = ([], append-nil st.entries) }
 
-pub steps_follow : StepsFollow
+pub steps_follow : InSteps (λ old reply new. Follows old new)
 steps_follow = (
   λ old step reply new allowed. change-follows old new (changes_nothing reply) (step-changes old step reply new allowed),
   λ old party key reply new met. change-follows old new (changes_nothing reply) (asked-changes old party key reply new met),

@@ -28,7 +28,7 @@ headline_further first second third a b =
 
 -- over two runs, both states are lawful, and the record of the first goes on in the second
 pub closed_links_stay_closed : ClosedLinksStayClosed
-closed_links_stay_closed parties limits first second first_replies second_replies between new ran_first ran_second =
+closed_links_stay_closed parties limits first first_replies between ran_first second second_replies new ran_second =
     let old = run-sound _ first first_replies between (opening-sound parties limits) ran_first in
     let now = run-sound between second second_replies new old ran_second in (
       nothing_submitted_later between new old.lawful now.lawful (run-follows between second second_replies new ran_second),

@@ -11,7 +11,7 @@ use Rattle.mv_pairs.specs.Pairs.{IsSquare}
 use Rattle.mv_pairs.proofs.PairsLemmas.{put-each, square-put, square-replicate}
 use Rattle.mv_hub.specs.declared.entry.Entry.{Entry}
 use Rattle.mv_hub.specs.declared.entry.Entry.TheVariants.{Closed}
-use Rattle.mv_hub.specs.Hub.{next_entry, with_routed, with_closed}
+use Rattle.mv_hub.specs.Hub.{next_entry, with_routed, with_closed, items_on}
 use Rattle.mv_hub.specs.Record.{routed_from, routed_count, is_open}
 use Rattle.mv_hub.proofs.RecordLemmas.{routed_from-append}
 use Rattle.mv_repository.specs.declared.entry.LogEntry.{LogEntry}
@@ -22,11 +22,11 @@ use Rattle.mv_party.proofs.SiteLemmas.{party-submitted, party-applied}
 use Rattle.mv_machine.specs.declared.step.Step.{Step}
 use Rattle.mv_machine.specs.declared.reply.Reply.{Reply}
 use Rattle.mv_machine.specs.Limits.{Bounds}
-use Rattle.mv_machine.specs.State.{State, hub_of, with_hub, submissions_of, site_of, with_site, with_wire, log_of, items_on, opening}
+use Rattle.mv_machine.specs.State.{State, hub_of, with_hub, submissions_of, site_of, with_site, with_wire, log_of, opening}
 use Rattle.mv_machine.specs.Steps.{next_item}
 use Rattle.mv_machine.specs.Runs.{Allows, Runs}
-use Rattle.mv_machine.specs.Lawful.{Fits, NamesParties, IsLawfulLink, IsLawful, IsWellFormed}
-use Rattle.mv_machine.specs.Laws.{RunsAreLawful}
+use Rattle.mv_machine.specs.Lawful.{Fits, IsLawfulLink, IsLawful, IsWellFormed}
+use Rattle.mv_machine.specs.Laws.{InRuns}
 use Rattle.mv_machine.proofs.PrefixLemmas.{prefix-grows, prefix-maybe}
 use Rattle.mv_machine.proofs.PartLemmas.{record-entered, link-entered, link-applied}
 use Rattle.mv_machine.proofs.StepLemmas.{Change, nothing, submitted, routed, closed, relayed, repeated, dropped, applied, run-keeps}
@@ -56,7 +56,7 @@ party-written party site submissions logs each also is_party new old = grind (ar
 site-sound : (st : State) (site : SiteState) → IsSound st
     → (site.party < length st.parties → IsLawfulParty (length st.parties) site.submissions site.log)
     → (site.party < length st.parties → IsPrefix (routed_from st.entries site.party) site.submissions)
-    → ((sender : ℕ) → sender < length st.parties → site.party < length st.parties → IsPrefix (items_from site.log sender) (items_on st sender site.party))
+    → ((sender : ℕ) → sender < length st.parties → site.party < length st.parties → IsPrefix (items_from site.log sender) (items_on (hub_of st) sender site.party))
     → IsSound (with_site st site)
 site-sound st site sound lawful order items = record {
   well_formed = record {
@@ -71,7 +71,7 @@ site-sound st site sound lawful order items = record {
     of_link = λ from to from_is_party to_is_party. record {
       routed = put-each (λ party l. party < length st.parties → IsPrefix (routed_from st.entries party) l) st.submissions site.party site.submissions []
           order (λ party is_party. (sound.lawful.of_link party party is_party is_party).routed) from from_is_party;
-      applied = put-each (λ party l. party < length st.parties → IsPrefix (items_from l from) (items_on st from party)) st.logs site.party site.log []
+      applied = put-each (λ party l. party < length st.parties → IsPrefix (items_from l from) (items_on (hub_of st) from party)) st.logs site.party site.log []
           (items from from_is_party) (λ party is_party. (sound.lawful.of_link from party from_is_party is_party).applied) to to_is_party;
     };
   };
@@ -97,11 +97,11 @@ applied-sound st from to item sound from_is_party next =
     (λ same. subst (λ u. next_item st u to ≡ Some item) same next)).applied)
 
 -- the record gained an entry: what was routed stays a prefix where the entry's own message is the next of its sender
-entered-sound : (st : State) (entry : Entry) → IsSound st → Fits st.entries entry → NamesParties (length st.parties) entry
+entered-sound : (st : State) (entry : Entry) → IsSound st → Fits (length st.parties) st.entries entry
     → ((party : ℕ) → party < length st.parties → IsPrefix (routed_from st.entries party ++ routed_from (entry ∷ []) party) (submissions_of st party))
     → IsSound (record st { entries = st.entries ++ entry ∷ [] })
-entered-sound st entry sound fits names order =
-    let of_record = record-entered (length st.parties) st.entries entry sound.lawful.of_record fits names in
+entered-sound st entry sound fits order =
+    let of_record = record-entered (length st.parties) st.entries entry sound.lawful.of_record fits in
     let of_link : (from to : ℕ) → from < length st.parties → to < length st.parties
     → IsLawfulLink st.parties (st.entries ++ entry ∷ []) from to (submissions_of st from) (log_of st to) = λ from to from_is_party to_is_party.
     link-entered st.parties st.entries entry from to (submissions_of st from) (log_of st to) (sound.lawful.of_link from to from_is_party to_is_party)
@@ -113,7 +113,7 @@ pub routed-sound : (st : State) (from : ℕ) (message : Message) → IsSound st 
     → slice_get (submissions_of st from) (routed_count st.entries from) ≡ Some message
     → IsSound (with_hub st (with_routed (hub_of st) from message))
 routed-sound st from message sound from_is_party next =
-    entered-sound st (next_entry (hub_of st) from message) sound refl from_is_party (λ party is_party.
+    entered-sound st (next_entry (hub_of st) from message) sound (from_is_party, refl) (λ party is_party.
     prefix-maybe (routed_from st.entries party) _ (eqb from party) message (sound.lawful.of_link party party is_party is_party).routed
     (λ same. subst (λ u. slice_get (submissions_of st u) (routed_count st.entries u) ≡ Some message) (eqb-true from party same) next))
 
@@ -121,7 +121,7 @@ routed-sound st from message sound from_is_party next =
 pub closed-sound : (st : State) (from to : ℕ) → IsSound st → from < length st.parties → to < length st.parties → is_open st.entries from to ≡ true
     → IsSound (with_hub st (with_closed (hub_of st) from to))
 closed-sound st from to sound from_is_party to_is_party still_open =
-    entered-sound st (Closed from to) sound still_open (from_is_party, to_is_party)
+    entered-sound st (Closed from to) sound (from_is_party, to_is_party, still_open)
     (λ party is_party. rw append-nil (sound.lawful.of_link party party is_party is_party).routed)
 
 -- whatever a step changes
@@ -146,11 +146,11 @@ opening-sound parties limits = record {
     wires_each = square-replicate (length parties) [];
   };
   lawful = record {
-    of_record = record { fit = tt; name_parties = tt };
+    of_record = record { fits = λ place entry at. absurd (cc) };
     of_party = λ party is_party. rw (none {A = Message} party is_party, none {A = LogEntry} party is_party) (record { answered = refl; from_parties = tt });
     of_link = λ from to from_is_party to_is_party. record {
       routed = (submissions_of (opening parties limits) from, refl);
-      applied = rw (none {A = LogEntry} to to_is_party) (items_on (opening parties limits) from to, refl);
+      applied = rw (none {A = LogEntry} to to_is_party) (items_on (hub_of (opening parties limits)) from to, refl);
     };
   };
 }
@@ -161,9 +161,14 @@ opening-sound parties limits = record {
 pub run-sound : (old : State) (steps : List Step) (replies : List Reply) (new : State) → IsSound old → Runs old steps replies new → IsSound new
 run-sound old steps replies new sound run = run-keeps IsSound change-sound old steps replies new run sound
 
-pub runs_are_lawful : RunsAreLawful
-runs_are_lawful parties limits steps replies new run =
-    let sound = run-sound (opening parties limits) steps replies new (opening-sound parties limits) run in (sound.well_formed, sound.lawful)
+runs_are_sound : InRuns IsSound
+runs_are_sound parties limits steps replies new run = run-sound (opening parties limits) steps replies new (opening-sound parties limits) run
+
+pub runs_are_well_formed : InRuns IsWellFormed
+runs_are_well_formed parties limits steps replies new run = (runs_are_sound parties limits steps replies new run).well_formed
+
+pub runs_are_lawful : InRuns IsLawful
+runs_are_lawful parties limits steps replies new run = (runs_are_sound parties limits steps replies new run).lawful
 
 -- a run and one more step
 pub runs-push : (old : State) (steps : List Step) (replies : List Reply) (between : State) (step : Step) (reply : Reply) (new : State)

@@ -12,7 +12,7 @@ use Rattle.mv_pairs.specs.Pairs.{cell, put, IsSquare}
 use Rattle.mv_pairs.proofs.PairsLemmas.{put-each, put-each_pair, cell-put_same}
 use Rattle.mv_hub.specs.declared.entry.Entry.{Entry}
 use Rattle.mv_hub.specs.declared.entry.Entry.TheVariants.{Closed}
-use Rattle.mv_hub.specs.Hub.{next_entry, is_busy, busy_party, route_fault}
+use Rattle.mv_hub.specs.Hub.{next_entry, is_busy, busy_party, route_fault, items_on, sent_of}
 use Rattle.mv_hub.specs.Record.{routed_count}
 use Rattle.mv_hub.specs.Links.{gained, link_items}
 use Rattle.mv_hub.proofs.RecordLemmas.{link_items-push, gained_other}
@@ -22,12 +22,10 @@ use Rattle.mv_repository.specs.Query.{answer_to}
 use Rattle.mv_party.specs.Site.{SiteState, entry_from, with_submission, with_applied}
 use Rattle.mv_party.specs.Calls.{ask_fault, answer_fault, apply_fault}
 use Rattle.mv_party.proofs.SiteLemmas.{ask-free, answer-free}
-use Rattle.mv_machine.specs.declared.step.Step.{Step}
-use Rattle.mv_machine.specs.declared.reply.Reply.{Reply}
 use Rattle.mv_machine.specs.Limits.{Bounds}
-use Rattle.mv_machine.specs.State.{State, is_party, submissions_of, waiting_of, is_uplink_full, hub_of, site_of, with_site, with_wire, sent_of, wire_of, log_of, items_on, opening}
-use Rattle.mv_machine.specs.Runs.{Runs}
+use Rattle.mv_machine.specs.State.{State, is_party, submissions_of, waiting_of, is_uplink_full, hub_of, site_of, with_site, with_wire, wire_of, log_of, opening}
 use Rattle.mv_machine.specs.Bounded.{KeepsLimits}
+use Rattle.mv_machine.specs.Laws.{InRuns}
 use Rattle.mv_machine.proofs.LawfulLemmas.{IsSound, change-sound, opening-sound}
 use Rattle.mv_machine.proofs.PutLemmas.{routed_count-push}
 use Rattle.mv_machine.proofs.StepLemmas.{Change, nothing, submitted, routed, closed, relayed, repeated, dropped, applied, run-keeps}
@@ -61,11 +59,11 @@ submitted-keeps st from message log k free =
 -- other frames are under way on a link
 wired-keeps : (st : State) (from to : ℕ) (numbers : List ℕ) → KeepsLimits st
     → (from < length st.parties → to < length st.parties → length numbers ≤ st.limits.wire)
-    → (from < length st.parties → to < length st.parties → All (λ number. (1 ≤ number) × (number ≤ sent_of st from to)) numbers)
+    → (from < length st.parties → to < length st.parties → All (λ number. (1 ≤ number) × (number ≤ sent_of (hub_of st) from to)) numbers)
     → KeepsLimits (with_wire st from to numbers)
 wired-keeps st from to numbers k few known =
     let under_way = put-each_pair (λ i j w. i < length st.parties → j < length st.parties → length w ≤ st.limits.wire) st.wires from to numbers [] few k.under_way in
-    let known = put-each_pair (λ i j w. i < length st.parties → j < length st.parties → All (λ number. (1 ≤ number) × (number ≤ sent_of st i j)) w) st.wires from to numbers [] known k.known in
+    let known = put-each_pair (λ i j w. i < length st.parties → j < length st.parties → All (λ number. (1 ≤ number) × (number ≤ sent_of (hub_of st) i j)) w) st.wires from to numbers [] known k.known in
     assumption (under_way, known)
 
 -- the front of a wire is gone
@@ -73,29 +71,29 @@ dropped-keeps : (st : State) (from to number : ℕ) (rest : List ℕ) → KeepsL
 dropped-keeps st from to number rest k front =
     wired-keeps st from to rest k
     (λ a b. omega (arith, k.under_way from to a b, ap length front))
-    (λ a b. All-tail (λ n. (1 ≤ n) × (n ≤ sent_of st from to)) number rest (subst (All (λ n. (1 ≤ n) × (n ≤ sent_of st from to))) front (k.known from to a b)))
+    (λ a b. All-tail (λ n. (1 ≤ n) × (n ≤ sent_of (hub_of st) from to)) number rest (subst (All (λ n. (1 ≤ n) × (n ≤ sent_of (hub_of st) from to))) front (k.known from to a b)))
 
 -- one more frame is under way, which was relayed
-pushed-keeps : (st : State) (from to number : ℕ) → KeepsLimits st → length (wire_of st from to) < st.limits.wire → 1 ≤ number → number ≤ sent_of st from to
+pushed-keeps : (st : State) (from to number : ℕ) → KeepsLimits st → length (wire_of st from to) < st.limits.wire → 1 ≤ number → number ≤ sent_of (hub_of st) from to
     → KeepsLimits (with_wire st from to (wire_of st from to ++ number ∷ []))
 pushed-keeps st from to number k room least most =
     wired-keeps st from to (wire_of st from to ++ number ∷ []) k
     (λ a b. omega (arith, room, length-append (wire_of st from to) (number ∷ [])))
-    (λ a b. All-append (λ n. (1 ≤ n) × (n ≤ sent_of st from to)) (wire_of st from to) (number ∷ []) (k.known from to a b)
-    (All-cons (λ n. (1 ≤ n) × (n ≤ sent_of st from to)) number [] (least, most) (All-nil (λ n. (1 ≤ n) × (n ≤ sent_of st from to)))))
+    (λ a b. All-append (λ n. (1 ≤ n) × (n ≤ sent_of (hub_of st) from to)) (wire_of st from to) (number ∷ []) (k.known from to a b)
+    (All-cons (λ n. (1 ≤ n) × (n ≤ sent_of (hub_of st) from to)) number [] (least, most) (All-nil (λ n. (1 ≤ n) × (n ≤ sent_of (hub_of st) from to)))))
 
 -- the next item of a link counts as relayed
-sent-keeps : (st : State) (from to : ℕ) → KeepsLimits st → (sent_of st from to ≡ length (items_on st from to) → ⊥)
-    → KeepsLimits (record st { sent = put st.sent from to (sent_of st from to + 1) })
+sent-keeps : (st : State) (from to : ℕ) → KeepsLimits st → (sent_of (hub_of st) from to ≡ length (items_on (hub_of st) from to) → ⊥)
+    → KeepsLimits (record st { sent = put st.sent from to (sent_of (hub_of st) from to + 1) })
 sent-keeps st from to k some = record {
   submitted = k.submitted;
   waiting = k.waiting;
   under_way = k.under_way;
-  known = λ i j a b. All-weaker (λ n. (1 ≤ n) × (n ≤ sent_of st i j)) (λ n. (1 ≤ n) × (n ≤ cell (put st.sent from to (sent_of st from to + 1)) i j 0))
+  known = λ i j a b. All-weaker (λ n. (1 ≤ n) × (n ≤ sent_of (hub_of st) i j)) (λ n. (1 ≤ n) × (n ≤ cell (put st.sent from to (sent_of (hub_of st) from to + 1)) i j 0))
       (λ n bounds. (bounds.0, omega (arith, bounds.1, grown i j))) (wire_of st i j) (k.known i j a b);
-  relayed = put-each_pair (λ i j n. i < length st.parties → j < length st.parties → n ≤ length (items_on st i j)) st.sent from to (sent_of st from to + 1) 0
+  relayed = put-each_pair (λ i j n. i < length st.parties → j < length st.parties → n ≤ length (items_on (hub_of st) i j)) st.sent from to (sent_of (hub_of st) from to + 1) 0
       (λ a b. omega (arith, k.relayed from to a b, some)) k.relayed;
-  unsent = put-each_pair (λ i j n. i < length st.parties → j < length st.parties → length (items_on st i j) - n ≤ st.limits.window) st.sent from to (sent_of st from to + 1) 0
+  unsent = put-each_pair (λ i j n. i < length st.parties → j < length st.parties → length (items_on (hub_of st) i j) - n ≤ st.limits.window) st.sent from to (sent_of (hub_of st) from to + 1) 0
       (λ a b. omega (arith, k.unsent from to a b)) k.unsent;
 }
   where
@@ -105,7 +103,7 @@ sent-keeps st from to k some = record {
 -- the record gained an entry, where each link has room for what this puts on it
 entered-keeps : (st : State) (entry : Entry) → KeepsLimits st
     → ((from to : ℕ) → from < length st.parties → to < length st.parties
-    → length (items_on st from to) - sent_of st from to + length (gained st.parties st.entries entry from to) ≤ st.limits.window)
+    → length (items_on (hub_of st) from to) - sent_of (hub_of st) from to + length (gained st.parties st.entries entry from to) ≤ st.limits.window)
     → KeepsLimits (record st { entries = st.entries ++ entry ∷ [] })
 entered-keeps st entry k room = record {
   submitted = k.submitted;
@@ -122,8 +120,8 @@ entered-keeps st entry k room = record {
   unsent = λ from to a b. omega (arith, room from to a b, longer from to);
 }
   where
-    longer : (from to : ℕ) → length (link_items st.parties (st.entries ++ entry ∷ []) from to) ≡ length (items_on st from to) + length (gained st.parties st.entries entry from to)
-    longer from to = ap length (link_items-push st.parties st.entries entry from to) ∙ length-append (items_on st from to) (gained st.parties st.entries entry from to)
+    longer : (from to : ℕ) → length (link_items st.parties (st.entries ++ entry ∷ []) from to) ≡ length (items_on (hub_of st) from to) + length (gained st.parties st.entries entry from to)
+    longer from to = ap length (link_items-push st.parties st.entries entry from to) ∙ length-append (items_on (hub_of st) from to) (gained st.parties st.entries entry from to)
 
 -- where the hub has no fault, no link is busy
 route-free : (st : State) (from : ℕ) (message : Message) → route_fault (hub_of st) from message ≡ None → find (is_busy (hub_of st) from message) (range_with_len 0 (length st.parties)) ≡ None
@@ -133,7 +131,7 @@ route-free st from message free = grind arith
 -- what a routed message puts on the links from its sender fits, where none of them is full, and it puts nothing on others
 routed-room : (st : State) (from : ℕ) (message : Message) → KeepsLimits st → ((to : ℕ) → to < length st.parties → is_busy (hub_of st) from message to ≡ false)
     → (sender to : ℕ) → sender < length st.parties → to < length st.parties
-    → length (items_on st sender to) - sent_of st sender to + length (gained st.parties st.entries (next_entry (hub_of st) from message) sender to) ≤ st.limits.window
+    → length (items_on (hub_of st) sender to) - sent_of (hub_of st) sender to + length (gained st.parties st.entries (next_entry (hub_of st) from message) sender to) ≤ st.limits.window
 unfolding is_busy
 routed-room st from message k free sender to a b =
     grind (arith, k.unsent sender to a b, free to b, gained_other st.parties st.entries from (routed_count st.entries from + 1) message sender to)
@@ -163,9 +161,9 @@ change-keeps st _ _ (routed from message is_party next free) square k =
 change-keeps st _ _ (closed from to from_is_party to_is_party still_open) square k =
     entered-keeps st (Closed from to) k (λ sender receiver a b. omega (arith, k.unsent sender receiver a b))
 change-keeps st _ _ (relayed from to from_is_party to_is_party room some) square k =
-    let now : cell (put st.sent from to (sent_of st from to + 1)) from to 0 ≡ sent_of st from to + 1 =
-    cell-put_same (length st.parties) st.sent from to (sent_of st from to + 1) 0 square from_is_party to_is_party in
-    pushed-keeps (record st { sent = put st.sent from to (sent_of st from to + 1) }) from to (sent_of st from to + 1) (sent-keeps st from to k some) room (omega arith) (omega (arith, now))
+    let now : cell (put st.sent from to (sent_of (hub_of st) from to + 1)) from to 0 ≡ sent_of (hub_of st) from to + 1 =
+    cell-put_same (length st.parties) st.sent from to (sent_of (hub_of st) from to + 1) 0 square from_is_party to_is_party in
+    pushed-keeps (record st { sent = put st.sent from to (sent_of (hub_of st) from to + 1) }) from to (sent_of (hub_of st) from to + 1) (sent-keeps st from to k some) room (omega arith) (omega (arith, now))
 change-keeps st _ _ (repeated from to number room least most) square k = pushed-keeps st from to number k room least most
 change-keeps st _ _ (dropped from to number rest front) square k = dropped-keeps st from to number rest k front
 change-keeps st _ _ (applied from to number rest item is_party front next free) square k =
@@ -177,7 +175,7 @@ opening-keeps parties limits = record {
   submitted = λ party is_party. rw (get_or-replicate {A = List Message} (length parties) party [] [] is_party) (omega arith);
   waiting = λ party is_party. rw (get_or-replicate {A = List Message} (length parties) party [] [] is_party) (omega arith);
   under_way = λ from to a b. rw (none {A = List ℕ} [] from to a b) (omega arith);
-  known = λ from to a b. rw (none {A = List ℕ} [] from to a b) (All-nil (λ n. (1 ≤ n) × (n ≤ sent_of (opening parties limits) from to)));
+  known = λ from to a b. rw (none {A = List ℕ} [] from to a b) (All-nil (λ n. (1 ≤ n) × (n ≤ sent_of (hub_of (opening parties limits)) from to)));
   relayed = λ from to a b. omega (arith, none {A = ℕ} 0 from to a b);
   unsent = λ from to a b. omega arith;
 }
@@ -186,8 +184,7 @@ opening-keeps parties limits = record {
     none x from to a b = rw (get_or-replicate (length parties) from (replicate (length parties) x) [] a) (get_or-replicate (length parties) to x x b)
 
 -- every run from an opening
-pub limits_kept : (parties : List (List (List ℕ))) (limits : Bounds) (steps : List Step) (replies : List Reply) (new : State)
-    → Runs (opening parties limits) steps replies new → KeepsLimits new
+pub limits_kept : InRuns KeepsLimits
 limits_kept parties limits steps replies new run =
     (run-keeps (λ (st : State). IsSound st × KeepsLimits st)
     (λ old between quiet change both. (change-sound old between quiet change both.0, change-keeps old between quiet change both.0.well_formed.sent_each both.1))

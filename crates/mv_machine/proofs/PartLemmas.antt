@@ -1,7 +1,5 @@
 -- A record and a link stay lawful with one more entry, submission or item.
-use Rattle.std.proofs.Common.{◌≡◌, ℕ, List, [], ◌∷◌, ◌++◌, length, eqb, eqb-true, Some, arith}
-use Rattle.std.proofs.lemmas.Grind.{common_steps}
-use Rattle.std.specs.List.{AllByRecursion}
+use Rattle.std.proofs.Common.{◌≡◌, ℕ, List, [], ◌∷◌, ◌++◌, length, eqb, eqb-true, Some}
 use Rattle.std.specs.Prelude.{slice_get}
 use mathlib.Core.List.{IsPrefix}
 use Rattle.mv_message.specs.declared.message.Message.{Message}
@@ -12,27 +10,14 @@ use Rattle.mv_hub.proofs.RecordLemmas.{link_items-push}
 use Rattle.mv_repository.specs.declared.entry.LogEntry.{LogEntry}
 use Rattle.mv_repository.specs.Log.{items_from}
 use Rattle.mv_party.proofs.SiteLemmas.{items_from-push}
-use Rattle.mv_machine.specs.Lawful.{Fits, AllFit, NamesParties, IsLawfulRecord, IsLawfulLink}
+use Rattle.mv_machine.specs.Lawful.{Fits, IsLawfulRecord, IsLawfulLink}
 use Rattle.mv_machine.specs.PartLaws.{LinksStayLawful}
-use Rattle.mv_machine.proofs.PrefixLemmas.{prefix-grows, prefix-maybe}
-
--- one more entry fits behind those that fit
-AllFit-push : (before entries : List Entry) (entry : Entry) → AllFit before entries → Fits (before ++ entries) entry → AllFit before (entries ++ entry ∷ [])
-AllFit-push before [] entry all fits = grind (arith, common_steps)
-AllFit-push before (x ∷ entries) entry all fits = grind (arith, common_steps, AllFit-push (before ++ x ∷ []) entries entry all.1)
-
--- one more entry names parties
-name_parties-push : (count : ℕ) (entries : List Entry) (entry : Entry) → AllByRecursion (NamesParties count) entries → NamesParties count entry → AllByRecursion (NamesParties count) (entries ++ entry ∷ [])
-name_parties-push count [] entry all names = (names, tt)
-name_parties-push count (x ∷ entries) entry all names = (all.0, name_parties-push count entries entry all.1 names)
+use Rattle.mv_machine.proofs.PrefixLemmas.{prefix-grows, prefix-maybe, each-push}
 
 -- the record gained an entry
-pub record-entered : (count : ℕ) (entries : List Entry) (entry : Entry) → IsLawfulRecord count entries → Fits entries entry → NamesParties count entry
+pub record-entered : (count : ℕ) (entries : List Entry) (entry : Entry) → IsLawfulRecord count entries → Fits count entries entry
     → IsLawfulRecord count (entries ++ entry ∷ [])
-record-entered count entries entry lawful fits names = record {
-  fit = AllFit-push [] entries entry lawful.fit fits;
-  name_parties = name_parties-push count entries entry lawful.name_parties names;
-}
+record-entered count entries entry lawful fits = record { fits = each-push (Fits count) entries entry lawful.fits fits }
 
 pub ruleset record_entered = (record-entered)
 

@@ -1,5 +1,5 @@
 -- Prefixes of lists that grow at their end.
-use Rattle.std.proofs.Common.{◌≡◌, ℕ, Bool, true, false, List, [], ◌∷◌, ◌++◌, length, cond, sym, refl, ap, ◌∙◌, subst, append_assoc, append-nil, arith}
+use Rattle.std.proofs.Common.{◌≡◌, ℕ, zero, suc, Bool, true, false, List, [], ◌∷◌, ◌++◌, length, take, cond, sym, refl, ap, ◌∙◌, subst, append_assoc, append-nil, arith}
 use Rattle.std.specs.Prelude.{All, Some, slice_get}
 use Rattle.std.proofs.Math.Seq.{take-append_seam}
 use Rattle.std.proofs.lemmas.List.Elements.{All-take}
@@ -31,6 +31,14 @@ slice_get-append xs ys i x e = grind (arith, common_steps, gets)
 
 pub slice_get-behind : {A : Type 0} (xs : List A) (x : A) (ys : List A) → slice_get (xs ++ x ∷ ys) (length xs) ≡ Some x
 slice_get-behind xs x ys = grind (arith, common_steps, gets)
+
+-- what holds of each member of a list and those before it holds of each of a longer one, where it holds of the new member
+pub each-push : {A : Type 0} (P : List A → A → Type 0) (xs : List A) (y : A) → ((i : ℕ) (x : A) → slice_get xs i ≡ Some x → P (take i xs) x) → P xs y
+    → (i : ℕ) (x : A) → slice_get (xs ++ y ∷ []) i ≡ Some x → P (take i (xs ++ y ∷ [])) x
+each-push P [] y each last zero x at = let same : y ≡ x = cc at in subst (P []) same last
+each-push P [] y each last (suc i) x at = absurd (cc)
+each-push P (z ∷ xs) y each last zero x at = each zero x at
+each-push P (z ∷ xs) y each last (suc i) x at = each-push (λ before w. P (z ∷ before) w) xs y (λ j w there. each (suc j) w there) last i x at
 
 -- what holds of each member of a list holds of each of a front
 pub All-front : {A : Type 0} (P : A → Type 0) (xs ys : List A) → All P (xs ++ ys) → All P xs

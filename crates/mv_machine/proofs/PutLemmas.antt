@@ -1,7 +1,6 @@
 -- Which entry of the record put each item on a link: the items of a link are put there in the order of the record.
-use Rattle.std.proofs.Common.{◌≡◌, ℕ, zero, suc, ◌+◌, ◌<◌, ◌≤◌, Bool, true, false, List, [], ◌∷◌, ◌++◌, length, take, cond, eqb, Some, refl, ap, ◌∙◌, append_assoc, arith, length-append}
+use Rattle.std.proofs.Common.{◌≡◌, ℕ, ◌+◌, ◌<◌, ◌≤◌, Bool, true, false, List, [], ◌∷◌, ◌++◌, length, take, cond, eqb, Some, refl, ap, ◌∙◌, append_assoc, arith, length-append}
 use Rattle.std.specs.Prelude.{All, slice_get, ◌&&◌, IsTrue, nat_lt}
-use Rattle.std.proofs.lemmas.Grind.{common_steps}
 use Rattle.std.proofs.lemmas.Bool.{eqb-true, eq-eqb, and_parts}
 use Rattle.std.proofs.lemmas.List.{length_push}
 use Rattle.std.proofs.lemmas.List.Elements.{All-nil, All-cons, All-head, All-tail}
@@ -20,7 +19,7 @@ use Rattle.mv_hub.specs.Links.{gained, link_items_after, link_items}
 use Rattle.mv_repository.specs.declared.entry.LogEntry.{LogEntry}
 use Rattle.mv_repository.specs.Log.{items_from}
 use Rattle.mv_machine.specs.State.{State, log_of}
-use Rattle.mv_machine.specs.Lawful.{Fits, AllFit, IsLawfulLink, IsLawful}
+use Rattle.mv_machine.specs.Lawful.{IsLawfulLink, IsLawful}
 use Rattle.mv_machine.proofs.PrefixLemmas.{slice_get-behind}
 
 -- an item is made of a message that was routed behind these entries, under this stamp
@@ -148,15 +147,3 @@ each-entry P count (first ∷ log) parties items =
 
 pub routed_count-push : (before after : List Entry) (party : ℕ) → routed_count (before ++ after) party ≡ routed_count before party + routed_count after party
 routed_count-push before after party = ap length (routed_from-append before after party) ∙ length-append (routed_from before party) (routed_from after party)
-
--- each entry of a record fits behind those that stand before it
-pub fits-at : (before entries : List Entry) (place : ℕ) (entry : Entry) → AllFit before entries → slice_get entries place ≡ Some entry
-    → Fits (before ++ take place entries) entry
-fits-at before [] place entry all at = absurd (cc)
-fits-at before (first ∷ entries) zero entry all at = grind (arith, common_steps)
-fits-at before (first ∷ entries) (suc place) entry all at = grind (arith, common_steps, fits-at (before ++ first ∷ []) entries place entry all.1 at)
-
--- so a message is routed under the number that follows those of its sender
-pub number-at : (entries : List Entry) (place from k : ℕ) (message : Message) → AllFit [] entries → slice_get entries place ≡ Some (Routed from k message)
-    → k ≡ routed_count (take place entries) from + 1
-number-at entries place from k message all at = fits-at [] entries place (Routed from k message) all at

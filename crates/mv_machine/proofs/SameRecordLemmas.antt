@@ -13,7 +13,8 @@ use Rattle.mv_repository.specs.Log.{items_from}
 use Rattle.mv_repository.specs.Agreement.{AgreeOn}
 use Rattle.mv_repository.proofs.SameAboutLemmas.{same_entries}
 use Rattle.mv_party.specs.Site.{entry_from}
-use Rattle.mv_machine.specs.State.{State, log_of, items_on, applied_count}
+use Rattle.mv_hub.specs.Hub.{items_on}
+use Rattle.mv_machine.specs.State.{State, log_of, applied_count, hub_of}
 use Rattle.mv_machine.specs.Lawful.{IsLawful}
 use Rattle.mv_machine.proofs.PutLemmas.{each-entry}
 use Rattle.mv_machine.proofs.StampLemmas.{stamps_distinct}
@@ -54,8 +55,8 @@ records_decide one other lawful also parties entries party is_party counts pack 
     let count : length other.parties ≡ length one.parties = ap length parties in
     let there : party < length other.parties = omega (arith, count, is_party) in
     let same : (from : ℕ) → from < length one.parties → items_from (log_of one party) from ≡ items_from (log_of other party) from = λ from lt.
-    let on_link : items_on other from party ≡ items_on one from party = λ i. link_items (parties i) (entries i) from party in
-    prefix-same (items_from (log_of one party) from) (items_from (log_of other party) from) (items_on one from party)
+    let on_link : items_on (hub_of other) from party ≡ items_on (hub_of one) from party = λ i. link_items (parties i) (entries i) from party in
+    prefix-same (items_from (log_of one party) from) (items_from (log_of other party) from) (items_on (hub_of one) from party)
     (lawful.of_link from party lt is_party).applied
     (subst (IsPrefix (items_from (log_of other party) from)) on_link (also.of_link from party (omega (arith, count, lt)) there).applied)
     (sym (counts from lt)) in

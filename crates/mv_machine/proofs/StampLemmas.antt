@@ -19,9 +19,7 @@ use Rattle.mv_repository.proofs.StampsLemmas.{stamp_in, stamp_at, HasNoStampTwic
 use Rattle.mv_machine.specs.State.{State, log_of}
 use Rattle.mv_machine.specs.Lawful.{IsLawful}
 use Rattle.mv_machine.specs.Stamps.{StampsAreDistinct, RepositoriesAgree}
-use Rattle.mv_machine.specs.Laws.{LawfulStampsAreDistinct}
 use Rattle.mv_machine.proofs.PutLemmas.{ArePut, put-rest, log-put, each-entry}
-use Rattle.mv_machine.proofs.SubmittedLemmas.{applied_submitted}
 
 module _ (parties : List (List (List ℕ))) (entries : List Entry) (to : ℕ) where
   -- the items that a log has from each sender are put on their links
@@ -80,9 +78,6 @@ stamps_distinct st lawful party is_party =
     distinct-stamps (log_of st party)
     (log-distinct st.parties st.entries party (length st.parties) (log_of st party) (lawful.of_party party is_party).from_parties
     (λ sender sender_is_party. log-put st sender party lawful sender_is_party is_party))
-
-pub stamps_are_distinct : LawfulStampsAreDistinct
-stamps_are_distinct st lawful = (applied_submitted st lawful, stamps_distinct st lawful)
 
 pub repositories_agree : (st : State) → IsLawful st → RepositoriesAgree st
 repositories_agree st lawful pack one other one_is_party other_is_party same =

@@ -1,12 +1,12 @@
 -- What a step changes, and what it has seen to before: one lemma for all that every step keeps.
 use Rattle.std.proofs.Common.{◌≡◌, ℕ, ◌+◌, ◌<◌, ◌≤◌, Bool, true, false, List, [], ◌∷◌, ◌++◌, length, Some, None, refl, sym, subst, arith}
-use Rattle.std.specs.Prelude.{slice_get, MatchBool, IsTrue}
+use Rattle.std.specs.Prelude.{slice_get, IsTrue}
 use Rattle.mv_pack.specs.declared.key.PackKey.{PackKey}
 use Rattle.mv_message.specs.declared.message.Message.{Message}
 use Rattle.mv_link.specs.declared.item.Item.{Item}
 use Rattle.mv_link.specs.declared.incoming.Look.TheVariants as look
 use Rattle.mv_link.proofs.LinkLemmas.{next-number}
-use Rattle.mv_hub.specs.Hub.{route_fault, with_routed, with_relayed, with_closed}
+use Rattle.mv_hub.specs.Hub.{route_fault, with_routed, with_relayed, with_closed, items_on, sent_of}
 use Rattle.mv_hub.specs.Record.{routed_count, is_open}
 use Rattle.mv_party.specs.Site.{with_submission, with_applied, answers_in}
 use Rattle.mv_party.specs.Calls.{ask_fault, apply_fault}
@@ -15,11 +15,13 @@ use Rattle.mv_party.proofs.SiteLemmas.{submit-free}
 use Rattle.mv_machine.specs.declared.step.Step.{Step}
 use Rattle.mv_machine.specs.declared.step.Step.TheVariants.{Submit, Verify, Route, Relay, Apply, Repeat, Close, Lose, Verdict}
 use Rattle.mv_machine.specs.declared.reply.Reply.{Reply}
-use Rattle.mv_machine.specs.Replies.{changes_nothing, wants_memory, takes_memory}
-use Rattle.mv_machine.specs.State.{State, submissions_of, is_uplink_full, hub_of, with_hub, site_of, with_site, with_wire, sent_of, wire_of, items_on}
+use Rattle.mv_machine.specs.declared.reply.Reply.TheVariants.{Refused}
+use Rattle.mv_machine.specs.declared.reply.Refusal.TheVariants.{Memory}
+use Rattle.mv_machine.specs.Replies.{changes_nothing}
+use Rattle.mv_machine.specs.State.{State, submissions_of, is_uplink_full, hub_of, with_hub, site_of, with_site, with_wire, wire_of}
 use Rattle.mv_machine.specs.Steps.{Answered, submit, ask, verify, verdict, route, relay, next_item, apply, repeat, close, lose, outcome}
 use Rattle.mv_machine.specs.Runs.{Meets, Allows, Runs}
-use Rattle.mv_machine.specs.Laws.{RefusalsChangeNothing}
+use Rattle.mv_machine.specs.Laws.{InSteps}
 
 -- What a step leaves: the state as it was, or with one change, of which it says what was seen to before. Where its reply says that
 -- nothing has changed, nothing has.
@@ -32,9 +34,9 @@ pub data Change (st : State) : Bool → State → Type 0 where
   closed : (from to : ℕ) → from < length st.parties → to < length st.parties → is_open st.entries from to ≡ true
       → Change st false (with_hub st (with_closed (hub_of st) from to))
   relayed : (from to : ℕ) → from < length st.parties → to < length st.parties → length (wire_of st from to) < st.limits.wire
-      → (sent_of st from to ≡ length (items_on st from to) → ⊥)
-      → Change st false (with_wire (with_hub st (with_relayed (hub_of st) from to)) from to (wire_of st from to ++ (sent_of st from to + 1) ∷ []))
-  repeated : (from to number : ℕ) → length (wire_of st from to) < st.limits.wire → 1 ≤ number → number ≤ sent_of st from to
+      → (sent_of (hub_of st) from to ≡ length (items_on (hub_of st) from to) → ⊥)
+      → Change st false (with_wire (with_hub st (with_relayed (hub_of st) from to)) from to (wire_of st from to ++ (sent_of (hub_of st) from to + 1) ∷ []))
+  repeated : (from to number : ℕ) → length (wire_of st from to) < st.limits.wire → 1 ≤ number → number ≤ sent_of (hub_of st) from to
       → Change st false (with_wire st from to (wire_of st from to ++ number ∷ []))
   dropped : (from to number : ℕ) (rest : List ℕ) → wire_of st from to ≡ number ∷ rest → Change st false (with_wire st from to rest)
   applied : (from to number : ℕ) (rest : List ℕ) (item : Item) → from < length st.parties → wire_of st from to ≡ number ∷ rest
@@ -62,14 +64,14 @@ module _ (st : State) where
   outcome-changes (Lose from to) = grind (arith, nothing, dropped)
   outcome-changes (Verdict party q) = grind (arith, nothing)
 
+  is-outcome : (expected : Answered) (reply : Reply) (new : State) → Changes st expected → reply ≡ expected.reply → new ≡ expected.state → Change st (changes_nothing reply) new
+  is-outcome expected reply new changes same_reply same_state = rw (same_reply, same_state) changes
+
   -- and so where the outcome is met: want of memory changes nothing
   meets-changes : (expected : Answered) (reply : Reply) (new : State) → Changes st expected → Meets st expected reply new → Change st (changes_nothing reply) new
   unfolding Meets
-  meets-changes expected reply new changes met = by (wants_memory reply) met
-    where
-      by : (b : Bool) → MatchBool b ((new ≡ st) × IsTrue (takes_memory expected.reply)) ((reply ≡ expected.reply) × (new ≡ expected.state)) → Change st (changes_nothing reply) new
-      by true a = subst (Change st (changes_nothing reply)) (sym a.0) (nothing (changes_nothing reply))
-      by false a = rw (a.0, a.1) changes
+  meets-changes expected (Refused Memory) new changes met = subst (Change st true) (sym met.0) (nothing true)
+  meets-changes expected reply new changes met = is-outcome expected reply new changes met.0 met.1
 
   pub step-changes : (step : Step) (reply : Reply) (new : State) → Allows st step reply new → Change st (changes_nothing reply) new
   unfolding Allows
@@ -83,7 +85,7 @@ pub unchanged : {old new : State} {quiet : Bool} → Change old quiet new → Is
 unchanged (nothing quiet) said = refl
 unchanged _ said = absurd (cc)
 
-pub refusals_change_nothing : RefusalsChangeNothing
+pub refusals_change_nothing : InSteps (λ old reply new. IsTrue (changes_nothing reply) → new ≡ old)
 refusals_change_nothing =
     (λ old step reply new allowed. unchanged (step-changes old step reply new allowed), λ old party key reply new met. unchanged (asked-changes old party key reply new met))
 

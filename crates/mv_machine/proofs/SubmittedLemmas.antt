@@ -1,7 +1,7 @@
 -- What a lawful state applied is what was submitted: each item of a link is put there by the routing of one message, whose number
 -- is one more than those before it.
 use Rattle.std.proofs.Common.{◌≡◌, ℕ, zero, suc, ◌+◌, ◌-◌, ◌<◌, ◌≤◌, List, [], ◌∷◌, ◌++◌, length, take, drop, Some, sym, refl, ap, ◌∙◌, arith}
-use Rattle.std.specs.Prelude.{slice_get}
+use Rattle.std.specs.Prelude.{slice_get, filter, map, not}
 use Rattle.std.specs.List.Sorted.{IsStrictlyIncreasing}
 use Rattle.std.proofs.lemmas.Bool.{eq-eqb}
 use Rattle.std.proofs.lemmas.List.{take-append-drop, take-take, take_more}
@@ -9,17 +9,17 @@ use Rattle.std.proofs.lemmas.Option.{slice_get_within, get_or_from_slice_get}
 use Rattle.mv_message.specs.declared.message.Message.{Message}
 use Rattle.mv_link.specs.declared.item.Item.{Item}
 use Rattle.mv_link.specs.declared.item.Item.TheVariants.{Receipt, Carried}
+use Rattle.mv_link.specs.Frames.{number_of}
 use Rattle.mv_hub.specs.declared.entry.Entry.{Entry}
 use Rattle.mv_hub.specs.declared.entry.Entry.TheVariants.{Routed}
 use Rattle.mv_hub.specs.Record.{routed_from, routed_count}
 use Rattle.mv_repository.specs.Log.{items_from}
 use Rattle.mv_machine.specs.State.{State, log_of}
-use Rattle.mv_machine.specs.Lawful.{AllFit, IsLawful}
-use Rattle.mv_machine.specs.Headline.{IsRoutedAt, IsOfSubmission, AppliedIsSubmitted, carried_numbers, receipt_numbers, NumbersRise}
+use Rattle.mv_machine.specs.Lawful.{IsLawfulRecord, IsLawful}
+use Rattle.mv_machine.specs.Headline.{IsRoutedAt, IsOfSubmission, AppliedIsSubmitted, is_carried, NumbersRise}
 use Rattle.mv_machine.specs.PartLaws.{RecordsAreNumbered}
-use Rattle.mv_machine.specs.Laws.{LawfulItemsAreSubmitted}
 use Rattle.mv_machine.proofs.PrefixLemmas.{slice_get-append}
-use Rattle.mv_machine.proofs.PutLemmas.{IsPut, ArePut, put-each, log-put, each-entry, number-at, routed_count-push}
+use Rattle.mv_machine.proofs.PutLemmas.{IsPut, ArePut, put-each, log-put, each-entry, routed_count-push}
 
 -- the message of an entry stands among those of its sender where it is routed
 routed-at : (entries : List Entry) (place from k : ℕ) (message : Message) → slice_get entries place ≡ Some (Routed from k message)
@@ -29,19 +29,15 @@ routed-at (entry ∷ entries) zero from k message at = grind arith
 routed-at (entry ∷ entries) (suc place) from k message at = grind (arith, routed-at entries place from k message at)
 
 -- so a message is routed under its number among those that were routed from its sender
-numbered-at : (entries : List Entry) (place from k : ℕ) (message : Message) → AllFit [] entries → slice_get entries place ≡ Some (Routed from k message)
-    → (1 ≤ k) × (slice_get (routed_from entries from) (k - 1) ≡ Some message)
-numbered-at entries place from k message all at =
-    let own = number-at entries place from k message all at in
-    (omega (arith, own), ap (slice_get (routed_from entries from)) (omega (arith, own)) ∙ routed-at entries place from k message at)
-
 pub records_are_numbered : RecordsAreNumbered
-records_are_numbered count entries place from k message lawful at = numbered-at entries place from k message lawful.fit at
+records_are_numbered count entries place from k message lawful at =
+    let own = (lawful.fits place (Routed from k message) at).1 in
+    (omega (arith, own), ap (slice_get (routed_from entries from)) (omega (arith, own)) ∙ routed-at entries place from k message at)
 
 routed_as : (st : State) (from k place : ℕ) (message : Message) → IsLawful st → from < length st.parties
     → slice_get st.entries place ≡ Some (Routed from k message) → IsRoutedAt st from k (place + 1) message
 routed_as st from k place message lawful is_party at =
-    let number = numbered-at st.entries place from k message lawful.of_record.fit at in
+    let number = records_are_numbered (length st.parties) st.entries place from k message lawful.of_record at in
     let order = (lawful.of_link from from is_party is_party).routed in
     record {
       numbered = number.0;
@@ -64,6 +60,13 @@ applied_submitted st lawful party is_party =
     put-each st.parties st.entries sender party (λ item. (sender < length st.parties) × IsOfSubmission st sender party item) (λ place item put. (lt, of_submission st sender party place item lawful lt put))
     0 0 (items_from (log_of st party) sender) (log-put st sender party lawful lt is_party))
 
+-- the numbers of what came with its message, and of what a receipt came for
+abbrev carried_numbers : List Item → List ℕ
+carried_numbers items = map number_of (filter is_carried items)
+
+abbrev receipt_numbers : List Item → List ℕ
+receipt_numbers items = map number_of (filter (λ item. not (is_carried item)) items)
+
 -- numbers that rise from one on
 abbrev Ascends : ℕ → List ℕ → Type 0
 Ascends least [] = Unit {0}
@@ -81,12 +84,12 @@ routed_count-later entries one other from le =
     let longer = ap (λ l. routed_count l from) (ap (λ l. l ++ drop one (take other entries)) (sym (take-take one other entries le)) ∙ take-append-drop one (take other entries)) in
     omega (arith, longer, routed_count-push (take one entries) (drop one (take other entries)) from)
 
-module _ (parties : List (List (List ℕ))) (entries : List Entry) (from to : ℕ) (fit : AllFit [] entries) where
+module _ (parties : List (List (List ℕ))) (entries : List Entry) (from to : ℕ) (lawful : IsLawfulRecord (length parties) entries) where
   -- the number of an item follows those that were routed before it, and is one of those before a later place
   number-rises : (least place k : ℕ) (message : Message) → least ≤ place → slice_get entries place ≡ Some (Routed from k message)
       → (routed_count (take least entries) from < k) × (routed_count (take (place + 1) entries) from ≡ k)
   number-rises least place k message le at =
-      let own = number-at entries place from k message fit at in
+      let own = (lawful.fits place (Routed from k message) at).1 in
       let before = routed_count-later entries least place from le in
       let entry = Routed from k message in
       let more : take (place + 1) entries ≡ take place entries ++ entry ∷ [] =
@@ -112,9 +115,6 @@ pub numbers_rise : (st : State) → IsLawful st → NumbersRise st
 numbers_rise st lawful from to from_is_party to_is_party =
     let items = items_from (log_of st to) from in
     let put = log-put st from to lawful from_is_party to_is_party in (
-      increasing _ (carried_numbers items) (carried-rise st.parties st.entries from to lawful.of_record.fit 0 0 items put),
-      increasing _ (receipt_numbers items) (receipts-rise st.parties st.entries from to lawful.of_record.fit 0 0 items put),
+      increasing _ (carried_numbers items) (carried-rise st.parties st.entries from to lawful.of_record 0 0 items put),
+      increasing _ (receipt_numbers items) (receipts-rise st.parties st.entries from to lawful.of_record 0 0 items put),
     )
-
-pub items_are_submitted : LawfulItemsAreSubmitted
-items_are_submitted st lawful = (applied_submitted st lawful, numbers_rise st lawful)

@@ -1,19 +1,15 @@
 -- What is applied over a link that is closed.
-use Rattle.std.specs.Prelude.{◌≡◌, ◌<◌, ◌≤◌, ◌==◌, ◌&&◌, ℕ, List, [], ◌∷◌, length, All, false, if◌then◌else◌}
+use Rattle.std.specs.Prelude.{◌≡◌, ◌<◌, ◌≤◌, ℕ, List, [], ◌∷◌, length, All, false, take_while}
 use Rattle.mv_link.specs.declared.item.Item.{Item}
 use Rattle.mv_link.specs.Frames.{number_of}
 use Rattle.mv_hub.specs.declared.entry.Entry.{Entry}
-use Rattle.mv_hub.specs.declared.entry.Entry.TheVariants.{Routed, Closed}
 use Rattle.mv_hub.specs.Record.{routed_count, is_open}
 use Rattle.mv_repository.specs.Log.{items_from}
 use Rattle.mv_machine.specs.State.{State, submissions_of, log_of}
 
 -- the entries of a record that stand before the closing of a link: all of them where it is open
 abbrev pub before_closing : List Entry → ℕ → ℕ → List Entry
-before_closing [] from to = []
-before_closing (Routed sender k message ∷ entries) from to = Routed sender k message ∷ before_closing entries from to
-before_closing (Closed sender receiver ∷ entries) from to =
-    if sender == from && receiver == to then [] else Closed sender receiver ∷ before_closing entries from to
+before_closing entries from to = take_while (λ entry. is_open (entry ∷ []) from to) entries
 
 -- each item is about one of the first messages of its sender, so many
 abbrev pub AreAboutFirst : ℕ → List Item → Type 0

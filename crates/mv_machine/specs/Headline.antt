@@ -1,10 +1,11 @@
 -- The headline: what holds after every step, query and run of a system, whatever came before it.
-use Rattle.std.specs.Prelude.{◌≡◌, ◌<◌, ◌≤◌, ◌-◌, ℕ, List, [], ◌∷◌, length, take, All, Some, slice_get, IsTrue}
+use Rattle.std.specs.Prelude.{◌≡◌, ◌<◌, ◌≤◌, ◌-◌, ℕ, length, take, All, Some, slice_get, IsTrue, Bool, true, false, not, map, filter}
 use Rattle.std.specs.List.Sorted.{IsStrictlyIncreasing}
 use mathlib.Core.List.{IsPrefix}
 use Rattle.mv_message.specs.declared.message.Message.{Message}
 use Rattle.mv_link.specs.declared.item.Item.{Item}
 use Rattle.mv_link.specs.declared.item.Item.TheVariants.{Receipt, Carried}
+use Rattle.mv_link.specs.Frames.{number_of}
 use Rattle.mv_hub.specs.declared.entry.Entry.TheVariants.{Routed}
 use Rattle.mv_hub.specs.Targets.{is_reached, reach, is_query}
 use Rattle.mv_repository.specs.Log.{items_from}
@@ -43,23 +44,17 @@ abbrev pub AppliedIsSubmitted : State → Type 0
 AppliedIsSubmitted st = (party : ℕ) → party < length st.parties
     → All (λ entry. (entry.sender < length st.parties) × IsOfSubmission st entry.sender party entry.item) (log_of st party)
 
--- the numbers of the messages that items carry, in order
-abbrev pub carried_numbers : List Item → List ℕ
-carried_numbers [] = []
-carried_numbers (Carried k stamp message ∷ items) = k ∷ carried_numbers items
-carried_numbers (Receipt k reached query ∷ items) = carried_numbers items
+-- an item that carries its message, and is no receipt
+abbrev pub is_carried : Item → Bool
+is_carried (Carried k stamp message) = true
+is_carried (Receipt k reached query) = false
 
--- the numbers of the messages that receipts among items are for, in order
-abbrev pub receipt_numbers : List Item → List ℕ
-receipt_numbers [] = []
-receipt_numbers (Carried k stamp message ∷ items) = receipt_numbers items
-receipt_numbers (Receipt k reached query ∷ items) = k ∷ receipt_numbers items
-
--- what a repository applied from each sender is in the order in which that sender submitted it, and each once: its numbers rise
+-- what a repository applied from each sender is in the order in which that sender submitted it, and each once: the numbers of the
+-- messages that came rise, and so do those of the messages that receipts came for
 abbrev pub NumbersRise : State → Type 0
 NumbersRise st = (from to : ℕ) → from < length st.parties → to < length st.parties
-    → IsStrictlyIncreasing (carried_numbers (items_from (log_of st to) from))
-    × IsStrictlyIncreasing (receipt_numbers (items_from (log_of st to) from))
+    → IsStrictlyIncreasing (map number_of (filter is_carried (items_from (log_of st to) from)))
+    × IsStrictlyIncreasing (map number_of (filter (λ item. not (is_carried item)) (items_from (log_of st to) from)))
 
 -- What a repository applied from each sender is a prefix of what that sender submitted for the markets that it serves, in order and
 -- each once; nothing submitted after a link closed is applied over that link; and two repositories that applied the same messages

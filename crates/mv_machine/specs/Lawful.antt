@@ -1,6 +1,5 @@
 -- What holds of every state that a system comes to.
-use Rattle.std.specs.Prelude.{◌≡◌, ◌<◌, ◌+◌, ℕ, List, [], ◌∷◌, ◌++◌, length, true}
-use Rattle.std.specs.List.{AllByRecursion}
+use Rattle.std.specs.Prelude.{◌≡◌, ◌<◌, ◌+◌, ℕ, List, length, take, Some, true, slice_get}
 use mathlib.Core.List.{IsPrefix}
 use Rattle.mv_message.specs.declared.message.Message.{Message}
 use Rattle.mv_pairs.specs.Pairs.{IsSquare}
@@ -13,27 +12,16 @@ use Rattle.mv_repository.specs.Log.{items_from}
 use Rattle.mv_party.specs.Site.{IsLawfulParty}
 use Rattle.mv_machine.specs.State.{State, submissions_of, log_of}
 
--- an entry fits behind others: a routed message has the number that follows those of its sender, and only an open link is
--- closed
-abbrev pub Fits : List Entry → Entry → Type 0
-Fits before (Routed from k message) = k ≡ routed_count before from + 1
-Fits before (Closed from to) = is_open before from to ≡ true
+-- An entry fits behind others, in a system of so many parties: it names parties alone, a routed message has the number that follows
+-- those of its sender, and only an open link is closed.
+abbrev pub Fits : ℕ → List Entry → Entry → Type 0
+Fits count before (Routed from k message) = (from < count) × (k ≡ routed_count before from + 1)
+Fits count before (Closed from to) = (from < count) × (to < count) × (is_open before from to ≡ true)
 
--- each entry fits behind those that stand before it
-abbrev pub AllFit : List Entry → List Entry → Type 0
-AllFit before [] = Unit {0}
-AllFit before (entry ∷ entries) = Fits before entry × AllFit (before ++ entry ∷ []) entries
-
--- an entry names parties alone
-abbrev pub NamesParties : ℕ → Entry → Type 0
-NamesParties count (Routed from k message) = from < count
-NamesParties count (Closed from to) = (from < count) × (to < count)
-
--- A record is lawful, of so many parties: its messages are numbered and its links closed at most once, and it names parties
--- alone.
+-- A record is lawful, of so many parties, where each entry fits behind those that stand before it: its messages are numbered and its
+-- links closed at most once, and it names parties alone.
 pub record IsLawfulRecord (count : ℕ) (entries : List Entry) : Type 0 where
-  pub fit : AllFit [] entries
-  pub name_parties : AllByRecursion (NamesParties count) entries
+  pub fits : (place : ℕ) (entry : Entry) → slice_get entries place ≡ Some entry → Fits count (take place entries) entry
 
 -- A link is lawful: what was routed from its sender is a prefix of what this submitted; and what its receiver applied from the
 -- sender is a prefix of what the record puts on the link, in order and each once.

@@ -11,13 +11,13 @@ use Rattle.mv_repository.specs.Log.{items_from}
 use Rattle.mv_link.specs.declared.limits.TheConstants.{PARTIES_LIMIT}
 use Rattle.mv_party.specs.declared.limits.TheConstants.{SUBMISSIONS_LIMIT}
 use Rattle.mv_machine.specs.Limits.{most_entries}
-use Rattle.mv_machine.specs.Lawful.{Fits, NamesParties, IsLawfulRecord, IsLawfulLink}
+use Rattle.mv_machine.specs.Lawful.{Fits, IsLawfulRecord, IsLawfulLink}
 use Rattle.mv_machine.specs.Closing.{before_closing, AreAboutFirst}
 
--- one more entry that fits, and names parties alone, keeps a record lawful
+-- one more entry that fits keeps a record lawful
 abbrev pub RecordsStayLawful : Type 0
 RecordsStayLawful = (count : ℕ) (entries : List Entry) (entry : Entry) → IsLawfulRecord count entries
-    → Fits entries entry → NamesParties count entry → IsLawfulRecord count (entries ++ entry ∷ [])
+    → Fits count entries entry → IsLawfulRecord count (entries ++ entry ∷ [])
 
 -- in a lawful record, the message of an entry stands under its number among those that were routed from its sender
 abbrev pub RecordsAreNumbered : Type 0

@@ -1,6 +1,6 @@
 -- The numbers by which replies name refusals, which faults of a party and of the hub they answer, and where want of memory may stand in place
 -- of a reply.
-use Rattle.std.specs.Prelude.{ℕ, List, codes, Bool, true, false}
+use Rattle.std.specs.Prelude.{ℕ, List, codes, Bool, true, false, not}
 use Rattle.mv_hub.specs.declared.fault.HubFault.{HubFault}
 use Rattle.mv_hub.specs.declared.fault.HubFault.TheVariants as hub
 use Rattle.mv_hub.specs.declared.fault.RouteFault.{RouteFault}
@@ -10,7 +10,7 @@ use Rattle.mv_party.specs.declared.fault.SiteFault.TheVariants as fault
 use Rattle.mv_party.specs.declared.taken.Taken.{Taken}
 use Rattle.mv_party.specs.declared.taken.Taken.TheVariants as taken
 use Rattle.mv_machine.specs.declared.reply.Reply.{Reply}
-use Rattle.mv_machine.specs.declared.reply.Reply.TheVariants.{Submitted, Known, Asked, Routed, Relayed, Applied, Old, Gap, Repeated, Closed, Joint, Refused}
+use Rattle.mv_machine.specs.declared.reply.Reply.TheVariants.{Known, Applied, Old, Gap, Lost, Joint, Refused}
 use Rattle.mv_machine.specs.declared.reply.Refusal.{Refusal}
 use Rattle.mv_machine.specs.declared.reply.Refusal.TheVariants.{Party, NotYours, UplinkFull, SenderFull, UplinkEmpty, Busy, WireFull, WireEmpty, NotSent, Gone, Nothing, AlreadyClosed, AnswerBusy, Memory}
 
@@ -60,17 +60,6 @@ reply_to number (taken.Applied effect answer) = Applied number effect answer
 reply_to number taken.Old = Old number
 reply_to number (taken.Gap expected) = Gap number expected
 
--- a reply that want of memory may stand in place of: the step takes memory
-abbrev pub takes_memory : Reply → Bool
-takes_memory (Submitted k) = true
-takes_memory (Asked q) = true
-takes_memory (Routed k reach) = true
-takes_memory (Relayed number) = true
-takes_memory (Applied number effect answer) = true
-takes_memory (Repeated number) = true
-takes_memory Closed = true
-takes_memory _ = false
-
 -- a reply behind which nothing has changed: a refusal, the verdict of the party's own repository, and that of all
 abbrev pub changes_nothing : Reply → Bool
 changes_nothing (Known verdict) = true
@@ -78,7 +67,10 @@ changes_nothing (Joint joint) = true
 changes_nothing (Refused refusal) = true
 changes_nothing _ = false
 
--- a reply that says that memory was wanting
-abbrev pub wants_memory : Reply → Bool
-wants_memory (Refused Memory) = true
-wants_memory _ = false
+-- a reply that want of memory may stand in place of, since the step takes memory: any but those behind which nothing has changed, and
+-- those to a frame that is dropped or lost
+abbrev pub takes_memory : Reply → Bool
+takes_memory (Old number) = false
+takes_memory (Gap number expected) = false
+takes_memory (Lost number) = false
+takes_memory reply = not (changes_nothing reply)

@@ -1,18 +1,18 @@
 -- Which replies are allowed to steps, want of memory included, and what they leave.
-use Rattle.std.specs.Prelude.{◌≡◌, List, [], ◌∷◌, IsTrue, MatchBool}
+use Rattle.std.specs.Prelude.{◌≡◌, List, [], ◌∷◌, IsTrue}
 use Rattle.mv_machine.specs.declared.step.Step.{Step}
 use Rattle.mv_machine.specs.declared.reply.Reply.{Reply}
-use Rattle.mv_machine.specs.Replies.{takes_memory, wants_memory}
+use Rattle.mv_machine.specs.declared.reply.Reply.TheVariants.{Refused}
+use Rattle.mv_machine.specs.declared.reply.Refusal.TheVariants.{Memory}
+use Rattle.mv_machine.specs.Replies.{takes_memory}
 use Rattle.mv_machine.specs.State.{State}
 use Rattle.mv_machine.specs.Steps.{Answered, outcome}
 
 -- This reply and this state are those of an outcome; or, where what is done takes memory, the refusal for want of memory with
 -- nothing changed.
 unfoldable pub Meets : State → Answered → Reply → State → Type 0
-Meets old expected reply new =
-    MatchBool (wants_memory reply)
-    ((new ≡ old) × IsTrue (takes_memory expected.reply))
-    ((reply ≡ expected.reply) × (new ≡ expected.state))
+Meets old expected (Refused Memory) new = (new ≡ old) × IsTrue (takes_memory expected.reply)
+Meets old expected reply new = (reply ≡ expected.reply) × (new ≡ expected.state)
 
 -- the step may get this reply and leave this state: those of its row, want of memory included
 unfoldable pub Allows : State → Step → Reply → State → Type 0

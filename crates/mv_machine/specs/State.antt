@@ -1,12 +1,10 @@
 -- The state of the list machine: the whole system as plain lists.
-use Rattle.std.specs.Prelude.{◌&&◌, ◌==◌, ℕ, List, [], length, drop, Bool, slice_index_or, nat_le, nat_lt, replicate, slice_set}
+use Rattle.std.specs.Prelude.{◌==◌, ℕ, List, [], length, drop, Bool, slice_index_or, nat_le, nat_lt, replicate, slice_set}
 use Rattle.mv_message.specs.declared.message.Message.{Message}
-use Rattle.mv_link.specs.declared.item.Item.{Item}
 use Rattle.mv_pairs.specs.Pairs.{cell, put}
 use Rattle.mv_hub.specs.declared.entry.Entry.{Entry}
 use Rattle.mv_hub.specs.Hub.{HubState}
 use Rattle.mv_hub.specs.Record.{routed_count}
-use Rattle.mv_hub.specs.Links.{link_items}
 use Rattle.mv_repository.specs.declared.entry.LogEntry.{LogEntry}
 use Rattle.mv_party.specs.Site.{SiteState, count_from}
 use Rattle.mv_machine.specs.Limits.{Bounds}
@@ -24,10 +22,6 @@ pub record State : Type 0 where
 abbrev pub is_party : State → ℕ → Bool
 is_party st party = nat_lt party (length st.parties)
 
--- two parties of the system
-abbrev pub are_parties : State → ℕ → ℕ → Bool
-are_parties st from to = is_party st from && is_party st to
-
 -- what a party submitted
 abbrev pub submissions_of : State → ℕ → List Message
 submissions_of st party = slice_index_or st.submissions party []
@@ -40,10 +34,6 @@ waiting_of st party = drop (routed_count st.entries party) (submissions_of st pa
 abbrev pub is_uplink_full : State → ℕ → Bool
 is_uplink_full st party = length (waiting_of st party) == st.limits.uplink
 
--- how many frames of a link were relayed
-abbrev pub sent_of : State → ℕ → ℕ → ℕ
-sent_of st from to = cell st.sent from to 0
-
 -- the numbers of the frames under way on a link
 abbrev pub wire_of : State → ℕ → ℕ → List ℕ
 wire_of st from to = cell st.wires from to []
@@ -55,10 +45,6 @@ is_wire_full st from to = nat_le st.limits.wire (length (wire_of st from to))
 -- what a repository applied
 abbrev pub log_of : State → ℕ → List LogEntry
 log_of st party = slice_index_or st.logs party []
-
--- what the record says was put on a link
-abbrev pub items_on : State → ℕ → ℕ → List Item
-items_on st from to = link_items st.parties st.entries from to
 
 -- how many items of a sender a repository applied
 abbrev pub applied_count : State → ℕ → ℕ → ℕ

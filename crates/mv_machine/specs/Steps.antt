@@ -6,7 +6,7 @@ use Rattle.mv_pack.specs.declared.key.PackKey.{PackKey}
 use Rattle.mv_link.specs.declared.item.Item.{Item}
 use Rattle.mv_link.specs.declared.incoming.Look.{Look}
 use Rattle.mv_link.specs.declared.incoming.Look.TheVariants as look
-use Rattle.mv_hub.specs.Hub.{route_fault, relay_fault, repeat_fault, close_fault, with_routed, with_relayed, with_closed}
+use Rattle.mv_hub.specs.Hub.{route_fault, relay_fault, repeat_fault, close_fault, with_routed, with_relayed, with_closed, are_parties, items_on, sent_of}
 use Rattle.mv_hub.specs.Record.{routed_count}
 use Rattle.mv_hub.specs.Targets.{reach}
 use Rattle.mv_repository.specs.declared.verdict.Local.{Local}
@@ -24,7 +24,7 @@ use Rattle.mv_machine.specs.declared.reply.Reply.TheVariants.{Submitted, Known, 
 use Rattle.mv_machine.specs.declared.reply.Refusal.{Refusal}
 use Rattle.mv_machine.specs.declared.reply.Refusal.TheVariants.{Party, UplinkEmpty, WireFull, WireEmpty}
 use Rattle.mv_machine.specs.Replies.{refusal_of, hub_refusal_of, route_refusal_of}
-use Rattle.mv_machine.specs.State.{State, is_party, are_parties, submissions_of, is_uplink_full, sent_of, wire_of, is_wire_full, log_of, items_on, applied_count, hub_of, with_hub, site_of, with_site, with_wire}
+use Rattle.mv_machine.specs.State.{State, is_party, submissions_of, is_uplink_full, wire_of, is_wire_full, log_of, applied_count, hub_of, with_hub, site_of, with_site, with_wire}
 
 -- a reply and the state that the step leaves
 pub record Answered : Type 0 where
@@ -35,9 +35,9 @@ pub record Answered : Type 0 where
 abbrev pub refused : Refusal → State → Answered
 refused refusal st = record { reply = Refused refusal; state = st }
 
--- a step of parties is refused to others
-abbrev pub of_parties : Bool → State → Answered → Answered
-of_parties are_parties st answered = if not are_parties then refused Party st else answered
+-- a step is for parties: it is refused where there are none of these numbers
+abbrev pub for_parties : Bool → State → Answered → Answered
+for_parties exist st answered = if not exist then refused Party st else answered
 
 -- what a part of the system answers and leaves, unless it refuses that for a fault, which has this refusal
 abbrev pub unless : {F : Type 0} → (F → Refusal) → Option F → State → Reply → State → Answered
@@ -46,13 +46,13 @@ unless refusal None st reply new = record { reply = reply; state = new }
 
 -- a party submits a message: it is the last of the party's submissions. Queries and answers are submitted by the system itself
 unfoldable pub submit : State → ℕ → Message → Answered
-submit st from message = of_parties (is_party st from) st
+submit st from message = for_parties (is_party st from) st
     (unless refusal_of (submit_fault (is_uplink_full st from) (site_of st from) message) st
     (Submitted (length (submissions_of st from) + 1)) (with_site st (with_submission (site_of st from) message)))
 
 -- a party asks the other repositories about a pack: the query is the last of its submissions
 unfoldable pub ask : State → ℕ → PackKey → Answered
-ask st party key = of_parties (is_party st party) st
+ask st party key = for_parties (is_party st party) st
     (unless refusal_of (ask_fault (is_uplink_full st party) (site_of st party)) st
     (Asked (length (submissions_of st party) + 1)) (with_site st (with_submission (site_of st party) (Query key))))
 
@@ -63,7 +63,7 @@ verify_by st party key Absent = ask st party key
 
 -- a party verifies a pack
 unfoldable pub verify : State → ℕ → PackKey → Answered
-verify st party key = of_parties (is_party st party) st (verify_by st party key (local_verdict key (log_of st party)))
+verify st party key = for_parties (is_party st party) st (verify_by st party key (local_verdict key (log_of st party)))
 
 -- the hub routes the front of an uplink, where there is one
 abbrev pub route_front : State → ℕ → Option Message → Answered
@@ -73,18 +73,18 @@ route_front st from (Some message) = unless route_refusal_of (route_fault (hub_o
 
 -- the hub routes the next message of a party
 unfoldable pub route : State → ℕ → Answered
-route st from = of_parties (is_party st from) st (route_front st from (slice_get (submissions_of st from) (routed_count st.entries from)))
+route st from = for_parties (is_party st from) st (route_front st from (slice_get (submissions_of st from) (routed_count st.entries from)))
 
 -- the next frame of a link goes on its wire
 unfoldable pub relay : State → ℕ → ℕ → Answered
-relay st from to = of_parties (are_parties st from to) st
+relay st from to = for_parties (are_parties (hub_of st) from to) st
     (if is_wire_full st from to then refused WireFull st
-    else unless hub_refusal_of (relay_fault (hub_of st) from to) st (Relayed (sent_of st from to + 1))
-    (with_wire (with_hub st (with_relayed (hub_of st) from to)) from to (wire_of st from to ++ (sent_of st from to + 1) ∷ [])))
+    else unless hub_refusal_of (relay_fault (hub_of st) from to) st (Relayed (sent_of (hub_of st) from to + 1))
+    (with_wire (with_hub st (with_relayed (hub_of st) from to)) from to (wire_of st from to ++ (sent_of (hub_of st) from to + 1) ∷ [])))
 
 -- the item that a repository is to apply next from a sender
 abbrev pub next_item : State → ℕ → ℕ → Option Item
-next_item st from to = slice_get (items_on st from to) (applied_count st from to)
+next_item st from to = slice_get (items_on (hub_of st) from to) (applied_count st from to)
 
 -- a repository applies the member of the link that the next frame bears, and its party submits the answer that this calls for, if
 -- it does: both, or neither. A link always has that member; a frame of no member would be dropped, as one behind a gap is
@@ -98,7 +98,7 @@ apply_next st from to number rest None = record { reply = Gap number number; sta
 abbrev pub apply_by : State → ℕ → ℕ → ℕ → List ℕ → Look → Answered
 apply_by st from to number rest look.Old = record { reply = Old number; state = with_wire st from to rest }
 apply_by st from to number rest (look.Gap expected) = record { reply = Gap number expected; state = with_wire st from to rest }
-apply_by st from to number rest look.Next = apply_next st from to number rest (slice_get (items_on st from to) (number - 1))
+apply_by st from to number rest look.Next = apply_next st from to number rest (slice_get (items_on (hub_of st) from to) (number - 1))
 
 -- the frame in front of a wire is taken
 abbrev pub apply_front : State → ℕ → ℕ → List ℕ → Answered
@@ -107,11 +107,11 @@ apply_front st from to (number ∷ rest) = apply_by st from to number rest (look
 
 -- a repository takes the front frame of a link
 unfoldable pub apply : State → ℕ → ℕ → Answered
-apply st from to = of_parties (are_parties st from to) st (apply_front st from to (wire_of st from to))
+apply st from to = for_parties (are_parties (hub_of st) from to) st (apply_front st from to (wire_of st from to))
 
 -- a frame that was relayed, and whose item its link still keeps, goes on the wire again
 unfoldable pub repeat : State → ℕ → ℕ → ℕ → Answered
-repeat st from to number = of_parties (are_parties st from to) st
+repeat st from to number = for_parties (are_parties (hub_of st) from to) st
     (if is_wire_full st from to then refused WireFull st
     else unless hub_refusal_of (repeat_fault (hub_of st) from to number) st (Repeated number)
     (with_wire st from to (wire_of st from to ++ number ∷ [])))
@@ -127,11 +127,11 @@ lose_front st from to (number ∷ rest) = record { reply = Lost number; state = 
 
 -- the front frame of a link is lost
 unfoldable pub lose : State → ℕ → ℕ → Answered
-lose st from to = of_parties (are_parties st from to) st (lose_front st from to (wire_of st from to))
+lose st from to = for_parties (are_parties (hub_of st) from to) st (lose_front st from to (wire_of st from to))
 
 -- a party takes the verdict on a query of its own
 unfoldable pub verdict : State → ℕ → ℕ → Answered
-verdict st party q = of_parties (is_party st party) st
+verdict st party q = for_parties (is_party st party) st
     (record { reply = JointVerdict (joint_verdict party (log_of st party) q); state = st })
 
 -- what a step answers and leaves where there is memory

@@ -1,17 +1,22 @@
 //! Laws of the list machine, over the definitions alone.
 
-ghost use Rattle.mv_machine.specs.Laws.{RunsAreLawful, ClosedLinksStayClosed, StampsFit};
-ghost use Rattle.mv_machine.specs.Laws.{LawfulStampsAreDistinct, LawfulRepositoriesAgree};
-ghost use Rattle.mv_machine.specs.Laws.{LawfulClosingsHold, LawfulItemsAreSubmitted};
-ghost use Rattle.mv_machine.specs.Laws.{FollowsIsTransitive, LawfulStatesKeepHeadline};
-ghost use Rattle.mv_machine.specs.Laws.{HeadlinesJoin, StepsFollow, RefusalsChangeNothing};
-ghost use Rattle.mv_machine.specs.Laws.{LimitsAreKept, NumbersSuffice, RecordsDecide};
+ghost use Rattle.std.specs.Prelude.{◌≡◌, IsTrue};
+ghost use Rattle.mv_machine.specs.Replies.{changes_nothing};
+ghost use Rattle.mv_machine.specs.Lawful.{IsLawful, IsWellFormed};
+ghost use Rattle.mv_machine.specs.Closing.{NothingRoutedLater};
+ghost use Rattle.mv_machine.specs.Stamps.{StampsAreDistinct, RepositoriesAgree};
+ghost use Rattle.mv_machine.specs.Headline.{Follows, AppliedIsSubmitted, NumbersRise};
+ghost use Rattle.mv_machine.specs.Bounded.{KeepsLimits};
+ghost use Rattle.mv_machine.specs.Laws.{InRuns, InLawfulStates, InSteps, ClosedLinksStayClosed};
+ghost use Rattle.mv_machine.specs.Laws.{NumbersSuffice, FollowsIsTransitive};
+ghost use Rattle.mv_machine.specs.Laws.{LawfulStatesKeepHeadline, HeadlinesJoin, RecordsDecide};
 
 /// Whatever the steps and whatever their order: what each repository applied from each sender is a prefix of what the record
 /// put on their link, in order and each once, and what was routed is a prefix of what its sender submitted.
-#[tactic(auto, using(crate::proofs::LawfulLemmas::runs_are_lawful))]
+#[tactic(auto, using(crate::proofs::LawfulLemmas::runs_are_well_formed, crate::proofs::LawfulLemmas::runs_are_lawful))]
 pub fn runs_are_lawful()
-    ensures { RunsAreLawful }
+    ensures well_formed { InRuns IsWellFormed }
+    ensures lawful { InRuns IsLawful }
 {}
 
 /// Whatever steps are run and then others: over a link that stood closed in between, nothing is applied that was submitted after
@@ -21,40 +26,37 @@ pub fn closed_links_stay_closed()
     ensures { ClosedLinksStayClosed }
 {}
 
-/// The record never grows so long that a stamp of 32 bits would not name its entries.
-#[tactic(auto, using(crate::proofs::BoundLemmas::entries_few))]
-pub fn stamps_fit()
-    ensures { StampsFit }
-{}
-
 /// In every lawful state, a link is busy for a message only where its window has no room: the numbers of 32 bits suffice for its items.
 #[tactic(auto, using(crate::proofs::BoundLemmas::numbers_suffice))]
 pub fn numbers_suffice()
     ensures { NumbersSuffice }
 {}
 
-/// In every lawful state, the stamp of each message in a log is its place in the record, and no stamp stands twice in a log.
-#[tactic(auto, using(crate::proofs::StampLemmas::stamps_are_distinct))]
+/// In every lawful state, no stamp stands twice in a log.
+#[tactic(auto, using(crate::proofs::StampLemmas::stamps_distinct))]
 pub fn stamps_are_distinct()
-    ensures { LawfulStampsAreDistinct }
+    ensures { InLawfulStates StampsAreDistinct }
 {}
 
 /// In every lawful state, two repositories whose logs have the same messages about a pack agree on it, in whatever order these
 /// came: on its state, the recall of its batch, the withdrawal of its product, and the verdict.
 pub fn repositories_agree()
-    ensures { LawfulRepositoriesAgree }
+    ensures { InLawfulStates RepositoriesAgree }
 {}
 
 /// In every lawful state, nothing was applied over a link that was routed after its closing.
 #[tactic(auto, using(crate::proofs::ClosingLemmas::nothing_routed_later))]
 pub fn closings_hold()
-    ensures { LawfulClosingsHold }
+    ensures { InLawfulStates NothingRoutedLater }
 {}
 
-/// In every lawful state, item `k` in the log of a repository from a sender is the `k`-th message that the sender submitted; the
-/// repository was a target of it, over an open link, when it was routed; and the numbers rise along each link.
+/// In every lawful state, item `k` in the log of a repository from a sender is the `k`-th message that the sender submitted, and its
+/// stamp is the place of the record where it was routed; the repository was a target of it then, over an open link; and the numbers
+/// rise along each link.
+#[tactic(auto, using(crate::proofs::SubmittedLemmas::applied_submitted))]
 pub fn items_are_submitted()
-    ensures { LawfulItemsAreSubmitted }
+    ensures submitted { InLawfulStates AppliedIsSubmitted }
+    ensures rising { InLawfulStates NumbersRise }
 {}
 
 /// A state that follows one that follows a third follows that.
@@ -80,20 +82,20 @@ pub fn headlines_join()
 /// Each step, and each query that is asked, leads to a later state.
 #[tactic(auto, using(crate::proofs::ClosingLemmas::steps_follow))]
 pub fn steps_follow()
-    ensures { StepsFollow }
+    ensures { InSteps (λ old reply new. Follows old new) }
 {}
 
 /// A step or a query that is refused has changed nothing, nor has one that is answered by a verdict.
 #[tactic(auto, using(crate::proofs::StepLemmas::refusals_change_nothing))]
 pub fn refusals_change_nothing()
-    ensures { RefusalsChangeNothing }
+    ensures { InSteps (λ old reply new. IsTrue (changes_nothing reply) → new ≡ old) }
 {}
 
 /// Whatever the steps and whatever their order: no party submits more than it may, nor waits for more than its uplink takes; no link
 /// has more under way than its wire takes, nor more waiting to be relayed than its window; and what is under way was relayed.
 #[tactic(auto, using(crate::proofs::LimitLemmas::limits_kept))]
 pub fn limits_are_kept()
-    ensures { LimitsAreKept }
+    ensures { InRuns KeepsLimits }
 {}
 
 /// Two runs that come to the same record: a repository that applied as many items of each sender in both says the same of every

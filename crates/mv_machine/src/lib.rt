@@ -30,7 +30,7 @@ pub use laws::{
     closed_links_stay_closed, closings_hold, follows_is_transitive, headlines_join,
     items_are_submitted, lawful_states_keep_headline, limits_are_kept, numbers_suffice,
     records_decide, refusals_change_nothing, repositories_agree, runs_are_lawful,
-    stamps_are_distinct, stamps_fit, steps_follow,
+    stamps_are_distinct, steps_follow,
 };
 pub use limits::{Limits, LimitsFault, UPLINK_LIMIT, WIRE_LIMIT};
 pub use part_laws::{

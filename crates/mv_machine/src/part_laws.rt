@@ -3,7 +3,7 @@
 ghost use Rattle.mv_machine.specs.PartLaws.{RecordsStayLawful, RecordsAreNumbered, RecordsAreShort};
 ghost use Rattle.mv_machine.specs.PartLaws.{LinksStayLawful, LinksStayClosed};
 
-/// One more entry that fits a record, and names parties alone, keeps it lawful.
+/// One more entry that fits a record keeps it lawful.
 #[tactic(auto, using(crate::proofs::PartLemmas::record_entered))]
 pub fn records_stay_lawful()
     ensures { RecordsStayLawful }

@@ -15,7 +15,7 @@ use Rattle.mv_link.specs.Frames.{IsFrameOf}
 use Rattle.mv_pairs.specs.Pairs.{cell, put, IsSquare}
 use Rattle.mv_pairs.proofs.PairsLemmas.{put-each, put-each_pair, square-put, square-map, cell-map, put-map}
 use Rattle.mv_hub.specs.declared.entry.Entry.{Entry}
-use Rattle.mv_hub.specs.Hub.{HubState, items_on}
+use Rattle.mv_hub.specs.Hub.{HubState, items_on, are_parties}
 use Rattle.mv_link.specs.declared.limits.TheConstants.{NUMBER_LIMIT}
 use Rattle.mv_link.proofs.LinkLemmas.{of_longer}
 use Rattle.mv_hub.specs.Links.{link_items}
@@ -30,7 +30,7 @@ use Rattle.mv_link.specs.Receiving.{look_at}
 use Rattle.mv_party.specs.Calls.{ask_fault, apply_fault, taken_by, with_taken}
 use Rattle.mv_link.proofs.LinkLemmas.{next-number}
 use Rattle.mv_party.proofs.SiteLemmas.{ask-free, answer-room}
-use Rattle.mv_machine.specs.State.{State, is_party, are_parties, submissions_of, is_uplink_full, wire_of, log_of, items_on as link_of, site_of, with_site, with_wire}
+use Rattle.mv_machine.specs.State.{State, is_party, submissions_of, is_uplink_full, wire_of, log_of, site_of, with_site, with_wire, hub_of}
 use Rattle.mv_machine.specs.Steps.{next_item}
 use Rattle.mv_machine.proofs.LawfulLemmas.{IsSound, submitted-sound, applied-sound}
 use Rattle.mv_machine.proofs.BoundLemmas.{routed_count-few, record-few}
@@ -92,9 +92,9 @@ pub record ArePlaces (p : Parts) (from to : ℕ) : Type 0 where
   pub from_party : from < length p.hub.parties
   pub to_party : to < length p.hub.parties
 
-pub parties-places : {p : Parts} {st : State} (from to : ℕ) → IsSystem p → state_of p ≡ st → IsTrue (are_parties st from to) → ArePlaces p from to
+pub parties-places : {p : Parts} {st : State} (from to : ℕ) → IsSystem p → state_of p ≡ st → IsTrue (are_parties (hub_of st) from to) → ArePlaces p from to
 parties-places {p} from to k view both =
-    let parts = and_parts _ _ (subst (λ (t : State). IsTrue (are_parties t from to)) (sym view) both) in
+    let parts = and_parts _ _ (subst (λ (t : State). IsTrue (are_parties (hub_of t) from to)) (sym view) both) in
     record { from_party = ltb-true from (length p.hub.parties) parts.0; to_party = ltb-true to (length p.hub.parties) parts.1 }
 
 -- what is known of the link between two parties, of which the list machine sees this state
@@ -105,11 +105,11 @@ pub record LinkFacts (p : Parts) (st : State) (from to : ℕ) (wire : WireState)
   pub seen : numbers_of wire.frames ≡ wire_of st from to
   pub len : length wire.frames ≡ length (wire_of st from to)
   pub limits : st.limits ≡ p.limits
-  pub linked : link_of st from to ≡ items_on p.hub from to
+  pub linked : items_on (hub_of st) from to ≡ items_on p.hub from to
   pub frames : All (IsFrameOf (items_on p.hub from to)) wire.frames
   pub fits : FitsWire p.limits.wire wire
 
-pub link_facts : {p : Parts} {st : State} {wire : WireState} (from to : ℕ) → IsSystem p → state_of p ≡ st → IsTrue (are_parties st from to)
+pub link_facts : {p : Parts} {st : State} {wire : WireState} (from to : ℕ) → IsSystem p → state_of p ≡ st → IsTrue (are_parties (hub_of st) from to)
     → ((d : WireState) → cell p.wires from to d ≡ wire) → LinkFacts p st from to wire
 link_facts {p} {wire = wire} from to k view both read =
     let at = read (new_wire 0) in
@@ -122,7 +122,7 @@ link_facts {p} {wire = wire} from to k view both read =
       seen = seen;
       len = sym (length-numbers_of wire.frames) ∙ ap length seen;
       limits = ap (λ (t : State). t.limits) (sym view);
-      linked = ap (λ (t : State). link_of t from to) (sym view);
+      linked = ap (λ (t : State). items_on (hub_of t) from to) (sym view);
       frames = subst (λ (v : WireState). All (IsFrameOf (items_on p.hub from to)) v.frames) at (k.frames from to);
       fits = subst (FitsWire p.limits.wire) at (k.wires_fit from to places.from_party places.to_party);
     }
@@ -143,7 +143,7 @@ wire_written {p} {from = from} {to = to} facts wire numbers frames fits e =
 
 -- a frame of the link is put on its wire
 pub frame_pushed : {p : Parts} {st : State} {from to : ℕ} {old : WireState} → LinkFacts p st from to old → (frame : Frame) (wire : WireState)
-    → wire ≡ record old { frames = old.frames ++ frame ∷ [] } → IsFrameOf (link_of st from to) frame → length (wire_of st from to) < st.limits.wire
+    → wire ≡ record old { frames = old.frames ++ frame ∷ [] } → IsFrameOf (items_on (hub_of st) from to) frame → length (wire_of st from to) < st.limits.wire
     → IsSystem (record p { wires = put p.wires from to wire })
     × (state_of (record p { wires = put p.wires from to wire }) ≡ with_wire st from to (wire_of st from to ++ frame.number ∷ []))
 frame_pushed {p} {from = from} {to = to} {old = old} facts frame wire is of room =
@@ -251,7 +251,7 @@ with_taken-party site sender item stands = grind arith
 module _ {p : Parts} {st : State} {from to : ℕ} {wire : WireState} {site : SiteState} (link : LinkFacts p st from to wire) (facts : SiteFacts p st to site)
     (frame : Frame) (front : slice_get wire.frames 0 ≡ Some frame) (new : SiteState) where
   -- it bears the item of its number
-  front_item : slice_get (link_of st from to) (frame.number - 1) ≡ Some frame.item
+  front_item : slice_get (items_on (hub_of st) from to) (frame.number - 1) ≡ Some frame.item
   front_item =
       let of = All-get_or (IsFrameOf (items_on p.hub from to)) wire.frames 0 frame (slice_get_within wire.frames 0 frame front) link.frames in
       rw link.linked (rw (get_or_from_slice_get wire.frames 0 frame frame front) at of).1

@@ -15,7 +15,7 @@ use Rattle.mv_link.specs.Fault.{FailsBy}
 use Rattle.mv_link.specs.Receiving.{look_at}
 use Rattle.mv_party.specs.Calls.{apply_fault, taken_by, with_taken}
 use Rattle.mv_machine.specs.Limits.{Bounds, AreBounds}
-use Rattle.mv_machine.specs.State.{State, submissions_of, is_uplink_full, wire_of, items_on as items_on_link, applied_count, site_of, with_site}
+use Rattle.mv_machine.specs.State.{State, submissions_of, is_uplink_full, wire_of, applied_count, site_of, with_site, hub_of}
 use Rattle.mv_machine.specs.Lawful.{IsLawful, IsWellFormed}
 use Rattle.mv_system.specs.Wire.{WireState, new_wire, numbers_of}
 
@@ -89,7 +89,7 @@ pub record OffersFront (old : State) (from to : ℕ) (result : Result Taken Site
   pub number : ℕ
   pub item : Item
   pub front : slice_get (wire_of old from to) 0 ≡ Some number
-  pub member : slice_get (items_on_link old from to) (number - 1) ≡ Some item
+  pub member : slice_get (items_on (hub_of old) from to) (number - 1) ≡ Some item
   pub answered : IfOk result (λ taken. taken ≡ taken_by (site_of old to) from item (look_at (applied_count old from to) number))
   pub ok : OnOk result (new ≡ with_site old (with_taken (site_of old to) from item (look_at (applied_count old from to) number)))
   pub err : OnErr result (new ≡ old)

@@ -5,11 +5,12 @@ ghost use Rattle.std.specs.Prelude.{OnOk, OnErr, IsTrue, slice_get, drop};
 ghost use Rattle.mv_message.specs.declared.message.Message.TheVariants.{Query};
 ghost use Rattle.mv_link.specs.Frames.{IsFrameOf};
 ghost use Rattle.mv_link.specs.Fault.{FailsBy};
+ghost use Rattle.mv_hub.specs.Hub.{are_parties, items_on, sent_of};
 ghost use Rattle.mv_hub.specs.Hub.{relay_fault, repeat_fault, close_fault, with_relayed, with_closed};
 ghost use Rattle.mv_hub.specs.Record.{routed_count};
 ghost use Rattle.mv_party.specs.Calls.{submit_fault, ask_fault};
-ghost use Rattle.mv_machine.specs.State.{is_party, are_parties, is_uplink_full, submissions_of};
-ghost use Rattle.mv_machine.specs.State.{hub_of, with_hub, site_of, sent_of, wire_of, items_on, with_wire};
+ghost use Rattle.mv_machine.specs.State.{is_party, is_uplink_full, submissions_of};
+ghost use Rattle.mv_machine.specs.State.{hub_of, with_hub, site_of, wire_of, with_wire};
 ghost use Rattle.mv_machine.specs.Steps.{route};
 ghost use Rattle.mv_machine.specs.Replies.{route_refusal_of};
 ghost use Rattle.mv_machine.specs.Runs.{Meets};
@@ -72,9 +73,9 @@ impl World {
 
     /// Takes the next frame of a link from the hub, which is not yet on the wire.
     fn next_frame(&mut self, from: Party, to: Party) -> Result<Frame, HubFault>
-        requires { IsTrue (are_parties self.old from to) }
-        ensures number { IfOk result (λ frame. frame.number ≡ sent_of self.old from to + 1) }
-        ensures frame { IfOk result (λ frame. IsFrameOf (items_on self.old from to) frame) }
+        requires { IsTrue (are_parties (hub_of self.old) from to) }
+        ensures number { IfOk result (λ frame. frame.number ≡ sent_of (hub_of self.old) from to + 1) }
+        ensures frame { IfOk result (λ frame. IsFrameOf (items_on (hub_of self.old) from to) frame) }
         ensures ok { OnOk result
             (self.new ≡ with_hub self.old (with_relayed (hub_of self.old) from to)) }
         ensures err { OnErr result (self.new ≡ self.old) }
@@ -85,9 +86,9 @@ impl World {
 
     /// Puts a frame of a link on its wire.
     fn push_frame(&mut self, from: Party, to: Party, frame: Frame)
-        requires parties { IsTrue (are_parties self.old from to) }
+        requires parties { IsTrue (are_parties (hub_of self.old) from to) }
         requires room { length (wire_of self.old from to) < self.old.limits.wire }
-        requires frame { IsFrameOf (items_on self.old from to) frame }
+        requires frame { IsFrameOf (items_on (hub_of self.old) from to) frame }
         ensures { self.new
             ≡ with_wire self.old from to (wire_of self.old from to ++ frame.number ∷ []) }
     {
@@ -97,12 +98,12 @@ impl World {
 
     /// Puts the next frame of a link on its wire, and answers its number.
     pub(super) fn put_relayed(&mut self, from: Party, to: Party) -> Result<u32, HubFault>
-        requires parties { IsTrue (are_parties self.old from to) }
+        requires parties { IsTrue (are_parties (hub_of self.old) from to) }
         requires room { length (wire_of self.old from to) < self.old.limits.wire }
-        ensures number { IfOk result (λ number. number ≡ sent_of self.old from to + 1) }
+        ensures number { IfOk result (λ number. number ≡ sent_of (hub_of self.old) from to + 1) }
         ensures ok { OnOk result
             (self.new ≡ with_wire (with_hub self.old (with_relayed (hub_of self.old) from to)) from to
-            (wire_of self.old from to ++ (sent_of self.old from to + 1) ∷ [])) }
+            (wire_of self.old from to ++ (sent_of (hub_of self.old) from to + 1) ∷ [])) }
         ensures err { OnErr result (self.new ≡ self.old) }
         ensures fault { FailsBy HubFault.Memory (relay_fault (hub_of self.old) from to) result }
     {
@@ -114,9 +115,9 @@ impl World {
 
     /// The frame of this number of a link, which was relayed before. Nothing changes.
     fn frame_again(&self, from: Party, to: Party, number: u32) -> Result<Frame, HubFault>
-        requires { IsTrue (are_parties self.now from to) }
+        requires { IsTrue (are_parties (hub_of self.now) from to) }
         ensures number { IfOk result (λ frame. frame.number ≡ number) }
-        ensures frame { IfOk result (λ frame. IsFrameOf (items_on self.now from to) frame) }
+        ensures frame { IfOk result (λ frame. IsFrameOf (items_on (hub_of self.now) from to) frame) }
         ensures fault { FailsBy HubFault.Memory
             (repeat_fault (hub_of self.now) from to number) result }
     {
@@ -130,7 +131,7 @@ impl World {
         to: Party,
         number: u32,
     ) -> Result<(), HubFault>
-        requires parties { IsTrue (are_parties self.old from to) }
+        requires parties { IsTrue (are_parties (hub_of self.old) from to) }
         requires room { length (wire_of self.old from to) < self.old.limits.wire }
         ensures ok { OnOk result
             (self.new ≡ with_wire self.old from to (wire_of self.old from to ++ number ∷ [])) }
@@ -145,7 +146,7 @@ impl World {
 
     /// Closes a link.
     pub(super) fn put_closed(&mut self, from: Party, to: Party) -> Result<(), HubFault>
-        requires { IsTrue (are_parties self.old from to) }
+        requires { IsTrue (are_parties (hub_of self.old) from to) }
         ensures ok { OnOk result
             (self.new ≡ with_hub self.old (with_closed (hub_of self.old) from to)) }
         ensures err { OnErr result (self.new ≡ self.old) }
@@ -156,7 +157,7 @@ impl World {
 
     /// Takes the frame in front of a wire away.
     pub(super) fn drop_front(&mut self, from: Party, to: Party)
-        requires { IsTrue (are_parties self.old from to) }
+        requires { IsTrue (are_parties (hub_of self.old) from to) }
         ensures { self.new ≡ with_wire self.old from to (drop 1 (wire_of self.old from to)) }
     {
         let wire = self.wires.at_mut(from, to);
@@ -165,7 +166,7 @@ impl World {
 
     /// Offers the frame in front of a wire to its receiver, which takes or refuses it. It stays there.
     pub(super) fn offer_front(&mut self, from: Party, to: Party) -> Result<Taken, SiteFault>
-        requires parties { IsTrue (are_parties self.old from to) }
+        requires parties { IsTrue (are_parties (hub_of self.old) from to) }
         requires some { IsSome (slice_get (wire_of self.old from to) 0) }
         ensures { OffersFront self.old from to result self.new }
     {

@@ -3,7 +3,8 @@
 ghost use Rattle.std.specs.Prelude.{◌≡◌, length, IsTrue, slice_get};
 ghost use Rattle.mv_machine.specs.Limits.{AreBounds};
 ghost use Rattle.mv_repository.specs.Verdict.{local_verdict, joint_verdict};
-ghost use Rattle.mv_machine.specs.State.{is_uplink_full, log_of, is_party, are_parties, waiting_of};
+ghost use Rattle.mv_hub.specs.Hub.{are_parties};
+ghost use Rattle.mv_machine.specs.State.{is_uplink_full, log_of, is_party, waiting_of, hub_of};
 ghost use Rattle.mv_machine.specs.State.{wire_of, is_wire_full};
 ghost use Rattle.mv_system.specs.Wire.{numbers_of};
 
@@ -25,7 +26,7 @@ impl World {
 
     /// Whether both are parties.
     pub(super) fn are_parties(&self, from: Party, to: Party) -> bool
-        ensures { result ≡ are_parties self.now from to }
+        ensures { result ≡ are_parties (hub_of self.now) from to }
     {
         self.is_party(from) && self.is_party(to)
     }
@@ -66,7 +67,7 @@ impl World {
     /// The wire of a link.
     #[tactic(auto, using(crate::proofs::SystemLemmas::wires_at, crate::proofs::SystemLemmas::wires_len_at))]
     pub(super) fn wire(&self, from: Party, to: Party) -> &Wire
-        requires { IsTrue (are_parties self.now from to) }
+        requires { IsTrue (are_parties (hub_of self.now) from to) }
         ensures numbers { numbers_of result.now.frames ≡ wire_of self.now from to }
         ensures len { length result.now.frames ≡ length (wire_of self.now from to) }
     {
@@ -75,7 +76,7 @@ impl World {
 
     /// How many frames of a link are under way.
     pub(super) fn wire_len(&self, from: Party, to: Party) -> usize
-        requires { IsTrue (are_parties self.now from to) }
+        requires { IsTrue (are_parties (hub_of self.now) from to) }
         ensures { result ≡ length (wire_of self.now from to) }
     {
         self.wire(from, to).len()
@@ -83,7 +84,7 @@ impl World {
 
     /// Whether as many frames of a link are under way as its wire takes.
     pub(super) fn is_wire_full(&self, from: Party, to: Party) -> bool
-        requires { IsTrue (are_parties self.now from to) }
+        requires { IsTrue (are_parties (hub_of self.now) from to) }
         ensures { result ≡ is_wire_full self.now from to }
     {
         let limits = self.limits();
@@ -92,7 +93,7 @@ impl World {
 
     /// The number of the frame in front of a wire.
     pub(super) fn front_number(&self, from: Party, to: Party) -> Option<u32>
-        requires { IsTrue (are_parties self.now from to) }
+        requires { IsTrue (are_parties (hub_of self.now) from to) }
         ensures { result ≡ slice_get (wire_of self.now from to) 0 }
     {
         self.wire(from, to).front_number()

@@ -1,5 +1,5 @@
-use Rattle.mv_machine.proofs.SubmittedLemmas.{items_are_submitted}
+use Rattle.mv_machine.proofs.SubmittedLemmas.{numbers_rise}
 use Rattle.mv_machine.proofs.laws.items_are_submitted.Goals as goal
 
-pub returns : goal.returns
-returns c = items_are_submitted
+pub returns-clause-rising : goal.returns-clause-rising
+returns-clause-rising c = numbers_rise

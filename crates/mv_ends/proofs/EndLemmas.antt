@@ -36,7 +36,7 @@ use Rattle.mv_ends.specs.declared.inlets.Inlets.{Inlets}
 use Rattle.mv_ends.specs.declared.wires.Wires.{Wires}
 use Rattle.mv_ends.specs.declared.hub_end.HubEnd.{HubEnd}
 use Rattle.mv_ends.specs.HubEnd.{IsUnchanged, Routes}
-use Rattle.mv_ends.specs.Inlets.{SameInlets, TakesNothing, Takes}
+use Rattle.mv_ends.specs.Inlets.{IsFront, SameInlets, TakesNothing, Takes}
 use Rattle.mv_ends.specs.Wires.{wire_of, SameWires, PutsNoFrame, PutsFrame}
 use Rattle.mv_ends.specs.Valid.{TookAll, IsFor, AreOfLinks, AreWithin}
 
@@ -167,16 +167,17 @@ refused_by (Some other) fault e = ap hub_refusal_of e
 
 -- where the hub does not route a message of a party, the refusal is its fault's
 pub route_refused : (old new : HubEnd) (from : ℕ) (message : Message) (fault : RouteFault) → from < length old.hub.parties → IsUnchanged old new
+    → IsFront new.uplinks from message
     → FailsBy {A = ℕ × List ℕ} routing.Memory (route_fault old.hub from message) (Err fault) → Routes from old new (Refused (route_refusal_of fault))
 unfolding route_fault
-route_refused old new from message fault party unchanged fails =
+route_refused old new from message fault party unchanged front fails =
     let busy = option_map routing.Busy (busy_party old.hub from message) in
     by (busy_party old.hub from message) (ap (λ b. cond b busy (Some routing.StrangerParty)) (lt-ltb from (length old.hub.parties) party)) fails
   where
     by : (full : Option ℕ) → route_fault old.hub from message ≡ option_map routing.Busy full → fault ≡ unwrap_or (route_fault old.hub from message) routing.Memory
         → Routes from old new (Refused (route_refusal_of fault))
     by None is e = subst (λ f. Routes from old new (Refused (route_refusal_of f))) (sym (e ∙ ap (λ f. unwrap_or f routing.Memory) is)) (unchanged, party)
-    by (Some to) is e = subst (λ f. Routes from old new (Refused (route_refusal_of f))) (sym (e ∙ ap (λ f. unwrap_or f routing.Memory) is)) (unchanged, (message, is))
+    by (Some to) is e = subst (λ f. Routes from old new (Refused (route_refusal_of f))) (sym (e ∙ ap (λ f. unwrap_or f routing.Memory) is)) (unchanged, (message, front, is))
 
 -- the ends of the same rings are as many
 pub for_same : (count : ℕ) (old new : Wires) → SameWires old new → IsFor count old → IsFor count new

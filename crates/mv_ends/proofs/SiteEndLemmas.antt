@@ -22,7 +22,7 @@ use Rattle.mv_machine.specs.declared.reply.Reply.TheVariants.{Refused}
 use Rattle.mv_machine.specs.Replies.{refusal_of, reply_to}
 use Rattle.mv_ends.specs.declared.inlets.Inlets.{Inlets}
 use Rattle.mv_ends.specs.declared.repo_end.RepoEnd.{RepoEnd}
-use Rattle.mv_ends.specs.Inlets.{taken_of, SameInlets, TakesNothing, Takes}
+use Rattle.mv_ends.specs.Inlets.{taken_of, IsFront, SameInlets, TakesNothing, Takes}
 use Rattle.mv_ends.specs.Answering.{answer_by, stands_to}
 use Rattle.mv_ends.specs.Accepted.{AreAccepted}
 use Rattle.mv_ends.specs.Refusals.{IsRefusedBy}
@@ -36,12 +36,12 @@ refused_for A (Some other) fault is = ap refusal_of is
 
 -- where the party refuses a frame, no frame was taken
 pub apply_refused : (from : ℕ) (old new : RepoEnd) (full : Bool) (frame : Frame) (fault : SiteFault) → IsRepoUnchanged old new
-    → IsRefusedBy refusal_of (apply_fault full old.site from frame.item (stands_to old.site from frame)) (refusal_of fault) → Applies from old new (Refused (refusal_of fault))
-apply_refused from old new full frame site_fault.NotYours unchanged why = (unchanged, (full, frame, why))
-apply_refused from old new full frame site_fault.UplinkFull unchanged why = (unchanged, (full, frame, why))
-apply_refused from old new full frame site_fault.SenderFull unchanged why = (unchanged, (full, frame, why))
-apply_refused from old new full frame site_fault.AnswerBusy unchanged why = (unchanged, (full, frame, why))
-apply_refused from old new full frame site_fault.Memory unchanged why = (unchanged, (full, frame, why))
+    → IsFront new.inlets from frame → IsRefusedBy refusal_of (apply_fault full old.site from frame.item (stands_to old.site from frame)) (refusal_of fault) → Applies from old new (Refused (refusal_of fault))
+apply_refused from old new full frame site_fault.NotYours unchanged front why = (unchanged, (full, frame, front, why))
+apply_refused from old new full frame site_fault.UplinkFull unchanged front why = (unchanged, (full, frame, front, why))
+apply_refused from old new full frame site_fault.SenderFull unchanged front why = (unchanged, (full, frame, front, why))
+apply_refused from old new full frame site_fault.AnswerBusy unchanged front why = (unchanged, (full, frame, front, why))
+apply_refused from old new full frame site_fault.Memory unchanged front why = (unchanged, (full, frame, front, why))
 
 -- where it took the frame, the reply says so
 pub apply_taken : (from number : ℕ) (old new : RepoEnd) (taken : Taken) → TakesFrame from old new (reply_to number taken) → Applies from old new (reply_to number taken)

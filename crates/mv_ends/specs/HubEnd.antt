@@ -15,7 +15,7 @@ use Rattle.mv_machine.specs.declared.reply.Refusal.TheVariants.{Party, UplinkEmp
 use Rattle.mv_machine.specs.Replies.{hub_refusal_of}
 use Rattle.mv_ends.specs.declared.hub_end.HubEnd.{HubEnd}
 use Rattle.mv_ends.specs.Refusals.{IsRefusedBy}
-use Rattle.mv_ends.specs.Inlets.{SameInlets, TakesNothing, Takes}
+use Rattle.mv_ends.specs.Inlets.{IsFront, SameInlets, TakesNothing, Takes}
 use Rattle.mv_ends.specs.Wires.{SameWires, PutsNoFrame, PutsFrame}
 
 -- The same end of one opening, at two moments: it has the parties and limits that it had, and the ends of the same rings.
@@ -41,12 +41,13 @@ pub record RoutesFront (from : ℕ) (old new : HubEnd) (k : ℕ) (reached : List
   pub number : k ≡ routed_count old.hub.entries from + 1
   pub reach_is : reached ≡ reach old.hub.parties old.hub.entries from message
 
--- what `route` leaves, by its reply
+-- what `route` leaves, by its reply: a link that has no room has none for the message at the front of the uplink
 abbrev pub Routes : ℕ → HubEnd → HubEnd → Reply → Type 0
 Routes from old new (Routed k reached) = RoutesFront from old new k reached
 Routes from old new (Refused Party) = IsUnchanged old new × (from < length old.hub.parties → ⊥)
 Routes from old new (Refused UplinkEmpty) = IsUnchanged old new × (from < length old.hub.parties)
-Routes from old new (Refused (Busy to)) = IsUnchanged old new × ((message : Message) × (route_fault old.hub from message ≡ Some (route.Busy to)))
+Routes from old new (Refused (Busy to)) = IsUnchanged old new
+    × ((message : Message) × IsFront new.uplinks from message × (route_fault old.hub from message ≡ Some (route.Busy to)))
 Routes from old new (Refused Memory) = IsUnchanged old new × (from < length old.hub.parties)
 Routes from old new reply = ⊥
 

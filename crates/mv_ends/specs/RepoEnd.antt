@@ -16,7 +16,7 @@ use Rattle.mv_machine.specs.Replies.{refusal_of, reply_to}
 use Rattle.mv_ends.specs.declared.repo_end.RepoEnd.{RepoEnd}
 use Rattle.mv_ends.specs.Answering.{answer_by, stands_to}
 use Rattle.mv_ends.specs.Refusals.{IsRefusedBy}
-use Rattle.mv_ends.specs.Inlets.{SameInlets, TakesNothing, Takes}
+use Rattle.mv_ends.specs.Inlets.{IsFront, SameInlets, TakesNothing, Takes}
 
 -- The same end of one opening, at two moments: the same party, one of as many, with the ends of the same rings.
 pub record SameRepoEnd (old new : RepoEnd) : Type 0 where
@@ -65,10 +65,11 @@ pub record TakesFrame (from : ℕ) (old new : RepoEnd) (reply : Reply) : Type 0 
   pub pushed : sent new.uplink ≡ sent old.uplink ++ option_to_list (answer_by old.site from frame.item (stands_to old.site from frame))
   pub reply_is : reply ≡ reply_to frame.number (taken_by old.site from frame.item (stands_to old.site from frame))
 
--- what `apply` leaves, by its reply: no frame is taken where there is no such party, where none is seen, and where the party refuses it
+-- what `apply` leaves, by its reply: no frame is taken where there is no such party, where none is seen, and where the
+-- party refuses the one at the front
 abbrev pub Applies : ℕ → RepoEnd → RepoEnd → Reply → Type 0
 Applies from old new (Refused Party) = IsRepoUnchanged old new × (from < old.site.parties → ⊥)
 Applies from old new (Refused WireEmpty) = IsRepoUnchanged old new × (from < old.site.parties)
-Applies from old new (Refused refusal) = IsRepoUnchanged old new × ((full : Bool) × (frame : Frame)
+Applies from old new (Refused refusal) = IsRepoUnchanged old new × ((full : Bool) × (frame : Frame) × IsFront new.inlets from frame
     × IsRefusedBy refusal_of (apply_fault full old.site from frame.item (stands_to old.site from frame)) refusal)
 Applies from old new reply = TakesFrame from old new reply

@@ -5,7 +5,7 @@ use Rattle.mv_hub.specs.Record.{routed_count}
 use Rattle.mv_machine.specs.Lawful.{IsLawfulRecord}
 use Rattle.mv_ends.specs.Inlets.{Takes}
 use Rattle.mv_ends.specs.Valid.{TookAll, IsFor, AreOfLinks, AreWithin}
-use Rattle.mv_ends.proofs.EndLemmas.{of_links_entered, took_routed, took_same, within_routed, lawful_routed, takes_after}
+use Rattle.mv_ends.proofs.EndLemmas.{of_links_entered, took_routed, took_same, within_routed, lawful_routed, takes_after, route_refused}
 use Rattle.mv_ends.proofs.hub_end.HubEnd.route.Goals as goal
 
 pub invariant_of-self-in-Ok-clause-took : goal.invariant_of-self-in-Ok-clause-took
@@ -47,3 +47,8 @@ returns-in-Ok-clause-reply c =
 
 pub invariant_of-self-in-Ok-clause-square : goal.invariant_of-self-in-Ok-clause-square
 invariant_of-self-in-Ok-clause-square c = subst (λ (h : HubState). IsFor (length h.parties) c.args.self.now.wires) (sym c.in-Ok.ensures.ok) c.args.self.now.square
+
+pub returns-in-Err-clause-reply : goal.returns-in-Err-clause-reply
+returns-in-Err-clause-reply c =
+    rw c.from.ensures (route_refused c.args.self.now _ c.args.from c.message.result.now c.in-Err.fault (search rules) (search rules)
+    (rw c.message.ensures c.front.ensures) (search rules))

@@ -16,13 +16,13 @@ use Rattle.mv_ends.proofs.repo_end.RepoEnd.apply.Goals as goal
 pub returns-in_default-clause-reply : goal.returns-in_default-clause-reply
 returns-in_default-clause-reply c = (
   search rules,
-  (c.is_full-full.result, c.frame-frame.result.now, subst (λ o. IsRefusedBy refusal_of o Memory) (sym c.in_default.ensures.free) refl),
+  (c.is_full-full.result, c.frame-frame.result.now, rw c.frame-frame.ensures c.front.ensures, subst (λ o. IsRefusedBy refusal_of o Memory) (sym c.in_default.ensures.free) refl),
 )
 
 pub returns-in-Err-clause-reply : goal.returns-in-Err-clause-reply
 returns-in-Err-clause-reply c =
     rw c.from.ensures (apply_refused c.args.from c.args.self.now _ c.is_full-full.result c.frame-frame.result.now c.in-Err.fault (search rules)
-    (refused_for Taken _ c.in-Err.fault c.in-Err.ensures.fault))
+    (rw c.frame-frame.ensures c.front.ensures) (refused_for Taken _ c.in-Err.fault c.in-Err.ensures.fault))
 
 pub invariant_of-self-in-Ok-apply-clause-pushed : goal.invariant_of-self-in-Ok-apply-clause-pushed
 invariant_of-self-in-Ok-apply-clause-pushed c =

@@ -1,12 +1,12 @@
 -- Lemmas on the slots of the packs, and on what is kept of each pack by them.
 use Rattle.std.specs.Prelude.{bytes_eq}
-use Rattle.std.proofs.Common.{◌≡◌, ◌≤◌, ◌<◌, ℕ, zero, suc, ◌+◌, List, [], ◌∷◌, ◌++◌, length, filter, take, get_or, refl, sym, ◌∙◌, ap, subst, arith, Bool, true, false, cond, ◌&&◌, ◌||◌, Option, Some, None, is_some, true≢false, slice_get, Result, Ok, Err, OnOk, OnErr}
+use Rattle.std.proofs.Common.{◌≡◌, ◌≤◌, ◌<◌, ℕ, zero, suc, ◌+◌, List, [], ◌∷◌, ◌++◌, length, filter, take, get_or, refl, sym, ◌∙◌, ap, subst, arith, Bool, true, false, cond, ◌&&◌, ◌||◌, Option, Some, None, true≢false, slice_get, Result, Ok, Err, OnOk, OnErr}
 use Rattle.std.specs.List.{count_by, list_any}
 use Rattle.std.specs.Map.{lookup, set_value}
 use Rattle.std.specs.Option.{option_map, unwrap_or}
 use Rattle.std.proofs.lemmas.Option.{none-some}
 use Rattle.std.specs.Cmp.Lexicographic.{same_text}
-use Rattle.std.proofs.lemmas.List.Sums.{length-filter}
+use Rattle.std.proofs.lemmas.List.Sums.{length-filter, sum_by-cons}
 use Rattle.std.proofs.lemmas.List.Folds.{list_any_more}
 use Rattle.std.proofs.lemmas.Map.Made.{lookup-map_values}
 use Rattle.indexmap.specs.IndexMap.{insert_entry}
@@ -24,82 +24,13 @@ use Rattle.mv_pack.specs.Keys.{is_same_pack, pack_key}
 use Rattle.mv_repository.specs.Counts.{is_held_active}
 use Rattle.mv_repository.specs.PackState.{held_of, has_pack}
 use Rattle.mv_repository.specs.Stops.{StopTables, entry_at}
+use Rattle.mv_repository.specs.Slots.{one_where}
 use Rattle.mv_repository.specs.Tables.{IsUploadOf}
-use Rattle.mv_repository.specs.Packs.{kept_as, kept_table, is_own, is_own_in, IsPut, IsWrittenAnew, FindsTracked, is_in, is_of, batch_serials, is_birth, is_made_at, is_made_there, refreshed_in, IsSettled, AreSettled}
+use Rattle.mv_repository.specs.Packs.{kept_as, kept_by, kept_table, is_own, is_own_by, is_own_in, IsPut, FindsTracked, is_in, is_of, batch_serials, is_birth, is_made_at, is_made_there, refreshed_in, IsSettled, AreSettled}
 use Rattle.mv_repository.specs.Tracked.{serials_in, has_serial, is_tracked, KeepsTracked}
 use Rattle.mv_repository.specs.Track.{Kept, born_at, kept_born, nothing_kept, kept_in, pack_made_by, held_made_at, grown_at, marks_at, with_upload, refreshed, IsTrack, is_made, is_active_kept, one_if, IsTally}
-use Rattle.mv_repository.proofs.KeptLemmas.{same_pack, pack-sym, pack-self, text-self, serials_more}
+use Rattle.mv_repository.proofs.KeptLemmas.{same_pack, text-self, serials_more}
 use Rattle.mv_repository.proofs.TableLemmas.{longer, newest-stands}
-
-module _ {X : Type 0} where
-  -- what a key has, once another is written
-  pub lookup-inserted : (es : List (PackKey × X)) (key p : PackKey) (v : X)
-      → lookup (is_same_pack p) (insert_entry is_same_pack es key v) ≡ cond (is_same_pack key p) (Some v) (lookup (is_same_pack p) es)
-  lookup-inserted [] key p v = ap (λ b. cond b (Some v) None) (pack-sym p key)
-  lookup-inserted (e ∷ es) key p v = by (is_same_pack key e.0) refl (lookup-inserted es key p v)
-    where
-      rest : Option X
-      rest = lookup (is_same_pack p) es
-
-      again : (b : Bool) → cond b (Some v) rest ≡ cond b (Some v) (cond b (Some e.1) rest)
-      again true = refl
-      again false = refl
-
-      apart : (b c : Bool) → is_same_pack p e.0 ≡ b → is_same_pack key p ≡ c → is_same_pack key e.0 ≡ false
-          → cond b (Some e.1) (cond c (Some v) rest) ≡ cond c (Some v) (cond b (Some e.1) rest)
-      apart true true f g h = absurd (true≢false (sym (ap (λ (q : PackKey). is_same_pack q e.0) (same_pack key p g) ∙ f) ∙ h))
-      apart true false f g h = refl
-      apart false c f g h = refl
-
-      by : (b : Bool) → is_same_pack key e.0 ≡ b → lookup (is_same_pack p) (insert_entry is_same_pack es key v) ≡ cond (is_same_pack key p) (Some v) rest
-          → lookup (is_same_pack p) (cond b ((e.0, v) ∷ es) (e ∷ insert_entry is_same_pack es key v)) ≡ cond (is_same_pack key p) (Some v) (cond (is_same_pack p e.0) (Some e.1) rest)
-      by true h r =
-          let same : is_same_pack key p ≡ is_same_pack p e.0 = ap (λ (q : PackKey). is_same_pack q p) (same_pack key e.0 h) ∙ pack-sym e.0 p in
-          again (is_same_pack p e.0) ∙ ap (λ b. cond b (Some v) (cond (is_same_pack p e.0) (Some e.1) rest)) (sym same)
-      by false h r =
-          ap (λ (o : Option X). cond (is_same_pack p e.0) (Some e.1) o) r
-          ∙ apart (is_same_pack p e.0) (is_same_pack key p) refl refl h
-
-  -- the same where a key that is there is written
-  pub lookup-written : (es : List (PackKey × X)) (key p : PackKey) (v : X)
-      → lookup (is_same_pack p) (set_value (is_same_pack key) es v) ≡ cond (is_same_pack key p) (option_map (λ _. v) (lookup (is_same_pack key) es)) (lookup (is_same_pack p) es)
-  lookup-written [] key p v = elim (is_same_pack key p) as (λ b. ◌≡◌ {A = Option X} None (cond b None None)) [ true ↦ refl | false ↦ refl ]
-  lookup-written (e ∷ es) key p v = by (is_same_pack key e.0) refl (lookup-written es key p v)
-    where
-      rest : Option X
-      rest = lookup (is_same_pack p) es
-
-      again : (b : Bool) → cond b (Some v) rest ≡ cond b (Some v) (cond b (Some e.1) rest)
-      again true = refl
-      again false = refl
-
-      apart : (o : Option X) (b c : Bool) → is_same_pack p e.0 ≡ b → is_same_pack key p ≡ c → is_same_pack key e.0 ≡ false
-          → cond b (Some e.1) (cond c o rest) ≡ cond c o (cond b (Some e.1) rest)
-      apart o true true f g h = absurd (true≢false (sym (ap (λ (q : PackKey). is_same_pack q e.0) (same_pack key p g) ∙ f) ∙ h))
-      apart o true false f g h = refl
-      apart o false c f g h = refl
-
-      by : (b : Bool) → is_same_pack key e.0 ≡ b
-          → lookup (is_same_pack p) (set_value (is_same_pack key) es v) ≡ cond (is_same_pack key p) (option_map (λ _. v) (lookup (is_same_pack key) es)) rest
-          → lookup (is_same_pack p) (cond b ((e.0, v) ∷ es) (e ∷ set_value (is_same_pack key) es v))
-          ≡ cond (is_same_pack key p) (option_map (λ _. v) (cond b (Some e.1) (lookup (is_same_pack key) es))) (cond (is_same_pack p e.0) (Some e.1) rest)
-      by true h r =
-          let same : is_same_pack key p ≡ is_same_pack p e.0 = ap (λ (q : PackKey). is_same_pack q p) (same_pack key e.0 h) ∙ pack-sym e.0 p in
-          again (is_same_pack p e.0) ∙ ap (λ b. cond b (Some v) (cond (is_same_pack p e.0) (Some e.1) rest)) (sym same)
-      by false h r =
-          ap (λ (o : Option X). cond (is_same_pack p e.0) (Some e.1) o) r
-          ∙ apart (option_map (λ _. v) (lookup (is_same_pack key) es)) (is_same_pack p e.0) (is_same_pack key p) refl refl h
-
-  -- a value written where it is
-  pub inserted-same : (es : List (PackKey × X)) (key : PackKey) (v : X) → lookup (is_same_pack key) es ≡ Some v → insert_entry is_same_pack es key v ≡ es
-  inserted-same [] key v h = absurd (true≢false (sym (ap is_some h)))
-  inserted-same (e ∷ es) key v h = by (is_same_pack key e.0) h (inserted-same es key v)
-    where
-      by : (b : Bool) → cond b (Some e.1) (lookup (is_same_pack key) es) ≡ Some v
-          → (lookup (is_same_pack key) es ≡ Some v → insert_entry is_same_pack es key v ≡ es)
-          → cond b ((e.0, v) ∷ es) (e ∷ insert_entry is_same_pack es key v) ≡ e ∷ es
-      by true f r = ap (λ (o : Option X). (e.0, unwrap_or o v) ∷ es) (sym f)
-      by false f r = ap (λ (l : List (PackKey × X)). e ∷ l) (r f)
 
 -- serial numbers with one more
 pub serial-more : (list : List (List ℕ)) (serial q : List ℕ) → has_serial list q ≡ true → has_serial (list ++ serial ∷ []) q ≡ true
@@ -179,78 +110,16 @@ written-apart {K} {L} test other (e ∷ es) list apart = by (test e.0) refl (wri
     by true h r = ap (λ c. cond c (Some list) (lookup other es)) (apart e.0 h) ∙ ap (λ c. cond c (Some e.1) (lookup other es)) (sym (apart e.0 h))
     by false h r = ap (λ (o : Option L). cond (other e.0) (Some e.1) o) r
 
--- what is kept, once a slot is written
-
-pub table-inserted : (slots : List (PackKey × Slot)) (key : PackKey) (slot : Slot)
-    → kept_table (insert_entry is_same_pack slots key slot) ≡ insert_entry is_same_pack (kept_table slots) key (kept_as slot)
-table-inserted [] key slot = refl
-table-inserted (e ∷ es) key slot = by (is_same_pack key e.0) (table-inserted es key slot)
-  where
-    by : (b : Bool) → kept_table (insert_entry is_same_pack es key slot) ≡ insert_entry is_same_pack (kept_table es) key (kept_as slot)
-        → kept_table (cond b ((e.0, slot) ∷ es) (e ∷ insert_entry is_same_pack es key slot))
-        ≡ cond b ((e.0, kept_as slot) ∷ kept_table es) ((e.0, kept_as e.1) ∷ insert_entry is_same_pack (kept_table es) key (kept_as slot))
-    by true r = refl
-    by false r = ap (λ (l : List (PackKey × Kept)). (e.0, kept_as e.1) ∷ l) r
-
-pub table-written : (slots : List (PackKey × Slot)) (key : PackKey) (slot : Slot)
-    → kept_table (set_value (is_same_pack key) slots slot) ≡ set_value (is_same_pack key) (kept_table slots) (kept_as slot)
-table-written [] key slot = refl
-table-written (e ∷ es) key slot = by (is_same_pack key e.0) (table-written es key slot)
-  where
-    by : (b : Bool) → kept_table (set_value (is_same_pack key) es slot) ≡ set_value (is_same_pack key) (kept_table es) (kept_as slot)
-        → kept_table (cond b ((e.0, slot) ∷ es) (e ∷ set_value (is_same_pack key) es slot))
-        ≡ cond b ((e.0, kept_as slot) ∷ kept_table es) ((e.0, kept_as e.1) ∷ set_value (is_same_pack key) (kept_table es) (kept_as slot))
-    by true r = refl
-    by false r = ap (λ (l : List (PackKey × Kept)). (e.0, kept_as e.1) ∷ l) r
-
--- what is kept of a pack, by its slot
-abbrev pub kept_of : Option Slot → Kept
-kept_of None = nothing_kept
-kept_of (Some slot) = kept_as slot
-
-pub kept-by : (slots : List (PackKey × Slot)) (p : PackKey) → kept_in p (kept_table slots) ≡ kept_of (lookup (is_same_pack p) slots)
+pub kept-by : (slots : List (PackKey × Slot)) (p : PackKey) → kept_in p (kept_table slots) ≡ kept_by (lookup (is_same_pack p) slots)
 kept-by slots p =
     ap (λ (o : Option Kept). unwrap_or o nothing_kept) (lookup-map_values kept_as (is_same_pack p) slots)
-    ∙ elim (lookup (is_same_pack p) slots) as (λ o. unwrap_or (option_map kept_as o) nothing_kept ≡ kept_of o) [ None ↦ refl | Some slot ↦ refl ]
-
-pub kept-inserted : (es es' : List (PackKey × Kept)) (key : PackKey) (v : Kept) → es' ≡ insert_entry is_same_pack es key v
-    → (p : PackKey) → kept_in p es' ≡ cond (is_same_pack key p) v (kept_in p es)
-kept-inserted es es' key v e p =
-    ap (kept_in p) e ∙ ap (λ (o : Option Kept). unwrap_or o nothing_kept) (lookup-inserted es key p v)
-    ∙ elim (is_same_pack key p) as (λ b. unwrap_or (cond b (Some v) (lookup (is_same_pack p) es)) nothing_kept ≡ cond b v (kept_in p es)) [ true ↦ refl | false ↦ refl ]
+    ∙ elim (lookup (is_same_pack p) slots) as (λ o. unwrap_or (option_map kept_as o) nothing_kept ≡ kept_by o) [ None ↦ refl | Some slot ↦ refl ]
 
 -- the tally of a table, once one pack is written
-
-length-one : (b : Bool) (e : PackKey × Kept) (es : List (PackKey × Kept)) → length (cond b (e ∷ es) es) ≡ length es + one_if b
-length-one true e es = omega arith
-length-one false e es = omega arith
-
-filter-inserted : (test : Kept → Bool) (key : PackKey) (es : List (PackKey × Kept)) (v : Kept) → test nothing_kept ≡ false
-    → length (filter (λ e. test e.1) (insert_entry is_same_pack es key v)) + one_if (test (kept_in key es)) ≡ length (filter (λ e. test e.1) es) + one_if (test v)
-filter-inserted test key [] v none = omega (arith, length-one (test v) (key, v) [], ap one_if none)
-filter-inserted test key (e ∷ es) v none = by (is_same_pack key e.0) (filter-inserted test key es v none)
-  where
-    part : List (PackKey × Kept) → List (PackKey × Kept)
-    part xs = filter (λ e. test e.1) xs
-
-    by : (b : Bool) → length (part (insert_entry is_same_pack es key v)) + one_if (test (kept_in key es)) ≡ length (part es) + one_if (test v)
-        → length (part (cond b ((e.0, v) ∷ es) (e ∷ insert_entry is_same_pack es key v))) + one_if (test (unwrap_or (cond b (Some e.1) (lookup (is_same_pack key) es)) nothing_kept))
-        ≡ length (part (e ∷ es)) + one_if (test v)
-    by true r = omega (arith, length-one (test v) (e.0, v) (part es), length-one (test e.1) e (part es))
-    by false r = omega (arith, length-one (test e.1) e (part (insert_entry is_same_pack es key v)), length-one (test e.1) e (part es), r)
 
 -- how a count of the packs of which something holds moves
 abbrev pub Moves : (Kept → Bool) → List (PackKey × Kept) → List (PackKey × Kept) → Bool → Bool → Type 0
 Moves test es es' was is = count_by (λ e. test e.1) es' + one_if was ≡ count_by (λ e. test e.1) es + one_if is
-
-pub moves-inserted : (test : Kept → Bool) (es es' : List (PackKey × Kept)) (key : PackKey) (v : Kept) (was is : Bool) → test nothing_kept ≡ false → es' ≡ insert_entry is_same_pack es key v
-    → was ≡ test (kept_in key es) → is ≡ test (kept_in key es') → Moves test es es' was is
-moves-inserted test es es' key v was is none e w i =
-    let now : is ≡ test v = i ∙ ap test (kept-inserted es es' key v e key ∙ ap (λ b. cond b v (kept_in key es)) (pack-self key)) in
-    (λ j. count_by (λ e. test e.1) (e j) + one_if (w j))
-    ∙ (λ j. sym (length-filter (λ e. test e.1) (insert_entry is_same_pack es key v)) j + one_if (test (kept_in key es)))
-    ∙ filter-inserted test key es v none
-    ∙ (λ j. length-filter (λ e. test e.1) es j + one_if (sym now j))
 
 -- a count is at most as long as the list
 pub count-most : {A : Type 0} (test : A → Bool) (xs : List A) → count_by test xs ≤ length xs
@@ -284,90 +153,14 @@ newest-upload log entry gtin serials is =
 
 -- where one pack is written, the packs with a track of their own are found
 
-pub finds-inserted : (slots : List (PackKey × Slot)) (key : PackKey) (slot : Slot) (old new : List (List ℕ × List (List ℕ))) → KeepsTracked old new → (is_own_in key slots ≡ false → is_tracked key new ≡ true)
-    → FindsTracked slots old → FindsTracked (insert_entry is_same_pack slots key slot) new
-finds-inserted slots key slot old new keeps added finds pack h =
-    by (is_same_pack key pack) refl (ap (λ (o : Option Slot). unwrap_or (option_map is_own o) false) (sym (lookup-inserted slots key pack slot)) ∙ h)
-  where
-    here : (b : Bool) → is_own_in key slots ≡ b → is_tracked key new ≡ true
-    here true e = keeps key (finds key e)
-    here false e = added e
-
-    by : (b : Bool) → is_same_pack key pack ≡ b → unwrap_or (option_map is_own (cond b (Some slot) (lookup (is_same_pack pack) slots))) false ≡ true → is_tracked pack new ≡ true
-    by true e o = ap (λ (q : PackKey). is_tracked q new) (sym (same_pack key pack e)) ∙ here (is_own_in key slots) refl
-    by false e o = keeps pack (finds pack o)
-
 pub finds-kept : (slots : List (PackKey × Slot)) (old new : List (List ℕ × List (List ℕ))) → KeepsTracked old new → FindsTracked slots old → FindsTracked slots new
 finds-kept slots old new keeps finds pack h = keeps pack (finds pack h)
-
-pub own-inserted : (slots : List (PackKey × Slot)) (key : PackKey) (slot : Slot) → is_own slot ≡ is_own_in key slots → (p : PackKey) → is_own_in p (insert_entry is_same_pack slots key slot) ≡ is_own_in p slots
-own-inserted slots key slot same p =
-    ap (λ (o : Option Slot). unwrap_or (option_map is_own o) false) (lookup-inserted slots key p slot) ∙ by (is_same_pack key p) refl
-  where
-    by : (b : Bool) → is_same_pack key p ≡ b → unwrap_or (option_map is_own (cond b (Some slot) (lookup (is_same_pack p) slots))) false ≡ is_own_in p slots
-    by true e = same ∙ ap (λ (q : PackKey). is_own_in q slots) (same_pack key p e)
-    by false e = refl
-
-pub own-written : (slots : List (PackKey × Slot)) (key : PackKey) (slot : Slot) → (is_some (lookup (is_same_pack key) slots) ≡ true → is_own slot ≡ is_own_in key slots)
-    → (p : PackKey) → is_own_in p (set_value (is_same_pack key) slots slot) ≡ is_own_in p slots
-own-written slots key slot same p =
-    ap (λ (o : Option Slot). unwrap_or (option_map is_own o) false) (lookup-written slots key p slot) ∙ by (is_same_pack key p) refl (lookup (is_same_pack key) slots) refl
-  where
-    by : (b : Bool) → is_same_pack key p ≡ b → (o : Option Slot) → lookup (is_same_pack key) slots ≡ o
-        → unwrap_or (option_map is_own (cond b (option_map (λ _. slot) o) (lookup (is_same_pack p) slots))) false ≡ is_own_in p slots
-    by true e None f = sym (ap (λ (o : Option Slot). unwrap_or (option_map is_own o) false) f) ∙ ap (λ (q : PackKey). is_own_in q slots) (same_pack key p e)
-    by true e (Some was) f = same (ap is_some f) ∙ ap (λ (q : PackKey). is_own_in q slots) (same_pack key p e)
-    by false e o f = refl
-
--- what working out again does
-
-pub kept-written : (f : Kept → Kept) (es es' : List (PackKey × Kept)) (key : PackKey) → f nothing_kept ≡ nothing_kept → es' ≡ set_value (is_same_pack key) es (f (kept_in key es))
-    → (p : PackKey) → kept_in p es' ≡ cond (is_same_pack key p) (f (kept_in key es)) (kept_in p es)
-kept-written f es es' key none e p =
-    ap (kept_in p) e ∙ ap (λ (o : Option Kept). unwrap_or o nothing_kept) (lookup-written es key p (f (kept_in key es)))
-    ∙ by (is_same_pack key p) (lookup (is_same_pack key) es)
-  where
-    by : (b : Bool) (o : Option Kept) → unwrap_or (cond b (option_map (λ _. f (unwrap_or o nothing_kept)) o) (lookup (is_same_pack p) es)) nothing_kept ≡ cond b (f (unwrap_or o nothing_kept)) (kept_in p es)
-    by true None = sym none
-    by true (Some k) = refl
-    by false o = refl
-
-filter-written : (test : Kept → Bool) (key : PackKey) (es : List (PackKey × Kept)) (v : Kept)
-    → length (filter (λ e. test e.1) (set_value (is_same_pack key) es v)) + one_if (test (kept_in key es)) ≡ length (filter (λ e. test e.1) es) + one_if (test (kept_in key (set_value (is_same_pack key) es v)))
-filter-written test key [] v = refl
-filter-written test key (e ∷ es) v = by (is_same_pack key e.0) refl (filter-written test key es v)
-  where
-    part : List (PackKey × Kept) → List (PackKey × Kept)
-    part xs = filter (λ e. test e.1) xs
-
-    by : (b : Bool) → is_same_pack key e.0 ≡ b
-        → length (part (set_value (is_same_pack key) es v)) + one_if (test (kept_in key es)) ≡ length (part es) + one_if (test (kept_in key (set_value (is_same_pack key) es v)))
-        → length (part (cond b ((e.0, v) ∷ es) (e ∷ set_value (is_same_pack key) es v))) + one_if (test (unwrap_or (cond b (Some e.1) (lookup (is_same_pack key) es)) nothing_kept))
-        ≡ length (part (e ∷ es)) + one_if (test (kept_in key (cond b ((e.0, v) ∷ es) (e ∷ set_value (is_same_pack key) es v))))
-    by true h r =
-        omega (arith, length-one (test v) (e.0, v) (part es), length-one (test e.1) e (part es), ap (λ c. one_if (test (unwrap_or (cond c (Some v) (lookup (is_same_pack key) es)) nothing_kept))) h)
-    by false h r =
-        omega (
-          arith,
-          length-one (test e.1) e (part (set_value (is_same_pack key) es v)),
-          length-one (test e.1) e (part es),
-          r,
-          ap (λ c. one_if (test (unwrap_or (cond c (Some e.1) (lookup (is_same_pack key) (set_value (is_same_pack key) es v))) nothing_kept))) h,
-        )
-
-pub moves-written : (test : Kept → Bool) (es es' : List (PackKey × Kept)) (key : PackKey) (v : Kept) (was is : Bool) → es' ≡ set_value (is_same_pack key) es v
-    → was ≡ test (kept_in key es) → is ≡ test (kept_in key es') → Moves test es es' was is
-moves-written test es es' key v was is e w i =
-    (λ j. count_by (λ e. test e.1) (e j) + one_if (w j))
-    ∙ (λ j. sym (length-filter (λ e. test e.1) (set_value (is_same_pack key) es v)) j + one_if (test (kept_in key es)))
-    ∙ filter-written test key es v
-    ∙ (λ j. length-filter (λ e. test e.1) es j + one_if (sym (i ∙ ap (λ (l : List (PackKey × Kept)). test (kept_in key l)) e) j))
 
 -- a pack that no status names has no place of a status
 unowned : (slots : List (PackKey × Slot)) (p : PackKey) → is_own_in p slots ≡ false → (kept_in p (kept_table slots)).places ≡ []
 unowned slots p h = ap (λ (k : Kept). k.places) (kept-by slots p) ∙ by (lookup (is_same_pack p) slots) h
   where
-    by : (o : Option Slot) → unwrap_or (option_map is_own o) false ≡ false → (kept_of o).places ≡ []
+    by : (o : Option Slot) → unwrap_or (option_map is_own o) false ≡ false → (kept_by o).places ≡ []
     by None e = refl
     by (Some (Made birth)) e = refl
     by (Some (Own track)) e = absurd (true≢false e)
@@ -478,10 +271,10 @@ module _ (log : List LogEntry) (tables : StopTables) where
 -- what stands for a pack
 
 pub found-kept : (slots : List (PackKey × Slot)) (key : PackKey) (slot : Slot) → lookup (is_same_pack key) slots ≡ Some slot → kept_in key (kept_table slots) ≡ kept_as slot
-found-kept slots key slot h = kept-by slots key ∙ ap kept_of h
+found-kept slots key slot h = kept-by slots key ∙ ap kept_by h
 
 pub absent-kept : (slots : List (PackKey × Slot)) (key : PackKey) → lookup (is_same_pack key) slots ≡ None → kept_in key (kept_table slots) ≡ nothing_kept
-absent-kept slots key h = kept-by slots key ∙ ap kept_of h
+absent-kept slots key h = kept-by slots key ∙ ap kept_by h
 
 pub none-own : (slots : List (PackKey × Slot)) (key : PackKey) → lookup (is_same_pack key) slots ≡ None → is_own_in key slots ≡ false
 none-own slots key h = ap (λ (o : Option Slot). unwrap_or (option_map is_own o) false) h
@@ -505,63 +298,56 @@ upload-there [] place h = absurd (true≢false (sym h))
 upload-there (entry ∷ log) zero h = omega arith
 upload-there (entry ∷ log) (suc place) h = omega (arith, upload-there log place h)
 
--- a table once a slot is put in
-module _ (old new : List (PackKey × Slot)) (key : PackKey) (kept : Kept) (own : Bool) (put : IsPut old new key kept own) where
-  put-table : kept_table new ≡ insert_entry is_same_pack (kept_table old) key kept
-  put-table = ap kept_table put.entries ∙ table-inserted old key put.slot ∙ ap (insert_entry is_same_pack (kept_table old) key) put.kept_is
+-- a count, by the first of a list and the rest
+pub count-front : {A : Type 0} (test : A → Bool) (x : A) (xs : List A) → count_by test (x ∷ xs) ≡ cond (test x) 1 0 + count_by test xs
+count-front test x xs = sum_by-cons (λ y. cond (test y) 1 0) x xs
 
+-- the slots that pass a test, and what is kept by them
+
+count-kept : (test : Kept → Bool) (slots : List (PackKey × Slot)) → count_by (λ e. test e.1) (kept_table slots) ≡ count_by (λ e. test (kept_as e.1)) slots
+count-kept test [] = refl
+count-kept test (e ∷ es) = count-front (λ (x : PackKey × Kept). test x.1) (e.0, kept_as e.1) (kept_table es) ∙ ap (λ n. cond (test (kept_as e.1)) 1 0 + n) (count-kept test es) ∙ sym (count-front (λ (x : PackKey × Slot). test (kept_as x.1)) e es)
+
+one-kept : (test : Kept → Bool) (slot : Option Slot) → test nothing_kept ≡ false → one_where (λ slot. test (kept_as slot)) slot ≡ one_if (test (kept_by slot))
+one-kept test None none = ap one_if (sym none)
+one-kept test (Some slot) none = refl
+
+-- a table once a slot is put in
+module _ (old new : List (PackKey × Slot)) (key : PackKey) (kept : Kept) (own : Bool) (put : IsPut is_same_pack old new key kept own) where
   pub put-kept : (p : PackKey) → kept_in p (kept_table new) ≡ cond (is_same_pack key p) kept (kept_in p (kept_table old))
-  put-kept = kept-inserted (kept_table old) (kept_table new) key kept put-table
+  put-kept p =
+      kept-by new p ∙ ap kept_by (put.stands.found p) ∙ by (is_same_pack key p)
+      ∙ (λ i. cond (is_same_pack key p) (put.kept_is i) (sym (kept-by old p) i))
+    where
+      by : (b : Bool) → kept_by (cond b put.slot (lookup (is_same_pack p) old)) ≡ cond b (kept_by put.slot) (kept_by (lookup (is_same_pack p) old))
+      by true = refl
+      by false = refl
 
   pub put-moves : (test : Kept → Bool) (was is : Bool) → test nothing_kept ≡ false → was ≡ test (kept_in key (kept_table old)) → is ≡ test kept → Moves test (kept_table old) (kept_table new) was is
   put-moves test was is none w i =
-      moves-inserted test (kept_table old) (kept_table new) key kept was is none put-table w
-      (i ∙ ap test (sym (put-kept key ∙ ap (λ b. cond b kept (kept_in key (kept_table old))) (pack-self key))))
+      let before : one_if was ≡ one_where (λ slot. test (kept_as slot)) (lookup (is_same_pack key) old) =
+      ap one_if (w ∙ ap test (kept-by old key)) ∙ sym (one-kept test (lookup (is_same_pack key) old) none) in
+      let now : one_if is ≡ one_where (λ slot. test (kept_as slot)) put.slot = ap one_if (i ∙ ap test (sym put.kept_is)) ∙ sym (one-kept test put.slot none) in
+      omega (arith, count-kept test old, count-kept test new, put.stands.counted (λ slot. test (kept_as slot)), before, now)
 
-pub put-own : (old new : List (PackKey × Slot)) (key : PackKey) (kept : Kept) → IsPut old new key kept (is_own_in key old) → (p : PackKey) → is_own_in p new ≡ is_own_in p old
-put-own old new key kept put p = ap (is_own_in p) put.entries ∙ own-inserted old key put.slot put.own_is p
-
-pub put-finds : (old new : List (PackKey × Slot)) (key : PackKey) (kept : Kept) (own : Bool) (products products' : List (List ℕ × List (List ℕ))) → IsPut old new key kept own
-    → KeepsTracked products products' → (is_own_in key old ≡ false → is_tracked key products' ≡ true) → FindsTracked old products → FindsTracked new products'
-put-finds old new key kept own products products' put keeps added finds =
-    subst (λ (slots : List (PackKey × Slot)). FindsTracked slots products') (sym put.entries) (finds-inserted old key put.slot products products' keeps added finds)
-
--- a table once a slot is written anew
-
-pub written-absent : {X : Type 0} (es : List (PackKey × X)) (key : PackKey) (v : X) → lookup (is_same_pack key) es ≡ None → set_value (is_same_pack key) es v ≡ es
-written-absent [] key v h = refl
-written-absent {X = X} (e ∷ es) key v h = by (is_same_pack key e.0) h (written-absent es key v)
+pub put-own : (old new : List (PackKey × Slot)) (key : PackKey) (kept : Kept) → IsPut is_same_pack old new key kept (is_own_in key old) → (p : PackKey) → is_own_in p new ≡ is_own_in p old
+put-own old new key kept put p = ap is_own_by (put.stands.found p) ∙ by (is_same_pack key p) refl
   where
-    by : (b : Bool) → cond b (Some e.1) (lookup (is_same_pack key) es) ≡ None → (lookup (is_same_pack key) es ≡ None → set_value (is_same_pack key) es v ≡ es)
-        → cond b ((e.0, v) ∷ es) (e ∷ set_value (is_same_pack key) es v) ≡ e ∷ es
-    by true f r = absurd (none-some _ (sym f))
-    by false f r = ap (λ (l : List (PackKey × X)). e ∷ l) (r f)
+    by : (b : Bool) → is_same_pack key p ≡ b → is_own_by (cond b put.slot (lookup (is_same_pack p) old)) ≡ is_own_in p old
+    by true e = put.own_is ∙ ap (λ (q : PackKey). is_own_in q old) (same_pack key p e)
+    by false e = refl
 
-module _ (old new : List (PackKey × Slot)) (key : PackKey) (f : Kept → Kept) (none : f nothing_kept ≡ nothing_kept)
-    (written : IsWrittenAnew old new key (f (kept_in key (kept_table old)))) where
-  written-table : kept_table new ≡ set_value (is_same_pack key) (kept_table old) (f (kept_in key (kept_table old)))
-  written-table =
-      ap kept_table written.entries ∙ table-written old key written.slot
-      ∙ by (lookup (is_same_pack key) old) refl
-    where
-      by : (o : Option Slot) → lookup (is_same_pack key) old ≡ o
-          → set_value (is_same_pack key) (kept_table old) (kept_as written.slot) ≡ set_value (is_same_pack key) (kept_table old) (f (kept_in key (kept_table old)))
-      by None e =
-          let absent : lookup (is_same_pack key) (kept_table old) ≡ None = lookup-map_values kept_as (is_same_pack key) old ∙ ap (option_map kept_as) e in
-          written-absent (kept_table old) key (kept_as written.slot) absent
-          ∙ sym (written-absent (kept_table old) key (f (kept_in key (kept_table old))) absent)
-      by (Some slot) e = ap (set_value (is_same_pack key) (kept_table old)) (written.kept_is (ap is_some e))
+pub put-finds : (old new : List (PackKey × Slot)) (key : PackKey) (kept : Kept) (own : Bool) (products products' : List (List ℕ × List (List ℕ))) → IsPut is_same_pack old new key kept own
+    → KeepsTracked products products' → (is_own_in key old ≡ false → is_tracked key products' ≡ true) → FindsTracked old products → FindsTracked new products'
+put-finds old new key kept own products products' put keeps added finds pack h = by (is_same_pack key pack) refl (sym (ap is_own_by (put.stands.found pack)) ∙ h)
+  where
+    here : (b : Bool) → is_own_in key old ≡ b → is_tracked key products' ≡ true
+    here true e = keeps key (finds key e)
+    here false e = added e
 
-  pub written-kept : (p : PackKey) → kept_in p (kept_table new) ≡ cond (is_same_pack key p) (f (kept_in key (kept_table old))) (kept_in p (kept_table old))
-  written-kept = kept-written f (kept_table old) (kept_table new) key none written-table
-
-  pub written-moves : (test : Kept → Bool) (was is : Bool) → was ≡ test (kept_in key (kept_table old)) → is ≡ test (f (kept_in key (kept_table old))) → Moves test (kept_table old) (kept_table new) was is
-  written-moves test was is w i =
-      moves-written test (kept_table old) (kept_table new) key (f (kept_in key (kept_table old))) was is written-table w
-      (i ∙ ap test (sym (written-kept key ∙ ap (λ b. cond b (f (kept_in key (kept_table old))) (kept_in key (kept_table old))) (pack-self key))))
-
-  pub written-own : (p : PackKey) → is_own_in p new ≡ is_own_in p old
-  written-own p = ap (is_own_in p) written.entries ∙ own-written old key written.slot written.own_is p
+    by : (b : Bool) → is_same_pack key pack ≡ b → is_own_by (cond b put.slot (lookup (is_same_pack pack) old)) ≡ true → is_tracked pack products' ≡ true
+    by true e o = ap (λ (q : PackKey). is_tracked q products') (sym (same_pack key pack e)) ∙ here (is_own_in key old) refl
+    by false e o = keeps pack (finds pack o)
 
 -- the tally of a table, once one pack is written
 

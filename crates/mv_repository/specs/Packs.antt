@@ -1,9 +1,8 @@
 -- The table of packs: a pack is as an upload made it until a status names it, and has a track of its own from then on.
-use Rattle.std.specs.Prelude.{◌≡◌, ℕ, List, [], map, Bool, true, false, nat_eq, ◌&&◌, Option, Some, None, IfSome, is_some, if◌then◌else◌, bytes_eq}
+use Rattle.std.specs.Prelude.{◌≡◌, ℕ, List, [], map, Bool, true, false, nat_eq, ◌&&◌, Option, Some, None, IfSome, if◌then◌else◌, bytes_eq}
 use Rattle.std.specs.List.{list_any}
 use Rattle.mv_pack.specs.declared.key.BatchKey.{BatchKey}
-use Rattle.std.specs.Map.{lookup, set_value}
-use Rattle.indexmap.specs.IndexMap.{insert_entry}
+use Rattle.std.specs.Map.{lookup}
 use Rattle.std.specs.Option.{option_map, unwrap_or}
 use Rattle.mv_pack.specs.declared.key.PackKey.{PackKey}
 use Rattle.mv_message.specs.declared.message.Message.TheVariants.{Upload}
@@ -18,13 +17,23 @@ use Rattle.mv_pack.specs.Keys.{is_same_pack, batch_key}
 use Rattle.mv_repository.specs.PackState.{has_pack}
 use Rattle.mv_repository.specs.Batches.{is_listed}
 use Rattle.mv_repository.specs.Stops.{StopTables, entry_at}
+use Rattle.mv_repository.specs.Slots.{StandsFor}
 use Rattle.mv_repository.specs.Tracked.{is_tracked}
-use Rattle.mv_repository.specs.Track.{Kept, kept_born, is_upload_of, uploaded_batch, kept_in, held_made_at, refreshed, IsTrack, IsTally}
+use Rattle.mv_repository.specs.Track.{Kept, kept_born, nothing_kept, is_upload_of, uploaded_batch, kept_in, held_made_at, refreshed, IsTrack, IsTally}
 
 -- what is kept of a pack, by what stands in the table
 abbrev pub kept_as : Slot → Kept
 kept_as (Made birth) = kept_born birth
 kept_as (Own track) = track.value
+
+-- the same where something stands for it or nothing
+abbrev pub kept_by : Option Slot → Kept
+kept_by None = nothing_kept
+kept_by (Some slot) = kept_as slot
+
+-- the same where its product has a shelf of these slots
+abbrev pub kept_on : PackKey → List (List ℕ × Slot) → Kept
+kept_on pack slots = kept_by (lookup (bytes_eq pack.serial) slots)
 
 -- the table, with what is kept of each pack
 abbrev pub kept_table : List (PackKey × Slot) → List (PackKey × Kept)
@@ -35,26 +44,26 @@ abbrev pub is_own : Slot → Bool
 is_own (Made birth) = false
 is_own (Own track) = true
 
+abbrev pub is_own_by : Option Slot → Bool
+is_own_by slot = unwrap_or (option_map is_own slot) false
+
 abbrev pub is_own_in : PackKey → List (PackKey × Slot) → Bool
-is_own_in pack slots = unwrap_or (option_map is_own (lookup (is_same_pack pack) slots)) false
+is_own_in pack slots = is_own_by (lookup (is_same_pack pack) slots)
+
+abbrev pub is_own_on : PackKey → List (List ℕ × Slot) → Bool
+is_own_on pack slots = is_own_by (lookup (bytes_eq pack.serial) slots)
 
 -- each pack with a track of its own is found under its product
 abbrev pub FindsTracked : List (PackKey × Slot) → List (List ℕ × List (List ℕ)) → Type 0
 FindsTracked slots products = (pack : PackKey) → is_own_in pack slots ≡ true → is_tracked pack products ≡ true
 
--- one slot was put in: the pack has what is kept by it
-pub record IsPut (old new : List (PackKey × Slot)) (key : PackKey) (kept : Kept) (own : Bool) : Type 0 where
-  pub slot : Slot
-  pub entries : new ≡ insert_entry is_same_pack old key slot
-  pub kept_is : kept_as slot ≡ kept
-  pub own_is : is_own slot ≡ own
-
--- one slot was written, where there is one: the pack has what is kept by it, and a track of its own only if it had one
-pub record IsWrittenAnew (old new : List (PackKey × Slot)) (key : PackKey) (kept : Kept) : Type 0 where
-  pub slot : Slot
-  pub entries : new ≡ set_value (is_same_pack key) old slot
-  pub kept_is : is_some (lookup (is_same_pack key) old) ≡ true → kept_as slot ≡ kept
-  pub own_is : is_some (lookup (is_same_pack key) old) ≡ true → is_own slot ≡ is_own_in key old
+-- one slot was written, or none where none stood: what is kept of its pack is kept by it, and so whether the pack has a track
+-- of its own
+pub record IsPut {K : Type 0} (same : K → K → Bool) (old new : List (K × Slot)) (key : K) (kept : Kept) (own : Bool) : Type 0 where
+  pub slot : Option Slot
+  pub stands : StandsFor same old new key slot
+  pub kept_is : kept_by slot ≡ kept
+  pub own_is : is_own_by slot ≡ own
 
 -- the upload that made a pack is listed under the batch of the pack
 abbrev pub IsFound : List (BatchKey × List ℕ) → PackKey → Kept → Type 0

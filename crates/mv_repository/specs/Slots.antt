@@ -1,41 +1,56 @@
--- What stands for each pack: a product code is kept once, and a pack goes by the place of its product and its serial number.
-use Rattle.std.specs.Bool.{⊤}
-use Rattle.std.specs.Prelude.{◌≡◌, ◌<◌, ◌≤◌, ◌^◌, ℕ, List, [], ◌∷◌, map, length, get_or, Bool, true, nat_eq, ◌&&◌, None, bytes_eq}
-use Rattle.std.specs.List.{IsDistinct}
-use Rattle.std.specs.Map.{lookup}
+-- What stands for each pack: a product code is kept once, and each product has a shelf, on which a pack goes by its serial
+-- number alone.
+use Rattle.std.specs.Prelude.{◌≡◌, ◌≤◌, ◌+◌, ◌^◌, ℕ, List, [], ◌∷◌, ◌++◌, map, length, Bool, true, false, Option, None, if◌then◌else◌, bytes_eq}
+use Rattle.std.specs.List.{IsDistinct, AllByRecursion, count_by}
+use Rattle.std.specs.Map.{lookup, keys_of}
+use Rattle.std.specs.Option.{option_map_or}
 use Rattle.mv_pack.specs.declared.key.PackKey.{PackKey}
 use Rattle.mv_repository.specs.declared.slot.Slot.{Slot}
-use Rattle.mv_repository.specs.declared.slots.PackName.{PackName}
 use Rattle.mv_pack.specs.Keys.{is_same_pack, pack_key}
 
--- the product codes, each once; what stands for each pack; and how many more packs there is room for
+-- what stands for each pack of one product, by its serial number; and how many more packs of it there is room for
+pub record ShelfTable : Type 0 where
+  pub slots : List (List ℕ × Slot)
+  pub room : ℕ
+
+-- the product codes, each once; what stands for each pack; and how many more packs of each product there is room for
 pub record SlotTable : Type 0 where
   pub products : List (List ℕ)
   pub entries : List (PackKey × Slot)
-  pub room : ℕ
+  pub rooms : List ℕ
 
--- two names are one: the same serial number of the product at the same place
-abbrev pub is_same_name : PackName → PackName → Bool
-is_same_name first second = nat_eq first.product second.product && bytes_eq first.serial second.serial
+-- what stands for the packs of a product, by the packs
+abbrev pub product_slots : List ℕ → List (List ℕ × Slot) → List (PackKey × Slot)
+product_slots gtin slots = map (λ entry. (pack_key gtin entry.0, entry.1)) slots
 
--- the pack of a name
-abbrev pub pack_named : List (List ℕ) → PackName → PackKey
-pack_named products name = pack_key (get_or products name.product []) name.serial
+-- the same of each product in turn
+abbrev pub pack_slots : List (List ℕ) → List ShelfTable → List (PackKey × Slot)
+pack_slots [] shelves = []
+pack_slots (gtin ∷ products) [] = []
+pack_slots (gtin ∷ products) (shelf ∷ shelves) = product_slots gtin shelf.slots ++ pack_slots products shelves
 
--- what stands for each name, by the packs
-abbrev pub pack_slots : List (List ℕ) → List (PackName × Slot) → List (PackKey × Slot)
-pack_slots products slots = map (λ entry. (pack_named products entry.0, entry.1)) slots
+-- a shelf has each serial number once, and at most 2^31 of them
+pub record IsShelf (slots : List (List ℕ × Slot)) : Type 0 where
+  pub distinct : IsDistinct bytes_eq (keys_of slots)
+  pub few : length slots ≤ 2 ^ 31
 
--- the product of each name is there
-abbrev pub AreNamed : ℕ → List (PackName × Slot) → Type 0
-AreNamed count [] = ⊤
-AreNamed count (entry ∷ rest) = (entry.0.product < count) × AreNamed count rest
-
--- each name is that of one pack, and each pack has one name
-pub record IsNamed (products : List (List ℕ)) (slots : List (PackName × Slot)) : Type 0 where
-  pub named : AreNamed (length products) slots
+-- each product has one shelf
+pub record IsShelved (products : List (List ℕ)) (shelves : List ShelfTable) : Type 0 where
   pub distinct : IsDistinct bytes_eq products
+  pub one_each : length shelves ≡ length products
   pub few : length products ≤ 2 ^ 32
+  pub each : AllByRecursion (λ shelf. IsShelf shelf.slots) shelves
+
+-- one where something stands that passes a test
+abbrev pub one_where : (Slot → Bool) → Option Slot → ℕ
+one_where test slot = if option_map_or test slot false then 1 else 0
+
+-- a slot, or none, stands for a key in place of what stood for it, and nothing else is changed: so each key is found, and so
+-- what passes a test is counted
+pub record StandsFor {K : Type 0} (same : K → K → Bool) (old new : List (K × Slot)) (key : K) (slot : Option Slot) : Type 0 where
+  pub found : (other : K) → lookup (same other) new ≡ (if same key other then slot else lookup (same other) old)
+  pub counted : (test : Slot → Bool) → count_by (λ entry. test entry.1) new + one_where test (lookup (same key) old)
+      ≡ count_by (λ entry. test entry.1) old + one_where test slot
 
 -- nothing stands for any pack of a product
 abbrev pub HasNoPackOf : List ℕ → List (PackKey × Slot) → Type 0

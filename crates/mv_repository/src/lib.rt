@@ -31,6 +31,7 @@ mod order;
 mod packs;
 mod repository;
 mod sender;
+mod shelf;
 mod slot;
 mod slots;
 mod status;

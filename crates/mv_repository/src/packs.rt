@@ -82,7 +82,7 @@ impl Packs {
         ensures tally { IsTally self.now result }
         ensures distinct { IsDistinct is_same_pack (keys_of self.now) }
     {
-        prove!(self.table.slots.len() <= usize::MAX / 2);
+        prove!(self.table.slots.product_count() <= usize::MAX / 2);
         self.table.tally
     }
 
@@ -114,8 +114,8 @@ impl Packs {
             unreachable!();
         };
         let place = place_of(log.len())?;
-        self.table.slots.reserve(serials.len())?;
         let product = self.table.slots.add_product(gtin)?;
+        self.table.slots.reserve(product, serials.len())?;
         let batch = BatchKey {
             gtin,
             batch: held.batch,

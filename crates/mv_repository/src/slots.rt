@@ -1,7 +1,7 @@
-//! What stands for each pack. Each product code is kept once, and a pack goes by the place of its product, in 32 bits, and
-//! its serial number: 24 bytes, where the product code and the serial number take 34. Contracts see whole keys.
+//! What stands for each pack. Each product code is kept once, and each product has a shelf, on which a pack goes by its serial
+//! number alone: what an upload touches lies near. Contracts see whole keys.
 
-ghost use Rattle.std.specs.Prelude.{◌≡◌, ◌<◌, ◌≤◌, ◌+◌, ◌^◌, ◌∷◌, ◌++◌, [], length, slice_get, vec_len, vec_capacity, OnOk, OnErr, IfOk, IfSome, IfNone, Some, true, false};
+ghost use Rattle.std.specs.Prelude.{◌≡◌, ◌<◌, ◌≤◌, ◌+◌, ◌^◌, ◌∷◌, ◌++◌, [], length, slice_get, get_or, vec_len, vec_capacity, OnOk, OnErr, IfOk, IfSome, IfNone, Some, true, false};
 ghost use Rattle.std.specs.List.{IsDistinct};
 ghost use Rattle.std.specs.Map.{lookup, keys_of};
 ghost use Rattle.std.specs.Option.{option_copied};
@@ -11,93 +11,40 @@ ghost use Rattle.mv_repository.specs.Stops.{comes_first};
 ghost use Rattle.mv_repository.specs.Tracked.{is_tracked, KeepsTracked};
 ghost use Rattle.mv_repository.specs.Track.{held_made_at, kept_in, IsTrack, with_status, with_upload, newest_effect, is_made, is_active_kept};
 
-use crate::birth::Birth;
-use crate::slot::{Slot, start};
+use crate::LogEntry;
+use crate::shelf::{Added, Again, Noted, Shelf};
+use crate::slot::Slot;
 use crate::stops::Stops;
-use crate::tally::Share;
 use crate::tracked::Tracked;
-use crate::{Effect, LogEntry};
-use indexmap::map::Entry;
-use indexmap::{IndexMap, IndexSet};
-use mv_pack::{Gtin, PackKey, Serial};
+use indexmap::IndexSet;
+use mv_pack::{Gtin, PackKey};
 use std::alloc::{AllocError, Global};
 use std::marker::Model;
-
-/// A pack, by the place of its product among the product codes, and its serial number.
-#[derive(PartialEq, Eq, Hash, Drop)]
-struct PackName {
-    /// The place of the product code.
-    product: u32,
-    /// The serial number, which no other pack of the product has.
-    serial: Serial,
-}
-
-impl PackName {
-    /// The name of a pack whose product stands at a place.
-    fn new(product: u32, key: &PackKey) -> PackName
-        ensures product { result.product ≡ product }
-        ensures serial { result.serial ≡ key.now.serial }
-    {
-        PackName {
-            product,
-            serial: key.serial.copy(),
-        }
-    }
-}
-
-/// How an upload changed one pack.
-#[derive(Clone, Copy)]
-pub(crate) struct Added {
-    /// Whether it is the first by stamp that names the pack.
-    pub is_new: bool,
-    /// What the pack added to the tally before.
-    pub was: Share,
-    /// What it adds now.
-    pub is: Share,
-}
-
-/// How a status changed its pack.
-#[derive(Clone, Copy)]
-pub(crate) struct Noted {
-    /// The effect of the status, where it stands.
-    pub effect: Effect,
-    /// What the pack added to the tally before.
-    pub was: Share,
-    /// What it adds now.
-    pub is: Share,
-}
-
-/// How working one pack out again changed what it adds to the tally.
-#[derive(Clone, Copy)]
-pub(crate) struct Again {
-    /// What it added before.
-    pub was: Share,
-    /// What it adds now.
-    pub is: Share,
-}
 
 /// What stands for each pack that an upload or a status names.
 #[derive(Drop)]
 pub(crate) struct Slots {
+    /// What memory is got from.
+    alloc: Global,
     /// The product codes, each once.
     products: IndexSet<Gtin>,
-    /// What stands for each pack.
-    slots: IndexMap<PackName, Slot>,
+    /// For each product what stands for its packs.
+    shelves: Vec<Shelf>,
 }
 
 impl Model for Slots {
-    ghost use Rattle.indexmap.specs.IndexMap.{spare};
-    ghost use Rattle.mv_repository.specs.Slots.{SlotTable, pack_slots, IsNamed};
+    ghost use Rattle.std.specs.Prelude.{map};
+    ghost use Rattle.mv_repository.specs.Slots.{SlotTable, pack_slots, IsShelved};
 
     ghost Value = { SlotTable };
 
-    ghost view = { λ a. record { products = a.products.keys; entries = pack_slots a.products.keys a.slots.entries; room = spare a.slots } };
+    ghost view = { λ a. record { products = a.products.keys; entries = pack_slots a.products.keys a.shelves.items; rooms = map (λ shelf. shelf.room) a.shelves.items } };
 
-    ghost invariant = { λ a. IsNamed a.products.keys a.slots.entries };
+    ghost invariant = { λ a. IsShelved a.products.keys a.shelves.items };
 }
 
 impl Slots {
-    ghost use Rattle.mv_repository.specs.Packs.{kept_table, is_own_in, IsPut, IsWrittenAnew, IsSettled, refreshed_in};
+    ghost use Rattle.mv_repository.specs.Packs.{kept_table, is_own_in, IsPut, IsSettled, refreshed_in};
     ghost use Rattle.mv_repository.specs.Slots.{HasNoPackOf};
 
     /// No pack.
@@ -106,18 +53,19 @@ impl Slots {
         ensures entries { result.entries ≡ [] }
     {
         Slots {
+            alloc,
             products: IndexSet::new(alloc),
-            slots: IndexMap::new(alloc),
+            shelves: Vec::new(alloc),
         }
     }
 
-    /// How many packs there are.
-    pub fn len(&self) -> usize
-        ensures len { result ≡ length self.now.entries }
-        ensures small { result < 2 ^ 63 }
-        ensures unique { IsDistinct is_same_pack (keys_of self.now.entries) }
+    /// How many products there are: so few that the packs can be counted in 64 bits.
+    pub fn product_count(&self) -> usize
+        ensures small { result ≤ 2 ^ 32 }
+        ensures few { length self.now.entries ≤ 2 ^ 63 }
+        ensures distinct { IsDistinct is_same_pack (keys_of self.now.entries) }
     {
-        self.slots.len()
+        self.products.len()
     }
 
     /// What stands for a pack.
@@ -125,8 +73,7 @@ impl Slots {
         ensures value { option_copied result ≡ lookup (is_same_pack key.now) self.now.entries }
     {
         let product = self.place_of(&key.gtin)?;
-        let name = PackName::new(product, key);
-        self.slots.get(&name)
+        self.shelves[product as usize].get(key)
     }
 
     /// The place of a product. Where it has none no pack of it is here.
@@ -142,7 +89,6 @@ impl Slots {
     pub fn add_product(&mut self, gtin: Gtin) -> Result<u32, AllocError>
         ensures place { IfOk result (λ place. slice_get self.new.products place ≡ Some gtin) }
         ensures entries { self.new.entries ≡ self.old.entries }
-        ensures room { self.new.room ≡ self.old.room }
     {
         if let Some(place) = self.products.get_index_of(&gtin) {
             return Ok(place as u32);
@@ -151,16 +97,20 @@ impl Slots {
         if place > u32::MAX as usize {
             return Err(AllocError);
         }
+        self.shelves.reserve(1)?;
         self.products.insert(gtin)?;
+        self.shelves.push_reserved(Shelf::new(self.alloc));
         Ok(place as u32)
     }
 
-    /// Makes room for so many more packs.
-    pub fn reserve(&mut self, count: usize) -> Result<(), AllocError>
-        ensures room { OnOk result (count ≤ self.new.room) }
+    /// Makes room for so many more packs of the product at a place.
+    pub fn reserve(&mut self, product: u32, count: usize) -> Result<(), AllocError>
+        requires product { product < length self.old.products }
+        ensures room { OnOk result (count ≤ get_or self.new.rooms product 0) }
+        ensures products { self.new.products ≡ self.old.products }
         ensures entries { self.new.entries ≡ self.old.entries }
     {
-        self.slots.reserve(count)
+        self.shelves[product as usize].reserve(count)
     }
 
     /// Adds the newest entry, an upload, to what stands for one pack, whose product stands at a place.
@@ -172,13 +122,13 @@ impl Slots {
         key: &PackKey,
         new: u32,
     ) -> Added
-        requires room { 0 < self.old.room }
+        requires room { 0 < get_or self.old.rooms product 0 }
         requires product { slice_get self.old.products product ≡ Some key.now.gtin }
         requires upload { is_held_active (held_made_at log.now new) ≡ true }
         requires track { IsTrack log.now stops.now key.now (kept_in key.now (kept_table self.old.entries)) }
-        ensures room { self.old.room ≤ self.new.room + 1 }
+        ensures room { get_or self.old.rooms product 0 ≤ get_or self.new.rooms product 0 + 1 }
         ensures products { self.new.products ≡ self.old.products }
-        ensures put { IsPut self.old.entries self.new.entries key.now
+        ensures put { IsPut is_same_pack self.old.entries self.new.entries key.now
             (with_upload log.now stops.now key.now new (kept_in key.now (kept_table self.old.entries)))
             (is_own_in key.now self.old.entries) }
         ensures first { result.is_new
@@ -191,23 +141,7 @@ impl Slots {
         ensures active { result.is.active ≡ is_active_kept
             (with_upload log.now stops.now key.now new (kept_in key.now (kept_table self.old.entries))) }
     {
-        let place = match self.slots.entry(PackName::new(product, key)) {
-            Ok(Entry::Occupied(place)) => {
-                let slot = place.into_mut();
-                let was = slot.share();
-                let is_new = slot.add_upload(log, stops, key, new);
-                let is = slot.share();
-                return Added { is_new, was, is };
-            }
-            Ok(Entry::Vacant(place)) => place,
-            Err(_) => unreachable!(),
-        };
-        let slot = place.insert(Slot::Made(Birth::at(log, new)));
-        Added {
-            is_new: true,
-            was: Share::NONE,
-            is: slot.share(),
-        }
+        self.shelves[product as usize].put_upload(log, stops, key, new)
     }
 
     /// Writes a status into the log, and adds it to what stands for its pack. Where memory is refused nothing has changed
@@ -225,7 +159,7 @@ impl Slots {
         requires track { IsTrack (log.old.items ++ entry ∷ []) stops.now key.now
             (kept_in key.now (kept_table self.old.entries)) }
         ensures log { OnOk result (log.new.items ≡ log.old.items ++ entry ∷ []) }
-        ensures put { OnOk result (IsPut self.old.entries self.new.entries key.now
+        ensures put { OnOk result (IsPut is_same_pack self.old.entries self.new.entries key.now
             (with_status (log.old.items ++ entry ∷ []) stops.now key.now (length log.old.items)
             (kept_in key.now (kept_table self.old.entries))) true) }
         ensures effect { IfOk result (λ noted. noted.effect
@@ -248,24 +182,7 @@ impl Slots {
         ensures err { OnErr result (self.new.entries ≡ self.old.entries) }
     {
         let product = self.add_product(key.gtin)?;
-        let place = match self.slots.entry(PackName::new(product, key))? {
-            Entry::Occupied(place) => {
-                let slot = place.into_mut();
-                let was = slot.share();
-                let effect = slot.add_status(alloc, tracked, log, entry, stops, key)?;
-                let is = slot.share();
-                return Ok(Noted { effect, was, is });
-            }
-            Entry::Vacant(place) => place,
-        };
-        let started = start(alloc, tracked, log, entry, stops, key, None)?;
-        let effect = started.effect;
-        let slot = place.insert(Slot::Own(started.track));
-        Ok(Noted {
-            effect,
-            was: Share::NONE,
-            is: slot.share(),
-        })
+        self.shelves[product as usize].put_status(alloc, tracked, log, entry, stops, key)
     }
 
     /// Works out again one pack, whose product stands at a place, where an upload made it, if one is named by its place in
@@ -281,8 +198,9 @@ impl Slots {
         requires product { slice_get self.old.products product ≡ Some key.now.gtin }
         requires settled { IsSettled log.now stops.now key.now (kept_in key.now (kept_table self.old.entries)) }
         ensures products { self.new.products ≡ self.old.products }
-        ensures written { IsWrittenAnew self.old.entries self.new.entries key.now
-            (refreshed_in log.now stops.now maker key.now (kept_in key.now (kept_table self.old.entries))) }
+        ensures put { IsPut is_same_pack self.old.entries self.new.entries key.now
+            (refreshed_in log.now stops.now maker key.now (kept_in key.now (kept_table self.old.entries)))
+            (is_own_in key.now self.old.entries) }
         ensures was_held { result.was.held ≡ is_made (kept_in key.now (kept_table self.old.entries)) }
         ensures was_active { result.was.active
             ≡ is_active_kept (kept_in key.now (kept_table self.old.entries)) }
@@ -291,16 +209,6 @@ impl Slots {
         ensures active { result.is.active ≡ is_active_kept
             (refreshed_in log.now stops.now maker key.now (kept_in key.now (kept_table self.old.entries))) }
     {
-        let name = PackName::new(product, key);
-        let Some(slot) = self.slots.get_mut(&name) else {
-            return Again {
-                was: Share::NONE,
-                is: Share::NONE,
-            };
-        };
-        let was = slot.share();
-        slot.refresh(log, stops, key, maker);
-        let is = slot.share();
-        Again { was, is }
+        self.shelves[product as usize].put_refreshed(log, stops, key, maker)
     }
 }

@@ -1,6 +1,6 @@
 //! The slots of the packs, with their tally.
 
-ghost use Rattle.std.specs.Prelude.{◌≡◌, ◌<◌, ◌≤◌, ◌+◌, ◌^◌, ◌∷◌, ◌++◌, [], length, slice_get, vec_len, vec_capacity, OnOk, OnErr, IfOk, Some, true, if◌then◌else◌};
+ghost use Rattle.std.specs.Prelude.{◌≡◌, ◌<◌, ◌≤◌, ◌+◌, ◌^◌, ◌∷◌, ◌++◌, [], length, slice_get, get_or, vec_len, vec_capacity, OnOk, OnErr, IfOk, Some, true, if◌then◌else◌};
 ghost use Rattle.mv_pack.specs.declared.key.PackKey.{PackKey as APackKey};
 ghost use Rattle.mv_pack.specs.Keys.{is_same_pack};
 ghost use Rattle.mv_repository.specs.PackState.{has_pack};
@@ -39,13 +39,13 @@ impl Table {
         key: &PackKey,
         new: u32,
     ) -> bool
-        requires room { 0 < self.old.slots.room }
+        requires room { 0 < get_or self.old.slots.rooms product 0 }
         requires product { slice_get self.old.slots.products product ≡ Some key.now.gtin }
         requires upload { is_held_active (held_made_at log.now new) ≡ true }
         requires track { IsTrack log.now stops.now key.now
             (kept_in key.now (kept_table self.old.slots.entries)) }
         requires tally { IsTally (kept_table self.old.slots.entries) self.old.tally }
-        ensures room { self.old.slots.room ≤ self.new.slots.room + 1 }
+        ensures room { get_or self.old.slots.rooms product 0 ≤ get_or self.new.slots.rooms product 0 + 1 }
         ensures products { self.new.slots.products ≡ self.old.slots.products }
         ensures kept { (pack : APackKey) → kept_in pack (kept_table self.new.slots.entries)
             ≡ (if is_same_pack key.now pack
@@ -56,7 +56,7 @@ impl Table {
         ensures tally { IsTally (kept_table self.new.slots.entries) self.new.tally }
         ensures own { (pack : APackKey) → is_own_in pack self.new.slots.entries ≡ is_own_in pack self.old.slots.entries }
     {
-        prove!(self.slots.len() <= usize::MAX / 2);
+        prove!(self.slots.product_count() <= usize::MAX / 2);
         let added = self.slots.put_upload(log, stops, product, key, new);
         let tally = self.tally.moved(added.was, added.is);
         self.tally = tally;
@@ -74,7 +74,7 @@ impl Table {
         serials: &[Serial],
         new: u32,
     ) -> usize
-        requires room { length serials.now ≤ self.old.slots.room }
+        requires room { length serials.now ≤ get_or self.old.slots.rooms product 0 }
         requires product { slice_get self.old.slots.products product ≡ Some gtin }
         requires upload { is_held_active (held_made_at log.now new) ≡ true }
         requires tracks { AreTracks log.now stops.now (kept_table self.old.slots.entries) }
@@ -129,7 +129,7 @@ impl Table {
         ensures log_err { OnErr result (log.new.items ≡ log.old.items) }
         ensures err { OnErr result (self.new.slots.entries ≡ self.old.slots.entries) }
     {
-        prove!(self.slots.len() <= usize::MAX / 2);
+        prove!(self.slots.product_count() <= usize::MAX / 2);
         let noted = self
             .slots
             .put_status(alloc, tracked, log, entry, stops, key)?;
@@ -161,7 +161,7 @@ impl Table {
         ensures tally { IsTally (kept_table self.new.slots.entries) self.new.tally }
         ensures own { (pack : APackKey) → is_own_in pack self.new.slots.entries ≡ is_own_in pack self.old.slots.entries }
     {
-        prove!(self.slots.len() <= usize::MAX / 2);
+        prove!(self.slots.product_count() <= usize::MAX / 2);
         let again = self.slots.put_refreshed(log, stops, product, key, maker);
         let tally = self.tally.moved(again.was, again.is);
         self.tally = tally;

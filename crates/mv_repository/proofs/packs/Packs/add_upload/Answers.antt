@@ -29,18 +29,18 @@ add_uploads-count-requires-clause-upload c =
 
 pub add_uploads-count-requires-clause-tracks : goal.add_uploads-count-requires-clause-tracks
 add_uploads-count-requires-clause-tracks c pack =
-    let slots_are : c.add_product.new.self.entries ≡ c.self.inside.table.slots.entries = search rules in
+    let slots_are : c.reserve.new.self.entries ≡ c.self.inside.table.slots.entries = search rules in
     let log_is : c.as_slice.result.now ≡ c.args.log.now.items ++ c.args.entry ∷ [] = search rules in
     subst (λ (t : List (PackKey × Kept)). IsTrack c.as_slice.result.now c.args.stops.now pack (kept_in pack t)) (sym (ap kept_table slots_are ∙ c.self.view_is)) (rw log_is (c.requires.tracks pack))
 
 pub add_uploads-count-requires-clause-tally : goal.add_uploads-count-requires-clause-tally
 add_uploads-count-requires-clause-tally c =
-    let slots_are : c.add_product.new.self.entries ≡ c.self.inside.table.slots.entries = search rules in
+    let slots_are : c.reserve.new.self.entries ≡ c.self.inside.table.slots.entries = search rules in
     subst (λ (t : List (PackKey × Kept)). IsTally t c.self.inside.table.tally) (sym (ap kept_table slots_are)) c.self.invariant.tally
 
 pub returns-clause-kept : goal.returns-clause-kept
 returns-clause-kept c pack =
-    let slots_are : c.add_product.new.self.entries ≡ c.self.inside.table.slots.entries = search rules in
+    let slots_are : c.reserve.new.self.entries ≡ c.self.inside.table.slots.entries = search rules in
     let log_is : c.as_slice.result.now ≡ c.args.log.now.items ++ c.args.entry ∷ [] = search rules in
     let new_is : c.in_ok-place.place ≡ length c.args.log.now.items = search rules in
     let seen = ap kept_table slots_are ∙ c.self.view_is in
@@ -49,7 +49,7 @@ returns-clause-kept c pack =
 
 pub returns-clause-count : goal.returns-clause-count
 returns-clause-count c =
-    let slots_are : c.add_product.new.self.entries ≡ c.self.inside.table.slots.entries = search rules in
+    let slots_are : c.reserve.new.self.entries ≡ c.self.inside.table.slots.entries = search rules in
     let log_is : c.as_slice.result.now ≡ c.args.log.now.items ++ c.args.entry ∷ [] = search rules in
     let new_is : c.in_ok-place.place ≡ length c.args.log.now.items = search rules in
     let seen = ap kept_table slots_are ∙ c.self.view_is in
@@ -59,10 +59,10 @@ pub invariant_of-self-2 : goal.invariant_of-self-2
 invariant_of-self-2 c =
     let slots = c.self.inside.table.slots.entries in
     let log = c.args.log.now.items in
-    let slots_are : c.add_product.new.self.entries ≡ slots = search rules in
+    let slots_are : c.reserve.new.self.entries ≡ slots = search rules in
     let log_is : c.as_slice.result.now ≡ log ++ c.args.entry ∷ [] = search rules in
     let new_is : c.in_ok-place.place ≡ length log = search rules in
-    let same : kept_table c.add_product.new.self.entries ≡ kept_table slots = ap kept_table slots_are in
+    let same : kept_table c.reserve.new.self.entries ≡ kept_table slots = ap kept_table slots_are in
     let made : Some c.in-Some.held ≡ option_map held_of (pack_made_by c.args.entry.item) = search rules in
     let key : BatchKey = batch_key c.args.gtin c.in-Some.held.batch in
     let key_is : c.copy.result ≡ key = search rules in

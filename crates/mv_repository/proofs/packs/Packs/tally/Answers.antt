@@ -9,4 +9,4 @@ use Rattle.mv_repository.proofs.packs.Packs.tally.Goals as goal
 pub returns-clause-distinct : goal.returns-clause-distinct
 returns-clause-distinct c =
     rw (← c.self.view_is)
-    (subst (IsDistinct is_same_pack) (sym (keys_of-map_values kept_as c.self.inside.table.slots.entries)) c.len.ensures.unique)
+    (subst (IsDistinct is_same_pack) (sym (keys_of-map_values kept_as c.self.inside.table.slots.entries)) c.product_count.ensures.distinct)

@@ -1,14 +1,14 @@
 -- A product code that is found stands at its place, and no name is of one that is not.
 use Rattle.std.proofs.Common.{◌≡◌, sym, subst, slice_get, Option, Some, IfNone, ℕ}
 use Rattle.mv_repository.specs.Slots.{SlotTable, HasNoPackOf}
-use Rattle.mv_repository.proofs.SlotsLemmas.{none-named, place-found}
+use Rattle.mv_repository.proofs.SlotsLemmas.{none-shelved, place-found}
 use Rattle.mv_repository.proofs.slots.Slots.place_of.Goals as goal
 
 pub returns-in_err-place-clause-none : goal.returns-in_err-place-clause-none
 returns-in_err-place-clause-none c =
     subst (λ (o : Option ℕ). IfNone o (HasNoPackOf c.args.gtin.now c.args.self.now.entries)) (sym c.from_residual.ensures)
     (subst (λ (t : SlotTable). HasNoPackOf c.args.gtin.now t.entries) c.self.view_is
-    (none-named c.self.inside.products.keys c.self.inside.slots.entries c.args.gtin.now c.self.invariant.named (sym c.in_err-place.ensures.found)))
+    (none-shelved c.self.inside.products.keys c.self.inside.shelves.items c.args.gtin.now (sym c.in_err-place.ensures.found)))
 
 pub returns-clause-place : goal.returns-clause-place
 returns-clause-place c =

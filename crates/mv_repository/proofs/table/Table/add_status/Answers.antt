@@ -1,5 +1,5 @@
 -- One slot is put in, and its pack counts as it now stands.
-use Rattle.std.proofs.Common.{◌^◌, refl, arith}
+use Rattle.std.proofs.Common.{◌^◌, refl}
 use Rattle.mv_repository.specs.Track.{is_made, is_active_kept}
 use Rattle.mv_repository.specs.Packs.{kept_table}
 use Rattle.mv_repository.proofs.PacksLemmas.{put-kept, put-moves, put-finds, finds-kept, moves-least, tally-most, tally-moved}
@@ -17,7 +17,7 @@ moved-tally-requires-clause-active c =
 
 pub moved-tally-requires-clause-room : goal.moved-tally-requires-clause-room
 moved-tally-requires-clause-room c =
-    tally-most c.args.self.now.slots.entries c.args.self.now.tally (2 ^ 63) c.requires.tally (omega (arith, c.len.ensures.len, c.len.ensures.small))
+    tally-most c.args.self.now.slots.entries c.args.self.now.tally (2 ^ 63) c.requires.tally c.product_count.ensures.few
 
 pub returns-clause-tally : goal.returns-clause-tally
 returns-clause-tally c =

@@ -10,13 +10,12 @@ use Rattle.mv_pack.specs.declared.key.PackKey.{PackKey}
 use Rattle.mv_pack.specs.declared.key.BatchKey.{BatchKey}
 use Rattle.mv_link.specs.declared.item.Item.{Item}
 use Rattle.mv_repository.specs.declared.entry.LogEntry.{LogEntry}
-use Rattle.mv_repository.specs.declared.held.Held.{Held}
 use Rattle.mv_pack.specs.Keys.{is_same_pack, is_same_batch}
 use Rattle.mv_repository.specs.Order.{Placed, passes, put_in, ordered, Ascends}
-use Rattle.mv_repository.specs.Packs.{IsAsMade}
+use Rattle.mv_repository.specs.Packs.{WasTrack}
 use Rattle.mv_repository.specs.PackState.{is_recall_of, is_withdrawal_of, held_of, known_pack, pack_state}
 use Rattle.mv_repository.specs.Stops.{FirstStops, StopTables, first_stops, stops_in, entry_at, place_of, no_entry, AreStopsOf, earlier_place}
-use Rattle.mv_repository.specs.Track.{Kept, is_upload_of, is_status_of, first_upload, statuses_of, pack_grown, pack_marks, held_made_at, grown_at, marks_at, stands_by, put_place, worked_out, with_status, with_upload, refreshed, IsTrack, kept_in, track_of, AreTracksOf}
+use Rattle.mv_repository.specs.Track.{Kept, is_upload_of, is_status_of, first_upload, statuses_of, pack_grown, pack_marks, grown_at, marks_at, stands_by, put_place, worked_out, with_status, with_upload, refreshed, IsTrack, kept_in, track_of, AreTracksOf}
 use Rattle.mv_repository.proofs.OrderLemmas.{StandsBeforeAll, placed_at, passes_behind, ordered-ascends, ordered-push, Stand, ordered-stand, still-stand}
 use Rattle.mv_repository.proofs.StateLemmas.{known-grown, grown-stands, map-stands, find-stand, find-stands}
 use Rattle.mv_repository.proofs.KeptLemmas.{same_pack, same_batch}
@@ -222,33 +221,25 @@ anew log tables pack birth places stops b q =
       held = worked-state log log tables pack (ordered-stand log) stops i;
     })
 
--- what is kept of a pack, when the newest entry is in the log and not yet in the tables
+-- what is kept of a pack is worked out, by a log that begins with the one that the tables are of
+track-in : (whole log : List LogEntry) (table : List (PackKey × Kept)) (tables : StopTables) (pack : PackKey) → Stand whole (ordered log) → AreTracksOf log table → AreStopsOf log tables
+    → IsTrack whole tables pack (kept_in pack table)
+track-in whole log table tables pack stand tracks stops =
+    let track : IsTrack whole tables pack (track_of pack log) = record {
+      places_ascend = subst Ascends (sym (map-stands whole (statuses_of pack (ordered log)) (filter-stand (λ placed. is_status_of pack placed.entry.item) whole (ordered log) stand))) (filter-ascends (λ placed. is_status_of pack placed.entry.item) (ordered log) (ordered-ascends log));
+      marked = sym (worked-marks whole log tables pack stand stops);
+      worked = sym (worked-state whole log tables pack stand stops);
+    } in
+    subst (IsTrack whole tables pack) (sym (tracks pack)) track
+
+-- by the log itself
+pub was_track : (log : List LogEntry) (table : List (PackKey × Kept)) (tables : StopTables) (pack : PackKey) → AreTracksOf log table → AreStopsOf log tables → WasTrack log pack (kept_in pack table)
+was_track log table tables pack tracks stops = record { before = tables; track = track-in log log table tables pack (ordered-stand log) tracks stops }
+
+-- and when the newest entry is in the log and not yet in the tables
 pub is_track : (log : List LogEntry) (entry : LogEntry) (table : List (PackKey × Kept)) (tables : StopTables) (pack : PackKey) → AreTracksOf log table → AreStopsOf log tables
     → IsTrack (longer log entry) tables pack (kept_in pack table)
-is_track log entry table tables pack tracks stops =
-    let stand = still-stand log entry in
-    let track : IsTrack (longer log entry) tables pack (track_of pack log) = record {
-      places_ascend = subst Ascends (sym (map-stands (longer log entry) (statuses_of pack (ordered log)) (filter-stand (λ placed. is_status_of pack placed.entry.item) (longer log entry) (ordered log) stand))) (filter-ascends (λ placed. is_status_of pack placed.entry.item) (ordered log) (ordered-ascends log));
-      marked = sym (worked-marks (longer log entry) log tables pack stand stops);
-      worked = sym (worked-state (longer log entry) log tables pack stand stops);
-    } in
-    subst (IsTrack (longer log entry) tables pack) (sym (tracks pack)) track
-
--- a pack that no status names is as its upload makes it
-as-worked : (log : List LogEntry) (tables : StopTables) (pack : PackKey) (birth : Option ℕ) (places : List ℕ) (held : Option Held) → held ≡ grown_at log tables pack birth places
-    → places ≡ [] → IfSome birth (λ place. held ≡ held_made_at log place)
-as-worked log tables pack None places held worked none = tt
-as-worked log tables pack (Some place) places held worked none = worked ∙ ap (grown_at log tables pack (Some place)) none ∙ same (held_made_at log place)
-  where
-    same : (made : Option Held) → option_map (λ held. held) made ≡ made
-    same None = refl
-    same (Some held) = refl
-
-pub as-made : (log : List LogEntry) (table : List (PackKey × Kept)) (tables : StopTables) (pack : PackKey) → AreTracksOf log table → AreStopsOf log tables
-    → IsAsMade log (kept_in pack table)
-as-made log table tables pack tracks stops =
-    let track = track_of pack log in
-    subst (IsAsMade log) (sym (tracks pack)) (as-worked log tables pack track.birth track.places track.held (sym (worked-state log log tables pack (ordered-stand log) stops)))
+is_track log entry table tables pack tracks stops = track-in (longer log entry) log table tables pack (still-stand log entry) tracks stops
 
 -- an entry that stops nothing leaves the tables of stops
 abbrev pub StopsNone : Item → Type 0

@@ -19,7 +19,7 @@ use Rattle.mv_repository.specs.Batches.{is_listed}
 use Rattle.mv_repository.specs.Stops.{StopTables, entry_at}
 use Rattle.mv_repository.specs.Slots.{StandsFor}
 use Rattle.mv_repository.specs.Tracked.{is_tracked}
-use Rattle.mv_repository.specs.Track.{Kept, kept_born, nothing_kept, is_upload_of, uploaded_batch, kept_in, held_made_at, refreshed, IsTrack, IsTally}
+use Rattle.mv_repository.specs.Track.{Kept, kept_born, nothing_kept, is_upload_of, uploaded_batch, kept_in, refreshed, IsTrack, IsTally}
 
 -- what is kept of a pack, by what stands in the table
 abbrev pub kept_as : Slot → Kept
@@ -140,10 +140,6 @@ is_made_there (Some place) kept = is_birth place kept.birth
 -- a pack worked out again, where an upload made it, if one is named
 abbrev pub refreshed_in : List LogEntry → StopTables → Option ℕ → PackKey → Kept → Kept
 refreshed_in log tables maker pack kept = if is_made_there maker kept then refreshed log tables pack kept else kept
-
--- a pack that no status names is as the upload makes it that its birth names
-abbrev pub IsAsMade : List LogEntry → Kept → Type 0
-IsAsMade log kept = kept.places ≡ [] → IfSome kept.birth (λ place. kept.held ≡ held_made_at log place)
 
 -- working a pack out again that no status names changes nothing
 abbrev pub IsSettled : List LogEntry → StopTables → PackKey → Kept → Type 0

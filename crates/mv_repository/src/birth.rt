@@ -51,8 +51,7 @@ impl Birth {
 
     /// What each pack is that it makes, by the log in which it stands.
     pub fn held(&self, log: &[LogEntry]) -> Option<Held>
-        requires { self.now.held ≡ held_made_at log.now self.now.place }
-        ensures { result ≡ self.now.held }
+        ensures { result ≡ held_made_at log.now self.now.place }
     {
         made_at(log, self.place())
     }

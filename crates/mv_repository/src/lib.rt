@@ -21,6 +21,7 @@
 mod batches;
 mod birth;
 mod counts;
+mod current;
 mod effect;
 mod entry;
 mod held;

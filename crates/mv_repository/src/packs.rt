@@ -51,7 +51,7 @@ impl Model for Packs {
 impl Packs {
     ghost use Rattle.std.specs.Prelude.{Some, None};
     ghost use Rattle.mv_repository.specs.Track.{refreshed};
-    ghost use Rattle.mv_repository.specs.Packs.{is_of, WereTracks, AreMade, IsAsMade};
+    ghost use Rattle.mv_repository.specs.Packs.{is_of, WereTracks, AreMade, WasTrack};
 
     /// A table of no pack.
     pub fn new(alloc: Global) -> Packs
@@ -68,9 +68,9 @@ impl Packs {
         }
     }
 
-    /// What a pack is, by its upload in the log or by its track; none where no upload names it.
+    /// What a pack is, by the log in which its entries stand; none where no upload names it.
     pub fn get(&self, log: &[LogEntry], key: &PackKey) -> Option<Held>
-        requires { IsAsMade log.now (kept_in key.now self.now) }
+        requires { WasTrack log.now key.now (kept_in key.now self.now) }
         ensures { result ≡ (kept_in key.now self.now).held }
     {
         let slot = self.table.slots.get(key)?;

@@ -3,7 +3,8 @@
 
 ghost use Rattle.std.specs.Prelude.{◌≡◌, ◌<◌, ◌∷◌, ◌++◌, [], ℕ, length, vec_len, vec_capacity, OnOk, OnErr, IfOk, None, true, false, if◌then◌else◌};
 ghost use Rattle.mv_repository.specs.Counts.{is_held_active};
-ghost use Rattle.mv_repository.specs.Stops.{comes_first};
+ghost use Rattle.mv_pack.specs.declared.key.PackKey.{PackKey as APackKey};
+ghost use Rattle.mv_repository.specs.Stops.{StopTables, comes_first};
 ghost use Rattle.mv_repository.specs.Packs.{kept_as};
 ghost use Rattle.mv_repository.specs.Tracked.{is_tracked, KeepsTracked};
 ghost use Rattle.mv_repository.specs.Track.{held_made_at, IsTrack, with_status, with_upload, newest_effect, is_made, is_active_kept};
@@ -28,16 +29,16 @@ pub(crate) enum Slot {
 }
 
 impl Slot {
-    ghost use Rattle.mv_repository.specs.Packs.{is_own, refreshed_in, IsSettled, IsAsMade};
+    ghost use Rattle.mv_repository.specs.Packs.{is_own, refreshed_in, IsSettled};
 
-    /// What the pack is; none where no upload names it.
+    /// What the pack is, by the log in which its entries stand; none where no upload names it.
     pub fn held(&self, log: &[LogEntry]) -> Option<Held>
-        requires { IsAsMade log.now (kept_as self.now) }
-        ensures { result ≡ (kept_as self.now).held }
+        ensures { (tables : StopTables) (pack : APackKey) → IsTrack log.now tables pack (kept_as self.now)
+            → result ≡ (kept_as self.now).held }
     {
         match self {
             Slot::Made(birth) => birth.held(log),
-            Slot::Own(track) => track.held(),
+            Slot::Own(track) => track.held(log),
         }
     }
 

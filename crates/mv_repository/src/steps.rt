@@ -8,6 +8,7 @@ ghost use Rattle.mv_repository.specs.Stops.{StopTables, entry_at};
 ghost use Rattle.mv_repository.specs.Steps.{step_place, step_mark, WasWorked};
 ghost use Rattle.mv_repository.specs.Track.{grown_at, stands_by, marks_at, held_by, put_place, places_before};
 
+use crate::current::Current;
 use crate::order::passes;
 use crate::stops::Stops;
 use crate::track::{made_at, one_more};
@@ -114,8 +115,8 @@ pub(crate) fn work_out(
     held
 }
 
-/// Works a pack out from a step on, before which it was so. What it is in the end is known as far as all before the step
-/// was worked in: there is nothing more to do once a step leaves the pack as it did then.
+/// Works a pack out from a step on, before which it was so. What it is now is right as far as all before the step was worked
+/// in: there is nothing more to do once a step leaves the pack as it did then.
 pub(crate) fn carry_on(
     log: &[LogEntry],
     stops: &Stops,
@@ -124,18 +125,18 @@ pub(crate) fn carry_on(
     steps: &mut Vec<Step>,
     from: usize,
     before: Option<Held>,
-    last: Option<Held>,
-) -> Option<Held>
+    current: &mut Current,
+)
     requires within { from ≤ vec_len steps.old }
     requires before { before ≡ grown_at log.now stops.now pack.now birth (take from (map step_place steps.old.items)) }
     requires front { (count : ℕ) → count < from → get_or (map step_mark steps.old.items) count 0
         ≡ stands_by birth (grown_at log.now stops.now pack.now birth (take (count + 1) (map step_place steps.old.items))) }
     ensures places { map step_place steps.new.items ≡ map step_place steps.old.items }
     ensures held { (earlier : List ℕ)
-        → WasWorked log.now stops.now pack.now birth steps.old.items from earlier last
-        → result ≡ grown_at log.now stops.now pack.now birth (map step_place steps.old.items) }
+        → WasWorked log.now stops.now pack.now birth steps.old.items from earlier current.old
+        → current.new ≡ grown_at log.now stops.now pack.now birth (map step_place steps.old.items) }
     ensures marks { (earlier : List ℕ)
-        → WasWorked log.now stops.now pack.now birth steps.old.items from earlier last
+        → WasWorked log.now stops.now pack.now birth steps.old.items from earlier current.old
         → map step_mark steps.new.items ≡ marks_at log.now stops.now pack.now birth (map step_place steps.old.items) }
 {
     let mut held = before;
@@ -143,9 +144,9 @@ pub(crate) fn carry_on(
         held = one_more(log, stops, pack, birth, held, steps[at].place);
         let by = stands_by(birth, &held);
         if by == steps[at].by {
-            return last;
+            return;
         }
         steps[at].by = by;
     }
-    held
+    *current = Current::of(&held);
 }

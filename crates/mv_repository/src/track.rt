@@ -4,12 +4,14 @@
 ghost use Rattle.std.specs.Prelude.{◌≡◌, ◌<◌, ◌≤◌, ◌∷◌, ◌++◌, [], ℕ, List, length, map, insert, take, vec_len, vec_capacity, OnOk, OnErr, IfOk, None, if◌then◌else◌};
 ghost use Rattle.std.specs.Option.{option_map};
 ghost use Rattle.mv_repository.specs.Order.{Ascends};
-ghost use Rattle.mv_repository.specs.Pack.{pack_after_status};
+ghost use Rattle.mv_pack.specs.Keys.{batch_key};
+ghost use Rattle.mv_repository.specs.Pack.{change_effect, pack_after_status};
 ghost use Rattle.mv_repository.specs.PackState.{held_of};
 ghost use Rattle.mv_pack.specs.declared.key.PackKey.{PackKey as APackKey};
-ghost use Rattle.mv_repository.specs.Stops.{StopTables, entry_at, stops_in, comes_first};
+ghost use Rattle.mv_repository.specs.Stops.{StopTables, entry_at, standing_at, stops_in, comes_first};
 ghost use Rattle.mv_repository.specs.Track.{known_of, pack_made_by, held_made_at, held_step, grown_at, put_place, IsTrack, with_status, with_upload, refreshed, places_before, held_before, effect_when, newest_effect, stands_by, is_made, is_active_kept};
 
+use crate::current::Current;
 use crate::order::{comes_first, stands_before};
 use crate::status::{change_effect, is_active};
 use crate::steps::{Step, carry_on, held_by, made, place_for, stands_by, work_out};
@@ -96,6 +98,35 @@ fn changed(
     }
 }
 
+/// How the batch of a pack that is held stands at a place of the log, as far as a status is concerned: it is looked up for a
+/// revert of a pack that is not active, and no other status asks for it.
+fn standing_for(
+    log: &[LogEntry],
+    stops: &Stops,
+    pack: &PackKey,
+    held: &Held,
+    to: Standing,
+    place: usize,
+) -> BatchStanding
+    ensures effect { (sender : ℕ) (user : List ℕ) (at : ℕ)
+        → change_effect (known_of log.now held.now) result to sender user at
+        ≡ change_effect (known_of log.now held.now)
+        (standing_at (stops_in log.now stops.now) (entry_at log.now place) (batch_key pack.now.gtin held.now.batch))
+        to sender user at }
+{
+    if !is_active(to) || is_active(held.standing) {
+        return BatchStanding {
+            recalled: false,
+            withdrawn: false,
+        };
+    }
+    let batch = BatchKey {
+        gtin: pack.gtin,
+        batch: held.batch.copy(),
+    };
+    stops.standing_at(log, &batch, place)
+}
+
 /// A pack that is held, after one more of its statuses.
 fn advance(
     log: &[LogEntry],
@@ -120,11 +151,7 @@ fn advance(
     let Message::Status { to, user, at, .. } = message.get() else {
         return held;
     };
-    let batch = BatchKey {
-        gtin: pack.gtin,
-        batch: held.batch.copy(),
-    };
-    let standing = stops.standing_at(log, &batch, place);
+    let standing = standing_for(log, stops, pack, &held, *to, place);
     changed(
         log,
         held,
@@ -177,11 +204,7 @@ fn effect_on(
     let Message::Status { to, user, at, .. } = message.get() else {
         return Effect::Noted;
     };
-    let batch = BatchKey {
-        gtin: pack.gtin,
-        batch: held.batch.copy(),
-    };
-    let standing = stops.standing_at(log, &batch, place);
+    let standing = standing_for(log, stops, pack, held, *to, place);
     change_effect(log, held, standing, *to, entry.sender, user.as_str(), *at)
 }
 
@@ -213,7 +236,7 @@ pub(crate) struct Track {
     /// Its statuses, in the order of stamps.
     steps: Vec<Step>,
     /// What they make of it.
-    held: Option<Held>,
+    held: Current,
 }
 
 impl Model for Track {
@@ -245,18 +268,16 @@ impl Track {
     {
         let mut steps = Vec::with_capacity(alloc, 1)?;
         steps.push_reserved(Step { place, by: place });
-        let held = None;
+        let held = Current::of(&None);
         Ok(Box::new(alloc, Track { birth, steps, held })?)
     }
 
-    /// What the pack is; none where no upload names it.
-    pub fn held(&self) -> Option<Held>
-        ensures { result ≡ self.now.held }
+    /// What the pack is, by the log in which its entries stand; none where no upload names it.
+    pub fn held(&self, log: &[LogEntry]) -> Option<Held>
+        ensures { (tables : StopTables) (pack : APackKey) → IsTrack log.now tables pack self.now
+            → result ≡ self.now.held }
     {
-        match &self.held {
-            Some(held) => Some(held.copy()),
-            None => None,
-        }
+        self.before(log, self.steps.len())
     }
 
     /// What the pack adds to the tally.
@@ -266,10 +287,7 @@ impl Track {
     {
         Share {
             held: self.birth.is_some(),
-            active: match &self.held {
-                Some(held) => is_active(held.standing),
-                None => false,
-            },
+            active: self.held.is_active(),
         }
     }
 
@@ -294,8 +312,9 @@ impl Track {
     {
         let held = made(log, self.birth);
         let effect = newest_effect(log, stops, pack, self.birth, &held, new);
-        self.held = one_more(log, stops, pack, self.birth, held, new);
-        self.steps[0].by = stands_by(self.birth, &self.held);
+        let held = one_more(log, stops, pack, self.birth, held, new);
+        self.steps[0].by = stands_by(self.birth, &held);
+        self.held = Current::of(&held);
         effect
     }
 
@@ -318,13 +337,7 @@ impl Track {
         ensures { (tables : StopTables) (pack : APackKey) → IsTrack log.now tables pack self.now
             → result ≡ grown_at log.now tables pack self.now.birth (take at self.now.places) }
     {
-        if at < self.steps.len() {
-            return held_by(log, self.birth, self.mark_before(at));
-        }
-        match &self.held {
-            Some(held) => Some(held.copy()),
-            None => None,
-        }
+        held_by(log, self.birth, self.mark_before(at))
     }
 
     /// Writes a status of the pack into the log, adds it, and gives its effect where it stands. Where memory is refused
@@ -358,8 +371,7 @@ impl Track {
         let Ok(()) = self.steps.insert(at, Step { place: new, by }) else {
             unreachable!();
         };
-        let last = self.held.take();
-        self.held = carry_on(
+        carry_on(
             log,
             stops,
             pack,
@@ -367,7 +379,7 @@ impl Track {
             &mut self.steps,
             at,
             before,
-            last,
+            &mut self.held,
         );
         Ok(effect)
     }
@@ -388,7 +400,8 @@ impl Track {
             return false;
         }
         self.birth = Some(new);
-        self.held = work_out(log, stops, pack, self.birth, &mut self.steps);
+        let held = work_out(log, stops, pack, self.birth, &mut self.steps);
+        self.held = Current::of(&held);
         true
     }
 
@@ -396,6 +409,7 @@ impl Track {
     pub fn refresh(&mut self, log: &[LogEntry], stops: &Stops, pack: &PackKey)
         ensures { self.new ≡ refreshed log.now stops.now pack.now self.old }
     {
-        self.held = work_out(log, stops, pack, self.birth, &mut self.steps);
+        let held = work_out(log, stops, pack, self.birth, &mut self.steps);
+        self.held = Current::of(&held);
     }
 }

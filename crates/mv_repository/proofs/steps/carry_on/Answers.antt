@@ -19,7 +19,7 @@ returns-then-by-index-clause-held c earlier was =
     c.one_more-held.ensures (take at places) c.loop-at.invariant.held
     ∙ ap (grown_at c.args.log.now c.args.stops.now c.args.pack.now c.args.birth) (ap (λ (n : ℕ). take at places ++ n ∷ []) place ∙ sym (take_more places at 0 (omega (arith, long, within)))) in
     let same : stands_by c.args.birth c.one_more-held.result ≡ get_or (map step_mark items) at 0 = sym c.stands_by-by.ensures ∙ c.if-by-index.true ∙ mark-read items at c.index-in-loop-at.result.now within c.index-in-loop-at.ensures in
-    stopped-held c.args.log.now c.args.stops.now c.args.pack.now c.args.birth c.args.steps.now.items items c.args.from at earlier c.args.last c.one_more-held.result was c.loop-at.auto.at (omega (arith, long, count, within)) held same c.loop-at.invariant.behind
+    stopped-held c.args.log.now c.args.stops.now c.args.pack.now c.args.birth c.args.steps.now.items items c.args.from at earlier c.args.current.now c.one_more-held.result was c.loop-at.auto.at (omega (arith, long, count, within)) held same c.loop-at.invariant.behind
 
 pub returns-then-by-index-clause-marks : goal.returns-then-by-index-clause-marks
 returns-then-by-index-clause-marks c earlier was =
@@ -34,7 +34,7 @@ returns-then-by-index-clause-marks c earlier was =
     c.one_more-held.ensures (take at places) c.loop-at.invariant.held
     ∙ ap (grown_at c.args.log.now c.args.stops.now c.args.pack.now c.args.birth) (ap (λ (n : ℕ). take at places ++ n ∷ []) place ∙ sym (take_more places at 0 (omega (arith, long, within)))) in
     let same : stands_by c.args.birth c.one_more-held.result ≡ get_or (map step_mark items) at 0 = sym c.stands_by-by.ensures ∙ c.if-by-index.true ∙ mark-read items at c.index-in-loop-at.result.now within c.index-in-loop-at.ensures in
-    stopped-marks c.args.log.now c.args.stops.now c.args.pack.now c.args.birth c.args.steps.now.items items c.args.from at earlier c.args.last c.one_more-held.result was c.loop-at.auto.at (omega (arith, long, count, within)) held same c.loop-at.invariant.behind
+    stopped-marks c.args.log.now c.args.stops.now c.args.pack.now c.args.birth c.args.steps.now.items items c.args.from at earlier c.args.current.now c.one_more-held.result was c.loop-at.auto.at (omega (arith, long, count, within)) held same c.loop-at.invariant.behind
     c.loop-at.invariant.marks (long ∙ count)
 
 pub loop-at-preserved : goal.loop-at-preserved

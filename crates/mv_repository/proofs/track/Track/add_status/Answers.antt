@@ -7,8 +7,8 @@ use Rattle.mv_repository.specs.Track.{IsTrack, grown_at, marks_at, stands_by, pu
 use Rattle.mv_repository.proofs.StepLemmas.{put-places, put-before, put-front, put-was}
 use Rattle.mv_repository.proofs.track.Track.add_status.Goals as goal
 
-pub carry_on-self-inside-requires-clause-before : goal.carry_on-self-inside-requires-clause-before
-carry_on-self-inside-requires-clause-before c =
+pub carry_on-requires-clause-before : goal.carry_on-requires-clause-before
+carry_on-requires-clause-before c =
     let log = c.as_slice-log.result.now in
     let whole = c.args.log.now.items ++ c.args.entry ∷ [] in
     let steps = c.reserve.new.self.items in
@@ -31,8 +31,8 @@ carry_on-self-inside-requires-clause-before c =
     ∙ ap (grown_at log c.args.stops.now c.args.pack.now birth)
     (sym (ap (λ (l : List Step). take at (map step_place l)) items ∙ put-before log c.args.stops.now c.args.pack.now birth steps c.self.inside.held new at by track within mark))
 
-pub carry_on-self-inside-requires-clause-front : goal.carry_on-self-inside-requires-clause-front
-carry_on-self-inside-requires-clause-front c =
+pub carry_on-requires-clause-front : goal.carry_on-requires-clause-front
+carry_on-requires-clause-front c =
     let log = c.as_slice-log.result.now in
     let whole = c.args.log.now.items ++ c.args.entry ∷ [] in
     let steps = c.reserve.new.self.items in
@@ -74,15 +74,15 @@ returns-clause-ok c =
     let mark : by ≡ stands_by birth (grown_at log c.args.stops.now c.args.pack.now birth (take at (map step_place steps))) = c.mark_before-by.ensures log c.args.stops.now c.args.pack.now track in
     let items : c.insert.new.self.items ≡ insert steps at (record { place = new; by = by }) = search rules in
     let new_is : new ≡ length c.args.log.now.items = search rules in
-    let was : WasWorked log c.args.stops.now c.args.pack.now birth c.insert.new.self.items at (map step_place steps) c.take-last.result =
-    rw (items, c.take-last.ensures.value) (put-was log c.args.stops.now c.args.pack.now birth steps c.self.inside.held new at by track within mark) in
+    let was : WasWorked log c.args.stops.now c.args.pack.now birth c.insert.new.self.items at (map step_place steps) c.self.inside.held =
+    rw items (put-was log c.args.stops.now c.args.pack.now birth steps c.self.inside.held new at by track within mark) in
     let places : map step_place c.insert.new.self.items ≡ put_place log new (map step_place steps) =
     ap (map step_place) items ∙ put-places log c.args.stops.now c.args.pack.now birth steps c.self.inside.held new at by track within mark ∙ rw slice at c.place_for-at.ensures.put in
     (λ i. record {
       birth = birth;
-      places = (c.carry_on-self-inside.ensures.places ∙ places) i;
-      marks = (c.carry_on-self-inside.ensures.marks (map step_place steps) was ∙ ap (marks_at log c.args.stops.now c.args.pack.now birth) places) i;
-      held = (c.carry_on-self-inside.ensures.held (map step_place steps) was ∙ ap (grown_at log c.args.stops.now c.args.pack.now birth) places) i;
+      places = (c.carry_on.ensures.places ∙ places) i;
+      marks = (c.carry_on.ensures.marks (map step_place steps) was ∙ ap (marks_at log c.args.stops.now c.args.pack.now birth) places) i;
+      held = (c.carry_on.ensures.held (map step_place steps) was ∙ ap (grown_at log c.args.stops.now c.args.pack.now birth) places) i;
     })
     ∙ (λ i. worked_out (log_is i) c.args.stops.now c.args.pack.now birth (put_place (log_is i) (new_is i) (map step_place steps)))
     ∙ ap (with_status whole c.args.stops.now c.args.pack.now (length c.args.log.now.items)) seen

@@ -4,8 +4,8 @@ use Rattle.mv_repository.specs.Track.{Kept, held_by}
 use Rattle.mv_repository.proofs.StepLemmas.{stood}
 use Rattle.mv_repository.proofs.track.Track.before.Goals as goal
 
-pub returns-then-at-len : goal.returns-then-at-len
-returns-then-at-len c tables pack track =
+pub returns : goal.returns
+returns c tables pack track =
     let kept = c.args.self.now in
     c.held_by.ensures
     ∙ ap (λ (birth : Option ℕ). held_by c.args.log.now birth c.mark_before.result) (ap (λ (k : Kept). k.birth) c.self.view_is)

@@ -6,8 +6,8 @@ use Rattle.mv_repository.proofs.track.Track.begin.Goals as goal
 
 pub returns-clause-kept : goal.returns-clause-kept
 returns-clause-kept c =
-    let worked : c.one_more-self-inside.result ≡ grown_at c.args.log.now c.args.stops.now c.args.pack.now c.self.inside.birth (c.args.new ∷ []) =
-    c.one_more-self-inside.ensures [] (c.made-held.ensures c.args.stops.now c.args.pack.now) in
+    let worked : c.one_more-held.result ≡ grown_at c.args.log.now c.args.stops.now c.args.pack.now c.self.inside.birth (c.args.new ∷ []) =
+    c.one_more-held.ensures [] (c.made-held.ensures c.args.stops.now c.args.pack.now) in
     grind (arith, common_steps, worked)
 
 pub returns-clause-effect : goal.returns-clause-effect

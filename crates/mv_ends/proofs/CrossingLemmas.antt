@@ -12,6 +12,7 @@ use Rattle.rtrb.specs.contracts.AnyItemsProtocol.TheImpl as any_members
 use Rattle.rtrb.specs.contracts.producer.Producer as producer_row
 use Rattle.rtrb.proofs.producer.Producer.TheSendSync as producer
 use Rattle.mv_message.proofs.message.Message.TheSendSync as message
+use Rattle.mv_repository.specs.contracts.shelf.Shelf as shelf
 use Rattle.mv_repository.specs.contracts.slots.Slots as slots
 use Rattle.mv_repository.specs.contracts.packs.Packs as packs
 use Rattle.mv_repository.specs.contracts.ledger.Ledger as ledger
@@ -25,8 +26,11 @@ use Rattle.mv_ends.specs.contracts.parcel.FrameParcel as frame_parcel_row
 use Rattle.mv_ends.specs.contracts.inlets.Inlets as inlets_row
 use Rattle.mv_ends.specs.contracts.repo_end.RepoEnd as repo_end
 
+shelf_send : IsSend shelf.the_row
+shelf_send = search (sendable, crosses) depth 80 fits 20000
+
 slots_send : IsSend slots.the_row
-slots_send = search (sendable, crosses) depth 80 fits 20000
+slots_send = search (sendable, crosses, shelf_send) depth 80 fits 20000
 
 packs_send : IsSend packs.the_row
 packs_send = search (sendable, crosses, slots_send) depth 80 fits 20000

@@ -2,7 +2,7 @@
 //!
 //! The three are one type with a marker, so that reading, equality, order and hash are written once.
 
-ghost use Rattle.std.specs.Prelude.{◌≡◌, ◌<◌, ◌≤◌, ◌↔◌, ◌∷◌, [], length, nat_eq, refl, IsOk, IfSome, MatchResult, Ok, Err, Some};
+ghost use Rattle.std.specs.Prelude.{◌≡◌, ◌<◌, ◌≤◌, ◌↔◌, ◌∷◌, [], length, take, drop, nat_eq, refl, IsOk, IfSome, MatchResult, Ok, Err, Some};
 ghost use Rattle.std.specs.Ordering.{nat_cmp};
 ghost use Rattle.std.specs.Cmp.{partial_equiv_from_equiv};
 ghost use Rattle.std.specs.Cmp.Lexicographic.{pointwise, slice_cmp, nat_list_eq_equiv, nat_list_cmp_total, texts_po, texts_ties};
@@ -214,14 +214,17 @@ impl<K> Ord for Code<K> {
     }
 }
 
-/// By all its bytes, in one write: each write costs a hasher a step.
+/// By all its bytes, in two writes: of the first 16 and of the others, as a code is copied. A hasher that took the last 16 at
+/// once would wait until a fresh copy has left the processor's buffer of stores.
 impl<K> Hash for Code<K> {
-    ghost hash_input = { λ text. filled_up text ∷ [] };
+    ghost hash_input = { λ text. take 16 (filled_up text) ∷ drop 16 (filled_up text) ∷ [] };
 
     ghost respects_eq = { Prim.search (hashing, rules) };
 
     fn hash<H: Hasher>(&self, state: &mut H) {
-        state.write(&self.bytes);
+        let (front, back) = self.bytes.split_at(16);
+        state.write(front);
+        state.write(back);
     }
 }
 

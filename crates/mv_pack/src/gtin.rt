@@ -1,6 +1,6 @@
 //! Product codes.
 
-ghost use Rattle.std.specs.Prelude.{◌≡◌, ◌+◌, ◌*◌, ◌-◌, ◌≤◌, ◌↔◌, [], ◌∷◌, length, map, IsOk};
+ghost use Rattle.std.specs.Prelude.{◌≡◌, ◌+◌, ◌*◌, ◌-◌, ◌≤◌, ◌↔◌, [], ◌∷◌, length, map, take, drop, IsOk};
 ghost use Rattle.std.specs.Prelude.{IsTrue};
 ghost use Rattle.std.specs.List.{list_all};
 ghost use Rattle.std.specs.Cmp.Rules.{hashing};
@@ -76,14 +76,17 @@ impl Gtin {
     }
 }
 
-/// By its digits, in one write: each write costs a hasher a step.
+/// By its digits, in two writes: of the first 6 and of the last 8. Both are read off a fresh copy at once, which a hasher that
+/// took the first 8 would have to wait for.
 impl Hash for Gtin {
-    ghost hash_input = { λ digits. digits ∷ [] };
+    ghost hash_input = { λ digits. take 6 digits ∷ drop 6 digits ∷ [] };
 
     ghost respects_eq = { Prim.search (hashing, rules) };
 
     fn hash<H: Hasher>(&self, state: &mut H) {
-        state.write(&self.bytes);
+        let (front, back) = self.bytes.split_at(6);
+        state.write(front);
+        state.write(back);
     }
 }
 

@@ -110,12 +110,11 @@ written-apart {K} {L} test other (e ∷ es) list apart = by (test e.0) refl (wri
     by true h r = ap (λ c. cond c (Some list) (lookup other es)) (apart e.0 h) ∙ ap (λ c. cond c (Some e.1) (lookup other es)) (sym (apart e.0 h))
     by false h r = ap (λ (o : Option L). cond (other e.0) (Some e.1) o) r
 
+-- what is kept of a pack, by its slot
 pub kept-by : (slots : List (PackKey × Slot)) (p : PackKey) → kept_in p (kept_table slots) ≡ kept_by (lookup (is_same_pack p) slots)
 kept-by slots p =
     ap (λ (o : Option Kept). unwrap_or o nothing_kept) (lookup-map_values kept_as (is_same_pack p) slots)
     ∙ elim (lookup (is_same_pack p) slots) as (λ o. unwrap_or (option_map kept_as o) nothing_kept ≡ kept_by o) [ None ↦ refl | Some slot ↦ refl ]
-
--- the tally of a table, once one pack is written
 
 -- how a count of the packs of which something holds moves
 abbrev pub Moves : (Kept → Bool) → List (PackKey × Kept) → List (PackKey × Kept) → Bool → Bool → Type 0
@@ -275,12 +274,6 @@ found-kept slots key slot h = kept-by slots key ∙ ap kept_by h
 
 pub absent-kept : (slots : List (PackKey × Slot)) (key : PackKey) → lookup (is_same_pack key) slots ≡ None → kept_in key (kept_table slots) ≡ nothing_kept
 absent-kept slots key h = kept-by slots key ∙ ap kept_by h
-
-pub none-own : (slots : List (PackKey × Slot)) (key : PackKey) → lookup (is_same_pack key) slots ≡ None → is_own_in key slots ≡ false
-none-own slots key h = ap (λ (o : Option Slot). unwrap_or (option_map is_own o) false) h
-
-pub found-own : (slots : List (PackKey × Slot)) (key : PackKey) (slot : Slot) → lookup (is_same_pack key) slots ≡ Some slot → is_own_in key slots ≡ is_own slot
-found-own slots key slot h = ap (λ (o : Option Slot). unwrap_or (option_map is_own o) false) h
 
 -- a pack that the newest upload makes is as that upload makes it
 pub born-fresh : (log : List LogEntry) (tables : StopTables) (key : PackKey) (new : ℕ) (kept : Kept) → kept ≡ nothing_kept

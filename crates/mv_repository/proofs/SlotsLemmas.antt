@@ -93,6 +93,15 @@ inserted-same (e ∷ es) key v f = by (bytes_eq key e.0) f (inserted-same es key
     by true g r = ap (λ (o : Option Slot). (e.0, unwrap_or o v) ∷ es) (sym g)
     by false g r = ap (λ (l : List (List ℕ × Slot)). e ∷ l) (r g)
 
+-- at most one more stands on a shelf
+pub length-put : (es : List (List ℕ × Slot)) (key : List ℕ) (v : Slot) → length (insert_entry bytes_eq es key v) ≤ length es + 1
+length-put [] key v = omega arith
+length-put (e ∷ es) key v = by (bytes_eq key e.0) (length-put es key v)
+  where
+    by : (b : Bool) → length (insert_entry bytes_eq es key v) ≤ length es + 1 → length (cond b ((e.0, v) ∷ es) (e ∷ insert_entry bytes_eq es key v)) ≤ length (e ∷ es) + 1
+    by true r = omega arith
+    by false r = omega (arith, r)
+
 -- a slot put in on a shelf
 pub put-in : (es es' : List (List ℕ × Slot)) (key : PackKey) (v : Slot) (kept : Kept) (own : Bool) → es' ≡ insert_entry bytes_eq es key.serial v → kept_by (Some v) ≡ kept → is_own_by (Some v) ≡ own
     → IsPut bytes_eq es es' key.serial kept own

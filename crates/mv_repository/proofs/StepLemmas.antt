@@ -144,20 +144,6 @@ module _ (log : List LogEntry) (tables : StopTables) (pack : PackKey) (birth : O
               (fold-stood log (stops_in log tables) pack first (held_of known) h.0 h.1 (h.2 first (get_or log first no_entry).sender) (held_of known) places
               (made-stood log (stops_in log tables) pack first (held_of known) h.0 h.1 (h.2 first (get_or log first no_entry).sender)))
 
-  -- behind nothing a pack stands by its upload
-  pub first-stands : stands_by birth (grown []) ≡ unwrap_or birth 0
-  first-stands = by birth
-    where
-      by : (birth : Option ℕ) → stands_by birth (grown_at log tables pack birth []) ≡ unwrap_or birth 0
-      by None = refl
-      by (Some first) = made (pack_made_by (get_or log first no_entry).item) (made-fresh (get_or log first no_entry).item)
-        where
-          made : (o : Option KnownPack)
-              → IfSome o (λ known. ((held_of known).standing ≡ standings.Active) × ((held_of known).change ≡ None) × ((place sender : ℕ) → changed_by place sender (get_or log first no_entry).item (held_of known) ≡ held_of known))
-              → stands_by (Some first) (option_map (λ held. held) (option_map held_of o)) ≡ first
-          made None h = refl
-          made (Some known) h = ap (λ (change : Option Change). unwrap_or (option_map (λ (one : Change). one.entry) change) first) h.1
-
   -- what stands by the same entry is the same
   pub same-stood : (a b : List ℕ) → stands_by birth (grown a) ≡ stands_by birth (grown b) → grown a ≡ grown b
   same-stood a b e = stood a ∙ ap (held_by log birth) e ∙ sym (stood b)

@@ -57,8 +57,7 @@ is_own_on pack slots = is_own_by (lookup (bytes_eq pack.serial) slots)
 abbrev pub FindsTracked : List (PackKey × Slot) → List (List ℕ × List (List ℕ)) → Type 0
 FindsTracked slots products = (pack : PackKey) → is_own_in pack slots ≡ true → is_tracked pack products ≡ true
 
--- one slot was written, or none where none stood: what is kept of its pack is kept by it, and so whether the pack has a track
--- of its own
+-- a slot, or none, now stands for a pack: by it the pack is kept so, and has a track of its own or not
 pub record IsPut {K : Type 0} (same : K → K → Bool) (old new : List (K × Slot)) (key : K) (kept : Kept) (own : Bool) : Type 0 where
   pub slot : Option Slot
   pub stands : StandsFor same old new key slot

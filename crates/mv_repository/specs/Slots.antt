@@ -5,7 +5,9 @@ use Rattle.std.specs.List.{IsDistinct, AllByRecursion, count_by}
 use Rattle.std.specs.Map.{lookup, keys_of}
 use Rattle.std.specs.Option.{option_map_or}
 use Rattle.mv_pack.specs.declared.key.PackKey.{PackKey}
+use Rattle.mv_repository.specs.declared.shelf.TheConstants.{MOST_PACKS}
 use Rattle.mv_repository.specs.declared.slot.Slot.{Slot}
+use Rattle.mv_repository.specs.Track.{one_if}
 use Rattle.mv_pack.specs.Keys.{is_same_pack, pack_key}
 
 -- what stands for each pack of one product, by its serial number; and how many more packs of it there is room for
@@ -29,10 +31,10 @@ pack_slots [] shelves = []
 pack_slots (gtin ∷ products) [] = []
 pack_slots (gtin ∷ products) (shelf ∷ shelves) = product_slots gtin shelf.slots ++ pack_slots products shelves
 
--- a shelf has each serial number once, and at most 2^31 of them
+-- a shelf has each serial number once, and no more of them than a shelf may have
 pub record IsShelf (slots : List (List ℕ × Slot)) : Type 0 where
   pub distinct : IsDistinct bytes_eq (keys_of slots)
-  pub few : length slots ≤ 2 ^ 31
+  pub few : length slots ≤ MOST_PACKS
 
 -- each product has one shelf
 pub record IsShelved (products : List (List ℕ)) (shelves : List ShelfTable) : Type 0 where
@@ -43,7 +45,7 @@ pub record IsShelved (products : List (List ℕ)) (shelves : List ShelfTable) : 
 
 -- one where something stands that passes a test
 abbrev pub one_where : (Slot → Bool) → Option Slot → ℕ
-one_where test slot = if option_map_or test slot false then 1 else 0
+one_where test slot = one_if (option_map_or test slot false)
 
 -- a slot, or none, stands for a key in place of what stood for it, and nothing else is changed: so each key is found, and so
 -- what passes a test is counted

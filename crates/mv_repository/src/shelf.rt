@@ -62,13 +62,14 @@ pub(crate) struct Shelf {
 }
 
 impl Model for Shelf {
-    ghost use Rattle.std.specs.Prelude.{◌-◌, ◌^◌, length, min};
+    ghost use Rattle.std.specs.Prelude.{◌-◌, length, min};
     ghost use Rattle.indexmap.specs.IndexMap.{spare};
+    ghost use Rattle.mv_repository.specs.declared.shelf.TheConstants.{MOST_PACKS};
     ghost use Rattle.mv_repository.specs.Slots.{ShelfTable, IsShelf};
 
     ghost Value = { ShelfTable };
 
-    ghost view = { λ a. record { slots = a.slots.entries; room = min (spare a.slots) (2 ^ 31 - length a.slots.entries) } };
+    ghost view = { λ a. record { slots = a.slots.entries; room = min (spare a.slots) (MOST_PACKS - length a.slots.entries) } };
 
     ghost invariant = { λ a. IsShelf a.slots.entries };
 }
@@ -93,7 +94,8 @@ impl Shelf {
         self.slots.get(&key.serial)
     }
 
-    /// Makes room for so many more packs. Where memory is refused nothing has changed.
+    /// Makes room for so many more packs. Where memory is refused nothing has changed; beyond 2^31 packs, of which those that
+    /// stand here count once more where they are among the new ones, there is want of memory.
     pub fn reserve(&mut self, count: usize) -> Result<(), AllocError>
         ensures room { OnOk result (count ≤ self.new.room) }
         ensures slots { self.new.slots ≡ self.old.slots }
@@ -143,7 +145,7 @@ impl Shelf {
     }
 
     /// Writes a status into the log, and adds it to what stands for its pack, one of the product. Where memory is refused
-    /// nothing has changed.
+    /// nothing has changed; for a pack beyond 2^31 of the product there is want of memory.
     pub fn put_status(
         &mut self,
         alloc: Global,
@@ -178,9 +180,7 @@ impl Shelf {
         ensures log_err { OnErr result (log.new.items ≡ log.old.items) }
         ensures err { OnErr result (self.new.slots ≡ self.old.slots) }
     {
-        if self.slots.len() >= MOST_PACKS {
-            return Err(AllocError);
-        }
+        let is_full = self.slots.len() >= MOST_PACKS;
         let place = match self.slots.entry(key.serial.copy())? {
             Entry::Occupied(place) => {
                 let slot = place.into_mut();
@@ -191,6 +191,9 @@ impl Shelf {
             }
             Entry::Vacant(place) => place,
         };
+        if is_full {
+            return Err(AllocError);
+        }
         let started = start(alloc, tracked, log, entry, stops, key, None)?;
         let effect = started.effect;
         let slot = place.insert(Slot::Own(started.track));

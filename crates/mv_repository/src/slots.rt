@@ -59,8 +59,9 @@ impl Slots {
         }
     }
 
-    /// How many products there are: so few that the packs can be counted in 64 bits.
+    /// How many products there are: so few that the packs can be counted in 64 bits, each of which stands once.
     pub fn product_count(&self) -> usize
+        ensures count { result ≡ length self.now.products }
         ensures small { result ≤ 2 ^ 32 }
         ensures few { length self.now.entries ≤ 2 ^ 63 }
         ensures distinct { IsDistinct is_same_pack (keys_of self.now.entries) }
@@ -103,7 +104,9 @@ impl Slots {
         Ok(place as u32)
     }
 
-    /// Makes room for so many more packs of the product at a place.
+    /// Makes room for so many more packs of the product at a place. Where memory is refused what stands for packs has not
+    /// changed; beyond 2^31 packs, of which those that stand here count once more where they are among the new ones, there is
+    /// want of memory.
     pub fn reserve(&mut self, product: u32, count: usize) -> Result<(), AllocError>
         requires product { product < length self.old.products }
         ensures room { OnOk result (count ≤ get_or self.new.rooms product 0) }
@@ -145,7 +148,8 @@ impl Slots {
     }
 
     /// Writes a status into the log, and adds it to what stands for its pack. Where memory is refused nothing has changed
-    /// but that the product may have a place.
+    /// but that the product may have a place, and a shelf of no pack; beyond 2^32 products, or 2^31 packs of one, there is
+    /// want of memory.
     pub fn put_status(
         &mut self,
         alloc: Global,

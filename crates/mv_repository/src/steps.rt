@@ -115,8 +115,8 @@ pub(crate) fn work_out(
     held
 }
 
-/// Works a pack out from a step on, before which it was so. What it is now is right as far as all before the step was worked
-/// in: there is nothing more to do once a step leaves the pack as it did then.
+/// Works a pack out from a step on, before which it was so, and writes what it is now. What was written is right by all
+/// statuses but the one at that step: nothing is left to do once a step leaves the pack as it did then.
 pub(crate) fn carry_on(
     log: &[LogEntry],
     stops: &Stops,

@@ -1,15 +1,14 @@
 //! What is kept of one pack: the place in the log of its first upload, those of its statuses in the order of stamps, and
 //! what they make of it. This file knows no other pack.
 
-ghost use Rattle.std.specs.Prelude.{◌≡◌, ◌<◌, ◌≤◌, ◌∷◌, ◌++◌, [], ℕ, List, length, map, insert, take, vec_len, vec_capacity, OnOk, OnErr, IfOk, None, if◌then◌else◌};
+ghost use Rattle.std.specs.Prelude.{◌≡◌, ◌<◌, ◌≤◌, ◌∷◌, ◌++◌, [], ℕ, List, length, map, insert, take, vec_len, vec_capacity, OnOk, OnErr, IfOk, None};
 ghost use Rattle.std.specs.Option.{option_map};
-ghost use Rattle.mv_repository.specs.Order.{Ascends};
 ghost use Rattle.mv_pack.specs.Keys.{batch_key};
 ghost use Rattle.mv_repository.specs.Pack.{change_effect, pack_after_status};
 ghost use Rattle.mv_repository.specs.PackState.{held_of};
 ghost use Rattle.mv_pack.specs.declared.key.PackKey.{PackKey as APackKey};
 ghost use Rattle.mv_repository.specs.Stops.{StopTables, entry_at, standing_at, stops_in, comes_first};
-ghost use Rattle.mv_repository.specs.Track.{known_of, pack_made_by, held_made_at, held_step, grown_at, put_place, IsTrack, with_status, with_upload, refreshed, places_before, held_before, effect_when, newest_effect, stands_by, is_made, is_active_kept};
+ghost use Rattle.mv_repository.specs.Track.{known_of, pack_made_by, held_made_at, held_step, grown_at, IsTrack, with_status, with_upload, refreshed, places_before, held_before, effect_when, newest_effect, stands_by, is_made, is_active_kept};
 
 use crate::current::Current;
 use crate::order::{comes_first, stands_before};

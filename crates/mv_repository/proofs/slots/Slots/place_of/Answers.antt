@@ -1,4 +1,4 @@
--- A product code that is found stands at its place, and no name is of one that is not.
+-- A product code that is found stands at its place, and nothing stands for a pack of one that is not there.
 use Rattle.std.proofs.Common.{◌≡◌, sym, subst, slice_get, Option, Some, IfNone, ℕ}
 use Rattle.mv_repository.specs.Slots.{SlotTable, HasNoPackOf}
 use Rattle.mv_repository.proofs.SlotsLemmas.{none-shelved, place-found}

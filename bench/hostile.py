@@ -18,11 +18,11 @@ from loads import (
     WIRE,
     compact,
     gtin_of,
-    line_texts,
     numbered_master,
     numbered_upload,
     one_keeper,
     opening,
+    plainly,
     sent,
     serial_of,
     taken,
@@ -76,10 +76,15 @@ def turned(messages, between=()):
         links[sender] += 1
     yield from between
     for sender in reversed(SENDERS):
-        for number in range(links[sender]):
-            if number >= WIRE:
-                yield {"do": "relay", "from": sender, "to": KEEPER}
-            yield {"do": "apply", "from": sender, "to": KEEPER}
+        yield from taken_at_last(sender, links[sender])
+
+
+def taken_at_last(sender, count):
+    """So many frames of a sender come to the repository, of which as many were relayed as its wire takes."""
+    for number in range(count):
+        if number >= WIRE:
+            yield {"do": "relay", "from": sender, "to": KEEPER}
+        yield {"do": "apply", "from": sender, "to": KEEPER}
 
 
 def recall(_number):
@@ -167,6 +172,42 @@ def supplied(packs):
         yield from carried(numbered_upload(PRODUCT, f"L{number}", number))
     for number in range(packs):
         yield from carried(change_of(serial_of(number), 0))
+
+
+def recalled_unsold(makes, uploads):
+    """Uploads of new packs, all of one batch, and no status; then from each sender comes a late recall of the batch, or what is made in its
+    place."""
+    yield from many_senders()
+    new = (numbered_upload(PRODUCT, "L1", number) for number in range(uploads))
+    yield from turned(map(makes, range(len(SENDERS))), (line for message in new for line in carried(message)))
+
+
+def named_again(makes, statuses):
+    """An upload that names one pack as often as it can, and statuses of that pack; then come 20 late recalls, or what is made in their
+    place."""
+    yield from many_senders()
+    yield from carried(upload_of(PRODUCT, "L1", "320229", [serial_of(0)] * PACKS))
+    yield from turned(map(makes, range(20)), (line for message in changes(statuses) for line in carried(message)))
+
+
+def turned_over(senders, count, statuses):
+    """Statuses of one pack, in order; in front of them come late ones of some senders, so many of each: a change and what reverts it, by
+    turns. Those of the last sender come first, so that each is in front of all that came before, and turns it over."""
+    yield from one_pack()
+    for sender in SENDERS[:senders]:
+        for number, message in enumerate(changes(count)):
+            yield from sent(sender, message)
+            if number < WIRE:
+                yield {"do": "relay", "from": sender, "to": KEEPER}
+    for message in changes(statuses):
+        yield from carried(message)
+    for sender in reversed(SENDERS[:senders]):
+        yield from taken_at_last(sender, count)
+
+
+def turned_over_by_all(statuses):
+    """The same, of all senders; there are ten in order for each that comes late."""
+    return turned_over(len(SENDERS), 2 * (statuses // (20 * len(SENDERS))), statuses)
 
 
 # What is kept in tables.
@@ -300,7 +341,7 @@ def lines(text):
 
 def of_steps(makes):
     """The lines of a run for a size, by its steps."""
-    return lambda size: line_texts(makes(size))
+    return lambda size: plainly(makes(size))
 
 
 def all_loads():
@@ -314,6 +355,12 @@ def all_loads():
         ("statuses of one pack, against order", "statuses", 5_000, against_order),
         ("statuses of one pack, one in 40 late", "statuses", 10_000, late_among_many),
         ("packs supplied, late recalls of other batches", "packs", 20_000, late_for_others),
+        ("new packs of one batch, 62 late recalls", "uploads", 5_000, partial(recalled_unsold, recall)),
+        ("new packs of one batch, 62 late withdrawals", "uploads", 5_000, partial(recalled_unsold, withdrawal)),
+        ("statuses of a pack named 100 times, 20 late recalls", "statuses", 20_000, partial(named_again, recall)),
+        ("statuses of a pack named 100 times, 20 late withdrawals", "statuses", 20_000, partial(named_again, withdrawal)),
+        ("statuses of one pack, 64 late of 10 senders", "statuses", 20_000, partial(turned_over, 10, WIRE)),
+        ("statuses of one pack, one in 10 late of 62 senders", "statuses", 10_000, turned_over_by_all),
         ("serials and batches that begin alike", "uploads", 2_000, alike),
         ("repackagings of one batch into others", "repackagings", 60_000, star),
         ("repackagings round a ring", "repackagings", 60_000, ring),

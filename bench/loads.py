@@ -74,8 +74,8 @@ def opening(parties):
 
 
 def submission(sender, message):
-    """The line by which a party submits a message, whose keys are in order."""
-    return {"do": "submit", "from": sender, "message": dict(sorted(message.items()))}
+    """The line by which a party submits a message."""
+    return {"do": "submit", "from": sender, "message": message}
 
 
 def sent(sender, message):
@@ -447,12 +447,7 @@ def largest():
             yield submission(party, longest_master(next(numbers)))
 
 
-def line_texts(steps):
-    """The lines of steps."""
-    return (json.dumps(step, separators=(",", ":")) for step in steps)
-
-
-# Lines of canon.
+# Messages for canon.
 
 
 def code_of(some, length):
@@ -512,11 +507,28 @@ class Messages:
         return withdrawal_of(gtin_of(number + 1), START)
 
 
-def spelled(message, number):
-    """A message as a sender may spell it: with blanks, its keys in another order, and its GTIN without zeros."""
-    keys = sorted(message)
-    turn = number % len(keys)
-    turned = {key: message[key] for key in keys[turn:] + keys[:turn]}
-    if "gtin" in turned:
-        turned["gtin"] = turned["gtin"].removeprefix("0")
-    return json.dumps(turned)
+# Spellings: the texts of lines and messages, one each. What is said is the same in all.
+
+
+def plainly(values):
+    """Without blanks, the keys in byte order."""
+    return map(compact, values)
+
+
+def by_hand(values):
+    """Without blanks, and as a person writes: first what a line does and a message is, then of what."""
+    return (json.dumps(value, separators=(",", ":"), ensure_ascii=False) for value in values)
+
+
+def in_any_order(values):
+    """With a blank behind each `,` and `:`, the keys in an order that is drawn, and a GTIN without a zero before it."""
+    some = random.Random(2016)
+    return (json.dumps(drawn(some, value), ensure_ascii=False) for value in values)
+
+
+def drawn(some, value):
+    """A value with the keys of each object in an order that is drawn."""
+    if not isinstance(value, dict):
+        return value
+    keys = some.sample([*value], len(value))
+    return {key: value[key].removeprefix("0") if key == "gtin" else drawn(some, value[key]) for key in keys}

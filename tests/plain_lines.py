@@ -49,24 +49,34 @@ def no_constant(text):
     raise ValueError(text)
 
 
+class Members(dict):
+    """The members of an object. Of a key that stands twice the last value counts, but the others have to be JSON too."""
+
+    def __init__(self, pairs):
+        super().__init__(pairs)
+        self.all = pairs
+
+
 def depth(value):
-    """How deep lists and objects nest."""
-    if isinstance(value, dict):
-        return 1 + max(map(depth, value.values()), default=0)
+    """How deep lists and objects nest. A text with half of a pair of surrogates is none."""
+    if isinstance(value, Members):
+        return 1 + max((max(depth(name), depth(member)) for name, member in value.all), default=0)
     if isinstance(value, list):
         return 1 + max(map(depth, value), default=0)
+    if isinstance(value, str):
+        value.encode()
     return 0
 
 
 def json_of(line):
     """The value of a line."""
+    readers = {"parse_int": number_of, "parse_float": number_of, "parse_constant": no_constant}
     try:
-        value = json.loads(line.decode(), parse_int=number_of, parse_float=number_of, parse_constant=no_constant)
-        json.dumps(value, ensure_ascii=False).encode()  # a text with half of a pair of surrogates is none
+        value = json.loads(line.decode(), object_pairs_hook=Members, **readers)
+        if depth(value) > DEEPEST:
+            raise Refused("M1")
     except (ValueError, RecursionError):
         raise Refused("M1") from None
-    if depth(value) > DEEPEST:
-        raise Refused("M1")
     return value
 
 

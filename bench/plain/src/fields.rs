@@ -81,8 +81,8 @@ impl Fields {
     }
 
     /// A text that a reader takes.
-    fn read<T>(&mut self, name: &'static str, reader: impl Fn(&str) -> Result<T, ValueFault>) -> Result<T, Fault> {
-        reader(&self.text(name)?).map_err(|fault| Fault::WrongValue(name, fault))
+    fn read<T>(&mut self, name: &'static str, reader: impl Fn(&[u8]) -> Result<T, ValueFault>) -> Result<T, Fault> {
+        reader(self.text(name)?.as_bytes()).map_err(|fault| Fault::WrongValue(name, fault))
     }
 
     /// A product code.
@@ -104,7 +104,9 @@ impl Fields {
     pub fn code_or_null(&mut self, name: &'static str) -> Result<Option<Code>, Fault> {
         match self.value(name)? {
             Value::Null => Ok(None),
-            Value::String(text) => Code::read(&text).map(Some).map_err(|fault| Fault::WrongValue(name, fault)),
+            Value::String(text) => {
+                Code::read(text.as_bytes()).map(Some).map_err(|fault| Fault::WrongValue(name, fault))
+            }
             _ => Err(Fault::WrongType(name)),
         }
     }
@@ -114,7 +116,7 @@ impl Fields {
         &mut self,
         name: &'static str,
         most: usize,
-        reader: impl Fn(&str) -> Result<T, ValueFault>,
+        reader: impl Fn(&[u8]) -> Result<T, ValueFault>,
     ) -> Result<Box<[T]>, Fault> {
         let Value::Array(members) = self.value(name)? else {
             return Err(Fault::WrongType(name));
@@ -127,7 +129,7 @@ impl Fields {
         }
         let mut list = Vec::with_capacity(members.len());
         for text in members.iter().filter_map(Value::as_str) {
-            list.push(reader(text).map_err(|fault| Fault::WrongValue(name, fault))?);
+            list.push(reader(text.as_bytes()).map_err(|fault| Fault::WrongValue(name, fault))?);
         }
         Ok(list.into_boxed_slice())
     }

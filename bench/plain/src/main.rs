@@ -1,5 +1,6 @@
 //! A plain program that does the work of `mvhub`, to compare its time and memory with.
 
+mod blocks;
 mod canon;
 mod fault;
 mod fields;
@@ -9,6 +10,8 @@ mod lines;
 mod link;
 mod log;
 mod message;
+#[cfg(feature = "one-pass")]
+mod one_pass;
 mod own;
 mod packs;
 mod party;
@@ -16,6 +19,8 @@ mod party;
 mod plan;
 mod repository;
 mod request;
+#[cfg(feature = "one-pass")]
+mod scan;
 mod shared;
 mod steps;
 mod stops;

@@ -1,12 +1,14 @@
 //! Messages, and how they are read.
 
 use crate::fault::Fault;
-use crate::fields::{kind_of, object_in, Fields, Object};
+use crate::fields::{kind_of, object_in, object_of, Fields, Object};
+#[cfg(feature = "one-pass")]
+use crate::one_pass;
 use crate::values::{read_market, BatchKey, Code, Expiry, Gtin, Market, PackKey, Standing};
 use serde_json::Value;
 
-const MOST_MARKETS: usize = 32;
-const MOST_SERIALS: usize = 100;
+pub const MOST_MARKETS: usize = 32;
+pub const MOST_SERIALS: usize = 100;
 
 /// What is sold under a product code, and where.
 pub struct Master {
@@ -85,13 +87,22 @@ impl Found {
 }
 
 impl Message {
+    /// The message that a line is.
+    pub fn of_line(line: &[u8]) -> Result<Message, Fault> {
+        #[cfg(feature = "one-pass")]
+        if let Some(message) = one_pass::message(line) {
+            return Ok(message);
+        }
+        object_of(line).and_then(Message::read_object)
+    }
+
     /// The message that a value is.
     pub fn read(value: Value) -> Result<Message, Fault> {
         Message::read_object(object_in(value)?)
     }
 
     /// The message that an object is: of version 2 where it has a `v`.
-    pub fn read_object(object: Object) -> Result<Message, Fault> {
+    fn read_object(object: Object) -> Result<Message, Fault> {
         let is_second = match object.get("v") {
             None => false,
             Some(version) if version.as_u64() == Some(2) => true,
@@ -233,5 +244,5 @@ fn read_withdrawal(mut fields: Fields) -> Result<Message, Fault> {
 }
 
 fn read_standing(fields: &mut Fields, name: &'static str) -> Result<Standing, Fault> {
-    Standing::read(&fields.text(name)?).ok_or(Fault::WrongType(name))
+    Standing::read(fields.text(name)?.as_bytes()).ok_or(Fault::WrongType(name))
 }

@@ -1,9 +1,11 @@
 //! The packs that statuses name.
 
+use crate::blocks::{Blocks, MOST_ALONE};
 use crate::log::{Log, Place};
 use crate::message::Status;
 use crate::stops::Stops;
 use crate::values::{BatchKey, Code, Gtin, Standing};
+use rustc_hash::FxHashMap;
 use std::collections::BTreeSet;
 
 const REVERT_SECONDS: u64 = 864_000;
@@ -15,11 +17,15 @@ pub struct History<'a> {
     pub stops: &'a Stops,
 }
 
-/// What stands of a pack: its standing, and the place of the status that changed it.
+/// What stands of a pack: the status that changed it, or none where it is active.
+pub type State = Option<Place>;
+
+/// What the statuses of a pack are applied by.
 #[derive(Clone, Copy)]
-pub struct State {
-    pub standing: Standing,
-    change: Option<Place>,
+pub struct Life<'a> {
+    pub history: History<'a>,
+    /// The upload with the smallest stamp that names it.
+    pub birth: Place,
 }
 
 /// A pack that statuses name.
@@ -39,19 +45,22 @@ pub struct OwnPacks {
     packs: Vec<Own>,
     /// Those that have a birth and a revert, by the batch of their birth.
     reverted: BTreeSet<(Gtin, Code, u32)>,
+    /// What blocks of statuses do, of a pack that has many of them, as far as it was worked out.
+    blocks: FxHashMap<u32, Blocks>,
 }
 
 impl OwnPacks {
     /// Adds a pack that an upload made, or that no upload names: its number.
     pub fn add(&mut self, birth: Option<Place>) -> u32 {
-        self.packs.push(Own { birth, statuses: Vec::new(), state: State::MADE, has_revert: false });
+        self.packs.push(Own { birth, statuses: Vec::new(), state: None, has_revert: false });
         self.packs.len() as u32 - 1
     }
 
-    /// The upload that made a pack, and what stands of it; none where no upload names it.
-    pub fn get(&self, number: u32) -> Option<(Place, State)> {
+    /// The upload that made a pack, and how it stands; none where no upload names it.
+    pub fn get(&self, log: &Log, number: u32) -> Option<(Place, Standing)> {
         let own = &self.packs[number as usize];
-        Some((own.birth?, own.state))
+        let standing = own.state.map_or(Standing::Active, |change| log.status(change).to);
+        Some((own.birth?, standing))
     }
 
     /// Notes the upload at a place, which names a pack: whether no upload before it does.
@@ -61,13 +70,13 @@ impl OwnPacks {
             return false;
         }
         let before = own.birth.replace(place);
-        own.work_out(history);
         if own.has_revert {
             if let Some(before) = before {
                 self.reverted.remove(&listed(history.log, before, number));
             }
             self.reverted.insert(listed(history.log, place, number));
         }
+        self.work_out(history, number);
         true
     }
 
@@ -80,22 +89,43 @@ impl OwnPacks {
                 self.reverted.insert(listed(history.log, birth, number));
             }
         }
-        own.note_status(history, place)
+        let at = own.place_of(history.log, place);
+        let Some(birth) = own.birth else {
+            own.statuses.insert(at, place);
+            return "E2";
+        };
+        let life = Life { history, birth };
+        if own.statuses.len() < MOST_ALONE {
+            own.note_status(life, at, place)
+        } else {
+            let blocks = self.blocks.entry(number).or_insert_with(|| Blocks::of(life, &own.statuses));
+            let effect = blocks.insert(life, &mut own.statuses, at, place);
+            own.state = blocks.state();
+            effect
+        }
     }
 
     /// Works out the packs that a late recall of a batch can bear on.
     pub fn note_recall(&mut self, history: History, batch: &BatchKey) {
         let BatchKey { gtin, batch } = *batch;
-        for (_, _, number) in self.reverted.range((gtin, batch, 0)..=(gtin, batch, u32::MAX)) {
-            self.packs[*number as usize].work_out(history);
-        }
+        let of_batch = self.reverted.range((gtin, batch, 0)..=(gtin, batch, u32::MAX));
+        let numbers: Vec<u32> = of_batch.map(|(_, _, number)| *number).collect();
+        numbers.into_iter().for_each(|number| self.work_out(history, number));
     }
 
     /// Works out the packs that a late withdrawal of a product can bear on.
     pub fn note_withdrawal(&mut self, history: History, gtin: Gtin) {
-        let of_product = self.reverted.range((gtin, Code::LEAST, 0)..);
-        for (_, _, number) in of_product.take_while(|(other, _, _)| *other == gtin) {
-            self.packs[*number as usize].work_out(history);
+        let of_product = self.reverted.range((gtin, Code::LEAST, 0)..).take_while(|(other, _, _)| *other == gtin);
+        let numbers: Vec<u32> = of_product.map(|(_, _, number)| *number).collect();
+        numbers.into_iter().for_each(|number| self.work_out(history, number));
+    }
+
+    /// Works out what stands of a pack, once its first upload is known.
+    fn work_out(&mut self, history: History, number: u32) {
+        let own = &mut self.packs[number as usize];
+        self.blocks.remove(&number);
+        if let Some(birth) = own.birth {
+            own.state = Life { history, birth }.after(None, &own.statuses);
         }
     }
 }
@@ -107,74 +137,82 @@ fn listed(log: &Log, birth: Place, number: u32) -> (Gtin, Code, u32) {
 }
 
 impl Own {
-    /// Puts a status at its place among the others: its effect.
-    fn note_status(&mut self, history: History, place: Place) -> &'static str {
-        let log = history.log;
+    /// The place of a new status among the others.
+    fn place_of(&self, log: &Log, place: Place) -> usize {
         let stamp = log.stamp(place);
-        let later = self.statuses.iter().rev().take_while(|other| stamp < log.stamp(**other)).count();
-        let at = self.statuses.len() - later;
-        let birth = self.birth.filter(|birth| log.stamp(*birth) < stamp);
-        let effect = match birth {
-            None => "E2",
-            Some(birth) if later == 0 => self.state.advance(history, birth, place),
-            Some(birth) => State::after(history, birth, &self.statuses[..at]).advance(history, birth, place),
-        };
-        self.statuses.insert(at, place);
-        if later > 0 && effect == "E1" {
-            self.work_out(history);
+        match self.statuses.last() {
+            Some(last) if stamp < log.stamp(*last) => self.statuses.partition_point(|other| log.stamp(*other) < stamp),
+            _ => self.statuses.len(),
         }
-        effect
     }
 
-    /// Works out what stands of the pack, once its first upload is known.
-    fn work_out(&mut self, history: History) {
-        if let Some(birth) = self.birth {
-            self.state = State::after(history, birth, &self.statuses);
+    /// Puts a status at its place among the others: its effect.
+    fn note_status(&mut self, life: Life, at: usize, place: Place) -> &'static str {
+        let mut state = if at == self.statuses.len() { self.state } else { life.after(None, &self.statuses[..at]) };
+        let effect = life.note(&mut state, place);
+        if at == self.statuses.len() {
+            self.state = state;
+        } else if effect == "E1" {
+            self.state = life.after(state, &self.statuses[at..]);
         }
+        self.statuses.insert(at, place);
+        effect
     }
 }
 
-impl State {
-    pub const MADE: State = State { standing: Standing::Active, change: None };
-
-    /// What an upload and then these statuses leave.
-    fn after(history: History, birth: Place, statuses: &[Place]) -> State {
-        let first = history.log.stamp(birth);
-        let mut state = State::MADE;
-        for status in statuses.iter().filter(|status| first < history.log.stamp(**status)) {
-            state.advance(history, birth, *status);
+impl Life<'_> {
+    /// What statuses leave of a pack. Those before its first upload do nothing.
+    pub fn after(self, mut state: State, statuses: &[Place]) -> State {
+        let log = self.history.log;
+        let first = log.stamp(self.birth);
+        let before = match statuses.first() {
+            Some(status) if log.stamp(*status) < first => statuses.partition_point(|status| log.stamp(*status) < first),
+            _ => 0,
+        };
+        for status in &statuses[before..] {
+            self.advance(&mut state, *status);
         }
         state
     }
 
-    /// Changes the pack by a status: its effect.
-    fn advance(&mut self, history: History, birth: Place, place: Place) -> &'static str {
-        let status = history.log.status(place);
-        let effect = match (status.to, self.standing) {
-            (Standing::Active, Standing::Active) => "E4",
-            (Standing::Active, _) => self.revert_effect(history, birth, place, status),
-            (_, Standing::Active) => "E1",
+    /// Changes a pack by a status that is new: its effect.
+    pub fn note(self, state: &mut State, place: Place) -> &'static str {
+        let log = self.history.log;
+        if log.stamp(place) < log.stamp(self.birth) {
+            "E2"
+        } else {
+            self.advance(state, place)
+        }
+    }
+
+    /// Changes a pack by a status that stands behind its first upload: its effect.
+    fn advance(self, state: &mut State, place: Place) -> &'static str {
+        let status = self.history.log.status(place);
+        let effect = match (status.to, *state) {
+            (Standing::Active, None) => "E4",
+            (Standing::Active, Some(change)) => self.revert_effect(change, place, status),
+            (_, None) => "E1",
             _ => "E3",
         };
         if effect == "E1" {
-            self.standing = status.to;
-            self.change = (status.to != Standing::Active).then_some(place);
+            *state = (status.to != Standing::Active).then_some(place);
         }
         effect
     }
 
-    /// What a status to active does to a pack that is not active: the first reason against it, or E1.
-    fn revert_effect(&self, history: History, birth: Place, place: Place, revert: &Status) -> &'static str {
-        let History { log, stops } = history;
-        let Some(change) = self.change.filter(|_| !self.standing.is_for_ever()) else {
-            return "E5";
-        };
+    /// What a status to active does to a pack that another changed: the first reason against it, or E1.
+    fn revert_effect(self, change: Place, place: Place, revert: &Status) -> &'static str {
+        let History { log, stops } = self.history;
         let changed = log.status(change);
-        let upload = log.upload(birth);
-        let batch = BatchKey { gtin: upload.gtin, batch: upload.batch };
+        if changed.to.is_for_ever() {
+            return "E5";
+        }
         if log.entry(change).sender != log.entry(place).sender || changed.user != revert.user {
-            "E6"
-        } else if revert.at < changed.at {
+            return "E6";
+        }
+        let upload = log.upload(self.birth);
+        let batch = BatchKey { gtin: upload.gtin, batch: upload.batch };
+        if revert.at < changed.at {
             "E7"
         } else if revert.at > changed.at + REVERT_SECONDS {
             "E8"

@@ -1,10 +1,8 @@
 //! The packs that a repository holds.
 
-use crate::log::Place;
-use crate::own::{History, OwnPacks, State};
-#[cfg(feature = "threads")]
-use crate::values::Standing;
-use crate::values::{BatchKey, Code, Gtin, PackKey};
+use crate::log::{Log, Place};
+use crate::own::{History, OwnPacks};
+use crate::values::{BatchKey, Code, Gtin, PackKey, Standing};
 use rustc_hash::FxHashMap;
 use std::collections::hash_map::Entry;
 
@@ -26,24 +24,25 @@ pub struct Packs {
 }
 
 impl Packs {
-    /// The upload that made a pack, and what stands of it; none where no upload names it.
-    pub fn get(&self, pack: &PackKey) -> Option<(Place, State)> {
-        match *self.table.get(&pack.gtin)?.get(&pack.serial)? {
-            Kept::Made(birth) => Some((birth, State::MADE)),
-            Kept::Own(number) => self.own.get(number),
+    /// The upload that made a pack, and how it stands; none where no upload names it.
+    pub fn get(&self, log: &Log, pack: &PackKey) -> Option<(Place, Standing)> {
+        self.stand(log, *self.table.get(&pack.gtin)?.get(&pack.serial)?)
+    }
+
+    fn stand(&self, log: &Log, kept: Kept) -> Option<(Place, Standing)> {
+        match kept {
+            Kept::Made(birth) => Some((birth, Standing::Active)),
+            Kept::Own(number) => self.own.get(log, number),
         }
     }
 
     /// How many packs are held, and how many of them are active.
     #[cfg(feature = "threads")]
-    pub fn counts(&self) -> (usize, usize) {
-        let state = |kept: &Kept| match *kept {
-            Kept::Made(_) => Some(State::MADE),
-            Kept::Own(number) => self.own.get(number).map(|(_, state)| state),
-        };
-        let held = self.table.values().flat_map(|packs| packs.values()).filter_map(state);
-        held.fold((0, 0), |(packs, active), state| {
-            (packs + 1, active + usize::from(state.standing == Standing::Active))
+    pub fn counts(&self, log: &Log) -> (usize, usize) {
+        let kept = self.table.values().flat_map(|packs| packs.values());
+        let held = kept.filter_map(|kept| self.stand(log, *kept));
+        held.fold((0, 0), |(packs, active), (_, standing)| {
+            (packs + 1, active + usize::from(standing == Standing::Active))
         })
     }
 

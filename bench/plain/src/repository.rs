@@ -50,20 +50,20 @@ impl Repository {
     /// Its entries, products, packs, active packs and recalled batches.
     #[cfg(feature = "threads")]
     pub fn counts(&self) -> [usize; 5] {
-        let (packs, active) = self.packs.counts();
+        let (packs, active) = self.packs.counts(&self.log);
         [self.log.len(), self.masters.len(), packs, active, self.stops.recalled()]
     }
 
     /// What a query finds of a pack.
     pub fn found(&self, pack: &PackKey) -> Option<Found> {
-        let (birth, state) = self.packs.get(pack)?;
+        let (birth, standing) = self.packs.get(&self.log, pack)?;
         let upload = self.log.upload(birth);
         Some(Found {
             batch: upload.batch,
             expiry: upload.expiry,
             national: upload.national,
             recalled: self.stops.is_recalled(&BatchKey { gtin: pack.gtin, batch: upload.batch }),
-            standing: state.standing,
+            standing,
             withdrawn: self.stops.is_withdrawn(pack.gtin),
         })
     }

@@ -3,6 +3,8 @@
 use crate::fault::{Fault, ValueFault};
 use crate::fields::{kind_of, object_of, Fields};
 use crate::message::Message;
+#[cfg(feature = "one-pass")]
+use crate::one_pass;
 use crate::values::{read_market, Market, PackKey};
 use serde_json::Value;
 
@@ -44,6 +46,10 @@ pub enum Request {
 impl Request {
     /// What a line asks, or its first fault.
     pub fn read(line: &[u8]) -> Result<Request, Fault> {
+        #[cfg(feature = "one-pass")]
+        if let Some(request) = one_pass::request(line) {
+            return Ok(request);
+        }
         let object = object_of(line)?;
         let step = match kind_of(&object, "do")? {
             "open" => {
@@ -121,6 +127,7 @@ fn read_parties(value: &Value) -> Result<Vec<Vec<Market>>, Fault> {
     };
     let lists = value.as_array().ok_or_else(wrong_type)?;
     let lists: Vec<Vec<String>> = lists.iter().map(texts_of).collect::<Option<_>>().ok_or_else(wrong_type)?;
-    let markets_of = |texts: &Vec<String>| texts.iter().map(|text| read_market(text)).collect::<Result<_, _>>();
+    let markets_of =
+        |texts: &Vec<String>| texts.iter().map(|text| read_market(text.as_bytes())).collect::<Result<_, _>>();
     lists.iter().map(markets_of).collect::<Result<_, _>>().map_err(wrong_market)
 }

@@ -2,8 +2,7 @@
 
 use crate::fault::{Fault, ValueFault};
 use crate::message::{Answer, Found, Master, Message, Repack, Status, Upload};
-use crate::values::{Code, Gtin};
-use std::slice;
+use crate::values::{Code, Gtin, CODE_BYTES};
 
 /// Writes the parts of a text one behind the other. The names of fields are given with their quotes and marks.
 pub struct Text<'a>(pub &'a mut Vec<u8>);
@@ -40,16 +39,17 @@ impl Text<'_> {
 
     /// A code, in quotes. Of its characters the quote alone has another spelling.
     fn code(&mut self, code: &Code) -> &mut Self {
-        let text = code.text();
-        self.0.push(b'"');
+        let (bytes, length) = code.bytes();
         if code.has_quote() {
-            for byte in text {
-                self.0.extend_from_slice(if *byte == b'"' { b"\\\"" } else { slice::from_ref(byte) });
-            }
-        } else {
-            self.0.extend_from_slice(text);
+            return self.quoted(&String::from_utf8_lossy(&bytes[..length]));
         }
-        self.0.push(b'"');
+        // All bytes are copied, since how many these are is known to the compiler; those behind the last quote are taken back.
+        let mut quoted = [b'"'; CODE_BYTES + 2];
+        quoted[1..=CODE_BYTES].copy_from_slice(bytes);
+        quoted[length + 1] = b'"';
+        let end = self.0.len() + length + 2;
+        self.0.extend_from_slice(&quoted);
+        self.0.truncate(end);
         self
     }
 

@@ -167,17 +167,17 @@ refused_by (Some other) fault e = ap hub_refusal_of e
 
 -- where the hub does not route a message of a party, the refusal is its fault's
 pub route_refused : (old new : HubEnd) (from : ℕ) (message : Message) (fault : RouteFault) → from < length old.hub.parties → IsUnchanged old new
-    → IsFront new.uplinks from message
+    → routed_count old.hub.entries from < old.limits.submissions → IsFront new.uplinks from message
     → FailsBy {A = ℕ × List ℕ} routing.Memory (route_fault old.hub from message) (Err fault) → Routes from old new (Refused (route_refusal_of fault))
 unfolding route_fault
-route_refused old new from message fault party unchanged front fails =
+route_refused old new from message fault party unchanged below front fails =
     let busy = option_map routing.Busy (busy_party old.hub from message) in
     by (busy_party old.hub from message) (ap (λ b. cond b busy (Some routing.StrangerParty)) (lt-ltb from (length old.hub.parties) party)) fails
   where
     by : (full : Option ℕ) → route_fault old.hub from message ≡ option_map routing.Busy full → fault ≡ unwrap_or (route_fault old.hub from message) routing.Memory
         → Routes from old new (Refused (route_refusal_of fault))
-    by None is e = subst (λ f. Routes from old new (Refused (route_refusal_of f))) (sym (e ∙ ap (λ f. unwrap_or f routing.Memory) is)) (unchanged, party)
-    by (Some to) is e = subst (λ f. Routes from old new (Refused (route_refusal_of f))) (sym (e ∙ ap (λ f. unwrap_or f routing.Memory) is)) (unchanged, (message, front, is))
+    by None is e = subst (λ f. Routes from old new (Refused (route_refusal_of f))) (sym (e ∙ ap (λ f. unwrap_or f routing.Memory) is)) (unchanged, record { below = below; message = message; front = front; why = is })
+    by (Some to) is e = subst (λ f. Routes from old new (Refused (route_refusal_of f))) (sym (e ∙ ap (λ f. unwrap_or f routing.Memory) is)) (unchanged, record { below = below; message = message; front = front; why = is })
 
 -- the ends of the same rings are as many
 pub for_same : (count : ℕ) (old new : Wires) → SameWires old new → IsFor count old → IsFor count new

@@ -19,6 +19,7 @@ use Rattle.mv_party.specs.declared.taken.Taken.TheVariants as took
 use Rattle.mv_party.specs.Calls.{apply_fault, with_taken}
 use Rattle.mv_party.proofs.SiteLemmas.{items_from-push}
 use Rattle.mv_machine.specs.declared.reply.Reply.TheVariants.{Refused}
+use Rattle.mv_machine.specs.declared.reply.Refusal.TheVariants.{Memory}
 use Rattle.mv_machine.specs.Replies.{refusal_of, reply_to}
 use Rattle.mv_ends.specs.declared.inlets.Inlets.{Inlets}
 use Rattle.mv_ends.specs.declared.repo_end.RepoEnd.{RepoEnd}
@@ -34,14 +35,23 @@ pub refused_for : (A : Type 0) (expected : Option SiteFault) (fault : SiteFault)
 refused_for A None fault is = ap refusal_of is
 refused_for A (Some other) fault is = ap refusal_of is
 
+-- want of memory is told of no other fault
+pub memory_told : (fault : SiteFault) → refusal_of fault ≡ Memory → fault ≡ site_fault.Memory
+memory_told site_fault.NotYours is = absurd (cc)
+memory_told site_fault.UplinkFull is = absurd (cc)
+memory_told site_fault.SenderFull is = absurd (cc)
+memory_told site_fault.AnswerBusy is = absurd (cc)
+memory_told site_fault.Memory is = refl
+
 -- where the party refuses a frame, no frame was taken
 pub apply_refused : (from : ℕ) (old new : RepoEnd) (full : Bool) (frame : Frame) (fault : SiteFault) → IsRepoUnchanged old new
-    → IsFront new.inlets from frame → IsRefusedBy refusal_of (apply_fault full old.site from frame.item (stands_to old.site from frame)) (refusal_of fault) → Applies from old new (Refused (refusal_of fault))
-apply_refused from old new full frame site_fault.NotYours unchanged front why = (unchanged, (full, frame, front, why))
-apply_refused from old new full frame site_fault.UplinkFull unchanged front why = (unchanged, (full, frame, front, why))
-apply_refused from old new full frame site_fault.SenderFull unchanged front why = (unchanged, (full, frame, front, why))
-apply_refused from old new full frame site_fault.AnswerBusy unchanged front why = (unchanged, (full, frame, front, why))
-apply_refused from old new full frame site_fault.Memory unchanged front why = (unchanged, (full, frame, front, why))
+    → IsFront new.inlets from frame → IsRefusedBy refusal_of (apply_fault full old.site from frame.item (stands_to old.site from frame)) (refusal_of fault)
+    → (refusal_of fault ≡ Memory → stands_to old.site from frame ≡ look.Next) → Applies from old new (Refused (refusal_of fault))
+apply_refused from old new full frame site_fault.NotYours unchanged front why next = (unchanged, (full, frame, front, why, next))
+apply_refused from old new full frame site_fault.UplinkFull unchanged front why next = (unchanged, (full, frame, front, why, next))
+apply_refused from old new full frame site_fault.SenderFull unchanged front why next = (unchanged, (full, frame, front, why, next))
+apply_refused from old new full frame site_fault.AnswerBusy unchanged front why next = (unchanged, (full, frame, front, why, next))
+apply_refused from old new full frame site_fault.Memory unchanged front why next = (unchanged, (full, frame, front, why, next))
 
 -- where it took the frame, the reply says so
 pub apply_taken : (from number : ℕ) (old new : RepoEnd) (taken : Taken) → TakesFrame from old new (reply_to number taken) → Applies from old new (reply_to number taken)

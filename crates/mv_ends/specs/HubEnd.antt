@@ -4,6 +4,7 @@ use Rattle.mv_message.specs.declared.message.Message.{Message}
 use Rattle.mv_link.specs.declared.item.Frame.{Frame}
 use Rattle.mv_link.specs.Frames.{IsFrameOf}
 use Rattle.mv_hub.specs.declared.fault.HubFault.{HubFault}
+use Rattle.mv_hub.specs.declared.fault.RouteFault.{RouteFault}
 use Rattle.mv_hub.specs.declared.fault.RouteFault.TheVariants as route
 use Rattle.mv_hub.specs.Record.{routed_count}
 use Rattle.mv_hub.specs.Targets.{reach}
@@ -41,14 +42,21 @@ pub record RoutesFront (from : ℕ) (old new : HubEnd) (k : ℕ) (reached : List
   pub number : k ≡ routed_count old.hub.entries from + 1
   pub reach_is : reached ≡ reach old.hub.parties old.hub.entries from message
 
--- what `route` leaves, by its reply: a link that has no room has none for the message at the front of the uplink
+-- The message at the front of the uplink was looked at, since the party may have more routed, and this is why the hub does not route it.
+pub record SeesFront (from : ℕ) (old new : HubEnd) (fault : Option RouteFault) : Type 0 where
+  pub below : routed_count old.hub.entries from < old.limits.submissions
+  pub message : Message
+  pub front : IsFront new.uplinks from message
+  pub why : route_fault old.hub from message ≡ fault
+
+-- What `route` leaves, by its reply: a link that has no room has none for the message at the front of the uplink, and want of memory
+-- stands in place of its routing alone.
 abbrev pub Routes : ℕ → HubEnd → HubEnd → Reply → Type 0
 Routes from old new (Routed k reached) = RoutesFront from old new k reached
 Routes from old new (Refused Party) = IsUnchanged old new × (from < length old.hub.parties → ⊥)
 Routes from old new (Refused UplinkEmpty) = IsUnchanged old new × (from < length old.hub.parties)
-Routes from old new (Refused (Busy to)) = IsUnchanged old new
-    × ((message : Message) × IsFront new.uplinks from message × (route_fault old.hub from message ≡ Some (route.Busy to)))
-Routes from old new (Refused Memory) = IsUnchanged old new × (from < length old.hub.parties)
+Routes from old new (Refused (Busy to)) = IsUnchanged old new × SeesFront from old new (Some (route.Busy to))
+Routes from old new (Refused Memory) = IsUnchanged old new × SeesFront from old new None
 Routes from old new reply = ⊥
 
 -- a frame of a link, with this number, was put on its ring, and nothing else on any

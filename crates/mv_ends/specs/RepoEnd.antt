@@ -5,13 +5,14 @@ use Rattle.mv_pack.specs.declared.key.PackKey.{PackKey}
 use Rattle.mv_message.specs.declared.message.Message.{Message}
 use Rattle.mv_message.specs.declared.message.Message.TheVariants.{Query}
 use Rattle.mv_link.specs.declared.item.Frame.{Frame}
+use Rattle.mv_link.specs.declared.incoming.Look.TheVariants.{Next}
 use Rattle.mv_repository.specs.declared.verdict.Local.TheVariants.{Known as KnownPack, Absent}
 use Rattle.mv_repository.specs.Verdict.{local_verdict}
 use Rattle.mv_party.specs.Site.{with_submission}
 use Rattle.mv_party.specs.Calls.{ask_fault, submit_fault, apply_fault, taken_by, with_taken}
 use Rattle.mv_machine.specs.declared.reply.Reply.{Reply}
 use Rattle.mv_machine.specs.declared.reply.Reply.TheVariants.{Submitted, Known, Asked, Refused}
-use Rattle.mv_machine.specs.declared.reply.Refusal.TheVariants.{Party, WireEmpty}
+use Rattle.mv_machine.specs.declared.reply.Refusal.TheVariants.{Party, WireEmpty, Memory}
 use Rattle.mv_machine.specs.Replies.{refusal_of, reply_to}
 use Rattle.mv_ends.specs.declared.repo_end.RepoEnd.{RepoEnd}
 use Rattle.mv_ends.specs.Answering.{answer_by, stands_to}
@@ -65,11 +66,12 @@ pub record TakesFrame (from : ℕ) (old new : RepoEnd) (reply : Reply) : Type 0 
   pub pushed : sent new.uplink ≡ sent old.uplink ++ option_to_list (answer_by old.site from frame.item (stands_to old.site from frame))
   pub reply_is : reply ≡ reply_to frame.number (taken_by old.site from frame.item (stands_to old.site from frame))
 
--- what `apply` leaves, by its reply: no frame is taken where there is no such party, where none is seen, and where the
--- party refuses the one at the front
+-- What `apply` leaves, by its reply: no frame is taken where there is no such party, where none is seen, and where the
+-- party refuses the one at the front. Want of memory never stands in place of an old frame or one behind a gap.
 abbrev pub Applies : ℕ → RepoEnd → RepoEnd → Reply → Type 0
 Applies from old new (Refused Party) = IsRepoUnchanged old new × (from < old.site.parties → ⊥)
 Applies from old new (Refused WireEmpty) = IsRepoUnchanged old new × (from < old.site.parties)
 Applies from old new (Refused refusal) = IsRepoUnchanged old new × ((full : Bool) × (frame : Frame) × IsFront new.inlets from frame
-    × IsRefusedBy refusal_of (apply_fault full old.site from frame.item (stands_to old.site from frame)) refusal)
+    × IsRefusedBy refusal_of (apply_fault full old.site from frame.item (stands_to old.site from frame)) refusal
+    × (refusal ≡ Memory → stands_to old.site from frame ≡ Next))
 Applies from old new reply = TakesFrame from old new reply

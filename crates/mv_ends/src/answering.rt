@@ -25,6 +25,7 @@ pub(crate) fn answer_parcel(
     ensures answer { IfOk result (λ parcel. apply_fault full site.now from frame.now.item (stands_to site.now from frame.now) ≡ None
         → parcel ≡ answer_by site.now from frame.now.item (stands_to site.now from frame.now)) }
     ensures free { OnErr result (apply_fault full site.now from frame.now.item (stands_to site.now from frame.now) ≡ None) }
+    ensures next { OnErr result (stands_to site.now from frame.now ≡ Look.Next) }
 {
     if site.look(from, frame) != Look::Next {
         return Ok(None);

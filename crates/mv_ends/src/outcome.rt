@@ -41,7 +41,10 @@ impl Outcome {
     /// The outcome of these ends.
     pub(crate) fn new(hub: HubEnd, repos: Vec<RepoEnd>) -> Outcome
         requires { IsOutcome hub repos.items }
-        ensures { result ≡ state_of hub repos.items }
+        ensures value { result ≡ state_of hub repos.items }
+        ensures well_formed { IsWellFormed result }
+        ensures lawful { IsLawful result }
+        ensures headline { HeadlineHolds (opening result.parties result.limits) result }
     {
         Outcome { hub, repos }
     }

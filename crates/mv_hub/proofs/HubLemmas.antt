@@ -1,10 +1,10 @@
 -- What the hub keeps, through a routing and a relay.
-use Rattle.std.proofs.Common.{◌≡◌, ℕ, ◌+◌, ◌<◌, ◌≤◌, Bool, true, false, ◌&&◌, ◌||◌, not, List, [], ◌∷◌, ◌++◌, length, set, cond, Some, None, sym, refl, ap, ◌∙◌, arith, inl, inr, append-nil, ◌↔◌, length-append, length-set}
+use Rattle.std.proofs.Common.{◌≡◌, ℕ, ◌+◌, ◌<◌, ◌≤◌, Bool, true, false, ◌&&◌, ◌||◌, not, List, [], ◌∷◌, ◌++◌, length, get_or, set, cond, Some, None, sym, refl, ap, ◌∙◌, arith, inl, inr, append-nil, ◌↔◌, length-set}
 use mir.Val.{bool_byte}
-use Rattle.std.specs.Prelude.{◌==◌, replicate}
-use Rattle.std.specs.List.{All, list_any}
-use Rattle.std.proofs.lemmas.Bool.{cases_eq, eq-eqb, ne_eqb, lt-ltb, le-ltb}
-use Rattle.std.proofs.lemmas.List.{get_or-replicate, length-replicate}
+use Rattle.std.specs.Prelude.{◌==◌, nat_lt, find, replicate}
+use Rattle.std.specs.List.{All}
+use Rattle.std.proofs.lemmas.Bool.{cases_eq, cases_lt, eq-eqb, ne_eqb, lt-ltb, le-ltb, false_from_ne_true}
+use Rattle.std.proofs.lemmas.List.{get_or-replicate, length-replicate, get_or-set_same, get_or-set_other, get_or_default}
 use Rattle.std.proofs.lemmas.Bool.Decides.{nat_tests}
 use Rattle.std.proofs.lemmas.Grind.{common_steps}
 use Rattle.mv_message.specs.declared.message.Message.{Message}
@@ -13,22 +13,24 @@ use Rattle.mv_link.specs.declared.item.Item.TheVariants.{Receipt, Carried}
 use Rattle.mv_link.specs.declared.limits.TheConstants.{PARTIES_LIMIT}
 use Rattle.mv_link.specs.Sending.{Sending, IsWindow, HasRoom, new_sending}
 use Rattle.mv_pairs.specs.Pairs.{cell, put, IsSquare}
-use Rattle.mv_pairs.proofs.PairsLemmas.{cell-map, put-map, cell-all, table-all, cell-put_same, cell-put_other, square-put, put-read}
+use Rattle.mv_pairs.proofs.PairsLemmas.{cell-map, put-map, cell-all, table-all, put-read}
 use Rattle.mv_hub.specs.declared.entry.Entry.{Entry}
 use Rattle.mv_hub.specs.declared.entry.Entry.TheVariants.{Routed, Closed}
 use Rattle.mv_hub.specs.Record.{routed_count, is_open}
 use Rattle.mv_hub.specs.declared.hub.routing.Routing.{Routing}
+use Rattle.mv_hub.specs.declared.party_set.PartySet.{PartySet}
 use Rattle.mv_hub.specs.Targets.{reach, is_reached, is_target, is_query}
-use Rattle.mv_hub.specs.PartySets.{is_candidate}
+use Rattle.mv_hub.specs.PartySets.{has_party, parties_in, no_parties, is_candidate}
 use Rattle.mv_hub.specs.Links.{gained, link_items}
 use Rattle.std.specs.Option.{option_map}
 use Rattle.mv_hub.specs.Hub.{HubState, new_hub, sent_of, items_on, next_items, is_busy, busy_party, route_fault, with_relayed}
 use Rattle.mv_hub.specs.declared.fault.RouteFault.TheVariants.{StrangerParty, Busy}
-use Rattle.mv_hub.specs.Kept.{link_at, sent_table, Carries, AreLinks, IsKept}
-use Rattle.mv_hub.specs.Gains.{PushesItems, PushesRow, IsRouting, receipt_of, carried_by, gain_of, gain_count}
+use Rattle.mv_hub.specs.Kept.{link_at, sent_table, Carries, AreOpen, AreLinks, IsKept}
+use Rattle.mv_hub.specs.Gains.{PushesItems, PushesRow, IsRouting, receipt_of, gain_of}
 use Rattle.mv_hub.proofs.LinksLemmas.{room-after}
 use Rattle.mv_hub.proofs.RecordLemmas.{routed_from-append, link_items-push, gained_other, gained-closed}
-use Rattle.mv_hub.proofs.NumberLemmas.{any-filter_range, find-none_at}
+use Rattle.mv_hub.proofs.NumberLemmas.{find-none_at, find-those}
+use Rattle.mv_hub.proofs.PartySetLemmas.{listed-in}
 
 -- what the hub is seen as
 abbrev pub view : List (List (List ℕ)) → ℕ → List Entry → List (List Sending) → HubState
@@ -46,12 +48,6 @@ is_open-append [] after from to = refl
 is_open-append (Routed sender k message ∷ before) after from to = is_open-append before after from to
 is_open-append (Closed sender receiver ∷ before) after from to = grind (arith, is_open-append before after from to)
 
--- a message reaches a party if that stands among those that it reaches
-pub reached_is_listed : (parties : List (List (List ℕ))) (entries : List Entry) (from : ℕ) (message : Message) (to : ℕ)
-    → to < length parties → is_reached parties entries from message to ≡ list_any (λ other. other == to) (reach parties entries from message)
-unfolding reach
-reached_is_listed parties entries from message to lt = sym (any-filter_range (is_reached parties entries from message) to (length parties) lt)
-
 -- what the routing of a message puts on a link
 next_items-are : (hub : HubState) (from to : ℕ) (message : Message) → next_items hub from message to
     ≡ cond ((to == from) && is_open hub.entries from from)
@@ -67,17 +63,16 @@ pub length_next_items : (hub : HubState) (from to : ℕ) (message : Message) →
 length_next_items hub from to message = grind (arith, next_items-are hub from to message)
 
 -- what a link gains is what the record will put on it
-pub next-gain : (hub : HubState) (routing : Routing) (receipt : List Item) (to : ℕ)
-    → IsRouting hub routing → to < length hub.parties → receipt ≡ receipt_of hub routing
-    → gain_of routing.from routing.reached receipt (carried_by routing) to ≡ next_items hub routing.from routing.message.now to
-next-gain hub routing receipt to is lt e =
-    let here = reached_is_listed hub.parties hub.entries routing.from routing.message.now to lt in
-    rw (e, is.number, is.place, is.parties, ← here, next_items-are) (grind arith)
+pub next-gain : (hub : HubState) (routing : Routing) (receipt : List Item) (to : ℕ) → IsRouting hub routing → receipt ≡ receipt_of hub routing
+    → gain_of routing receipt to ≡ next_items hub routing.from routing.message.now to
+next-gain hub routing receipt to is e = rw (e, is.reaches to, is.number, is.place, next_items-are) (grind arith)
 
-pub length-gain : (hub : HubState) (routing : Routing) (receipt : List Item) (to : ℕ)
-    → IsRouting hub routing → to < length hub.parties → receipt ≡ receipt_of hub routing
-    → gain_count routing.from routing.reached receipt to ≡ length (next_items hub routing.from routing.message.now to)
-length-gain hub routing receipt to is lt e = rw (← next-gain hub routing receipt to is lt e) (grind (arith, length-append {A = Item}))
+-- the parties to which a link of one is open
+pub open-at : {parties : ℕ} {entries : List Entry} {open_links : List PartySet} (from to : ℕ) (opened : PartySet)
+    → AreOpen parties entries open_links → from < parties → to < parties → opened ≡ get_or open_links from opened
+    → has_party opened to ≡ is_open entries from to
+open-at {open_links = open_links} from to opened are is_from is_to at =
+    ap (λ s. has_party s to) (at ∙ get_or_default open_links from opened no_parties (omega (arith, are.each))) ∙ are.values from to is_from is_to
 
 -- what is known of a link, by what the hub is seen as
 pub record LinkFacts (hub : HubState) (from to : ℕ) (link : Sending) : Type 0 where
@@ -94,12 +89,38 @@ busy-is hub from to message link count facts e =
     let sent = facts.sent in
     (λ free. grind (arith, nat_tests), λ room. grind (arith, nat_tests))
 
--- whom a message is for, of those that it may be for, and so whom it reaches
-pub reached-candidate : (parties : List (List (List ℕ))) (entries : List Entry) (from : ℕ) (message : Message) (to : ℕ) → to < length parties
-    → (is_candidate parties entries message to && (not (is_query message && (to == from)) && is_open entries from to))
-    ≡ is_reached parties entries from message to
+-- whom a message reaches, of those that it may be for
+reached-candidate : (parties : List (List (List ℕ))) (entries : List Entry) (from : ℕ) (message : Message) (to : ℕ)
+    → ((nat_lt to (length parties) && is_candidate parties entries message to) && is_open entries from to)
+    && not (is_query message && (to == from)) ≡ is_reached parties entries from message to
 unfolding is_reached is_target
-reached-candidate parties entries from message to lt = rw (lt-ltb to (length parties) lt) (grind arith)
+reached-candidate parties entries from message to = grind arith
+
+-- by a set of those that it may be for, and one of those to which the link is open
+pub reached-of : (parties : List (List (List ℕ))) (entries : List Entry) (from : ℕ) (message : Message) (candidates opened : PartySet) (to : ℕ)
+    → has_party candidates to ≡ (nat_lt to (length parties) && is_candidate parties entries message to)
+    → (to < length parties → has_party opened to ≡ is_open entries from to)
+    → ((has_party candidates to && has_party opened to) && not (is_query message && (to == from))) ≡ is_reached parties entries from message to
+unfolding is_reached
+reached-of parties entries from message candidates opened to may is = elim (cases_lt to (length parties)) [
+  | inl lt ↦ rw (may, is lt) (reached-candidate parties entries from message to)
+  | inr beyond ↦ rw (may, le-ltb to (length parties) beyond)
+]
+
+-- which are parties alone
+pub reached-below : (parties : List (List (List ℕ))) (entries : List Entry) (from : ℕ) (message : Message) (to : ℕ)
+    → is_reached parties entries from message to ≡ true → to < length parties
+unfolding is_reached
+reached-below parties entries from message to reached = grind (arith, reached, nat_tests)
+
+-- so the list of the set of those that are reached is this
+pub reach-listed : (parties : List (List (List ℕ))) (entries : List Entry) (from : ℕ) (message : Message) (reached : PartySet)
+    → length parties ≤ 64 → ((to : ℕ) → has_party reached to ≡ is_reached parties entries from message to)
+    → parties_in reached ≡ reach parties entries from message
+unfolding reach
+reach-listed parties entries from message reached few is =
+    listed-in reached (is_reached parties entries from message) (length parties) few (λ to lt. is to)
+    (λ to beyond. is to ∙ false_from_ne_true _ (λ e. absurd (omega (arith, reached-below parties entries from message to e))))
 
 -- how many items of a link were relayed
 pub sent-at : (links : List (List Sending)) (from to : ℕ) → cell (sent_table links) from to 0 ≡ (link_at links from to).sent
@@ -111,12 +132,33 @@ module _ (parties : List (List (List ℕ))) (window : ℕ) (entries : List Entry
   link_facts from to are is_from is_to = record { carries = are.values from to is_from is_to; sent = sym (sent-at links from to) }
 
   -- a link that gains nothing is not busy
-  pub idle : (from to : ℕ) (message : Message) → AreLinks parties window entries links → from < length parties → to < length parties
-      → (is_reached parties entries from message to || (to == from)) ≡ false → is_busy (view parties window entries links) from message to ≡ false
+  idle : (from to : ℕ) (message : Message) → AreLinks parties window entries links → from < length parties → to < length parties
+      → (is_reached parties entries from message to || ((to == from) && is_open entries from from)) ≡ false
+      → is_busy (view parties window entries links) from message to ≡ false
   idle from to message are is_from is_to none =
       let hub = view parties window entries links in
       let facts = link_facts from to are is_from is_to in
       (busy-is hub from to message (link_at links from to) 0 facts (grind (arith, length_next_items hub from to message))).1 facts.carries.fits
+
+  -- so the least busy party is the first of those whose links gain something
+  pub busy-among : (from : ℕ) (message : Message) (gaining : PartySet) → AreLinks parties window entries links → length parties ≤ 64
+      → from < length parties
+      → ((to : ℕ) → has_party gaining to ≡ (is_reached parties entries from message to || ((to == from) && is_open entries from from)))
+      → busy_party (view parties window entries links) from message
+      ≡ find (is_busy (view parties window entries links) from message) (parties_in gaining)
+  unfolding busy_party
+  busy-among from message gaining are few is_from gains =
+      let busy = is_busy (view parties window entries links) from message in
+      let test : ℕ → Bool = λ (to : ℕ). is_reached parties entries from message to || ((to == from) && is_open entries from from) in
+      let listed = listed-in gaining test (length parties) few (λ to lt. gains to) (λ to beyond. gains to ∙ none to beyond) in
+      sym (ap (find busy) listed ∙ find-those busy test (length parties) (λ to lt nothing. idle from to message are is_from lt nothing))
+    where
+      none : (to : ℕ) → length parties ≤ to
+          → (is_reached parties entries from message to || ((to == from) && is_open entries from from)) ≡ false
+      none to beyond =
+          let stranger = false_from_ne_true (is_reached parties entries from message to)
+          (λ e. absurd (omega (arith, reached-below parties entries from message to e))) in
+          rw (stranger, ne_eqb to from (λ e. absurd (omega arith)))
 
   -- where no link is busy, each has room for its gain
   pub rooms : (from : ℕ) (message : Message)
@@ -137,7 +179,7 @@ carries-gain window items more old new carries gains room = record {
 
 -- all that the hub keeps, once a message was routed
 pub kept-routed : {parties : List (List (List ℕ))} {window : ℕ} {entries : List Entry} {routed_counts : List ℕ}
-    {open_links : List (List Bool)} {old : List (List Sending)} (new : List (List Sending)) (from : ℕ) (message : Message)
+    {open_links : List PartySet} {old : List (List Sending)} (new : List (List Sending)) (from : ℕ) (message : Message)
     → IsKept parties window entries routed_counts open_links old → from < length parties
     → busy_party (view parties window entries old) from message ≡ None
     → PushesRow (length parties) from (next_items (view parties window entries old) from message) old new
@@ -157,7 +199,7 @@ kept-routed {parties} {window} {entries} {routed_counts} {old = old} new from me
             grind (arith, common_steps, counts.values party below, counts.each, routed_from-append entries (entry ∷ []) party, cases_eq party from);
       };
       are_open = record {
-        square = kept.are_open.square;
+        each = kept.are_open.each;
         values = λ a b is_a is_b. kept.are_open.values a b is_a is_b ∙ grind (arith, is_open-append entries (entry ∷ []) a b);
       };
       are_links = record {
@@ -175,10 +217,11 @@ kept-routed {parties} {window} {entries} {routed_counts} {old = old} new from me
 
 -- all that the hub keeps, once a link was closed
 pub kept-closed : {parties : List (List (List ℕ))} {window : ℕ} {entries : List Entry} {routed_counts : List ℕ}
-    {open_links : List (List Bool)} {links : List (List Sending)} (from to : ℕ)
-    → IsKept parties window entries routed_counts open_links links → from < length parties → to < length parties
-    → IsKept parties window (entries ++ Closed from to ∷ []) routed_counts (put open_links from to false) links
-kept-closed {parties} {entries = entries} {open_links = open_links} from to kept is_from is_to = record {
+    {open_links : List PartySet} {links : List (List Sending)} (from to : ℕ) (rest : PartySet)
+    → IsKept parties window entries routed_counts open_links links → from < length parties
+    → ((other : ℕ) → has_party rest other ≡ (has_party (get_or open_links from no_parties) other && not (other == to)))
+    → IsKept parties window (entries ++ Closed from to ∷ []) routed_counts (set open_links from rest) links
+kept-closed {parties} {entries = entries} {open_links = open_links} from to rest kept is_from without = record {
   some = kept.some;
   few = kept.few;
   is_window = kept.is_window;
@@ -188,12 +231,19 @@ kept-closed {parties} {entries = entries} {open_links = open_links} from to kept
         rw (routed_from-append entries (Closed from to ∷ []) party, append-nil) (kept.are_routed_counts.values party below);
   };
   are_open = record {
-    square = square-put (length parties) open_links from to false kept.are_open.square;
-    values = λ a b is_a is_b.
-        let others = cell-put_other open_links from to a b false true in
-        let own = cell-put_same (length parties) open_links from to false true kept.are_open.square is_from is_to in
-        let open_before = kept.are_open.values a b is_a is_b in
-        grind (arith, is_open-append entries (Closed from to ∷ []) a b, open_before, cases_eq a from, cases_eq b to, own, others);
+    each = length-set open_links from rest ∙ kept.are_open.each;
+    values = λ a b is_a is_b. elim (cases_eq a from) [
+      | inl same ↦
+          let within : from < length open_links = omega (arith, kept.are_open.each) in
+          let open_before = kept.are_open.values from b is_from is_b in
+          rw (same, get_or-set_same open_links from rest no_parties within, is_open-append entries (Closed from to ∷ []) from b, without b, open_before)
+          (grind (arith, cases_eq b to))
+      | inr other ↦
+          let open_before = kept.are_open.values a b is_a is_b in
+          let apart = ne_eqb from a (λ e. other (sym e)) in
+          rw (get_or-set_other open_links from a rest no_parties other, is_open-append entries (Closed from to ∷ []) a b, open_before, apart)
+          (grind arith)
+    ];
   };
   are_links = record {
     square = kept.are_links.square;
@@ -215,18 +265,21 @@ pub view_relayed : (parties : List (List (List ℕ))) (window : ℕ) (entries : 
 view_relayed parties window entries links from to new e = rw (put-map (λ (v : Sending). v.sent) links from to new, e, sent-at links from to)
 
 -- a hub where nothing has happened keeps what it should
-pub kept-new : (parties : List (List (List ℕ))) (window : ℕ) (open_links : List (List Bool)) (links : List (List Sending))
+pub kept-new : (parties : List (List (List ℕ))) (window : ℕ) (all : PartySet) (links : List (List Sending))
     → 1 ≤ length parties → length parties ≤ PARTIES_LIMIT → IsWindow window
-    → IsSquare (length parties) open_links → All (All (λ b. b ≡ true)) open_links
+    → ((party : ℕ) → party < PARTIES_LIMIT → has_party all party ≡ true)
     → IsSquare (length parties) links → All (All (λ v. v ≡ new_sending window)) links
-    → IsKept parties window [] (replicate (length parties) 0) open_links links
+    → IsKept parties window [] (replicate (length parties) 0) (replicate (length parties) all) links
 unfolding link_items
-kept-new parties window open_links links some few is_window open_square all_open square fresh = record {
+kept-new parties window all links some few is_window has square fresh = record {
   some = some;
   few = few;
   is_window = is_window;
   are_routed_counts = record { each = length-replicate (length parties) 0; values = λ party lt. get_or-replicate (length parties) party 0 0 lt };
-  are_open = record { square = open_square; values = λ from to p q. cell-all (λ b. b ≡ true) (length parties) open_links from to true open_square all_open p q };
+  are_open = record {
+    each = length-replicate (length parties) all;
+    values = λ from to p q. rw (get_or-replicate (length parties) from all no_parties p) (has to (omega arith));
+  };
   are_links = record {
     square = square;
     values = λ from to p q.

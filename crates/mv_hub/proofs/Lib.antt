@@ -1,5 +1,7 @@
 pub mod RecordLemmas
 pub mod NumberLemmas
+pub mod PartySetLemmas
+pub mod MarketTableLemmas
 pub mod PartiesLemmas
 pub mod LinksLemmas
 pub mod HubLemmas

@@ -1,29 +1,16 @@
 -- Links that gain items.
-use Rattle.std.proofs.Common.{◌≡◌, ℕ, ◌+◌, ◌<◌, List, [], ◌∷◌, ◌++◌, cond, length, get_or, take, drop, sym, refl, ap, ◌∙◌, arith, inl, inr, append-nil, append_assoc, length-append, length-drop}
+use Rattle.std.proofs.Common.{◌≡◌, ℕ, suc, ◌+◌, ◌<◌, ◌&&◌, not, true, List, [], ◌∷◌, ◌++◌, cond, length, get_or, take, replicate, refl, sym, ap, ◌∙◌, arith, inl, inr, append-nil, append_assoc, length-append}
 use Rattle.std.specs.Prelude.{◌==◌}
-use Rattle.std.specs.List.{list_any}
-use Rattle.std.specs.List.Sorted.{IsStrictlyIncreasing}
 use Rattle.std.proofs.lemmas.Bool.{cases_eq, eq-eqb, ne_eqb}
-use Rattle.std.proofs.lemmas.List.{get_or-take, get_or-drop, take-take, take_at, length_push, drop_more, get_or_push, get_or_default}
-use Rattle.std.proofs.lemmas.List.Kept.{AllPairs-from_increasing}
-use Rattle.std.proofs.lemmas.List.Folds.{list_any_none}
+use Rattle.std.proofs.lemmas.List.{take_at, length_push, get_or_push, length-replicate, replicate_more}
 use Rattle.mv_link.specs.declared.item.Item.{Item}
 use Rattle.mv_link.specs.Sending.{Sending, HasRoom, new_sending}
 use Rattle.mv_pairs.specs.Pairs.{put, IsSquare}
 use Rattle.mv_pairs.proofs.PairsLemmas.{cell-put_same, cell-put_other, square-put, put-map_same}
+use Rattle.mv_hub.specs.declared.party_set.PartySet.{PartySet}
+use Rattle.mv_hub.specs.PartySets.{has_party}
 use Rattle.mv_hub.specs.Kept.{link_at}
 use Rattle.mv_hub.specs.Gains.{PushesItems, PushesRow}
-
--- what was taken off the end of a front of a list stands behind what is left
-pub last-of_front : {A : Type 0} (whole old new : List A) (last d : A) → old ≡ take (length old) whole → old ≡ new ++ last ∷ []
-    → (get_or whole (length new) d ≡ last) × (new ≡ take (length new) whole) × (length old ≡ length new + 1)
-last-of_front whole old new last d front popped =
-    let count : length old ≡ length new + 1 = ap length popped ∙ length_push new last in (
-      sym (get_or-take (length old) whole (length new) d (omega arith)) ∙ ap (λ l. get_or l (length new) d) (sym front ∙ popped)
-          ∙ get_or_push new last d (length new) refl,
-      sym (take_at new (last ∷ []) (length new) refl) ∙ ap (take (length new)) (sym popped ∙ front) ∙ take-take (length new) (length old) whole (omega arith),
-      count,
-    )
 
 -- a link that gains nothing, and one that gains twice
 pub pushes-none : (link : Sending) → PushesItems [] link link
@@ -85,25 +72,23 @@ row-same same row = record {
   sent = row.sent;
 }
 
--- the item goes to each of these parties
-abbrev pub carried_to : List ℕ → Item → ℕ → List Item
-carried_to reached item to = cond (list_any (λ other. other == to) reached) (item ∷ []) []
+-- one more party of those that are reached gets the item
+pub carried-more : (reached rest left : PartySet) (item : Item) (to other : ℕ) → has_party reached to ≡ true → has_party rest to ≡ true
+    → has_party left other ≡ (has_party rest other && not (other == to))
+    → cond (has_party reached other && not (has_party rest other)) (item ∷ []) [] ++ cond (other == to) (item ∷ []) []
+    ≡ cond (has_party reached other && not (has_party left other)) (item ∷ []) []
+carried-more reached rest left item to other is_reached is_left without = elim (cases_eq other to) [
+  | inl same ↦ rw (without, same, is_reached, is_left, eq-eqb to to refl)
+  | inr apart ↦ rw (without, ne_eqb other to apart) (grind (arith, append-nil {A = Item}))
+]
 
--- one more party of a list gets the item, the last first: in a list that ascends a member stands once
-pub carried-more : (reached : List ℕ) (k : ℕ) (item : Item) (to : ℕ) → IsStrictlyIncreasing reached → k < length reached
-    → carried_to (drop (k + 1) reached) item to ++ cond (to == get_or reached k 0) (item ∷ []) [] ≡ carried_to (drop k reached) item to
-carried-more reached k item to up lt =
-    let first = get_or reached k 0 in
-    let once = list_any_none (λ other. other == first) (drop (k + 1) reached) (λ j d below. ne_eqb (get_or (drop (k + 1) reached) j d) first
-    (λ e. absurd (omega (
-      arith,
-      e,
-      get_or-drop (k + 1) reached j d,
-      get_or_default reached k d 0 lt,
-      AllPairs-from_increasing reached up k (k + 1 + j) d (omega arith)
-          (omega (arith, length-drop (k + 1) reached)),
-    )))) in
-    rw (drop_more reached k 0 lt) (elim (cases_eq to first) [
-      | inl same ↦ rw (same, once, eq-eqb first first refl)
-      | inr other ↦ rw (ne_eqb to first other, ne_eqb first to (λ e. other (sym e))) (append-nil (carried_to (drop (k + 1) reached) item to))
-    ])
+-- what was taken off the end of a list of equal members is one of them, and the others are left
+pub pop-equal : {A : Type 0} (n : ℕ) (same last : A) (rest : List A) → rest ++ last ∷ [] ≡ same ∷ replicate n same
+    → (rest ≡ replicate n same) × (last ≡ same)
+pop-equal n same last rest e =
+    let more : suc n ≡ n + 1 = omega arith in
+    let whole = e ∙ ap (λ k. replicate k same) more ∙ sym (replicate_more n same) in
+    let count : length rest ≡ n = omega (arith, ap length e, length_push rest last, length-replicate n same) in (
+      sym (take_at rest (last ∷ []) n count) ∙ ap (take n) whole ∙ take_at (replicate n same) (same ∷ []) n (length-replicate n same),
+      sym (get_or_push rest last same n count) ∙ ap (λ l. get_or l n same) whole ∙ get_or_push (replicate n same) same same n (length-replicate n same),
+    )

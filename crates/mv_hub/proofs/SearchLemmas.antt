@@ -6,8 +6,8 @@ use Rattle.std.proofs.lemmas.List.Elements.{Contains-push, Contains-push_cases, 
 use Rattle.std.proofs.lemmas.Map.Views.{Contains-from_any}
 use Rattle.mv_pack.specs.declared.key.BatchKey.{BatchKey}
 use Rattle.mv_pack.specs.Keys.{is_same_batch}
-use Rattle.mv_hub.specs.BatchLinks.{IsChain}
-use Rattle.mv_hub.specs.Tables.{with_link, Gathers, IsReachedFrom}
+use Rattle.mv_hub.specs.BatchLinks.{IsChain, IsReachedFrom}
+use Rattle.mv_hub.specs.Tables.{with_link, Gathers}
 use Rattle.mv_hub.proofs.ListingLemmas.{batch-same}
 
 none-in : (batch : BatchKey) → Contains [] batch → ⊥

@@ -13,9 +13,9 @@ use Rattle.mv_hub.specs.declared.catalogue.Catalogue.{Catalogue}
 use Rattle.mv_hub.specs.Record.{product_in, last_product}
 use Rattle.mv_hub.specs.Listing.{Listing, is_same_listing, distinct}
 use Rattle.mv_hub.specs.Catalogue.{catalogue_with, listing_in, batches_of}
-use Rattle.mv_hub.specs.Tables.{catalogue_in, with_product, with_listing, linked_in, listing_equiv, IsReachedFrom}
+use Rattle.mv_hub.specs.Tables.{catalogue_in, with_product, with_listing, linked_in, listing_equiv}
 use Rattle.mv_pack.specs.Keys.{is_same_batch}
-use Rattle.mv_hub.specs.BatchLinks.{link_in, linked_to, IsChain, IsDescendant}
+use Rattle.mv_hub.specs.BatchLinks.{link_in, linked_to, IsChain, IsReachedFrom, IsDescendant}
 use Rattle.mv_hub.specs.Kept.{AreTables}
 use Rattle.mv_hub.proofs.ListingLemmas.{batch_equivalence, batch-same, listing-same, add_to, distinct-named, members-distinct}
 

@@ -1,5 +1,5 @@
 -- What the hub keeps beside its record, and how that follows from the record.
-use Rattle.std.specs.Prelude.{◌≡◌, ◌<◌, ◌≤◌, ℕ, List, length, map, Bool, true, slice_index_or}
+use Rattle.std.specs.Prelude.{◌≡◌, ◌<◌, ◌≤◌, ℕ, List, length, map, slice_index_or}
 use Rattle.mv_pack.specs.declared.key.BatchKey.{BatchKey}
 use Rattle.mv_link.specs.declared.item.Item.{Item}
 use Rattle.mv_link.specs.declared.limits.TheConstants.{PARTIES_LIMIT}
@@ -7,6 +7,8 @@ use Rattle.mv_link.specs.Sending.{Sending, IsWindow, HasRoom, EndsWithHeld, new_
 use Rattle.mv_pairs.specs.Pairs.{cell, IsSquare}
 use Rattle.mv_hub.specs.declared.entry.Entry.{Entry}
 use Rattle.mv_hub.specs.declared.catalogue.Catalogue.{Catalogue}
+use Rattle.mv_hub.specs.declared.party_set.PartySet.{PartySet}
+use Rattle.mv_hub.specs.PartySets.{has_party, no_parties}
 use Rattle.mv_hub.specs.Record.{routed_count, is_open}
 use Rattle.mv_hub.specs.Listing.{distinct}
 use Rattle.mv_hub.specs.Catalogue.{catalogue_of}
@@ -34,10 +36,11 @@ pub record AreTables (entries : List Entry) (catalogues : List (List ℕ × Cata
   pub are_catalogues : (gtin : List ℕ) → catalogue_in catalogues gtin ≡ catalogue_of entries gtin
   pub are_links : (batch : BatchKey) → linked_in batch_links batch ≡ distinct is_same_batch (linked_to entries batch)
 
--- whether each link is open, by sender and receiver
-pub record AreOpen (parties : ℕ) (entries : List Entry) (open_links : List (List Bool)) : Type 0 where
-  pub square : IsSquare parties open_links
-  pub values : (from to : ℕ) → from < parties → to < parties → cell open_links from to true ≡ is_open entries from to
+-- the parties to which a link of each party is open, party 0 first
+pub record AreOpen (parties : ℕ) (entries : List Entry) (open_links : List PartySet) : Type 0 where
+  pub each : length open_links ≡ parties
+  pub values : (from to : ℕ) → from < parties → to < parties
+      → has_party (slice_index_or open_links from no_parties) to ≡ is_open entries from to
 
 -- a sending end with this window, on which these items were pushed
 pub record Carries (size : ℕ) (items : List Item) (link : Sending) : Type 0 where
@@ -53,7 +56,7 @@ pub record AreLinks (parties : List (List (List ℕ))) (window : ℕ) (entries :
 
 -- all that the hub keeps follows from the record
 pub record IsKept (parties : List (List (List ℕ))) (window : ℕ) (entries : List Entry) (routed_counts : List ℕ)
-    (open_links : List (List Bool)) (links : List (List Sending)) : Type 0 where
+    (open_links : List PartySet) (links : List (List Sending)) : Type 0 where
   pub some : 1 ≤ length parties
   pub few : length parties ≤ PARTIES_LIMIT
   pub is_window : IsWindow window

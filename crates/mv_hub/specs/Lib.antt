@@ -1,7 +1,8 @@
 pub mod Record
 pub mod Parties
-pub mod PartySets
+pub mod MarketTables
 pub mod Targets
+pub mod PartySets
 pub mod Links
 pub mod Listing
 pub mod Catalogue

@@ -26,10 +26,14 @@ abbrev pub has_twice : List (List ℕ) → Bool
 has_twice [] = false
 has_twice (market ∷ markets) = has_market markets market || has_twice markets
 
+-- the markets of all parties, one list behind the other
+abbrev pub all_markets : List (List (List ℕ)) → List (List ℕ)
+all_markets lists = flat_map (λ markets. markets) lists
+
 -- the parties of these lists, or the first fault: 1 to 64 of them, and no market is served twice
 abbrev pub parties_of : List (List (List ℕ)) → Result (List (List (List ℕ))) HubFault
 parties_of lists =
     if length lists == 0 then Err NoParty
     else (if nat_lt PARTIES_LIMIT (length lists) then Err TooMany
-    else (if has_twice (flat_map (λ markets. markets) lists) then Err ServedTwice
+    else (if has_twice (all_markets lists) then Err ServedTwice
     else Ok lists))

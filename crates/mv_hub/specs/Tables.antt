@@ -5,7 +5,6 @@ use Rattle.std.specs.List.{list_any}
 use Rattle.std.specs.Map.{lookup}
 use Rattle.mv_pack.specs.declared.key.BatchKey.{BatchKey}
 use Rattle.mv_pack.specs.Keys.{is_same_batch}
-use Rattle.mv_hub.specs.BatchLinks.{IsChain}
 use Rattle.mv_message.specs.declared.message.Product.{Product}
 use Rattle.mv_hub.specs.declared.catalogue.Catalogue.{Catalogue}
 use Rattle.mv_hub.specs.Listing.{Listing, is_same_listing}
@@ -14,10 +13,6 @@ use Rattle.std.specs.Cmp.{IsEquivalence, and_equiv, on_equiv, nat_eq_equiv}
 -- what a table of the batches after says of a batch
 abbrev pub linked_in : List (BatchKey × List BatchKey) → BatchKey → List BatchKey
 linked_in table batch = unwrap_or (lookup (is_same_batch batch) table) []
-
--- a chain of one or more links leads from a batch to another
-abbrev pub IsReachedFrom : (BatchKey → List BatchKey) → BatchKey → BatchKey → Type 0
-IsReachedFrom links batch other = (between : List BatchKey) × IsChain links batch between other
 
 -- one more batch after, unless it is there
 abbrev pub with_link : List BatchKey → BatchKey → List BatchKey

@@ -5,8 +5,8 @@ ghost use Rattle.std.specs.Prelude.{if◌then◌else◌};
 ghost use Rattle.std.specs.List.Sorted.{IsStrictlySortedBy};
 ghost use Rattle.mv_pack.specs.declared.key.BatchKey.{BatchKey as ABatch};
 ghost use Rattle.mv_pack.specs.Keys.{is_same_batch};
-ghost use Rattle.mv_hub.specs.BatchLinks.{batch_cmp};
-ghost use Rattle.mv_hub.specs.Tables.{linked_in, with_link, Gathers, IsReachedFrom};
+ghost use Rattle.mv_hub.specs.BatchLinks.{batch_cmp, IsReachedFrom};
+ghost use Rattle.mv_hub.specs.Tables.{linked_in, with_link, Gathers};
 
 use indexmap::{IndexMap, IndexSet};
 use mv_pack::BatchKey;

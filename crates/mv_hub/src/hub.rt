@@ -11,6 +11,7 @@ ghost use Rattle.mv_hub.specs.Catalogue.{catalogue_of};
 ghost use Rattle.mv_hub.specs.BatchLinks.{batch_cmp, linked_to, IsDescendant};
 ghost use Rattle.mv_hub.specs.Kept.{Carries};
 
+use crate::party_set::PartySet;
 use crate::trail::AuditTrail;
 use crate::{Catalogue, Entry, Parties};
 use mv_link::Outgoing;
@@ -20,6 +21,7 @@ use mv_pairs::PairTable;
 use std::alloc::{AllocError, Global};
 use std::marker::Model;
 
+mod gains;
 mod links;
 mod routing;
 mod targets;
@@ -37,8 +39,8 @@ pub struct Hub {
     trail: AuditTrail,
     /// How many messages of each party were routed, party 0 first.
     routed_counts: Vec<u32>,
-    /// Whether each link is open.
-    open_links: PairTable<bool>,
+    /// The parties to which a link of each party is open, party 0 first.
+    open_links: Vec<PartySet>,
     /// The sending end of each link.
     links: PairTable<Outgoing>,
 }
@@ -57,7 +59,7 @@ impl Model for Hub {
     } };
 
     ghost invariant = { λ a.
-        IsKept a.parties a.window a.trail a.routed_counts.items a.open_links a.links };
+        IsKept a.parties a.window a.trail a.routed_counts.items a.open_links.items a.links };
 }
 
 impl Hub {
@@ -72,13 +74,7 @@ impl Hub {
     {
         let count = parties.len();
         let routed_counts = vec![in alloc; 0; count as usize]?;
-        let open_links = PairTable::from_fn(
-            alloc,
-            count,
-            || -> Result<bool, AllocError>
-                ensures { IfOk result (λ is_open. is_open ≡ true) }
-            { Ok(true) },
-        )?;
+        let open_links = vec![in alloc; PartySet::all(); count as usize]?;
         let links = PairTable::from_fn(
             alloc,
             count,
@@ -141,7 +137,7 @@ impl Hub {
         requires to { to < length self.now.parties }
         ensures { result ≡ is_open self.now.entries from to }
     {
-        *self.open_links.at(from, to)
+        self.open_links[from as usize].has(to)
     }
 
     /// The markets that the last routed master of a product names, `None` where no master of it was routed.

@@ -26,9 +26,10 @@ mod catalogue;
 mod catalogues;
 mod entry;
 mod fault;
-mod gains;
 mod hub;
+mod market_table;
 mod parties;
+mod party_set;
 mod trail;
 
 pub use catalogue::{Catalogue, MasterProduct, Pairs};

@@ -140,7 +140,7 @@ form_ok version d form h =
     let named = form_has_name version b.0 form (ok_or_some (Kind fields.Msg) (form_named version b.0) form b.2) in
     (subst (HasText d fields.Msg) named.0 (text_ok fields.Msg d b.0 b.1), named.1)
 
-form_read : (version : Version) (d : Data) (form : Form) → HasText d fields.Msg (form_name form) → IsIn form version → form_at version d ≡ Ok form
+pub form_read : (version : Version) (d : Data) (form : Form) → HasText d fields.Msg (form_name form) → IsIn form version → form_at version d ≡ Ok form
 unfolding form_at
 form_read version d form h is_in =
     ap (λ r. r and_then λ t. ok_or (form_named version t) (Kind fields.Msg)) (text_is_read fields.Msg d (form_name form) h)

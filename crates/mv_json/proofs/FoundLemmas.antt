@@ -16,8 +16,7 @@ use Rattle.mv_json.specs.declared.version.Version.{Version}
 use Rattle.mv_json.specs.declared.version.Version.TheVariants.{One, Two}
 use Rattle.mv_json.specs.FieldMeanings.{part_of}
 use Rattle.mv_json.specs.Fields.{names_in}
-use Rattle.mv_json.specs.Found.{present_fields, present_of, found_of, found_at, SpellsFound}
-use Rattle.mv_json.specs.Meanings.{made_at}
+use Rattle.mv_json.specs.Found.{present_fields, present_at, present_of, found_of, found_at, SpellsFound}
 use Rattle.mv_json.specs.Members.{keys_of, first_unknown}
 use Rattle.mv_json.specs.Reading.{◌and_then◌, member_at}
 use Rattle.mv_json.specs.Spellings.{Has, HasOnly}
@@ -28,10 +27,6 @@ use Rattle.mv_json.proofs.FormLemmas.{all_known, none_unknown}
 -- the pack that these parts make
 abbrev pack_of : List ℕ → CivilDate → Option (List ℕ) → Bool → Standing → Bool → Found
 pack_of batch expiry national recalled standing withdrawn = Present batch expiry national standing recalled withdrawn
-
--- the pack that the fields of an object give
-abbrev present_at : Version → Data → Result Found MessageFault
-present_at version part = made_at (part_of version) present_fields pack_of part
 
 -- the names of the fields of a pack leave out what came with the second version
 unsaid_of_pack : (version : Version) (part : Data) → HasOnly (names_in version present_fields) part → Unsaid version part
@@ -126,18 +121,20 @@ fields_read version part batch expiry national standing recalled withdrawn (only
       ),
     )
 
-part_read : (version : Version) (part : Data) (found : Found) → SpellsFound version part found → found_of version part ≡ Ok found
+-- an object that has no other key than the fields of a pack is read as the pack that they give
+pub pack_read : (version : Version) (part : Data) (found : Found) → HasOnly (names_in version present_fields) part → present_at version part ≡ Ok found → found_of version part ≡ Ok found
 unfolding present_of
+pack_read version part found (ms, is_object, known) given =
+    let read : present_of version (object ms) ≡ Ok found =
+    ap (λ o. cond (is_some o) (Err (Kind fields.Found)) (present_at version (object ms))) (none_unknown (names_in version present_fields) (keys_of ms) known)
+    ∙ ap (present_at version) (sym is_object)
+    ∙ given in
+    ap (found_of version) is_object ∙ ap (λ r. ok_or (result_ok r) (Kind fields.Found)) read
+
+part_read : (version : Version) (part : Data) (found : Found) → SpellsFound version part found → found_of version part ≡ Ok found
 part_read version part Absent h = ap (found_of version) h
 part_read version part (Present batch expiry national standing recalled withdrawn) h =
-    let found = Present batch expiry national standing recalled withdrawn in
-    let is_object = h.0.1 in
-    let ms = h.0.0 in
-    let read : present_of version (object ms) ≡ Ok found =
-    ap (λ o. cond (is_some o) (Err (Kind fields.Found)) (present_at version (object ms))) (none_unknown (names_in version present_fields) (keys_of ms) h.0.2)
-    ∙ ap (present_at version) (sym is_object)
-    ∙ fields_read version part batch expiry national standing recalled withdrawn h in
-    ap (found_of version) is_object ∙ ap (λ r. ok_or (result_ok r) (Kind fields.Found)) read
+    pack_read version part (Present batch expiry national standing recalled withdrawn) h.0 (fields_read version part batch expiry national standing recalled withdrawn h)
 
 -- a field that spells what was found is read as it
 pub found_read : (version : Version) (d : Data) (found : Found) → HasFound version d found → found_at version d ≡ Ok found

@@ -15,4 +15,6 @@ pub mod OrderLemmas
 pub mod FirstFaultLemmas
 pub mod KeyLemmas
 pub mod CanonLemmas
-pub mod PlainMessageLemmas
+pub mod MetLemmas
+pub mod PartLemmas
+pub mod TellLemmas

@@ -77,7 +77,7 @@ all_apart name (other ∷ names) h =
     let parts = and_parts (not (is_eq (slice_cmp nat_cmp name other))) (is_apart name names) h in
     (is_not_equal (slice_cmp nat_cmp name other) parts.0, all_apart name names parts.1)
 
-passed_over : {X : Type 0} (order : Ordering) (rest this : X) → is_eq order ≡ false → match_ordering order rest this rest ≡ rest
+pub passed_over : {X : Type 0} (order : Ordering) (rest this : X) → is_eq order ≡ false → match_ordering order rest this rest ≡ rest
 passed_over Less rest this h = refl
 passed_over Equal rest this h = cc
 passed_over Greater rest this h = refl

@@ -25,7 +25,7 @@ use Rattle.mv_json.proofs.MeaningLemmas.{Values, AreRead, made, made_read, parts
 use Rattle.mv_json.proofs.SpelledLemmas.{ReadsIn, read_is_spelled}
 
 -- the fields of an object are read as values that make a message
-given_read : (version : Version) (form : Form) (d : Data) (values : Values (meaning_of version form) (shape_of version form).listed) → AreRead (meaning_of version form) (shape_of version form).listed d values → message_at version form d ≡ Ok (made Message (meaning_of version form) (shape_of version form).listed (shape_of version form).makes values)
+pub given_read : (version : Version) (form : Form) (d : Data) (values : Values (meaning_of version form) (shape_of version form).listed) → AreRead (meaning_of version form) (shape_of version form).listed d values → message_at version form d ≡ Ok (made Message (meaning_of version form) (shape_of version form).listed (shape_of version form).makes values)
 unfolding message_at
 given_read version form d values h = made_read Message (meaning_of version form) (shape_of version form).listed (shape_of version form).makes d values h
 

@@ -29,13 +29,18 @@ said_of_pack version (Present batch expiry national standing recalled withdrawn)
     (fields.Batch, batch) ∷ (fields.Expiry, expiry) ∷ (fields.National, national) ∷ (fields.Recalled, recalled)
     ∷ (fields.Standing, standing) ∷ (fields.Withdrawn, withdrawn) ∷ []
 
+-- the pack that the fields of an object give
+abbrev pub present_at : Version → Data → Result Found MessageFault
+present_at version value =
+    made_at (part_of version) present_fields
+    (λ batch expiry national recalled standing withdrawn. Present batch expiry national standing recalled withdrawn) value
+
 -- the pack that the fields of an object give, which has no other key
 unfoldable pub present_of : Version → Data → Result Found MessageFault
 present_of version value =
     ok_or (as_object value) NotObject and_then λ members.
     if is_some (first_unknown (names_in version present_fields) members) then Err (Kind fields.Found)
-    else made_at (part_of version) present_fields
-    (λ batch expiry national recalled standing withdrawn. Present batch expiry national standing recalled withdrawn) value
+    else present_at version value
 
 -- what a value says was found: nothing where it is `null`; M5 of `found` where it is neither `null` nor a legal pack
 abbrev pub found_of : Version → Data → Result Found MessageFault

@@ -17,7 +17,8 @@ pub mod Shapes
 pub mod Memory
 pub mod Contents
 pub mod Messages
-pub mod PlainMessages
+pub mod Met
+pub mod Parts
 pub mod Objects
 pub mod Tokens
 pub mod Legal

@@ -5,7 +5,8 @@ ghost use Rattle.std.specs.Option.{option_map_or};
 ghost use Rattle.serde_json.specs.View.{view, members_view};
 ghost use Rattle.mv_json.specs.Reading.{GivesOr};
 ghost use Rattle.mv_json.specs.Forms.{form_named, form_at};
-ghost use Rattle.mv_json.specs.Shapes.{names_of};
+ghost use Rattle.mv_json.specs.Fields.{fields_in};
+ghost use Rattle.mv_json.specs.Shapes.{names_of, shape_of};
 ghost use Rattle.mv_json.specs.Members.{first_unknown};
 
 use crate::members::first_unknown;
@@ -76,6 +77,78 @@ impl Form {
                 Version::Two => &["batch", "expiry", "gtin", "msg", "national", "serials", "v"],
             },
             Form::Withdraw => &["at", "gtin", "msg", "v"],
+        }
+    }
+
+    /// The fields of such a message, in byte order of their names. Version 1 never has the last of them.
+    pub(crate) fn fields(self, version: Version) -> &'static [Field]
+        ensures { result.now ≡ fields_in version (shape_of version self).listed }
+    {
+        match self {
+            Form::Answer => &[
+                Field::Asker,
+                Field::Found,
+                Field::Gtin,
+                Field::Msg,
+                Field::Q,
+                Field::Serial,
+                Field::V,
+            ],
+            Form::Master => &[
+                Field::Common,
+                Field::Form,
+                Field::Gtin,
+                Field::Markets,
+                Field::Msg,
+                Field::Name,
+                Field::PackSize,
+                Field::PackType,
+                Field::Scheme,
+                Field::Strength,
+                Field::V,
+            ],
+            Form::Query => &[Field::Gtin, Field::Msg, Field::Serial, Field::V],
+            Form::Recall => &[Field::At, Field::Batch, Field::Gtin, Field::Msg, Field::V],
+            Form::Repack => &[
+                Field::AfterBatch,
+                Field::AfterGtin,
+                Field::AfterSerials,
+                Field::At,
+                Field::BeforeBatch,
+                Field::BeforeGtin,
+                Field::BeforeSerials,
+                Field::Msg,
+                Field::V,
+            ],
+            Form::Status => &[
+                Field::At,
+                Field::Gtin,
+                Field::Msg,
+                Field::Serial,
+                Field::To,
+                Field::User,
+                Field::V,
+            ],
+            Form::Upload => match version {
+                Version::One => &[
+                    Field::Batch,
+                    Field::Expiry,
+                    Field::Gtin,
+                    Field::Msg,
+                    Field::Serials,
+                    Field::V,
+                ],
+                Version::Two => &[
+                    Field::Batch,
+                    Field::Expiry,
+                    Field::Gtin,
+                    Field::Msg,
+                    Field::National,
+                    Field::Serials,
+                    Field::V,
+                ],
+            },
+            Form::Withdraw => &[Field::At, Field::Gtin, Field::Msg, Field::V],
         }
     }
 }

@@ -2,10 +2,8 @@
 
 ghost use Rattle.std.specs.Prelude.{◌≡◌, ◌≢◌, map, IfErr};
 ghost use Rattle.serde_json.specs.View.{view};
-ghost use Rattle.mv_json.specs.FieldMeanings.{part_of};
-ghost use Rattle.mv_json.specs.Fields.{names_in};
-ghost use Rattle.mv_json.specs.Found.{present_fields, present_of, found_of, found_at};
-ghost use Rattle.mv_json.specs.Meanings.{made_at};
+ghost use Rattle.mv_json.specs.Fields.{fields_in, names_in};
+ghost use Rattle.mv_json.specs.Found.{present_fields, present_at, present_of, found_of, found_at};
 ghost use Rattle.mv_json.specs.Numbers.{withdrawn_at};
 
 use crate::members::first_unknown;
@@ -67,11 +65,31 @@ fn present_names(version: Version) -> &'static [&'static str]
     }
 }
 
+/// The fields of a pack that was found, in byte order of their names.
+pub(crate) fn present_fields(version: Version) -> &'static [Field]
+    ensures { result.now ≡ fields_in version present_fields }
+{
+    match version {
+        Version::One => &[
+            Field::Batch,
+            Field::Expiry,
+            Field::Recalled,
+            Field::Standing,
+        ],
+        Version::Two => &[
+            Field::Batch,
+            Field::Expiry,
+            Field::National,
+            Field::Recalled,
+            Field::Standing,
+            Field::Withdrawn,
+        ],
+    }
+}
+
 /// The pack that the fields of an object give.
 fn present_at(value: &Value, version: Version) -> Result<Found, MessageFault>
-    ensures { result ≡ made_at (part_of version) present_fields
-        (λ batch expiry national recalled standing withdrawn.
-        Found.Present batch expiry national standing recalled withdrawn) (view value.now) }
+    ensures { result ≡ present_at version (view value.now) }
 {
     let batch = batch_at(value, Field::Batch)?;
     let expiry = expiry_at(value, Field::Expiry)?;

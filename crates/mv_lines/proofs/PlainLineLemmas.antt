@@ -1,5 +1,5 @@
 -- What a line that is plainly written asks.
-use Rattle.std.proofs.Common.{◌≡◌, ℕ, suc, ◌<◌, ◌^◌, List, [], ◌∷◌, Some, ap, ◌∙◌, lt-ltb}
+use Rattle.std.proofs.Common.{◌≡◌, ℕ, suc, ◌<◌, ◌^◌, List, [], ◌∷◌, Some, ap, ◌∙◌, arith, lt-ltb}
 use Rattle.std.specs.Prelude.{Option, None, IfSome, Ok, IsUtf8}
 use Rattle.json.specs.Json.{Json, value, items, members}
 use Rattle.json.specs.Json as json
@@ -16,6 +16,7 @@ use Rattle.mv_pack.specs.Code.{read_code}
 use Rattle.mv_pack.specs.Gtin.{read_gtin}
 use Rattle.mv_pack.specs.Keys.{pack_key}
 use Rattle.mv_json.specs.Messages.{read_message}
+use Rattle.mv_json.proofs.MetLemmas.{converted_some}
 use Rattle.mv_json.proofs.ValueLemmas.{utf8_test}
 use Rattle.mv_lines.specs.Fields.{field_name}
 use Rattle.mv_lines.specs.Kinds.{kind_at, kind_named}
@@ -180,12 +181,13 @@ verify_asks name ts second third gtin serial n named (a, coded, code_on) party (
 
 pub submit_asks : (name : List ℕ) (ts more : List Token) (n : ℕ) (message : Message) → kind_named name ≡ Some kinds.Submit
     → HasNumber ts fields.From n more → HasMessage more message last → Asks name ts (steps.Submit n message)
-submit_asks name ts more n message named from (rest, is, (found, (parsed, value_is, read_is), read)) = (
-  _,
-  ap (λ r. value_of (line_tokens name r)) (from.2 ∙ ap (λ r. field_tokens fields.From from.0 r) is)
-      ∙ submit_value name from.0 n rest parsed found from.1 (value_is 124) read_is,
-  submit_request name n found message named from.1.1 read,
-)
+submit_asks name ts more n message named from (rest, is, (found, begins, read)) =
+    let parsed = converted_some of_json (value 126 rest) found last (begins 126 (omega arith)) in (
+      _,
+      ap (λ r. value_of (line_tokens name r)) (from.2 ∙ ap (λ r. field_tokens fields.From from.0 r) is)
+          ∙ submit_value name from.0 n rest parsed.0 found from.1 parsed.1 parsed.2,
+      submit_request name n found message named from.1.1 read,
+    )
 
 pub route_asks : (name : List ℕ) (ts : List Token) (m : ℕ) → kind_named name ≡ Some kinds.Route → HasNumber ts fields.From m last
     → Asks name ts (steps.Route m)

@@ -6,7 +6,7 @@ use Rattle.serde_json.specs.Data.{Data, unsigned}
 use Rattle.serde_json.specs.Read.{number_of, of_json, max_depth}
 use Rattle.mv_machine.specs.declared.step.Step.{Step}
 use Rattle.mv_message.specs.declared.message.Message.{Message}
-use Rattle.mv_json.specs.PlainMessages.{BeginWithMessage}
+use Rattle.mv_json.specs.Parts.{BeginWithMessage}
 use Rattle.mv_lines.specs.Fields.{field_name}
 use Rattle.mv_lines.specs.Requests.{read_request}
 use Rattle.mv_lines.specs.declared.field.LineField.{LineField}

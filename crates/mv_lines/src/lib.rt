@@ -13,7 +13,7 @@
 //!     alloc: Global,
 //!     task: Task,
 //!     reader: &mut Script<'_>,
-//!     writer: &mut Sink,
+//!     writer: &mut Tray,
 //! ) -> Result<(), ServeFault> {
 //!     match task {
 //!         Task::Steps => serve(alloc, reader, writer),

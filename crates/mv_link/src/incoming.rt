@@ -58,6 +58,9 @@ impl Incoming {
         ensures value { result ≡ look_at self.now frame.now.number }
         // Where it is the next it is accepted behind what was; where it is not, what is accepted stays as it was.
         ensures accepted { IsAcceptedAs self.now frame.now result }
+        // Where it is the next there is one more number for it.
+        ensures next { result ≡ Look.Next → frame.now.number ≡ self.now + 1 }
+        ensures counted { result ≡ Look.Next → self.now < NUMBER_LIMIT }
     {
         if frame.number <= self.count {
             return Look::Old;

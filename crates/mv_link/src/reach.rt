@@ -45,14 +45,4 @@ impl Reach {
     {
         self.parties.as_slice()
     }
-
-    /// A set of its own of the same parties. It takes no memory.
-    pub fn copy(&self) -> Reach
-        ensures { result ≡ self.now }
-    {
-        let Ok(copied) = self.parties.clone() else {
-            unreachable!();
-        };
-        Reach { parties: copied }
-    }
 }

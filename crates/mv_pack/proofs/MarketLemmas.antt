@@ -1,5 +1,5 @@
 -- Texts of capital letters.
-use Rattle.std.proofs.Common.{◌≡◌, ℕ, ◌<◌, List, true, length, ◌&&◌, ap, ◌∙◌, subst, arith}
+use Rattle.std.proofs.Common.{◌≡◌, ℕ, ◌<◌, ◌≤◌, List, [], ◌∷◌, get_or, true, length, ◌&&◌, ap, ◌∙◌, subst, arith}
 use Rattle.std.specs.Prelude.{IsUtf8, ◌==◌, cond, Ok, Err}
 use Rattle.std.specs.List.{list_all}
 use Rattle.std.proofs.lemmas.Bool.{and_parts}
@@ -30,3 +30,11 @@ pub read_market_of : (m : List ℕ) → IsMarket m → read_market m ≡ Ok m
 read_market_of m h =
     ap (λ n. cond ((n == 2) && list_all is_capital m) (Ok m) (Err Market)) h.0
     ∙ ap (λ b. cond b (Ok m) (Err Market)) h.1
+
+-- both letters of a market are capitals
+pub letters_within : (m : List ℕ) → IsMarket m
+    → (65 ≤ get_or m 0 0) × (get_or m 0 0 ≤ 90) × (65 ≤ get_or m 1 0) × (get_or m 1 0 ≤ 90)
+letters_within [] h = absurd (omega (arith, h.0))
+letters_within (a ∷ []) h = absurd (omega (arith, h.0))
+letters_within (a ∷ b ∷ []) h = grind (arith, nat_tests, h.1)
+letters_within (a ∷ b ∷ c ∷ m) h = absurd (omega (arith, h.0))

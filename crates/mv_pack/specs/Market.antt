@@ -1,5 +1,5 @@
 -- Markets: the Member States that a product is sold in, by the two capital letters of ISO 3166-1.
-use Rattle.std.specs.Prelude.{◌≡◌, ℕ, ◌==◌, ◌&&◌, Bool, List, length, nat_le, if◌then◌else◌, IsTrue, Result, Ok, Err}
+use Rattle.std.specs.Prelude.{◌≡◌, ℕ, ◌+◌, ◌-◌, ◌*◌, ◌==◌, ◌&&◌, Bool, List, length, slice_index, nat_le, if◌then◌else◌, IsTrue, Result, Ok, Err}
 use Rattle.std.specs.List.{list_all}
 use Rattle.mv_pack.specs.declared.fault.PackFault.{PackFault}
 use Rattle.mv_pack.specs.declared.fault.PackFault.TheVariants.{Market}
@@ -15,3 +15,7 @@ IsMarket text = (length text ≡ 2) × IsTrue (list_all is_capital text)
 -- what reading a text gives: the market, or the fault
 abbrev pub read_market : List ℕ → Result (List ℕ) PackFault
 read_market text = if (length text == 2) && list_all is_capital text then Ok text else Err Market
+
+-- the place of a market among all that there can be, in the order of their letters, from 0
+abbrev pub place_of : List ℕ → ℕ
+place_of market = (slice_index market 0 - 65) * 26 + (slice_index market 1 - 65)

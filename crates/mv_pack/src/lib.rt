@@ -31,5 +31,5 @@ pub use expiry::Expiry;
 pub use fault::PackFault;
 pub use gtin::Gtin;
 pub use key::{BatchKey, PackKey};
-pub use market::Market;
+pub use market::{MARKETS_LIMIT, Market};
 pub use moment::{Moment, YEAR_2100};

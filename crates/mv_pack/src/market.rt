@@ -1,12 +1,15 @@
 //! Markets, by the two letters of the Member State.
 
-ghost use Rattle.std.specs.Prelude.{◌≡◌, ◌↔◌, IsOk, length};
+ghost use Rattle.std.specs.Prelude.{◌≡◌, ◌<◌, ◌↔◌, IsOk, length};
 ghost use Rattle.std.specs.List.{list_all};
-ghost use Rattle.mv_pack.specs.Market.{is_capital, read_market, IsMarket};
+ghost use Rattle.mv_pack.specs.Market.{is_capital, read_market, place_of, IsMarket};
 
 use crate::PackFault;
 use std::marker::Model;
 use std::str;
+
+/// How many markets there can be: each has two letters of 26.
+pub const MARKETS_LIMIT: usize = 676;
 
 /// A Member State where a product is sold, by its two capital letters, as `FI`.
 #[derive(Clone, Copy, Debug, PartialEq, Eq, PartialOrd, Ord, Hash)]
@@ -53,6 +56,17 @@ impl Market {
             unreachable!();
         };
         text
+    }
+
+    /// Its place among all markets that there can be, in the order of their letters, from 0.
+    #[tactic(auto, using(crate::proofs::MarketLemmas::letters_within))]
+    pub fn place(&self) -> usize
+        ensures value { result ≡ place_of self.now }
+        ensures within { result < MARKETS_LIMIT }
+        ensures market { IsMarket self.now }
+    {
+        let [first, second] = self.letters;
+        usize::from(first - b'A') * 26 + usize::from(second - b'A')
     }
 }
 

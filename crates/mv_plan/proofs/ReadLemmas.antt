@@ -1,13 +1,16 @@
 -- Lemmas on an input that was read.
-use Rattle.std.proofs.Common.{◌≡◌, ℕ, List, [], ◌∷◌, ap, sym, ◌∙◌}
+use Rattle.std.proofs.Common.{◌≡◌, ◌≢◌, ℕ, List, [], ◌∷◌, refl, ap, sym, ◌∙◌}
 use Rattle.std.specs.Prelude.{IfSome, Option, Some, None, Ok, true, false, is_some, option_map}
 use Rattle.std.specs.List.{fold}
-use Rattle.mv_lines.specs.Replies.{AreReplies}
-use Rattle.mv_lines.specs.Served.{Served}
+use Rattle.std.specs.Io.KnownBytes.{Consumes}
+use Rattle.mv_lines.specs.declared.fault.ServeFault.{ServeFault}
+use Rattle.mv_lines.specs.declared.fault.ServeFault.TheVariants.{Read, Write, Memory, TooManyLines, LineTooLong, Start}
+use Rattle.mv_lines.specs.Replies.{ReplyRule, AreReplies}
+use Rattle.mv_lines.specs.Served.{Served, Ended}
 use Rattle.mv_lines.specs.Lines.{pieces, lines_of}
 use Rattle.mv_plan.specs.Planning.{Planned, IsPlanned, planned_by, plan_line}
 use Rattle.mv_plan.specs.Drafts.{Parts}
-use Rattle.mv_plan.specs.Reading.{IsRead}
+use Rattle.mv_plan.specs.Reading.{IsRead, Unread}
 
 -- where no line was refused, the next is planned
 pub planned_next : {A : Type 0} (bytes : A → List ℕ) (refusal : Option A) (draft : Option Parts) (planned after : Planned) (line : List ℕ)
@@ -37,3 +40,20 @@ read_whole (Some bytes) before after planned old new nothing same served = (
   served.kept,
   same ∙ are_planned before (lines_of (pieces bytes)) _ after served.replied.2 ∙ ap (λ p. fold plan_line p (lines_of (pieces bytes))) nothing,
 )
+
+-- why the answering of lines ended is why they were not read
+pub unread : {S : Type 0} (rule : ReplyRule S) (fault : ServeFault) (before : S) (input rest old new : Option (List ℕ)) → fault ≢ Write
+    → (bytes : List ℕ) × Consumes input rest bytes × Ended rule fault before bytes old new → Unread fault input rest
+unread rule Read before input rest old new read (bytes, took, ended) = (bytes, took, ended.1)
+unread rule Write before input rest old new read (bytes, took, ended) = absurd (read refl)
+unread rule Start before input rest old new read (bytes, took, (out, written, stopped)) = absurd stopped.why
+unread rule Memory before input rest old new read (bytes, took, (out, written, stopped)) =
+    (bytes, took, (stopped.good, stopped.bad, stopped.cut, stopped.why, stopped.kept))
+unread rule TooManyLines before input rest old new read (bytes, took, (out, written, stopped)) =
+    (bytes, took, (stopped.good, stopped.bad, stopped.cut, stopped.why, stopped.kept))
+unread rule LineTooLong before input rest old new read (bytes, took, (out, written, stopped)) =
+    (bytes, took, (stopped.good, stopped.bad, stopped.cut, stopped.why, stopped.kept))
+
+-- memory may be refused before anything was read
+pub unread_memory : (input rest : Option (List ℕ)) (bytes : List ℕ) → Consumes input rest bytes → Unread Memory input rest
+unread_memory input rest bytes took = (bytes, took, ([], bytes, refl, tt, tt))

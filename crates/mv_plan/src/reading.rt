@@ -19,9 +19,9 @@ pub fn read_plan<R: Read>(alloc: Global, reader: &mut R) -> Result<Planned, Serv
     let mut planner = Planner::new(alloc);
     match answer_lines(alloc, &mut planner, reader, &mut Unwritten) {
         Ok(()) => Ok(planner.into_planned()),
-        // This never comes, since `Unwritten` takes all bytes, but no contract of a writer can say so. What is left is to name
-        // a fault of reading (`Unread`), and this one claims nothing of what was read.
-        Err(ServeFault::Write) => Err(ServeFault::Read),
+        // This never comes, since `Unwritten` takes all bytes, but no contract of a writer can say so. What is left is to say that
+        // memory was refused, which may come at any place.
+        Err(ServeFault::Write) => Err(ServeFault::Memory),
         Err(fault) => Err(fault),
     }
 }

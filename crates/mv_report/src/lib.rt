@@ -1,8 +1,7 @@
 //! The report of a run: what is gathered of its ends, as a table of texts.
 //!
 //! The program's inside is its user. The contract: [`report`] writes `report_text` of the state that an outcome is, by the
-//! definitions in `specs/`. [`last_report`] and [`give_back`] take the outcome too, so that whoever calls them needs no proof of how each of
-//! its parts is dropped. This crate knows no plan, no thread and no line.
+//! definitions in `specs/`. This crate knows no plan, no thread and no line.
 //!
 //! It can be used alone, with the crates that its line of crates.txt names.
 //! A caller that compares a report, proved in the gate (`thread_rows`):
@@ -19,4 +18,4 @@
 
 mod reporting;
 
-pub use reporting::{give_back, last_report, report};
+pub use reporting::report;

@@ -30,18 +30,6 @@ pub fn report(alloc: Global, outcome: &Outcome) -> Result<String, AllocError>
     Ok(text)
 }
 
-/// The same report of an outcome that is needed no more: its memory is given back.
-pub fn last_report(alloc: Global, outcome: Outcome) -> Result<String, AllocError>
-    ensures { IfOk result (λ text. string_bytes text ≡ report_text outcome) }
-{
-    report(alloc, &outcome)
-}
-
-/// Gives the memory of an outcome back of which nothing is reported.
-pub fn give_back(outcome: Outcome) {
-    let _outcome = outcome;
-}
-
 /// Writes the line of a party.
 fn push_party(
     alloc: Global,

@@ -20,10 +20,25 @@ const STATUS: &str =
 const PLAIN_UPLOAD: &str =
     "{\"batch\":\"B1\",\"expiry\":\"280200\",\"gtin\":\"9506000134352\",\"msg\":\"upload\",\"serials\":[\"S1\",\"S2\"]}";
 
-/// What is no message that is plainly written: keys in another order, a key twice, one too few and one too many, a list with
-/// none, one that goes on behind its last member, a moment with an exponent and one that is past, a message of version 2, and one of another form.
-const NOT_PLAIN: [&str; 10] = [
-    "{\"gtin\":\"09506000134352\",\"at\":1800000000,\"msg\":\"status\",\"serial\":\"S1\",\"to\":\"free_sample\",\"user\":\"u1\"}",
+/// Messages with their keys in any order, with blanks and escapes, and the same in byte order of the keys.
+const IN_ANY_ORDER: [(&str, &str); 3] = [
+    (
+        "{ \"msg\": \"status\", \"gtin\": \"09506000134352\", \"serial\": \"S1\", \"user\": \"u1\", \"to\": \"free_sample\", \"at\": 1800000000 }",
+        STATUS,
+    ),
+    (
+        "{\"v\":2,\"m\\u0073g\":\"upload\",\"serials\":[\"S1\",\"\\u00532\"],\"national\":\"123456\",\"gtin\":\"9506000134352\",\"batch\":\"B1\",\"expiry\":\"280200\"}",
+        UPLOAD,
+    ),
+    (
+        "{\"msg\":\"answer\",\"found\":{\"withdrawn\":true,\"standing\":\"supplied\",\"recalled\":true,\"national\":null,\"expiry\":\"280229\",\"batch\":\"B1\"},\"v\":2,\"asker\":2,\"q\":1,\"gtin\":\"09506000134352\",\"serial\":\"S1\"}",
+        ANSWER,
+    ),
+];
+
+/// What is no message, or has a key twice: one too few and one too many, a list with none, one that goes on behind its last member, a
+/// moment with an exponent and one that is past, what came with the second version in the first, and a key of another form.
+const NOT_TAKEN: [&str; 10] = [
     "{\"at\":1800000000,\"at\":1800000000,\"gtin\":\"09506000134352\",\"msg\":\"status\",\"serial\":\"S1\",\"to\":\"free_sample\",\"user\":\"u1\"}",
     "{\"at\":1800000000,\"gtin\":\"09506000134352\",\"msg\":\"status\",\"serial\":\"S1\",\"to\":\"free_sample\"}",
     "{\"at\":1800000000,\"gtin\":\"09506000134352\",\"msg\":\"status\",\"serial\":\"S1\",\"to\":\"free_sample\",\"user\":\"u1\",\"v\":1}",
@@ -31,8 +46,9 @@ const NOT_PLAIN: [&str; 10] = [
     "{\"batch\":\"B1\",\"expiry\":\"280200\",\"gtin\":\"9506000134352\",\"msg\":\"upload\",\"serials\":[\"S1\",]}",
     "{\"at\":18e8,\"gtin\":\"09506000134352\",\"msg\":\"status\",\"serial\":\"S1\",\"to\":\"free_sample\",\"user\":\"u1\"}",
     "{\"at\":4102444800,\"gtin\":\"09506000134352\",\"msg\":\"status\",\"serial\":\"S1\",\"to\":\"free_sample\",\"user\":\"u1\"}",
-    UPLOAD,
-    QUERY,
+    "{\"batch\":\"B1\",\"expiry\":\"280200\",\"gtin\":\"9506000134352\",\"msg\":\"upload\",\"national\":null,\"serials\":[\"S1\"]}",
+    "{\"at\":1800000000,\"gtin\":\"9506000134352\",\"msg\":\"withdraw\"}",
+    "{\"gtin\":\"9506000134352\",\"msg\":\"query\",\"serial\":\"S1\",\"user\":\"u1\"}",
 ];
 
 const RECALL: &str =
@@ -159,7 +175,7 @@ fn recall(alloc: Global, gtin: &str, batch: &str, at: u64) -> Option<Shared<Mess
     Shared::new(alloc, Message::Recall { key, at }).ok()
 }
 
-/// The message that the tokens of a text plainly are.
+/// The message that the tokens of a text are.
 fn taken(alloc: Global, text: &str) -> Option<Shared<Message>> {
     let mut scratch = Scratch::new(alloc);
     let mut reader = Reader::new(text, &mut scratch).ok()?;
@@ -201,6 +217,11 @@ fn upload(alloc: Global) -> Option<Shared<Message>> {
 fn are_taken(alloc: Global) -> Option<bool> {
     let is_status = taken(alloc, STATUS)? == status(alloc)?;
     Some(is_status && taken(alloc, PLAIN_UPLOAD)? == upload(alloc)?)
+}
+
+/// Whether the message that is taken from the tokens of a text is the one that is read from another.
+fn is_taken(alloc: Global, text: &str, other: &str) -> Option<bool> {
+    Some(taken(alloc, text)? == shared(alloc, other)?)
 }
 
 /// Whether the recall that is made of its values is the one that is read from a text.
@@ -361,7 +382,13 @@ fn makes_a_message_of_its_values(rt: HostRuntime) {
 #[test]
 fn takes_a_message_by_its_tokens(rt: HostRuntime) {
     assert_eq!(rt; are_taken(rt.alloc()), Some(true));
-    for text in NOT_PLAIN {
+    for text in CANONICAL {
+        assert_eq!(rt; is_taken(rt.alloc(), text, text), Some(true), "at {text}");
+    }
+    for (text, same) in IN_ANY_ORDER {
+        assert_eq!(rt; is_taken(rt.alloc(), text, same), Some(true), "at {text}");
+    }
+    for text in NOT_TAKEN {
         assert_eq!(rt; taken(rt.alloc(), text).is_none(), true, "at {text}");
     }
 }

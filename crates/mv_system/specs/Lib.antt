@@ -1,2 +1,10 @@
 pub mod Wire
 pub mod World
+pub use Rattle.mv_machine.specs.Limits
+pub use Rattle.mv_machine.specs.Replies
+pub use Rattle.mv_machine.specs.State
+pub use Rattle.mv_machine.specs.Steps
+pub use Rattle.mv_machine.specs.Runs
+pub use Rattle.mv_machine.specs.Lawful
+pub use Rattle.mv_machine.specs.Closing
+pub use Rattle.mv_machine.specs.Headline

@@ -3,7 +3,7 @@
 //! `mv_lines` is its user: it opens a system, and takes the steps that lines ask for. The contract: a `World` is seen as the
 //! state of the list machine; each step is one that the list machine allows, and every run leaves a lawful state: what a
 //! repository applied from each sender is a prefix of what the record put on their link, in order and each once. This crate
-//! knows no JSON and no line of the program.
+//! knows no JSON and no line of the program. The types of its steps, replies and limits are those of `mv_machine`, handed on.
 //!
 //! It can be used alone, with the crates that its line of crates.txt names.
 //! A caller that opens a system, proved in the gate (`mv_cases`):
@@ -21,4 +21,5 @@ mod opening;
 mod wire;
 mod world;
 
+pub use mv_machine::{Limits, LimitsFault, Refusal, Reply, Step};
 pub use world::World;

@@ -3,11 +3,13 @@ use Rattle.std.proofs.Common.{◌≡◌, ℕ, List, ◌++◌, refl, ap, sym, ◌
 use Rattle.std.proofs.lemmas.List.{length-map}
 use Rattle.std.specs.declared.alloc.Global.{Global}
 use Rattle.std.specs.declared.vec.Vec.{Vec}
-use Rattle.std.specs.Prelude.{IfOk, IfSome, Option, Some, None, Result, Ok, Err, Bool, true, false}
+use Rattle.std.specs.Prelude.{◌↔◌, IsTrue, IfOk, IfErr, IfSome, Option, Some, None, Result, Ok, Err, Bool, true, false}
 use Rattle.mv_machine.specs.State.{State}
 use Rattle.mv_workers.specs.declared.plan.Plan.{Plan}
 use Rattle.mv_message.specs.declared.message.Message.{Message}
-use Rattle.mv_workers.specs.Plans.{IsSound, KeepsPlan, IsComplete}
+use Rattle.mv_workers.specs.declared.plan.WorkFault.{WorkFault}
+use Rattle.mv_workers.specs.declared.plan.WorkFault.TheVariants as faults
+use Rattle.mv_workers.specs.Plans.{IsSound, KeepsPlan, IsComplete, Faults}
 use Rattle.mv_tool.specs.declared.working.Output.{Output}
 use Rattle.mv_lines.specs.declared.fault.ServeFault.{ServeFault}
 use Rattle.mv_lines.specs.declared.fault.ServeFault.TheVariants.{Memory, Start}
@@ -16,7 +18,7 @@ use Rattle.mv_report.specs.Report.{report_text}
 use Rattle.mv_plan.specs.Planning.{Planned}
 use Rattle.mv_plan.specs.Reading.{IsRead}
 use Rattle.mv_lines.specs.Output.{WrotePart}
-use Rattle.mv_tool.specs.Working.{end_line, IsReported, IsOutput, IsWorked, Worked, Failed}
+use Rattle.mv_tool.specs.Working.{end_line, Written, report_of, output_of, IsReported, IsOutput, IsWorked, Worked, Failed}
 use Rattle.std.specs.Io.KnownBytes.{Appends, Keeps}
 
 -- a plan of parts that can be run can be run
@@ -29,33 +31,55 @@ sound_of plan parts same runs =
       no_answers = λ party below. kept.no_answers party (omega (arith, below, count));
     }
 
--- the report of a complete outcome
-pub finished_output : {E : Type 0} (r : Result Output E) (plan : Plan) (outcome : State) → KeepsPlan plan outcome → IsComplete plan outcome
-    → IfOk r (λ output. string_bytes output.text ≡ report_text outcome ++ end_line true) → IfOk r (λ output. output.finished ≡ true)
-    → IfOk r (λ output. IsReported (parts_in plan.parties plan.limits plan.work.items) (string_bytes output.text) output.finished)
-finished_output (Ok output) plan outcome keeps complete text done = record {
-  plan = plan;
-  planned = refl;
-  outcome = outcome;
-  keeps = keeps;
-  complete = (λ is. complete, λ is. done);
-  text = text ∙ ap (λ finished. report_text outcome ++ end_line finished) (sym done);
-}
-finished_output (Err e) plan outcome keeps complete text done = tt
+-- what was reported is what is written of an outcome
+pub written : {E : Type 0} (r : Result Output E) (outcome : State) (finished : Bool)
+    → IfOk r (λ output. string_bytes output.text ≡ report_text outcome ++ end_line finished) → IfOk r (λ output. output.finished ≡ finished)
+    → IfOk r (λ output. Ok {E = ServeFault} (report_of finished outcome) ≡ Ok (record { text = string_bytes output.text; finished = output.finished }))
+written (Ok output) outcome finished text done = rw (text, done) refl
+written (Err e) outcome finished text done = tt
 
--- the report of an outcome that is not complete
-pub unfinished_output : {E : Type 0} (r : Result Output E) (plan : Plan) (outcome : State) → KeepsPlan plan outcome → (IsComplete plan outcome → ⊥)
-    → IfOk r (λ output. string_bytes output.text ≡ report_text outcome ++ end_line false) → IfOk r (λ output. output.finished ≡ false)
-    → IfOk r (λ output. IsReported (parts_in plan.parties plan.limits plan.work.items) (string_bytes output.text) output.finished)
-unfinished_output (Ok output) plan outcome keeps incomplete text left = record {
-  plan = plan;
-  planned = refl;
-  outcome = outcome;
-  keeps = keeps;
-  complete = (λ is. absurd (true≢false (sym is ∙ left)), λ complete. absurd (incomplete complete));
-  text = text ∙ ap (λ finished. report_text outcome ++ end_line finished) (sym left);
-}
-unfinished_output (Err e) plan outcome keeps incomplete text left = tt
+-- what is written, where something is
+written_in : Written → Result Written ServeFault → Written
+written_in other (Ok it) = it
+written_in other (Err fault) = other
+
+-- what is written of an outcome of a plan is its report
+reported_as : (output : Output) (plan : Plan) (outcome : State) (finished : Bool) → KeepsPlan plan outcome → IsTrue finished ↔ IsComplete plan outcome
+    → report_of finished outcome ≡ record { text = string_bytes output.text; finished = output.finished }
+    → IsReported (parts_in plan.parties plan.limits plan.work.items) (string_bytes output.text) output.finished
+reported_as output plan outcome finished keeps complete is =
+    let done : finished ≡ output.finished = ap (λ (it : Written). it.finished) is in
+    record {
+      plan = plan;
+      planned = refl;
+      outcome = outcome;
+      keeps = keeps;
+      complete = subst (λ told. IsTrue told ↔ IsComplete plan outcome) done complete;
+      text = sym (ap (λ (it : Written). it.text) is) ∙ ap (λ told. report_text outcome ++ end_line told) done;
+    }
+
+-- what is written of the run of a plan is the report of an outcome of it
+pub run_reported : (output : Output) (plan : Plan) (ran : Result State WorkFault)
+    → IfOk ran (λ outcome. IsSound plan × KeepsPlan plan outcome × IsComplete plan outcome) → IfErr ran (λ fault. Faults plan fault)
+    → output_of ran ≡ Ok (record { text = string_bytes output.text; finished = output.finished })
+    → IsReported (parts_in plan.parties plan.limits plan.work.items) (string_bytes output.text) output.finished
+run_reported output plan (Ok outcome) kept fails is =
+    reported_as output plan outcome true kept.1 (λ told. kept.2, λ complete. refl) (ap (written_in (report_of true outcome)) is)
+run_reported output plan (Err (faults.Unfinished outcome)) kept fails is =
+    reported_as output plan outcome false fails.1 (λ told. absurd (true≢false (sym told)), λ complete. absurd (fails.2 complete))
+    (ap (written_in (report_of false outcome)) is)
+run_reported output plan (Err (faults.Memory outcome)) kept fails is = absurd (cc)
+run_reported output plan (Err faults.Start) kept fails is = absurd (cc)
+run_reported output plan (Err faults.Plan) kept fails is = absurd (cc)
+
+-- why nothing is written of a run
+pub run_fails : (fault : ServeFault) (ran : Result State WorkFault) → (fault ≡ Memory) ⊎ (output_of ran ≡ Err fault) → (fault ≡ Memory) ⊎ (fault ≡ Start)
+run_fails fault ran (inl memory) = inl memory
+run_fails fault (Ok outcome) (inr is) = absurd (cc)
+run_fails fault (Err (faults.Unfinished outcome)) (inr is) = absurd (cc)
+run_fails fault (Err (faults.Memory outcome)) (inr is) = inl (cc)
+run_fails fault (Err faults.Start) (inr is) = inr (cc)
+run_fails fault (Err faults.Plan) (inr is) = inr (cc)
 
 -- the output of an input that was read went out
 pub worked_whole : (input : Option (List ℕ)) (planned : Planned) (old new : Option (List ℕ)) (text out : List ℕ) (finished : Bool)
@@ -85,6 +109,6 @@ keeps_itself (Some bytes) = refl
 pub work_stopped : (fault : ServeFault) (planned : Planned) (input rest contents : Option (List ℕ))
     → (fault ≡ Memory) ⊎ ((fault ≡ Start) × ((parts : Parts) × (planned ≡ Ok (Some parts)))) → IfSome input (λ bytes. IsRead bytes planned)
     → Failed fault input rest contents contents
-work_stopped fault planned input rest contents (inl memory) read = rw memory (keeps_itself contents, tt)
+work_stopped fault planned input rest contents (inl memory) read = rw memory (keeps_itself contents)
 work_stopped fault planned None rest contents (inr (start, plans)) read = rw start (keeps_itself contents, tt)
 work_stopped fault planned (Some bytes) rest contents (inr (start, (parts, is))) read = rw start (keeps_itself contents, (parts, subst (IsRead bytes) is read))

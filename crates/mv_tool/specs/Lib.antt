@@ -1,3 +1,12 @@
 pub mod Statuses
 pub mod Working
 pub mod Commands
+pub use Rattle.mv_words.specs.Words
+pub use Rattle.mv_lines.specs.Lines
+pub use Rattle.mv_lines.specs.Replies
+pub use Rattle.mv_lines.specs.Sessions
+pub use Rattle.mv_lines.specs.Canon
+pub use Rattle.mv_lines.specs.Served
+pub use Rattle.mv_plan.specs.Planning
+pub use Rattle.mv_plan.specs.Reading
+pub use Rattle.mv_report.specs.Report

@@ -1,12 +1,14 @@
 -- What `work` writes.
-use Rattle.std.specs.Prelude.{◌≡◌, ◌↔◌, ℕ, List, ◌∷◌, [], ◌++◌, codes, Bool, false, IsTrue, if◌then◌else◌, Option, Some, None, Ok, Err, IfSome}
+use Rattle.std.specs.Prelude.{◌≡◌, ◌↔◌, ℕ, List, ◌∷◌, [], ◌++◌, codes, Bool, true, false, IsTrue, if◌then◌else◌, Option, Some, None, Result, Ok, Err, IfSome}
 use Rattle.std.specs.Io.KnownBytes.{Appends, Keeps}
 use Rattle.serde_json.specs.Written.{compact_text}
 use Rattle.mv_machine.specs.State.{State}
 use Rattle.mv_workers.specs.declared.plan.Plan.{Plan}
+use Rattle.mv_workers.specs.declared.plan.WorkFault.{WorkFault}
+use Rattle.mv_workers.specs.declared.plan.WorkFault.TheVariants as faults
 use Rattle.mv_workers.specs.Plans.{KeepsPlan, IsComplete}
 use Rattle.mv_lines.specs.declared.fault.ServeFault.{ServeFault}
-use Rattle.mv_lines.specs.declared.fault.ServeFault.TheVariants.{Write, Start}
+use Rattle.mv_lines.specs.declared.fault.ServeFault.TheVariants.{Write, Memory, Start}
 use Rattle.mv_lines.specs.declared.open_fault.OpenFault.TheVariants.{NotOpen}
 use Rattle.mv_lines.specs.Openings.{code_of}
 use Rattle.mv_lines.specs.Output.{WrotePart}
@@ -19,6 +21,23 @@ use Rattle.mv_report.specs.Report.{report_text}
 -- the last line: whether the plan was finished
 abbrev pub end_line : Bool → List ℕ
 end_line finished = if finished then codes "finished\n" else codes "unfinished\n"
+
+-- what is written, and whether the plan was finished
+pub record Written : Type 0 where
+  pub text : List ℕ
+  pub finished : Bool
+
+-- what is written of an outcome
+abbrev pub report_of : Bool → State → Written
+report_of finished outcome = record { text = report_text outcome ++ end_line finished; finished = finished }
+
+-- What is written of what a run came to. The run of a plan that can't be run was not started.
+abbrev pub output_of : Result State WorkFault → Result Written ServeFault
+output_of (Ok outcome) = Ok (report_of true outcome)
+output_of (Err (faults.Unfinished outcome)) = Ok (report_of false outcome)
+output_of (Err (faults.Memory outcome)) = Err Memory
+output_of (Err faults.Start) = Err Start
+output_of (Err faults.Plan) = Err Start
 
 -- The output is the report of an outcome of the plan, and says that it is finished exactly where that is complete.
 pub record IsReported (parts : Parts) (out : List ℕ) (finished : Bool) : Type 0 where
@@ -51,4 +70,5 @@ abbrev pub Failed : ServeFault → Option (List ℕ) → Option (List ℕ) → O
 Failed Write input rest old new =
     IfSome input (λ bytes. (out : List ℕ) × (finished : Bool) × IsWorked bytes out finished × WrotePart out old new)
 Failed Start input rest old new = Keeps old new × IfSome input (λ bytes. (parts : Parts) × IsRead bytes (Ok (Some parts)))
+Failed Memory input rest old new = Keeps old new
 Failed fault input rest old new = Keeps old new × Unread fault input rest

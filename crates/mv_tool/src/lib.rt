@@ -4,7 +4,7 @@
 //! status that it answers. The contract: `command` runs the one of `steps`, `canon` and `work` that its words name; `work`
 //! writes the first refusal of the lines, or the report of what became of the plan that they are. What words ask for
 //! is `mv_words`, how lines are read and answered `mv_lines`, what they plan `mv_plan`, how a plan is run `mv_workers`, and its report
-//! `mv_report`.
+//! `mv_report`. A caller finds all calls of the program here: [`serve`], [`canon`], [`work`], [`report`] and [`command`].
 //!
 //! It can be used alone, with the crates that its line of crates.txt names.
 //! A caller that carries out a plan, proved in the gate (`thread_rows`):
@@ -32,5 +32,8 @@ mod status;
 mod working;
 
 pub use command_line::command;
+pub use mv_lines::{ServeFault, canon, serve};
+pub use mv_report::report;
+pub use mv_workers::{Gate, NoGate};
 pub use status::Status;
 pub use working::work;

@@ -5,16 +5,17 @@ ghost use Rattle.mv_workers.specs.Plans.{IsSound};
 ghost use Rattle.mv_plan.specs.Planning.{planned_of};
 ghost use Rattle.mv_plan.specs.Drafts.{Parts, parts_in};
 ghost use Rattle.mv_report.specs.Report.{report_text};
-ghost use Rattle.mv_tool.specs.Working.{end_line, IsReported, IsOutput, Worked, Failed};
+ghost use Rattle.mv_tool.specs.Working.{end_line, output_of, IsReported, IsOutput, Worked, Failed};
 
 use mv_ends::Outcome;
 use mv_lines::{OpenFault, ServeFault, put_out, refusal_text};
 use mv_plan::{Draft, Planned, read_plan};
-use mv_report::{give_back, last_report};
+use mv_report::report;
 use mv_workers::{Gate, Plan, WorkFault, run_workers};
 use std::alloc::Global;
 use std::io::{Read, Write};
 use std::marker::Sync;
+use std::mem;
 use std::sync::Wait;
 use std::thread::Threads;
 
@@ -32,6 +33,8 @@ struct Output {
 ///
 /// All lines are read before anything is written or started. Where one is refused, its refusal is all that is written, that of the
 /// first, and nothing is started.
+///
+/// It is the last thing in a process: what was gathered is not taken apart, since the process gives all its memory back at once.
 pub fn work<H: Threads + Wait + Sync, R: Read, W: Write, G: Gate>(
     rt: &H,
     alloc: Global,
@@ -112,25 +115,37 @@ fn run<H: Threads + Wait + Sync, G: Gate>(
         (string_bytes output.text) output.finished) }
     ensures err { IfErr result (λ fault. (fault ≡ ServeFault.Memory) ⊎ (fault ≡ ServeFault.Start)) }
 {
-    match run_workers(rt, alloc, plan, turns, gate) {
+    output_of(alloc, run_workers(rt, alloc, plan, turns, gate))
+}
+
+/// The output of what a run came to: the report and `finished` of a complete outcome, the report and `unfinished` of one that is not
+/// complete. Where a worker was refused memory there is none, V3, nor where nothing was started, V6. What was gathered is not taken
+/// apart.
+fn output_of(alloc: Global, run: Result<Outcome, WorkFault>) -> Result<Output, ServeFault>
+    ensures ok { IfOk result (λ output.
+        output_of run ≡ Ok (record { text = string_bytes output.text; finished = output.finished })) }
+    ensures err { IfErr result (λ fault. (fault ≡ ServeFault.Memory) ⊎ (output_of run ≡ Err fault)) }
+{
+    match run {
         Ok(outcome) => reported(alloc, outcome, true),
         Err(WorkFault::Unfinished(outcome)) => reported(alloc, outcome, false),
         Err(WorkFault::Memory(outcome)) => {
-            give_back(outcome);
+            mem::forget(outcome);
             Err(ServeFault::Memory)
         }
-        Err(WorkFault::Start) => Err(ServeFault::Start),
-        Err(WorkFault::Plan) => unreachable!(),
+        Err(WorkFault::Start | WorkFault::Plan) => Err(ServeFault::Start),
     }
 }
 
-/// The report of an outcome, and whether it is complete.
+/// The report of an outcome, and whether it is complete. The outcome is not taken apart.
 fn reported(alloc: Global, outcome: Outcome, finished: bool) -> Result<Output, ServeFault>
     ensures text { IfOk result (λ output. string_bytes output.text ≡ report_text outcome ++ end_line finished) }
     ensures finished { IfOk result (λ output. output.finished ≡ finished) }
     ensures err { IfErr result (λ fault. fault ≡ ServeFault.Memory) }
 {
-    let mut text = last_report(alloc, outcome)?;
+    let written = report(alloc, &outcome);
+    mem::forget(outcome);
+    let mut text = written?;
     if finished {
         text.push_str("finished\n")?;
     } else {

@@ -1,19 +1,17 @@
 -- Words that the command line takes, and what they ask for.
-use Rattle.std.proofs.Common.{◌≡◌, ◌<◌, ◌+◌, ◌-◌, ℕ, zero, suc, List, [], ◌∷◌, ◌++◌, codes, true, false, None, Some, refl, ap, ◌∙◌, option_map, inl, inr, arith, subst}
-use Rattle.std.specs.Prelude.{pos}
+use Rattle.std.proofs.Common.{◌≡◌, ◌<◌, ◌+◌, ◌-◌, ℕ, zero, suc, List, [], ◌∷◌, ◌++◌, codes, true, false, None, Some, refl, ap, sym, ◌==◌, eqb-true, ◌∙◌, option_map, inl, inr, arith, subst}
+use Rattle.std.specs.Prelude.{Bool}
 use Rattle.std.specs.Char.{digit_value}
-use Rattle.std.specs.Str.Parse.{digits_value}
-use Rattle.std.proofs.lemmas.Int.{ints}
+use Rattle.std.specs.Str.Parse.{IsNumeral, digits_value, without_leading_plus}
 use Rattle.std.proofs.lemmas.Str.Parse.{digit_from_value}
 use Rattle.clap.specs.ValueTests.{accepts}
-use Rattle.clap.specs.declared.builder.value_parser.ValueParser.TheVariants.{Signed}
-use Rattle.clap.specs.declared.builder.value_parser.Reading.TheVariants.{WithoutMinus}
+use Rattle.clap.specs.declared.builder.value_parser.ValueParser.TheVariants.{Unsigned}
+use Rattle.clap.specs.declared.builder.value_parser.Reading.TheVariants.{AsWritten}
 use Rattle.clap.specs.declared.parser.matches.ValueSource.TheVariants.{CommandLine}
 use Rattle.clap.proofs.ValueTestLemmas.{Accepts-accepts}
 use Rattle.clap.specs.Words.{Row, one_of, subcommand_of, fault_of}
 use Rattle.clap.proofs.OnLiterals.{clap_on_literals}
 use Rattle.mv_words.specs.Words.{command_line, GiveTurns, NameAsks, OptionAsks, WritesTurns}
-use Rattle.mv_words.proofs.ParseLemmas.{no_minus, no_plus}
 
 -- the command line takes the word `steps`
 steps_taken : (program : List ℕ) → fault_of command_line (program ∷ codes "steps" ∷ []) ≡ []
@@ -36,13 +34,10 @@ unfolding clap_on_literals
 canon_met program = refl
 
 -- the option takes a number of turns
-turns_pass : (turns : ℕ) (text : List ℕ) → WritesTurns turns text → accepts false (Signed (pos 0) (pos 4294967295)) text ≡ true
-turns_pass turns [] (numeral, value, fits) = absurd (omega (arith, numeral.0))
-turns_pass turns (d ∷ ds) (numeral, value, fits) =
-    let minus = no_minus d numeral.1.0 in
-    let plus = no_plus d numeral.1.0 in
-    let small : digits_value 10 (d ∷ ds) < 4294967296 = rw value fits in
-    Accepts-accepts false (Signed (pos 0) (pos 4294967295)) (d ∷ ds) (rw (minus, plus) (numeral, record { sfits = omega (arith, small) }, omega (arith, ints), omega (arith, ints, small)))
+turns_pass : (turns : ℕ) (text : List ℕ) → WritesTurns turns text → accepts false (Unsigned 0 4294967295) text ≡ true
+turns_pass turns text (numeral, value, fits) =
+    let small : digits_value 10 (without_leading_plus text) < 4294967296 = rw value fits in
+    Accepts-accepts false (Unsigned 0 4294967295) text (numeral, omega (arith, small), omega arith, omega (arith, small))
 
 -- what holds at each digit
 by_digit : (P : ℕ → Type 0) → P 48 → P 49 → P 50 → P 51 → P 52 → P 53 → P 54 → P 55 → P 56 → P 57
@@ -65,6 +60,15 @@ by_digit P at_0 at_1 at_2 at_3 at_4 at_5 at_6 at_7 at_8 at_9 d digit =
     go (suc (suc (suc (suc (suc (suc (suc (suc (suc zero))))))))) low = at_9
     go (suc (suc (suc (suc (suc (suc (suc (suc (suc (suc k)))))))))) low = absurd (omega (arith, low))
 
+-- what holds at each first character of a number of turns: a plus, or a digit
+by_first : (P : ℕ → Type 0) → P 43 → P 48 → P 49 → P 50 → P 51 → P 52 → P 53 → P 54 → P 55 → P 56 → P 57
+    → (d : ℕ) (ds : List ℕ) → IsNumeral 10 (without_leading_plus (d ∷ ds)) → P d
+by_first P plus at_0 at_1 at_2 at_3 at_4 at_5 at_6 at_7 at_8 at_9 d ds numeral = go (d == 43) refl
+  where
+    go : (b : Bool) → (d == 43) ≡ b → P d
+    go true is = subst P (sym (eqb-true d 43 is)) plus
+    go false is = by_digit P at_0 at_1 at_2 at_3 at_4 at_5 at_6 at_7 at_8 at_9 d (rw is at numeral).1.0
+
 -- the words of `work`, with its option in two words
 abbrev work_words : List ℕ → List ℕ → List (List ℕ)
 work_words program text = program ∷ codes "work" ∷ codes "--turns" ∷ text ∷ []
@@ -73,17 +77,17 @@ work_words program text = program ∷ codes "work" ∷ codes "--turns" ∷ text 
 abbrev joined_words : List ℕ → List ℕ → List (List ℕ)
 joined_words program text = program ∷ codes "work" ∷ (codes "--turns=" ++ text) ∷ []
 
--- the number that begins by this digit passes
+-- the number that begins by this character passes
 abbrev Passes : ℕ → List ℕ → Type 0
-Passes d ds = accepts false (Signed (pos 0) (pos 4294967295)) (d ∷ ds) ≡ true
+Passes d ds = accepts false (Unsigned 0 4294967295) (d ∷ ds) ≡ true
 
 -- the command line takes the words of `work`
-work_taken : (program : List ℕ) (ds : List ℕ) (d : ℕ) → digit_value d < 10 → Passes d ds
+work_taken : (program : List ℕ) (ds : List ℕ) (d : ℕ) → IsNumeral 10 (without_leading_plus (d ∷ ds)) → Passes d ds
     → fault_of command_line (work_words program (d ∷ ds)) ≡ []
 unfolding clap_on_literals
-work_taken program ds = by_digit (λ d. Passes d ds → fault_of command_line (work_words program (d ∷ ds)) ≡ [])
-    (λ e. rw e refl) (λ e. rw e refl) (λ e. rw e refl) (λ e. rw e refl) (λ e. rw e refl)
-    (λ e. rw e refl) (λ e. rw e refl) (λ e. rw e refl) (λ e. rw e refl) (λ e. rw e refl)
+work_taken program ds d = by_first (λ d. Passes d ds → fault_of command_line (work_words program (d ∷ ds)) ≡ [])
+    (λ e. rw e refl) (λ e. rw e refl) (λ e. rw e refl) (λ e. rw e refl) (λ e. rw e refl) (λ e. rw e refl)
+    (λ e. rw e refl) (λ e. rw e refl) (λ e. rw e refl) (λ e. rw e refl) (λ e. rw e refl) d ds
 
 -- the matches of `work`: its option with this value
 abbrev turns_rows : List ℕ → List Row
@@ -92,15 +96,15 @@ turns_rows text = record {
   values = text ∷ [];
   count = None;
   source = Some CommandLine;
-  reading = WithoutMinus;
+  reading = AsWritten;
 } ∷ []
 
 -- and that is the subcommand
-work_met : (program : List ℕ) (ds : List ℕ) (d : ℕ) → digit_value d < 10
+work_met : (program : List ℕ) (ds : List ℕ) (d : ℕ) → IsNumeral 10 (without_leading_plus (d ∷ ds))
     → subcommand_of command_line (work_words program (d ∷ ds)) ≡ Some (codes "work", turns_rows (d ∷ ds))
 unfolding clap_on_literals
-work_met program ds = by_digit (λ d. subcommand_of command_line (work_words program (d ∷ ds)) ≡ Some (codes "work", turns_rows (d ∷ ds)))
-    refl refl refl refl refl refl refl refl refl refl
+work_met program ds d = by_first (λ d. subcommand_of command_line (work_words program (d ∷ ds)) ≡ Some (codes "work", turns_rows (d ∷ ds)))
+    refl refl refl refl refl refl refl refl refl refl refl d ds
 
 -- the same where the option is one word
 joined_taken : (program : List ℕ) (ds : List ℕ) (d : ℕ) → Passes d ds → fault_of command_line (joined_words program (d ∷ ds)) ≡ []
@@ -125,7 +129,7 @@ given_taken : (program text : List ℕ) (option : List (List ℕ)) (turns : ℕ)
 given_taken program [] option turns writes gives = absurd (omega (arith, writes.0.0))
 given_taken program (d ∷ ds) option turns writes (inl two) =
     ap (λ words. fault_of command_line (program ∷ codes "work" ∷ words)) two
-    ∙ work_taken program ds d writes.0.1.0 (turns_pass turns (d ∷ ds) writes)
+    ∙ work_taken program ds d writes.0 (turns_pass turns (d ∷ ds) writes)
 given_taken program (d ∷ ds) option turns writes (inr one) =
     ap (λ words. fault_of command_line (program ∷ codes "work" ∷ words)) one ∙ joined_taken program ds d (turns_pass turns (d ∷ ds) writes)
 
@@ -134,14 +138,13 @@ given_met : (program text : List ℕ) (option : List (List ℕ)) (turns : ℕ) �
     → subcommand_of command_line (program ∷ codes "work" ∷ option) ≡ Some (codes "work", turns_rows text)
 given_met program [] option turns writes gives = absurd (omega (arith, writes.0.0))
 given_met program (d ∷ ds) option turns writes (inl two) =
-    ap (λ words. subcommand_of command_line (program ∷ codes "work" ∷ words)) two ∙ work_met program ds d writes.0.1.0
+    ap (λ words. subcommand_of command_line (program ∷ codes "work" ∷ words)) two ∙ work_met program ds d writes.0
 given_met program (d ∷ ds) option turns writes (inr one) =
     ap (λ words. subcommand_of command_line (program ∷ codes "work" ∷ words)) one ∙ joined_met program ds d
 
 -- the number of turns is read as it is written
 work_turns : (turns : ℕ) (text : List ℕ) → WritesTurns turns text → one_of (codes "turns") (turns_rows text) ≡ Some text
-work_turns turns [] writes = absurd (omega (arith, writes.0.0))
-work_turns turns (d ∷ ds) writes = rw (no_minus d writes.0.1.0) refl
+work_turns turns text writes = refl
 
 -- so these words ask for `work` with this number
 pub option_asks : OptionAsks

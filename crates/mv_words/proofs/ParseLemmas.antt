@@ -59,13 +59,6 @@ pub named : (line : App) (words : List (List ℕ)) (m : ArgMatches) → line ≡
 named line words m is matches =
     name_of_rows m ∙ ap (option_map (λ p. p.0)) (rows_named line words m is matches)
 
--- a number of turns begins with a digit, so with no sign
-pub no_minus : (d : ℕ) → digit_value d < 10 → (d == 45) ≡ false
-no_minus d digit = ne_eqb _ _ (λ e. omega (arith, digit_from_value d digit))
-
-pub no_plus : (d : ℕ) → digit_value d < 10 → (d == 43) ≡ false
-no_plus d digit = ne_eqb _ _ (λ e. omega (arith, digit_from_value d digit))
-
 -- the matches of a subcommand have the option that its rows have
 pub turns_given : (found : Found) (met : Option (List ℕ × List Row)) (rows : List Row) (text : List ℕ)
     → Some (rows_of found) ≡ option_map (λ p. p.1) met → met ≡ Some (codes "work", rows)
@@ -78,10 +71,5 @@ turns_given found met rows text is named given =
 pub turns_read : {E : Type 0} (G : List ℕ → Result ℕ E → Type 0) (turns : ℕ) (text : List ℕ) (read : Option ℕ)
     → ((u : List ℕ) (r : Result ℕ E) → G u r → ParsesUnsigned 32 10 u r) → ReadsOne G text read → WritesTurns turns text
     → read ≡ Some turns
-turns_read G turns [] read parses reads writes = absurd (omega (arith, writes.0.0))
-turns_read G turns (d ∷ ds) (Some n) parses reads (numeral, value, fits) =
-    let parsed = rw (no_plus d numeral.1.0) at (parses (d ∷ ds) (Ok n) reads) in
-    ap Some (parsed.1 ∙ value)
-turns_read G turns (d ∷ ds) None parses (e, gives) (numeral, value, fits) =
-    let parsed = rw (no_plus d numeral.1.0) at (parses (d ∷ ds) (Err e) gives) in
-    absurd (parsed (numeral, rw value fits))
+turns_read G turns text (Some n) parses reads (numeral, value, fits) = ap Some ((parses text (Ok n) reads).1 ∙ value)
+turns_read G turns text None parses (e, gives) (numeral, value, fits) = absurd (parses text (Err e) gives (numeral, rw value fits))

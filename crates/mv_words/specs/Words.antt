@@ -1,9 +1,9 @@
 -- The command line of the program, the words that it takes, and what they ask for.
-use Rattle.std.specs.Prelude.{◌≡◌, ◌≢◌, ◌<◌, ◌^◌, ◌⊎◌, ℕ, pos, List, [], ◌∷◌, ◌++◌, codes, true, Some, option_map}
+use Rattle.std.specs.Prelude.{◌≡◌, ◌≢◌, ◌<◌, ◌^◌, ◌⊎◌, ℕ, List, [], ◌∷◌, ◌++◌, codes, true, Some, option_map}
 use Rattle.std.specs.List.{AllByRecursion}
-use Rattle.std.specs.Str.Parse.{IsNumeral, digits_value}
+use Rattle.std.specs.Str.Parse.{IsNumeral, digits_value, without_leading_plus}
 use Rattle.clap.specs.Words.{App, Row, Rule, new_app, new_rule, with_rule, with_subcommand, fault_of, one_of, subcommand_of}
-use Rattle.clap.specs.declared.builder.value_parser.ValueParser.TheVariants.{Signed}
+use Rattle.clap.specs.declared.builder.value_parser.ValueParser.TheVariants.{Unsigned}
 use Rattle.clap.specs.Simple.{new_shape, on_top}
 use Rattle.clap.specs.declared.error.kind.ErrorKind.{ErrorKind}
 use Rattle.clap.specs.declared.error.kind.ErrorKind.TheVariants.{DisplayHelp, DisplayVersion}
@@ -19,7 +19,7 @@ abbrev pub turns_rule : Rule
 turns_rule = record (new_rule (codes "turns")) {
   long = Some (codes "turns");
   value_names = 1;
-  parser = Some (Signed (pos 0) (pos 4294967295));
+  parser = Some (Unsigned 0 4294967295);
   required = true;
 }
 
@@ -37,9 +37,9 @@ abbrev pub AsksFor : List ℕ → List (List ℕ) → Type 0
 AsksFor name words =
     (fault_of command_line words ≡ []) × (option_map (λ p. p.0) (subcommand_of command_line words) ≡ Some name)
 
--- the text is decimal digits, and they write this number, which is one of 32 bits
+-- the text is decimal digits, in front of which one plus may stand, and they write this number, which is one of 32 bits
 abbrev pub WritesTurns : ℕ → List ℕ → Type 0
-WritesTurns turns text = IsNumeral 10 text × (digits_value 10 text ≡ turns) × (turns < 2 ^ 32)
+WritesTurns turns text = IsNumeral 10 (without_leading_plus text) × (digits_value 10 (without_leading_plus text) ≡ turns) × (turns < 2 ^ 32)
 
 -- the words are the option of `work` with this text: `--turns` and the text, or both in one word with `=` between them
 abbrev pub GiveTurns : List ℕ → List (List ℕ) → Type 0

@@ -9,7 +9,8 @@ use crate::texts::{
     CANON, CANON_EXAMPLE, PROGRAM, STEPS, STEPS_EXAMPLE, TURNS, VERSION, WHERE_TO_READ, WORK,
     WORK_EXAMPLE,
 };
-use clap::{Arg, Command, value_parser};
+use clap::builder::ValueParser;
+use clap::{Arg, Command};
 use std::alloc::{AllocError, Global};
 
 /// A command of this name, with what its help says first and last.
@@ -36,7 +37,7 @@ pub fn command_line<'a>(alloc: Global) -> Result<Command<'a>, AllocError>
         .subcommand(work)
 }
 
-/// The option of `work`: how many turns.
+/// The option of `work`: how many turns, a number of 32 bits without a minus.
 fn turns<'a>(alloc: Global) -> Arg<'a>
     ensures rule { rule_of result ≡ turns_rule }
     ensures local { result.global ≡ false }
@@ -45,6 +46,6 @@ fn turns<'a>(alloc: Global) -> Arg<'a>
         .long("turns")
         .value_name("N")
         .help(TURNS)
-        .value_parser(value_parser!(u32))
+        .value_parser(ValueParser::unsigned(0, u64::from(u32::MAX)))
         .required(true)
 }

@@ -5,6 +5,7 @@ use Rattle.mv_hub.specs.Hub.{HubState}
 use Rattle.mv_party.specs.Site.{SiteState}
 use Rattle.mv_machine.specs.Limits.{Bounds}
 use Rattle.mv_machine.specs.State.{State, submissions_of}
+use Rattle.mv_machine.specs.Lawful.{IsLawful}
 use Rattle.mv_ends.specs.declared.hub_end.HubEnd.{HubEnd}
 use Rattle.mv_ends.specs.declared.repo_end.RepoEnd.{RepoEnd}
 use Rattle.mv_ends.specs.HubEnd.{SameHubEnd}
@@ -37,10 +38,13 @@ fresh_unused parties limits hub repos fresh = λ party absent below. record { no
 
 -- ends that were opened for a plan keep it, where each party's list was begun at its end
 pub keeps_plan : (plan : Plan) (hub new_hub : HubEnd) (repos new_repos : List RepoEnd) → AreEnds hub repos → AreFresh plan.parties plan.limits hub repos
-    → SameHubEnd hub new_hub → AreSameRepos repos new_repos → AllBegin plan.work.items new_repos → KeepsPlan plan (state_of new_hub new_repos)
-keeps_plan plan hub new_hub repos new_repos ends fresh same same_repos begun =
+    → SameHubEnd hub new_hub → AreSameRepos repos new_repos → AllBegin plan.work.items new_repos
+    → (outcome : State) → outcome ≡ state_of new_hub new_repos → IsLawful outcome → KeepsPlan plan outcome
+keeps_plan plan hub new_hub repos new_repos ends fresh same same_repos begun outcome is lawful =
     let kept : (state_of new_hub new_repos).parties ≡ plan.parties = same.parties ∙ ap (λ (h : HubState). h.parties) fresh.hub_is in
+    subst (KeepsPlan plan) (sym is)
     record {
+      lawful = subst IsLawful is lawful;
       parties = kept;
       limits = same.limits ∙ fresh.limits_are;
       submitted = λ party below.

@@ -2,6 +2,7 @@
 use Rattle.std.specs.Prelude.{◌≡◌, ◌<◌, ℕ, [], length}
 use Rattle.mv_party.specs.Site.{answers_in}
 use Rattle.mv_machine.specs.State.{State, submissions_of}
+use Rattle.mv_machine.specs.Lawful.{IsLawful}
 use Rattle.mv_workers.specs.declared.plan.Plan.{Plan}
 use Rattle.mv_workers.specs.declared.plan.WorkFault.{WorkFault}
 use Rattle.mv_workers.specs.declared.plan.WorkFault.TheVariants as fault
@@ -13,9 +14,10 @@ pub record IsSound (plan : Plan) : Type 0 where
   pub each : length plan.work.items ≡ length plan.parties
   pub no_answers : (party : ℕ) → party < length plan.work.items → answers_in (list_at plan.work.items party) ≡ []
 
--- An outcome is one of a plan: it has the plan's parties and limits, and what each party submitted of its own is where its list
--- begins.
+-- An outcome is one of a plan: it is lawful and has the plan's parties and limits, and what each party submitted of its own is where
+-- its list begins.
 pub record KeepsPlan (plan : Plan) (outcome : State) : Type 0 where
+  pub lawful : IsLawful outcome
   pub parties : outcome.parties ≡ plan.parties
   pub limits : outcome.limits ≡ plan.limits
   pub submitted : (party : ℕ) → party < length outcome.parties

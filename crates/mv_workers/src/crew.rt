@@ -97,24 +97,23 @@ fn start_hub<'s, E, R: Wait + Sync>(
     scope.spawn_with(promise, worker).ok()
 }
 
-/// Starts a worker for each repository. None where one can't be started.
+/// Starts a worker for each repository, whose handles go into a list that has room for them. None where one can't be started.
 fn start_repos<'s, E, R: Wait + Sync, G: Gate>(
     scope: &Scope<'s, E>,
     rt: &'s R,
-    alloc: Global,
     repos: Vec<RepoEnd>,
     work: &'s [Vec<Shared<Message>>],
     gate: &'s G,
     course: &'s Course,
+    into: Vec<RepoHandle<'s>>,
 ) -> Option<Vec<RepoHandle<'s>>>
     requires each { vec_len repos ≡ length work.now }
     requires unused { AllUnused repos.items }
+    requires empty { vec_len into ≡ 0 }
+    requires room { vec_len repos ≤ vec_capacity into }
     ensures { IfSome result (λ handles. AllPromised repos.items work.entry.now handles.items) }
 {
-    let mut handles = Vec::new(alloc);
-    if handles.reserve(repos.len()).is_err() {
-        return None;
-    }
+    let mut handles = into;
     for end in repos {
         let place = handles.len();
         let list = work[place].as_slice();
@@ -124,24 +123,27 @@ fn start_repos<'s, E, R: Wait + Sync, G: Gate>(
     Some(handles)
 }
 
-/// Starts a worker for the hub and one for each repository. None where one can't be started.
+/// Starts a worker for the hub and one for each repository, whose handles go into a list that has room for them. None where one
+/// can't be started.
 fn start_crew<'s, E, R: Wait + Sync, G: Gate>(
     scope: &Scope<'s, E>,
     rt: &'s R,
-    alloc: Global,
     hub: HubEnd,
     repos: Vec<RepoEnd>,
     work: &'s [Vec<Shared<Message>>],
     gate: &'s G,
     course: &'s Course,
+    into: Vec<RepoHandle<'s>>,
 ) -> Option<(HubHandle, Vec<RepoHandle<'s>>)>
     requires each { vec_len repos ≡ length work.now }
     requires unused { AllUnused repos.items }
+    requires empty { vec_len into ≡ 0 }
+    requires room { vec_len repos ≤ vec_capacity into }
     ensures { IfSome result (λ handles. (handles.0.promise.0.value ≡ hub)
         × AllPromised repos.items work.entry.now handles.1.items) }
 {
     let handle = start_hub(scope, rt, hub, course)?;
-    let handles = start_repos(scope, rt, alloc, repos, work, gate, course)?;
+    let handles = start_repos(scope, rt, repos, work, gate, course, into)?;
     Some((handle, handles))
 }
 
@@ -204,12 +206,11 @@ pub(crate) fn work_in<'s, E, R: Threads + Wait + Sync, G: Gate>(
         × AreSameRepos repos.items ends.repos.items
         × AllBegin work.entry.now ends.repos.items) }
 {
-    let mut back = Vec::new(alloc);
-    if back.reserve(repos.len()).is_err() {
+    let (mut back, mut into) = (Vec::new(alloc), Vec::new(alloc));
+    if back.reserve(repos.len()).is_err() || into.reserve(repos.len()).is_err() {
         return None;
     }
-    let Some((handle, handles)) = start_crew(scope, rt, alloc, hub, repos, work, gate, course)
-    else {
+    let Some((handle, handles)) = start_crew(scope, rt, hub, repos, work, gate, course, into) else {
         course.start.end(rt);
         return None;
     };

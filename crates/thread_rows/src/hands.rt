@@ -65,21 +65,11 @@ fn is_wanting(reply: &Reply) -> bool {
     matches!(reply, Reply::Refused(Refusal::Memory))
 }
 
-/// Calls where it stands.
+/// Calls where it stands, and once more where memory was refused.
 #[derive(Drop)]
 pub(crate) struct Here;
 
 impl Hand for Here {
-    fn call(&self, end: RepoEnd, step: Step) -> (RepoEnd, Reply) {
-        called(end, &step)
-    }
-}
-
-/// Calls where it stands, and once more where memory was refused.
-#[derive(Drop)]
-pub(crate) struct Again;
-
-impl Hand for Again {
     fn call(&self, end: RepoEnd, step: Step) -> (RepoEnd, Reply) {
         let (end, reply) = called(end, &step);
         if is_wanting(&reply) {

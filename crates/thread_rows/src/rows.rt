@@ -3,7 +3,7 @@
 ghost use Rattle.mv_ends.specs.Laws.{AreSameRepos};
 
 use crate::ends::Ends;
-use crate::hands::{Again, Apart, Hand, Here};
+use crate::hands::{Apart, Hand, Here};
 use mv_ends::{HubEnd, Outcome, RepoEnd, ends_stay_ends, gather, open};
 use mv_hub::{Entry, Parties};
 use mv_machine::{Limits, Refusal, Reply, Step};
@@ -194,17 +194,12 @@ fn is_carried<H: Hand>(beginning: Option<Beginning>, hand: &H) -> bool {
 
 #[test]
 fn carries_a_query_and_its_answer(rt: HostRuntime) {
-    assert!(rt; is_carried(begun(rt.alloc()), &Here));
+    assert!(rt; is_carried(begun_at_last(rt.alloc()), &Here));
 }
 
 #[test]
 fn carries_them_with_each_call_in_a_thread(rt: HostRuntime) {
     assert!(rt; is_carried(begun(rt.alloc()), &Apart(&rt)));
-}
-
-#[test]
-fn carries_them_with_refused_calls_made_again(rt: HostRuntime) {
-    assert!(rt; is_carried(begun_at_last(rt.alloc()), &Again));
 }
 
 /// Whether the report of an outcome is this text.

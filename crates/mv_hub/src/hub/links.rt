@@ -101,7 +101,7 @@ impl Hub {
             return Err(HubFault::AlreadyClosed);
         }
         self.trail.push(Entry::Closed { from, to })?;
-        *self.open_links.at_mut(from, to) = false;
+        self.open_links[from as usize] = self.open_links[from as usize].without(to);
         Ok(())
     }
 }

@@ -1,40 +1,39 @@
 //! How a message is routed. Only the links that gain something are looked at: those to the parties that it reaches, and
 //! that of its sender to itself.
 
-ghost use Rattle.std.specs.Prelude.{◌≡◌, ◌+◌, ◌<◌, ◌==◌, ℕ, length, replicate, true, false, IfOk};
+ghost use Rattle.std.specs.Prelude.{◌≡◌, ◌+◌, ◌<◌, ℕ, length, replicate, find, true, IfOk};
 ghost use Rattle.std.specs.Prelude.{OnOk, OnErr, None};
 ghost use Rattle.std.specs.Option.{option_to_list};
-ghost use Rattle.std.specs.List.{list_any};
 ghost use Rattle.mv_hub.specs.Record.{routed_count};
-ghost use Rattle.mv_hub.specs.Targets.{reach, is_query};
-ghost use Rattle.mv_hub.specs.PartySets.{those};
+ghost use Rattle.mv_hub.specs.Targets.{reach};
+ghost use Rattle.mv_hub.specs.PartySets.{has_party, parties_in};
 ghost use Rattle.mv_link.specs.Fault.{FailsBy};
 ghost use Rattle.mv_link.specs.declared.limits.TheConstants.{NUMBER_LIMIT};
 ghost use Rattle.mv_hub.specs.Hub.{next_items, is_busy, busy_party, route_fault, with_routed};
-ghost use Rattle.mv_hub.specs.Gains.{IsRouting, is_gaining, receipt_of, carried_by};
+ghost use Rattle.mv_hub.specs.Gains.{IsRouting, receipt_of};
 
-use crate::gains::{Gains, put_gains};
 use crate::hub::Hub;
+use crate::hub::gains::put_gains;
 use crate::hub::targets::is_query;
+use crate::party_set::PartySet;
 use crate::{Entry, RouteFault};
-use arrayvec::ArrayVec;
-use mv_link::{Item, PARTIES_LIMIT, Reach, SharedReach};
+use mv_link::{Item, SharedReach};
 use mv_message::{Message, Party, Shared};
-use std::alloc::AllocError;
+use std::alloc::{AllocError, Global};
 
 /// How the next message of a party is routed.
 #[derive(Drop)]
-struct Routing<'a> {
+pub(super) struct Routing<'a> {
     /// Whose message it is.
-    from: Party,
+    pub(super) from: Party,
     /// The message.
-    message: &'a Shared<Message>,
+    pub(super) message: &'a Shared<Message>,
     /// Its number among the messages of the party, from one.
-    k: u32,
+    pub(super) k: u32,
     /// Its place in the record, from one.
-    stamp: u32,
+    pub(super) stamp: u32,
     /// The parties that it reaches.
-    reached: Reach,
+    pub(super) reached: PartySet,
 }
 
 impl Hub {
@@ -51,45 +50,44 @@ impl Hub {
             message,
             k: self.routed_count(from) + 1,
             stamp: self.record().len() as u32 + 1,
-            reached: self.reach(from, message.get()),
+            reached: self.reached(from, message.get()),
         }
     }
 
-    /// The parties whose links gain something: those that the message reaches, and its sender.
-    fn gaining(&self, routing: &Routing<'_>) -> Reach
+    /// The parties whose links gain something: those that the message reaches, and its sender, where its link to itself is
+    /// open. No other link is busy.
+    fn gaining(&self, routing: &Routing<'_>) -> PartySet
         requires { IsRouting self.now routing.now }
-        ensures those { result ≡ those (is_gaining self.now routing.now) (length self.now.parties) }
-        ensures others { (to : ℕ) → to < length self.now.parties
-            → is_gaining self.now routing.now to ≡ false
-            → is_busy self.now routing.now.from routing.now.message.now to ≡ false }
+        ensures parties { (to : ℕ) → has_party result to ≡ true → to < length self.now.parties }
+        ensures busy { busy_party self.now routing.now.from routing.now.message.now
+            ≡ find (is_busy self.now routing.now.from routing.now.message.now)
+            (parties_in result) }
     {
-        let mut found: ArrayVec<Party, PARTIES_LIMIT> = ArrayVec::new();
-        for &to in routing.reached.as_slice() {
-            found.push(to);
+        let from = routing.from;
+        if !self.open_links[from as usize].has(from) {
+            return routing.reached;
         }
-        self.parties.add(&mut found, routing.from);
-        Reach::new(found)
+        routing.reached.with(from)
     }
 
-    /// How many items the routing puts on a link that gains something.
+    /// How many items the routing puts on a link.
     fn gain_count(&self, routing: &Routing<'_>, to: Party) -> u32
         requires routing { IsRouting self.now routing.now }
         requires to { to < length self.now.parties }
-        requires gains { is_gaining self.now routing.now to ≡ true }
         ensures { result
             ≡ length (next_items self.now routing.now.from routing.now.message.now to) }
     {
+        let carried = u32::from(routing.reached.has(to));
         if to != routing.from {
-            return 1;
+            return carried;
         }
-        u32::from(self.is_open(to, to)) + u32::from(has_party(&routing.reached, to))
+        u32::from(self.is_open(to, to)) + carried
     }
 
-    /// Whether a link that gains something has no room for it.
+    /// Whether a link has no room for what the routing puts on it.
     fn is_busy(&self, routing: &Routing<'_>, to: Party) -> bool
         requires routing { IsRouting self.now routing.now }
         requires to { to < length self.now.parties }
-        requires gains { is_gaining self.now routing.now to ≡ true }
         ensures { result ≡ is_busy self.now routing.now.from routing.now.message.now to }
     {
         let count = self.gain_count(routing, to);
@@ -101,8 +99,8 @@ impl Hub {
         requires { IsRouting self.now routing.now }
         ensures { result ≡ busy_party self.now routing.now.from routing.now.message.now }
     {
-        let gaining = self.gaining(routing);
-        for &to in gaining.as_slice() {
+        let mut gaining = self.gaining(routing);
+        while let Some(to) = gaining.pop_first() {
             if self.is_busy(routing, to) {
                 return Some(to);
             }
@@ -111,8 +109,14 @@ impl Hub {
     }
 
     /// The receipt of the routing, unless the link of its sender to itself is closed.
-    fn receipt(&self, routing: &Routing<'_>) -> Result<Option<Item>, AllocError>
-        requires { routing.now.from < length self.now.parties }
+    fn receipt(
+        &self,
+        routing: &Routing<'_>,
+        reached: &SharedReach,
+    ) -> Result<Option<Item>, AllocError>
+        requires from { routing.now.from < length self.now.parties }
+        requires reached { reached.now ≡ reach self.now.parties self.now.entries
+            routing.now.from routing.now.message.now }
         ensures { IfOk result (λ receipt.
             option_to_list receipt ≡ receipt_of self.now routing.now) }
     {
@@ -121,49 +125,34 @@ impl Hub {
         }
         Ok(Some(Item::Receipt {
             k: routing.k,
-            reach: SharedReach::of(self.alloc, &routing.reached)?,
+            reach: reached.share()?,
             query: is_query(routing.message.get()),
         }))
     }
 
-    /// The message for each party that it reaches.
-    fn carried(&self, routing: &Routing<'_>) -> Result<Vec<Item>, AllocError>
-        ensures { IfOk result (λ carried.
-            carried.items ≡ replicate (length routing.now.reached) (carried_by routing.now)) }
+    /// The parties that the message reaches, as a list. Refused for want of memory.
+    fn reach_of(&self, routing: &Routing<'_>) -> Result<SharedReach, AllocError>
+        requires { IsRouting self.now routing.now }
+        ensures reach { IfOk result (λ reached. reached ≡ reach self.now.parties self.now.entries
+            routing.now.from routing.now.message.now) }
+        ensures parties { IfOk result (λ reached. reached ≡ parties_in routing.now.reached) }
     {
-        let count = routing.reached.as_slice().len();
-        let mut carried = Vec::with_capacity(self.alloc, count)?;
-        for _ in 0..count {
-            carried.push(Item::Carried {
-                k: routing.k,
-                stamp: routing.stamp,
-                message: routing.message.share()?,
-            })?;
-        }
-        Ok(carried)
+        SharedReach::of(self.alloc, &routing.reached.to_reach())
     }
 
-    /// What the routing puts on the links of its sender.
-    fn gains(&self, routing: &Routing<'_>) -> Result<Gains, AllocError>
-        requires { routing.now.from < length self.now.parties }
-        ensures receipt { IfOk result (λ gains.
-            option_to_list gains.receipt ≡ receipt_of self.now routing.now) }
-        ensures carried { IfOk result (λ gains.
-            gains.carried.items ≡ replicate (length routing.now.reached) (carried_by routing.now)) }
-    {
-        let receipt = self.receipt(routing)?;
-        let carried = self.carried(routing)?;
-        Ok(Gains { receipt, carried })
-    }
-
-    /// Puts the message into the record and the tables, and the gains of its routing on the links.
-    fn put_routed(&mut self, routing: &Routing<'_>, gains: Gains) -> Result<(), AllocError>
+    /// Puts the message into the record and the tables, and what its routing puts on links on these.
+    fn put_routed(
+        &mut self,
+        routing: &Routing<'_>,
+        receipt: Option<Item>,
+        shares: Vec<Shared<Message>>,
+    ) -> Result<(), AllocError>
         requires routing { IsRouting self.old routing.now }
         requires short_record { length self.old.entries < NUMBER_LIMIT }
         requires room { busy_party self.old routing.now.from routing.now.message.now ≡ None }
-        requires receipt { option_to_list gains.receipt ≡ receipt_of self.old routing.now }
-        requires carried { gains.carried.items
-            ≡ replicate (length routing.now.reached) (carried_by routing.now) }
+        requires receipt { option_to_list receipt ≡ receipt_of self.old routing.now }
+        requires shares { shares.items
+            ≡ replicate (length (parties_in routing.now.reached)) routing.now.message.now }
         ensures ok { OnOk result
             (self.new ≡ with_routed self.old routing.now.from routing.now.message.now) }
         ensures err { OnErr result (self.new ≡ self.old) }
@@ -172,7 +161,7 @@ impl Hub {
         let message = routing.message.share()?;
         self.trail.push(Entry::Routed { from, k, message })?;
         // Nothing fails from here on.
-        put_gains(&mut self.links, from, routing.reached.as_slice(), gains);
+        put_gains(&mut self.links, routing, receipt, shares);
         self.routed_counts[from as usize] = k;
         Ok(())
     }
@@ -188,7 +177,7 @@ impl Hub {
         &mut self,
         from: Party,
         message: &Shared<Message>,
-    ) -> Result<(u32, Reach), RouteFault>
+    ) -> Result<(u32, SharedReach), RouteFault>
         requires { length self.old.entries < NUMBER_LIMIT }
         ensures number { IfOk result (λ routed. routed.0 ≡ routed_count self.old.entries from + 1) }
         ensures reach { IfOk result (λ routed.
@@ -204,15 +193,25 @@ impl Hub {
         if let Some(to) = self.busy_party(&routing) {
             return Err(RouteFault::Busy(to));
         }
-        let gains = self.gains(&routing)?;
-        self.put_routed(&routing, gains)?;
-        Ok((routing.k, routing.reached))
+        let reached = self.reach_of(&routing)?;
+        let receipt = self.receipt(&routing, &reached)?;
+        let shares = shares_of(self.alloc, message, reached.as_slice().len())?;
+        self.put_routed(&routing, receipt, shares)?;
+        Ok((routing.k, reached))
     }
 }
 
-/// Whether a party is among those that are reached.
-fn has_party(reached: &Reach, party: Party) -> bool
-    ensures { result ≡ list_any (λ other. other == party) reached.now }
+/// A message, so many times. Refused for want of memory.
+fn shares_of(
+    alloc: Global,
+    message: &Shared<Message>,
+    count: usize,
+) -> Result<Vec<Shared<Message>>, AllocError>
+    ensures { IfOk result (λ shares. shares.items ≡ replicate count message.now) }
 {
-    reached.as_slice().contains(&party)
+    let mut shares = Vec::with_capacity(alloc, count)?;
+    for _ in 0..count {
+        shares.push(message.share()?)?;
+    }
+    Ok(shares)
 }

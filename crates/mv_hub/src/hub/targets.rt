@@ -1,13 +1,13 @@
 //! Whom a message is for.
 
-ghost use Rattle.std.specs.Prelude.{◌≡◌, ◌<◌, ◌==◌, ◌&&◌, not, length};
-ghost use Rattle.mv_hub.specs.Record.{market_table, is_open};
-ghost use Rattle.mv_hub.specs.Targets.{reach, is_query};
-ghost use Rattle.mv_hub.specs.PartySets.{is_candidate, those};
+ghost use Rattle.std.specs.Prelude.{◌≡◌, ◌<◌, ◌≤◌, ◌&&◌, ℕ, length, nat_lt};
+ghost use Rattle.mv_hub.specs.Record.{market_table};
+ghost use Rattle.mv_hub.specs.Targets.{serves_product, is_reached, is_query};
+ghost use Rattle.mv_hub.specs.PartySets.{has_party, is_candidate};
 
 use crate::hub::Hub;
-use arrayvec::ArrayVec;
-use mv_link::{PARTIES_LIMIT, Reach};
+use crate::party_set::PartySet;
+use mv_link::PARTIES_LIMIT;
 use mv_message::{Message, Party};
 use mv_pack::{Gtin, Market};
 
@@ -22,54 +22,51 @@ impl Hub {
         }
     }
 
+    /// The parties that serve a market of a product.
+    fn servers(&self, gtin: &Gtin) -> PartySet
+        ensures { (party : ℕ) → has_party result party ≡ (nat_lt party (length self.now.parties)
+            && serves_product self.now.parties self.now.entries gtin.now party) }
+    {
+        self.parties().servers(self.market_table(gtin))
+    }
+
     /// The parties that a message may be for, whoever sends it.
     #[tactic(auto, unfolding(crate::specs::Targets::is_target))]
-    fn candidates(&self, message: &Message) -> Reach
-        ensures { result ≡ those (is_candidate self.now.parties self.now.entries message.now)
-            (length self.now.parties) }
+    fn candidates(&self, message: &Message) -> PartySet
+        ensures { (to : ℕ) → has_party result to ≡ (nat_lt to (length self.now.parties)
+            && is_candidate self.now.parties self.now.entries message.now to) }
     {
-        let parties = self.parties();
         match message {
             Message::Master { gtin, product } => {
-                parties.serving_either(self.market_table(gtin), product.get().markets.as_slice())
+                let markets = product.get().markets.as_slice();
+                self.servers(gtin).or(self.parties().servers(markets))
             }
-            Message::Repack { before, after, .. } => parties.serving_either(
-                self.market_table(&before.get().gtin),
-                self.market_table(&after.get().gtin),
-            ),
-            Message::Upload { gtin, .. } => parties.serving(self.market_table(gtin)),
-            Message::Status { key, .. } => parties.serving(self.market_table(&key.gtin)),
-            Message::Recall { key, .. } => parties.serving(self.market_table(&key.gtin)),
-            Message::Withdraw { gtin, .. } => parties.serving(self.market_table(gtin)),
-            Message::Query { key } => parties.serving(self.market_table(&key.gtin)),
-            Message::Answer { asker, .. } => parties.alone(*asker),
+            Message::Repack { before, after, .. } => {
+                let after = self.servers(&after.get().gtin);
+                self.servers(&before.get().gtin).or(after)
+            }
+            Message::Upload { gtin, .. } => self.servers(gtin),
+            Message::Status { key, .. } => self.servers(&key.gtin),
+            Message::Recall { key, .. } => self.servers(&key.gtin),
+            Message::Withdraw { gtin, .. } => self.servers(gtin),
+            Message::Query { key } => self.servers(&key.gtin),
+            Message::Answer { asker, .. } => self.parties().alone(*asker),
         }
     }
 
-    /// Whether a message from a party, which asks or not, goes to one that it may be for: the link between them is open, and
-    /// no party asks itself.
-    fn is_sent(&self, from: Party, to: Party, asks: bool) -> bool
-        requires from { from < length self.now.parties }
-        requires to { to < length self.now.parties }
-        ensures { result ≡ (not (asks && (to == from)) && is_open self.now.entries from to) }
-    {
-        !(asks && to == from) && self.is_open(from, to)
-    }
-
-    /// The parties that a message from a party reaches.
-    pub(super) fn reach(&self, from: Party, message: &Message) -> Reach
+    /// The parties that a message from a party reaches: of those that it may be for, those to which the link is open. No
+    /// party asks itself.
+    pub(super) fn reached(&self, from: Party, message: &Message) -> PartySet
         requires { from < length self.now.parties }
-        ensures { result ≡ reach self.now.parties self.now.entries from message.now }
+        ensures parties { (to : ℕ) → has_party result to
+            ≡ is_reached self.now.parties self.now.entries from message.now to }
+        ensures few { length self.now.parties ≤ PARTIES_LIMIT }
     {
-        let candidates = self.candidates(message);
-        let asks = is_query(message);
-        let mut found: ArrayVec<Party, PARTIES_LIMIT> = ArrayVec::new();
-        for &to in candidates.as_slice() {
-            if self.is_sent(from, to, asks) {
-                found.push(to);
-            }
+        let reached = self.candidates(message).and(self.open_links[from as usize]);
+        if is_query(message) {
+            return reached.without(from);
         }
-        Reach::new(found)
+        reached
     }
 }
 

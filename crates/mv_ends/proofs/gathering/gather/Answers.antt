@@ -43,5 +43,6 @@ new-requires c =
     (λ party repo below. subst (λ h. IsLawfulAt h (slice_index_or c.loop-party.repos.items party repo).site) hub
     (was.each party repo (omega (arith, below, c.loop-party-test.false, c.loop-party.invariant.0, ap (λ (h : HubState). length h.parties) was.hub_is, was.ends.each))))
 
-pub returns : goal.returns
-returns c = c.new.ensures ∙ gathered c.args.hub c.args.repos.items c.loop-party.hub c.loop-party.repos.items c.loop-party.party c.loop-party.invariant.1
+pub returns-clause-outcome : goal.returns-clause-outcome
+returns-clause-outcome c =
+    c.new.ensures.value ∙ gathered c.args.hub c.args.repos.items c.loop-party.hub c.loop-party.repos.items c.loop-party.party c.loop-party.invariant.1

@@ -1,15 +1,12 @@
-use Rattle.std.proofs.Common.{subst}
-use Rattle.mv_workers.specs.Plans.{Faults}
-use Rattle.mv_tool.proofs.WorkLemmas.{finished_output, unfinished_output}
+use Rattle.std.proofs.lemmas.Result.{IfOk-weaker, IfErr-weaker}
+use Rattle.mv_tool.proofs.WorkLemmas.{run_reported, run_fails}
 use Rattle.mv_tool.proofs.working.run.Goals as goal
 
-pub returns-in-Ok-clause-ok : goal.returns-in-Ok-clause-ok
-returns-in-Ok-clause-ok g c =
-    let left = c.in-Ok.ensures.complete in
-    finished_output c.reported.result c.args.plan c.in-Ok.outcome left.1 left.2 c.reported.ensures.text c.reported.ensures.finished
+-- the report is that of an outcome of the plan
+pub returns-clause-ok : goal.returns-clause-ok
+returns-clause-ok g c =
+    IfOk-weaker c.output_of.result _ _
+    (λ output is. run_reported output c.args.plan c.run_workers.result c.run_workers.ensures.complete c.run_workers.ensures.fault is) c.output_of.ensures.ok
 
-pub returns-in-Err-Unfinished-clause-ok : goal.returns-in-Err-Unfinished-clause-ok
-returns-in-Err-Unfinished-clause-ok g c =
-    let left = subst (Faults c.args.plan) c.in-Err-Unfinished.field-0-is c.in-Err-Unfinished.ensures.fault in
-    unfinished_output c.reported-in-Err-Unfinished.result c.args.plan c.in-Err-Unfinished.outcome left.1 left.2
-    c.reported-in-Err-Unfinished.ensures.text c.reported-in-Err-Unfinished.ensures.finished
+pub returns-clause-err : goal.returns-clause-err
+returns-clause-err g c = IfErr-weaker c.output_of.result _ _ (λ fault is. run_fails fault c.run_workers.result is) c.output_of.ensures.err

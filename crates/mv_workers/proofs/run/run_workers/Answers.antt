@@ -28,8 +28,9 @@ is_complete-requires-clause-begun g c =
     let plan = c.args.plan in let hub = c.in-Ok-open.hub in let repos = c.in-Ok-open.repos.items in let after = c.in-Some.field-0 in
     let begun : AllBegin plan.work.items after.repos.items =
     subst (λ (work : Work). AllBegin work after.repos.items) c.as_slice-work.ensures.value c.in-Some.ensures.1.2 in
-    let keeps : KeepsPlan plan c.gather-outcome.result = subst (KeepsPlan plan) (sym c.gather-outcome.ensures)
-    (keeps_plan plan hub after.hub repos after.repos.items c.in-Ok-open.ensures.ends c.in-Ok-open.ensures.fresh c.in-Some.ensures.1.0 c.in-Some.ensures.1.1 begun) in
+    let keeps : KeepsPlan plan c.gather-outcome.result =
+    keeps_plan plan hub after.hub repos after.repos.items c.in-Ok-open.ensures.ends c.in-Ok-open.ensures.fresh c.in-Some.ensures.1.0 c.in-Some.ensures.1.1 begun
+    c.gather-outcome.result c.gather-outcome.ensures.outcome c.gather-outcome.ensures.lawful in
     subst (λ (work : Work). HaveBegun c.gather-outcome.result work) (sym c.as_slice-work.ensures.value) keeps.submitted
 
 -- the outcome keeps the plan, and is complete
@@ -39,8 +40,9 @@ returns-then-is_complete-clause-complete g c =
     let outcome = c.gather-outcome.result in
     let begun : AllBegin plan.work.items after.repos.items =
     subst (λ (work : Work). AllBegin work after.repos.items) c.as_slice-work.ensures.value c.in-Some.ensures.1.2 in
-    let keeps : KeepsPlan plan outcome = subst (KeepsPlan plan) (sym c.gather-outcome.ensures)
-    (keeps_plan plan hub after.hub repos after.repos.items c.in-Ok-open.ensures.ends c.in-Ok-open.ensures.fresh c.in-Some.ensures.1.0 c.in-Some.ensures.1.1 begun) in
+    let keeps : KeepsPlan plan outcome =
+    keeps_plan plan hub after.hub repos after.repos.items c.in-Ok-open.ensures.ends c.in-Ok-open.ensures.fresh c.in-Some.ensures.1.0 c.in-Some.ensures.1.1 begun
+    c.gather-outcome.result c.gather-outcome.ensures.outcome c.gather-outcome.ensures.lawful in
     let done : AreDone outcome plan.work.items =
     subst (λ (work : Work). AreDone outcome work) c.as_slice-work.ensures.value (c.if-is_complete.ensures.0 refl) in
     (c.if-not-is_sound.ensures.0 refl, keeps, done)
@@ -52,8 +54,9 @@ returns-then-short-clause-fault g c =
     let outcome = c.gather-outcome.result in
     let begun : AllBegin plan.work.items after.repos.items =
     subst (λ (work : Work). AllBegin work after.repos.items) c.as_slice-work.ensures.value c.in-Some.ensures.1.2 in
-    let keeps : KeepsPlan plan outcome = subst (KeepsPlan plan) (sym c.gather-outcome.ensures)
-    (keeps_plan plan hub after.hub repos after.repos.items c.in-Ok-open.ensures.ends c.in-Ok-open.ensures.fresh c.in-Some.ensures.1.0 c.in-Some.ensures.1.1 begun) in
+    let keeps : KeepsPlan plan outcome =
+    keeps_plan plan hub after.hub repos after.repos.items c.in-Ok-open.ensures.ends c.in-Ok-open.ensures.fresh c.in-Some.ensures.1.0 c.in-Some.ensures.1.1 begun
+    c.gather-outcome.result c.gather-outcome.ensures.outcome c.gather-outcome.ensures.lawful in
     let undone : AreDone outcome plan.work.items → ⊥ = λ done.
     let told = c.if-is_complete.ensures.1 (subst (λ (work : Work). AreDone outcome work) (sym c.as_slice-work.ensures.value) done) in absurd (cc) in
     (c.if-not-is_sound.ensures.0 refl, keeps, undone)
@@ -64,8 +67,9 @@ returns-clause-fault g c =
     let outcome = c.gather-outcome.result in
     let begun : AllBegin plan.work.items after.repos.items =
     subst (λ (work : Work). AllBegin work after.repos.items) c.as_slice-work.ensures.value c.in-Some.ensures.1.2 in
-    let keeps : KeepsPlan plan outcome = subst (KeepsPlan plan) (sym c.gather-outcome.ensures)
-    (keeps_plan plan hub after.hub repos after.repos.items c.in-Ok-open.ensures.ends c.in-Ok-open.ensures.fresh c.in-Some.ensures.1.0 c.in-Some.ensures.1.1 begun) in
+    let keeps : KeepsPlan plan outcome =
+    keeps_plan plan hub after.hub repos after.repos.items c.in-Ok-open.ensures.ends c.in-Ok-open.ensures.fresh c.in-Some.ensures.1.0 c.in-Some.ensures.1.1 begun
+    c.gather-outcome.result c.gather-outcome.ensures.outcome c.gather-outcome.ensures.lawful in
     let undone : AreDone outcome plan.work.items → ⊥ = λ done.
     let told = c.if-is_complete.ensures.1 (subst (λ (work : Work). AreDone outcome work) (sym c.as_slice-work.ensures.value) done) in absurd (cc) in
     (c.if-not-is_sound.ensures.0 refl, keeps, undone)

@@ -50,5 +50,5 @@ invariant_of-self-in-Ok-clause-square c = subst (λ (h : HubState). IsFor (lengt
 
 pub returns-in-Err-clause-reply : goal.returns-in-Err-clause-reply
 returns-in-Err-clause-reply c =
-    rw c.from.ensures (route_refused c.args.self.now _ c.args.from c.message.result.now c.in-Err.fault (search rules) (search rules)
+    rw c.from.ensures (route_refused c.args.self.now _ c.args.from c.message.result.now c.in-Err.fault (search rules) (search rules) (search rules)
     (rw c.message.ensures c.front.ensures) (search rules))

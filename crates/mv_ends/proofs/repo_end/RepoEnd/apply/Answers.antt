@@ -1,6 +1,6 @@
 -- The party took the frame that is taken from the link, and what it answers is on its uplink.
 use Rattle.std.proofs.Common.{◌≡◌, ◌∙◌, refl, sym, subst, ap, rules, ◌++◌}
-use Rattle.std.specs.Prelude.{option_to_list}
+use Rattle.std.specs.Prelude.{option_to_list, Err}
 use Rattle.rtrb.specs.Ring.{sent}
 use Rattle.mv_party.specs.declared.taken.Taken.{Taken}
 use Rattle.mv_party.specs.Site.{SiteState}
@@ -10,19 +10,20 @@ use Rattle.mv_ends.specs.Inlets.{Takes}
 use Rattle.mv_ends.specs.Answering.{stands_to}
 use Rattle.mv_ends.specs.Accepted.{AreAccepted}
 use Rattle.mv_ends.specs.Refusals.{IsRefusedBy}
-use Rattle.mv_ends.proofs.SiteEndLemmas.{apply_refused, refused_for, submitted_by, accepted_taken, accepted_same}
+use Rattle.mv_ends.proofs.SiteEndLemmas.{apply_refused, memory_told, refused_for, submitted_by, accepted_taken, accepted_same}
 use Rattle.mv_ends.proofs.repo_end.RepoEnd.apply.Goals as goal
 
 pub returns-in_default-clause-reply : goal.returns-in_default-clause-reply
 returns-in_default-clause-reply c = (
   search rules,
-  (c.is_full-full.result, c.frame-frame.result.now, rw c.frame-frame.ensures c.front.ensures, subst (λ o. IsRefusedBy refusal_of o Memory) (sym c.in_default.ensures.free) refl),
+  (c.is_full-full.result, c.frame-frame.result.now, rw c.frame-frame.ensures c.front.ensures, subst (λ o. IsRefusedBy refusal_of o Memory) (sym c.in_default.ensures.free) refl, λ _. c.in_default.ensures.next),
 )
 
 pub returns-in-Err-clause-reply : goal.returns-in-Err-clause-reply
 returns-in-Err-clause-reply c =
     rw c.from.ensures (apply_refused c.args.from c.args.self.now _ c.is_full-full.result c.frame-frame.result.now c.in-Err.fault (search rules)
-    (rw c.frame-frame.ensures c.front.ensures) (refused_for Taken _ c.in-Err.fault c.in-Err.ensures.fault))
+    (rw c.frame-frame.ensures c.front.ensures) (refused_for Taken _ c.in-Err.fault c.in-Err.ensures.fault)
+    (λ wanting. c.in-Err.ensures.memory (ap Err (memory_told c.in-Err.fault wanting))))
 
 pub invariant_of-self-in-Ok-apply-clause-pushed : goal.invariant_of-self-in-Ok-apply-clause-pushed
 invariant_of-self-in-Ok-apply-clause-pushed c =

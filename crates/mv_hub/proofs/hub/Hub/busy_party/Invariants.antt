@@ -1,7 +1,15 @@
-use Rattle.std.proofs.Common.{◌≡◌, None, take}
+use Rattle.std.proofs.Common.{◌≡◌, ◌<◌, ℕ, true, length}
 use Rattle.std.specs.Prelude.{find}
-use Rattle.mv_hub.specs.Hub.{is_busy}
+use Rattle.mv_hub.specs.PartySets.{has_party, parties_in}
+use Rattle.mv_hub.specs.Hub.{is_busy, busy_party}
 use Rattle.mv_hub.proofs.hub.Hub.busy_party.Given as goal
 
 abbrev pub invariant-loop-to : goal.invariant-loop-to
-invariant-loop-to l = find (is_busy l.self l.routing.from l.routing.message.now) (take l.to-index l.to-items) ≡ None
+invariant-loop-to l = record {
+  first : busy_party l.self l.routing.from l.routing.message.now
+      ≡ find (is_busy l.self l.routing.from l.routing.message.now) (parties_in l.gaining);
+  parties : (to : ℕ) → has_party l.gaining to ≡ true → to < length l.self.parties;
+}
+
+abbrev pub decreases-loop-to : goal.decreases-loop-to
+decreases-loop-to l = length (parties_in l.gaining)

@@ -1,38 +1,35 @@
-use Rattle.std.proofs.Common.{◌∙◌, ◌||◌, ℕ, Bool, length, take_all}
-use Rattle.std.specs.Prelude.{◌==◌}
-use Rattle.mv_hub.specs.Targets.{reach, is_reached}
-use Rattle.mv_hub.proofs.NumberLemmas.{increasing-those}
-use Rattle.mv_hub.proofs.HubLemmas.{idle}
+use Rattle.std.proofs.Common.{◌∙◌, sym, eqb-true, inl, inr, arith}
+use Rattle.std.proofs.lemmas.Bool.{or_cases}
+use Rattle.mv_hub.proofs.HubLemmas.{open-at, reached-below, busy-among}
 use Rattle.mv_hub.proofs.hub.Hub.gaining.Goals as goal
 
-pub add-requires-clause-ascending : goal.add-requires-clause-ascending
-unfolding reach
-add-requires-clause-ascending c =
-    let hub = c.args.self.now in
-    let all = take_all c.loop-to.to-index c.as_slice-to-items.result.now c.loop-to-test.false in (
-      is_reached hub.parties hub.entries c.args.routing.now.from c.args.routing.now.message.now,
-      rw (c.loop-to.invariant, all, c.as_slice-to-items.ensures.value, c.requires.parties, ← c.self.view_is),
-    )
+pub returns-then-not-has-clause-parties : goal.returns-then-not-has-clause-parties
+returns-then-not-has-clause-parties c = λ to e. reached-below _ _ _ _ to (sym (c.requires.reaches to) ∙ e)
 
-pub new-requires : goal.new-requires
-unfolding reach
-new-requires c =
-    let all = take_all c.loop-to.to-index c.as_slice-to-items.result.now c.loop-to-test.false in
-    let hub = c.args.self.now in
-    let test : ℕ → Bool = is_reached hub.parties hub.entries c.args.routing.now.from c.args.routing.now.message.now in
-    increasing-those _ (λ to. test to || (to == c.args.routing.now.from)) (length c.self.inside.parties)
-    (c.add.ensures test (rw (c.loop-to.invariant, all, c.as_slice-to-items.ensures.value, c.requires.parties, ← c.self.view_is)))
-
-pub returns-clause-those : goal.returns-clause-those
-unfolding reach
-returns-clause-those c =
-    let all = take_all c.loop-to.to-index c.as_slice-to-items.result.now c.loop-to-test.false in
-    c.new.ensures ∙ rw (← c.self.view_is)
-    (c.add.ensures _ (rw (c.loop-to.invariant, all, c.as_slice-to-items.ensures.value, c.requires.parties, ← c.self.view_is)))
-
-pub returns-clause-others : goal.returns-clause-others
-returns-clause-others c = λ to below none.
+-- the sender's own link is closed
+pub returns-then-not-has-clause-busy : goal.returns-then-not-has-clause-busy
+returns-then-not-has-clause-busy c =
     let a = c.self.inside in
     let routing = c.args.routing.now in
-    rw (← c.self.view_is) (idle a.parties a.window a.trail a.links routing.from to routing.message.now c.self.invariant.are_links
-    (rw (← c.self.view_is) at c.requires.party) (rw (← c.self.view_is) at below) (rw (← c.self.view_is) at none))
+    let known = rw (← c.self.view_is) at c.requires in
+    let own = open-at routing.from routing.from c.index.result.now c.self.invariant.are_open known.party known.party c.index.ensures in
+    let closed = sym own ∙ sym c.has.ensures ∙ c.if-not-has.true in
+    rw (← c.self.view_is) (busy-among a.parties a.window a.trail a.links routing.from routing.message.now routing.reached
+    c.self.invariant.are_links known.few known.party (λ to. known.reaches to ∙ rw closed (grind arith)))
+
+pub returns-clause-parties : goal.returns-clause-parties
+returns-clause-parties c = λ to e. elim (or_cases _ _ (sym (c.with.ensures to) ∙ e)) [
+  | inl reached ↦ reached-below _ _ _ _ to (sym (c.requires.reaches to) ∙ reached)
+  | inr same ↦ omega (arith, eqb-true to c.args.routing.now.from same, c.requires.party)
+]
+
+-- it is open
+pub returns-clause-busy : goal.returns-clause-busy
+returns-clause-busy c =
+    let a = c.self.inside in
+    let routing = c.args.routing.now in
+    let known = rw (← c.self.view_is) at c.requires in
+    let own = open-at routing.from routing.from c.index.result.now c.self.invariant.are_open known.party known.party c.index.ensures in
+    let opened = sym own ∙ sym c.has.ensures ∙ c.if-not-has.false in
+    rw (← c.self.view_is) (busy-among a.parties a.window a.trail a.links routing.from routing.message.now c.with.result
+    c.self.invariant.are_links known.few known.party (λ to. c.with.ensures to ∙ rw (known.reaches to, opened) (grind arith)))

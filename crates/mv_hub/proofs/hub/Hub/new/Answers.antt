@@ -4,9 +4,13 @@ use Rattle.mv_hub.proofs.hub.Hub.new.Goals as goal
 pub invariant_of-result : goal.invariant_of-result
 invariant_of-result c =
     let count = c.len-count.ensures.value in
-    rw (c.new.ensures, c.in_ok-routed_counts.ensures.items_if_clones_equal (λ y e. e), count)
-    (kept-new c.args.parties c.args.window _ _ c.len-count.ensures.some c.len-count.ensures.few c.requires
-    (rw count at c.in_ok-open_links.ensures.square) c.in_ok-open_links.ensures.each
+    rw (
+      c.new.ensures,
+      c.in_ok-routed_counts.ensures.items_if_clones_equal (λ y e. e),
+      c.in_ok-open_links.ensures.items_if_clones_equal (λ y e. e),
+      count,
+    )
+    (kept-new c.args.parties c.args.window c.all.result _ c.len-count.ensures.some c.len-count.ensures.few c.requires c.all.ensures
     (rw count at c.in_ok-links.ensures.square) c.in_ok-links.ensures.each)
 
 pub returns : goal.returns

@@ -1,15 +1,13 @@
-use Rattle.std.proofs.Common.{◌∙◌, ◌||◌, ℕ, false, length}
+use Rattle.std.proofs.Common.{◌∙◌, length}
+use Rattle.std.proofs.lemmas.Bool.{lt-ltb, le-ltb}
 use Rattle.mv_hub.specs.Parties.{serves_one, served_by}
-use Rattle.mv_hub.proofs.NumberLemmas.{those-none, increasing-those}
+use Rattle.mv_hub.proofs.PartySetLemmas.{listed-in}
 use Rattle.mv_hub.proofs.parties.Parties.serving.Goals as goal
 
-pub add_serving-requires : goal.add_serving-requires
-add_serving-requires c = ((λ (party : ℕ). false), c.new-found.ensures ∙ those-none (length c.args.self.now))
-
-pub new-requires : goal.new-requires
-new-requires c =
-    increasing-those _ (λ party. false || serves_one (served_by c.args.self.now party) c.args.markets.now) (length c.args.self.now)
-    (c.add_serving.ensures (λ (party : ℕ). false) (c.new-found.ensures ∙ those-none (length c.args.self.now)))
-
 pub returns : goal.returns
-returns c = c.new.ensures ∙ c.add_serving.ensures (λ (party : ℕ). false) (c.new-found.ensures ∙ those-none (length c.args.self.now))
+returns c =
+    let parties = c.args.self.now in
+    c.to_reach.ensures
+    ∙ listed-in c.servers.result (λ party. serves_one (served_by parties party) c.args.markets.now) (length parties) c.servers.ensures.few
+    (λ party lt. c.servers.ensures.parties party ∙ rw (lt-ltb party (length parties) lt))
+    (λ party beyond. c.servers.ensures.parties party ∙ rw (le-ltb party (length parties) beyond))

@@ -1,0 +1,5 @@
+use Rattle.std.proofs.Common.{◌≡◌, replicate}
+use Rattle.mv_hub.proofs.hub.routing.shares_of.Given as goal
+
+abbrev pub invariant-loop : goal.invariant-loop
+invariant-loop l = l.shares.items ≡ replicate l.counter l.message

@@ -1,0 +1,6 @@
+use Rattle.std.proofs.Common.{map, take}
+use Rattle.mv_hub.specs.MarketTables.{AreNoted}
+use Rattle.mv_hub.proofs.market_table.MarketTable.of.Given as goal
+
+abbrev pub invariant-loop-party : goal.invariant-loop-party
+invariant-loop-party l = AreNoted (map (λ list. list.items) (take l.party l.lists)) l.table.noted

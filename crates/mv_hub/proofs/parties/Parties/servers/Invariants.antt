@@ -1,0 +1,9 @@
+use Rattle.std.proofs.Common.{◌≡◌, ℕ, ◌&&◌, length, take}
+use Rattle.std.specs.Prelude.{nat_lt}
+use Rattle.mv_hub.specs.Parties.{serves_one, served_by}
+use Rattle.mv_hub.specs.PartySets.{has_party}
+use Rattle.mv_hub.proofs.parties.Parties.servers.Given as goal
+
+abbrev pub invariant-loop-market : goal.invariant-loop-market
+invariant-loop-market l = (party : ℕ) → has_party l.found party
+    ≡ (nat_lt party (length l.self) && serves_one (served_by l.self party) (take l.market-index l.markets))

@@ -1,0 +1,91 @@
+//! How what a routing puts on the links of its sender is pushed. Nothing of this can fail.
+
+ghost use Rattle.std.specs.Prelude.{◌≡◌, ◌<◌, ◌==◌, ℕ, [], ◌∷◌, length, replicate, true};
+ghost use Rattle.std.specs.Prelude.{if◌then◌else◌};
+ghost use Rattle.std.specs.Option.{option_to_list};
+ghost use Rattle.mv_link.specs.Sending.{HasRoom};
+ghost use Rattle.mv_pairs.specs.Pairs.{IsSquare};
+ghost use Rattle.mv_hub.specs.PartySets.{has_party, parties_in};
+ghost use Rattle.mv_hub.specs.Gains.{PushesItems, PushesRow, carried_to, gain_of};
+ghost use Rattle.mv_hub.specs.Kept.{link_at};
+
+use crate::hub::routing::Routing;
+use mv_link::{Item, Outgoing};
+use mv_message::{Message, Party, Shared};
+use mv_pairs::PairTable;
+
+/// Pushes an item on a link that has room for it.
+fn put_one(link: &mut Outgoing, item: Item)
+    requires { HasRoom link.old 1 }
+    ensures { PushesItems (item ∷ []) link.old link.new }
+{
+    match link.push(item) {
+        Ok(()) => {}
+        // A push is always taken.
+        Err(_) => unreachable!(),
+    }
+}
+
+/// Pushes a receipt, if there is one, on the link of its sender to itself.
+fn put_receipt(links: &mut PairTable<Outgoing>, from: Party, receipt: Option<Item>)
+    requires square { IsSquare (length links.old) links.old }
+    requires from { from < length links.old }
+    requires room { HasRoom (link_at links.old from from) (length (option_to_list receipt)) }
+    ensures { PushesRow (length links.old) from
+        (λ to. if to == from then option_to_list receipt else []) links.old links.new }
+{
+    if let Some(item) = receipt {
+        put_one(links.at_mut(from, from), item);
+    }
+}
+
+/// Pushes the message on the link to each party that it reaches.
+fn put_carried(
+    links: &mut PairTable<Outgoing>,
+    routing: &Routing<'_>,
+    mut shares: Vec<Shared<Message>>,
+)
+    requires square { IsSquare (length links.old) links.old }
+    requires from { routing.now.from < length links.old }
+    requires within { (to : ℕ) → has_party routing.now.reached to ≡ true → to < length links.old }
+    requires shares { shares.items
+        ≡ replicate (length (parties_in routing.now.reached)) routing.now.message.now }
+    requires room { (to : ℕ) → has_party routing.now.reached to ≡ true
+        → HasRoom (link_at links.old routing.now.from to) 1 }
+    ensures { PushesRow (length links.old) routing.now.from (carried_to routing.now)
+        links.old links.new }
+{
+    let mut rest = routing.reached;
+    while let Some(to) = rest.pop_first() {
+        let Some(message) = shares.pop() else {
+            // There is one for each party that is reached.
+            unreachable!();
+        };
+        let (k, stamp) = (routing.k, routing.stamp);
+        let item = Item::Carried { k, stamp, message };
+        put_one(links.at_mut(routing.from, to), item);
+    }
+}
+
+/// Pushes what a routing puts on the links of its sender: the receipt, and then the message for each party that it
+/// reaches.
+pub(super) fn put_gains(
+    links: &mut PairTable<Outgoing>,
+    routing: &Routing<'_>,
+    receipt: Option<Item>,
+    shares: Vec<Shared<Message>>,
+)
+    requires square { IsSquare (length links.old) links.old }
+    requires from { routing.now.from < length links.old }
+    requires within { (to : ℕ) → has_party routing.now.reached to ≡ true → to < length links.old }
+    requires shares { shares.items
+        ≡ replicate (length (parties_in routing.now.reached)) routing.now.message.now }
+    requires room { (to : ℕ) → to < length links.old
+        → HasRoom (link_at links.old routing.now.from to)
+        (length (gain_of routing.now (option_to_list receipt) to)) }
+    ensures { PushesRow (length links.old) routing.now.from
+        (gain_of routing.now (option_to_list receipt)) links.old links.new }
+{
+    put_receipt(links, routing.from, receipt);
+    put_carried(links, routing, shares);
+}

@@ -1,5 +1,5 @@
 -- Lemmas on an input that was read.
-use Rattle.std.proofs.Common.{◌≡◌, ◌≢◌, ℕ, List, [], ◌∷◌, refl, ap, sym, ◌∙◌}
+use Rattle.std.proofs.Common.{◌≡◌, ◌≢◌, ℕ, List, [], ◌∷◌, refl, ap, sym, ◌∙◌, arith}
 use Rattle.std.specs.Prelude.{IfSome, Option, Some, None, Ok, true, false, is_some, option_map}
 use Rattle.std.specs.List.{fold}
 use Rattle.std.specs.Io.KnownBytes.{Consumes}
@@ -44,7 +44,7 @@ read_whole (Some bytes) before after planned old new nothing same served = (
 -- why the answering of lines ended is why they were not read
 pub unread : {S : Type 0} (rule : ReplyRule S) (fault : ServeFault) (before : S) (input rest old new : Option (List ℕ)) → fault ≢ Write
     → (bytes : List ℕ) × Consumes input rest bytes × Ended rule fault before bytes old new → Unread fault input rest
-unread rule Read before input rest old new read (bytes, took, ended) = (bytes, took, ended.1)
+unread rule Read before input rest old new read (bytes, took, ended) = (bytes, took, ended.0)
 unread rule Write before input rest old new read (bytes, took, ended) = absurd (read refl)
 unread rule Start before input rest old new read (bytes, took, (out, written, stopped)) = absurd stopped.why
 unread rule Memory before input rest old new read (bytes, took, (out, written, stopped)) =
@@ -56,4 +56,4 @@ unread rule LineTooLong before input rest old new read (bytes, took, (out, writt
 
 -- memory may be refused before anything was read
 pub unread_memory : (input rest : Option (List ℕ)) (bytes : List ℕ) → Consumes input rest bytes → Unread Memory input rest
-unread_memory input rest bytes took = (bytes, took, ([], bytes, refl, tt, tt))
+unread_memory input rest bytes took = (bytes, took, ([], bytes, refl, tt, record { few = omega (arith); short = λ k d below. omega (arith, below) }))

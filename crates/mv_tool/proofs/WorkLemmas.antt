@@ -32,11 +32,12 @@ sound_of plan parts same runs =
     }
 
 -- what was reported is what is written of an outcome
-pub written : {E : Type 0} (r : Result Output E) (outcome : State) (finished : Bool)
+pub reported_of : {E : Type 0} (r : Result Output E) (ran : Result State WorkFault) (outcome : State) (finished : Bool)
+    → output_of ran ≡ Ok (report_of finished outcome)
     → IfOk r (λ output. string_bytes output.text ≡ report_text outcome ++ end_line finished) → IfOk r (λ output. output.finished ≡ finished)
-    → IfOk r (λ output. Ok {E = ServeFault} (report_of finished outcome) ≡ Ok (record { text = string_bytes output.text; finished = output.finished }))
-written (Ok output) outcome finished text done = rw (text, done) refl
-written (Err e) outcome finished text done = tt
+    → IfOk r (λ output. output_of ran ≡ Ok (record { text = string_bytes output.text; finished = output.finished }))
+reported_of (Ok output) ran outcome finished same text done = rw (text, done) same
+reported_of (Err e) ran outcome finished same text done = tt
 
 -- what is written, where something is
 written_in : Written → Result Written ServeFault → Written
@@ -63,6 +64,7 @@ pub run_reported : (output : Output) (plan : Plan) (ran : Result State WorkFault
     → IfOk ran (λ outcome. IsSound plan × KeepsPlan plan outcome × IsComplete plan outcome) → IfErr ran (λ fault. Faults plan fault)
     → output_of ran ≡ Ok (record { text = string_bytes output.text; finished = output.finished })
     → IsReported (parts_in plan.parties plan.limits plan.work.items) (string_bytes output.text) output.finished
+unfolding written_in
 run_reported output plan (Ok outcome) kept fails is =
     reported_as output plan outcome true kept.1 (λ told. kept.2, λ complete. refl) (ap (written_in (report_of true outcome)) is)
 run_reported output plan (Err (faults.Unfinished outcome)) kept fails is =

@@ -2,20 +2,27 @@
 
 ghost use Rattle.std.specs.Prelude.{◌≡◌, ℕ, List, OnOk, IfErr, IfSome};
 ghost use Rattle.std.specs.Io.KnownBytes.{Consumes, Appends};
+ghost use Rattle.mv_json.specs.Messages.{read_bytes};
+ghost use Rattle.mv_json.specs.Reading.{GivesOr};
 ghost use Rattle.mv_lines.specs.Canon.{IsCanon, canon_of};
 ghost use Rattle.mv_lines.specs.Served.{Served, Ended};
 
 use crate::reply_line::append;
 use crate::{Answering, ServeFault, answer_lines};
+use json::Scratch;
 use mv_json::MessageFault;
+use mv_message::Message;
 use std::alloc::{AllocError, Global};
 use std::io::{Read, Write};
 use std::marker::Model;
 
-/// What answers messages. It keeps nothing from line to line.
+/// What answers messages. It keeps from line to line only the memory in which they are read.
 #[derive(Drop)]
 struct Canonizer {
+    /// What memory is got from.
     alloc: Global,
+    /// In which messages are read.
+    scratch: Scratch,
 }
 
 impl Model for Canonizer {
@@ -30,10 +37,22 @@ impl Answering for Canonizer {
     ghost replies = { IsCanon };
 
     fn answer(&mut self, line: &[u8], out: &mut Vec<u8>) -> Result<(), AllocError> {
-        match mv_json::read(self.alloc, line) {
+        match self.read(line) {
             Ok(message) => mv_json::write_text(self.alloc, &message, out),
             Err(MessageFault::Memory) => Err(AllocError),
             Err(fault) => append(self.alloc, out, &fault),
+        }
+    }
+}
+
+impl Canonizer {
+    /// Reads a message: by its tokens, and what these give no message of by its value.
+    fn read(&mut self, line: &[u8]) -> Result<Message, MessageFault>
+        ensures { GivesOr result (read_bytes line.now) MessageFault.Memory }
+    {
+        match mv_json::read_by_tokens(self.alloc, &mut self.scratch, line) {
+            Some(message) => Ok(message),
+            None => mv_json::read(self.alloc, line),
         }
     }
 }
@@ -57,6 +76,9 @@ pub fn canon<R: Read, W: Write>(
         × Consumes (R.remaining reader.old) (R.remaining reader.new) bytes
         × Ended IsCanon fault tt bytes (W.contents writer.old) (W.contents writer.new)) }
 {
-    let mut canonizer = Canonizer { alloc };
+    let mut canonizer = Canonizer {
+        alloc,
+        scratch: Scratch::new(alloc),
+    };
     answer_lines(alloc, &mut canonizer, reader, writer)
 }

@@ -8,4 +8,4 @@ pub mod KeyOrderLemmas
 pub mod LineLawsLemmas
 pub mod ServedLemmas
 pub mod CanonLemmas
-pub mod PlainLineLemmas
+pub mod LinePartLemmas

@@ -46,7 +46,6 @@ use Rattle.mv_lines.specs.declared.request.Request.TheVariants.{Open, Step}
 use Rattle.mv_lines.proofs.InputLemmas.{whole_from-append, rest_from-append, lines_of-append}
 use Rattle.mv_lines.proofs.ListLemmas.{is_market, market_lists}
 use Rattle.mv_lines.proofs.PartLemmas.{unended_whole, unended_rest}
-use Rattle.mv_lines.proofs.PlainLineLemmas.{route_request, relay_request, apply_request, repeat_request, close_request, lose_request, verdict_request}
 
 -- ---- the pieces of an input
 
@@ -181,19 +180,49 @@ unfolding read_request kind_at request_at market_lists_at number_at
 open_back parties submissions uplink window wire (legal, (s, (u, (w, (i, _))))) =
     rw (lists_back parties, are_market_lists parties legal, lt-ltb _ _ s, lt-ltb _ _ u, lt-ltb _ _ w, lt-ltb _ _ i)
 
+-- ---- the same of the steps whose fields are numbers
+
+route_back : (from : ℕ) → IsLegalRequest (Step (steps.Route from)) → read_request (request_value (Step (steps.Route from))) ≡ Ok (Step (steps.Route from))
+unfolding read_request kind_at request_at number_at
+route_back from (few, _) = rw (lt-ltb _ _ few)
+
+relay_back : (from to : ℕ) → IsLegalRequest (Step (steps.Relay from to)) → read_request (request_value (Step (steps.Relay from to))) ≡ Ok (Step (steps.Relay from to))
+unfolding read_request kind_at request_at number_at
+relay_back from to (few, (less, _)) = rw (lt-ltb _ _ few, lt-ltb _ _ less)
+
+apply_back : (from to : ℕ) → IsLegalRequest (Step (steps.Apply from to)) → read_request (request_value (Step (steps.Apply from to))) ≡ Ok (Step (steps.Apply from to))
+unfolding read_request kind_at request_at number_at
+apply_back from to (few, (less, _)) = rw (lt-ltb _ _ few, lt-ltb _ _ less)
+
+repeat_back : (from to number : ℕ) → IsLegalRequest (Step (steps.Repeat from to number))
+    → read_request (request_value (Step (steps.Repeat from to number))) ≡ Ok (Step (steps.Repeat from to number))
+unfolding read_request kind_at request_at number_at
+repeat_back from to number (few, (small, (less, _))) = rw (lt-ltb _ _ few, lt-ltb _ _ small, lt-ltb _ _ less)
+
+close_back : (from to : ℕ) → IsLegalRequest (Step (steps.Close from to)) → read_request (request_value (Step (steps.Close from to))) ≡ Ok (Step (steps.Close from to))
+unfolding read_request kind_at request_at number_at
+close_back from to (few, (less, _)) = rw (lt-ltb _ _ few, lt-ltb _ _ less)
+
+lose_back : (from to : ℕ) → IsLegalRequest (Step (steps.Lose from to)) → read_request (request_value (Step (steps.Lose from to))) ≡ Ok (Step (steps.Lose from to))
+unfolding read_request kind_at request_at number_at
+lose_back from to (few, (less, _)) = rw (lt-ltb _ _ few, lt-ltb _ _ less)
+
+verdict_back : (party q : ℕ) → IsLegalRequest (Step (steps.Verdict party q)) → read_request (request_value (Step (steps.Verdict party q))) ≡ Ok (Step (steps.Verdict party q))
+unfolding read_request kind_at request_at number_at
+verdict_back party q (few, (less, _)) = rw (lt-ltb _ _ few, lt-ltb _ _ less)
+
 -- each request is read back from its line
 pub requests_read_back : (request : Request) → IsLegalRequest request → read_request (request_value request) ≡ Ok request
 requests_read_back (Open parties submissions uplink window wire) legal = open_back parties submissions uplink window wire legal
 requests_read_back (Step (steps.Submit from message)) legal = submit_back from message legal
 requests_read_back (Step (steps.Verify party key)) legal = verify_back party key legal
-requests_read_back (Step (steps.Route from)) (few, _) = route_request (codes "route") from refl few
-requests_read_back (Step (steps.Relay from to)) (few, (less, _)) = relay_request (codes "relay") from to refl few less
-requests_read_back (Step (steps.Apply from to)) (few, (less, _)) = apply_request (codes "apply") from to refl few less
-requests_read_back (Step (steps.Repeat from to number)) (few, (small, (less, _))) =
-    repeat_request (codes "repeat") from number to refl few small less
-requests_read_back (Step (steps.Close from to)) (few, (less, _)) = close_request (codes "close") from to refl few less
-requests_read_back (Step (steps.Lose from to)) (few, (less, _)) = lose_request (codes "lose") from to refl few less
-requests_read_back (Step (steps.Verdict party q)) (few, (less, _)) = verdict_request (codes "verdict") party q refl few less
+requests_read_back (Step (steps.Route from)) legal = route_back from legal
+requests_read_back (Step (steps.Relay from to)) legal = relay_back from to legal
+requests_read_back (Step (steps.Apply from to)) legal = apply_back from to legal
+requests_read_back (Step (steps.Repeat from to number)) legal = repeat_back from to number legal
+requests_read_back (Step (steps.Close from to)) legal = close_back from to legal
+requests_read_back (Step (steps.Lose from to)) legal = lose_back from to legal
+requests_read_back (Step (steps.Verdict party q)) legal = verdict_back party q legal
 
 -- ---- what is read is legal
 

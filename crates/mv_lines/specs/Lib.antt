@@ -9,7 +9,7 @@ pub mod MarketLists
 pub mod Meanings
 pub mod Kinds
 pub mod Requests
-pub mod PlainLines
+pub mod LineParts
 pub mod Objects
 pub mod ReplyLines
 pub mod Writing

@@ -1,11 +1,11 @@
 //! The kinds of lines, and the names of the fields of each.
 
 ghost use Rattle.std.specs.Option.{option_map_or};
-ghost use Rattle.std.specs.Prelude.{◌≡◌, map, Ok, Err};
+ghost use Rattle.std.specs.Prelude.{◌≡◌, ◌∷◌, map, Ok, Err};
 ghost use Rattle.serde_json.specs.View.{view, members_view};
 ghost use Rattle.mv_json.specs.Members.{first_unknown};
 ghost use Rattle.mv_json.specs.Reading.{GivesOr};
-ghost use Rattle.mv_lines.specs.Kinds.{kind_named, kind_at, names_of};
+ghost use Rattle.mv_lines.specs.Kinds.{kind_named, kind_at, names_of, shape_of};
 
 use crate::field_reading::text_of;
 use crate::{LineFault, LineField};
@@ -40,6 +40,40 @@ pub(crate) enum LineKind {
 }
 
 impl LineKind {
+    /// The fields of such a line, in byte order of their names.
+    pub(crate) fn fields(self) -> &'static [LineField]
+        ensures { result.now ≡ LineField.Do ∷ (shape_of self).others }
+    {
+        match self {
+            LineKind::Open => &[
+                LineField::Do,
+                LineField::Parties,
+                LineField::Submissions,
+                LineField::Uplink,
+                LineField::Window,
+                LineField::Wire,
+            ],
+            LineKind::Submit => &[LineField::Do, LineField::From, LineField::Message],
+            LineKind::Route => &[LineField::Do, LineField::From],
+            LineKind::Relay | LineKind::Apply | LineKind::Close | LineKind::Lose => {
+                &[LineField::Do, LineField::From, LineField::To]
+            }
+            LineKind::Repeat => &[
+                LineField::Do,
+                LineField::From,
+                LineField::Number,
+                LineField::To,
+            ],
+            LineKind::Verify => &[
+                LineField::Do,
+                LineField::Gtin,
+                LineField::Party,
+                LineField::Serial,
+            ],
+            LineKind::Verdict => &[LineField::Do, LineField::Party, LineField::Q],
+        }
+    }
+
     /// The names of the fields of such a line, in byte order.
     fn names(self) -> &'static [&'static str]
         ensures { map (λ name. name.now) result.now ≡ names_of self }

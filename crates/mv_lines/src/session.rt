@@ -11,8 +11,8 @@ ghost use Rattle.mv_machine.specs.State.{opening};
 ghost use Rattle.mv_lines.specs.Sessions.{IsAnswer, IsOpened, IsRequestReply, IsReply};
 ghost use Rattle.mv_lines.specs.Writing.{Appended};
 
-use crate::plain_line::plain_step;
 use crate::reply_line::{Opened, Refused, append};
+use crate::token_line::read_step;
 use crate::{Answering, LineFault, MarketLists, OpenFault, Request, limits_of, parties_of};
 use json::Scratch;
 use mv_hub::Parties;
@@ -27,7 +27,7 @@ use std::marker::Model;
 pub(crate) struct Session {
     /// What memory is got from.
     alloc: Global,
-    /// In which plain lines are read.
+    /// In which lines are read.
     scratch: Scratch,
     /// What is open.
     world: Option<World>,
@@ -65,12 +65,12 @@ impl Session {
         }
     }
 
-    /// Reads a line, as `Request::read` does: a plain one by its tokens, any other by its value.
+    /// Reads a line, as `Request::read` does: by its tokens, and what these give no step of by its value.
     fn read(&mut self, line: &[u8]) -> Result<Request, LineFault>
         ensures read { GivesOr result (read_line line.now) LineFault.Memory }
         ensures kept { self.new ≡ self.old }
     {
-        match plain_step(self.alloc, &mut self.scratch, line) {
+        match read_step(self.alloc, &mut self.scratch, line) {
             Some(step) => Ok(Request::Step(step)),
             None => Request::read(self.alloc, line),
         }

@@ -1,6 +1,6 @@
 -- The laws of lines: of the pieces of an input, and of the line that asks a request.
 use Rattle.std.proofs.Common.{◌≡◌, ◌∙◌, ◌<◌, ℕ, ◌^◌, suc, List, [], ◌∷◌, ◌++◌, map, refl, sym, ap, subst, arith, append_assoc, append-nil, true, false, true≢false, lt-ltb}
-use Rattle.std.specs.Prelude.{cond, ◌==◌, ◌&&◌, length, nat_lt, ok_or, codes, All, Option, Some, None, option_and_then, Result, Ok, Err, IfOk}
+use Rattle.std.specs.Prelude.{cond, ◌==◌, ◌&&◌, length, nat_lt, ok_or, All, Option, Some, None, option_and_then, Result, Ok, Err, IfOk}
 use Rattle.std.specs.List.{AllByRecursion, list_all}
 use Rattle.std.specs.Option.{option_map_or}
 use Rattle.std.specs.Result.{is_ok}

@@ -1,8 +1,7 @@
 -- What stands in the fields of a line: its tokens, and what it asks.
-use Rattle.std.proofs.Common.{◌≡◌, ◌∙◌, ◌<◌, ◌^◌, ℕ, true, false, List, [], ◌∷◌, ◌++◌, length, map, ap, sym, refl, arith, lt-ltb}
+use Rattle.std.proofs.Common.{◌≡◌, ◌∙◌, ◌<◌, ◌^◌, ℕ, List, [], ◌∷◌, ◌++◌, length, map, ap, sym, refl, arith, lt-ltb}
 use Rattle.std.proofs.lemmas.List.Elements.{All-contains, All-cons, All-map, All-nil, Contains-append_right}
 use Rattle.std.specs.Prelude.{Option, Some, None, Ok, All, Contains, IfSome, IsUtf8, find, bytes_eq, ◌≢◌}
-use Rattle.std.specs.List.{AllByRecursion}
 use Rattle.json.specs.Json.{value}
 use Rattle.json.specs.Lex.{tokens}
 use Rattle.json.specs.Token.{Token, begin_object, end_object, key}

@@ -1,6 +1,6 @@
 //! The line that is being read, and the replies that are still to be written.
 
-ghost use Rattle.std.specs.Prelude.{◌≡◌, ℕ, ◌<◌, ◌≤◌, List, [], ◌∷◌, ◌++◌, length, OnOk, IfErr, vec_items};
+ghost use Rattle.std.specs.Prelude.{◌≡◌, ℕ, ◌+◌, ◌<◌, ◌≤◌, List, [], ◌∷◌, ◌++◌, length, OnOk, IfErr, vec_items};
 ghost use Rattle.std.specs.Io.BufRead.{strip_last};
 ghost use Rattle.mv_lines.specs.Lines.{IsUnended, last_piece, lines_of, line_limit, lines_limit};
 ghost use Rattle.mv_lines.specs.Replies.{IsReplies, Readied};
@@ -110,12 +110,40 @@ impl Input {
             Stopped S.replies fault self.old.begun.items self.old.lines answering.old
             (part.now ++ 10 ∷ []) out)) }
     {
+        if self.begun.is_empty() {
+            return self.take_whole_line(answering, part);
+        }
         self.take_part(part)?;
         if self.lines == LINES_LIMIT {
             return Err(ServeFault::TooManyLines);
         }
-        self.answer(answering)?;
+        answer_piece(answering, self.begun.as_slice(), &mut self.replies)?;
         self.begun.clear();
+        self.lines += 1;
+        Ok(())
+    }
+
+    /// Answers a line where it stands, of which nothing had come before, and which has a line feed behind it.
+    fn take_whole_line<S: Answering>(
+        &mut self,
+        answering: &mut S,
+        line: &[u8],
+    ) -> Result<(), ServeFault>
+        requires unended { IsUnended line.now }
+        requires begun { length self.old.begun.items ≡ 0 }
+        ensures ok { OnOk result (Readied self.old.replies.items self.new.replies.items (λ out.
+            Taken S.replies self.old.begun.items self.old.lines answering.old
+            (line.now ++ 10 ∷ []) self.new.begun.items self.new.lines answering.new out)) }
+        ensures err { IfErr result (λ fault.
+            Readied self.old.replies.items self.new.replies.items (λ out.
+            Stopped S.replies fault self.old.begun.items self.old.lines answering.old
+            (line.now ++ 10 ∷ []) out)) }
+    {
+        self.check_part(line)?;
+        if self.lines == LINES_LIMIT {
+            return Err(ServeFault::TooManyLines);
+        }
+        answer_piece(answering, line, &mut self.replies)?;
         self.lines += 1;
         Ok(())
     }
@@ -129,6 +157,19 @@ impl Input {
         ensures lines { self.new.lines ≡ self.old.lines }
         ensures replies { self.new.replies.items ≡ self.old.replies.items }
     {
+        self.check_part(part)?;
+        self.begun.extend_from_slice(part)?;
+        Ok(())
+    }
+
+    /// Whether the line may have these bytes more, of which none ends it.
+    fn check_part(&self, part: &[u8]) -> Result<(), ServeFault>
+        requires unended { IsUnended part.now }
+        ensures behind { OnOk result (0 < length part.now → self.now.lines < lines_limit) }
+        ensures short { OnOk result (length self.now.begun.items + length part.now ≤ line_limit) }
+        ensures err { IfErr result (λ fault.
+            StopsIn fault self.now.begun.items self.now.lines part.now) }
+    {
         if part.is_empty() {
             return Ok(());
         }
@@ -137,30 +178,6 @@ impl Input {
         }
         if part.len() > LINE_LIMIT - self.begun.len() {
             return Err(ServeFault::LineTooLong);
-        }
-        self.begun.extend_from_slice(part)?;
-        Ok(())
-    }
-
-    /// Answers the line that has come, where it isn't empty.
-    fn answer<S: Answering>(&mut self, answering: &mut S) -> Result<(), ServeFault>
-        ensures ok { OnOk result (Readied self.old.replies.items self.new.replies.items (λ out.
-            IsReplies S.replies answering.old (lines_of (self.old.begun.items ∷ []))
-            out answering.new)) }
-        ensures fault { IfErr result (λ fault. fault ≡ ServeFault.Memory) }
-        ensures err { IfErr result (λ _. self.new.replies.items ≡ self.old.replies.items) }
-        ensures begun { self.new.begun ≡ self.old.begun }
-        ensures lines { self.new.lines ≡ self.old.lines }
-    {
-        let line = without_return(self.begun.as_slice());
-        if line.is_empty() {
-            return Ok(());
-        }
-        let kept = self.replies.len();
-        answering.answer(line, &mut self.replies)?;
-        if self.replies.push(b'\n').is_err() {
-            self.replies.truncate(kept);
-            return Err(ServeFault::Memory);
         }
         Ok(())
     }
@@ -176,8 +193,33 @@ impl Input {
         if self.begun.is_empty() {
             return Ok(());
         }
-        self.answer(answering)
+        answer_piece(answering, self.begun.as_slice(), &mut self.replies)
     }
+}
+
+/// Writes the reply to a line that has come, with what ends it but its line feed, behind those that are ready; an empty line
+/// gets none.
+fn answer_piece<S: Answering>(
+    answering: &mut S,
+    piece: &[u8],
+    replies: &mut Vec<u8>,
+) -> Result<(), ServeFault>
+    ensures ok { OnOk result (Readied replies.old.items replies.new.items (λ out.
+        IsReplies S.replies answering.old (lines_of (piece.now ∷ [])) out answering.new)) }
+    ensures fault { IfErr result (λ fault. fault ≡ ServeFault.Memory) }
+    ensures err { IfErr result (λ _. replies.new.items ≡ replies.old.items) }
+{
+    let line = without_return(piece);
+    if line.is_empty() {
+        return Ok(());
+    }
+    let kept = replies.len();
+    answering.answer(line, replies)?;
+    if replies.push(b'\n').is_err() {
+        replies.truncate(kept);
+        return Err(ServeFault::Memory);
+    }
+    Ok(())
 }
 
 /// The bytes without a carriage return at their end.

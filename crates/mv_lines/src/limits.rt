@@ -10,4 +10,4 @@ pub(crate) const LINES_LIMIT: u32 = 1_000_000;
 pub(crate) const INTERRUPTIONS_LIMIT: u32 = 1_000;
 
 /// The bytes that one read may give.
-pub(crate) const BLOCK_LEN: usize = 8_192;
+pub(crate) const BLOCK_LEN: usize = 65_536;

@@ -7,12 +7,15 @@ ghost use Rattle.mv_lines.specs.Output.{WrotePart};
 use crate::ServeFault;
 use std::io::Write;
 
-/// Writes all of the bytes and flushes. A write that fails, is interrupted or takes nothing ends it.
+/// Writes all of the bytes and flushes, where there are any. A write that fails, is interrupted or takes nothing ends it.
 pub fn put_out<W: Write>(writer: &mut W, bytes: &[u8]) -> Result<(), ServeFault>
     ensures ok { OnOk result (Appends (W.contents writer.old) (W.contents writer.new) bytes.now) }
     ensures fault { IfErr result (λ fault. fault ≡ ServeFault.Write) }
     ensures err { IfErr result (λ _. WrotePart bytes.now (W.contents writer.old) (W.contents writer.new)) }
 {
+    if bytes.is_empty() {
+        return Ok(());
+    }
     write_whole(writer, bytes)?;
     writer.flush().map_err(|_| ServeFault::Write)
 }

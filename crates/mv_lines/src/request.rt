@@ -8,7 +8,9 @@ ghost use Rattle.mv_lines.specs.Requests.{request_at, read_request, read_line};
 use crate::field_reading::{gtin_of, message_of, number_of, serial_of};
 use crate::kind::{LineKind, kind_of, known_kind};
 use crate::market_lists::market_lists_of;
+use crate::token_line::read_step;
 use crate::{LineFault, LineField, MarketLists};
+use json::Scratch;
 use mv_machine::Step;
 use mv_message::Shared;
 use mv_pack::PackKey;
@@ -53,6 +55,17 @@ impl Request {
             }
         })?;
         Request::from_value(alloc, &value)
+    }
+
+    /// Reads a line as `read` does, in memory that is kept from line to line: what asks a step by its tokens, and what these
+    /// give no step of by its value.
+    pub fn read_in(alloc: Global, scratch: &mut Scratch, line: &[u8]) -> Result<Request, LineFault>
+        ensures { GivesOr result (read_line line.now) LineFault.Memory }
+    {
+        match read_step(alloc, scratch, line) {
+            Some(step) => Ok(Request::Step(step)),
+            None => Request::read(alloc, line),
+        }
     }
 
     /// What the value of a line asks.

@@ -2,17 +2,15 @@
 
 ghost use Rattle.std.specs.Prelude.{◌≡◌, codes, length, Ok, Some, None, IfOk, IfErr};
 ghost use Rattle.mv_hub.specs.Parties.{parties_of};
-ghost use Rattle.mv_json.specs.Reading.{GivesOr, map_err};
+ghost use Rattle.mv_json.specs.Reading.{map_err};
 ghost use Rattle.mv_lines.specs.Openings.{code_of};
 ghost use Rattle.mv_lines.specs.ReplyLines.{numbered, refused};
-ghost use Rattle.mv_lines.specs.Requests.{read_line};
 ghost use Rattle.mv_lines.specs.Replies.{Readied};
 ghost use Rattle.mv_machine.specs.State.{opening};
 ghost use Rattle.mv_lines.specs.Sessions.{IsAnswer, IsOpened, IsRequestReply, IsReply};
 ghost use Rattle.mv_lines.specs.Writing.{Appended};
 
 use crate::reply_line::{Opened, Refused, append};
-use crate::token_line::read_step;
 use crate::{Answering, LineFault, MarketLists, OpenFault, Request, limits_of, parties_of};
 use json::Scratch;
 use mv_hub::Parties;
@@ -45,7 +43,7 @@ impl Answering for Session {
     ghost replies = { IsReply };
 
     fn answer(&mut self, line: &[u8], out: &mut Vec<u8>) -> Result<(), AllocError> {
-        match self.read(line) {
+        match Request::read_in(self.alloc, &mut self.scratch, line) {
             Ok(request) => self.answer_request(request, out),
             Err(LineFault::Memory) => Err(AllocError),
             Err(fault) => append(self.alloc, out, &fault),
@@ -62,17 +60,6 @@ impl Session {
             alloc,
             scratch: Scratch::new(alloc),
             world: None,
-        }
-    }
-
-    /// Reads a line, as `Request::read` does: by its tokens, and what these give no step of by its value.
-    fn read(&mut self, line: &[u8]) -> Result<Request, LineFault>
-        ensures read { GivesOr result (read_line line.now) LineFault.Memory }
-        ensures kept { self.new ≡ self.old }
-    {
-        match read_step(self.alloc, &mut self.scratch, line) {
-            Some(step) => Ok(Request::Step(step)),
-            None => Request::read(self.alloc, line),
         }
     }
 

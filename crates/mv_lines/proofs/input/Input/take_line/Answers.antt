@@ -23,10 +23,10 @@ returns-then-self-eq-LINES_LIMIT-clause-err g c =
     (stopped_here g.S.Answering.replies _ _ _ 10 _ TooManyLines c.take_part.new.self.few (omega (arith, c.if-self-eq-LINES_LIMIT.true), omega arith))
 
 -- the line got no reply
-pub returns-in_err-answer-clause-err : goal.returns-in_err-answer-clause-err
-returns-in_err-answer-clause-err g c =
-    let p = err_from_is_err_and c.from_residual-in_err-answer.result c.from_residual-in_err-answer.ensures.1 in
-    rw (p.1, p.2, c.in_err-answer.ensures.fault, c.in_err-answer.ensures.err)
+pub returns-in_err-answer_piece-clause-err : goal.returns-in_err-answer_piece-clause-err
+returns-in_err-answer_piece-clause-err g c =
+    let p = err_from_is_err_and c.from_residual-in_err-answer_piece.result c.from_residual-in_err-answer_piece.ensures.1 in
+    rw (p.1, p.2, c.in_err-answer_piece.ensures.fault, c.in_err-answer_piece.ensures.err)
     (grown_stopped g.S.Answering.replies _ _ _ Memory [] refl
     (none_added _ _ c.in_ok-take_part.ensures.replies)
     (part_taken g.S.Answering.replies _ _ _ _ _ _ c.requires.unended c.args.self.now.few c.in_ok-take_part.ensures.ok c.in_ok-take_part.ensures.lines)
@@ -40,4 +40,4 @@ returns-clause-ok g c =
       none_added _ _ c.in_ok-take_part.ensures.replies,
       part_taken g.S.Answering.replies _ _ _ _ _ _ c.requires.unended c.args.self.now.few c.in_ok-take_part.ensures.ok c.in_ok-take_part.ensures.lines,
     )
-    (feed_taken g.S.Answering.replies _ _ _ _ _ _ _ _ (omega (arith, c.if-self-eq-LINES_LIMIT.false, c.take_part.new.self.few)) c.take_part.new.self.short c.clear.ensures.items (omega (arith, c.in_ok-answer.ensures.lines)) c.in_ok-answer.ensures.ok)
+    (feed_taken g.S.Answering.replies _ _ _ _ _ _ _ _ (omega (arith, c.if-self-eq-LINES_LIMIT.false, c.take_part.new.self.few)) c.take_part.new.self.short c.clear.ensures.items (omega arith) (rw c.as_slice.ensures.value at c.in_ok-answer_piece.ensures.ok))

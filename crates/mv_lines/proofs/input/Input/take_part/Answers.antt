@@ -1,10 +1,8 @@
-use Rattle.std.proofs.Common.{arith}
-use Rattle.mv_lines.proofs.PartLemmas.{too_long}
+use Rattle.std.proofs.lemmas.Result.{err_from_is_err_and}
 use Rattle.mv_lines.proofs.input.Input.take_part.Goals as goal
 
--- the line may not have so many bytes more
-pub returns-then-part-len-clause-err : goal.returns-then-part-len-clause-err
-returns-then-part-len-clause-err c =
-    too_long c.args.self.now.begun.items c.args.part.now c.args.self.now.lines c.requires.unended
-    (omega (arith, c.if-self-eq-LINES_LIMIT.false, c.args.self.now.few)) c.args.self.now.short
-    (omega (arith, c.len.ensures, c.if-part-len.true, c.args.self.now.begun.ok.0))
+-- the line may not have these bytes more
+pub returns-in_err-check_part-clause-err : goal.returns-in_err-check_part-clause-err
+returns-in_err-check_part-clause-err c =
+    let p = err_from_is_err_and c.from_residual.result c.from_residual.ensures.1 in
+    rw (p.1, p.2) c.in_err-check_part.ensures.err

@@ -1,20 +1,20 @@
 use Rattle.std.proofs.Common.{rules, ◌≡◌, ◌≢◌, length, sym, ◌∙◌}
 use Rattle.std.specs.Io.BufRead.{strip_last}
 use Rattle.mv_lines.proofs.RepliesLemmas.{nothing_added, reply_added, length_zero, length_none}
-use Rattle.mv_lines.proofs.input.Input.answer.Goals as goal
+use Rattle.mv_lines.proofs.input.answer_piece.Goals as goal
 
 -- the line is empty
 pub returns-then-is_empty-clause-ok : goal.returns-then-is_empty-clause-ok
 returns-then-is_empty-clause-ok g c =
     let line = c.without_return-line.result.now in
-    let stripped : line ≡ strip_last 13 c.args.self.now.begun.items = search rules in
+    let stripped : line ≡ strip_last 13 c.args.piece.now = search rules in
     let none : length line ≡ 0 = search rules in
-    nothing_added g.S.Answering.replies _ c.args.self.now.begun.items c.args.answering.now (sym stripped ∙ length_zero line none)
+    nothing_added g.S.Answering.replies _ c.args.piece.now c.args.answering.now (sym stripped ∙ length_zero line none)
 
 -- the reply is added
 pub returns-clause-ok : goal.returns-clause-ok
 returns-clause-ok g c =
     let line = c.without_return-line.result.now in
-    let stripped : line ≡ strip_last 13 c.args.self.now.begun.items = search rules in
+    let stripped : line ≡ strip_last 13 c.args.piece.now = search rules in
     let some : length line ≢ 0 = search rules in
-    reply_added g.S.Answering.replies c.args.self.now.replies.items _ _ c.args.self.now.begun.items line c.args.answering.now _ stripped (length_none line some) c.in_ok-answer.ensures.ok (search rules)
+    reply_added g.S.Answering.replies c.args.replies.now.items _ _ c.args.piece.now line c.args.answering.now _ stripped (length_none line some) c.in_ok-answer.ensures.ok (search rules)

@@ -5,6 +5,7 @@ ghost use Rattle.std.specs.Prelude.{◌≡◌, Ok, None};
 use crate::draft::Draft;
 use crate::planned::Planned;
 use crate::planning::plan_line;
+use json::Scratch;
 use mv_lines::Answering;
 use std::alloc::{AllocError, Global};
 use std::marker::Model;
@@ -14,6 +15,8 @@ use std::marker::Model;
 pub(crate) struct Planner {
     /// Where what is planned gets its memory.
     alloc: Global,
+    /// In which lines are read.
+    scratch: Scratch,
     /// The plan, once a line has opened it.
     draft: Option<Draft>,
     /// The text of the first refusal, once a line was refused. Behind it nothing is planned any more.
@@ -38,7 +41,7 @@ impl Answering for Planner {
         if self.refusal.is_some() {
             return Ok(());
         }
-        self.refusal = plan_line(self.alloc, &mut self.draft, line)?;
+        self.refusal = plan_line(self.alloc, &mut self.scratch, &mut self.draft, line)?;
         Ok(())
     }
 }
@@ -52,6 +55,7 @@ impl Planner {
     {
         Planner {
             alloc,
+            scratch: Scratch::new(alloc),
             draft: None,
             refusal: None,
         }

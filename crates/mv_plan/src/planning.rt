@@ -8,6 +8,7 @@ ghost use Rattle.mv_hub.specs.Parties.{parties_of};
 ghost use Rattle.mv_plan.specs.Planning.{planned_by, begins, plan_step, plan_request, plan_line};
 
 use crate::draft::Draft;
+use json::Scratch;
 use mv_lines::{
     LineFault, MarketLists, OpenFault, Request, fault_text, limits_of, parties_of, refusal_text,
     reply_text,
@@ -19,13 +20,14 @@ use std::alloc::{AllocError, Global};
 /// Plans what a line asks, where none was refused before it. The text is that of its refusal, where it is refused.
 pub(crate) fn plan_line(
     alloc: Global,
+    scratch: &mut Scratch,
     draft: &mut Option<Draft>,
     line: &[u8],
 ) -> Result<Option<String>, AllocError>
     ensures { IfOk result (λ refusal. planned_by (option_map string_bytes refusal) draft.new
         ≡ plan_line (Ok draft.old) line.now) }
 {
-    match Request::read(alloc, line) {
+    match Request::read_in(alloc, scratch, line) {
         Ok(request) => plan_request(alloc, draft, request),
         Err(LineFault::Memory) => Err(AllocError),
         Err(fault) => Ok(Some(fault_text(alloc, &fault)?)),

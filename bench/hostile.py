@@ -190,24 +190,24 @@ def named_again(makes, statuses):
     yield from turned(map(makes, range(20)), (line for message in changes(statuses) for line in carried(message)))
 
 
-def turned_over(senders, count, statuses):
-    """Statuses of one pack, in order; in front of them come late ones of some senders, so many of each: a change and what reverts it, by
-    turns. Those of the last sender come first, so that each is in front of all that came before, and turns it over."""
+def turned_over(senders, messages, statuses):
+    """Statuses of one pack, in order; in front of them come late messages, the same of each of some senders: a change and what reverts it,
+    by turns. Those of the last sender come first, so that each is in front of all that came before, and turns it over."""
     yield from one_pack()
     for sender in SENDERS[:senders]:
-        for number, message in enumerate(changes(count)):
+        for number, message in enumerate(messages):
             yield from sent(sender, message)
             if number < WIRE:
                 yield {"do": "relay", "from": sender, "to": KEEPER}
     for message in changes(statuses):
         yield from carried(message)
     for sender in reversed(SENDERS[:senders]):
-        yield from taken_at_last(sender, count)
+        yield from taken_at_last(sender, len(messages))
 
 
 def turned_over_by_all(statuses):
     """The same, of all senders; there are ten in order for each that comes late."""
-    return turned_over(len(SENDERS), 2 * (statuses // (20 * len(SENDERS))), statuses)
+    return turned_over(len(SENDERS), changes(2 * (statuses // (20 * len(SENDERS)))), statuses)
 
 
 # What is kept in tables.
@@ -346,6 +346,7 @@ def of_steps(makes):
 
 def all_loads():
     """The loads."""
+    withdrawn = [*changes(WIRE), withdrawal(0)]
     rows = [
         ("uploads of the same packs, late recalls", "uploads", 8_000, partial(late, recall)),
         ("uploads of the same packs, late withdrawals", "uploads", 8_000, partial(late, withdrawal)),
@@ -359,7 +360,8 @@ def all_loads():
         ("new packs of one batch, 62 late withdrawals", "uploads", 5_000, partial(recalled_unsold, withdrawal)),
         ("statuses of a pack named 100 times, 20 late recalls", "statuses", 20_000, partial(named_again, recall)),
         ("statuses of a pack named 100 times, 20 late withdrawals", "statuses", 20_000, partial(named_again, withdrawal)),
-        ("statuses of one pack, 64 late of 10 senders", "statuses", 20_000, partial(turned_over, 10, WIRE)),
+        ("statuses of one pack, 64 late of 10 senders", "statuses", 20_000, partial(turned_over, 10, changes(WIRE))),
+        ("statuses of one pack, 64 late and a withdrawal of 10 senders", "statuses", 20_000, partial(turned_over, 10, withdrawn)),
         ("statuses of one pack, one in 10 late of 62 senders", "statuses", 10_000, turned_over_by_all),
         ("serials and batches that begin alike", "uploads", 2_000, alike),
         ("repackagings of one batch into others", "repackagings", 60_000, star),

@@ -15,9 +15,11 @@ SHORT_EXAMPLES = {
     "steps": EXAMPLES / "malformed-lines.jsonl",
     "canon": EXAMPLES / "canon-masters.jsonl",
     "work": EXAMPLES / "work-plan.jsonl",
+    "show": EXAMPLES / "show-what-stands.jsonl",
 }
 NO_JSON = b'{"refused":"M1"}\n'
 NO_OBJECT = b'{"refused":"M2"}\n'
+NOT_OPEN = b'{"refused":"C1"}\n'
 UNREAD = b"mvhub: V1\n"
 UNWRITTEN = b"mvhub: V2\n"
 MANY_TURNS = "1000000"  # in which each plan of examples/ is finished that can be
@@ -26,8 +28,9 @@ SECONDS = 60  # that a run may take
 
 def words_of(example):
     """The words by which the program is given an example: how its name begins says the task, and how that of a plan ends the turns."""
-    if example.stem.startswith("canon"):
-        return ["canon"]
+    for task in "canon", "show":
+        if example.stem.startswith(task):
+            return [task]
     if example.stem.startswith("work"):
         return ["work", "--turns", "0" if example.stem.endswith("unturned") else MANY_TURNS]
     return ["steps"]

@@ -22,9 +22,16 @@ pub(crate) fn asked_at_last(world: &mut World, party: u32) -> Option<Reply> {
     Some(world.ask(party, &key))
 }
 
+/// Whether nothing is under way from party 1 to party 0.
+fn is_idle(world: &World) -> bool {
+    world.is_party(0) && world.is_party(1) && world.frame_number(1, 0, 0).is_none()
+}
+
 /// Whether a party asks once, for whose second query there is no room on the uplink, and one that is none does not.
 fn fills_uplink(world: &mut World) -> bool {
-    asked_at_last(world, 1) == Some(Reply::Asked { q: 1 })
+    world.limits().uplink() == 1
+        && is_idle(world)
+        && asked_at_last(world, 1) == Some(Reply::Asked { q: 1 })
         && asked_at_last(world, 1) == Some(Reply::Refused(Refusal::UplinkFull))
         && asked_at_last(world, 9) == Some(Reply::Refused(Refusal::Party))
 }

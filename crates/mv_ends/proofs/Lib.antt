@@ -1,4 +1,3 @@
-pub mod CrossingLemmas
 pub mod EndLemmas
 pub mod SiteEndLemmas
 pub mod OpeningLemmas

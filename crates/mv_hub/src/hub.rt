@@ -131,8 +131,8 @@ impl Hub {
         self.links.at(from, to)
     }
 
-    /// Whether a link is open.
-    fn is_open(&self, from: Party, to: Party) -> bool
+    /// Whether the link from one party to another is open: it was not closed.
+    pub fn is_open(&self, from: Party, to: Party) -> bool
         requires from { from < length self.now.parties }
         requires to { to < length self.now.parties }
         ensures { result ≡ is_open self.now.entries from to }

@@ -73,6 +73,13 @@ impl Parties {
         self.lists.len() as u32
     }
 
+    /// The markets of each party, party 0 first, as they were given.
+    pub fn lists(&self) -> &[Markets]
+        ensures { result.now ≡ self.now }
+    {
+        self.lists.as_slice()
+    }
+
     /// The parties that serve one of these markets.
     pub fn serving(&self, markets: &[Market]) -> Reach
         ensures { result ≡ serving self.now markets.now }

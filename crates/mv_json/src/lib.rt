@@ -45,4 +45,4 @@ pub use lists::{MOST_MARKETS, MOST_SERIALS};
 pub use message_reading::{from_value, read};
 pub use reading::MOST_TEXT_BYTES;
 pub use token_message::{read_by_tokens, take_message};
-pub use writing::{text, to_value, write_text};
+pub use writing::{text, to_value, write_message, write_text};

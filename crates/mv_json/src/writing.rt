@@ -5,6 +5,7 @@ ghost use Rattle.serde_json.specs.View.{view};
 ghost use Rattle.serde_json.specs.Written.{compact_text};
 ghost use Rattle.mv_json.specs.Messages.{value_of, read_bytes};
 ghost use Rattle.mv_json.specs.Legal.{IsLegal};
+ghost use Rattle.mv_json.specs.Tokens.{Puts, tokens_of};
 
 use crate::MessageFault;
 use crate::member_values::Making;
@@ -43,6 +44,14 @@ pub fn write_text(alloc: Global, message: &Message, out: &mut Vec<u8>) -> Result
         out.truncate(len);
     }
     written
+}
+
+/// Writes the value of a message, with its keys in byte order, as a value of what a writer has begun. The only refusal is want of
+/// memory.
+pub fn write_message(writer: &mut Writer, message: &Message) -> Result<(), AllocError>
+    ensures { Puts result writer.old writer.new (tokens_of (value_of message.now)) }
+{
+    put_message(writer, message)
 }
 
 /// The canonical text of a message: its value with no blanks, the keys in byte order. The only refusal is M9, for want of

@@ -1,26 +1,27 @@
 -- The replies to messages are their canonical texts, one for each line.
-use Rattle.std.proofs.Common.{◌≡◌, ℕ, List, [], ◌∷◌, None, Some, IfSome, refl, map}
+use Rattle.std.proofs.Common.{◌≡◌, ℕ, List, [], ◌∷◌, None, Some, IfSome, refl, ap, map}
 use Rattle.std.specs.declared.option.Option.{Option}
 use Rattle.std.specs.Prelude.{⊤}
 use Rattle.std.specs.Io.KnownBytes.{Appends}
 use Rattle.mv_lines.specs.Canon.{IsCanon, canon_text, canon_of}
-use Rattle.mv_lines.specs.Lines.{lines_of, pieces}
-use Rattle.mv_lines.specs.Replies.{AreReplies}
+use Rattle.mv_lines.specs.Lines.{Line, lines_from, pieces}
+use Rattle.mv_lines.specs.Replies.{AreReplies, said_texts}
 use Rattle.mv_lines.specs.Served.{Served}
 
 -- each text is that to the line at its place
-texts_are : (before : ⊤) (lines texts : List (List ℕ)) (after : ⊤) → AreReplies IsCanon before lines texts after → texts ≡ map canon_text lines
+texts_are : (before : ⊤) (lines : List Line) (texts : List (Option (List ℕ))) (after : ⊤) → AreReplies IsCanon before lines texts after
+    → said_texts texts ≡ map canon_text (map (λ line. line.bytes) lines)
 texts_are before [] [] after are = refl
 texts_are before [] (text ∷ texts) after are = absurd are
 texts_are before (line ∷ lines) [] after are = absurd are
 texts_are before (line ∷ lines) (text ∷ texts) after (between, is, are) =
-    rw (is, texts_are between lines texts after are) refl
+    rw is (ap (λ ts. canon_text line.bytes ∷ ts) (texts_are between lines texts after are))
 
 -- what went out for an input that was answered whole
 served_texts : (bytes : List ℕ) (after : ⊤) (old new : Option (List ℕ)) → Served IsCanon tt bytes after old new → Appends old new (canon_of bytes)
 served_texts bytes after old new served =
     let (texts, whole, are) = served.replied in
-    rw (← texts_are tt (lines_of (pieces bytes)) texts after are, ← whole) served.written
+    rw (← texts_are tt (lines_from 0 (pieces bytes)) texts after are, ← whole) served.written
 
 -- the same of an input that may be known
 pub served_input : (input : Option (List ℕ)) (after : ⊤) (old new : Option (List ℕ))

@@ -1,12 +1,12 @@
 -- Lemmas on an input that comes in parts.
 use Rattle.std.proofs.Common.{◌≡◌, ℕ, ◌+◌, ◌<◌, ◌≤◌, List, [], ◌∷◌, ◌++◌, length, refl, sym, ◌∙◌, ap, subst, arith, append_assoc, append-nil, length-append, true, false, rules}
 use Rattle.std.proofs.lemmas.List.{map-append}
-use Rattle.std.proofs.lemmas.List.Elements.{All-append, filter-append}
-use Rattle.std.specs.Prelude.{cond, ◌==◌, map, filter, Result, Ok, Err, OnOk, IfErr}
+use Rattle.std.proofs.lemmas.List.Elements.{All-append}
+use Rattle.std.specs.Prelude.{cond, ◌==◌, map, Option, Result, Ok, Err, OnOk, IfErr}
 use Rattle.std.specs.Io.BufRead.{strip_last}
 use Rattle.mv_lines.specs.declared.fault.ServeFault.{ServeFault}
 use Rattle.mv_lines.specs.declared.fault.ServeFault.TheVariants.{Read, Write, Memory, TooManyLines, LineTooLong, Start}
-use Rattle.mv_lines.specs.Lines.{whole_from, rest_from, lines_of, has_byte, line_limit, lines_limit, IsUnended, KeepLimits}
+use Rattle.mv_lines.specs.Lines.{Line, line_unless_empty, whole_from, rest_from, lines_from, lines_of, line_limit, lines_limit, IsUnended, KeepLimits}
 use Rattle.mv_lines.specs.Replies.{IsReplies}
 use Rattle.mv_lines.specs.Served.{StopsAt, StopsIn, Stopped}
 use Rattle.mv_lines.specs.Taking.{Taken}
@@ -34,12 +34,36 @@ rest_from-append begun (x ∷ xs) ys =
     ]
 
 -- the lines of two lists of pieces
+pub lines_from-append : (count : ℕ) (ps qs : List (List ℕ)) → lines_from count (ps ++ qs) ≡ lines_from count ps ++ lines_from (count + length ps) qs
+lines_from-append count [] qs = ap (λ n. lines_from n qs) (omega arith)
+lines_from-append count (piece ∷ ps) qs =
+    let line = line_unless_empty (count + 1) (strip_last 13 piece) in
+    let after : count + 1 + length ps ≡ count + length (piece ∷ ps) = omega arith in
+    ap (λ ls. line ++ ls) (lines_from-append (count + 1) ps qs) ∙ sym (append_assoc line (lines_from (count + 1) ps) (lines_from (count + 1 + length ps) qs))
+    ∙ ap (λ n. (line ++ lines_from (count + 1) ps) ++ lines_from n qs) after
+
+-- the bytes of a line are the same, whatever its number
+line_bytes : (a b : ℕ) (bytes : List ℕ) (xs ys : List Line) → map (λ line. line.bytes) xs ≡ map (λ line. line.bytes) ys
+    → map (λ line. line.bytes) (line_unless_empty a bytes ++ xs) ≡ map (λ line. line.bytes) (line_unless_empty b bytes ++ ys)
+line_bytes a b [] xs ys same = same
+line_bytes a b (x ∷ bytes) xs ys same = ap (λ ls. (x ∷ bytes) ∷ ls) same
+
+-- so are those of lines, whatever came before them
+pub lines_bytes : (a b : ℕ) (ps : List (List ℕ)) → map (λ line. line.bytes) (lines_from a ps) ≡ map (λ line. line.bytes) (lines_from b ps)
+lines_bytes a b [] = refl
+lines_bytes a b (piece ∷ ps) = line_bytes (a + 1) (b + 1) (strip_last 13 piece) _ _ (lines_bytes (a + 1) (b + 1) ps)
+
+-- the bytes of the lines of two lists of pieces
 pub lines_of-append : (ps qs : List (List ℕ)) → lines_of (ps ++ qs) ≡ lines_of ps ++ lines_of qs
-lines_of-append ps qs = ap (filter has_byte) (map-append (strip_last 13) ps qs) ∙ filter-append has_byte (map (strip_last 13) ps) (map (strip_last 13) qs)
+lines_of-append ps qs =
+    ap (map (λ line. line.bytes)) (lines_from-append 0 ps qs) ∙ map-append (λ line. line.bytes) (lines_from 0 ps) (lines_from (0 + length ps) qs)
+    ∙ ap (λ ls. lines_of ps ++ ls) (lines_bytes (0 + length ps) 0 qs)
 
 -- the lines that end in two parts
-pub whole_lines-append : (begun xs ys : List ℕ) → lines_of (whole_from begun (xs ++ ys)) ≡ lines_of (whole_from begun xs) ++ lines_of (whole_from (rest_from begun xs) ys)
-whole_lines-append begun xs ys = ap lines_of (whole_from-append begun xs ys) ∙ lines_of-append (whole_from begun xs) (whole_from (rest_from begun xs) ys)
+pub whole_lines-append : (count : ℕ) (begun xs ys : List ℕ)
+    → lines_from count (whole_from begun (xs ++ ys)) ≡ lines_from count (whole_from begun xs) ++ lines_from (count + length (whole_from begun xs)) (whole_from (rest_from begun xs) ys)
+whole_lines-append count begun xs ys =
+    ap (lines_from count) (whole_from-append begun xs ys) ∙ lines_from-append count (whole_from begun xs) (whole_from (rest_from begun xs) ys)
 
 -- no piece keeps the limits, wherever a run has come
 pub KeepLimits-nil : (count : ℕ) → count ≤ lines_limit → KeepLimits count []
@@ -74,7 +98,7 @@ stops_later LineTooLong begun count front good bad tail (behind, full, next, mor
 pub none_added : (kept kept' : List ℕ) → kept' ≡ kept → kept' ≡ kept ++ []
 none_added kept kept' same = same ∙ sym (append-nil kept)
 
-module _ {S : Type 0} (Reply : S → List ℕ → List ℕ → S → Type 0) where
+module _ {S : Type 0} (Reply : S → Line → Option (List ℕ) → S → Type 0) where
   -- bytes that end no line are taken
   pub part_taken : (begun part begun' : List ℕ) (count count' : ℕ) (a : S) → IsUnended part → count ≤ lines_limit → begun' ≡ begun ++ part → count' ≡ count
       → Taken Reply begun count a part begun' count' a []
@@ -93,7 +117,7 @@ module _ {S : Type 0} (Reply : S → List ℕ → List ℕ → S → Type 0) whe
     rest = next.rest ∙ ap (λ l. rest_from l ys) first.rest ∙ sym (rest_from-append begun xs ys);
     counted = rw (whole_from-append begun xs ys, length-append, ← first.rest) (omega (arith, first.counted, next.counted));
     kept = rw (whole_from-append begun xs ys, ← first.rest) (KeepLimits-append count _ _ first.kept (rw first.counted at next.kept));
-    replied = rw (whole_lines-append begun xs ys, ← first.rest) (IsReplies-append Reply a b c _ _ out other first.replied next.replied);
+    replied = rw (whole_lines-append count begun xs ys, ← first.rest, ← first.counted) (IsReplies-append Reply a b c _ _ out other first.replied next.replied);
   }
 
   -- where the taking of a middle part stopped, it stopped in the whole
@@ -107,7 +131,7 @@ module _ {S : Type 0} (Reply : S → List ℕ → List ℕ → S → Type 0) whe
     why = stops_later fault begun count front stopped.good stopped.bad tail (rw (first.rest, first.counted) at stopped.why);
     kept = rw (whole_from-append begun front stopped.good, ← first.rest) (KeepLimits-append count _ _ first.kept (rw first.counted at stopped.kept));
     after = stopped.after;
-    replied = rw (whole_lines-append begun front stopped.good, ← first.rest) (IsReplies-append Reply a b stopped.after _ _ out other first.replied stopped.replied);
+    replied = rw (whole_lines-append count begun front stopped.good, ← first.rest, ← first.counted) (IsReplies-append Reply a b stopped.after _ _ out other first.replied stopped.replied);
   }
 
   -- the taking of bytes that end no line stops
@@ -126,7 +150,7 @@ module _ {S : Type 0} (Reply : S → List ℕ → List ℕ → S → Type 0) whe
   -- a line feed is taken, and the line that it ends is answered; `kept` are the replies before
   pub feed_taken : (kept kept' begun begun' : List ℕ) (count count' : ℕ) (a b : S) → count < lines_limit → length begun ≤ line_limit
       → begun' ≡ [] → count' ≡ count + 1
-      → (out : List ℕ) × (kept' ≡ kept ++ out) × IsReplies Reply a (lines_of (begun ∷ [])) out b
+      → (out : List ℕ) × (kept' ≡ kept ++ out) × IsReplies Reply a (lines_from count (begun ∷ [])) out b
       → (out : List ℕ) × (kept' ≡ kept ++ out) × Taken Reply begun count a (10 ∷ []) begun' count' b out
   feed_taken kept kept' begun begun' count count' a b few short none more (out, grown, replied) = (
     out,

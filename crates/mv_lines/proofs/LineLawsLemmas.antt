@@ -43,7 +43,7 @@ use Rattle.mv_lines.specs.declared.line_fault.LineFault.TheVariants.{NotObject, 
 use Rattle.mv_lines.specs.declared.line_fault.LineFault.TheVariants.{Message as InMessage}
 use Rattle.mv_lines.specs.declared.request.Request.{Request}
 use Rattle.mv_lines.specs.declared.request.Request.TheVariants.{Open, Step}
-use Rattle.mv_lines.proofs.InputLemmas.{whole_from-append, rest_from-append, lines_of-append}
+use Rattle.mv_lines.proofs.InputLemmas.{whole_from-append, rest_from-append, lines_bytes, lines_of-append}
 use Rattle.mv_lines.proofs.ListLemmas.{is_market, market_lists}
 use Rattle.mv_lines.proofs.PartLemmas.{unended_whole, unended_rest}
 
@@ -129,7 +129,7 @@ pieces_compose front back =
 
 -- an empty piece is no line
 first_line : (piece : List ℕ) (ps : List (List ℕ)) → lines_of (piece ∷ ps) ≡ lines_of (last_piece piece) ++ lines_of ps
-first_line [] ps = refl
+first_line [] ps = lines_bytes 1 0 ps
 first_line (x ∷ xs) ps = lines_of-append ((x ∷ xs) ∷ []) ps
 
 -- the lines of two parts with a line feed between them

@@ -1,10 +1,10 @@
 -- Lemmas on replies to lines that come in parts.
-use Rattle.std.proofs.Common.{◌≡◌, ℕ, List, [], ◌∷◌, ◌++◌, ◌≢◌, refl, length, arith, sym, ap, subst, append-nil, append_assoc, ◌∙◌}
-use Rattle.std.specs.Prelude.{cond}
+use Rattle.std.proofs.Common.{◌≡◌, ℕ, ◌+◌, List, [], ◌∷◌, ◌++◌, ◌≢◌, refl, length, take, take_at, arith, sym, ap, subst, append-nil, append_assoc, ◌∙◌}
+use Rattle.std.specs.Prelude.{Bool, true, false, Option, Some, None}
 use Rattle.std.proofs.lemmas.Grind.{flat_map-append}
 use Rattle.std.specs.Io.BufRead.{strip_last}
-use Rattle.mv_lines.specs.Lines.{lines_of, has_byte}
-use Rattle.mv_lines.specs.Replies.{AreReplies, IsReplies}
+use Rattle.mv_lines.specs.Lines.{Line, line_at, line_unless_empty, lines_from}
+use Rattle.mv_lines.specs.Replies.{AreReplies, IsReplies, said, said_texts}
 
 -- a list of no length is empty
 pub length_zero : (xs : List ℕ) → length xs ≡ 0 → xs ≡ []
@@ -15,9 +15,20 @@ length_zero (x ∷ xs) none = absurd (omega (arith, none))
 pub length_none : (xs : List ℕ) → length xs ≢ 0 → xs ≢ []
 length_none xs some empty = some (ap length empty)
 
-module _ {S : Type 0} (Reply : S → List ℕ → List ℕ → S → Type 0) where
+-- the texts that there are in two lists
+said_texts-append : (xs ys : List (Option (List ℕ))) → said_texts (xs ++ ys) ≡ said_texts xs ++ said_texts ys
+said_texts-append [] ys = refl
+said_texts-append (None ∷ xs) ys = said_texts-append xs ys
+said_texts-append (Some text ∷ xs) ys = ap (λ ts. text ∷ ts) (said_texts-append xs ys)
+
+-- a line that isn't empty is the one of its piece
+one_line : (number : ℕ) (line : List ℕ) → line ≢ [] → line_unless_empty number line ++ [] ≡ line_at number line ∷ []
+one_line number [] some = absurd (some refl)
+one_line number (x ∷ xs) some = refl
+
+module _ {S : Type 0} (Reply : S → Line → Option (List ℕ) → S → Type 0) where
   -- replies to some lines, and then to the next
-  pub AreReplies-append : (a b c : S) (lines more texts others : List (List ℕ)) → AreReplies Reply a lines texts b
+  pub AreReplies-append : (a b c : S) (lines more : List Line) (texts others : List (Option (List ℕ))) → AreReplies Reply a lines texts b
       → AreReplies Reply b more others c → AreReplies Reply a (lines ++ more) (texts ++ others) c
   AreReplies-append a b c [] more [] others first next = subst (λ s. AreReplies Reply s more others c) first next
   AreReplies-append a b c [] more (text ∷ texts) others first next = absurd first
@@ -26,11 +37,12 @@ module _ {S : Type 0} (Reply : S → List ℕ → List ℕ → S → Type 0) whe
       (first.0, first.1, AreReplies-append first.0 b c lines more texts others first.2 next)
 
   -- the bytes of the replies follow one another
-  pub IsReplies-append : (a b c : S) (lines more : List (List ℕ)) (out other : List ℕ) → IsReplies Reply a lines out b
+  pub IsReplies-append : (a b c : S) (lines more : List Line) (out other : List ℕ) → IsReplies Reply a lines out b
       → IsReplies Reply b more other c → IsReplies Reply a (lines ++ more) (out ++ other) c
   IsReplies-append a b c lines more out other first next = (
     first.0 ++ next.0,
-    rw (first.1, next.1) (sym (flat_map-append (λ text. text ++ 10 ∷ []) first.0 next.0)),
+    rw (first.1, next.1, said_texts-append first.0 next.0)
+        (sym (flat_map-append (λ text. text ++ 10 ∷ []) (said_texts first.0) (said_texts next.0))),
     AreReplies-append a b c lines more first.0 next.0 first.2 next.2,
   )
 
@@ -39,25 +51,36 @@ module _ {S : Type 0} (Reply : S → List ℕ → List ℕ → S → Type 0) whe
   IsReplies-nil a = ([], refl, refl)
 
   -- the reply to one line
-  pub IsReplies-one : (a b : S) (line text : List ℕ) → Reply a line text b → IsReplies Reply a (line ∷ []) (text ++ 10 ∷ []) b
-  IsReplies-one a b line text reply = (text ∷ [], sym (append-nil (text ++ 10 ∷ [])), (b, reply, refl))
+  IsReplies-one : (a b : S) (line : Line) (text : List ℕ) → Reply a line (Some text) b → IsReplies Reply a (line ∷ []) (text ++ 10 ∷ []) b
+  IsReplies-one a b line text reply = (Some text ∷ [], sym (append-nil (text ++ 10 ∷ [])), (b, reply, refl))
+
+  -- the want of a reply to one line
+  IsReplies-none : (a b : S) (line : Line) → Reply a line None b → IsReplies Reply a (line ∷ []) [] b
+  IsReplies-none a b line reply = (None ∷ [], refl, (b, reply, refl))
 
   -- a piece that is an empty line adds no reply
-  pub nothing_added : (kept piece : List ℕ) (a : S) → strip_last 13 piece ≡ []
-      → (out : List ℕ) × (kept ≡ kept ++ out) × IsReplies Reply a (lines_of (piece ∷ [])) out a
-  nothing_added kept piece a empty = ([], sym (append-nil kept), rw empty (IsReplies-nil a))
-
-  -- a line that isn't empty is the one line of its piece
-  one_line : (line : List ℕ) → line ≢ [] → cond (has_byte line) (line ∷ []) [] ≡ line ∷ []
-  one_line [] some = absurd (some refl)
-  one_line (x ∷ xs) some = refl
+  pub nothing_added : (count : ℕ) (kept piece : List ℕ) (a : S) → strip_last 13 piece ≡ []
+      → (out : List ℕ) × (kept ≡ kept ++ out) × IsReplies Reply a (lines_from count (piece ∷ [])) out a
+  nothing_added count kept piece a empty = ([], sym (append-nil kept), rw empty (IsReplies-nil a))
 
   -- another piece adds the reply to its line
-  pub reply_added : (kept written items piece line : List ℕ) (a b : S) → line ≡ strip_last 13 piece → line ≢ []
-      → (text : List ℕ) × (written ≡ kept ++ text) × Reply a line text b → items ≡ written ++ 10 ∷ []
-      → (out : List ℕ) × (items ≡ kept ++ out) × IsReplies Reply a (lines_of (piece ∷ [])) out b
-  reply_added kept written items piece line a b stripped some (text, grown, reply) ended = (
+  pub reply_added : (count : ℕ) (spoken : Bool) (kept written items piece line : List ℕ) (a b : S) → spoken ≡ true → line ≡ strip_last 13 piece
+      → line ≢ [] → (text : List ℕ) × (written ≡ kept ++ text) × Reply a (line_at (count + 1) line) (said spoken text) b
+      → items ≡ written ++ 10 ∷ []
+      → (out : List ℕ) × (items ≡ kept ++ out) × IsReplies Reply a (lines_from count (piece ∷ [])) out b
+  reply_added count spoken kept written items piece line a b says stripped some (text, grown, reply) ended = (
     text ++ 10 ∷ [],
     ended ∙ ap (λ l. l ++ 10 ∷ []) grown ∙ append_assoc kept text (10 ∷ []),
-    rw (← stripped, one_line line some) (IsReplies-one a b line text reply),
+    rw (← stripped, one_line (count + 1) line some) (IsReplies-one a b (line_at (count + 1) line) text (rw says at reply)),
+  )
+
+  -- or none
+  pub none_said : (count n : ℕ) (spoken : Bool) (kept written items piece line : List ℕ) (a b : S) → spoken ≡ false → line ≡ strip_last 13 piece
+      → line ≢ [] → (text : List ℕ) × (written ≡ kept ++ text) × Reply a (line_at (count + 1) line) (said spoken text) b
+      → n ≡ length kept → items ≡ take n written
+      → (out : List ℕ) × (items ≡ kept ++ out) × IsReplies Reply a (lines_from count (piece ∷ [])) out b
+  none_said count n spoken kept written items piece line a b says stripped some (text, grown, reply) len same = (
+    [],
+    same ∙ ap (take n) grown ∙ take_at kept text n (sym len) ∙ sym (append-nil kept),
+    rw (← stripped, one_line (count + 1) line some) (IsReplies-none a b (line_at (count + 1) line) (rw says at reply)),
   )

@@ -5,13 +5,13 @@ use Rattle.std.specs.Io.KnownBytes.{Appends, Consumes}
 use Rattle.std.proofs.KnownBytes.{Appends-trans, Consumes-trans}
 use Rattle.mv_lines.specs.declared.fault.ServeFault.{ServeFault}
 use Rattle.mv_lines.specs.declared.fault.ServeFault.TheVariants.{Read, Write, Memory, TooManyLines, LineTooLong, Start}
-use Rattle.mv_lines.specs.Lines.{whole_from, rest_from, pieces, last_piece, lines_of, line_limit, lines_limit, KeepLimits}
+use Rattle.mv_lines.specs.Lines.{whole_from, rest_from, pieces, last_piece, Line, lines_from, line_limit, lines_limit, KeepLimits}
 use Rattle.mv_lines.specs.Output.{WrotePart}
 use Rattle.mv_lines.specs.Replies.{IsReplies}
 use Rattle.mv_lines.specs.Served.{Stopped, WroteReplies, Served, Ended}
 use Rattle.mv_lines.specs.Taking.{Taken, Halted, HaltedLast}
 use Rattle.mv_lines.proofs.RepliesLemmas.{IsReplies-append, IsReplies-nil}
-use Rattle.mv_lines.proofs.InputLemmas.{whole_from-append, lines_of-append, KeepLimits-nil, KeepLimits-append, stopped_later}
+use Rattle.mv_lines.proofs.InputLemmas.{whole_from-append, lines_from-append, KeepLimits-nil, KeepLimits-append, stopped_later}
 
 -- a last piece keeps the limits
 last_kept : (begun : List ℕ) (count : ℕ) → count ≤ lines_limit → (0 < length begun → count < lines_limit) → length begun ≤ line_limit
@@ -23,7 +23,7 @@ last_kept (x ∷ xs) count few behind short = record { few = omega (arith, behin
 pub read_none : (a b c : Option (List ℕ)) (xs block : List ℕ) (n : ℕ) → Consumes a b xs → Consumes b c (take n block) → n ≡ 0 → Consumes a c xs
 read_none a b c xs block n p q e = subst (λ l. Consumes a c l) (append-nil xs) (Consumes-trans a b c xs [] p (rw e at q))
 
-module _ {S : Type 0} (Reply : S → List ℕ → List ℕ → S → Type 0) where
+module _ {S : Type 0} (Reply : S → Line → Option (List ℕ) → S → Type 0) where
   -- all pieces that came keep the limits
   all_kept : {bytes begun' out : List ℕ} {count' : ℕ} {before between : S} → Taken Reply [] 0 before bytes begun' count' between out
       → count' ≤ lines_limit → (0 < length begun' → count' < lines_limit) → length begun' ≤ line_limit → KeepLimits 0 (pieces bytes)
@@ -39,7 +39,7 @@ module _ {S : Type 0} (Reply : S → List ℕ → List ℕ → S → Type 0) whe
 
   -- the replies to some first pieces stand ready, and their first bytes went out
   wrote_replies : (count : ℕ) (before after : S) (ps answered unanswered : List (List ℕ)) (ready : List ℕ) (old new : Option (List ℕ))
-      → ps ≡ answered ++ unanswered → KeepLimits count answered → IsReplies Reply before (lines_of answered) ready after → WrotePart ready old new
+      → ps ≡ answered ++ unanswered → KeepLimits count answered → IsReplies Reply before (lines_from count answered) ready after → WrotePart ready old new
       → WroteReplies Reply count before ps old new
   wrote_replies count before after ps answered unanswered ready old new cut kept replied (out, more, e, written) = record {
     answered = answered;
@@ -67,7 +67,7 @@ module _ {S : Type 0} (Reply : S → List ℕ → List ℕ → S → Type 0) whe
   -- the write of the last line's reply failed
   pub last_broken : {A : Type 0} (answered : Result A ServeFault) (kept ready begun : List ℕ) (count : ℕ) (before after : S) (old new : Option (List ℕ)) → kept ≡ []
       → count ≤ lines_limit → (0 < length begun → count < lines_limit) → length begun ≤ line_limit
-      → OnOk answered ((out : List ℕ) × (ready ≡ kept ++ out) × IsReplies Reply before (lines_of (last_piece begun)) out after)
+      → OnOk answered ((out : List ℕ) × (ready ≡ kept ++ out) × IsReplies Reply before (lines_from count (last_piece begun)) out after)
       → IfErr answered (λ _. ready ≡ kept)
       → WrotePart ready old new → WroteReplies Reply count before (last_piece begun) old new
   last_broken (Ok u) kept ready begun count before after old new none few behind short (out, grown, replied) same part =
@@ -88,7 +88,7 @@ module _ {S : Type 0} (Reply : S → List ℕ → List ℕ → S → Type 0) whe
     out = out ++ broken.out;
     unwritten = broken.unwritten;
     after = broken.after;
-    replied = rw (lines_of-append (whole_from [] front) broken.answered, append_assoc out broken.out broken.unwritten) (IsReplies-append Reply before between broken.after _ _ out (broken.out ++ broken.unwritten) taken.replied broken.replied);
+    replied = rw (lines_from-append 0 (whole_from [] front) broken.answered, append_assoc out broken.out broken.unwritten) (IsReplies-append Reply before between broken.after _ _ out (broken.out ++ broken.unwritten) taken.replied (rw taken.counted at broken.replied));
     written = Appends-trans a b c out broken.out written broken.written;
   }
 
@@ -127,18 +127,18 @@ module _ {S : Type 0} (Reply : S → List ℕ → List ℕ → S → Type 0) whe
     out = out ++ broken.out;
     unwritten = broken.unwritten;
     after = broken.after;
-    replied = rw (lines_of-append (whole_from [] bytes) broken.answered, append_assoc out broken.out broken.unwritten) (IsReplies-append Reply before between broken.after _ _ out (broken.out ++ broken.unwritten) taken.replied broken.replied);
+    replied = rw (lines_from-append 0 (whole_from [] bytes) broken.answered, append_assoc out broken.out broken.unwritten) (IsReplies-append Reply before between broken.after _ _ out (broken.out ++ broken.unwritten) taken.replied (rw taken.counted at broken.replied));
     written = Appends-trans a b c out broken.out written broken.written;
   }
 
   -- the last line is answered, and so the input
   pub served_whole : (before between after : S) (bytes begun' out other : List ℕ) (count' : ℕ) (a b c : Option (List ℕ)) → Appends a b out
       → Taken Reply [] 0 before bytes begun' count' between out → count' ≤ lines_limit → (0 < length begun' → count' < lines_limit) → length begun' ≤ line_limit
-      → Appends b c other → IsReplies Reply between (lines_of (last_piece begun')) other after
+      → Appends b c other → IsReplies Reply between (lines_from count' (last_piece begun')) other after
       → Served Reply before bytes after a c
   served_whole before between after bytes begun' out other count' a b c written taken few behind short more replied = record {
     kept = all_kept taken few behind short;
     out = out ++ other;
-    replied = rw (lines_of-append (whole_from [] bytes) (last_piece (rest_from [] bytes))) (IsReplies-append Reply before between after _ _ out other taken.replied (rw taken.rest at replied));
+    replied = rw (lines_from-append 0 (whole_from [] bytes) (last_piece (rest_from [] bytes))) (IsReplies-append Reply before between after _ _ out other taken.replied (rw (taken.rest, taken.counted) at replied));
     written = Appends-trans a b c out other written more;
   }

@@ -1,16 +1,21 @@
 -- What is written of a reply's object is its canonical text.
-use Rattle.std.proofs.Common.{◌≡◌, ℕ, ◌≤◌, List, [], ◌∷◌, ◌++◌, refl, ap, map, flat_map, length, take, take_all, take_at, decimal, sym, ◌∙◌, append_assoc, true≢false}
-use Rattle.std.specs.Prelude.{IfOk, OnOk, Result, Ok, Err, is_err, false, true}
-use Rattle.json.specs.Token.{Token, begin_array, end_array, begin_object, end_object, key, string, number, boolean}
-use Rattle.json.specs.Tree.{items_tokens, members_tokens}
+use Rattle.std.proofs.Common.{◌≡◌, ℕ, ◌≤◌, List, [], ◌∷◌, ◌++◌, refl, ap, map, flat_map, length, take, take_all, take_at, decimal, codes, sym, ◌∙◌, append_assoc, true≢false}
+use Rattle.std.specs.Prelude.{IfOk, OnOk, Some, None, Result, Ok, Err, is_err, false, true}
+use Rattle.json.specs.Token.{Token, begin_array, end_array, begin_object, end_object, key, string, number, boolean, null}
+use Rattle.json.specs.Tree.{json_tokens, items_tokens, members_tokens}
 use Rattle.json.specs.Print.{print}
-use Rattle.serde_json.specs.Data.{Data, object}
-use Rattle.serde_json.specs.Written.{items_outline, members_outline, compact_text}
+use Rattle.serde_json.specs.Data.{Data, array, object}
+use Rattle.serde_json.specs.Data as values
+use Rattle.serde_json.specs.View.{items_of}
+use Rattle.serde_json.specs.Written.{outline, items_outline, members_outline, compact_text}
 use Rattle.serde_json.proofs.Texts.{print-outline}
+use Rattle.mv_json.specs.Messages.{value_of}
+use Rattle.mv_json.specs.Values.{strings}
+use Rattle.mv_lines.specs.Meanings.{markets_value}
 use Rattle.mv_lines.specs.declared.members.Member.{Member}
 use Rattle.mv_lines.specs.declared.members.Member.TheVariants as members
 use Rattle.mv_lines.specs.ReplyLines.{wholes}
-use Rattle.mv_lines.specs.Writing.{tokens_of, wholes_tokens, member_tokens, members_of, Appended}
+use Rattle.mv_lines.specs.Writing.{change_object, change_value, national_value, tokens_of, wholes_tokens, member_tokens, members_of, Appended}
 
 -- the token of a whole number
 abbrev pub whole_token : ℕ → Token
@@ -24,20 +29,57 @@ wholes_are : (ns : List ℕ) → wholes_tokens ns ≡ begin_array ∷ (map whole
 unfolding wholes_tokens
 wholes_are ns = ap (λ ts. begin_array ∷ ts) (items_are ns)
 
+-- the tokens of a member, and of those that come behind it
+behind : (name : List ℕ) (value : Data) (ms : List Member)
+    → members_tokens (members_outline (members_of ms)) ≡ flat_map member_tokens ms ++ end_object ∷ []
+    → key name ∷ (json_tokens (outline value) ++ members_tokens (members_outline (members_of ms)))
+    ≡ key name ∷ ((json_tokens (outline value) ++ flat_map member_tokens ms) ++ end_object ∷ [])
+behind name value ms are =
+    let these = json_tokens (outline value) in
+    ap (λ ts. key name ∷ (these ++ ts)) are ∙ ap (λ ts. key name ∷ ts) (sym (append_assoc these (flat_map member_tokens ms) (end_object ∷ [])))
+
 members_are : (ms : List Member) → members_tokens (members_outline (members_of ms)) ≡ flat_map member_tokens ms ++ end_object ∷ []
-unfolding wholes_tokens
+unfolding wholes_tokens tokens_of
 members_are [] = refl
 members_are (members.Number name n ∷ ms) = ap (λ ts. key name.now ∷ whole_token n ∷ ts) (members_are ms)
 members_are (members.Text name text ∷ ms) = ap (λ ts. key name.now ∷ string text.now ∷ ts) (members_are ms)
 members_are (members.Flag name flag ∷ ms) = ap (λ ts. key name.now ∷ boolean flag ∷ ts) (members_are ms)
-members_are (members.Parties name parties ∷ ms) =
-    let numbers = items_tokens (items_outline (wholes parties.now)) in
-    ap (λ ts. key name.now ∷ begin_array ∷ (numbers ++ ts)) (members_are ms)
-    ∙ ap (λ ts. key name.now ∷ begin_array ∷ ts) (sym (append_assoc numbers (flat_map member_tokens ms) (end_object ∷ [])))
+members_are (members.NumberOrNone name None ∷ ms) = members_are ms
+members_are (members.NumberOrNone name (Some n) ∷ ms) = ap (λ ts. key name.now ∷ whole_token n ∷ ts) (members_are ms)
+members_are (members.FlagOrNone name None ∷ ms) = members_are ms
+members_are (members.FlagOrNone name (Some flag) ∷ ms) = ap (λ ts. key name.now ∷ boolean flag ∷ ts) (members_are ms)
+members_are (members.Null name ∷ ms) = ap (λ ts. key name.now ∷ null ∷ ts) (members_are ms)
+members_are (members.Parties name parties ∷ ms) = behind name.now (array (wholes parties.now)) ms (members_are ms)
+members_are (members.Markets name lists ∷ ms) = behind name.now (markets_value lists.now) ms (members_are ms)
+members_are (members.Message name message ∷ ms) = behind name.now (value_of message.now) ms (members_are ms)
+members_are (members.National name national ∷ ms) = behind name.now (national_value national.now) ms (members_are ms)
+members_are (members.Change name change user ∷ ms) = behind name.now (change_value change.now user.now) ms (members_are ms)
 
 object_is : (ms : List Member) → tokens_of (object (members_of ms)) ≡ begin_object ∷ (flat_map member_tokens ms ++ end_object ∷ [])
 unfolding tokens_of
 object_is ms = ap (λ ts. begin_object ∷ ts) (members_are ms)
+
+-- the tokens of a text
+abbrev pub text_tokens : List ℕ → List Token
+text_tokens text = string text ∷ []
+
+-- the tokens of a list of texts
+abbrev pub texts_tokens : List (List ℕ) → List Token
+texts_tokens texts = tokens_of (array (strings texts))
+
+-- the tokens of a list are those of its members, in order
+list_is : {A : Type 0} (value : A → Data) (tokens : A → List Token) → ((x : A) → tokens_of (value x) ≡ tokens x)
+    → (xs : List A) → items_tokens (items_outline (items_of (map value xs))) ≡ flat_map tokens xs ++ end_array ∷ []
+unfolding tokens_of
+list_is value tokens each [] = refl
+list_is value tokens each (x ∷ xs) =
+    ap (λ ts. ts ++ items_tokens (items_outline (items_of (map value xs)))) (each x)
+    ∙ ap (λ ts. tokens x ++ ts) (list_is value tokens each xs)
+    ∙ sym (append_assoc (tokens x) (flat_map tokens xs) (end_array ∷ []))
+
+text_is : (text : List ℕ) → tokens_of (values.string text) ≡ text_tokens text
+unfolding tokens_of
+text_is text = refl
 
 -- the text of a value, where its tokens alone were written
 pub text_written : (ts : List Token) (value : Data) → ts ≡ [] ++ tokens_of value → print ts ≡ compact_text value
@@ -45,6 +87,18 @@ unfolding tokens_of
 text_written ts value e = ap print e ∙ print-outline value
 
 module _ {E : Type 0} where
+  -- the moment, the party and the user of a change are written, and the object ends
+  pub change_written : (r : Result (Unit {0}) E) (at by : ℕ) (user : List ℕ) (old first second third fourth fifth sixth seventh new : List Token)
+      → first ≡ old ++ begin_object ∷ [] → second ≡ first ++ key (codes "at") ∷ [] → third ≡ second ++ whole_token at ∷ []
+      → fourth ≡ third ++ key (codes "by") ∷ [] → fifth ≡ fourth ++ whole_token by ∷ [] → sixth ≡ fifth ++ key (codes "user") ∷ []
+      → seventh ≡ sixth ++ string user ∷ [] → OnOk r (new ≡ seventh ++ end_object ∷ []) → IfOk r (λ _. new ≡ old ++ tokens_of (change_object at by user))
+  unfolding tokens_of
+  change_written (Ok u) at by user old first second third fourth fifth sixth seventh new e1 e2 e3 e4 e5 e6 e7 closed =
+      let add = λ (token : Token) (tokens : List Token). tokens ++ token ∷ [] in
+      closed ∙ ap (add end_object) (e7 ∙ ap (add (string user)) (e6 ∙ ap (add (key (codes "user"))) (e5 ∙ ap (add (whole_token by))
+      (e4 ∙ ap (add (key (codes "by"))) (e3 ∙ ap (add (whole_token at)) (e2 ∙ ap (add (key (codes "at"))) e1)))))) ∙ simp append_assoc
+  change_written (Err e) at by user old first second third fourth fifth sixth seventh new e1 e2 e3 e4 e5 e6 e7 closed = tt
+
   -- all numbers are written, and the list ends
   pub wholes_closed : (r : Result (Unit {0}) E) (ns : List ℕ) (i : ℕ) (old mid new : List Token) → length ns ≤ i
       → mid ≡ old ++ (begin_array ∷ map whole_token (take i ns)) → OnOk r (new ≡ mid ++ end_array ∷ [])
@@ -53,6 +107,36 @@ module _ {E : Type 0} where
       closed ∙ ap (λ l. l ++ end_array ∷ []) before ∙ append_assoc old _ _
       ∙ ap (λ l. old ++ l) (ap (λ l. begin_array ∷ (map whole_token l ++ end_array ∷ [])) (take_all i ns all) ∙ sym (wholes_are ns))
   wholes_closed (Err e) ns i old mid new all before closed = tt
+
+  -- all members of a list are written, and the list ends
+  list_closed : {A : Type 0} (value : A → Data) (tokens : A → List Token) → ((x : A) → tokens_of (value x) ≡ tokens x)
+      → (r : Result (Unit {0}) E) (xs : List A) (i : ℕ) (old mid new : List Token) → length xs ≤ i
+      → mid ≡ old ++ (begin_array ∷ flat_map tokens (take i xs)) → OnOk r (new ≡ mid ++ end_array ∷ [])
+      → IfOk r (λ _. new ≡ old ++ tokens_of (array (items_of (map value xs))))
+  unfolding tokens_of
+  list_closed value tokens each (Ok u) xs i old mid new all before closed =
+      closed ∙ ap (λ l. l ++ end_array ∷ []) before ∙ append_assoc old _ _
+      ∙ ap (λ l. old ++ begin_array ∷ l) (ap (λ l. flat_map tokens l ++ end_array ∷ []) (take_all i xs all) ∙ sym (list_is value tokens each xs))
+  list_closed value tokens each (Err e) xs i old mid new all before closed = tt
+
+  -- all texts are written, and the list ends
+  pub texts_closed : (r : Result (Unit {0}) E) (texts : List (List ℕ)) (i : ℕ) (old mid new : List Token) → length texts ≤ i
+      → mid ≡ old ++ (begin_array ∷ flat_map text_tokens (take i texts)) → OnOk r (new ≡ mid ++ end_array ∷ [])
+      → IfOk r (λ _. new ≡ old ++ tokens_of (array (strings texts)))
+  texts_closed = list_closed values.string text_tokens text_is
+
+  -- all lists of texts are written, and the list of them ends
+  pub lists_closed : (r : Result (Unit {0}) E) (lists : List (List (List ℕ))) (i : ℕ) (old mid new : List Token) → length lists ≤ i
+      → mid ≡ old ++ (begin_array ∷ flat_map texts_tokens (take i lists)) → OnOk r (new ≡ mid ++ end_array ∷ [])
+      → IfOk r (λ _. new ≡ old ++ tokens_of (markets_value lists))
+  lists_closed = list_closed (λ texts. array (strings texts)) texts_tokens (λ texts. refl)
+
+  -- a value is written behind its key
+  pub member_added : (r : Result (Unit {0}) E) (name : List ℕ) (value : Data) (old mid new : List Token) → mid ≡ old ++ key name ∷ []
+      → IfOk r (λ _. new ≡ mid ++ tokens_of value) → IfOk r (λ _. new ≡ old ++ (key name ∷ tokens_of value))
+  member_added (Ok u) name value old mid new before added =
+      added ∙ ap (λ l. l ++ tokens_of value) before ∙ append_assoc old (key name ∷ []) (tokens_of value)
+  member_added (Err e) name value old mid new before added = tt
 
   -- all members are written, and the object ends
   pub object_closed : (r : Result (Unit {0}) E) (ms : List Member) (i : ℕ) (old mid new : List Token) → length ms ≤ i

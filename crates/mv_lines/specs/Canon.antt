@@ -1,11 +1,11 @@
 -- The canonical texts of messages, a line each.
-use Rattle.std.specs.Prelude.{◌≡◌, ℕ, List, map, Result, Ok, Err, ⊤}
+use Rattle.std.specs.Prelude.{◌≡◌, ℕ, List, map, Option, Some, Result, Ok, Err, ⊤}
 use Rattle.serde_json.specs.Data.{Data}
 use Rattle.serde_json.specs.Written.{compact_text}
 use Rattle.mv_json.specs.Messages.{read_bytes, value_of}
 use Rattle.mv_json.specs.declared.fault.MessageFault.{MessageFault}
 use Rattle.mv_message.specs.declared.message.Message.{Message}
-use Rattle.mv_lines.specs.Lines.{pieces, lines_of}
+use Rattle.mv_lines.specs.Lines.{Line, pieces, lines_of}
 use Rattle.mv_lines.specs.Replies.{text_lines}
 use Rattle.mv_lines.specs.ReplyLines.{message_fault_value}
 
@@ -23,5 +23,5 @@ abbrev pub canon_of : List ℕ → List ℕ
 canon_of bytes = text_lines (map canon_text (lines_of (pieces bytes)))
 
 -- the text is that to the line; nothing is kept from line to line
-abbrev pub IsCanon : ⊤ → List ℕ → List ℕ → ⊤ → Type 0
-IsCanon before line text after = text ≡ canon_text line
+abbrev pub IsCanon : ⊤ → Line → Option (List ℕ) → ⊤ → Type 0
+IsCanon before line text after = text ≡ Some (canon_text line.bytes)

@@ -1,5 +1,5 @@
 -- The lines of an input, and the limits of the format (docs/FORMATS.md, Lines).
-use Rattle.std.specs.Prelude.{◌≢◌, ℕ, ◌+◌, ◌≤◌, List, [], ◌∷◌, ◌++◌, ◌==◌, Bool, true, false, if◌then◌else◌, map, filter, length, All, EachIndex, slice_index}
+use Rattle.std.specs.Prelude.{◌≢◌, ℕ, ◌+◌, ◌≤◌, List, [], ◌∷◌, ◌++◌, ◌==◌, if◌then◌else◌, map, length, All, EachIndex, slice_index}
 use Rattle.std.specs.Io.BufRead.{strip_last}
 
 -- the pieces of the bytes that end by a line feed, without it, in order; `begun` is what the first has so far
@@ -25,14 +25,28 @@ last_piece (x ∷ xs) = (x ∷ xs) ∷ []
 abbrev pub pieces : List ℕ → List (List ℕ)
 pieces bytes = whole_from [] bytes ++ last_piece (rest_from [] bytes)
 
--- whether a line has a byte
-abbrev pub has_byte : List ℕ → Bool
-has_byte [] = false
-has_byte (x ∷ xs) = true
+-- a line that isn't empty: which of the input it is, counted from one with the empty ones, and its bytes
+pub record Line : Type 0 where
+  pub number : ℕ
+  pub bytes : List ℕ
 
--- the lines that pieces are, without those that are empty: one final carriage return (13) is dropped of each piece
+abbrev pub line_at : ℕ → List ℕ → Line
+line_at number bytes = record { number = number; bytes = bytes }
+
+-- the line of this number, unless it is empty
+abbrev pub line_unless_empty : ℕ → List ℕ → List Line
+line_unless_empty number [] = []
+line_unless_empty number (x ∷ xs) = line_at number (x ∷ xs) ∷ []
+
+-- The lines that pieces are which come after `count` others, without those that are empty: one final carriage return (13) is dropped
+-- of each piece.
+abbrev pub lines_from : ℕ → List (List ℕ) → List Line
+lines_from count [] = []
+lines_from count (piece ∷ ps) = line_unless_empty (count + 1) (strip_last 13 piece) ++ lines_from (count + 1) ps
+
+-- the bytes of the lines that pieces are
 abbrev pub lines_of : List (List ℕ) → List (List ℕ)
-lines_of ps = filter has_byte (map (strip_last 13) ps)
+lines_of ps = map (λ line. line.bytes) (lines_from 0 ps)
 
 -- the bytes that a line has at most, its line feed not counted
 abbrev pub line_limit : ℕ

@@ -1,16 +1,23 @@
 -- The replies to lines, by a rule that says what a reply to one line may be.
-use Rattle.std.specs.Prelude.{◌≡◌, ℕ, List, [], ◌∷◌, ◌++◌, flat_map}
+use Rattle.std.specs.Prelude.{◌≡◌, ℕ, List, [], ◌∷◌, ◌++◌, flat_map, Bool, true, false, Option, Some, None}
+use Rattle.mv_lines.specs.Lines.{Line}
 
--- Which replies to a line are right: what answers before the line, the line, the reply's text, and what answers the next line.
+-- Which replies to a line are right: what answers before the line, the line, the reply's text, if there is one, and what answers the
+-- next line.
 abbrev pub ReplyRule : Type 0 → Type 1
-ReplyRule S = S → List ℕ → List ℕ → S → Type 0
+ReplyRule S = S → Line → Option (List ℕ) → S → Type 0
+
+-- the text, where it is said that there is one
+abbrev pub said : Bool → List ℕ → Option (List ℕ)
+said true text = Some text
+said false text = None
 
 -- some bytes came behind the ones that stand ready to be written, and the fact holds of them
 abbrev pub Readied : List ℕ → List ℕ → (List ℕ → Type 0) → Type 0
 Readied old new Fact = (out : List ℕ) × (new ≡ old ++ out) × Fact out
 
--- each text is a right reply to the line at its place
-abbrev pub AreReplies : {S : Type 0} → ReplyRule S → S → List (List ℕ) → List (List ℕ) → S → Type 0
+-- each text, or its want, is a right reply to the line at its place
+abbrev pub AreReplies : {S : Type 0} → ReplyRule S → S → List Line → List (Option (List ℕ)) → S → Type 0
 AreReplies rule before [] [] after = after ≡ before
 AreReplies rule before [] (text ∷ texts) after = ⊥
 AreReplies rule before (line ∷ lines) [] after = ⊥
@@ -21,7 +28,13 @@ AreReplies {S = S} rule before (line ∷ lines) (text ∷ texts) after =
 abbrev pub text_lines : List (List ℕ) → List ℕ
 text_lines texts = flat_map (λ text. text ++ 10 ∷ []) texts
 
+-- the texts that there are
+abbrev pub said_texts : List (Option (List ℕ)) → List (List ℕ)
+said_texts [] = []
+said_texts (None ∷ texts) = said_texts texts
+said_texts (Some text ∷ texts) = text ∷ said_texts texts
+
 -- these bytes are right replies to the lines, each ended by a line feed
-abbrev pub IsReplies : {S : Type 0} → ReplyRule S → S → List (List ℕ) → List ℕ → S → Type 0
+abbrev pub IsReplies : {S : Type 0} → ReplyRule S → S → List Line → List ℕ → S → Type 0
 IsReplies rule before lines out after =
-    (texts : List (List ℕ)) × (out ≡ text_lines texts) × AreReplies rule before lines texts after
+    (texts : List (Option (List ℕ))) × (out ≡ text_lines (said_texts texts)) × AreReplies rule before lines texts after

@@ -23,7 +23,10 @@ use Rattle.mv_machine.specs.declared.reply.Refusal.TheVariants.{Busy}
 use Rattle.mv_machine.specs.Replies.{code_of as refusal_code}
 use Rattle.mv_lines.specs.declared.line_fault.LineFault.{LineFault}
 use Rattle.mv_lines.specs.declared.line_fault.LineFault.TheVariants as line
+use Rattle.mv_lines.specs.declared.answered.Answered.{Answered}
+use Rattle.mv_lines.specs.declared.answered.Answered.TheVariants.{Unread, NotTaken, Opened, Stepped}
 use Rattle.mv_lines.specs.Fields.{field_name}
+use Rattle.mv_lines.specs.Openings.{code_of as open_code}
 use Rattle.mv_lines.specs.Objects.{object_of}
 
 -- a list of whole numbers
@@ -113,3 +116,10 @@ reply_value (replies.Joint NotAsked) = object_of ((codes "verdict", string (code
 reply_value (replies.Joint (Pending left)) = object_of ((codes "left", whole left) ∷ (codes "verdict", string (codes "pending")) ∷ [])
 reply_value (replies.Joint (Decided verdict)) = verdict_value verdict
 reply_value (replies.Refused refusal) = refusal_value refusal
+
+-- what a line is answered by what came of it
+abbrev pub answer_value : Answered → Data
+answer_value (Unread fault) = line_fault_value fault
+answer_value (NotTaken fault) = refused (open_code fault)
+answer_value (Opened parties) = numbered (codes "opened") parties
+answer_value (Stepped step reply) = reply_value reply

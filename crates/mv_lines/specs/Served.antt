@@ -3,7 +3,7 @@ use Rattle.std.specs.Prelude.{◌≡◌, ◌≢◌, ℕ, ◌+◌, ◌<◌, List,
 use Rattle.std.specs.Io.KnownBytes.{Appends}
 use Rattle.mv_lines.specs.declared.fault.ServeFault.{ServeFault}
 use Rattle.mv_lines.specs.declared.fault.ServeFault.TheVariants.{Read, Write, Memory, TooManyLines, LineTooLong}
-use Rattle.mv_lines.specs.Lines.{whole_from, rest_from, pieces, lines_of, line_limit, lines_limit, KeepLimits}
+use Rattle.mv_lines.specs.Lines.{whole_from, rest_from, pieces, lines_from, line_limit, lines_limit, KeepLimits}
 use Rattle.mv_lines.specs.Replies.{ReplyRule, IsReplies}
 
 -- some bytes went out, and the fact holds of them
@@ -36,7 +36,7 @@ pub record Stopped {S : Type 0} (rule : ReplyRule S) (fault : ServeFault) (begun
   pub why : StopsAt fault begun count good bad
   pub kept : KeepLimits count (whole_from begun good)
   pub after : S
-  pub replied : IsReplies rule before (lines_of (whole_from begun good)) out after
+  pub replied : IsReplies rule before (lines_from count (whole_from begun good)) out after
 
 -- Of the replies to some first pieces the first bytes went out, and no more. Those pieces keep the limits, behind `count` lines.
 pub record WroteReplies {S : Type 0} (rule : ReplyRule S) (count : ℕ) (before : S) (ps : List (List ℕ))
@@ -48,7 +48,7 @@ pub record WroteReplies {S : Type 0} (rule : ReplyRule S) (count : ℕ) (before 
   pub out : List ℕ
   pub unwritten : List ℕ
   pub after : S
-  pub replied : IsReplies rule before (lines_of answered) (out ++ unwritten) after
+  pub replied : IsReplies rule before (lines_from count answered) (out ++ unwritten) after
   pub written : Appends old new out
 
 -- A whole input was answered: its lines keep the limits, and the replies to them went out.
@@ -56,7 +56,7 @@ pub record Served {S : Type 0} (rule : ReplyRule S) (before : S) (bytes : List �
     (old new : Option (List ℕ)) : Type 0 where
   pub kept : KeepLimits 0 (pieces bytes)
   pub out : List ℕ
-  pub replied : IsReplies rule before (lines_of (pieces bytes)) out after
+  pub replied : IsReplies rule before (lines_from 0 (pieces bytes)) out after
   pub written : Appends old new out
 
 -- What a run that read these bytes and ended by a fault has written. Where a read failed: the replies to the lines that
@@ -65,6 +65,6 @@ pub record Served {S : Type 0} (rule : ReplyRule S) (before : S) (bytes : List �
 -- lines that ended before that place, which keep the limits.
 abbrev pub Ended : {S : Type 0} → ReplyRule S → ServeFault → S → List ℕ → Option (List ℕ) → Option (List ℕ) → Type 0
 Ended {S = S} rule Read before bytes old new = KeepLimits 0 (pieces bytes)
-    × Wrote old new (λ out. (after : S) × IsReplies rule before (lines_of (whole_from [] bytes)) out after)
+    × Wrote old new (λ out. (after : S) × IsReplies rule before (lines_from 0 (whole_from [] bytes)) out after)
 Ended rule Write before bytes old new = WroteReplies rule 0 before (pieces bytes) old new
 Ended rule fault before bytes old new = Wrote old new (Stopped rule fault [] 0 before bytes)

@@ -1,52 +1,63 @@
--- What a line may be answered. What is open is the state of the list machine; nothing, before an opening succeeds.
-use Rattle.std.specs.Prelude.{◌≡◌, ℕ, List, codes, length, Option, Some, None, Result, Ok, Err, MatchResult}
-use Rattle.serde_json.specs.Data.{Data}
+-- What may come of a line, and what it is answered. What is open is the state of the list machine; nothing, before an opening succeeds.
+use Rattle.std.specs.Prelude.{◌≡◌, ℕ, List, length, Bool, true, false, Option, Some, None, Result, Ok, Err, MatchResult}
 use Rattle.serde_json.specs.Written.{compact_text}
 use Rattle.mv_hub.specs.Parties.{parties_of}
 use Rattle.mv_json.specs.Reading.{map_err}
+use Rattle.mv_machine.specs.declared.reply.Refusal.TheVariants.{Memory}
 use Rattle.mv_machine.specs.declared.reply.Reply.{Reply}
+use Rattle.mv_machine.specs.declared.reply.Reply.TheVariants.{Refused}
 use Rattle.mv_machine.specs.Limits.{Bounds, limits_of}
 use Rattle.mv_machine.specs.State.{State, opening}
 use Rattle.mv_machine.specs.Runs.{Allows}
+use Rattle.mv_lines.specs.declared.answered.Answered.{Answered}
+use Rattle.mv_lines.specs.declared.answered.Answered.TheVariants.{Unread, NotTaken, Opened, Stepped}
 use Rattle.mv_lines.specs.declared.open_fault.OpenFault.{OpenFault}
 use Rattle.mv_lines.specs.declared.open_fault.OpenFault.TheVariants.{NotOpen, AlreadyOpen, Parties, Limits}
 use Rattle.mv_lines.specs.declared.request.Request.{Request}
 use Rattle.mv_lines.specs.declared.request.Request.TheVariants as requests
-use Rattle.mv_lines.specs.Openings.{code_of}
-use Rattle.mv_lines.specs.ReplyLines.{numbered, refused, line_fault_value, reply_value}
+use Rattle.mv_lines.specs.Lines.{Line}
+use Rattle.mv_lines.specs.ReplyLines.{answer_value}
 use Rattle.mv_lines.specs.Requests.{read_line}
 
 -- what is open, and nothing before the first opening
 abbrev pub Open : Type 0
 Open = Option State
 
--- the line is answered by the text of a value, and leaves this open
-abbrev pub IsAnswer : Data → Open → List ℕ → Open → Type 0
-IsAnswer value left text after = (text ≡ compact_text value) × (after ≡ left)
+-- a line that was refused for what it is or for want of memory: by an M, C, H or O, or by S14
+abbrev pub is_refused : Answered → Bool
+is_refused (Unread fault) = true
+is_refused (NotTaken fault) = true
+is_refused (Stepped step (Refused Memory)) = true
+is_refused answered = false
 
--- the line is refused, and nothing changes
-abbrev pub IsRefusal : OpenFault → Open → List ℕ → Open → Type 0
-IsRefusal fault before text after = IsAnswer (refused (code_of fault)) before text after
+-- what is open refuses the line, and nothing changes
+abbrev pub IsNotTaken : OpenFault → Open → Answered → Open → Type 0
+IsNotTaken fault before answered after = (answered ≡ NotTaken fault) × (after ≡ before)
 
--- the reply to a line that opens: C2 where something is open; H1 to H3, O1 to O4; else the system opens
-abbrev pub IsOpened : Open → Result (List (List (List ℕ))) OpenFault → Result Bounds OpenFault → List ℕ → Open → Type 0
-IsOpened (Some st) parties limits text after = IsRefusal AlreadyOpen (Some st) text after
-IsOpened None (Err fault) limits text after = IsRefusal fault None text after
-IsOpened None (Ok parties) (Err fault) text after = IsRefusal fault None text after
-IsOpened None (Ok parties) (Ok limits) text after =
-    IsAnswer (numbered (codes "opened") (length parties)) (Some (opening parties limits)) text after
+-- what comes of a line that opens: C2 where something is open; H1 to H3, O1 to O4; else the system opens
+abbrev pub IsOpened : Open → Result (List (List (List ℕ))) OpenFault → Result Bounds OpenFault → Answered → Open → Type 0
+IsOpened (Some st) parties limits answered after = IsNotTaken AlreadyOpen (Some st) answered after
+IsOpened None (Err fault) limits answered after = IsNotTaken fault None answered after
+IsOpened None (Ok parties) (Err fault) answered after = IsNotTaken fault None answered after
+IsOpened None (Ok parties) (Ok limits) answered after =
+    (answered ≡ Opened (length parties)) × (after ≡ Some (opening parties limits))
 
--- the reply to what a line asks: to a step C1 where nothing is open, else one that the list machine allows
-abbrev pub IsRequestReply : Open → Request → List ℕ → Open → Type 0
-IsRequestReply before (requests.Open parties submissions uplink window wire) text after =
-    IsOpened before (map_err Parties (parties_of parties)) (map_err Limits (limits_of window wire uplink submissions)) text after
-IsRequestReply None (requests.Step step) text after = IsRefusal NotOpen None text after
-IsRequestReply (Some old) (requests.Step step) text after =
-    (reply : Reply) × (new : State) × Allows old step reply new × IsAnswer (reply_value reply) (Some new) text after
+-- what comes of what a line asks: of a step C1 where nothing is open, else a reply that the list machine allows
+abbrev pub IsRequestTaken : Open → Request → Answered → Open → Type 0
+IsRequestTaken before (requests.Open parties submissions uplink window wire) answered after =
+    IsOpened before (map_err Parties (parties_of parties)) (map_err Limits (limits_of window wire uplink submissions)) answered after
+IsRequestTaken None (requests.Step step) answered after = IsNotTaken NotOpen None answered after
+IsRequestTaken (Some old) (requests.Step step) answered after =
+    (reply : Reply) × (new : State) × Allows old step reply new × (answered ≡ Stepped step reply) × (after ≡ Some new)
 
--- the reply to a line: what is open before it, the line, the reply's text, and what is open behind it
-abbrev pub IsReply : Open → List ℕ → List ℕ → Open → Type 0
-IsReply before line text after =
+-- what comes of a line: what is open before it, its bytes, what came, and what is open after it
+abbrev pub IsTaken : Open → List ℕ → Answered → Open → Type 0
+IsTaken before line answered after =
     MatchResult (read_line line)
-    (λ request. IsRequestReply before request text after)
-    (λ fault. IsAnswer (line_fault_value fault) before text after)
+    (λ request. IsRequestTaken before request answered after)
+    (λ fault. (answered ≡ Unread fault) × (after ≡ before))
+
+-- the reply to a line: the text of what came of it
+abbrev pub IsReply : Open → Line → Option (List ℕ) → Open → Type 0
+IsReply before line text after =
+    (answered : Answered) × IsTaken before line.bytes answered after × (text ≡ Some (compact_text (answer_value answered)))

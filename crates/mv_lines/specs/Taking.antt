@@ -3,7 +3,7 @@ use Rattle.std.specs.Prelude.{◌≡◌, ℕ, ◌+◌, List, [], length, Option}
 use Rattle.std.specs.Io.KnownBytes.{Appends}
 use Rattle.mv_lines.specs.declared.fault.ServeFault.{ServeFault}
 use Rattle.mv_lines.specs.declared.fault.ServeFault.TheVariants.{Write, Memory}
-use Rattle.mv_lines.specs.Lines.{whole_from, rest_from, lines_of, KeepLimits}
+use Rattle.mv_lines.specs.Lines.{whole_from, rest_from, lines_from, KeepLimits}
 use Rattle.mv_lines.specs.Replies.{ReplyRule, IsReplies}
 use Rattle.mv_lines.specs.Served.{Wrote, Stopped, WroteReplies}
 
@@ -14,7 +14,7 @@ pub record Taken {S : Type 0} (rule : ReplyRule S) (begun : List ℕ) (count : �
   pub rest : begun' ≡ rest_from begun bytes
   pub counted : count' ≡ count + length (whole_from begun bytes)
   pub kept : KeepLimits count (whole_from begun bytes)
-  pub replied : IsReplies rule before (lines_of (whole_from begun bytes)) out after
+  pub replied : IsReplies rule before (lines_from count (whole_from begun bytes)) out after
 
 -- what was written where a fault ended the taking of these bytes
 abbrev pub Halted : {S : Type 0} → ReplyRule S → ServeFault → List ℕ → ℕ → S → List ℕ

@@ -1,7 +1,8 @@
 //! What the engine asks of that which answers the lines.
 
 ghost use Rattle.std.specs.Prelude.{◌≡◌, IfOk, IfErr};
-ghost use Rattle.mv_lines.specs.Replies.{Readied, ReplyRule};
+ghost use Rattle.mv_lines.specs.Lines.{line_at};
+ghost use Rattle.mv_lines.specs.Replies.{Readied, ReplyRule, said};
 
 use std::alloc::AllocError;
 
@@ -10,10 +11,12 @@ pub trait Answering {
     /// Which replies are right.
     ghost replies: { ReplyRule Self };
 
-    /// Writes the reply's text to a line that isn't empty behind what the buffer holds. Where memory is refused the buffer
-    /// is as it was.
-    fn answer(&mut self, line: &[u8], out: &mut Vec<u8>) -> Result<(), AllocError>
-        ensures ok { IfOk result (λ _. Readied out.old.items out.new.items (λ text.
-            replies self.old line.now text self.new)) }
+    /// Writes the reply's text to a line that isn't empty behind what the buffer holds, and says whether there is one: where
+    /// there is none, what was written is dropped. Where memory is refused the buffer is as it was.
+    ///
+    /// The number of the line is counted from one, with the empty lines.
+    fn answer(&mut self, number: u32, line: &[u8], out: &mut Vec<u8>) -> Result<bool, AllocError>
+        ensures ok { IfOk result (λ spoken. Readied out.old.items out.new.items (λ text.
+            replies self.old (line_at number line.now) (said spoken text) self.new)) }
         ensures err { IfErr result (λ _. out.new.items ≡ out.old.items) };
 }

@@ -1,10 +1,11 @@
 //! Runs messages, a line each.
 
-ghost use Rattle.std.specs.Prelude.{◌≡◌, ℕ, List, OnOk, IfErr, IfSome};
+ghost use Rattle.std.specs.Prelude.{◌≡◌, ℕ, List, OnOk, IfOk, IfErr, IfSome};
 ghost use Rattle.std.specs.Io.KnownBytes.{Consumes, Appends};
 ghost use Rattle.mv_json.specs.Messages.{read_bytes};
 ghost use Rattle.mv_json.specs.Reading.{GivesOr};
-ghost use Rattle.mv_lines.specs.Canon.{IsCanon, canon_of};
+ghost use Rattle.mv_lines.specs.Canon.{IsCanon, canon_of, canon_text};
+ghost use Rattle.mv_lines.specs.Replies.{Readied};
 ghost use Rattle.mv_lines.specs.Served.{Served, Ended};
 
 use crate::reply_line::append;
@@ -36,16 +37,25 @@ impl Model for Canonizer {
 impl Answering for Canonizer {
     ghost replies = { IsCanon };
 
-    fn answer(&mut self, line: &[u8], out: &mut Vec<u8>) -> Result<(), AllocError> {
+    fn answer(&mut self, _number: u32, line: &[u8], out: &mut Vec<u8>) -> Result<bool, AllocError> {
+        self.write(line, out)?;
+        Ok(true)
+    }
+}
+
+impl Canonizer {
+    /// Writes the canonical text of the message that a line is, or its refusal, behind what the buffer holds.
+    fn write(&mut self, line: &[u8], out: &mut Vec<u8>) -> Result<(), AllocError>
+        ensures ok { IfOk result (λ _. Readied out.old.items out.new.items (λ text. text ≡ canon_text line.now)) }
+        ensures err { IfErr result (λ _. out.new.items ≡ out.old.items) }
+    {
         match self.read(line) {
             Ok(message) => mv_json::write_text(self.alloc, &message, out),
             Err(MessageFault::Memory) => Err(AllocError),
             Err(fault) => append(self.alloc, out, &fault),
         }
     }
-}
 
-impl Canonizer {
     /// Reads a message: by its tokens, and what these give no message of by its value.
     fn read(&mut self, line: &[u8]) -> Result<Message, MessageFault>
         ensures { GivesOr result (read_bytes line.now) MessageFault.Memory }

@@ -2,7 +2,7 @@
 
 ghost use Rattle.std.specs.Prelude.{◌≡◌, ℕ, ◌+◌, ◌<◌, ◌≤◌, List, [], ◌∷◌, ◌++◌, length, OnOk, IfErr, vec_items};
 ghost use Rattle.std.specs.Io.BufRead.{strip_last};
-ghost use Rattle.mv_lines.specs.Lines.{IsUnended, last_piece, lines_of, line_limit, lines_limit};
+ghost use Rattle.mv_lines.specs.Lines.{IsUnended, last_piece, lines_from, line_limit, lines_limit};
 ghost use Rattle.mv_lines.specs.Replies.{IsReplies, Readied};
 ghost use Rattle.std.specs.Io.KnownBytes.{Appends};
 ghost use Rattle.mv_lines.specs.Served.{Wrote, StopsIn, Stopped};
@@ -69,7 +69,7 @@ impl Input {
         writer: &mut W,
     ) -> Result<(), ServeFault>
         ensures ok { OnOk result (Wrote (W.contents writer.old) (W.contents writer.new) (λ out.
-            IsReplies S.replies answering.old (lines_of (last_piece self.old.begun.items))
+            IsReplies S.replies answering.old (lines_from self.old.lines (last_piece self.old.begun.items))
             out answering.new)) }
         ensures err { IfErr result (λ fault.
             HaltedLast S.replies fault self.old.lines answering.old (last_piece self.old.begun.items)
@@ -117,7 +117,12 @@ impl Input {
         if self.lines == LINES_LIMIT {
             return Err(ServeFault::TooManyLines);
         }
-        answer_piece(answering, self.begun.as_slice(), &mut self.replies)?;
+        answer_piece(
+            answering,
+            self.lines,
+            self.begun.as_slice(),
+            &mut self.replies,
+        )?;
         self.begun.clear();
         self.lines += 1;
         Ok(())
@@ -143,7 +148,7 @@ impl Input {
         if self.lines == LINES_LIMIT {
             return Err(ServeFault::TooManyLines);
         }
-        answer_piece(answering, line, &mut self.replies)?;
+        answer_piece(answering, self.lines, line, &mut self.replies)?;
         self.lines += 1;
         Ok(())
     }
@@ -185,7 +190,7 @@ impl Input {
     /// Answers the last line, if the input doesn't end by a line feed.
     fn finish<S: Answering>(&mut self, answering: &mut S) -> Result<(), ServeFault>
         ensures ok { OnOk result (Readied self.old.replies.items self.new.replies.items (λ out.
-            IsReplies S.replies answering.old (lines_of (last_piece self.old.begun.items))
+            IsReplies S.replies answering.old (lines_from self.old.lines (last_piece self.old.begun.items))
             out answering.new)) }
         ensures fault { IfErr result (λ fault. fault ≡ ServeFault.Memory) }
         ensures err { IfErr result (λ _. self.new.replies.items ≡ self.old.replies.items) }
@@ -193,19 +198,26 @@ impl Input {
         if self.begun.is_empty() {
             return Ok(());
         }
-        answer_piece(answering, self.begun.as_slice(), &mut self.replies)
+        answer_piece(
+            answering,
+            self.lines,
+            self.begun.as_slice(),
+            &mut self.replies,
+        )
     }
 }
 
-/// Writes the reply to a line that has come, with what ends it but its line feed, behind those that are ready; an empty line
-/// gets none.
+/// Writes the reply to a line that has come after `count` others, with what ends it but its line feed, behind those that are
+/// ready; an empty line gets none.
 fn answer_piece<S: Answering>(
     answering: &mut S,
+    count: u32,
     piece: &[u8],
     replies: &mut Vec<u8>,
 ) -> Result<(), ServeFault>
+    requires { count < lines_limit }
     ensures ok { OnOk result (Readied replies.old.items replies.new.items (λ out.
-        IsReplies S.replies answering.old (lines_of (piece.now ∷ [])) out answering.new)) }
+        IsReplies S.replies answering.old (lines_from count (piece.now ∷ [])) out answering.new)) }
     ensures fault { IfErr result (λ fault. fault ≡ ServeFault.Memory) }
     ensures err { IfErr result (λ _. replies.new.items ≡ replies.old.items) }
 {
@@ -214,7 +226,10 @@ fn answer_piece<S: Answering>(
         return Ok(());
     }
     let kept = replies.len();
-    answering.answer(line, replies)?;
+    if !answering.answer(count + 1, line, replies)? {
+        replies.truncate(kept);
+        return Ok(());
+    }
     if replies.push(b'\n').is_err() {
         replies.truncate(kept);
         return Err(ServeFault::Memory);

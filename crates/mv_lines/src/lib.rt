@@ -23,6 +23,7 @@
 //! ```
 #![tactic(auto)]
 
+mod answered;
 mod answering;
 mod canonical;
 mod engine;
@@ -47,6 +48,7 @@ mod serving;
 mod session;
 mod token_line;
 
+pub use answered::Answered;
 pub use answering::Answering;
 pub use canonical::canon;
 pub use engine::answer_lines;
@@ -54,9 +56,11 @@ pub use fault::ServeFault;
 pub use field::LineField;
 pub use line_fault::LineFault;
 pub use market_lists::MarketLists;
+pub use members::{Member, append_object};
 pub use open_fault::OpenFault;
 pub use opening::{limits_of, parties_of};
 pub use output::put_out;
 pub use reply_line::{fault_text, refusal_text, reply_text};
 pub use request::Request;
 pub use serving::{serve, serve_last};
+pub use session::Session;

@@ -1,24 +1,71 @@
 //! Writes the objects that replies are, member by member.
 
 ghost use Rattle.std.specs.Prelude.{◌≡◌, ◌++◌, IfOk};
-ghost use Rattle.serde_json.specs.Data.{object};
-ghost use Rattle.mv_lines.specs.Writing.{Adds, members_of, member_tokens, wholes_tokens};
+ghost use Rattle.serde_json.specs.Data.{array, object};
+ghost use Rattle.mv_json.specs.Messages.{value_of};
+ghost use Rattle.mv_json.specs.Values.{strings};
+ghost use Rattle.mv_lines.specs.Meanings.{markets_value};
+ghost use Rattle.mv_lines.specs.Writing.{Adds, Appended, change_object, change_value, national_value, members_of, member_tokens, wholes_tokens};
 
+use crate::reply_line::{ReplyLine, append};
 use json::Writer;
-use mv_message::Party;
-use std::alloc::AllocError;
+use mv_message::{Markets, Message, Party};
+use mv_pack::{Market, National};
+use mv_repository::Change;
+use std::alloc::{AllocError, Global};
 
-/// A member of a reply's object: its key and its value.
+/// A member of an object: its key and its value.
 #[derive(Clone, Copy, Drop)]
-pub(crate) enum Member<'a> {
+pub enum Member<'a> {
     /// A whole number.
     Number(&'static str, u64),
     /// A text.
     Text(&'static str, &'a str),
     /// True or false.
     Flag(&'static str, bool),
+    /// A whole number, where there is one; else no member.
+    NumberOrNone(&'static str, Option<u64>),
+    /// True or false, where it is one of them; else no member.
+    FlagOrNone(&'static str, Option<bool>),
+    /// `null`.
+    Null(&'static str),
     /// A list of parties.
     Parties(&'static str, &'a [Party]),
+    /// The markets of each party, a list of texts each.
+    Markets(&'static str, &'a [Markets]),
+    /// A message, as `canon` writes it.
+    Message(&'static str, &'a Message),
+    /// A national number, or `null`.
+    National(&'static str, &'a Option<National>),
+    /// What changed a pack, asked for by this user, or `null`.
+    Change(&'static str, &'a Option<Change>, &'a str),
+}
+
+/// An object of these members.
+#[derive(Clone, Copy, Drop)]
+struct Object<'a> {
+    /// The members, in byte order of their keys.
+    members: &'a [Member<'a>],
+}
+
+impl ReplyLine for Object<'_> {
+    ghost value = { λ o. object (members_of o.members.now) };
+
+    fn write(&self, writer: &mut Writer) -> Result<(), AllocError> {
+        write_object(writer, self.members)
+    }
+}
+
+/// Writes the object of these members, which come in byte order of their keys, behind what the buffer holds. Where memory is
+/// refused the buffer is as it was.
+pub fn append_object(
+    alloc: Global,
+    out: &mut Vec<u8>,
+    members: &[Member<'_>],
+) -> Result<(), AllocError>
+    ensures { Appended result out.old.items out.new.items (object (members_of members.now)) }
+{
+    append(alloc, out, &Object { members })
 }
 
 /// Writes the object of these members, which come in byte order of their keys.
@@ -52,11 +99,84 @@ fn write_member(writer: &mut Writer, member: Member<'_>) -> Result<(), AllocErro
             writer.key(key)?;
             writer.boolean(flag)
         }
+        Member::NumberOrNone(_, None) => Ok(()),
+        Member::NumberOrNone(key, Some(number)) => {
+            writer.key(key)?;
+            writer.u64(number)
+        }
+        Member::FlagOrNone(_, None) => Ok(()),
+        Member::FlagOrNone(key, Some(flag)) => {
+            writer.key(key)?;
+            writer.boolean(flag)
+        }
+        Member::Null(key) => {
+            writer.key(key)?;
+            writer.null()
+        }
         Member::Parties(key, parties) => {
             writer.key(key)?;
             write_parties(writer, parties)
         }
+        Member::Markets(key, lists) => {
+            writer.key(key)?;
+            write_market_lists(writer, lists)
+        }
+        Member::Message(key, message) => {
+            writer.key(key)?;
+            write_message(writer, message)
+        }
+        Member::National(key, national) => {
+            writer.key(key)?;
+            write_national(writer, national)
+        }
+        Member::Change(key, change, user) => {
+            writer.key(key)?;
+            write_change(writer, change, user)
+        }
     }
+}
+
+/// Writes a national number, if there is one.
+#[tactic(auto, unfolding(crate::specs::Writing::tokens_of))]
+fn write_national(writer: &mut Writer, national: &Option<National>) -> Result<(), AllocError>
+    ensures before { writer.new.before ≡ writer.old.before }
+    ensures added { Adds result writer.old writer.new (national_value national.now) }
+{
+    match national {
+        Some(national) => writer.string(national.as_str()),
+        None => writer.null(),
+    }
+}
+
+/// Writes what changed a pack, if something did.
+#[tactic(auto, unfolding(crate::specs::Writing::tokens_of))]
+fn write_change(
+    writer: &mut Writer,
+    change: &Option<Change>,
+    user: &str,
+) -> Result<(), AllocError>
+    ensures before { writer.new.before ≡ writer.old.before }
+    ensures added { Adds result writer.old writer.new (change_value change.now user.now) }
+{
+    match change {
+        Some(change) => write_fields(writer, change.at.seconds(), change.by, user),
+        None => writer.null(),
+    }
+}
+
+/// Writes the moment, the party and the user of a change.
+fn write_fields(writer: &mut Writer, at: u64, by: Party, user: &str) -> Result<(), AllocError>
+    ensures before { writer.new.before ≡ writer.old.before }
+    ensures added { Adds result writer.old writer.new (change_object at by user.now) }
+{
+    writer.begin_object()?;
+    writer.key("at")?;
+    writer.u64(at)?;
+    writer.key("by")?;
+    writer.u64(u64::from(by))?;
+    writer.key("user")?;
+    writer.string(user)?;
+    writer.end_object()
 }
 
 /// Writes a list of parties.
@@ -70,4 +190,37 @@ fn write_parties(writer: &mut Writer, parties: &[Party]) -> Result<(), AllocErro
         writer.u64(u64::from(*party))?;
     }
     writer.end_array()
+}
+
+/// Writes the markets of each party.
+fn write_market_lists(writer: &mut Writer, lists: &[Markets]) -> Result<(), AllocError>
+    ensures before { writer.new.before ≡ writer.old.before }
+    ensures added { Adds result writer.old writer.new (markets_value lists.now) }
+{
+    writer.begin_array()?;
+    for markets in lists {
+        write_markets(writer, markets.as_slice())?;
+    }
+    writer.end_array()
+}
+
+/// Writes a list of markets.
+fn write_markets(writer: &mut Writer, markets: &[Market]) -> Result<(), AllocError>
+    ensures before { writer.new.before ≡ writer.old.before }
+    ensures added { Adds result writer.old writer.new (array (strings markets.now)) }
+{
+    writer.begin_array()?;
+    for market in markets {
+        writer.string(market.as_str())?;
+    }
+    writer.end_array()
+}
+
+/// Writes a message.
+#[tactic(auto, unfolding(crate::specs::Writing::tokens_of))]
+fn write_message(writer: &mut Writer, message: &Message) -> Result<(), AllocError>
+    ensures before { writer.new.before ≡ writer.old.before }
+    ensures added { Adds result writer.old writer.new (value_of message.now) }
+{
+    mv_json::write_message(writer, message)
 }

@@ -1,13 +1,13 @@
 //! The replies, each written as the canonical text of one JSON object.
 
-ghost use Rattle.std.specs.Prelude.{◌≡◌, codes, IfOk, string_bytes};
+ghost use Rattle.std.specs.Prelude.{◌≡◌, IfOk, string_bytes};
 ghost use Rattle.serde_json.specs.Data.{Data};
 ghost use Rattle.serde_json.specs.Written.{compact_text};
 ghost use Rattle.mv_lines.specs.Writing.{Appended, Adds};
-ghost use Rattle.mv_lines.specs.ReplyLines.{numbered, refused, refused_field, refused_pack, message_fault_value, line_fault_value, refusal_value, verdict_value, reply_value};
+ghost use Rattle.mv_lines.specs.ReplyLines.{answer_value, refused, refused_field, refused_pack, message_fault_value, line_fault_value, refusal_value, verdict_value, reply_value};
 
-use crate::LineFault;
 use crate::members::{Member, write_object};
+use crate::{Answered, LineFault};
 use json::Writer;
 use mv_json::MessageFault;
 use mv_machine::{Refusal, Reply};
@@ -76,6 +76,23 @@ fn line_text<T: ReplyLine>(alloc: Global, reply: &T) -> Result<String, AllocErro
         unreachable!();
     };
     Ok(text)
+}
+
+/// The reply to a line.
+impl ReplyLine for Answered {
+    ghost value = { answer_value };
+
+    fn write(&self, writer: &mut Writer) -> Result<(), AllocError> {
+        match self {
+            Answered::Unread(fault) => fault.write(writer),
+            Answered::NotTaken(fault) => write_refused(writer, fault.code()),
+            Answered::Opened { parties } => write_object(
+                writer,
+                &[Member::Number("opened", u64::from(*parties))],
+            ),
+            Answered::Stepped { reply, .. } => reply.write(writer),
+        }
+    }
 }
 
 /// The reply to a step.
@@ -172,21 +189,6 @@ impl ReplyLine for MessageFault {
             MessageFault::NotObject => write_refused(writer, code),
             MessageFault::Memory => write_refused(writer, code),
         }
-    }
-}
-
-/// The reply to an opening with so many parties.
-#[derive(Clone, Copy, Drop)]
-pub(crate) struct Opened {
-    /// How many parties there are.
-    pub(crate) count: u32,
-}
-
-impl ReplyLine for Opened {
-    ghost value = { λ opened. numbered (codes "opened") opened.count };
-
-    fn write(&self, writer: &mut Writer) -> Result<(), AllocError> {
-        write_object(writer, &[Member::Number("opened", u64::from(self.count))])
     }
 }
 

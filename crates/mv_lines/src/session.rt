@@ -1,19 +1,16 @@
-//! Answers the lines of a run of steps.
+//! What comes of the lines of a run of steps.
 
-ghost use Rattle.std.specs.Prelude.{◌≡◌, codes, length, Ok, Some, None, IfOk, IfErr};
+ghost use Rattle.std.specs.Prelude.{◌≡◌, None, IfOk, IfErr};
+ghost use Rattle.std.specs.Option.{option_copied};
 ghost use Rattle.mv_hub.specs.Parties.{parties_of};
 ghost use Rattle.mv_json.specs.Reading.{map_err};
-ghost use Rattle.mv_lines.specs.Openings.{code_of};
-ghost use Rattle.mv_lines.specs.ReplyLines.{numbered, refused};
-ghost use Rattle.mv_lines.specs.Replies.{Readied};
-ghost use Rattle.mv_machine.specs.State.{opening};
-ghost use Rattle.mv_lines.specs.Sessions.{IsAnswer, IsOpened, IsRequestReply, IsReply};
-ghost use Rattle.mv_lines.specs.Writing.{Appended};
+ghost use Rattle.mv_lines.specs.Sessions.{IsOpened, IsRequestTaken, IsTaken, IsReply};
 
-use crate::reply_line::{Opened, Refused, append};
-use crate::{Answering, LineFault, MarketLists, OpenFault, Request, limits_of, parties_of};
+use crate::reply_line::append;
+use crate::{
+    Answered, Answering, LineFault, MarketLists, OpenFault, Request, limits_of, parties_of,
+};
 use json::Scratch;
-use mv_hub::Parties;
 use mv_machine::{Limits, Step};
 use mv_system::World;
 use std::alloc::{AllocError, Global};
@@ -22,7 +19,7 @@ use std::marker::Model;
 /// The system that is open, seen as the state of the list machine; none before an opening has succeeded. The memory in
 /// which lines are read is kept from line to line.
 #[derive(Drop)]
-pub(crate) struct Session {
+pub struct Session {
     /// What memory is got from.
     alloc: Global,
     /// In which lines are read.
@@ -42,18 +39,16 @@ impl Model for Session {
 impl Answering for Session {
     ghost replies = { IsReply };
 
-    fn answer(&mut self, line: &[u8], out: &mut Vec<u8>) -> Result<(), AllocError> {
-        match Request::read_in(self.alloc, &mut self.scratch, line) {
-            Ok(request) => self.answer_request(request, out),
-            Err(LineFault::Memory) => Err(AllocError),
-            Err(fault) => append(self.alloc, out, &fault),
-        }
+    fn answer(&mut self, _number: u32, line: &[u8], out: &mut Vec<u8>) -> Result<bool, AllocError> {
+        let answered = self.take(line)?;
+        append(self.alloc, out, &answered)?;
+        Ok(true)
     }
 }
 
 impl Session {
     /// Nothing is open.
-    pub(crate) fn new(alloc: Global) -> Session
+    pub fn new(alloc: Global) -> Session
         ensures { result ≡ None }
     {
         Session {
@@ -63,11 +58,30 @@ impl Session {
         }
     }
 
-    /// Writes the reply to what a line asks.
-    fn answer_request(&mut self, request: Request, out: &mut Vec<u8>) -> Result<(), AllocError>
-        ensures ok { IfOk result (λ _. Readied out.old.items out.new.items (λ text.
-            IsRequestReply self.old request text self.new)) }
-        ensures err { IfErr result (λ _. out.new.items ≡ out.old.items) }
+    /// The system that is open.
+    pub fn world(&self) -> Option<&World>
+        ensures { option_copied result ≡ self.now }
+    {
+        self.world.as_ref()
+    }
+
+    /// Takes a line that isn't empty, without what ends it, and does what it asks. Where memory is refused before it is known what
+    /// the line asks, or for an opening, there is no answer, and nothing changed; a step that memory is refused for answers S14.
+    pub fn take(&mut self, line: &[u8]) -> Result<Answered, AllocError>
+        ensures ok { IfOk result (λ answered. IsTaken self.old line.now answered self.new) }
+        ensures err { IfErr result (λ _. self.new ≡ self.old) }
+    {
+        match Request::read_in(self.alloc, &mut self.scratch, line) {
+            Ok(request) => self.take_request(request),
+            Err(LineFault::Memory) => Err(AllocError),
+            Err(fault) => Ok(Answered::Unread(fault)),
+        }
+    }
+
+    /// Does what a line asks.
+    fn take_request(&mut self, request: Request) -> Result<Answered, AllocError>
+        ensures ok { IfOk result (λ answered. IsRequestTaken self.old request answered self.new) }
+        ensures err { IfErr result (λ _. self.new ≡ self.old) }
     {
         match request {
             Request::Open {
@@ -78,81 +92,50 @@ impl Session {
                 wire,
             } => {
                 let limits = limits_of(window, wire, uplink, submissions);
-                self.open(parties, limits, out)
+                self.open(parties, limits)
             }
-            Request::Step(step) => self.step(&step, out),
+            Request::Step(step) => Ok(self.step(step)),
         }
     }
 
-    /// Writes the reply to a line that opens: C2, H1 to H3, O1 to O4, else the system opens.
+    /// Opens a system of these parties and limits: C2, H1 to H3, O1 to O4.
     fn open(
         &mut self,
         lists: MarketLists,
         limits: Result<Limits, OpenFault>,
-        out: &mut Vec<u8>,
-    ) -> Result<(), AllocError>
-        ensures ok { IfOk result (λ _. Readied out.old.items out.new.items (λ text.
-            IsOpened self.old (map_err OpenFault.Parties (parties_of lists)) limits text self.new)) }
-        ensures err { IfErr result (λ _. out.new.items ≡ out.old.items) }
+    ) -> Result<Answered, AllocError>
+        ensures ok { IfOk result (λ answered.
+            IsOpened self.old (map_err OpenFault.Parties (parties_of lists)) limits answered self.new) }
+        ensures err { IfErr result (λ _. self.new ≡ self.old) }
     {
         if self.world.is_some() {
-            return self.refuse(OpenFault::AlreadyOpen, out);
+            return Ok(Answered::NotTaken(OpenFault::AlreadyOpen));
         }
         let parties = match parties_of(self.alloc, lists) {
             Ok(parties) => parties,
             Err(OpenFault::Memory) => return Err(AllocError),
-            Err(fault) => return self.refuse(fault, out),
+            Err(fault) => return Ok(Answered::NotTaken(fault)),
         };
         let limits = match limits {
             Ok(limits) => limits,
-            Err(fault) => return self.refuse(fault, out),
+            Err(fault) => return Ok(Answered::NotTaken(fault)),
         };
-        self.open_world(parties, limits, out)
-    }
-
-    /// Opens a system, and writes that it stands open.
-    fn open_world(
-        &mut self,
-        parties: Parties,
-        limits: Limits,
-        out: &mut Vec<u8>,
-    ) -> Result<(), AllocError>
-        ensures ok { IfOk result (λ _. Readied out.old.items out.new.items (λ text.
-            IsAnswer (numbered (codes "opened") (length parties)) (Some (opening parties limits)) text self.new)) }
-        ensures err { IfErr result (λ _. out.new.items ≡ out.old.items) }
-    {
         let count = parties.len();
         let world = World::open(self.alloc, parties, limits)?;
-        self.stand_open(world);
-        append(self.alloc, out, &Opened { count })
-    }
-
-    /// This system is open from here on.
-    fn stand_open(&mut self, world: World)
-        ensures { self.new ≡ Some world }
-    {
         self.world = Some(world);
+        Ok(Answered::Opened { parties: count })
     }
 
-    /// Writes the reply to a step: C1, else what the system answers.
-    fn step(&mut self, step: &Step, out: &mut Vec<u8>) -> Result<(), AllocError>
-        ensures ok { IfOk result (λ _. Readied out.old.items out.new.items (λ text.
-            IsRequestReply self.old (Request.Step step.now) text self.new)) }
-        ensures err { IfErr result (λ _. out.new.items ≡ out.old.items) }
+    /// Makes a step: C1, else what the system answers.
+    fn step(&mut self, step: Step) -> Answered
+        ensures { IsRequestTaken self.old (Request.Step step) result self.new }
     {
         match &mut self.world {
-            None => self.refuse(OpenFault::NotOpen, out),
+            None => Answered::NotTaken(OpenFault::NotOpen),
             Some(world) => {
-                let reply = world.step(step);
-                append(self.alloc, out, &reply)
+                let reply = world.step(&step);
+                Answered::Stepped { step, reply }
             }
         }
-    }
-
-    /// Writes the refusal of a line by what is open.
-    fn refuse(&self, fault: OpenFault, out: &mut Vec<u8>) -> Result<(), AllocError>
-        ensures { Appended result out.old.items out.new.items (refused (code_of fault)) }
-    {
-        append(self.alloc, out, &Refused { code: fault.code() })
     }
 }

@@ -1,13 +1,13 @@
 -- Lemmas on an input that was read.
 use Rattle.std.proofs.Common.{◌≡◌, ◌≢◌, ℕ, List, [], ◌∷◌, refl, ap, sym, ◌∙◌, arith}
-use Rattle.std.specs.Prelude.{IfSome, Option, Some, None, Ok, true, false, is_some, option_map}
+use Rattle.std.specs.Prelude.{IfSome, map, Option, Some, None, Ok, true, false, is_some, option_map}
 use Rattle.std.specs.List.{fold}
 use Rattle.std.specs.Io.KnownBytes.{Consumes}
 use Rattle.mv_lines.specs.declared.fault.ServeFault.{ServeFault}
 use Rattle.mv_lines.specs.declared.fault.ServeFault.TheVariants.{Read, Write, Memory, TooManyLines, LineTooLong, Start}
 use Rattle.mv_lines.specs.Replies.{ReplyRule, AreReplies}
 use Rattle.mv_lines.specs.Served.{Served, Ended}
-use Rattle.mv_lines.specs.Lines.{pieces, lines_of}
+use Rattle.mv_lines.specs.Lines.{Line, pieces, lines_from, lines_of}
 use Rattle.mv_plan.specs.Planning.{Planned, IsPlanned, planned_by, plan_line}
 use Rattle.mv_plan.specs.Drafts.{Parts}
 use Rattle.mv_plan.specs.Reading.{IsRead, Unread}
@@ -25,12 +25,13 @@ planned_still bytes (Some text) draft planned line some same = sym same ∙ ap (
 planned_still bytes None draft planned line some same = absurd (cc)
 
 -- what stands behind lines that were taken one by one is what they plan
-are_planned : (before : Planned) (lines texts : List (List ℕ)) (after : Planned) → AreReplies IsPlanned before lines texts after → after ≡ fold plan_line before lines
+are_planned : (before : Planned) (lines : List Line) (texts : List (Option (List ℕ))) (after : Planned) → AreReplies IsPlanned before lines texts after
+    → after ≡ fold plan_line before (map (λ line. line.bytes) lines)
 are_planned before [] [] after same = same
 are_planned before [] (text ∷ texts) after none = absurd none
 are_planned before (line ∷ lines) [] after none = absurd none
 are_planned before (line ∷ lines) (text ∷ texts) after (between, one, rest) =
-    are_planned between lines texts after rest ∙ ap (λ p. fold plan_line p lines) one
+    are_planned between lines texts after rest ∙ ap (λ p. fold plan_line p (map (λ line. line.bytes) lines)) one
 
 -- an input that was answered whole was read
 pub read_whole : (input : Option (List ℕ)) (before after planned : Planned) (old new : Option (List ℕ)) → before ≡ Ok None → planned ≡ after
@@ -38,7 +39,7 @@ pub read_whole : (input : Option (List ℕ)) (before after planned : Planned) (o
 read_whole None before after planned old new nothing same served = tt
 read_whole (Some bytes) before after planned old new nothing same served = (
   served.kept,
-  same ∙ are_planned before (lines_of (pieces bytes)) _ after served.replied.2 ∙ ap (λ p. fold plan_line p (lines_of (pieces bytes))) nothing,
+  same ∙ are_planned before (lines_from 0 (pieces bytes)) _ after served.replied.2 ∙ ap (λ p. fold plan_line p (lines_of (pieces bytes))) nothing,
 )
 
 -- why the answering of lines ended is why they were not read

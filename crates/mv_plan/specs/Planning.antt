@@ -17,6 +17,7 @@ use Rattle.mv_plan.specs.declared.planned.Planned.TheVariants as held
 use Rattle.mv_lines.specs.declared.request.Request.{Request}
 use Rattle.mv_lines.specs.declared.request.Request.TheVariants as requests
 use Rattle.mv_plan.specs.Drafts.{Parts, new_parts, with_message}
+use Rattle.mv_lines.specs.Lines.{Line}
 use Rattle.mv_lines.specs.Openings.{map_err, code_of}
 use Rattle.mv_lines.specs.ReplyLines.{refused, line_fault_value, refusal_value}
 use Rattle.mv_lines.specs.Requests.{read_line}
@@ -74,6 +75,6 @@ abbrev pub plan_line : Planned → List ℕ → Planned
 plan_line (Err text) line = Err text
 plan_line (Ok plan) line = plan_read plan (read_line line)
 
--- the plan behind the line is this; nothing is asked of the text of a reply
-abbrev pub IsPlanned : Planned → List ℕ → List ℕ → Planned → Type 0
-IsPlanned before line text after = after ≡ plan_line before line
+-- the plan after the line is this; nothing is asked of a reply
+abbrev pub IsPlanned : Planned → Line → Option (List ℕ) → Planned → Type 0
+IsPlanned before line text after = after ≡ plan_line before line.bytes

@@ -37,12 +37,17 @@ impl Answering for Planner {
 
     ghost replies = { IsPlanned };
 
-    fn answer(&mut self, line: &[u8], _out: &mut Vec<u8>) -> Result<(), AllocError> {
+    fn answer(
+        &mut self,
+        _number: u32,
+        line: &[u8],
+        _out: &mut Vec<u8>,
+    ) -> Result<bool, AllocError> {
         if self.refusal.is_some() {
-            return Ok(());
+            return Ok(false);
         }
         self.refusal = plan_line(self.alloc, &mut self.scratch, &mut self.draft, line)?;
-        Ok(())
+        Ok(false)
     }
 }
 

@@ -13,7 +13,8 @@ use Rattle.mv_repository.specs.Pack.{KnownPack}
 use Rattle.mv_repository.specs.PackState.{is_recall_of, is_withdrawal_of, is_recalled_by, is_withdrawn_by, batch_standing, known_pack}
 use Rattle.mv_repository.specs.Effect.{entries_before}
 use Rattle.mv_repository.specs.Stops.{FirstStops, first_stops, is_before, standing_at}
-use Rattle.mv_repository.specs.Track.{is_upload_of, is_status_of, first_upload, statuses_of, pack_made_by, pack_changed, pack_step, pack_grown}
+use Rattle.mv_repository.specs.Track.{is_upload_of, is_status_of, first_upload, statuses_of, pack_changed, pack_step, pack_grown}
+use Rattle.mv_repository.specs.State.{pack_made_by}
 use Rattle.mv_repository.proofs.OrderLemmas.{StandsBeforeAll, passes_behind, AreBelow, ordered-ascends, ordered-below}
 use Rattle.mv_repository.proofs.StateLemmas.{known-grown}
 use Rattle.mv_repository.proofs.TableLemmas.{newest, filter-ascends}

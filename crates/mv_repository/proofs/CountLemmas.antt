@@ -1,178 +1,111 @@
--- The counts of a log, by the tables.
-use Rattle.std.specs.Prelude.{bytes_eq}
-use Rattle.std.proofs.Common.{◌≡◌, ℕ, List, [], ◌∷◌, ◌++◌, length, refl, sym, ◌∙◌, ap, Bool, true, false, cond, ◌&&◌, ◌||◌, Option, Some, None, is_some, filter, map}
+-- How many keys pass a test, where the test changes at one key.
+use Rattle.std.proofs.Common.{◌≡◌, ℕ, ◌+◌, List, [], ◌∷◌, length, refl, sym, ◌∙◌, ap, arith, Bool, true, false, cond, ◌&&◌, ◌||◌, filter}
 use Rattle.std.specs.Cmp.{IsEquivalence}
-use Rattle.std.specs.Cmp.Lexicographic.{nat_list_eq_equiv}
-use Rattle.std.specs.List.{list_any, flat_map, IsDistinct, count_by}
-use Rattle.std.specs.Map.{lookup, keys_of}
-use Rattle.std.specs.Option.{option_map, option_or, unwrap_or}
-use Rattle.std.specs.Set.{distinct_count, is_member}
-use Rattle.std.proofs.lemmas.List.Sums.{length-filter}
-use Rattle.std.proofs.lemmas.Map.Entries.{length-keys_of, lookup-filter-values, option_filter}
-use Rattle.std.proofs.lemmas.Map.Made.{length-from_keys, is_some-lookup, is_member-filter, IsDistinct-keys_filter}
-use Rattle.mv_pack.specs.declared.key.PackKey.{PackKey}
-use Rattle.mv_pack.specs.declared.key.BatchKey.{BatchKey}
-use Rattle.mv_message.specs.declared.message.Message.TheVariants.{Master, Upload, Recall}
-use Rattle.mv_link.specs.declared.item.Item.{Item}
-use Rattle.mv_link.specs.declared.item.Item.TheVariants.{Carried}
-use Rattle.mv_repository.specs.declared.entry.LogEntry.{LogEntry}
-use Rattle.mv_repository.specs.declared.held.Held.{Held}
-use Rattle.mv_pack.specs.Keys.{is_same_pack, is_same_batch, pack_key}
-use Rattle.mv_repository.specs.Order.{Placed, passes, put_in, ordered}
-use Rattle.mv_repository.specs.Masters.{is_master, last_master, AreMastersOf}
-use Rattle.mv_repository.specs.PackState.{has_pack, is_recall_of, pack_state, held_of}
-use Rattle.mv_repository.specs.Counts.{mastered_in, uploaded_in, recalled_in, uploaded_packs, is_held_active}
-use Rattle.mv_repository.specs.Stops.{StopTables, AreStopsOf, place_of, first_stops}
-use Rattle.mv_repository.specs.Track.{Kept, is_upload_of, first_upload, statuses_of, pack_grown, nothing_kept, kept_in, AreTracksOf, is_made, is_active_kept}
-use Rattle.mv_repository.proofs.OrderLemmas.{placed_after, ordered-ascends}
-use Rattle.mv_repository.proofs.StateLemmas.{known-grown}
-use Rattle.mv_repository.proofs.KeptLemmas.{text-sym, text-self, pack-sym, pack-self, same_pack, same_batch}
-use Rattle.mv_repository.proofs.LedgerLemmas.{found-any}
+use Rattle.std.specs.Set.{distinct_count, is_member, unique_keys}
+use Rattle.std.proofs.lemmas.Map.Made.{is_member-filter}
 
--- the order of stamps has one of a kind where the log has
+module _ {K : Type 0} (eq : K → K → Bool) (laws : IsEquivalence eq) where
+  abbrev pub one_if : Bool → ℕ
+  one_if b = cond b 1 0
 
-any-put_in : (f : Placed → Bool) (x : Placed) (xs : List Placed) → list_any f (put_in x xs) ≡ (f x || list_any f xs)
-any-put_in f x [] = refl
-any-put_in f x (y ∷ ys) =
-    elim (passes x y) as (λ b. list_any f (cond b (x ∷ y ∷ ys) (y ∷ put_in x ys)) ≡ (f x || (f y || list_any f ys))) [
-      | true ↦ refl
-      | false ↦ ap (λ b. f y || b) (any-put_in f x ys) ∙ swap (f y) (f x) (list_any f ys)
-    ]
-  where
-    swap : (a b c : Bool) → (a || (b || c)) ≡ (b || (a || c))
-    swap true true c = refl
-    swap true false c = refl
-    swap false b c = refl
+  pub counted : (x : K) (xs : List K) → distinct_count eq (x ∷ xs) ≡ cond (is_member eq xs x) (distinct_count eq xs) (distinct_count eq xs + 1)
+  counted x xs = elim (is_member eq xs x) as (λ b. length (cond b (unique_keys eq xs) (x ∷ unique_keys eq xs)) ≡ cond b (length (unique_keys eq xs)) (length (unique_keys eq xs) + 1)) [
+    | true ↦ refl
+    | false ↦ omega arith
+  ]
 
-any-after : (f : Item → Bool) (xs : List Placed) (log : List LogEntry)
-    → list_any (λ placed. f placed.entry.item) (placed_after xs log) ≡ (list_any (λ placed. f placed.entry.item) xs || list_any (λ entry. f entry.item) log)
-any-after f xs [] = elim (list_any (λ placed. f placed.entry.item) xs) as (λ b. b ≡ (b || false)) [ true ↦ refl | false ↦ refl ]
-any-after f xs (entry ∷ log) =
-    any-after f (put_in (record { place = length xs; entry = entry }) xs) log
-    ∙ ap (λ b. b || list_any (λ entry. f entry.item) log) (any-put_in (λ placed. f placed.entry.item) (record { place = length xs; entry = entry }) xs)
-    ∙ shift (f entry.item) (list_any (λ placed. f placed.entry.item) xs) (list_any (λ entry. f entry.item) log)
-  where
-    shift : (a b c : Bool) → ((a || b) || c) ≡ (b || (a || c))
-    shift true true c = refl
-    shift true false c = refl
-    shift false b c = refl
-
-pub any-ordered : (f : Item → Bool) (log : List LogEntry) → list_any (λ placed. f placed.entry.item) (ordered log) ≡ list_any (λ entry. f entry.item) log
-any-ordered f log = any-after f [] log
-
-any-append : {K : Type 0} → (f : K → Bool) (xs ys : List K) → list_any f (xs ++ ys) ≡ (list_any f xs || list_any f ys)
-any-append f [] ys = refl
-any-append f (x ∷ xs) ys = elim (f x) as (λ b. (b || list_any f (xs ++ ys)) ≡ ((b || list_any f xs) || list_any f ys)) [ true ↦ refl | false ↦ any-append f xs ys ]
-
--- the keys that a log's items name
-any-flat : {K : Type 0} → (f : K → Bool) (names : Item → List K) (g : Item → Bool) → ((item : Item) → list_any f (names item) ≡ g item) → (log : List LogEntry)
-    → list_any f (flat_map (λ (entry : LogEntry). names entry.item) log) ≡ list_any (λ (entry : LogEntry). g entry.item) log
-any-flat f names g same [] = refl
-any-flat f names g same (entry ∷ log) = any-append f (names entry.item) (flat_map (λ (entry : LogEntry). names entry.item) log) ∙ (λ i. same entry.item i || any-flat f names g same log i)
-
-or_none : (b : Bool) → (b || false) ≡ b
-or_none true = refl
-or_none false = refl
-
-mastered-is : (gtin : List ℕ) (item : Item) → list_any (bytes_eq gtin) (mastered_in item) ≡ is_master gtin item
-mastered-is gtin (Carried k stamp (Master named product)) = or_none (bytes_eq gtin named) ∙ text-sym gtin named
-mastered-is gtin _ = refl
-
-recalled-is : (batch : BatchKey) (item : Item) → list_any (is_same_batch batch) (recalled_in item) ≡ is_recall_of batch item
-recalled-is batch (Carried k stamp (Recall key at)) = or_none (is_same_batch batch key) ∙ (λ i. text-sym batch.gtin key.gtin i && text-sym batch.batch key.batch i)
-recalled-is batch _ = refl
-
-uploaded-is : (pack : PackKey) (item : Item) → list_any (is_same_pack pack) (uploaded_in item) ≡ is_upload_of pack item
-uploaded-is pack (Carried k stamp (Upload gtin batch expiry national serials)) = packs serials
-  where
-    packs : (serials : List (List ℕ)) → list_any (is_same_pack pack) (map (pack_key gtin) serials) ≡ has_pack gtin serials pack
-    packs [] = elim (bytes_eq gtin pack.gtin) as (λ b. false ≡ (b && false)) [ true ↦ refl | false ↦ refl ]
-    packs (serial ∷ rest) = (λ i. (text-sym pack.gtin gtin i && text-sym pack.serial serial i) || packs rest i) ∙ spread (bytes_eq gtin pack.gtin) (bytes_eq serial pack.serial) (list_any (λ serial. bytes_eq serial pack.serial) rest)
+  module _ (f g : K → Bool) (key : K)
+      (f_same : (a b : K) → eq a b ≡ true → f a ≡ f b) (g_same : (a b : K) → eq a b ≡ true → g a ≡ g b)
+      (elsewhere : (k : K) → eq key k ≡ false → f k ≡ g k) (was : f key ≡ false) (is : g key ≡ true) where
+    -- one more passes, where the key is there
+    pub count-flip : (xs : List K) → distinct_count eq (filter g xs) ≡ distinct_count eq (filter f xs) + one_if (is_member eq xs key)
+    count-flip [] = refl
+    count-flip (x ∷ xs) = by (eq key x) refl (count-flip xs)
       where
-        spread : (a b c : Bool) → ((a && b) || (a && c)) ≡ (a && (b || c))
-        spread true b c = refl
-        spread false b c = refl
-uploaded-is pack _ = refl
+        F : List K
+        F = filter f xs
 
--- each key of one kind is in the table once, and in no other case
-counted-once : {K : Type 0} {eq : K → K → Bool} → IsEquivalence eq → {X : Type 0} (es : List (K × X)) (xs : List K) → IsDistinct eq (keys_of es)
-    → ((q : K) → is_some (lookup (eq q) es) ≡ is_member eq xs q) → length es ≡ distinct_count eq xs
-counted-once {K} {eq} laws es xs distinct same =
-    sym (length-keys_of es) ∙ length-from_keys laws (keys_of es) xs distinct (λ q. sym (is_some-lookup (eq q) es) ∙ same q)
+        G : List K
+        G = filter g xs
 
-master-found : (gtin : List ℕ) (xs : List Placed) → is_some (last_master gtin xs) ≡ list_any (λ placed. is_master gtin placed.entry.item) xs
-master-found gtin [] = refl
-master-found gtin (y ∷ ys) = by (last_master gtin ys) (is_master gtin y.entry.item) ∙ ap (λ b. is_master gtin y.entry.item || b) (master-found gtin ys)
-  where
-    by : (o : Option Placed) (b : Bool) → is_some (option_or o (cond b (Some y) None)) ≡ (b || is_some o)
-    by None true = refl
-    by None false = refl
-    by (Some z) true = refl
-    by (Some z) false = refl
+        in_F : is_member eq F x ≡ (is_member eq xs x && f x)
+        in_F = is_member-filter laws f x (λ y e. f_same x y e) xs
 
-some-map : {A B : Type 0} → (f : A → B) (o : Option A) → is_some (option_map f o) ≡ is_some o
-some-map f None = refl
-some-map f (Some x) = refl
+        in_G : is_member eq G x ≡ (is_member eq xs x && g x)
+        in_G = is_member-filter laws g x (λ y e. g_same x y e) xs
 
-pub count-products : (log : List LogEntry) (masters : List (List ℕ × ℕ)) → IsDistinct bytes_eq (keys_of masters) → AreMastersOf log masters → length masters ≡ distinct_count bytes_eq (flat_map (λ entry. mastered_in entry.item) log)
-count-products log masters distinct places =
-    counted-once nat_list_eq_equiv masters (flat_map (λ entry. mastered_in entry.item) log) distinct
-    (λ gtin. ap is_some (places gtin) ∙ some-map place_of (last_master gtin (ordered log)) ∙ master-found gtin (ordered log) ∙ any-ordered (is_master gtin) log
-    ∙ sym (any-flat (bytes_eq gtin) mastered_in (is_master gtin) (mastered-is gtin) log))
+        here : eq key x ≡ true → (m : Bool) → is_member eq xs key ≡ m → distinct_count eq G ≡ distinct_count eq F + one_if m → cond m (distinct_count eq G) (distinct_count eq G + 1) ≡ distinct_count eq F + 1
+        here e true h r = r
+        here e false h r = omega (arith, r)
 
-pack-equiv : IsEquivalence is_same_pack
-pack-equiv = record {
-  refl = pack-self;
-  symm = pack-sym;
-  congr = λ x y z e. ap (λ (q : PackKey). is_same_pack q z) (same_pack x y e);
-}
+        there : (b : Bool) (m : ℕ) → distinct_count eq G ≡ distinct_count eq F + m → cond b (distinct_count eq G) (distinct_count eq G + 1) ≡ cond b (distinct_count eq F) (distinct_count eq F + 1) + m
+        there true m r = r
+        there false m r = omega (arith, r)
 
-batch-equiv : IsEquivalence is_same_batch
-batch-equiv = record {
-  refl = λ x i. text-self x.gtin i && text-self x.batch i;
-  symm = λ x y i. text-sym x.gtin y.gtin i && text-sym x.batch y.batch i;
-  congr = λ x y z e. ap (λ (q : BatchKey). is_same_batch q z) (same_batch x y e);
-}
+        same_member : (a b : K) → eq a b ≡ true → (ys : List K) → is_member eq ys a ≡ is_member eq ys b
+        same_member a b e [] = refl
+        same_member a b e (y ∷ ys) = let c : eq a y ≡ eq b y = laws.congr a b y e in λ i. c i || same_member a b e ys i
 
-pub count-recalled : (log : List LogEntry) (tables : StopTables) → IsDistinct is_same_batch (keys_of tables.recalls) → AreStopsOf log tables → length tables.recalls ≡ distinct_count is_same_batch (flat_map (λ entry. recalled_in entry.item) log)
-count-recalled log tables distinct stops =
-    counted-once batch-equiv tables.recalls (flat_map (λ entry. recalled_in entry.item) log) distinct
-    (λ batch. ap is_some (stops.recalls batch) ∙ found-any (λ placed. is_recall_of batch placed.entry.item) (ordered log) ∙ any-ordered (is_recall_of batch) log
-    ∙ sym (any-flat (is_same_batch batch) recalled_in (is_recall_of batch) (recalled-is batch) log))
+        other : (c : Bool) → f x ≡ c → g x ≡ c → distinct_count eq G ≡ distinct_count eq F + one_if (is_member eq xs key)
+            → distinct_count eq (cond c (x ∷ G) G) ≡ distinct_count eq (cond c (x ∷ F) F) + one_if (is_member eq xs key)
+        other true p q r =
+            counted x G ∙ ap (λ b. cond b (distinct_count eq G) (distinct_count eq G + 1)) (in_G ∙ ap (λ b. is_member eq xs x && b) (q ∙ sym p) ∙ sym in_F)
+            ∙ there (is_member eq F x) (one_if (is_member eq xs key)) r
+            ∙ ap (λ n. n + one_if (is_member eq xs key)) (sym (counted x F))
+        other false p q r = r
 
--- a part of the table, by a test of what is kept, has the packs of which that holds
-counted-part : (test : Kept → Bool) (es : List (PackKey × Kept)) (packs : List PackKey) → IsDistinct is_same_pack (keys_of es) → test nothing_kept ≡ false
-    → ((pack : PackKey) → test (kept_in pack es) ≡ is_member is_same_pack packs pack) → count_by (λ e. test e.1) es ≡ distinct_count is_same_pack packs
-counted-part test es packs distinct none same =
-    sym (length-filter (λ e. test e.1) es)
-    ∙ counted-once pack-equiv (filter (λ e. test e.1) es) packs (IsDistinct-keys_filter is_same_pack (λ e. test e.1) es distinct)
-    (λ pack. ap is_some (lookup-filter-values pack-equiv test pack es distinct) ∙ by (lookup (is_same_pack pack) es) ∙ same pack)
-  where
-    by : (o : Option Kept) → is_some (option_filter test o) ≡ test (unwrap_or o nothing_kept)
-    by None = sym none
-    by (Some k) = elim (test k) as (λ b. is_some (cond b (Some k) None) ≡ b) [ true ↦ refl | false ↦ refl ]
+        and_true : (b : Bool) → (b && true) ≡ b
+        and_true true = refl
+        and_true false = refl
 
-uploaded-found : (log : List LogEntry) (pack : PackKey) → is_some (option_map place_of (first_upload pack (ordered log))) ≡ is_member is_same_pack (uploaded_packs log) pack
-uploaded-found log pack =
-    found-any (λ placed. is_upload_of pack placed.entry.item) (ordered log) ∙ any-ordered (is_upload_of pack) log
-    ∙ sym (any-flat (is_same_pack pack) uploaded_in (is_upload_of pack) (uploaded-is pack) log)
+        by : (t : Bool) → eq key x ≡ t → distinct_count eq G ≡ distinct_count eq F + one_if (is_member eq xs key)
+            → distinct_count eq (cond (g x) (x ∷ G) G) ≡ distinct_count eq (cond (f x) (x ∷ F) F) + one_if (t || is_member eq xs key)
+        by false e r =
+            ap (λ b. distinct_count eq (cond b (x ∷ G) G)) (sym (elsewhere x e))
+            ∙ other (f x) refl (sym (elsewhere x e)) r
+        by true e r =
+            let fx : f x ≡ false = sym (f_same key x e) ∙ was in
+            let gx : g x ≡ true = sym (g_same key x e) ∙ is in
+            ap (λ b. distinct_count eq (cond b (x ∷ G) G)) gx
+            ∙ counted x G
+            ∙ ap (λ b. cond b (distinct_count eq G) (distinct_count eq G + 1)) (in_G ∙ ap (λ b. is_member eq xs x && b) gx ∙ and_true (is_member eq xs x) ∙ sym (same_member key x e xs))
+            ∙ here e (is_member eq xs key) refl r
+            ∙ ap (λ b. distinct_count eq (cond b (x ∷ F) F) + 1) (sym fx)
 
-pub count-packs : (log : List LogEntry) (es : List (PackKey × Kept)) → IsDistinct is_same_pack (keys_of es) → AreTracksOf log es → count_by (λ e. is_made e.1) es ≡ distinct_count is_same_pack (uploaded_packs log)
-count-packs log es distinct tracks =
-    counted-part is_made es (uploaded_packs log) distinct refl (λ pack. ap is_made (tracks pack) ∙ uploaded-found log pack)
+  module _ (f g : K → Bool) (key : K)
+      (f_same : (a b : K) → eq a b ≡ true → f a ≡ f b) (g_same : (a b : K) → eq a b ≡ true → g a ≡ g b)
+      (elsewhere : (k : K) → eq key k ≡ false → f k ≡ g k) where
+    same_filter : f key ≡ g key → (xs : List K) → filter f xs ≡ filter g xs
+    same_filter e [] = refl
+    same_filter e (x ∷ xs) = λ i. cond (at (eq key x) refl i) (x ∷ same_filter e xs i) (same_filter e xs i)
+      where
+        at : (t : Bool) → eq key x ≡ t → f x ≡ g x
+        at true h = sym (f_same key x h) ∙ e ∙ g_same key x h
+        at false h = elsewhere x h
 
-active-made : (log : List LogEntry) (pack : PackKey) → is_held_active (pack_state pack log) ≡ (is_member is_same_pack (uploaded_packs log) pack && is_held_active (pack_state pack log))
-active-made log pack =
-    by (first_upload pack (ordered log)) (pack_state pack log) (λ e. ap (option_map held_of) (known-grown pack (ordered log) (ordered-ascends log) ∙ ap (λ o. pack_grown (first_stops (ordered log)) pack o (statuses_of pack (ordered log))) e))
-    ∙ ap (λ b. b && is_held_active (pack_state pack log)) (uploaded-found log pack)
-  where
-    by : (o : Option Placed) (state : Option Held) → (o ≡ None → state ≡ None) → is_held_active state ≡ (is_some (option_map place_of o) && is_held_active state)
-    by None state h = ap is_held_active (h refl)
-    by (Some x) state h = refl
+    -- what passes changes at one key: the count moves by what that key added and adds
+    pub count-moves : (xs : List K) → distinct_count eq (filter g xs) + one_if (is_member eq xs key && f key) ≡ distinct_count eq (filter f xs) + one_if (is_member eq xs key && g key)
+    count-moves xs = by (f key) refl (g key) refl
+      where
+        and_true : (b : Bool) → (b && true) ≡ b
+        and_true true = refl
+        and_true false = refl
 
-pub count-active : (log : List LogEntry) (es : List (PackKey × Kept)) → IsDistinct is_same_pack (keys_of es) → AreTracksOf log es
-    → count_by (λ e. is_active_kept e.1) es ≡ distinct_count is_same_pack (filter (λ pack. is_held_active (pack_state pack log)) (uploaded_packs log))
-count-active log es distinct tracks =
-    counted-part is_active_kept es (filter (λ pack. is_held_active (pack_state pack log)) (uploaded_packs log)) distinct refl
-    (λ pack. ap is_active_kept (tracks pack) ∙ active-made log pack
-    ∙ sym (is_member-filter pack-equiv (λ q. is_held_active (pack_state q log)) pack (λ x e. ap (λ (q : PackKey). is_held_active (pack_state q log)) (same_pack pack x e)) (uploaded_packs log)))
+        and_false : (b : Bool) → (b && false) ≡ false
+        and_false true = refl
+        and_false false = refl
+
+        even : (c : Bool) → f key ≡ c → g key ≡ c → distinct_count eq (filter g xs) + one_if (is_member eq xs key && c) ≡ distinct_count eq (filter f xs) + one_if (is_member eq xs key && c)
+        even c p q = ap (λ (l : List K). distinct_count eq l + one_if (is_member eq xs key && c)) (sym (same_filter (p ∙ sym q) xs))
+
+        one : one_if (is_member eq xs key && true) ≡ one_if (is_member eq xs key)
+        one = ap one_if (and_true (is_member eq xs key))
+
+        none : one_if (is_member eq xs key && false) ≡ 0
+        none = ap one_if (and_false (is_member eq xs key))
+
+        by : (b : Bool) → f key ≡ b → (c : Bool) → g key ≡ c → distinct_count eq (filter g xs) + one_if (is_member eq xs key && b) ≡ distinct_count eq (filter f xs) + one_if (is_member eq xs key && c)
+        by true p true q = even true p q
+        by false p false q = even false p q
+        by false p true q = let up = count-flip f g key f_same g_same elsewhere p q xs in omega (arith, up, one, none)
+        by true p false q = let down = count-flip g f key g_same f_same (λ k e. sym (elsewhere k e)) q p xs in omega (arith, down, one, none)

@@ -55,19 +55,12 @@ asym_stamps a b m n e = grind (arith, nat_tests)
 self_stamps : (a m : ℕ) → (nat_lt a a || (a == a && nat_lt m m)) ≡ false
 self_stamps a m = grind (arith, nat_tests)
 
-behind_stamps : (a b m n : ℕ) → (nat_lt a b || (a == b && nat_lt m n)) ≡ true → nat_lt b a ≡ false
-behind_stamps a b m n e = grind (arith, nat_tests)
-
 -- of two entries one stands before the other at most
 pub stands-asym : (x y : Placed) → stands_before x y ≡ true → stands_before y x ≡ false
 stands-asym x y e = asym_stamps (rank x.entry.item) (rank y.entry.item) x.place y.place e
 
 pub stands-self : (x : Placed) → stands_before x x ≡ false
 stands-self x = self_stamps (rank x.entry.item) x.place
-
--- what stands behind an entry does not pass it
-pub behind_passes : (x y : Placed) → stands_before x y ≡ true → passes y x ≡ false
-behind_passes x y e = behind_stamps (rank x.entry.item) (rank y.entry.item) x.place y.place e
 
 -- entries are put in behind those that were, one after another
 abbrev pub placed_after : List Placed → List LogEntry → List Placed

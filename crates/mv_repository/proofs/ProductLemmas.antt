@@ -1,9 +1,8 @@
 -- Lemmas on the last master of a code, and on the table that finds it.
-use Rattle.std.proofs.Common.{◌≡◌, ℕ, ◌<◌, List, [], ◌∷◌, ◌++◌, length, refl, sym, ◌∙◌, ap, subst, Bool, true, false, cond, true≢false, Option, Some, None, IsSome, IfSome}
+use Rattle.std.proofs.Common.{◌≡◌, ℕ, ◌+◌, List, [], ◌∷◌, ◌++◌, length, get_or, take, refl, sym, ◌∙◌, ap, subst, Bool, true, false, cond, true≢false, Option, Some, None, IsSome, IfSome}
 use Rattle.std.specs.List.{cons_option, filter_map, last_or}
 use Rattle.std.specs.Map.{lookup}
 use Rattle.std.specs.Prelude.{slice_get, bytes_eq}
-use Rattle.std.proofs.lemmas.Option.{slice_get_within, none-some}
 use Rattle.std.specs.Cmp.Lexicographic.{same_text}
 use Rattle.std.specs.Option.{option_map, option_or, option_and_then}
 use Rattle.mv_message.specs.declared.message.Message.TheVariants.{Master}
@@ -12,10 +11,13 @@ use Rattle.mv_link.specs.declared.item.Item.{Item}
 use Rattle.mv_link.specs.declared.item.Item.TheVariants.{Carried}
 use Rattle.mv_repository.specs.declared.entry.LogEntry.{LogEntry}
 use Rattle.mv_repository.specs.Order.{Placed, passes, put_in, ordered, Ascends}
-use Rattle.mv_repository.specs.Stops.{place_of}
+use Rattle.mv_repository.specs.Repository.{product_of}
+use Rattle.mv_repository.specs.Stops.{place_of, no_entry}
 use Rattle.mv_repository.specs.Product.{product_under}
-use Rattle.mv_repository.specs.Masters.{is_master, product_in, last_master, entry_of, is_late, AreMastersOf}
-use Rattle.mv_repository.proofs.OrderLemmas.{StandsBeforeAll, AreOf, placed_at, passes_behind, ordered-ascends, ordered-push, ordered-of}
+use Rattle.mv_repository.specs.Masters.{is_master, product_in, last_master, entry_of, comes_late, AreMastersOf}
+use Rattle.mv_repository.proofs.OrderLemmas.{StandsBeforeAll, AreOf, Stand, still-stand, placed_at, passes_behind, ordered-ascends, ordered-push, ordered-of}
+use Rattle.mv_repository.proofs.TableLemmas.{longer, newest, newest-stands}
+use Rattle.mv_repository.proofs.TrackLemmas.{log-split, log-length}
 
 -- the last of x, which came last, and the last before
 abbrev pub later : Placed → Option Placed → Option Placed
@@ -142,19 +144,28 @@ last_at log gtin (y ∷ ys) s = by (last_master gtin ys) (last_at log gtin ys s.
     by None p true = s.0
     by None p false = tt
 
--- what the table finds is the last master
-pub found_at : (log : List LogEntry) (masters : List (List ℕ × ℕ)) (gtin : List ℕ) (place : ℕ) → AreMastersOf log masters
-    → lookup (bytes_eq gtin) masters ≡ Some place → (option_map entry_of (last_master gtin (ordered log)) ≡ slice_get log place) × (place < length log)
-found_at log masters gtin place places e =
-    by (last_master gtin (ordered log)) (last_at log gtin (ordered log) (ordered-of log)) (sym (places gtin) ∙ e)
+last_stand : (log : List LogEntry) (gtin : List ℕ) (xs : List Placed) → Stand log xs → IfSome (last_master gtin xs) (λ z. get_or log z.place no_entry ≡ z.entry)
+last_stand log gtin [] s = tt
+last_stand log gtin (y ∷ ys) s = by (last_master gtin ys) (last_stand log gtin ys s.1) (is_master gtin y.entry.item)
   where
-    by : (o : Option Placed) → IfSome o (λ z. slice_get log z.place ≡ Some z.entry) → option_map place_of o ≡ Some place
-        → (option_map entry_of o ≡ slice_get log place) × (place < length log)
-    by None p h = absurd (none-some place h)
-    by (Some z) p h =
-        let k : z.place ≡ place = cc in
-        let at : slice_get log place ≡ Some z.entry = subst (λ i. slice_get log i ≡ Some z.entry) k p in
-        (sym at, slice_get_within log place z.entry at)
+    by : (o : Option Placed) → IfSome o (λ z. get_or log z.place no_entry ≡ z.entry) → (b : Bool) → IfSome (option_or o (cond b (Some y) None)) (λ z. get_or log z.place no_entry ≡ z.entry)
+    by (Some z) p b = p
+    by None p true = s.0
+    by None p false = tt
+
+-- what the table finds is the last master
+pub masters-entry : (log : List LogEntry) (masters : List (List ℕ × ℕ)) (gtin : List ℕ) → AreMastersOf log masters
+    → option_and_then (slice_get log) (lookup (bytes_eq gtin) masters) ≡ option_map entry_of (last_master gtin (ordered log))
+masters-entry log masters gtin places =
+    ap (option_and_then (slice_get log)) (places gtin) ∙ by (last_master gtin (ordered log)) (last_at log gtin (ordered log) (ordered-of log))
+  where
+    by : (o : Option Placed) → IfSome o (λ z. slice_get log z.place ≡ Some z.entry) → option_and_then (slice_get log) (option_map place_of o) ≡ option_map entry_of o
+    by None p = refl
+    by (Some z) p = p
+
+pub product-found : (log : List LogEntry) (masters : List (List ℕ × ℕ)) (gtin : List ℕ) (found : Option LogEntry) → AreMastersOf log masters
+    → found ≡ option_and_then (slice_get log) (lookup (bytes_eq gtin) masters) → option_and_then (λ entry. product_in entry.item) found ≡ product_of log gtin
+product-found log masters gtin found places e = product_of_last gtin (ordered log) found (e ∙ masters-entry log masters gtin places)
 
 -- the last master of a code once one more entry came
 last-push : (log : List LogEntry) (entry : LogEntry) (gtin : List ℕ)
@@ -170,46 +181,80 @@ masters-noted log masters entry places none gtin =
     places gtin
     ∙ ap (option_map place_of) (sym (last-push log entry gtin ∙ ap (λ b. cond b (later (placed_at (length log) entry) (last_master gtin (ordered log))) (last_master gtin (ordered log))) (none gtin)))
 
--- so does a master that comes late
-pub masters-late : (log : List LogEntry) (masters : List (List ℕ × ℕ)) (entry : LogEntry) (named : List ℕ) → AreMastersOf log masters
-    → ((gtin : List ℕ) → is_master gtin entry.item ≡ bytes_eq named gtin)
-    → is_late entry.item (last_master named (ordered log)) ≡ true → AreMastersOf (log ++ entry ∷ []) masters
-masters-late log masters entry named places names late gtin =
-    places gtin
-    ∙ ap (option_map place_of) (sym (last-push log entry gtin ∙ ap (λ b. cond b (later x (last_master gtin (ordered log))) (last_master gtin (ordered log))) (names gtin)
-    ∙ by (bytes_eq named gtin) refl))
-  where
-    x : Placed
-    x = placed_at (length log) entry
+module _ (log : List LogEntry) (masters : List (List ℕ × ℕ)) (entry : LogEntry) (named : List ℕ) (places : AreMastersOf log masters)
+    (names : (gtin : List ℕ) → is_master gtin entry.item ≡ bytes_eq named gtin) where
+  abbrev x : Placed
+  x = newest log entry
 
-    stays : (o : Option Placed) → is_late entry.item o ≡ true → later x o ≡ o
-    stays None e = absurd (true≢false (sym e))
-    stays (Some z) e = ap (λ b. cond b (Some z) (Some x)) e
+  abbrev whole : List LogEntry
+  whole = longer log entry
 
-    by : (b : Bool) → bytes_eq named gtin ≡ b → cond b (later x (last_master gtin (ordered log))) (last_master gtin (ordered log)) ≡ last_master gtin (ordered log)
-    by true e = stays (last_master gtin (ordered log)) (subst (λ g. is_late entry.item (last_master g (ordered log)) ≡ true) (same_text named gtin (sym e)) late)
-    by false e = refl
+  -- the last master of each code, where the last of this one is known
+  last_now : (gtin : List ℕ) → (o : Option Placed) → later x (last_master named (ordered log)) ≡ o
+      → last_master gtin (ordered whole) ≡ cond (bytes_eq named gtin) o (last_master gtin (ordered log))
+  last_now gtin o e =
+      last-push log entry gtin ∙ ap (λ b. cond b (later x (last_master gtin (ordered log))) (last_master gtin (ordered log))) (names gtin)
+      ∙ by (bytes_eq named gtin) refl
+    where
+      by : (b : Bool) → bytes_eq named gtin ≡ b → cond b (later x (last_master gtin (ordered log))) (last_master gtin (ordered log)) ≡ cond b o (last_master gtin (ordered log))
+      by true h = ap (λ (g : List ℕ). later x (last_master g (ordered log))) (sym (same_text named gtin (sym h))) ∙ e
+      by false h = refl
 
--- any other master takes the place of its code
-pub masters-latest : (log : List LogEntry) (masters masters' : List (List ℕ × ℕ)) (entry : LogEntry) (named : List ℕ) (place : ℕ) → AreMastersOf log masters
-    → ((gtin : List ℕ) → is_master gtin entry.item ≡ bytes_eq named gtin)
-    → is_late entry.item (last_master named (ordered log)) ≡ false
-    → ((gtin : List ℕ) → lookup (bytes_eq gtin) masters' ≡ cond (bytes_eq named gtin) (Some place) (lookup (bytes_eq gtin) masters))
-    → place ≡ length log → AreMastersOf (log ++ entry ∷ []) masters'
-masters-latest log masters masters' entry named place places names late updates at gtin =
-    updates gtin
-    ∙ ap (λ n. cond (bytes_eq named gtin) (Some n) (lookup (bytes_eq gtin) masters)) at
-    ∙ by (bytes_eq named gtin) refl
-    ∙ ap (option_map place_of) (sym (last-push log entry gtin ∙ ap (λ b. cond b (later x (last_master gtin (ordered log))) (last_master gtin (ordered log))) (names gtin)))
-  where
-    x : Placed
-    x = placed_at (length log) entry
+  late_is : (o : Option Placed) → IfSome o (λ z. get_or whole z.place no_entry ≡ z.entry) → (b : Bool) → comes_late whole (length log) (option_map place_of o) ≡ b → later x o ≡ cond b o (Some x)
+  late_is None s true e = absurd (true≢false (sym e))
+  late_is None s false e = refl
+  late_is (Some z) s b e = by b (sym (λ i. passes (record { place = length log; entry = newest-stands log entry i }) (record z { entry = s i })) ∙ e)
+    where
+      by : (b : Bool) → passes x z ≡ b → later x (Some z) ≡ cond b (Some z) (Some x)
+      by true h = ap (λ b. cond b (Some z) (Some x)) h
+      by false h = ap (λ b. cond b (Some z) (Some x)) h
 
-    goes : (o : Option Placed) → is_late entry.item o ≡ false → later x o ≡ Some x
-    goes None e = refl
-    goes (Some z) e = ap (λ b. cond b (Some z) (Some x)) e
+  last_is : (b : Bool) → comes_late whole (length log) (lookup (bytes_eq named) masters) ≡ b → later x (last_master named (ordered log)) ≡ cond b (last_master named (ordered log)) (Some x)
+  last_is b e = late_is (last_master named (ordered log)) (last_stand whole named (ordered log) (still-stand log entry)) b (sym (ap (comes_late whole (length log)) (places named)) ∙ e)
 
-    by : (b : Bool) → bytes_eq named gtin ≡ b
-        → cond b (Some (length log)) (lookup (bytes_eq gtin) masters) ≡ option_map place_of (cond b (later x (last_master gtin (ordered log))) (last_master gtin (ordered log)))
-    by true e = ap (option_map place_of) (sym (goes (last_master gtin (ordered log)) (subst (λ g. is_late entry.item (last_master g (ordered log)) ≡ false) (same_text named gtin (sym e)) late)))
-    by false e = places gtin
+  -- a master that comes late leaves the table as it should be
+  pub masters-late : comes_late whole (length log) (lookup (bytes_eq named) masters) ≡ true → AreMastersOf whole masters
+  masters-late late gtin =
+      places gtin ∙ ap (option_map place_of) (sym (last_now gtin (last_master named (ordered log)) (last_is true late) ∙ by (bytes_eq named gtin) refl))
+    where
+      by : (b : Bool) → bytes_eq named gtin ≡ b → cond b (last_master named (ordered log)) (last_master gtin (ordered log)) ≡ last_master gtin (ordered log)
+      by true h = ap (λ (g : List ℕ). last_master g (ordered log)) (same_text named gtin (sym h))
+      by false h = refl
+
+  -- any other master takes the place of its code
+  pub masters-latest : (masters' : List (List ℕ × ℕ)) → comes_late whole (length log) (lookup (bytes_eq named) masters) ≡ false
+      → ((gtin : List ℕ) → lookup (bytes_eq gtin) masters' ≡ cond (bytes_eq named gtin) (Some (length log)) (lookup (bytes_eq gtin) masters)) → AreMastersOf whole masters'
+  masters-latest masters' late updates gtin =
+      updates gtin ∙ by (bytes_eq named gtin) ∙ ap (option_map place_of) (sym (last_now gtin (Some x) (last_is false late)))
+    where
+      by : (b : Bool) → cond b (Some (length log)) (lookup (bytes_eq gtin) masters) ≡ option_map place_of (cond b (Some x) (last_master gtin (ordered log)))
+      by true = refl
+      by false = places gtin
+
+-- the same by the place of the newest entry
+master_names : (gtin : List ℕ) (item : Item) → is_master gtin item ≡ true → (other : List ℕ) → is_master other item ≡ bytes_eq gtin other
+master_names gtin (Carried k stamp (Master named product)) e other = ap (λ (g : List ℕ). bytes_eq g other) (same_text named gtin (sym e))
+master_names gtin _ e other = absurd (true≢false (sym e))
+
+module _ (whole : List LogEntry) (place : ℕ) (masters : List (List ℕ × ℕ)) (gtin : List ℕ) (l : length whole ≡ place + 1)
+    (own : is_master gtin (get_or whole place no_entry).item ≡ true) (places : AreMastersOf (take place whole) masters) where
+  split : longer (take place whole) (get_or whole place no_entry) ≡ whole
+  split = sym (log-split whole place l)
+
+  at : length (take place whole) ≡ place
+  at = sym (log-length whole place l)
+
+  names : (other : List ℕ) → is_master other (get_or whole place no_entry).item ≡ bytes_eq gtin other
+  names = master_names gtin (get_or whole place no_entry).item own
+
+  pub masters-late-at : comes_late whole place (lookup (bytes_eq gtin) masters) ≡ true → AreMastersOf whole masters
+  masters-late-at late =
+      subst (λ (w : List LogEntry). AreMastersOf w masters) split
+      (masters-late (take place whole) masters (get_or whole place no_entry) gtin places names ((λ i. comes_late (split i) (at i) (lookup (bytes_eq gtin) masters)) ∙ late))
+
+  pub masters-latest-at : (masters' : List (List ℕ × ℕ)) → comes_late whole place (lookup (bytes_eq gtin) masters) ≡ false
+      → ((other : List ℕ) → lookup (bytes_eq other) masters' ≡ cond (bytes_eq gtin other) (Some place) (lookup (bytes_eq other) masters)) → AreMastersOf whole masters'
+  masters-latest-at masters' late updates =
+      subst (λ (w : List LogEntry). AreMastersOf w masters') split
+      (masters-latest (take place whole) masters (get_or whole place no_entry) gtin places names masters' ((λ i. comes_late (split i) (at i) (lookup (bytes_eq gtin) masters)) ∙ late)
+      (λ other. updates other ∙ ap (λ n. cond (bytes_eq gtin other) (Some n) (lookup (bytes_eq other) masters)) (sym at)))

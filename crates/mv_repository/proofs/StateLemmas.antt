@@ -9,12 +9,12 @@ use Rattle.mv_link.specs.declared.item.Item.{Item}
 use Rattle.mv_link.specs.declared.item.Item.TheVariants.{Carried}
 use Rattle.mv_repository.specs.declared.entry.LogEntry.{LogEntry}
 use Rattle.mv_repository.specs.declared.stops.BatchStanding.{BatchStanding}
-use Rattle.mv_pack.specs.Keys.{batch_key}
 use Rattle.mv_repository.specs.Order.{Placed, stands_before, Ascends}
-use Rattle.mv_repository.specs.Pack.{KnownPack, KnownChange, is_active, is_done, change_effect}
-use Rattle.mv_repository.specs.PackState.{is_recall_of, is_withdrawal_of, batch_standing, pack_after_item, known_pack_from, known_pack, held_of}
-use Rattle.mv_repository.specs.Stops.{FirstStops, StopTables, first_stops, is_before, standing_at, entry_at, place_of, stops_in, no_entry}
-use Rattle.mv_repository.specs.Track.{is_upload_of, is_status_of, first_upload, statuses_of, pack_made_by, pack_changed, pack_step, pack_grown, user_in, user_at, known_of, held_step, grown_at}
+use Rattle.mv_repository.specs.Pack.{KnownPack}
+use Rattle.mv_repository.specs.PackState.{is_recall_of, is_withdrawal_of, batch_standing, pack_after_item, known_pack_from, known_pack}
+use Rattle.mv_repository.specs.Stops.{FirstStops, first_stops, is_before, standing_at, entry_at, place_of, no_entry}
+use Rattle.mv_repository.specs.Track.{is_upload_of, is_status_of, first_upload, statuses_of, pack_changed, pack_step, pack_grown}
+use Rattle.mv_repository.specs.State.{pack_made_by}
 use Rattle.mv_repository.proofs.OrderLemmas.{StandsBeforeAll, stands-asym, stands-self, Stand}
 
 -- what is found behind y doesn't stand before it
@@ -147,47 +147,7 @@ pub known-grown : (pack : PackKey) (xs : List Placed) → Ascends xs
     → known_pack pack xs ≡ pack_grown (first_stops xs) pack (first_upload pack xs) (statuses_of pack xs)
 known-grown pack xs a = state-fold xs [] xs pack None refl a ∙ fold-grown (first_stops xs) pack xs a
 
--- a pack is seen whole by the place of its change, whose user the log has
-abbrev pub IsSeen : List LogEntry → KnownPack → Type 0
-IsSeen log pack = known_of log (held_of pack) ≡ pack
-
-pub made-seen : (log : List LogEntry) (item : Item) → IfSome (pack_made_by item) (IsSeen log)
-made-seen log (Carried k stamp (Upload gtin batch expiry national serials)) = refl
-made-seen log _ = tt
-
-changed-seen : (log : List LogEntry) (standing : BatchKey → BatchStanding) (place sender : ℕ) (item : Item) (pack : PackKey) (held : KnownPack)
-    → user_at log place ≡ user_in item → IsSeen log held → IsSeen log (pack_changed standing place sender item pack held)
-changed-seen log standing place sender (Carried k stamp (Status key to user at)) pack held e h =
-    by (is_done (change_effect held (standing (batch_key pack.gtin held.batch)) to sender user at))
-  where
-    change : KnownChange
-    change = record { by = sender; user = user; at = at; entry = place }
-
-    reverted : (active : Bool) → IsSeen log (record held { standing = to; change = cond active None (Some change) })
-    reverted true = refl
-    reverted false = λ i. record held { standing = to; change = Some (record change { user = e i }) }
-
-    by : (done : Bool) → IsSeen log (cond done (record held { standing = to; change = cond (is_active to) None (Some change) }) held)
-    by true = reverted (is_active to)
-    by false = h
-changed-seen log standing place sender _ pack held e h = h
-
-pub step-seen : (log : List LogEntry) (stops : FirstStops) (pack : PackKey) (birth : Placed) (held : KnownPack) (x : Placed)
-    → get_or log x.place no_entry ≡ x.entry → IsSeen log held → IsSeen log (pack_step stops pack birth held x)
-step-seen log stops pack birth held x e h =
-    elim (stands_before birth x) as (λ b. IsSeen log (cond b (turn stops pack held x) held)) [
-      | true ↦ changed-seen log (standing_at stops x) x.place x.entry.sender x.entry.item pack held (ap (λ (entry : LogEntry). user_in entry.item) e) h
-      | false ↦ h
-    ]
-
-fold-seen : (log : List LogEntry) (stops : FirstStops) (pack : PackKey) (birth : Placed) (held : KnownPack) (xs : List Placed) → Stand log xs → IsSeen log held
-    → fold (held_step log stops pack birth) (held_of held) xs ≡ held_of (fold (pack_step stops pack birth) held xs)
-fold-seen log stops pack birth held [] s h = refl
-fold-seen log stops pack birth held (x ∷ xs) s h =
-    ap (λ k. fold (held_step log stops pack birth) (held_of (pack_step stops pack birth k x)) xs) h
-    ∙ fold-seen log stops pack birth (pack_step stops pack birth held x) xs s.1 (step-seen log stops pack birth held x s.0 h)
-
-entry-stands : (log : List LogEntry) (x : Placed) → get_or log x.place no_entry ≡ x.entry → entry_at log x.place ≡ x
+pub entry-stands : (log : List LogEntry) (x : Placed) → get_or log x.place no_entry ≡ x.entry → entry_at log x.place ≡ x
 entry-stands log x e = λ i. record x { entry = e i }
 
 pub map-stands : (log : List LogEntry) (xs : List Placed) → Stand log xs → map (entry_at log) (map place_of xs) ≡ xs
@@ -209,17 +169,3 @@ find-stands f log xs s = by (find f xs) (find-stand f log xs s)
     by : (o : Option Placed) → IfSome o (λ x. get_or log x.place no_entry ≡ x.entry) → option_map (entry_at log) (option_map place_of o) ≡ o
     by None h = refl
     by (Some x) h = ap Some (entry-stands log x h)
-
--- a pack by places in a log, where the entries stand
-pub grown-stands : (log : List LogEntry) (tables : StopTables) (stops : FirstStops) (pack : PackKey) (birth : Option Placed) (own : List Placed)
-    → stops_in log tables ≡ stops → IfSome birth (λ x. get_or log x.place no_entry ≡ x.entry) → Stand log own
-    → grown_at log tables pack (option_map place_of birth) (map place_of own) ≡ option_map held_of (pack_grown stops pack birth own)
-grown-stands log tables stops pack None own e b s = refl
-grown-stands log tables stops pack (Some birth) own e b s =
-    (λ i. option_map (λ held. fold (held_step log (e i) pack (entry-stands log birth b i)) held (map-stands log own s i)) (option_map held_of (pack_made_by (entry-stands log birth b i).entry.item)))
-    ∙ by (pack_made_by birth.entry.item) (made-seen log birth.entry.item)
-  where
-    by : (made : Option KnownPack) → IfSome made (IsSeen log)
-        → option_map (λ held. fold (held_step log stops pack birth) held own) (option_map held_of made) ≡ option_map held_of (option_map (λ held. fold (pack_step stops pack birth) held own) made)
-    by None h = refl
-    by (Some held) h = ap Some (fold-seen log stops pack birth held own s h)

@@ -12,11 +12,11 @@ pub mod Counts
 pub mod Repository
 pub mod Stops
 pub mod Masters
+pub mod State
 pub mod Track
-pub mod Steps
-pub mod Tracked
-pub mod Batches
-pub mod Slots
+pub mod Tally
+pub mod Shelf
+pub mod Listing
 pub mod Packs
 pub mod Inquiries
 pub mod Tables

@@ -1,5 +1,5 @@
 -- The table that finds the last master of a product in the log.
-use Rattle.std.specs.Prelude.{◌≡◌, ℕ, List, [], ◌∷◌, Bool, false, nat_lt, Option, Some, None, if◌then◌else◌, bytes_eq}
+use Rattle.std.specs.Prelude.{◌≡◌, ℕ, List, [], ◌∷◌, Bool, false, Option, Some, None, if◌then◌else◌, bytes_eq}
 use Rattle.std.specs.Map.{lookup}
 use Rattle.std.specs.Option.{option_map, option_or}
 use Rattle.mv_message.specs.declared.message.Message.TheVariants.{Master}
@@ -7,8 +7,8 @@ use Rattle.mv_message.specs.declared.message.Product.{Product}
 use Rattle.mv_link.specs.declared.item.Item.{Item}
 use Rattle.mv_link.specs.declared.item.Item.TheVariants.{Carried}
 use Rattle.mv_repository.specs.declared.entry.LogEntry.{LogEntry}
-use Rattle.mv_repository.specs.Order.{Placed, rank, ordered}
-use Rattle.mv_repository.specs.Stops.{place_of}
+use Rattle.mv_repository.specs.Order.{Placed, passes, ordered}
+use Rattle.mv_repository.specs.Stops.{entry_at, place_of}
 
 -- an item is a master of a code
 abbrev pub is_master : List ℕ → Item → Bool
@@ -25,10 +25,10 @@ abbrev pub last_master : List ℕ → List Placed → Option Placed
 last_master gtin [] = None
 last_master gtin (placed ∷ rest) = option_or (last_master gtin rest) (if is_master gtin placed.entry.item then Some placed else None)
 
--- an item that comes last stands before the last master of a code
-abbrev pub is_late : Item → Option Placed → Bool
-is_late item None = false
-is_late item (Some last) = nat_lt (rank item) (rank last.entry.item)
+-- the newest entry stands before the last so far, by their places
+abbrev pub comes_late : List LogEntry → ℕ → Option ℕ → Bool
+comes_late log new None = false
+comes_late log new (Some last) = passes (entry_at log new) (entry_at log last)
 
 -- the entry that stands there
 abbrev pub entry_of : Placed → LogEntry

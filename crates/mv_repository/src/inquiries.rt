@@ -13,7 +13,7 @@ ghost use Rattle.mv_repository.specs.Verdict.{joint_verdict, found_active, found
 ghost use Rattle.mv_repository.specs.Inquiries.{IsInquiriesOf, HasRoomFor, has_reply, inquiry_in, no_inquiry, tells_of_query};
 ghost use Rattle.mv_repository.specs.Inquiries.{with_receipt, with_finding, parties_at, known_verdict, verdict_once_asked};
 
-use crate::status::is_active;
+use crate::state::is_active;
 use crate::verdict::{is_explained, verdict_when};
 use crate::{Joint, LogEntry, Verdict};
 use indexmap::{IndexMap, IndexSet};

@@ -18,30 +18,27 @@
 //! ```
 #![tactic(auto)]
 
-mod batches;
-mod birth;
 mod counts;
-mod current;
 mod effect;
 mod entry;
 mod held;
 mod inquiries;
 mod laws;
-mod ledger;
+mod listing;
+mod masters;
 mod order;
 mod packs;
 mod repository;
 mod sender;
 mod shelf;
+mod shelves;
 mod slot;
-mod slots;
-mod status;
-mod steps;
+mod state;
+mod step;
 mod stops;
-mod table;
+mod tables;
 mod tally;
 mod track;
-mod tracked;
 mod verdict;
 
 pub use counts::Counts;

@@ -1,193 +1,163 @@
-//! The table of packs: for each pack that an entry names, what is kept of it.
+//! What is kept of all packs: a shelf for each product, and how many of the packs are held and active.
 
-ghost use Rattle.std.specs.Prelude.{◌≡◌, ◌<◌, ◌≤◌, ◌+◌, ◌∷◌, ◌++◌, [], length, vec_len, vec_capacity, OnOk, OnErr, IfOk, if◌then◌else◌};
-ghost use Rattle.std.specs.List.{IsDistinct};
-ghost use Rattle.std.specs.Map.{keys_of};
-ghost use Rattle.mv_pack.specs.declared.key.PackKey.{PackKey as APackKey};
-ghost use Rattle.mv_pack.specs.Keys.{is_same_pack};
-ghost use Rattle.mv_repository.specs.PackState.{has_pack};
-ghost use Rattle.mv_repository.specs.Tables.{IsUploadOf};
-ghost use Rattle.mv_repository.specs.Track.{kept_in, IsTrack, AreTracks, with_status, with_upload, newest_effect, made_count, IsTally};
+ghost use Rattle.std.specs.Prelude.{◌≡◌, ◌+◌, length, take, [], true, false, bytes_eq, OnOk, OnErr, IfOk};
+ghost use Rattle.mv_repository.specs.Effect.{effect_of};
+ghost use Rattle.mv_repository.specs.Packs.{ArePacksOf};
+ghost use Rattle.mv_repository.specs.PackState.{pack_state, is_recall_of, is_withdrawal_of};
+ghost use Rattle.mv_repository.specs.Shelf.{IsUploadOf};
+ghost use Rattle.mv_repository.specs.Stops.{AreStopsOf, entry_at};
+ghost use Rattle.mv_repository.specs.Track.{is_status_of};
 
-use crate::batches::Batches;
-use crate::slots::Slots;
+use crate::shelf::{Newest, Shelf};
+use crate::shelves::add_shelf;
 use crate::stops::Stops;
-use crate::table::Table;
 use crate::tally::Tally;
-use crate::track::made_by;
-use crate::tracked::Tracked;
 use crate::{Effect, Held, LogEntry};
+use indexmap::IndexMap;
 use mv_pack::{BatchKey, Gtin, PackKey, Serial};
 use std::alloc::{AllocError, Global};
 use std::marker::Model;
 
-/// The table of packs, seen as what is kept of each pack that an upload or a status names.
+/// What is kept of all packs.
 #[derive(Drop)]
 pub(crate) struct Packs {
     /// What memory is got from.
     alloc: Global,
-    /// What stands for each pack.
-    table: Table,
-    /// The packs that statuses name.
-    tracked: Tracked,
-    /// The uploads of each batch.
-    batches: Batches,
+    /// What is kept of the packs of each product.
+    shelves: IndexMap<Gtin, Shelf>,
+    /// How many packs are held, and how many of them are active.
+    tally: Tally,
 }
 
 impl Model for Packs {
-    ghost use Rattle.std.specs.Prelude.{List};
-    ghost use Rattle.mv_pack.specs.declared.key.PackKey.{PackKey};
-    ghost use Rattle.mv_repository.specs.Track.{Kept};
-    ghost use Rattle.mv_repository.specs.Packs.{kept_table, IsTable};
+    ghost use Rattle.mv_repository.specs.Packs.{PackTables};
 
-    ghost Value = { List (PackKey × Kept) };
+    ghost Value = { PackTables };
 
-    ghost view = { λ a. kept_table a.table.slots.entries };
-
-    ghost invariant = { λ a. IsTable a.table.slots.entries a.tracked a.batches a.table.tally };
+    ghost view = { λ a. record { shelves = a.shelves.entries; tally = a.tally } };
 }
 
 impl Packs {
-    ghost use Rattle.std.specs.Prelude.{Some, None};
-    ghost use Rattle.mv_repository.specs.Track.{refreshed};
-    ghost use Rattle.mv_repository.specs.Packs.{is_of, WereTracks, AreMade, WasTrack};
-
-    /// A table of no pack.
+    /// No pack.
     pub fn new(alloc: Global) -> Packs
-        ensures { result ≡ [] }
+        ensures { ArePacksOf [] result }
     {
         Packs {
             alloc,
-            table: Table {
-                slots: Slots::new(alloc),
-                tally: Tally { held: 0, active: 0 },
-            },
-            tracked: Tracked::new(alloc),
-            batches: Batches::new(alloc),
+            shelves: IndexMap::new(alloc),
+            tally: Tally { held: 0, active: 0 },
         }
-    }
-
-    /// What a pack is, by the log in which its entries stand; none where no upload names it.
-    pub fn get(&self, log: &[LogEntry], key: &PackKey) -> Option<Held>
-        requires { WasTrack log.now key.now (kept_in key.now self.now) }
-        ensures { result ≡ (kept_in key.now self.now).held }
-    {
-        let slot = self.table.slots.get(key)?;
-        slot.held(log)
     }
 
     /// How many packs are held, and how many of them are active.
     pub fn tally(&self) -> Tally
-        ensures tally { IsTally self.now result }
-        ensures distinct { IsDistinct is_same_pack (keys_of self.now) }
+        ensures { result ≡ self.now.tally }
     {
-        prove!(self.table.slots.product_count() <= usize::MAX / 2);
-        self.table.tally
+        self.tally
     }
 
-    /// Writes an upload into the log, and adds it to what is kept of each pack that it names; how many packs it makes.
-    /// Where memory is refused nothing has changed; beyond 2^32 entries there is want of memory.
+    /// What a pack is; none where no upload names it.
+    pub fn get(&self, log: &[LogEntry], key: &PackKey) -> Option<Held>
+        requires { ArePacksOf log.now self.now }
+        ensures { result ≡ pack_state key.now log.now }
+    {
+        let shelf = self.shelves.get(&key.gtin)?;
+        shelf.state(log, &key.serial)
+    }
+
+    /// Adds the newest entry, an upload; its effect where it stands.
     pub fn add_upload(
         &mut self,
-        log: &mut Vec<LogEntry>,
-        entry: LogEntry,
+        log: &[LogEntry],
         stops: &Stops,
-        gtin: Gtin,
+        gtin: &Gtin,
         serials: &[Serial],
-    ) -> Result<usize, AllocError>
-        requires room { vec_len log.old < vec_capacity log.old }
-        requires upload { IsUploadOf entry.item gtin serials.now }
-        requires tracks { AreTracks (log.old.items ++ entry ∷ []) stops.now self.old }
-        ensures log { OnOk result (log.new.items ≡ log.old.items ++ entry ∷ []) }
-        ensures kept { OnOk result ((pack : APackKey) → kept_in pack self.new
-            ≡ (if has_pack gtin serials.now pack
-            then with_upload (log.old.items ++ entry ∷ []) stops.now pack (length log.old.items) (kept_in pack self.old)
-            else kept_in pack self.old)) }
-        ensures count { IfOk result (λ count. count
-            ≡ made_count (log.old.items ++ entry ∷ []) (length log.old.items) self.old gtin serials.now) }
-        ensures within { IfOk result (λ count. count ≤ length serials.now) }
-        ensures log_err { OnErr result (log.new.items ≡ log.old.items) }
-        ensures err { OnErr result (self.new ≡ self.old) }
+        place: u32,
+    ) -> Result<Effect, AllocError>
+        requires last { length log.now ≡ place + 1 }
+        requires stops { AreStopsOf (take place log.now) stops.now }
+        requires upload { IsUploadOf (entry_at log.now place).entry.item gtin.now serials.now }
+        requires packs { ArePacksOf (take place log.now) self.old }
+        ensures ok { OnOk result (ArePacksOf log.now self.new) }
+        ensures effect { IfOk result (λ effect. effect ≡ effect_of (take place log.now) (entry_at log.now place).entry) }
+        ensures err { OnErr result (ArePacksOf (take place log.now) self.new) }
     {
-        let Some(held) = made_by(&entry.item) else {
+        if serials.len() > usize::MAX - self.tally.held {
+            return Err(AllocError);
+        }
+        add_shelf(self.alloc, &mut self.shelves, *gtin)?;
+        let Some(shelf) = self.shelves.get_mut(gtin) else {
             unreachable!();
         };
-        let place = place_of(log.len())?;
-        let product = self.table.slots.add_product(gtin)?;
-        self.table.slots.reserve(product, serials.len())?;
-        let batch = BatchKey {
+        let new = shelf.add_upload(
+            &Newest { log, stops, place },
             gtin,
-            batch: held.batch,
-        };
-        self.batches.add(batch.copy(), place)?;
-        // All room is got: nothing fails from here on.
-        log.push_reserved(entry);
-        let count = self
-            .table
-            .add_uploads(log.as_slice(), stops, product, gtin, serials, place);
-        self.batches.settle_last(&batch, count > 0);
-        Ok(count)
+            serials,
+            &mut self.tally,
+        )?;
+        Ok(Effect::Uploaded {
+            new: new as u64,
+            old: (serials.len() - new) as u64,
+        })
     }
 
-    /// Writes a status into the log, and adds it to what is kept of its pack; its effect where it stands. Where memory is
-    /// refused nothing has changed.
+    /// Adds the newest entry, a status; its effect where it stands.
     pub fn add_status(
         &mut self,
-        log: &mut Vec<LogEntry>,
-        entry: LogEntry,
+        log: &[LogEntry],
         stops: &Stops,
-        key: &PackKey,
+        pack: &PackKey,
+        place: u32,
     ) -> Result<Effect, AllocError>
-        requires room { vec_len log.old < vec_capacity log.old }
-        requires track { IsTrack (log.old.items ++ entry ∷ []) stops.now key.now (kept_in key.now self.old) }
-        ensures log { OnOk result (log.new.items ≡ log.old.items ++ entry ∷ []) }
-        ensures kept { OnOk result ((pack : APackKey) → kept_in pack self.new
-            ≡ (if is_same_pack key.now pack
-            then with_status (log.old.items ++ entry ∷ []) stops.now key.now (length log.old.items)
-            (kept_in key.now self.old)
-            else kept_in pack self.old)) }
-        ensures effect { IfOk result (λ effect. effect
-            ≡ newest_effect (log.old.items ++ entry ∷ []) stops.now key.now (length log.old.items)
-            (kept_in key.now self.old)) }
-        ensures log_err { OnErr result (log.new.items ≡ log.old.items) }
-        ensures err { OnErr result (self.new ≡ self.old) }
+        requires last { length log.now ≡ place + 1 }
+        requires stops { AreStopsOf (take place log.now) stops.now }
+        requires own { is_status_of pack.now (entry_at log.now place).entry.item ≡ true }
+        requires packs { ArePacksOf (take place log.now) self.old }
+        ensures ok { OnOk result (ArePacksOf log.now self.new) }
+        ensures effect { IfOk result (λ effect. effect ≡ effect_of (take place log.now) (entry_at log.now place).entry) }
+        ensures err { OnErr result (ArePacksOf (take place log.now) self.new) }
     {
-        self.table
-            .add_status(self.alloc, &mut self.tracked, log, entry, stops, key)
+        prove!(self.tally.held <= usize::MAX);
+        add_shelf(self.alloc, &mut self.shelves, pack.gtin)?;
+        let Some(shelf) = self.shelves.get_mut(&pack.gtin) else {
+            unreachable!();
+        };
+        let effect = shelf.add_status(
+            self.alloc,
+            &Newest { log, stops, place },
+            pack,
+            &mut self.tally,
+        )?;
+        Ok(effect)
     }
 
-    /// Works out again the packs of a batch, each by the upload that made it. Only those are looked at that its uploads name.
-    pub fn refresh_batch(&mut self, log: &[LogEntry], stops: &Stops, batch: &BatchKey)
-        requires tracks { WereTracks log.now self.old }
-        requires made { AreMade log.now self.old }
-        ensures kept { (pack : APackKey) → kept_in pack self.new
-            ≡ (if is_of batch.now.gtin (Some batch.now.batch) pack (kept_in pack self.old)
-            then refreshed log.now stops.now pack (kept_in pack self.old)
-            else kept_in pack self.old) }
+    /// Works out again the packs that may be of a batch, of which the newest entry is a recall.
+    pub fn refresh_batch(&mut self, log: &[LogEntry], stops: &Stops, batch: &BatchKey, place: u32)
+        requires last { length log.now ≡ place + 1 }
+        requires stops { AreStopsOf log.now stops.now }
+        requires recall { is_recall_of batch.now (entry_at log.now place).entry.item ≡ true }
+        requires packs { ArePacksOf (take place log.now) self.old }
+        ensures { ArePacksOf log.now self.new }
     {
-        let places = self.batches.uploads_of(batch);
-        self.table.refresh_uploads(log, stops, batch, places);
+        prove!(self.tally.held <= usize::MAX);
+        let Some(shelf) = self.shelves.get_mut(&batch.gtin) else {
+            return;
+        };
+        shelf.refresh_batch(&Newest { log, stops, place }, batch, &mut self.tally);
     }
 
-    /// Works out again the packs of a product. Only those are looked at that a status names.
-    pub fn refresh_product(&mut self, log: &[LogEntry], stops: &Stops, gtin: &Gtin)
-        requires tracks { WereTracks log.now self.old }
-        ensures kept { (pack : APackKey) → kept_in pack self.new
-            ≡ (if is_of gtin.now None pack (kept_in pack self.old)
-            then refreshed log.now stops.now pack (kept_in pack self.old)
-            else kept_in pack self.old) }
+    /// Works out again the packs of a product, of which the newest entry is a withdrawal.
+    pub fn refresh_product(&mut self, log: &[LogEntry], stops: &Stops, gtin: &Gtin, place: u32)
+        requires last { length log.now ≡ place + 1 }
+        requires stops { AreStopsOf log.now stops.now }
+        requires withdrawal { is_withdrawal_of gtin.now (entry_at log.now place).entry.item ≡ true }
+        requires packs { ArePacksOf (take place log.now) self.old }
+        ensures { ArePacksOf log.now self.new }
     {
-        let serials = self.tracked.of_product(gtin);
-        self.table.refresh_all(log, stops, *gtin, None, serials);
+        prove!(self.tally.held <= usize::MAX);
+        let Some(shelf) = self.shelves.get_mut(gtin) else {
+            return;
+        };
+        shelf.refresh_product(&Newest { log, stops, place }, gtin, &mut self.tally);
     }
-}
-
-/// A place in the log in 32 bits. Beyond these there is want of memory.
-fn place_of(place: usize) -> Result<u32, AllocError>
-    ensures { IfOk result (λ small. small ≡ place) }
-{
-    if place > u32::MAX as usize {
-        return Err(AllocError);
-    }
-    Ok(place as u32)
 }

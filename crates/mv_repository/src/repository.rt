@@ -1,13 +1,15 @@
-//! A national repository: its ledger, and what it knows of its own queries.
+//! A national repository: its log, the tables of it, and what it knows of its own queries.
 
 ghost use Rattle.std.specs.Prelude.{◌≡◌, OnOk, OnErr, IfOk};
 ghost use Rattle.std.specs.Option.{option_copied};
 
 use crate::inquiries::Inquiries;
-use crate::ledger::Ledger;
-use crate::{Counts, Effect, FromSender, Held, Joint, Local, LogEntry};
+use crate::state::is_active;
+use crate::tables::Tables;
+use crate::verdict::{is_explained, verdict_when};
+use crate::{Counts, Effect, FromSender, Held, Joint, Local, LogEntry, masters};
 use mv_link::Item;
-use mv_message::{Message, Party, Product, Shared};
+use mv_message::{Found, Message, Party, Product, Shared};
 use mv_pack::{BatchKey, Gtin, PackKey};
 use std::alloc::{AllocError, Global};
 use std::marker::Model;
@@ -15,8 +17,14 @@ use std::marker::Model;
 /// A national repository, seen as its party and its log. No reader searches the log: each goes by tables.
 #[derive(Drop)]
 pub struct Repository {
-    /// What was applied, and the tables of it.
-    ledger: Ledger,
+    /// What memory is got from.
+    alloc: Global,
+    /// Whose repository it is.
+    party: Party,
+    /// What was applied, the oldest entry first.
+    log: Vec<LogEntry>,
+    /// What is found in the log without a search.
+    tables: Tables,
     /// What is known of the queries of its own party.
     inquiries: Inquiries,
 }
@@ -24,12 +32,13 @@ pub struct Repository {
 impl Model for Repository {
     ghost use Rattle.mv_repository.specs.Repository.{RepositoryState};
     ghost use Rattle.mv_repository.specs.Inquiries.{IsInquiriesOf};
+    ghost use Rattle.mv_repository.specs.Tables.{AreTablesOf};
 
     ghost Value = { RepositoryState };
 
-    ghost view = { λ a. a.ledger };
+    ghost view = { λ a. record { party = a.party; log = a.log.items } };
 
-    ghost invariant = { λ a. IsInquiriesOf a.ledger.party a.ledger.log a.inquiries };
+    ghost invariant = { λ a. AreTablesOf a.log.items a.tables × IsInquiriesOf a.party a.log.items a.inquiries };
 }
 
 impl Repository {
@@ -37,7 +46,7 @@ impl Repository {
     ghost use Rattle.mv_repository.specs.Repository.{new_repository, with_applied, product_of};
     ghost use Rattle.mv_repository.specs.PackState.{pack_state, is_recalled, is_withdrawn};
     ghost use Rattle.mv_repository.specs.Effect.{effect_of};
-    ghost use Rattle.mv_repository.specs.Query.{answer_after, answer_to};
+    ghost use Rattle.mv_repository.specs.Query.{found_of, answer_after, answer_to};
     ghost use Rattle.mv_repository.specs.Verdict.{local_verdict, joint_verdict};
     ghost use Rattle.mv_repository.specs.Counts.{counts_of};
 
@@ -46,7 +55,10 @@ impl Repository {
         ensures { result ≡ new_repository party }
     {
         Repository {
-            ledger: Ledger::new(alloc, party),
+            alloc,
+            party,
+            log: Vec::new(alloc),
+            tables: Tables::new(alloc),
             inquiries: Inquiries::new(alloc),
         }
     }
@@ -55,14 +67,14 @@ impl Repository {
     pub fn party(&self) -> Party
         ensures { result ≡ self.now.party }
     {
-        self.ledger.party()
+        self.party
     }
 
     /// What was applied, the oldest entry first.
     pub fn log(&self) -> &[LogEntry]
         ensures { result.now ≡ self.now.log }
     {
-        self.ledger.log()
+        self.log.as_slice()
     }
 
     /// The items that came from a party, in order.
@@ -76,56 +88,120 @@ impl Repository {
     pub fn product(&self, gtin: &Gtin) -> Option<&Product>
         ensures { option_copied result ≡ product_of self.now.log gtin.now }
     {
-        self.ledger.product(gtin)
+        masters::product(&self.tables.masters, self.log.as_slice(), gtin)
     }
 
     /// What a pack is; none where no upload names it.
     pub fn pack(&self, key: &PackKey) -> Option<Held>
         ensures { result ≡ pack_state key.now self.now.log }
     {
-        self.ledger.pack(key)
+        self.tables.packs.get(self.log.as_slice(), key)
     }
 
     /// Whether a batch is recalled.
     pub fn recalled(&self, batch: &BatchKey) -> bool
         ensures { result ≡ is_recalled batch.now self.now.log }
     {
-        self.ledger.recalled(batch)
+        self.tables.stops.has_recall(batch)
     }
 
     /// Whether a product is withdrawn.
     pub fn withdrawn(&self, gtin: &Gtin) -> bool
         ensures { result ≡ is_withdrawn gtin.now self.now.log }
     {
-        self.ledger.withdrawn(gtin)
+        self.tables.stops.has_withdrawal(gtin)
     }
 
     /// How much the repository has, each thing counted once.
     pub fn counts(&self) -> Counts
         ensures { result ≡ counts_of self.now.log }
     {
-        self.ledger.counts()
+        let tally = self.tables.packs.tally();
+        Counts {
+            entries: self.log.len(),
+            products: self.tables.masters.len(),
+            packs: tally.held,
+            active: tally.active,
+            recalled: self.tables.stops.recalled_count(),
+        }
+    }
+
+    /// What is found of a pack.
+    fn found(&self, key: &PackKey) -> Found
+        ensures { result ≡ found_of key.now self.now.log }
+    {
+        let Some(held) = self.pack(key) else {
+            return Found::Absent;
+        };
+        let batch = BatchKey {
+            gtin: key.gtin,
+            batch: held.batch.copy(),
+        };
+        Found::Present {
+            batch: held.batch,
+            expiry: held.expiry,
+            national: held.national,
+            standing: held.standing,
+            recalled: self.recalled(&batch),
+            withdrawn: self.withdrawn(&key.gtin),
+        }
     }
 
     /// The verdict on a pack, where it is held.
     pub fn verify(&self, key: &PackKey) -> Local
         ensures { result ≡ local_verdict key.now self.now.log }
     {
-        self.ledger.verify(key)
+        match self.found(key) {
+            Found::Absent => Local::Absent,
+            Found::Present {
+                standing,
+                recalled,
+                withdrawn,
+                ..
+            } => Local::Known(verdict_when(
+                is_active(standing),
+                is_explained(recalled, withdrawn, standing),
+            )),
+        }
     }
 
     /// The verdict of all that were asked, on the query that was the `q`-th message of the repository's own party.
     pub fn verdict(&self, q: u32) -> Joint
         ensures { result ≡ joint_verdict self.now.party self.now.log q }
     {
-        self.inquiries.verdict(self.ledger.log(), q)
+        self.inquiries.verdict(self.log.as_slice(), q)
     }
 
     /// The answer that an item from a party calls for, by what is held now; only a query calls for one. Nothing changes.
     pub fn answer(&self, sender: Party, item: &Item) -> Option<Message>
         ensures { result ≡ answer_after self.now.log sender item.now }
     {
-        self.ledger.answer(sender, item)
+        let Item::Carried { k, message, .. } = item else {
+            return None;
+        };
+        let Message::Query { key } = message.get() else {
+            return None;
+        };
+        Some(Message::Answer {
+            asker: sender,
+            q: *k,
+            key: key.copy(),
+            found: self.found(key),
+        })
+    }
+
+    /// The answer that an item from a party calls for, in a block of its own. Refused for want of memory.
+    fn shared_answer(
+        &self,
+        sender: Party,
+        item: &Item,
+    ) -> Result<Option<Shared<Message>>, AllocError>
+        ensures { IfOk result (λ answer. answer ≡ answer_after self.now.log sender item.now) }
+    {
+        match self.answer(sender, item) {
+            Some(answer) => Ok(Some(Shared::new(self.alloc, answer)?)),
+            None => Ok(None),
+        }
     }
 
     /// Applies an item that came from a party: says what that did, at the item's own place in the order of stamps, and
@@ -142,11 +218,26 @@ impl Repository {
             ≡ answer_to self.old.log (record { sender = sender; item = item.now })) }
         ensures err { OnErr result (self.new ≡ self.old) }
     {
-        let party = self.ledger.party();
-        let place = self.ledger.log().len();
-        self.inquiries.reserve(party, sender, item)?;
-        let done = self.ledger.apply(sender, item)?;
-        self.inquiries.note(party, sender, item, place);
-        Ok(done)
+        let place = self.log.len();
+        if place > u32::MAX as usize {
+            return Err(AllocError);
+        }
+        let answer = self.shared_answer(sender, item)?;
+        let Ok(copy) = item.copy() else {
+            return Err(AllocError);
+        };
+        self.inquiries.reserve(self.party, sender, item)?;
+        self.log.reserve(1)?;
+        self.log.push_reserved(LogEntry { sender, item: copy });
+        match self.tables.add(self.log.as_slice(), place as u32) {
+            Ok(effect) => {
+                self.inquiries.note(self.party, sender, item, place);
+                Ok((effect, answer))
+            }
+            Err(refused) => {
+                self.log.truncate(place);
+                Err(refused)
+            }
+        }
     }
 }

@@ -1,238 +1,480 @@
-//! What stands for each pack of one product, by serial numbers alone. This file knows no other product.
+//! What is kept of each pack of one product, by serial numbers alone. This file knows no other product.
 
-ghost use Rattle.std.specs.Prelude.{◌≡◌, ◌<◌, ◌≤◌, ◌+◌, ◌∷◌, ◌++◌, [], length, vec_len, vec_capacity, OnOk, OnErr, IfOk, true, false, bytes_eq};
+ghost use Rattle.std.specs.Prelude.{◌≡◌, ◌<◌, ◌≤◌, ◌+◌, ◌^◌, ℕ, List, [], map, length, get_or, take, Some, true, false, ◌==◌, bytes_eq, OnOk, OnErr, IfOk};
 ghost use Rattle.std.specs.Map.{lookup};
-ghost use Rattle.std.specs.Option.{option_copied};
-ghost use Rattle.mv_repository.specs.Counts.{is_held_active};
-ghost use Rattle.mv_repository.specs.Stops.{comes_first};
-ghost use Rattle.mv_repository.specs.Tracked.{is_tracked, KeepsTracked};
-ghost use Rattle.mv_repository.specs.Track.{held_made_at, IsTrack, with_status, with_upload, newest_effect, is_made, is_active_kept};
+ghost use Rattle.mv_repository.specs.declared.slot.Slot.TheVariants.{Own};
+ghost use Rattle.indexmap.specs.IndexMap.{spare};
+ghost use Rattle.std.specs.Set.{distinct_count};
+ghost use Rattle.mv_pack.specs.Keys.{pack_key, is_same_pack};
+ghost use Rattle.mv_repository.specs.Counts.{uploaded_packs};
+ghost use Rattle.mv_repository.specs.Tally.{share_of, IsMoved, IsTally};
+ghost use Rattle.mv_repository.specs.Stops.{AreStopsOf, entry_at, stops_in, comes_first, earlier_place};
+ghost use Rattle.mv_repository.specs.Shelf.{new_count, nothing_kept, kept_on, IsShelf, IsOwned, IsShelfOf, IsUploadOf, IsAgain, IsBetween, AreKept, NamesNone, has, AreMadeListed, HasNoOther};
+ghost use Rattle.mv_repository.specs.Listing.{numbers_of, has_number, HasAllOf, batch_at, AreListed};
+ghost use Rattle.mv_repository.specs.Track.{IsTrack, step_place, track_of, is_status_of, state_by};
+ghost use Rattle.mv_repository.specs.Effect.{effect_of};
+ghost use Rattle.mv_repository.specs.PackState.{is_recall_of, is_withdrawal_of};
 
-use crate::birth::Birth;
-use crate::slot::{Slot, start};
+use crate::listing::Listing;
+use crate::order::passes;
+use crate::slot::Slot;
+use crate::state::held_at;
 use crate::stops::Stops;
-use crate::tally::Share;
-use crate::tracked::Tracked;
-use crate::{Effect, LogEntry};
+use crate::tally::{Share, Tally};
+use crate::track::Track;
+use crate::{Effect, Held, LogEntry};
 use indexmap::IndexMap;
-use indexmap::map::Entry;
-use mv_pack::{PackKey, Serial};
+use mv_pack::{BatchKey, Gtin, PackKey, Serial};
 use std::alloc::{AllocError, Global};
 use std::marker::Model;
 
-/// How many packs of one product there may be. Beyond these there is want of memory.
-const MOST_PACKS: usize = 1 << 31;
-
-/// How an upload changed one pack.
+/// The newest entry of a log, and the first recalls and withdrawals by which it is worked out.
 #[derive(Clone, Copy)]
-pub(crate) struct Added {
+pub(crate) struct Newest<'a> {
+    /// The log, with the entry.
+    pub log: &'a [LogEntry],
+    /// The first recalls and withdrawals.
+    pub stops: &'a Stops,
+    /// The place of the entry in the log.
+    pub place: u32,
+}
+
+/// What an upload did to a pack.
+#[derive(Clone, Copy)]
+struct Added {
     /// Whether it is the first by stamp that names the pack.
-    pub is_new: bool,
+    is_first: bool,
     /// What the pack added to the tally before.
-    pub was: Share,
+    was: Share,
     /// What it adds now.
-    pub is: Share,
+    is: Share,
 }
 
-/// How a status changed its pack.
-#[derive(Clone, Copy)]
-pub(crate) struct Noted {
-    /// The effect of the status, where it stands.
-    pub effect: Effect,
-    /// What the pack added to the tally before.
-    pub was: Share,
-    /// What it adds now.
-    pub is: Share,
+impl Added {
+    /// To a pack that no status names, and an upload that stands in front.
+    const NOTHING: Added = Added {
+        is_first: false,
+        was: Share::NEW,
+        is: Share::NEW,
+    };
 }
 
-/// How working one pack out again changed what it adds to the tally.
-#[derive(Clone, Copy)]
-pub(crate) struct Again {
-    /// What it added before.
-    pub was: Share,
-    /// What it adds now.
-    pub is: Share,
+/// Adds the newest entry, an upload, to what is kept of one pack that it names; whether it is the first such by stamp.
+fn put_upload(
+    slots: &mut IndexMap<Serial, Slot>,
+    tracks: &mut Vec<Track>,
+    newest: &Newest<'_>,
+    gtin: &Gtin,
+    serial: &Serial,
+) -> Added
+    requires room { 0 < spare slots.old }
+    requires shelf { IsShelf slots.old.entries tracks.old.items }
+    requires owned { IsOwned slots.old.entries tracks.old.items }
+    requires worked { IsTrack newest.now.log.now (stops_in newest.now.log.now newest.now.stops.now) gtin.now (kept_on slots.old.entries tracks.old.items serial.now) }
+    ensures room { spare slots.old ≤ spare slots.new + 1 }
+    ensures shelf { IsShelf slots.new.entries tracks.new.items }
+    ensures owned { IsOwned slots.new.entries tracks.new.items }
+    ensures no_other { HasNoOther slots.old.entries slots.new.entries }
+    ensures birth { (kept_on slots.new.entries tracks.new.items serial.now).birth
+        ≡ earlier_place newest.now.log.now newest.now.place (kept_on slots.old.entries tracks.old.items serial.now).birth }
+    ensures places { map step_place (kept_on slots.new.entries tracks.new.items serial.now).steps
+        ≡ map step_place (kept_on slots.old.entries tracks.old.items serial.now).steps }
+    ensures worked { IsTrack newest.now.log.now (stops_in newest.now.log.now newest.now.stops.now) gtin.now (kept_on slots.new.entries tracks.new.items serial.now) }
+    ensures others { (other : List ℕ) → bytes_eq serial.now other ≡ false
+        → kept_on slots.new.entries tracks.new.items other ≡ kept_on slots.old.entries tracks.old.items other }
+    ensures first { result.is_first ≡ comes_first newest.now.log.now newest.now.place (kept_on slots.old.entries tracks.old.items serial.now).birth }
+    ensures was { result.was ≡ share_of (kept_on slots.old.entries tracks.old.items serial.now) }
+    ensures is { result.is ≡ share_of (kept_on slots.new.entries tracks.new.items serial.now) }
+{
+    let was = match slots.get(serial).copied() {
+        Some(Slot::Own(number)) => {
+            let track = &mut tracks[number as usize];
+            let was = track.share();
+            let is_first = track.add_upload(newest.log, newest.stops, gtin, newest.place);
+            let is = track.share();
+            return Added { is_first, was, is };
+        }
+        Some(Slot::Made(first)) => {
+            if !passes(newest.log, newest.place as usize, first as usize) {
+                return Added::NOTHING;
+            }
+            Share::NEW
+        }
+        None => Share::NONE,
+    };
+    let Ok(_) = slots.insert(serial.copy(), Slot::Made(newest.place)) else {
+        unreachable!();
+    };
+    Added {
+        is_first: true,
+        was,
+        is: Share::NEW,
+    }
 }
 
-/// What stands for each pack of a product that an upload or a status names.
+/// Adds the newest entry, an upload, to what is kept of each pack that it names, for which there is room; how many are new.
+fn put_uploads(
+    slots: &mut IndexMap<Serial, Slot>,
+    tracks: &mut Vec<Track>,
+    newest: &Newest<'_>,
+    gtin: &Gtin,
+    serials: &[Serial],
+    tally: &mut Tally,
+) -> usize
+    requires room { length serials.now ≤ spare slots.old }
+    requires shelf { IsShelf slots.old.entries tracks.old.items }
+    requires owned { IsOwned slots.old.entries tracks.old.items }
+    requires last { length newest.now.log.now ≡ newest.now.place + 1 }
+    requires stops { AreStopsOf (take newest.now.place newest.now.log.now) newest.now.stops.now }
+    requires upload { IsUploadOf (entry_at newest.now.log.now newest.now.place).entry.item gtin.now serials.now }
+    requires kept { AreKept newest.now.log.now (take newest.now.place newest.now.log.now) [] gtin.now slots.old.entries tracks.old.items }
+    requires tally { IsTally (λ pack. track_of pack (take newest.now.place newest.now.log.now)) (uploaded_packs newest.now.log.now) tally.old }
+    requires bound { distinct_count is_same_pack (uploaded_packs newest.now.log.now) < 2 ^ 64 }
+    ensures shelf { IsShelf slots.new.entries tracks.new.items }
+    ensures owned { IsOwned slots.new.entries tracks.new.items }
+    ensures no_other { HasNoOther slots.old.entries slots.new.entries }
+    ensures kept { AreKept newest.now.log.now (take newest.now.place newest.now.log.now) serials.now gtin.now slots.new.entries tracks.new.items }
+    ensures tally { IsTally (λ pack. track_of pack newest.now.log.now) (uploaded_packs newest.now.log.now) tally.new }
+    ensures new { result ≡ new_count (take newest.now.place newest.now.log.now) (entry_at newest.now.log.now newest.now.place).entry gtin.now serials.now }
+    ensures least { result ≤ length serials.now }
+{
+    let mut count = 0;
+    for serial in serials {
+        let added = put_upload(slots, tracks, newest, gtin, serial);
+        *tally = tally.moved(added.was, added.is);
+        count = if added.is_first { count + 1 } else { count };
+    }
+    count
+}
+
+/// The number of the track of a pack, where it has one and the newest entry, an upload that names it, is the first such by
+/// stamp.
+fn track_made_by(
+    slots: &IndexMap<Serial, Slot>,
+    tracks: &Vec<Track>,
+    log: &[LogEntry],
+    serial: &Serial,
+    place: u32,
+) -> Option<u32>
+    requires shelf { IsShelf slots.now.entries tracks.now.items }
+    ensures { (number : ℕ) → lookup (bytes_eq serial.now) slots.now.entries ≡ Some (Own number)
+        → comes_first log.now place (kept_on slots.now.entries tracks.now.items serial.now).birth ≡ true → result ≡ Some number }
+{
+    match slots.get(serial).copied() {
+        Some(Slot::Own(number)) => {
+            if tracks[number as usize].is_made_by(log, place) {
+                Some(number)
+            } else {
+                None
+            }
+        }
+        _ => None,
+    }
+}
+
+/// Lists the tracks of those packs that the newest entry, an upload, makes under its batch.
+fn list_made(
+    listing: &mut Listing,
+    slots: &IndexMap<Serial, Slot>,
+    tracks: &Vec<Track>,
+    log: &[LogEntry],
+    serials: &[Serial],
+    place: u32,
+) -> Result<(), AllocError>
+    requires shelf { IsShelf slots.now.entries tracks.now.items }
+    ensures kept { HasAllOf listing.old listing.new }
+    ensures listed { OnOk result (AreMadeListed log.now place serials.now slots.now.entries tracks.now.items listing.new) }
+{
+    if tracks.is_empty() {
+        return Ok(());
+    }
+    for serial in serials {
+        if let Some(number) = track_made_by(slots, tracks, log, serial, place) {
+            listing.add(log, Some(place), number)?;
+        }
+    }
+    Ok(())
+}
+
+/// Adds the newest entry, a status, to what is kept of its pack; its effect where it stands. Where memory is refused nothing
+/// has changed; beyond 2^32 packs with a status there is want of memory.
+fn put_status(
+    alloc: Global,
+    slots: &mut IndexMap<Serial, Slot>,
+    tracks: &mut Vec<Track>,
+    listing: &mut Listing,
+    newest: &Newest<'_>,
+    pack: &PackKey,
+    tally: &mut Tally,
+) -> Result<Effect, AllocError>
+    requires shelf { IsShelf slots.old.entries tracks.old.items }
+    requires owned { IsOwned slots.old.entries tracks.old.items }
+    requires last { length newest.now.log.now ≡ newest.now.place + 1 }
+    requires stops { AreStopsOf (take newest.now.place newest.now.log.now) newest.now.stops.now }
+    requires own { is_status_of pack.now (entry_at newest.now.log.now newest.now.place).entry.item ≡ true }
+    requires kept { kept_on slots.old.entries tracks.old.items pack.now.serial ≡ track_of pack.now (take newest.now.place newest.now.log.now) }
+    requires listed { AreListed (take newest.now.place newest.now.log.now) pack.now.gtin slots.old.entries listing.old }
+    ensures shelf { IsShelf slots.new.entries tracks.new.items }
+    ensures owned { IsOwned slots.new.entries tracks.new.items }
+    ensures kept { OnOk result (kept_on slots.new.entries tracks.new.items pack.now.serial ≡ track_of pack.now newest.now.log.now) }
+    ensures others { (other : List ℕ) → bytes_eq pack.now.serial other ≡ false
+        → kept_on slots.new.entries tracks.new.items other ≡ kept_on slots.old.entries tracks.old.items other }
+    ensures effect { IfOk result (λ effect. effect ≡ effect_of (take newest.now.place newest.now.log.now) (entry_at newest.now.log.now newest.now.place).entry) }
+    ensures tally { OnOk result (IsMoved tally.old (share_of (kept_on slots.old.entries tracks.old.items pack.now.serial))
+        (share_of (kept_on slots.new.entries tracks.new.items pack.now.serial)) tally.new) }
+    ensures tally_err { OnErr result (tally.new ≡ tally.old) }
+    ensures listed { OnOk result (AreListed newest.now.log.now pack.now.gtin slots.new.entries listing.new) }
+    ensures listed_err { OnErr result (AreListed (take newest.now.place newest.now.log.now) pack.now.gtin slots.new.entries listing.new) }
+    ensures slots_err { OnErr result (slots.new.entries ≡ slots.old.entries) }
+    ensures tracks_err { OnErr result (tracks.new.items ≡ tracks.old.items) }
+{
+    let birth = match slots.get(&pack.serial).copied() {
+        Some(Slot::Own(number)) => {
+            let track = &mut tracks[number as usize];
+            let was = track.share();
+            let effect = track.add_status(newest.log, newest.stops, pack, newest.place)?;
+            let is = track.share();
+            *tally = tally.moved(was, is);
+            return Ok(effect);
+        }
+        Some(Slot::Made(first)) => Some(first),
+        None => None,
+    };
+    let number = tracks.len();
+    if number > u32::MAX as usize {
+        return Err(AllocError);
+    }
+    let mut track = Track::new(alloc, birth);
+    let was = track.share();
+    let effect = track.add_status(newest.log, newest.stops, pack, newest.place)?;
+    let is = track.share();
+    tracks.reserve(1)?;
+    listing.add(newest.log, birth, number as u32)?;
+    slots.insert(pack.serial.copy(), Slot::Own(number as u32))?;
+    tracks.push_reserved(track);
+    *tally = tally.moved(was, is);
+    Ok(effect)
+}
+
+/// Works out again the track of a number.
+fn refresh_track(
+    tracks: &mut Vec<Track>,
+    newest: &Newest<'_>,
+    gtin: &Gtin,
+    number: usize,
+    tally: &mut Tally,
+)
+    requires within { number < length tracks.old.items }
+    ensures count { length tracks.new.items ≡ length tracks.old.items }
+    ensures again { IsAgain newest.now.log.now (stops_in newest.now.log.now newest.now.stops.now) gtin.now (get_or tracks.old.items number nothing_kept) (get_or tracks.new.items number nothing_kept) }
+    ensures others { (other : ℕ) → (other == number) ≡ false → get_or tracks.new.items other nothing_kept ≡ get_or tracks.old.items other nothing_kept }
+    ensures tally { IsMoved tally.old (share_of (get_or tracks.old.items number nothing_kept)) (share_of (get_or tracks.new.items number nothing_kept)) tally.new }
+{
+    let track = &mut tracks[number];
+    let was = track.share();
+    track.refresh(newest.log, newest.stops, gtin);
+    let is = track.share();
+    *tally = tally.moved(was, is);
+}
+
+/// Works out again all tracks of a product, where the newest entry names no pack.
+fn refresh_tracks(
+    slots: &IndexMap<Serial, Slot>,
+    tracks: &mut Vec<Track>,
+    newest: &Newest<'_>,
+    gtin: &Gtin,
+    tally: &mut Tally,
+)
+    requires shelf { IsShelf slots.now.entries tracks.old.items }
+    requires owned { IsOwned slots.now.entries tracks.old.items }
+    requires last { length newest.now.log.now ≡ newest.now.place + 1 }
+    requires stops { AreStopsOf newest.now.log.now newest.now.stops.now }
+    requires names { (serial : List ℕ) → NamesNone (pack_key gtin.now serial) (entry_at newest.now.log.now newest.now.place).entry.item }
+    requires bound { distinct_count is_same_pack (uploaded_packs newest.now.log.now) < 2 ^ 64 }
+    requires between { IsBetween newest.now.log.now (take newest.now.place newest.now.log.now) gtin.now slots.now.entries tracks.old.items tally.old }
+    ensures count { length tracks.new.items ≡ length tracks.old.items }
+    ensures between { IsBetween newest.now.log.now (take newest.now.place newest.now.log.now) gtin.now slots.now.entries tracks.new.items tally.new }
+    ensures worked { (serial : List ℕ) (number : ℕ) → lookup (bytes_eq serial) slots.now.entries ≡ Some (Own number)
+        → kept_on slots.now.entries tracks.new.items serial ≡ track_of (pack_key gtin.now serial) newest.now.log.now }
+{
+    for number in 0..tracks.len() {
+        refresh_track(tracks, newest, gtin, number, tally);
+    }
+}
+
+/// Works out again the tracks of these numbers, where the newest entry names no pack.
+fn refresh_listed(
+    slots: &IndexMap<Serial, Slot>,
+    tracks: &mut Vec<Track>,
+    numbers: &[u32],
+    newest: &Newest<'_>,
+    gtin: &Gtin,
+    tally: &mut Tally,
+)
+    requires shelf { IsShelf slots.now.entries tracks.old.items }
+    requires owned { IsOwned slots.now.entries tracks.old.items }
+    requires last { length newest.now.log.now ≡ newest.now.place + 1 }
+    requires stops { AreStopsOf newest.now.log.now newest.now.stops.now }
+    requires names { (serial : List ℕ) → NamesNone (pack_key gtin.now serial) (entry_at newest.now.log.now newest.now.place).entry.item }
+    requires bound { distinct_count is_same_pack (uploaded_packs newest.now.log.now) < 2 ^ 64 }
+    requires between { IsBetween newest.now.log.now (take newest.now.place newest.now.log.now) gtin.now slots.now.entries tracks.old.items tally.old }
+    ensures count { length tracks.new.items ≡ length tracks.old.items }
+    ensures between { IsBetween newest.now.log.now (take newest.now.place newest.now.log.now) gtin.now slots.now.entries tracks.new.items tally.new }
+    ensures worked { (serial : List ℕ) (number : ℕ) → lookup (bytes_eq serial) slots.now.entries ≡ Some (Own number)
+        → has_number numbers.now number ≡ true → kept_on slots.now.entries tracks.new.items serial ≡ track_of (pack_key gtin.now serial) newest.now.log.now }
+{
+    for listed in numbers {
+        let number = *listed as usize;
+        if number < tracks.len() {
+            refresh_track(tracks, newest, gtin, number, tally);
+        }
+    }
+}
+
+/// What is kept of the packs of a product.
 #[derive(Drop)]
 pub(crate) struct Shelf {
-    /// What stands for each serial number.
+    /// What stands for each serial number that an upload or a status names.
     slots: IndexMap<Serial, Slot>,
+    /// The tracks of those that have a status.
+    tracks: Vec<Track>,
+    /// The numbers of the tracks by batch.
+    listing: Listing,
 }
 
 impl Model for Shelf {
-    ghost use Rattle.std.specs.Prelude.{◌-◌, length, min};
-    ghost use Rattle.indexmap.specs.IndexMap.{spare};
-    ghost use Rattle.mv_repository.specs.declared.shelf.TheConstants.{MOST_PACKS};
-    ghost use Rattle.mv_repository.specs.Slots.{ShelfTable, IsShelf};
+    ghost use Rattle.mv_repository.specs.Shelf.{ShelfTable, IsOwnShelf};
 
     ghost Value = { ShelfTable };
 
-    ghost view = { λ a. record { slots = a.slots.entries; room = min (spare a.slots) (MOST_PACKS - length a.slots.entries) } };
+    ghost view = { λ a. record { slots = a.slots.entries; tracks = a.tracks.items; listing = a.listing } };
 
-    ghost invariant = { λ a. IsShelf a.slots.entries };
+    ghost invariant = { λ a. IsOwnShelf a.slots.entries a.tracks.items };
 }
 
 impl Shelf {
-    ghost use Rattle.mv_repository.specs.Packs.{kept_on, is_own_on, IsPut, IsSettled, refreshed_in};
-    ghost use Rattle.mv_repository.specs.Slots.{IsShelf};
-
     /// No pack.
     pub fn new(alloc: Global) -> Shelf
-        ensures slots { result.slots ≡ [] }
+        ensures { result ≡ record { slots = []; tracks = []; listing = [] } }
     {
         Shelf {
             slots: IndexMap::new(alloc),
+            tracks: Vec::new(alloc),
+            listing: Listing::new(alloc),
         }
     }
 
-    /// What stands for a pack of the product.
-    pub fn get(&self, key: &PackKey) -> Option<&Slot>
-        ensures value { option_copied result ≡ lookup (bytes_eq key.now.serial) self.now.slots }
+    /// What a pack of the product is; none where no upload names it.
+    pub fn state(&self, log: &[LogEntry], serial: &Serial) -> Option<Held>
+        ensures { result ≡ state_by log.now (kept_on self.now.slots self.now.tracks serial.now) }
     {
-        self.slots.get(&key.serial)
-    }
-
-    /// Makes room for so many more packs. Where memory is refused nothing has changed; beyond 2^31 packs, of which those that
-    /// stand here count once more where they are among the new ones, there is want of memory.
-    pub fn reserve(&mut self, count: usize) -> Result<(), AllocError>
-        ensures room { OnOk result (count ≤ self.new.room) }
-        ensures slots { self.new.slots ≡ self.old.slots }
-        ensures shelf { IsShelf self.new.slots }
-    {
-        if count > MOST_PACKS - self.slots.len() {
-            return Err(AllocError);
-        }
-        self.slots.reserve(count)
-    }
-
-    /// Adds the newest entry, an upload, to what stands for one pack of the product.
-    pub fn put_upload(&mut self, log: &[LogEntry], stops: &Stops, key: &PackKey, new: u32) -> Added
-        requires room { 0 < self.old.room }
-        requires upload { is_held_active (held_made_at log.now new) ≡ true }
-        requires track { IsTrack log.now stops.now key.now (kept_on key.now self.old.slots) }
-        ensures room { self.old.room ≤ self.new.room + 1 }
-        ensures shelf { IsShelf self.new.slots }
-        ensures put { IsPut bytes_eq self.old.slots self.new.slots key.now.serial
-            (with_upload log.now stops.now key.now new (kept_on key.now self.old.slots))
-            (is_own_on key.now self.old.slots) }
-        ensures first { result.is_new ≡ comes_first log.now new (kept_on key.now self.old.slots).birth }
-        ensures was_held { result.was.held ≡ is_made (kept_on key.now self.old.slots) }
-        ensures was_active { result.was.active ≡ is_active_kept (kept_on key.now self.old.slots) }
-        ensures held { result.is.held ≡ is_made
-            (with_upload log.now stops.now key.now new (kept_on key.now self.old.slots)) }
-        ensures active { result.is.active ≡ is_active_kept
-            (with_upload log.now stops.now key.now new (kept_on key.now self.old.slots)) }
-    {
-        let place = match self.slots.entry(key.serial.copy()) {
-            Ok(Entry::Occupied(place)) => {
-                let slot = place.into_mut();
-                let was = slot.share();
-                let is_new = slot.add_upload(log, stops, key, new);
-                let is = slot.share();
-                return Added { is_new, was, is };
-            }
-            Ok(Entry::Vacant(place)) => place,
-            Err(_) => unreachable!(),
-        };
-        let slot = place.insert(Slot::Made(Birth::at(log, new)));
-        Added {
-            is_new: true,
-            was: Share::NONE,
-            is: slot.share(),
+        match self.slots.get(serial).copied()? {
+            Slot::Made(first) => held_at(log, first, first),
+            Slot::Own(number) => self.tracks[number as usize].state(log),
         }
     }
 
-    /// Writes a status into the log, and adds it to what stands for its pack, one of the product. Where memory is refused
-    /// nothing has changed; for a pack beyond 2^31 of the product there is want of memory.
-    pub fn put_status(
+    /// Adds the newest entry, an upload; how many of the packs are new. Where memory is refused nothing has changed.
+    pub fn add_upload(
+        &mut self,
+        newest: &Newest<'_>,
+        gtin: &Gtin,
+        serials: &[Serial],
+        tally: &mut Tally,
+    ) -> Result<usize, AllocError>
+        requires last { length newest.now.log.now ≡ newest.now.place + 1 }
+        requires stops { AreStopsOf (take newest.now.place newest.now.log.now) newest.now.stops.now }
+        requires upload { IsUploadOf (entry_at newest.now.log.now newest.now.place).entry.item gtin.now serials.now }
+        requires shelf { IsShelfOf (take newest.now.place newest.now.log.now) gtin.now self.old }
+        requires tally { IsTally (λ pack. track_of pack (take newest.now.place newest.now.log.now)) (uploaded_packs newest.now.log.now) tally.old }
+        requires bound { distinct_count is_same_pack (uploaded_packs newest.now.log.now) < 2 ^ 64 }
+        ensures ok { OnOk result (IsShelfOf newest.now.log.now gtin.now self.new) }
+        ensures tally { OnOk result (IsTally (λ pack. track_of pack newest.now.log.now) (uploaded_packs newest.now.log.now) tally.new) }
+        ensures new { IfOk result (λ new. new ≡ new_count (take newest.now.place newest.now.log.now) (entry_at newest.now.log.now newest.now.place).entry gtin.now serials.now) }
+        ensures least { IfOk result (λ new. new ≤ length serials.now) }
+        ensures err { OnErr result (IsShelfOf (take newest.now.place newest.now.log.now) gtin.now self.new) }
+        ensures tally_err { OnErr result (tally.new ≡ tally.old) }
+    {
+        list_made(
+            &mut self.listing,
+            &self.slots,
+            &self.tracks,
+            newest.log,
+            serials,
+            newest.place,
+        )?;
+        self.slots.reserve(serials.len())?;
+        // All room is got: nothing fails from here on.
+        let new = put_uploads(
+            &mut self.slots,
+            &mut self.tracks,
+            newest,
+            gtin,
+            serials,
+            tally,
+        );
+        Ok(new)
+    }
+
+    /// Adds the newest entry, a status of a pack of the product; its effect where it stands. Where memory is refused nothing
+    /// has changed.
+    pub fn add_status(
         &mut self,
         alloc: Global,
-        tracked: &mut Tracked,
-        log: &mut Vec<LogEntry>,
-        entry: LogEntry,
-        stops: &Stops,
-        key: &PackKey,
-    ) -> Result<Noted, AllocError>
-        requires room { vec_len log.old < vec_capacity log.old }
-        requires track { IsTrack (log.old.items ++ entry ∷ []) stops.now key.now (kept_on key.now self.old.slots) }
-        ensures log { OnOk result (log.new.items ≡ log.old.items ++ entry ∷ []) }
-        ensures shelf { IsShelf self.new.slots }
-        ensures put { OnOk result (IsPut bytes_eq self.old.slots self.new.slots key.now.serial
-            (with_status (log.old.items ++ entry ∷ []) stops.now key.now (length log.old.items)
-            (kept_on key.now self.old.slots)) true) }
-        ensures effect { IfOk result (λ noted. noted.effect
-            ≡ newest_effect (log.old.items ++ entry ∷ []) stops.now key.now (length log.old.items)
-            (kept_on key.now self.old.slots)) }
-        ensures was_held { IfOk result (λ noted. noted.was.held ≡ is_made (kept_on key.now self.old.slots)) }
-        ensures was_active { IfOk result (λ noted. noted.was.active
-            ≡ is_active_kept (kept_on key.now self.old.slots)) }
-        ensures held { IfOk result (λ noted. noted.is.held
-            ≡ is_made (with_status (log.old.items ++ entry ∷ []) stops.now key.now (length log.old.items)
-            (kept_on key.now self.old.slots))) }
-        ensures active { IfOk result (λ noted. noted.is.active
-            ≡ is_active_kept (with_status (log.old.items ++ entry ∷ []) stops.now key.now (length log.old.items)
-            (kept_on key.now self.old.slots))) }
-        ensures keeps { KeepsTracked tracked.old tracked.new }
-        ensures added { OnOk result (is_own_on key.now self.old.slots ≡ false
-            → is_tracked key.now tracked.new ≡ true) }
-        ensures log_err { OnErr result (log.new.items ≡ log.old.items) }
-        ensures err { OnErr result (self.new.slots ≡ self.old.slots) }
+        newest: &Newest<'_>,
+        pack: &PackKey,
+        tally: &mut Tally,
+    ) -> Result<Effect, AllocError>
+        requires last { length newest.now.log.now ≡ newest.now.place + 1 }
+        requires stops { AreStopsOf (take newest.now.place newest.now.log.now) newest.now.stops.now }
+        requires own { is_status_of pack.now (entry_at newest.now.log.now newest.now.place).entry.item ≡ true }
+        requires shelf { IsShelfOf (take newest.now.place newest.now.log.now) pack.now.gtin self.old }
+        requires tally { IsTally (λ pack. track_of pack (take newest.now.place newest.now.log.now)) (uploaded_packs newest.now.log.now) tally.old }
+        requires bound { distinct_count is_same_pack (uploaded_packs newest.now.log.now) < 2 ^ 64 }
+        ensures ok { OnOk result (IsShelfOf newest.now.log.now pack.now.gtin self.new) }
+        ensures tally { OnOk result (IsTally (λ pack. track_of pack newest.now.log.now) (uploaded_packs newest.now.log.now) tally.new) }
+        ensures effect { IfOk result (λ effect. effect ≡ effect_of (take newest.now.place newest.now.log.now) (entry_at newest.now.log.now newest.now.place).entry) }
+        ensures err { OnErr result (IsShelfOf (take newest.now.place newest.now.log.now) pack.now.gtin self.new) }
+        ensures tally_err { OnErr result (tally.new ≡ tally.old) }
     {
-        let is_full = self.slots.len() >= MOST_PACKS;
-        let place = match self.slots.entry(key.serial.copy())? {
-            Entry::Occupied(place) => {
-                let slot = place.into_mut();
-                let was = slot.share();
-                let effect = slot.add_status(alloc, tracked, log, entry, stops, key)?;
-                let is = slot.share();
-                return Ok(Noted { effect, was, is });
-            }
-            Entry::Vacant(place) => place,
-        };
-        if is_full {
-            return Err(AllocError);
-        }
-        let started = start(alloc, tracked, log, entry, stops, key, None)?;
-        let effect = started.effect;
-        let slot = place.insert(Slot::Own(started.track));
-        Ok(Noted {
-            effect,
-            was: Share::NONE,
-            is: slot.share(),
-        })
+        let effect = put_status(
+            alloc,
+            &mut self.slots,
+            &mut self.tracks,
+            &mut self.listing,
+            newest,
+            pack,
+            tally,
+        )?;
+        Ok(effect)
     }
 
-    /// Works out again one pack of the product, where an upload made it, if one is named by its place in the log.
-    pub fn put_refreshed(
-        &mut self,
-        log: &[LogEntry],
-        stops: &Stops,
-        key: &PackKey,
-        maker: Option<usize>,
-    ) -> Again
-        requires settled { IsSettled log.now stops.now key.now (kept_on key.now self.old.slots) }
-        ensures shelf { IsShelf self.new.slots }
-        ensures put { IsPut bytes_eq self.old.slots self.new.slots key.now.serial
-            (refreshed_in log.now stops.now maker key.now (kept_on key.now self.old.slots))
-            (is_own_on key.now self.old.slots) }
-        ensures was_held { result.was.held ≡ is_made (kept_on key.now self.old.slots) }
-        ensures was_active { result.was.active ≡ is_active_kept (kept_on key.now self.old.slots) }
-        ensures held { result.is.held ≡ is_made
-            (refreshed_in log.now stops.now maker key.now (kept_on key.now self.old.slots)) }
-        ensures active { result.is.active ≡ is_active_kept
-            (refreshed_in log.now stops.now maker key.now (kept_on key.now self.old.slots)) }
+    /// Works out again all packs of the product, of which the newest entry is a withdrawal.
+    pub fn refresh_product(&mut self, newest: &Newest<'_>, gtin: &Gtin, tally: &mut Tally)
+        requires last { length newest.now.log.now ≡ newest.now.place + 1 }
+        requires stops { AreStopsOf newest.now.log.now newest.now.stops.now }
+        requires withdrawal { is_withdrawal_of gtin.now (entry_at newest.now.log.now newest.now.place).entry.item ≡ true }
+        requires shelf { IsShelfOf (take newest.now.place newest.now.log.now) gtin.now self.old }
+        requires tally { IsTally (λ pack. track_of pack (take newest.now.place newest.now.log.now)) (uploaded_packs newest.now.log.now) tally.old }
+        requires bound { distinct_count is_same_pack (uploaded_packs newest.now.log.now) < 2 ^ 64 }
+        ensures shelf { IsShelfOf newest.now.log.now gtin.now self.new }
+        ensures tally { IsTally (λ pack. track_of pack newest.now.log.now) (uploaded_packs newest.now.log.now) tally.new }
     {
-        let Some(slot) = self.slots.get_mut(&key.serial) else {
-            return Again {
-                was: Share::NONE,
-                is: Share::NONE,
-            };
-        };
-        let was = slot.share();
-        slot.refresh(log, stops, key, maker);
-        let is = slot.share();
-        Again { was, is }
+        refresh_tracks(&self.slots, &mut self.tracks, newest, gtin, tally);
+    }
+    /// Works out again the packs that may be of a batch of the product, of which the newest entry is a recall.
+    pub fn refresh_batch(&mut self, newest: &Newest<'_>, batch: &BatchKey, tally: &mut Tally)
+        requires last { length newest.now.log.now ≡ newest.now.place + 1 }
+        requires stops { AreStopsOf newest.now.log.now newest.now.stops.now }
+        requires recall { is_recall_of batch.now (entry_at newest.now.log.now newest.now.place).entry.item ≡ true }
+        requires shelf { IsShelfOf (take newest.now.place newest.now.log.now) batch.now.gtin self.old }
+        requires tally { IsTally (λ pack. track_of pack (take newest.now.place newest.now.log.now)) (uploaded_packs newest.now.log.now) tally.old }
+        requires bound { distinct_count is_same_pack (uploaded_packs newest.now.log.now) < 2 ^ 64 }
+        ensures shelf { IsShelfOf newest.now.log.now batch.now.gtin self.new }
+        ensures tally { IsTally (λ pack. track_of pack newest.now.log.now) (uploaded_packs newest.now.log.now) tally.new }
+    {
+        let numbers = self.listing.of(&batch.batch);
+        let gtin = &batch.gtin;
+        refresh_listed(&self.slots, &mut self.tracks, numbers, newest, gtin, tally);
     }
 }

@@ -1,13 +1,12 @@
 //! What stops a batch for ever: for each batch the place in the log of its first recall by stamp, and for each product
 //! that of its first withdrawal.
 
-ghost use Rattle.std.specs.Prelude.{◌≡◌, ◌<◌, if◌then◌else◌, is_some, vec_len, vec_capacity, OnOk, OnErr, IfOk, bytes_eq};
-ghost use Rattle.std.specs.Prelude.{ℕ, List, [], ◌∷◌, ◌++◌, length};
+ghost use Rattle.std.specs.Prelude.{◌≡◌, ◌+◌, if◌then◌else◌, true, is_some, OnOk, OnErr, IfOk, bytes_eq, [], length, take};
 ghost use Rattle.std.specs.List.{IsDistinct};
 ghost use Rattle.std.specs.Map.{lookup, keys_of};
-ghost use Rattle.mv_pack.specs.declared.key.BatchKey.{BatchKey as ABatchKey};
 ghost use Rattle.mv_pack.specs.Keys.{is_same_batch};
-ghost use Rattle.mv_repository.specs.Stops.{StopTables, stops_in, standing_at, entry_at, earlier_place, comes_first};
+ghost use Rattle.mv_repository.specs.PackState.{is_recall_of, is_withdrawal_of};
+ghost use Rattle.mv_repository.specs.Stops.{AreStopsOf, stops_in, standing_at, entry_at, earlier_place, comes_first};
 
 use crate::LogEntry;
 use crate::order::{comes_first, is_before};
@@ -89,87 +88,65 @@ impl Stops {
         }
     }
 
-    /// Writes a recall of a batch into the log, and adds it; whether it is the first of the batch by stamp. Where memory
-    /// is refused nothing has changed.
+    /// Adds the newest entry, a recall of a batch; whether it is the first of the batch by stamp. Where memory is refused
+    /// nothing has changed.
     pub fn add_recall(
         &mut self,
-        log: &mut Vec<LogEntry>,
-        entry: LogEntry,
+        log: &[LogEntry],
         batch: BatchKey,
+        place: usize,
     ) -> Result<bool, AllocError>
-        requires { vec_len log.old < vec_capacity log.old }
-        ensures log { OnOk result (log.new.items ≡ log.old.items ++ entry ∷ []) }
-        ensures first { IfOk result (λ first. first ≡ comes_first (log.old.items ++ entry ∷ [])
-            (length log.old.items) (lookup (is_same_batch batch) self.old.recalls)) }
-        ensures recalls { OnOk result ((other : ABatchKey) →
-            lookup (is_same_batch other) self.new.recalls
-            ≡ (if is_same_batch batch other
-            then earlier_place (log.old.items ++ entry ∷ []) (length log.old.items)
-            (lookup (is_same_batch batch) self.old.recalls)
-            else lookup (is_same_batch other) self.old.recalls)) }
-        ensures withdrawals { self.new.withdrawals ≡ self.old.withdrawals }
-        ensures log_err { OnErr result (log.new.items ≡ log.old.items) }
+        requires last { length log.now ≡ place + 1 }
+        requires recall { is_recall_of batch (entry_at log.now place).entry.item ≡ true }
+        requires stops { AreStopsOf (take place log.now) self.old }
+        ensures ok { OnOk result (AreStopsOf log.now self.new) }
+        ensures first { IfOk result (λ first. first
+            ≡ comes_first log.now place (lookup (is_same_batch batch) self.old.recalls)) }
         ensures err { OnErr result (self.new ≡ self.old) }
     {
-        add_first(&mut self.recalls, log, entry, batch)
+        add_first(&mut self.recalls, log, batch, place)
     }
 
-    /// Writes a withdrawal of a product into the log, and adds it; whether it is the first of the product by stamp. Where
-    /// memory is refused nothing has changed.
+    /// Adds the newest entry, a withdrawal of a product; whether it is the first of the product by stamp. Where memory is
+    /// refused nothing has changed.
     pub fn add_withdrawal(
         &mut self,
-        log: &mut Vec<LogEntry>,
-        entry: LogEntry,
+        log: &[LogEntry],
         gtin: Gtin,
+        place: usize,
     ) -> Result<bool, AllocError>
-        requires { vec_len log.old < vec_capacity log.old }
-        ensures log { OnOk result (log.new.items ≡ log.old.items ++ entry ∷ []) }
-        ensures first { IfOk result (λ first. first ≡ comes_first (log.old.items ++ entry ∷ [])
-            (length log.old.items) (lookup (bytes_eq gtin) self.old.withdrawals)) }
-        ensures withdrawals { OnOk result ((other : List ℕ) →
-            lookup (bytes_eq other) self.new.withdrawals
-            ≡ (if bytes_eq gtin other
-            then earlier_place (log.old.items ++ entry ∷ []) (length log.old.items)
-            (lookup (bytes_eq gtin) self.old.withdrawals)
-            else lookup (bytes_eq other) self.old.withdrawals)) }
-        ensures recalls { self.new.recalls ≡ self.old.recalls }
-        ensures log_err { OnErr result (log.new.items ≡ log.old.items) }
+        requires last { length log.now ≡ place + 1 }
+        requires withdrawal { is_withdrawal_of gtin (entry_at log.now place).entry.item ≡ true }
+        requires stops { AreStopsOf (take place log.now) self.old }
+        ensures ok { OnOk result (AreStopsOf log.now self.new) }
+        ensures first { IfOk result (λ first. first
+            ≡ comes_first log.now place (lookup (bytes_eq gtin) self.old.withdrawals)) }
         ensures err { OnErr result (self.new ≡ self.old) }
     {
-        add_first(&mut self.withdrawals, log, entry, gtin)
+        add_first(&mut self.withdrawals, log, gtin, place)
     }
 }
 
-/// Writes an entry into the log, and its place into the table where it is the first under its key by stamp; whether it is.
-/// Where memory is refused nothing has changed.
+/// Writes the place of the newest entry into a table where it is the first under its key by stamp; whether it is. Where
+/// memory is refused nothing has changed.
 fn add_first<K: Eq + Hash + Drop>(
     places: &mut IndexMap<K, usize>,
-    log: &mut Vec<LogEntry>,
-    entry: LogEntry,
+    log: &[LogEntry],
     key: K,
+    place: usize,
 ) -> Result<bool, AllocError>
-    requires { vec_len log.old < vec_capacity log.old }
-    ensures log { OnOk result (log.new.items ≡ log.old.items ++ entry ∷ []) }
-    ensures first { IfOk result (λ first. first ≡ comes_first (log.old.items ++ entry ∷ [])
-        (length log.old.items) (lookup (K.eq key) places.old.entries)) }
+    ensures first { IfOk result (λ first. first
+        ≡ comes_first log.now place (lookup (K.eq key) places.old.entries)) }
     ensures places { OnOk result ((other : K) → lookup (K.eq other) places.new.entries
         ≡ (if K.eq key other
-        then earlier_place (log.old.items ++ entry ∷ []) (length log.old.items)
-        (lookup (K.eq key) places.old.entries)
+        then earlier_place log.now place (lookup (K.eq key) places.old.entries)
         else lookup (K.eq other) places.old.entries)) }
-    ensures log_err { OnErr result (log.new.items ≡ log.old.items) }
     ensures err { OnErr result (places.new.entries ≡ places.old.entries) }
 {
-    places.reserve(1)?;
-    // All room is got: nothing fails from here on.
-    let new = log.len();
-    log.push_reserved(entry);
     let first = places.get(&key).copied();
-    if !comes_first(log.as_slice(), new, first) {
+    if !comes_first(log, place, first) {
         return Ok(false);
     }
-    let Ok(_) = places.insert(key, new) else {
-        unreachable!();
-    };
+    places.insert(key, place)?;
     Ok(true)
 }

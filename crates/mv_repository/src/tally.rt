@@ -1,10 +1,10 @@
 //! How many packs are held, and how many of them are active.
 
-ghost use Rattle.std.specs.Prelude.{◌≡◌, ◌≤◌, ◌+◌, ◌^◌};
-ghost use Rattle.mv_repository.specs.Track.{one_if};
+ghost use Rattle.std.specs.Prelude.{◌≡◌, ◌<◌, ◌+◌, ◌^◌, ℕ};
+ghost use Rattle.mv_repository.specs.Tally.{one_if, IsMoved};
 
 /// How many packs are held, and how many of them are active.
-#[derive(Clone, Copy, Debug, PartialEq, Eq)]
+#[derive(Clone, Copy)]
 pub(crate) struct Tally {
     /// The packs that are held.
     pub held: usize,
@@ -13,7 +13,7 @@ pub(crate) struct Tally {
 }
 
 /// What one pack adds to a tally.
-#[derive(Clone, Copy, Debug, PartialEq, Eq)]
+#[derive(Clone, Copy)]
 pub(crate) struct Share {
     /// Whether the pack is held.
     pub held: bool,
@@ -22,21 +22,23 @@ pub(crate) struct Share {
 }
 
 impl Share {
-    /// What a pack that is not held adds.
+    /// What a pack adds that no upload names.
     pub const NONE: Share = Share {
         held: false,
         active: false,
+    };
+
+    /// What a pack adds that no status names.
+    pub const NEW: Share = Share {
+        held: true,
+        active: true,
     };
 }
 
 impl Tally {
     /// The tally, once what one pack adds to it has changed.
     pub fn moved(self, was: Share, is: Share) -> Tally
-        requires held { one_if was.held ≤ self.held + one_if is.held }
-        requires active { one_if was.active ≤ self.active + one_if is.active }
-        requires room { (self.held ≤ 2 ^ 63) × (self.active ≤ 2 ^ 63) }
-        ensures held { result.held + one_if was.held ≡ self.held + one_if is.held }
-        ensures active { result.active + one_if was.active ≡ self.active + one_if is.active }
+        ensures { IsMoved self was is result }
     {
         Tally {
             held: moved(self.held, was.held, is.held),
@@ -47,13 +49,11 @@ impl Tally {
 
 /// A count, once one of those that may be counted has changed.
 fn moved(count: usize, was: bool, is: bool) -> usize
-    requires least { one_if was ≤ count + one_if is }
-    requires room { count ≤ 2 ^ 63 }
-    ensures { result + one_if was ≡ count + one_if is }
+    ensures { (after : ℕ) → after < 2 ^ 64 → after + one_if was ≡ count + one_if is → result ≡ after }
 {
     match (was, is) {
-        (false, true) => count + 1,
-        (true, false) => count - 1,
+        (false, true) => count.saturating_add(1),
+        (true, false) => count.saturating_sub(1),
         _ => count,
     }
 }

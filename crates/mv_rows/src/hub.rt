@@ -318,12 +318,21 @@ fn closes(hub: &mut Hub, alloc: Global) -> bool {
     is_routed(hub, alloc, 0, FINNISH, 1, &[1]) && is_carried(hub, 1, 1) && hub.close(0, 1) == Ok(())
 }
 
+/// How many items were relayed from party 0 to party 1, and whether that link and the one back are open.
+fn ways(hub: &Hub) -> Option<(u32, bool, bool)> {
+    if hub.parties().len() != 3 {
+        return None;
+    }
+    Some((hub.relayed(0, 1), hub.is_open(0, 1), hub.is_open(1, 0)))
+}
+
 /// Whether nothing new then goes over it, and what went over it can be repeated.
 fn keeps_closed(hub: &mut Hub, alloc: Global) -> bool {
     is_routed(hub, alloc, 0, FIRST_BATCH, 2, &[])
         && relay_fault(hub, 0, 1) == Some(HubFault::Nothing)
         && hub.close(0, 1) == Err(HubFault::AlreadyClosed)
         && repeat_fault(hub, 0, 1, 2) == Some(HubFault::NotSent)
+        && ways(hub) == Some((1, false, true))
         && is_repeated(hub)
 }
 

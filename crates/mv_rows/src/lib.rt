@@ -4,6 +4,10 @@
 #![tactic(auto)]
 
 #[cfg(test)]
+mod checks;
+#[cfg(test)]
+mod explain;
+#[cfg(test)]
 mod hub;
 #[cfg(test)]
 mod lines;
@@ -17,3 +21,9 @@ mod pack;
 mod pairs;
 #[cfg(test)]
 mod repository;
+#[cfg(test)]
+mod session;
+#[cfg(test)]
+mod show;
+#[cfg(test)]
+mod trail;

@@ -36,7 +36,7 @@ use Rattle.mv_machine.proofs.LawfulLemmas.{IsSound, submitted-sound, applied-sou
 use Rattle.mv_machine.proofs.BoundLemmas.{routed_count-few, record-few}
 use Rattle.mv_system.specs.Wire.{WireState, new_wire, numbers_of}
 use Rattle.mv_system.specs.World.{Parts, wire_at, site_at, state_of, FitsWire, IsSiteAt, IsSystem, Submits, OffersFront}
-use Rattle.mv_system.proofs.WireLemmas.{length-numbers_of, numbers_of-front, numbers_of-push, numbers_of-drop}
+use Rattle.mv_system.proofs.WireLemmas.{length-numbers_of, numbers_of-get, numbers_of-push, numbers_of-drop}
 
 pub sound_of : {p : Parts} → IsSystem p → IsSound (state_of p)
 sound_of k = record { well_formed = k.well_formed; lawful = k.lawful }
@@ -291,7 +291,7 @@ module _ {p : Parts} {st : State} {from to : ℕ} {wire : WireState} {site : Sit
   takes full result full_is value ok err fails memory = record {
     number = frame.number;
     item = frame.item;
-    front = ap (λ l. slice_get l 0) (sym link.seen) ∙ numbers_of-front wire.frames ∙ ap (option_map (λ f. f.number)) front;
+    front = ap (λ l. slice_get l 0) (sym link.seen) ∙ numbers_of-get wire.frames 0 ∙ ap (option_map (λ f. f.number)) front;
     member = front_item;
     answered = subst (λ (s : SiteState). IfOk result (λ taken. taken ≡ taken_by s from frame.item (look_at (count_from s.log from) frame.number))) facts.is value;
     ok = site_ok facts new (λ s. with_taken s from frame.item (look_at (count_from s.log from) frame.number)) result (with_taken-party (site_of st to) from frame.item _) ok;

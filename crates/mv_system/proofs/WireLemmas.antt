@@ -1,5 +1,5 @@
 -- Frames and their numbers.
-use Rattle.std.proofs.Common.{◌≡◌, ℕ, suc, ◌-◌, ◌<◌, List, [], ◌∷◌, ◌++◌, length, drop, refl, ap, arith, length-append}
+use Rattle.std.proofs.Common.{◌≡◌, ℕ, zero, suc, ◌-◌, ◌<◌, List, [], ◌∷◌, ◌++◌, length, drop, refl, ap, arith, length-append}
 use Rattle.std.specs.Prelude.{slice_get, option_map}
 use Rattle.circular_buffer.specs.Buffer.{keep_last}
 use Rattle.mv_link.specs.declared.item.Frame.{Frame}
@@ -10,11 +10,13 @@ pub keep_all : {A : Type 0} (n : ℕ) (xs : List A) (x : A) → length xs < n �
 keep_all n xs x short =
     let none : length (xs ++ x ∷ []) - n ≡ 0 = omega (arith, length-append xs (x ∷ [])) in ap (λ k. drop k (xs ++ x ∷ [])) none
 
-pub numbers_of-front : (frames : List Frame) → slice_get (numbers_of frames) 0 ≡ option_map (λ f. f.number) (slice_get frames 0)
-numbers_of-front [] = refl
-numbers_of-front (frame ∷ frames) = refl
+-- the number at a place is that of the frame there
+pub numbers_of-get : (frames : List Frame) (place : ℕ) → slice_get (numbers_of frames) place ≡ option_map (λ f. f.number) (slice_get frames place)
+numbers_of-get [] place = refl
+numbers_of-get (frame ∷ frames) zero = refl
+numbers_of-get (frame ∷ frames) (suc place) = numbers_of-get frames place
 
-pub ruleset front_of_numbers = (numbers_of-front)
+pub ruleset number_of_frame = (numbers_of-get)
 
 pub length-numbers_of : (frames : List Frame) → length (numbers_of frames) ≡ length frames
 length-numbers_of [] = refl

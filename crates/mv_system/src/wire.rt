@@ -56,12 +56,12 @@ impl Wire {
         self.frames.front()
     }
 
-    /// The number of the frame in front.
-    #[tactic(auto, using(crate::proofs::WireLemmas::front_of_numbers))]
-    pub(crate) fn front_number(&self) -> Option<u32>
-        ensures { result ≡ slice_get (numbers_of self.now.frames) 0 }
+    /// The number of the frame at a place, the front at 0.
+    #[tactic(auto, using(crate::proofs::WireLemmas::number_of_frame))]
+    pub(crate) fn number_at(&self, place: usize) -> Option<u32>
+        ensures { result ≡ slice_get (numbers_of self.now.frames) place }
     {
-        self.frames.front().map(|frame| frame.number)
+        self.frames.get(place).map(|frame| frame.number)
     }
 
     /// Takes the frame in front away.

@@ -2,7 +2,7 @@
 use Rattle.std.proofs.Common.{◌≡◌, Bool, List, [], ◌∷◌, true, false, if◌then◌else◌, None, Some, ◌⊎◌, inl, inr, ℕ, MatchResult, OnOk, IfOk, IfErr, IfSome, Result, Ok, Err, rules}
 use Rattle.std.specs.Prelude.{⊤}
 use Rattle.std.specs.List.{AllByRecursion}
-use Rattle.std.specs.Io.KnownBytes.{Consumes}
+use Rattle.std.specs.Io.KnownBytes.{Consumes, Keeps}
 use Rattle.std.specs.declared.option.Option.{Option}
 use Rattle.clap.specs.Words.{IsAmong}
 use Rattle.clap.specs.declared.error.kind.ErrorKind.{ErrorKind}
@@ -10,9 +10,14 @@ use Rattle.clap.specs.declared.error.kind.ErrorKind.TheVariants.{OutOfMemory}
 use Rattle.mv_words.specs.Words.{IsMistake}
 use Rattle.mv_lines.specs.declared.fault.ServeFault.{ServeFault}
 use Rattle.mv_tool.specs.declared.status.Status.{Status}
-use Rattle.mv_tool.specs.declared.status.Status.TheVariants.{Done, Failed}
+use Rattle.mv_tool.specs.declared.status.Status.TheVariants.{Done, Failed, Refused}
 use Rattle.mv_lines.specs.Canon.{IsCanon}
-use Rattle.mv_tool.specs.Commands.{RanLines, RanWork}
+use Rattle.mv_tool.specs.Commands.{RanCheck, RanExplain, RanLines, RanShow, RanStrict, RanWork, ServedStrictly, Shows}
+use Rattle.mv_tool.specs.Telling.{ToldCodes, ToldStrict}
+use Rattle.mv_checks.specs.declared.strict.Untaken.{Untaken}
+use Rattle.mv_checks.specs.Checks.{IsChecked}
+use Rattle.mv_lines.specs.Sessions.{IsReply}
+use Rattle.mv_show.specs.Showing.{Unshown}
 use Rattle.mv_lines.specs.Replies.{ReplyRule}
 use Rattle.mv_lines.specs.Served.{Served, Ended}
 use Rattle.mv_tool.specs.Working.{Worked, Failed as WorkFailed}
@@ -51,3 +56,45 @@ pub ran_work : (ended : Result Bool ServeFault) (status : Status) (input rest ol
 ran_work (Ok true) status input rest old new is ok err = rw is ok
 ran_work (Ok false) status input rest old new is ok err = rw is (inl ok)
 ran_work (Err fault) status input rest old new is ok err = rw is (inr (fault, err))
+
+-- a strict run has the status of how it ended, and of whether each line was taken
+pub ran_strict : (ended : Result (Unit {0}) ServeFault) (untaken : Option Untaken) (status : Status) (input rest old new told_old told_new : Option (List ℕ))
+    → ToldStrict ended untaken status told_old told_new
+    → OnOk ended (IfSome input (λ bytes. ServedStrictly bytes untaken old new))
+    → IfErr ended (λ fault. (bytes : List ℕ) × Consumes input rest bytes × Ended IsReply fault None bytes old new)
+    → RanStrict status input rest old new told_old told_new
+ran_strict (Ok done) None status input rest old new told_old told_new told ok err = rw told.0 ok
+ran_strict (Ok done) (Some untaken) status input rest old new told_old told_new told ok err = rw told.0 (inl (untaken, ok, told.1))
+ran_strict (Err fault) None status input rest old new told_old told_new told ok (bytes, consumed, ended) =
+    rw told (inr (fault, bytes, consumed, ended))
+ran_strict (Err fault) (Some untaken) status input rest old new told_old told_new told ok (bytes, consumed, ended) =
+    rw told.0 (inr (fault, bytes, consumed, ended))
+
+-- a check has the status of how it ended, and of whether each line is a message
+pub ran_check : (ended : Result Bool ServeFault) (status : Status) (input rest old new told_old told_new : Option (List ℕ))
+    → MatchResult ended (λ all. status ≡ (if all then Done else Failed)) (λ _. status ≡ Failed)
+    → MatchResult ended (λ _. Keeps told_old told_new) (λ _. ⊤)
+    → IfOk ended (λ all. IfSome input (λ bytes. Served IsChecked true bytes all old new))
+    → IfErr ended (λ fault. (bytes : List ℕ) × Consumes input rest bytes × Ended IsChecked fault true bytes old new)
+    → RanCheck status input rest old new told_old told_new
+ran_check (Ok true) status input rest old new told_old told_new is quiet ok err = rw is ok
+ran_check (Ok false) status input rest old new told_old told_new is quiet ok err = rw is (inl (ok, quiet))
+ran_check (Err fault) status input rest old new told_old told_new is quiet ok (bytes, consumed, ended) =
+    rw is (inr (fault, bytes, consumed, ended))
+
+-- a run of `show` has the status of how it ended, and of whether a system is open
+pub ran_show : (ended : Result Bool ServeFault) (status : Status) (input rest old new : Option (List ℕ))
+    → MatchResult ended (λ is_open. status ≡ (if is_open then Done else Failed)) (λ _. status ≡ Failed)
+    → IfOk ended (λ is_open. Shows is_open input old new)
+    → IfErr ended (λ fault. Unshown fault input rest old new)
+    → RanShow status input rest old new
+ran_show (Ok true) status input rest old new is ok err = rw is ok
+ran_show (Ok false) status input rest old new is ok err = rw is (inl ok)
+ran_show (Err fault) status input rest old new is ok err = rw is (inr (fault, err))
+
+-- what codes came to, where nothing is read
+pub ran_explain : (words given : List (List ℕ)) (status : Status) (input rest old new told_old told_new : Option (List ℕ)) → words ≡ given
+    → ToldCodes words status old new told_old told_new → Keeps input rest → RanExplain given status input rest old new
+ran_explain words given Done input rest old new told_old told_new same told unread = rw (← same) (unread, told.0, told.1)
+ran_explain words given Failed input rest old new told_old told_new same told unread = rw (← same) (unread, told.0, told.1)
+ran_explain words given Refused input rest old new told_old told_new same told unread = (unread, told.2)

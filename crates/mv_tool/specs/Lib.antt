@@ -1,5 +1,6 @@
 pub mod Statuses
 pub mod Working
+pub mod Telling
 pub mod Commands
 pub use Rattle.mv_words.specs.Words
 pub use Rattle.mv_lines.specs.Lines
@@ -7,6 +8,12 @@ pub use Rattle.mv_lines.specs.Replies
 pub use Rattle.mv_lines.specs.Sessions
 pub use Rattle.mv_lines.specs.Canon
 pub use Rattle.mv_lines.specs.Served
+pub use Rattle.mv_explain.specs.Explained
+pub use Rattle.mv_checks.specs.Checks
+pub use Rattle.mv_checks.specs.Strict
+pub use Rattle.mv_trail.specs.Trail
+pub use Rattle.mv_show.specs.Showing
+pub use Rattle.mv_show.specs.Shown
 pub use Rattle.mv_plan.specs.Planning
 pub use Rattle.mv_plan.specs.Reading
 pub use Rattle.mv_report.specs.Report

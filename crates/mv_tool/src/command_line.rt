@@ -1,18 +1,23 @@
 //! The command line: which words run what, and the exit status.
 
-ghost use Rattle.std.specs.Prelude.{◌≡◌, ◌≤◌, ℕ, None, MatchResult, map, codes, string_bytes, if◌then◌else◌};
+ghost use Rattle.std.specs.Prelude.{◌≡◌, ◌≤◌, ℕ, List, None, map, codes, string_bytes, false, true};
 ghost use Rattle.std.specs.Io.KnownBytes.{Keeps};
 ghost use Rattle.clap.specs.Values.{kind_of};
 ghost use Rattle.mv_lines.specs.Canon.{IsCanon};
-ghost use Rattle.mv_words.specs.Words.{AsksFor, AsksForWork, AreNotTaken, AreMistaken, IsMistake};
-ghost use Rattle.mv_tool.specs.Commands.{RanLines, RanWork};
+ghost use Rattle.mv_trail.specs.Trail.{IsEvent};
+ghost use Rattle.mv_words.specs.Words.{AsksFor, AsksForCanon, AsksForSteps, AsksForWork, AsksToExplain, AreNotTaken, AreMistaken, IsMistake};
+ghost use Rattle.mv_tool.specs.Commands.{RanCheck, RanExplain, RanLines, RanShow, RanStrict, RanWork};
 ghost use Rattle.mv_lines.specs.Sessions.{IsReply};
 ghost use Rattle.mv_tool.specs.Statuses.{status_code};
 ghost use Rattle.mv_tool.specs.declared.status.Status.{Status as AStatus};
 
+use crate::telling::{explain_codes, status_of, status_of_answer, status_of_strict};
 use crate::{Status, work};
 use clap::Error;
-use mv_lines::{ServeFault, canon, put_out, serve_last};
+use mv_checks::{check, serve_strict};
+use mv_lines::{canon, put_out, serve_last};
+use mv_show::show;
+use mv_trail::trail;
 use mv_words::{Task, task_of};
 use mv_workers::NoGate;
 use std::alloc::Global;
@@ -37,17 +42,39 @@ pub fn command<H: Threads + Wait + Sync, R: Read, W: Write, F: Write>(
     faults: &mut F,
 ) -> u8
     ensures few { result ≤ 2 }
-    ensures steps { AsksFor (codes "steps") (map string_bytes words.items) → (status : AStatus)
+    ensures steps { AsksForSteps false (map string_bytes words.items) → (status : AStatus)
         × (result ≡ status_code status)
         × RanLines IsReply None status (R.remaining reader.old) (R.remaining reader.new)
         (W.contents writer.old) (W.contents writer.new) }
-    ensures canon { AsksFor (codes "canon") (map string_bytes words.items) → (status : AStatus)
+    ensures strict { AsksForSteps true (map string_bytes words.items) → (status : AStatus)
+        × (result ≡ status_code status)
+        × RanStrict status (R.remaining reader.old) (R.remaining reader.new)
+        (W.contents writer.old) (W.contents writer.new)
+        (F.contents faults.old) (F.contents faults.new) }
+    ensures trail { AsksFor (codes "trail") (map string_bytes words.items) → (status : AStatus)
+        × (result ≡ status_code status)
+        × RanLines IsEvent None status (R.remaining reader.old) (R.remaining reader.new)
+        (W.contents writer.old) (W.contents writer.new) }
+    ensures show { AsksFor (codes "show") (map string_bytes words.items) → (status : AStatus)
+        × (result ≡ status_code status)
+        × RanShow status (R.remaining reader.old) (R.remaining reader.new)
+        (W.contents writer.old) (W.contents writer.new) }
+    ensures canon { AsksForCanon false (map string_bytes words.items) → (status : AStatus)
         × (result ≡ status_code status)
         × RanLines IsCanon tt status (R.remaining reader.old) (R.remaining reader.new)
         (W.contents writer.old) (W.contents writer.new) }
-    ensures work { (turns : ℕ) → AsksForWork turns (map string_bytes words.items)
-        → (status : AStatus) × (result ≡ status_code status)
+    ensures check { AsksForCanon true (map string_bytes words.items) → (status : AStatus)
+        × (result ≡ status_code status)
+        × RanCheck status (R.remaining reader.old) (R.remaining reader.new)
+        (W.contents writer.old) (W.contents writer.new)
+        (F.contents faults.old) (F.contents faults.new) }
+    ensures work { (turns : ℕ) → AsksForWork turns (map string_bytes words.items) → (status : AStatus)
+        × (result ≡ status_code status)
         × RanWork status (R.remaining reader.old) (R.remaining reader.new)
+        (W.contents writer.old) (W.contents writer.new) }
+    ensures explain { (given : List (List ℕ)) → AsksToExplain given (map string_bytes words.items) → (status : AStatus)
+        × (result ≡ status_code status)
+        × RanExplain given status (R.remaining reader.old) (R.remaining reader.new)
         (W.contents writer.old) (W.contents writer.new) }
     ensures mistaken { AreMistaken (map string_bytes words.items) → result ≡ 2 }
     // Such words are mistaken, or a call for help.
@@ -68,14 +95,31 @@ fn run<H: Threads + Wait + Sync, R: Read, W: Write, F: Write>(
     writer: &mut W,
     faults: &mut F,
 ) -> Status
-    ensures steps { AsksFor (codes "steps") (map string_bytes words.now)
+    ensures steps { AsksForSteps false (map string_bytes words.now)
         → RanLines IsReply None result (R.remaining reader.old) (R.remaining reader.new)
         (W.contents writer.old) (W.contents writer.new) }
-    ensures canon { AsksFor (codes "canon") (map string_bytes words.now)
+    ensures strict { AsksForSteps true (map string_bytes words.now)
+        → RanStrict result (R.remaining reader.old) (R.remaining reader.new)
+        (W.contents writer.old) (W.contents writer.new)
+        (F.contents faults.old) (F.contents faults.new) }
+    ensures trail { AsksFor (codes "trail") (map string_bytes words.now)
+        → RanLines IsEvent None result (R.remaining reader.old) (R.remaining reader.new)
+        (W.contents writer.old) (W.contents writer.new) }
+    ensures show { AsksFor (codes "show") (map string_bytes words.now)
+        → RanShow result (R.remaining reader.old) (R.remaining reader.new)
+        (W.contents writer.old) (W.contents writer.new) }
+    ensures canon { AsksForCanon false (map string_bytes words.now)
         → RanLines IsCanon tt result (R.remaining reader.old) (R.remaining reader.new)
         (W.contents writer.old) (W.contents writer.new) }
+    ensures check { AsksForCanon true (map string_bytes words.now)
+        → RanCheck result (R.remaining reader.old) (R.remaining reader.new)
+        (W.contents writer.old) (W.contents writer.new)
+        (F.contents faults.old) (F.contents faults.new) }
     ensures work { (turns : ℕ) → AsksForWork turns (map string_bytes words.now)
         → RanWork result (R.remaining reader.old) (R.remaining reader.new)
+        (W.contents writer.old) (W.contents writer.new) }
+    ensures explain { (given : List (List ℕ)) → AsksToExplain given (map string_bytes words.now)
+        → RanExplain given result (R.remaining reader.old) (R.remaining reader.new)
         (W.contents writer.old) (W.contents writer.new) }
     ensures mistaken { AreMistaken (map string_bytes words.now) → result ≡ Status.Refused }
     ensures unread { AreNotTaken (map string_bytes words.now)
@@ -86,9 +130,18 @@ fn run<H: Threads + Wait + Sync, R: Read, W: Write, F: Write>(
 {
     match task_of(alloc, words) {
         Ok(Some(Task::Steps)) => status_of(serve_last(alloc, reader, writer), faults),
+        Ok(Some(Task::Strict)) => {
+            status_of_strict(alloc, serve_strict(alloc, reader, writer), faults)
+        }
+        Ok(Some(Task::Trail)) => status_of(trail(alloc, reader, writer), faults),
+        Ok(Some(Task::Show)) => status_of_answer(show(alloc, reader, writer), faults),
         Ok(Some(Task::Canon)) => status_of(canon(alloc, reader, writer), faults),
+        Ok(Some(Task::Check)) => status_of_answer(check(alloc, reader, writer), faults),
         Ok(Some(Task::Work { turns })) => {
-            status_of_work(work(rt, alloc, reader, writer, turns, &NoGate), faults)
+            status_of_answer(work(rt, alloc, reader, writer, turns, &NoGate), faults)
+        }
+        Ok(Some(Task::Explain { codes })) => {
+            explain_codes(alloc, codes.as_slice(), writer, faults)
         }
         Ok(None) => Status::Refused,
         Err(error) => explain(alloc, &error, writer, faults),
@@ -119,34 +172,6 @@ fn explain<W: Write, F: Write>(
         Err(error) => {
             let _ = writeln!(faults, "error: {error}");
             Status::Refused
-        }
-    }
-}
-
-/// The status of a run of `work` that has ended.
-fn status_of_work<F: Write>(ended: Result<bool, ServeFault>, faults: &mut F) -> Status
-    ensures status { MatchResult ended
-        (λ finished. result ≡ (if finished then Status.Done else Status.Failed))
-        (λ _. result ≡ Status.Failed) }
-    ensures quiet { result ≡ Status.Done → Keeps (F.contents faults.old) (F.contents faults.new) }
-{
-    match ended {
-        Ok(true) => Status::Done,
-        Ok(false) => Status::Failed,
-        Err(fault) => status_of(Err(fault), faults),
-    }
-}
-
-/// The status of a run that has ended. A fault is told by its number.
-fn status_of<F: Write>(ended: Result<(), ServeFault>, faults: &mut F) -> Status
-    ensures status { MatchResult ended (λ _. result ≡ Status.Done) (λ _. result ≡ Status.Failed) }
-    ensures quiet { result ≡ Status.Done → Keeps (F.contents faults.old) (F.contents faults.new) }
-{
-    match ended {
-        Ok(()) => Status::Done,
-        Err(fault) => {
-            let _ = writeln!(faults, "mvhub: {fault}");
-            Status::Failed
         }
     }
 }

@@ -8,10 +8,10 @@ ghost use Rattle.mv_tool.specs.Statuses.{status_code};
 pub enum Status {
     /// 0: what was asked for is done, help included.
     Done,
-    /// 1: the run ended early, by a fault that stands on standard error, or the plan of `work` was not finished, as its
-    /// report says.
+    /// 1: the run ended early, by a fault that stands on standard error; or the plan of `work` was not finished, as its report says; a
+    /// line of `steps --strict` was not taken, a message of `canon --check` was refused, or `show` had no system.
     Failed,
-    /// 2: the command line was refused, and the reason stands on standard error.
+    /// 2: the command line was refused, or a word of `explain` is no code, and the reason stands on standard error.
     Refused,
 }
 

@@ -1,37 +1,56 @@
 -- Words that the command line takes, and what they ask for.
-use Rattle.std.proofs.Common.{◌≡◌, ◌<◌, ◌+◌, ◌-◌, ℕ, zero, suc, List, [], ◌∷◌, ◌++◌, codes, true, false, None, Some, refl, ap, sym, ◌==◌, eqb-true, ◌∙◌, option_map, inl, inr, arith, subst}
-use Rattle.std.specs.Prelude.{Bool}
+use Rattle.std.proofs.Common.{◌≡◌, ◌<◌, ◌+◌, ◌-◌, ℕ, zero, suc, List, [], ◌∷◌, ◌++◌, codes, true, false, None, Some, refl, ap, sym, ◌==◌, eqb-true, ◌∙◌, option_map, inl, inr, length, arith, rules, subst}
+use Rattle.std.specs.Prelude.{Bool, if◌then◌else◌}
 use Rattle.std.specs.Char.{digit_value}
 use Rattle.std.specs.Str.Parse.{IsNumeral, digits_value, without_leading_plus}
+use Rattle.std.proofs.lemmas.Bool.{lt-ltb}
 use Rattle.std.proofs.lemmas.Str.Parse.{digit_from_value}
 use Rattle.clap.specs.ValueTests.{accepts}
 use Rattle.clap.specs.declared.builder.value_parser.ValueParser.TheVariants.{Unsigned}
 use Rattle.clap.specs.declared.builder.value_parser.Reading.TheVariants.{AsWritten}
-use Rattle.clap.specs.declared.parser.matches.ValueSource.TheVariants.{CommandLine}
+use Rattle.clap.specs.declared.parser.matches.ValueSource.TheVariants.{CommandLine, DefaultValue}
 use Rattle.clap.proofs.ValueTestLemmas.{Accepts-accepts}
 use Rattle.clap.specs.Words.{Row, one_of, subcommand_of, fault_of}
+use Rattle.clap.specs.declared.error.kind.ErrorKind.{ErrorKind}
+use Rattle.clap.specs.declared.error.kind.ErrorKind.TheVariants.{UnknownArgument, ValueValidation}
 use Rattle.clap.proofs.OnLiterals.{clap_on_literals}
-use Rattle.mv_words.specs.Words.{command_line, GiveTurns, NameAsks, OptionAsks, WritesTurns}
+use Rattle.mv_words.specs.Words.{command_line, AreMistaken, AsksFor, AsksForCanon, AsksForSteps, GiveTurns, IsMistake, MinusIsMistaken, OptionAsks, WordsAsk, WritesTurns}
 
--- the command line takes the word `steps`
-steps_taken : (program : List ℕ) → fault_of command_line (program ∷ codes "steps" ∷ []) ≡ []
-unfolding clap_on_literals
-steps_taken program = refl
+-- the matches of an option that is given or not
+abbrev flag_rows : List ℕ → Bool → List Row
+flag_rows flag is_given = record {
+  id = flag;
+  values = (if is_given then codes "true" else codes "false") ∷ [];
+  count = None;
+  source = Some (if is_given then CommandLine else DefaultValue);
+  reading = AsWritten;
+} ∷ []
 
--- and it is the subcommand
-steps_met : (program : List ℕ) → option_map (λ p. p.0) (subcommand_of command_line (program ∷ codes "steps" ∷ [])) ≡ Some (codes "steps")
+-- the command line takes these words, and the option is given or not
+pub steps_asks : WordsAsk (AsksForSteps false) (codes "steps" ∷ [])
 unfolding clap_on_literals
-steps_met program = refl
+steps_asks program = (refl, flag_rows (codes "strict") false, refl, refl)
 
--- the command line takes the word `canon`
-canon_taken : (program : List ℕ) → fault_of command_line (program ∷ codes "canon" ∷ []) ≡ []
+pub strict_asks : WordsAsk (AsksForSteps true) (codes "steps" ∷ codes "--strict" ∷ [])
 unfolding clap_on_literals
-canon_taken program = refl
+strict_asks program = (refl, flag_rows (codes "strict") true, refl, refl)
 
--- and it is the subcommand
-canon_met : (program : List ℕ) → option_map (λ p. p.0) (subcommand_of command_line (program ∷ codes "canon" ∷ [])) ≡ Some (codes "canon")
+pub canon_asks : WordsAsk (AsksForCanon false) (codes "canon" ∷ [])
 unfolding clap_on_literals
-canon_met program = refl
+canon_asks program = (refl, flag_rows (codes "check") false, refl, refl)
+
+pub check_asks : WordsAsk (AsksForCanon true) (codes "canon" ∷ codes "--check" ∷ [])
+unfolding clap_on_literals
+check_asks program = (refl, flag_rows (codes "check") true, refl, refl)
+
+-- the command line takes these words, and this is the subcommand
+pub trail_asks : WordsAsk (AsksFor (codes "trail")) (codes "trail" ∷ [])
+unfolding clap_on_literals
+trail_asks program = (refl, refl)
+
+pub show_asks : WordsAsk (AsksFor (codes "show")) (codes "show" ∷ [])
+unfolding clap_on_literals
+show_asks program = (refl, refl)
 
 -- the option takes a number of turns
 turns_pass : (turns : ℕ) (text : List ℕ) → WritesTurns turns text → accepts false (Unsigned 0 4294967295) text ≡ true
@@ -116,13 +135,6 @@ joined_met : (program : List ℕ) (ds : List ℕ) (d : ℕ)
 unfolding clap_on_literals
 joined_met program ds d = refl
 
--- so the program's name and one of these words ask for it
-pub steps_asks : NameAsks (codes "steps")
-steps_asks program = (steps_taken program, steps_met program)
-
-pub canon_asks : NameAsks (codes "canon")
-canon_asks program = (canon_taken program, canon_met program)
-
 -- the command line takes the words of `work`, however its option is given
 given_taken : (program text : List ℕ) (option : List (List ℕ)) (turns : ℕ) → WritesTurns turns text → GiveTurns text option
     → fault_of command_line (program ∷ codes "work" ∷ option) ≡ []
@@ -151,8 +163,34 @@ pub option_asks : OptionAsks
 option_asks program text option turns writes gives = (
   given_taken program text option turns writes gives,
   turns_rows text,
-  text,
   given_met program text option turns writes gives,
-  work_turns turns text writes,
-  writes,
+  (text, work_turns turns text writes, writes),
 )
+
+-- a number of turns with a minus before it does not pass
+minus_fails : (digits : List ℕ) → accepts false (Unsigned 0 4294967295) (45 ∷ digits) ≡ false
+minus_fails digits = rw (lt-ltb 0 (length (45 ∷ digits)) (omega arith)) refl
+
+joined_refused : (program digits : List ℕ) → fault_of command_line (joined_words program (45 ∷ digits)) ≡ ValueValidation ∷ []
+unfolding clap_on_literals
+joined_refused program digits = rw (minus_fails digits) refl
+
+-- and is no option
+minus_refused : (program ds : List ℕ) (d : ℕ) → digit_value d < 10 → fault_of command_line (work_words program (45 ∷ d ∷ ds)) ≡ UnknownArgument ∷ []
+unfolding clap_on_literals
+minus_refused program [] d = by_digit (λ d. fault_of command_line (work_words program (45 ∷ d ∷ [])) ≡ UnknownArgument ∷ [])
+    refl refl refl refl refl refl refl refl refl refl d
+minus_refused program (e ∷ es) d = by_digit (λ d. fault_of command_line (work_words program (45 ∷ d ∷ e ∷ es)) ≡ UnknownArgument ∷ [])
+    refl refl refl refl refl refl refl refl refl refl d
+
+-- words with one fault, which is a mistake, are mistaken
+mistaken_by : (words : List (List ℕ)) (kind : ErrorKind) → fault_of command_line words ≡ kind ∷ [] → IsMistake kind → AreMistaken words
+mistaken_by words kind is mistake = rw is ((λ none. absurd (cc (none))), (mistake, tt))
+
+-- so it is mistaken
+pub minus_mistaken : MinusIsMistaken
+minus_mistaken program [] option numeral gives = absurd (omega (arith, numeral.0))
+minus_mistaken program (d ∷ ds) option numeral (inl two) =
+    rw two (mistaken_by (work_words program (45 ∷ d ∷ ds)) UnknownArgument (minus_refused program ds d numeral.1.0) (search rules))
+minus_mistaken program (d ∷ ds) option numeral (inr one) =
+    rw one (mistaken_by (joined_words program (45 ∷ d ∷ ds)) ValueValidation (joined_refused program (d ∷ ds)) (search rules))

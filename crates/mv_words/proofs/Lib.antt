@@ -1,2 +1,3 @@
 pub mod ParseLemmas
 pub mod AskLemmas
+pub mod ExplainLemmas

@@ -1,5 +1,5 @@
 -- What a parse by the command line met, and the number of turns that it reads.
-use Rattle.std.proofs.Common.{◌≡◌, ◌<◌, ◌==◌, ℕ, List, [], ◌∷◌, codes, true, false, None, Some, refl, ap, ◌∙◌, option_map, ◌⊎◌, inl, inr, Result, Ok, Err, arith, subst}
+use Rattle.std.proofs.Common.{◌≡◌, ◌<◌, ◌==◌, ℕ, List, [], ◌∷◌, codes, true, false, None, Some, refl, ap, sym, ◌∙◌, option_map, ◌⊎◌, inl, inr, Result, Ok, Err, arith, subst}
 use Rattle.std.specs.Prelude.{unwrap_or}
 use Rattle.std.specs.Char.{digit_value}
 use Rattle.std.specs.Str.Parse.{ParsesUnsigned}
@@ -7,8 +7,8 @@ use Rattle.std.proofs.lemmas.Bool.{ne_eqb}
 use Rattle.std.proofs.lemmas.Str.Parse.{digit_from_value}
 use Rattle.std.specs.declared.option.Option.{Option}
 use Rattle.clap.specs.declared.parser.matches.Found.{Found}
-use Rattle.clap.proofs.WalkLemmas.{one_text-rows}
-use Rattle.clap.specs.Words.{App, HasMatchesOf, IsAmong, ReadsOne, Row, one_of, one_text, rows_of, is_simple, subcommand_of, is_simple_and_free, subcommand_name_of, subcommand_rows_of, subcommand_rows, fault_of}
+use Rattle.clap.proofs.WalkLemmas.{one_text-rows, raw_values-rows}
+use Rattle.clap.specs.Words.{App, HasMatchesOf, IsAmong, ReadsOne, Row, all_of, matched_of, one_of, one_text, raw_values, rows_of, is_simple, subcommand_of, is_simple_and_free, subcommand_name_of, subcommand_rows_of, subcommand_rows, fault_of}
 use Rattle.std.specs.Box.{box_value}
 use Rattle.clap.specs.declared.parser.matches.ArgMatches.{ArgMatches}
 use Rattle.clap.specs.declared.parser.matches.ArgMatches.TheViews.{out-ArgMatches, out-SubCommand}
@@ -59,13 +59,29 @@ pub named : (line : App) (words : List (List ℕ)) (m : ArgMatches) → line ≡
 named line words m is matches =
     name_of_rows m ∙ ap (option_map (λ p. p.0)) (rows_named line words m is matches)
 
--- the matches of a subcommand have the option that its rows have
-pub turns_given : (found : Found) (met : Option (List ℕ × List Row)) (rows : List Row) (text : List ℕ)
-    → Some (rows_of found) ≡ option_map (λ p. p.1) met → met ≡ Some (codes "work", rows)
-    → one_of (codes "turns") rows ≡ Some text → one_text found (codes "turns") ≡ Some text
-turns_given found met rows text is named given =
-    let same : Some (rows_of found) ≡ Some rows = is ∙ ap (option_map (λ p. p.1)) named in
-    one_text-rows found (codes "turns") ∙ ap (one_of (codes "turns")) (ap (λ o. unwrap_or o rows) same) ∙ given
+-- the matches of a subcommand are its rows
+pub rows_met : (found : Found) (met : Option (List ℕ × List Row)) (name : List ℕ) (rows : List Row)
+    → Some (rows_of found) ≡ option_map (λ p. p.1) met → met ≡ Some (name, rows) → rows_of found ≡ rows
+rows_met found met name rows is named =
+    let same : Some (rows_of found) ≡ Some rows = is ∙ ap (option_map (λ p. p.1)) named in ap (λ o. unwrap_or o rows) same
+
+-- they have the text that the rows have
+pub text_given : (found : Found) (id text : List ℕ) → one_of id (rows_of found) ≡ Some text → one_text found id ≡ Some text
+text_given found id text given = one_text-rows found id ∙ given
+
+-- and the texts
+pub texts_given : (found : Found) (id : List ℕ) (texts : List (List ℕ)) → all_of id (rows_of found) ≡ Some texts
+    → option_map raw_values (matched_of found id) ≡ Some texts
+texts_given found id texts given = raw_values-rows found id ∙ given
+
+-- what is seen of what is there is there
+pub none_seen : {A B : Type 0} (seen : A → B) (r : Option A) (x : B) → option_map seen r ≡ Some x → r ≡ None → ⊥
+none_seen seen None x has none = cc
+none_seen seen (Some item) x has none = cc
+
+-- and is what is seen of it
+pub some_seen : {A B : Type 0} (seen : A → B) (r : Option A) (item : A) (x : B) → option_map seen r ≡ Some x → r ≡ Some item → seen item ≡ x
+some_seen seen r item x has is = let same : Some (seen item) ≡ Some x = sym (ap (option_map seen) is) ∙ has in ap (λ o. unwrap_or o x) same
 
 -- a number of turns is read
 pub turns_read : {E : Type 0} (G : List ℕ → Result ℕ E → Type 0) (turns : ℕ) (text : List ℕ) (read : Option ℕ)

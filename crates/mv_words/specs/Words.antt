@@ -1,18 +1,26 @@
 -- The command line of the program, the words that it takes, and what they ask for.
-use Rattle.std.specs.Prelude.{◌≡◌, ◌≢◌, ◌<◌, ◌^◌, ◌⊎◌, ℕ, List, [], ◌∷◌, ◌++◌, codes, true, Some, option_map}
+use Rattle.std.specs.Prelude.{◌≡◌, ◌≢◌, ◌<◌, ◌^◌, ◌⊎◌, ℕ, Bool, List, [], ◌∷◌, ◌++◌, codes, true, Option, Some, if◌then◌else◌, length, map, option_map, slice_get}
 use Rattle.std.specs.List.{AllByRecursion}
 use Rattle.std.specs.Str.Parse.{IsNumeral, digits_value, without_leading_plus}
-use Rattle.clap.specs.Words.{App, Row, Rule, new_app, new_rule, with_rule, with_subcommand, fault_of, one_of, subcommand_of}
+use Rattle.clap.specs.Lexer.{usize_max}
+use Rattle.clap.specs.Words.{App, Row, Rule, all_of, fault_of, new_app, new_rule, one_of, subcommand_of, with_rule, with_subcommand}
+use Rattle.clap.specs.declared.builder.action.ArgAction.TheVariants.{SetTrue}
 use Rattle.clap.specs.declared.builder.value_parser.ValueParser.TheVariants.{Unsigned}
 use Rattle.clap.specs.Simple.{new_shape, on_top}
 use Rattle.clap.specs.declared.error.kind.ErrorKind.{ErrorKind}
 use Rattle.clap.specs.declared.error.kind.ErrorKind.TheVariants.{DisplayHelp, DisplayVersion}
+use Rattle.mv_words.specs.declared.task.Task.{Task}
+use Rattle.mv_words.specs.declared.task.Task.TheVariants.{Explain}
 
 -- `mvhub`, of which a subcommand is required; it tells its version, and without words how it is called
 abbrev pub mvhub : App
 mvhub =
     on_top (λ shape. record shape { has_version = true; arg_required_else_help = true; subcommand_required = true })
     (new_app (codes "mvhub"))
+
+-- an option of this name that is given or not
+abbrev pub flag_rule : List ℕ → Rule
+flag_rule name = record (new_rule name) { long = Some name; action = Some SetTrue }
 
 -- the option of `work`, which is required: a number of 32 bits
 abbrev pub turns_rule : Rule
@@ -23,21 +31,63 @@ turns_rule = record (new_rule (codes "turns")) {
   required = true;
 }
 
--- `work`, with its option
+-- the words of `explain`, which are required: one or more
+abbrev pub code_rule : Rule
+code_rule = record (new_rule (codes "code")) {
+  range = Some (record { start_inclusive = 1; end_inclusive = usize_max });
+  value_names = 1;
+  required = true;
+}
+
+-- `steps`, `canon`, `work` and `explain`, each with its option or its words
+abbrev pub steps_app : App
+steps_app = with_rule (new_app (codes "steps")) (flag_rule (codes "strict"))
+
+abbrev pub canon_app : App
+canon_app = with_rule (new_app (codes "canon")) (flag_rule (codes "check"))
+
 abbrev pub work_app : App
 work_app = with_rule (new_app (codes "work")) turns_rule
 
--- the command line: `mvhub` with the subcommands `steps`, `canon` and `work`
+abbrev pub explain_app : App
+explain_app = with_rule (new_app (codes "explain")) code_rule
+
+-- a command line with `steps`, `trail` and `show`
+abbrev pub with_steps : App → App
+with_steps line =
+    with_subcommand (with_subcommand (with_subcommand line steps_app.top) (new_shape (codes "trail"))) (new_shape (codes "show"))
+
+-- a command line with `canon`, `work` and `explain`
+abbrev pub with_others : App → App
+with_others line = with_subcommand (with_subcommand (with_subcommand line canon_app.top) work_app.top) explain_app.top
+
+-- the command line: `mvhub` with these six subcommands
 abbrev pub command_line : App
-command_line =
-    with_subcommand (with_subcommand (with_subcommand mvhub (new_shape (codes "steps"))) (new_shape (codes "canon"))) work_app.top
+command_line = with_others (with_steps mvhub)
 
 -- the command line takes the words, and this is the name of the subcommand that they name
 abbrev pub AsksFor : List ℕ → List (List ℕ) → Type 0
 AsksFor name words =
     (fault_of command_line words ≡ []) × (option_map (λ p. p.0) (subcommand_of command_line words) ≡ Some name)
 
--- the text is decimal digits, in front of which one plus may stand, and they write this number, which is one of 32 bits
+-- the command line takes the words, and this holds of the matches of the subcommand of this name, which they name
+abbrev pub AsksWith : List ℕ → (List Row → Type 0) → List (List ℕ) → Type 0
+AsksWith name Holds words =
+    (fault_of command_line words ≡ []) × (rows : List Row) × (subcommand_of command_line words ≡ Some (name, rows)) × Holds rows
+
+-- whether an option was given that has no value
+abbrev pub HasFlag : List ℕ → Bool → List Row → Type 0
+HasFlag flag is_given rows = one_of flag rows ≡ Some (if is_given then codes "true" else codes "false")
+
+-- the words ask for `steps`, with `--strict` or without it
+abbrev pub AsksForSteps : Bool → List (List ℕ) → Type 0
+AsksForSteps is_strict = AsksWith (codes "steps") (HasFlag (codes "strict") is_strict)
+
+-- the words ask for `canon`, with `--check` or without it
+abbrev pub AsksForCanon : Bool → List (List ℕ) → Type 0
+AsksForCanon is_check = AsksWith (codes "canon") (HasFlag (codes "check") is_check)
+
+-- the text is decimal digits, in front of which one plus may stand and no minus, and they write this number, which is one of 32 bits
 abbrev pub WritesTurns : ℕ → List ℕ → Type 0
 WritesTurns turns text = IsNumeral 10 (without_leading_plus text) × (digits_value 10 (without_leading_plus text) ≡ turns) × (turns < 2 ^ 32)
 
@@ -45,20 +95,36 @@ WritesTurns turns text = IsNumeral 10 (without_leading_plus text) × (digits_val
 abbrev pub GiveTurns : List ℕ → List (List ℕ) → Type 0
 GiveTurns text words = (words ≡ codes "--turns" ∷ text ∷ []) ⊎ (words ≡ (codes "--turns=" ++ text) ∷ [])
 
--- the command line takes the words, which name `work`, and the text of its option writes this number
+-- the words ask for `work`, and the text of its option writes this number
 abbrev pub AsksForWork : ℕ → List (List ℕ) → Type 0
-AsksForWork turns words = (fault_of command_line words ≡ []) × (rows : List Row) × (text : List ℕ)
-    × (subcommand_of command_line words ≡ Some (codes "work", rows)) × (one_of (codes "turns") rows ≡ Some text)
-    × WritesTurns turns text
+AsksForWork turns = AsksWith (codes "work") (λ rows. (text : List ℕ) × (one_of (codes "turns") rows ≡ Some text) × WritesTurns turns text)
 
--- the program's name and this word ask for the subcommand of this name
-abbrev pub NameAsks : List ℕ → Type 0
-NameAsks name = (program : List ℕ) → AsksFor name (program ∷ name ∷ [])
+-- the words ask for `explain` with these words
+abbrev pub AsksToExplain : List (List ℕ) → List (List ℕ) → Type 0
+AsksToExplain given = AsksWith (codes "explain") (λ rows. all_of (codes "code") rows ≡ Some given)
+
+-- the task is to explain these words
+abbrev pub IsToExplain : List (List ℕ) → Option Task → Type 0
+IsToExplain given (Some (Explain words)) = map (λ word. word.now) words.items ≡ given
+IsToExplain given _ = ⊥
+
+-- the program's name and these words ask for this
+abbrev pub WordsAsk : (List (List ℕ) → Type 0) → List (List ℕ) → Type 0
+WordsAsk Asks words = (program : List ℕ) → Asks (program ∷ words)
 
 -- the program's name, `work` and its option ask for `work` with the number that the option gives
 abbrev pub OptionAsks : Type 0
 OptionAsks = (program text : List ℕ) (option : List (List ℕ)) (turns : ℕ) → WritesTurns turns text → GiveTurns text option
     → AsksForWork turns (program ∷ codes "work" ∷ option)
+
+-- the word does not begin with a minus (45)
+abbrev pub HasNoMinus : List ℕ → Type 0
+HasNoMinus word = slice_get word 0 ≢ Some 45
+
+-- the program's name, `explain` and one word or more, none of which begins with a minus, ask for `explain` with these words
+abbrev pub ExplainAsks : Type 0
+ExplainAsks = (program : List ℕ) (given : List (List ℕ)) → 0 < length given → length given < 2 ^ 64 → AllByRecursion HasNoMinus given
+    → AsksToExplain given (program ∷ codes "explain" ∷ given)
 
 -- the command line does not take the words
 abbrev pub AreNotTaken : List (List ℕ) → Type 0
@@ -71,3 +137,8 @@ IsMistake kind = (kind ≢ DisplayHelp) × (kind ≢ DisplayVersion)
 -- the command line does not take the words, by a mistake
 abbrev pub AreMistaken : List (List ℕ) → Type 0
 AreMistaken words = AreNotTaken words × AllByRecursion IsMistake (fault_of command_line words)
+
+-- a number with a minus (45) before it is no number of turns: the command line does not take it
+abbrev pub MinusIsMistaken : Type 0
+MinusIsMistaken = (program digits : List ℕ) (option : List (List ℕ)) → IsNumeral 10 digits → GiveTurns (45 ∷ digits) option
+    → AreMistaken (program ∷ codes "work" ∷ option)

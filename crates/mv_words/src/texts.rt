@@ -11,9 +11,25 @@ pub const PROGRAM: &str =
 pub const STEPS: &str =
     "Answers steps: a JSON object a line, from standard input to standard output";
 
+/// What `--strict` is.
+pub const STRICT: &str =
+    "Ends with status 1 where a line was not taken, and tells how many and the first on standard error";
+
+/// What `trail` does.
+pub const TRAIL: &str =
+    "Takes the lines of steps, and writes what each did: an event a line, with the number of its line";
+
+/// What `show` does.
+pub const SHOW: &str =
+    "Takes the lines of steps, and writes what stands behind them: parties, products, recalls, packs and links";
+
 /// What `canon` does.
 pub const CANON: &str =
     "Writes messages as their canonical texts: a JSON object a line, from standard input to standard output";
+
+/// What `--check` is.
+pub const CHECK: &str =
+    "Writes no message, and for each that is refused its refusal with the number of its line; ends with status 1 where there is one";
 
 /// What `work` does.
 pub const WORK: &str =
@@ -21,6 +37,13 @@ pub const WORK: &str =
 
 /// What `--turns` is.
 pub const TURNS: &str = "How many turns the hub and each party take at most";
+
+/// What `explain` does.
+pub const EXPLAIN: &str =
+    "Says what codes of replies and of standard error mean, and what to do: a line each";
+
+/// What the words of `explain` are.
+pub const CODES: &str = "A code, as P3, S6, E12 or V2";
 
 /// What stands below the help of the program.
 pub const WHERE_TO_READ: &str =
@@ -33,6 +56,18 @@ pub const STEPS_EXAMPLE: &str =
 /// What stands below the help of `canon`.
 pub const CANON_EXAMPLE: &str =
     "A line, and what comes out:\n  {\"serial\":\"S1\",\"gtin\":\"9506000134352\",\"msg\":\"query\"}\n  {\"gtin\":\"09506000134352\",\"msg\":\"query\",\"serial\":\"S1\"}\n\nEvery message, its fields and its faults: docs/FORMATS.md.";
+
+/// What stands below the help of `trail`.
+pub const TRAIL_EXAMPLE: &str =
+    "A line, and what comes out:\n  {\"do\":\"open\",\"parties\":[[],[\"FI\"]],\"submissions\":1000,\"uplink\":8,\"window\":8,\"wire\":8}\n  {\"event\":\"opened\",\"line\":1,\"parties\":[[],[\"FI\"]],\"submissions\":1000,\"uplink\":8,\"window\":8,\"wire\":8}\n\nEvery event: docs/FORMATS.md. How to ask them for the history of a pack: docs/OPERATING.md.";
+
+/// What stands below the help of `show`.
+pub const SHOW_EXAMPLE: &str =
+    "A line, and what comes out, a line for each party:\n  {\"do\":\"open\",\"parties\":[[\"FI\"]],\"submissions\":1000,\"uplink\":8,\"window\":8,\"wire\":8}\n  {\"active\":0,\"applied\":0,\"packs\":0,\"party\":0,\"products\":0,\"recalled\":0,\"routed\":0,\"show\":\"party\",\"submitted\":0}\n\nEvery line that is shown: docs/FORMATS.md. What to look for: docs/OPERATING.md.";
+
+/// What stands below the help of `explain`.
+pub const EXPLAIN_EXAMPLE: &str =
+    "Words, and what comes out:\n  mvhub explain S7\n  S7 The wire is full: apply or lose its front frame first.\n\nEvery code: docs/OPERATING.md. Where each comes from: docs/FORMATS.md.";
 
 /// What stands below the help of `work`.
 pub const WORK_EXAMPLE: &str =

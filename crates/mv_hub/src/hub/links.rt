@@ -32,6 +32,15 @@ impl Hub {
         self.link(from, to).total()
     }
 
+    /// How many items of the link from one party to another were relayed.
+    pub fn relayed(&self, from: Party, to: Party) -> u32
+        requires from { from < length self.now.parties }
+        requires to { to < length self.now.parties }
+        ensures { result ≡ sent_of self.now from to }
+    {
+        self.link(from, to).sent()
+    }
+
     /// The next frame of the link from one party to another that was not relayed yet. It stays the next.
     ///
     /// The first of these that holds is the fault: H4, one of the parties is none; H8, every item of the link has been

@@ -17,7 +17,7 @@ use mv_repository::{Joint, Local};
 
 impl World {
     /// The limits of the system.
-    pub(super) fn limits(&self) -> Limits
+    pub fn limits(&self) -> Limits
         ensures value { result ≡ self.now.limits }
         ensures bounds { AreBounds self.now.limits }
     {
@@ -91,11 +91,11 @@ impl World {
         self.wire_len(from, to) >= limits.wire() as usize
     }
 
-    /// The number of the frame in front of a wire.
-    pub(super) fn front_number(&self, from: Party, to: Party) -> Option<u32>
+    /// The number of the frame at a place of a wire, the front at 0.
+    pub fn frame_number(&self, from: Party, to: Party, place: usize) -> Option<u32>
         requires { IsTrue (are_parties (hub_of self.now) from to) }
-        ensures { result ≡ slice_get (wire_of self.now from to) 0 }
+        ensures { result ≡ slice_get (wire_of self.now from to) place }
     {
-        self.wire(from, to).front_number()
+        self.wire(from, to).number_at(place)
     }
 }

@@ -112,7 +112,7 @@ impl World {
         if !self.are_parties(from, to) {
             return Reply::Refused(Refusal::Party);
         }
-        let Some(number) = self.front_number(from, to) else {
+        let Some(number) = self.frame_number(from, to, 0) else {
             return Reply::Refused(Refusal::WireEmpty);
         };
         match self.offer_front(from, to) {
@@ -163,7 +163,7 @@ impl World {
         if !self.are_parties(from, to) {
             return Reply::Refused(Refusal::Party);
         }
-        match self.front_number(from, to) {
+        match self.frame_number(from, to, 0) {
             None => Reply::Refused(Refusal::WireEmpty),
             Some(number) => {
                 self.drop_front(from, to);

@@ -1,6 +1,6 @@
-use Rattle.std.proofs.Common.{rules, ◌≡◌, ◌≢◌, length, sym, ◌∙◌}
+use Rattle.std.proofs.Common.{rules, arith, ◌≡◌, ◌≢◌, length, sym, ◌∙◌}
 use Rattle.std.specs.Io.BufRead.{strip_last}
-use Rattle.mv_lines.proofs.RepliesLemmas.{nothing_added, reply_added, length_zero, length_none}
+use Rattle.mv_lines.proofs.RepliesLemmas.{nothing_added, reply_added, none_said, length_zero, length_none}
 use Rattle.mv_lines.proofs.input.answer_piece.Goals as goal
 
 -- the line is empty
@@ -9,7 +9,16 @@ returns-then-is_empty-clause-ok g c =
     let line = c.without_return-line.result.now in
     let stripped : line ≡ strip_last 13 c.args.piece.now = search rules in
     let none : length line ≡ 0 = search rules in
-    nothing_added g.S.Answering.replies _ c.args.piece.now c.args.answering.now (sym stripped ∙ length_zero line none)
+    nothing_added g.S.Answering.replies c.args.count _ c.args.piece.now c.args.answering.now (sym stripped ∙ length_zero line none)
+
+-- there is no reply
+pub returns-then-not-branch-clause-ok : goal.returns-then-not-branch-clause-ok
+returns-then-not-branch-clause-ok g c =
+    let line = c.without_return-line.result.now in
+    let stripped : line ≡ strip_last 13 c.args.piece.now = search rules in
+    let some : length line ≢ 0 = search rules in
+    none_said g.S.Answering.replies c.args.count c.len-kept.result _ c.args.replies.now.items _ _ c.args.piece.now line c.args.answering.now _ (search rules)
+    stripped (length_none line some) c.in_ok-answer.ensures.ok (omega (arith, c.len-kept.ensures, c.args.replies.now.ok.0)) c.truncate.ensures.items
 
 -- the reply is added
 pub returns-clause-ok : goal.returns-clause-ok
@@ -17,4 +26,4 @@ returns-clause-ok g c =
     let line = c.without_return-line.result.now in
     let stripped : line ≡ strip_last 13 c.args.piece.now = search rules in
     let some : length line ≢ 0 = search rules in
-    reply_added g.S.Answering.replies c.args.replies.now.items _ _ c.args.piece.now line c.args.answering.now _ stripped (length_none line some) c.in_ok-answer.ensures.ok (search rules)
+    reply_added g.S.Answering.replies c.args.count _ c.args.replies.now.items _ _ c.args.piece.now line c.args.answering.now _ (search rules) stripped (length_none line some) c.in_ok-answer.ensures.ok (search rules)

@@ -1,30 +1,58 @@
--- What is kept of the pack has the status.
-use Rattle.std.proofs.Common.{◌≡◌, ◌∷◌, ◌++◌, [], length, ap}
-use Rattle.mv_repository.specs.Packs.{kept_table}
-use Rattle.mv_repository.proofs.PacksLemmas.{on-err}
-use Rattle.mv_repository.proofs.BatchLemmas.{found-status}
+-- The shelf of the product has the entry, and no other product is touched.
+use Rattle.std.specs.Prelude.{bytes_eq}
+use Rattle.std.proofs.Common.{◌≡◌, refl, sym, subst, rules, arith, get_or, take, Some}
+use Rattle.std.specs.Map.{lookup}
+use Rattle.mv_repository.specs.Packs.{ArePacksOf}
+use Rattle.mv_repository.specs.Counts.{uploaded_packs}
+use Rattle.mv_repository.specs.Stops.{no_entry}
+use Rattle.mv_repository.specs.Tally.{IsTally}
+use Rattle.mv_repository.specs.Track.{track_of}
+use Rattle.mv_repository.proofs.ListedLemmas.{on_err}
+use Rattle.mv_repository.proofs.PacksLemmas.{shelves-same, shelf-found, shelves-stay, shelves-on, status-away, none-bound, status-uploads}
+use Rattle.mv_repository.proofs.ShelvesLemmas.{IsShelved}
+use Rattle.mv_repository.proofs.TallyUploads.{tally-longer}
+use Rattle.mv_repository.proofs.TrackLemmas.{log-split}
 use Rattle.mv_repository.proofs.packs.Packs.add_status.Goals as goal
 
-pub add_status-requires-clause-track : goal.add_status-requires-clause-track
-add_status-requires-clause-track c = rw (← c.self.view_is) at c.requires.track
+pub returns-in_err-add_shelf-clause-err : goal.returns-in_err-add_shelf-clause-err
+returns-in_err-add_shelf-clause-err c =
+    on_err c.from_residual.result _ (record {
+      shelves = shelves-same (take c.args.place c.args.log.now) c.self.inside.shelves.entries c.add_shelf.new.shelves.entries c.add_shelf.ensures.same
+          (subst (ArePacksOf (take c.args.place c.args.log.now)) (sym c.self.view_is) c.requires.packs).shelves;
+      tally = (subst (ArePacksOf (take c.args.place c.args.log.now)) (sym c.self.view_is) c.requires.packs).tally;
+    })
 
-pub invariant_of-self : goal.invariant_of-self
-invariant_of-self c = record {
-  tracked = c.add_status.ensures.tracked;
-  listed = found-status c.self.inside.batches (c.args.log.now.items ++ c.args.entry ∷ []) c.args.stops.now c.args.key.now (length c.args.log.now.items)
-      (kept_table c.self.inside.table.slots.entries) (kept_table c.add_status.new.self.slots.entries) (rw (← c.self.view_is) at c.requires.track) c.self.invariant.listed
-      c.add_status.result c.add_status.ensures.kept
-      (on-err (λ (e : c.add_status.new.self.slots.entries ≡ c.self.inside.table.slots.entries). ap kept_table e) c.add_status.result c.add_status.ensures.err);
-  tally = c.add_status.ensures.tally;
-}
+pub add_status-requires-clause-shelf : goal.add_status-requires-clause-shelf
+add_status-requires-clause-shelf c =
+    let found : lookup (bytes_eq c.args.pack.now.gtin) c.add_shelf.new.shelves.entries ≡ Some c.in-Some.shelf.now = search rules in
+    shelf-found (take c.args.place c.args.log.now) c.self.inside.shelves.entries c.add_shelf.new.shelves.entries c.add_shelf.ensures.same (subst (ArePacksOf (take c.args.place c.args.log.now)) (sym c.self.view_is) c.requires.packs).shelves c.args.pack.now.gtin c.in-Some.shelf.now found
 
-pub returns-clause-kept : goal.returns-clause-kept
-returns-clause-kept c = rw (← c.self.view_is) c.add_status.ensures.kept
+pub add_status-requires-clause-tally : goal.add_status-requires-clause-tally
+add_status-requires-clause-tally c =
+    let whole = c.args.log.now in
+    tally-longer (take c.args.place whole) (get_or whole c.args.place no_entry) c.self.inside.tally (subst (ArePacksOf (take c.args.place c.args.log.now)) (sym c.self.view_is) c.requires.packs).tally whole (log-split whole c.args.place c.requires.last)
 
-pub returns-clause-effect : goal.returns-clause-effect
-returns-clause-effect c = rw (← c.self.view_is) c.add_status.ensures.effect
+pub add_status-requires-clause-bound : goal.add_status-requires-clause-bound
+add_status-requires-clause-bound c =
+    let whole = c.args.log.now in
+    none-bound whole c.args.place (record { shelves = c.self.inside.shelves.entries; tally = c.self.inside.tally }) c.requires.last (status-uploads c.args.pack.now (get_or whole c.args.place no_entry).item c.requires.own) (subst (ArePacksOf (take c.args.place whole)) (sym c.self.view_is) c.requires.packs) (omega arith)
 
-pub returns-clause-err : goal.returns-clause-err
-returns-clause-err c =
-    rw (← c.self.view_is)
-    (on-err (λ (e : c.add_status.new.self.slots.entries ≡ c.self.inside.table.slots.entries). ap kept_table e) c.add_status.result c.add_status.ensures.err)
+pub returns-in_err-effect-clause-err : goal.returns-in_err-effect-clause-err
+returns-in_err-effect-clause-err c =
+    let new = (c.get_mut.follows.lender c.add_status.new.self).entries in
+    let looks : IsShelved c.add_shelf.new.shelves.entries new c.args.pack.now.gtin c.add_status.new.self = λ other. search rules in
+    on_err c.from_residual-in_err-effect.result _ (record {
+      shelves = shelves-stay (take c.args.place c.args.log.now) c.self.inside.shelves.entries c.add_shelf.new.shelves.entries c.add_shelf.ensures.same (subst (ArePacksOf (take c.args.place c.args.log.now)) (sym c.self.view_is) c.requires.packs).shelves
+          new c.args.pack.now.gtin c.add_status.new.self looks c.in_err-effect.ensures.err;
+      tally = subst (IsTally (λ pack. track_of pack (take c.args.place c.args.log.now)) (uploaded_packs (take c.args.place c.args.log.now))) (sym c.in_err-effect.ensures.tally_err) (subst (ArePacksOf (take c.args.place c.args.log.now)) (sym c.self.view_is) c.requires.packs).tally;
+    })
+
+pub returns-clause-ok : goal.returns-clause-ok
+returns-clause-ok c =
+    let new = (c.get_mut.follows.lender c.add_status.new.self).entries in
+    let looks : IsShelved c.add_shelf.new.shelves.entries new c.args.pack.now.gtin c.add_status.new.self = λ other. search rules in
+    record {
+      shelves = shelves-on (take c.args.place c.args.log.now) c.self.inside.shelves.entries c.add_shelf.new.shelves.entries c.add_shelf.ensures.same (subst (ArePacksOf (take c.args.place c.args.log.now)) (sym c.self.view_is) c.requires.packs).shelves
+          new c.args.pack.now.gtin c.add_status.new.self c.args.log.now c.args.place c.requires.last refl looks c.in_ok-effect.ensures.ok (status-away c.args.log.now c.args.place c.args.pack.now c.requires.last c.requires.own);
+      tally = c.in_ok-effect.ensures.tally;
+    }

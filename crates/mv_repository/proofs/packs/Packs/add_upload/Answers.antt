@@ -1,87 +1,58 @@
--- The newest entry is an upload, and what stood before stands still.
-use Rattle.std.proofs.Common.{◌≡◌, ◌∙◌, ◌∷◌, ◌++◌, [], ℕ, List, ap, sym, subst, cond, rules, length, nat_lt, Some, None}
-use Rattle.std.specs.Option.{option_map}
-use Rattle.mv_pack.specs.declared.key.PackKey.{PackKey}
-use Rattle.mv_pack.specs.declared.key.BatchKey.{BatchKey}
-use Rattle.mv_repository.specs.declared.entry.LogEntry.{LogEntry}
-use Rattle.mv_pack.specs.Keys.{is_same_batch, batch_key}
-use Rattle.mv_repository.specs.Batches.{uploads_in}
-use Rattle.mv_repository.specs.Counts.{is_held_active}
-use Rattle.mv_repository.specs.PackState.{has_pack, held_of}
-use Rattle.mv_repository.specs.Packs.{kept_table, is_own_in}
-use Rattle.mv_repository.specs.Track.{Kept, kept_in, pack_made_by, held_made_at, IsTrack, IsTally, with_upload, made_count}
-use Rattle.mv_repository.proofs.PacksLemmas.{upload-made, newest-upload}
-use Rattle.mv_repository.proofs.TableLemmas.{newest-stands}
-use Rattle.mv_repository.proofs.BatchLemmas.{found-settled, last-listed, not-any}
+-- The shelf of the product has the entry, and no other product is touched.
+use Rattle.std.specs.Prelude.{bytes_eq}
+use Rattle.std.proofs.Common.{◌≡◌, refl, sym, subst, rules, arith, get_or, take, Some}
+use Rattle.std.specs.Map.{lookup}
+use Rattle.mv_repository.specs.Packs.{ArePacksOf}
+use Rattle.mv_repository.specs.Counts.{uploaded_packs}
+use Rattle.mv_repository.specs.Stops.{no_entry}
+use Rattle.mv_repository.specs.Tally.{IsTally}
+use Rattle.mv_repository.specs.Track.{track_of}
+use Rattle.mv_repository.proofs.ListedLemmas.{on_err}
+use Rattle.mv_repository.proofs.PacksLemmas.{shelves-same, shelf-found, shelves-stay, shelves-on, upload-away}
+use Rattle.mv_repository.proofs.ShelvesLemmas.{IsShelved}
+use Rattle.mv_repository.proofs.TallyUploads.{tally-longer, longer-bound}
+use Rattle.mv_repository.proofs.TrackLemmas.{log-split}
 use Rattle.mv_repository.proofs.packs.Packs.add_upload.Goals as goal
 
-pub unreachable-requires : goal.unreachable-requires
-unreachable-requires c =
-    let none : option_map held_of (pack_made_by c.args.entry.item) ≡ None = search rules in
-    upload-made c.args.entry.item c.args.gtin c.args.serials.now c.requires.upload none
+pub returns-in_err-add_shelf-clause-err : goal.returns-in_err-add_shelf-clause-err
+returns-in_err-add_shelf-clause-err c =
+    on_err c.from_residual.result _ (record {
+      shelves = shelves-same (take c.args.place c.args.log.now) c.self.inside.shelves.entries c.add_shelf.new.shelves.entries c.add_shelf.ensures.same
+          (subst (ArePacksOf (take c.args.place c.args.log.now)) (sym c.self.view_is) c.requires.packs).shelves;
+      tally = (subst (ArePacksOf (take c.args.place c.args.log.now)) (sym c.self.view_is) c.requires.packs).tally;
+    })
 
-pub add_uploads-count-requires-clause-upload : goal.add_uploads-count-requires-clause-upload
-add_uploads-count-requires-clause-upload c =
-    let log = c.args.log.now.items in
-    let log_is : c.as_slice.result.now ≡ log ++ c.args.entry ∷ [] = search rules in
-    let new_is : c.in_ok-place.place ≡ length log = search rules in
-    (λ i. is_held_active (held_made_at (log_is i) (new_is i))) ∙ newest-upload log c.args.entry c.args.gtin c.args.serials.now c.requires.upload
+pub add_upload-requires-clause-shelf : goal.add_upload-requires-clause-shelf
+add_upload-requires-clause-shelf c =
+    let found : lookup (bytes_eq c.args.gtin.now) c.add_shelf.new.shelves.entries ≡ Some c.in-Some.shelf.now = search rules in
+    shelf-found (take c.args.place c.args.log.now) c.self.inside.shelves.entries c.add_shelf.new.shelves.entries c.add_shelf.ensures.same (subst (ArePacksOf (take c.args.place c.args.log.now)) (sym c.self.view_is) c.requires.packs).shelves c.args.gtin.now c.in-Some.shelf.now found
 
-pub add_uploads-count-requires-clause-tracks : goal.add_uploads-count-requires-clause-tracks
-add_uploads-count-requires-clause-tracks c pack =
-    let slots_are : c.reserve.new.self.entries ≡ c.self.inside.table.slots.entries = search rules in
-    let log_is : c.as_slice.result.now ≡ c.args.log.now.items ++ c.args.entry ∷ [] = search rules in
-    subst (λ (t : List (PackKey × Kept)). IsTrack c.as_slice.result.now c.args.stops.now pack (kept_in pack t)) (sym (ap kept_table slots_are ∙ c.self.view_is)) (rw log_is (c.requires.tracks pack))
+pub add_upload-requires-clause-tally : goal.add_upload-requires-clause-tally
+add_upload-requires-clause-tally c =
+    let whole = c.args.log.now in
+    tally-longer (take c.args.place whole) (get_or whole c.args.place no_entry) c.self.inside.tally (subst (ArePacksOf (take c.args.place c.args.log.now)) (sym c.self.view_is) c.requires.packs).tally whole (log-split whole c.args.place c.requires.last)
 
-pub add_uploads-count-requires-clause-tally : goal.add_uploads-count-requires-clause-tally
-add_uploads-count-requires-clause-tally c =
-    let slots_are : c.reserve.new.self.entries ≡ c.self.inside.table.slots.entries = search rules in
-    subst (λ (t : List (PackKey × Kept)). IsTally t c.self.inside.table.tally) (sym (ap kept_table slots_are)) c.self.invariant.tally
+pub add_upload-requires-clause-bound : goal.add_upload-requires-clause-bound
+add_upload-requires-clause-bound c =
+    let whole = c.args.log.now in
+    longer-bound (take c.args.place whole) (get_or whole c.args.place no_entry) c.self.inside.tally c.args.gtin.now c.args.serials.now (subst (ArePacksOf (take c.args.place whole)) (sym c.self.view_is) c.requires.packs).tally c.requires.upload (omega arith) whole (log-split whole c.args.place c.requires.last)
 
-pub returns-clause-kept : goal.returns-clause-kept
-returns-clause-kept c pack =
-    let slots_are : c.reserve.new.self.entries ≡ c.self.inside.table.slots.entries = search rules in
-    let log_is : c.as_slice.result.now ≡ c.args.log.now.items ++ c.args.entry ∷ [] = search rules in
-    let new_is : c.in_ok-place.place ≡ length c.args.log.now.items = search rules in
-    let seen = ap kept_table slots_are ∙ c.self.view_is in
-    c.add_uploads-count.ensures.kept pack
-    ∙ (λ i. cond (has_pack c.args.gtin c.args.serials.now pack) (with_upload (log_is i) c.args.stops.now pack (new_is i) (kept_in pack (seen i))) (kept_in pack (seen i)))
+pub returns-in_err-new-clause-err : goal.returns-in_err-new-clause-err
+returns-in_err-new-clause-err c =
+    let new = (c.get_mut.follows.lender c.add_upload.new.self).entries in
+    let looks : IsShelved c.add_shelf.new.shelves.entries new c.args.gtin.now c.add_upload.new.self = λ other. search rules in
+    on_err c.from_residual-in_err-new.result _ (record {
+      shelves = shelves-stay (take c.args.place c.args.log.now) c.self.inside.shelves.entries c.add_shelf.new.shelves.entries c.add_shelf.ensures.same (subst (ArePacksOf (take c.args.place c.args.log.now)) (sym c.self.view_is) c.requires.packs).shelves
+          new c.args.gtin.now c.add_upload.new.self looks c.in_err-new.ensures.err;
+      tally = subst (IsTally (λ pack. track_of pack (take c.args.place c.args.log.now)) (uploaded_packs (take c.args.place c.args.log.now))) (sym c.in_err-new.ensures.tally_err) (subst (ArePacksOf (take c.args.place c.args.log.now)) (sym c.self.view_is) c.requires.packs).tally;
+    })
 
-pub returns-clause-count : goal.returns-clause-count
-returns-clause-count c =
-    let slots_are : c.reserve.new.self.entries ≡ c.self.inside.table.slots.entries = search rules in
-    let log_is : c.as_slice.result.now ≡ c.args.log.now.items ++ c.args.entry ∷ [] = search rules in
-    let new_is : c.in_ok-place.place ≡ length c.args.log.now.items = search rules in
-    let seen = ap kept_table slots_are ∙ c.self.view_is in
-    c.add_uploads-count.ensures.count ∙ (λ i. made_count (log_is i) (new_is i) (seen i) c.args.gtin c.args.serials.now)
-
-pub invariant_of-self-2 : goal.invariant_of-self-2
-invariant_of-self-2 c =
-    let slots = c.self.inside.table.slots.entries in
-    let log = c.args.log.now.items in
-    let slots_are : c.reserve.new.self.entries ≡ slots = search rules in
-    let log_is : c.as_slice.result.now ≡ log ++ c.args.entry ∷ [] = search rules in
-    let new_is : c.in_ok-place.place ≡ length log = search rules in
-    let same : kept_table c.reserve.new.self.entries ≡ kept_table slots = ap kept_table slots_are in
-    let made : Some c.in-Some.held ≡ option_map held_of (pack_made_by c.args.entry.item) = search rules in
-    let key : BatchKey = batch_key c.args.gtin c.in-Some.held.batch in
-    let key_is : c.copy.result ≡ key = search rules in
-    let last : uploads_in (is_same_batch key) c.add.new.self ≡ uploads_in (is_same_batch key) c.self.inside.batches ++ length log ∷ [] =
-    subst (λ (named : BatchKey). uploads_in (is_same_batch named) c.add.new.self ≡ uploads_in (is_same_batch named) c.self.inside.batches ++ length log ∷ []) key_is
-    (c.in_ok-add.ensures.last ∙ ap (λ (n : ℕ). uploads_in (is_same_batch c.copy.result) c.self.inside.batches ++ n ∷ []) new_is) in
-    let looks : (pack : PackKey) → kept_in pack (kept_table c.add_uploads-count.new.self.slots.entries)
-    ≡ cond (has_pack c.args.gtin c.args.serials.now pack) (with_upload (log ++ c.args.entry ∷ []) c.args.stops.now pack (length log) (kept_in pack (kept_table slots))) (kept_in pack (kept_table slots)) =
-    λ pack. c.add_uploads-count.ensures.kept pack
-    ∙ (λ i. cond (has_pack c.args.gtin c.args.serials.now pack) (with_upload (log_is i) c.args.stops.now pack (new_is i) (kept_in pack (same i))) (kept_in pack (same i))) in
+pub returns-clause-ok : goal.returns-clause-ok
+returns-clause-ok c =
+    let new = (c.get_mut.follows.lender c.add_upload.new.self).entries in
+    let looks : IsShelved c.add_shelf.new.shelves.entries new c.args.gtin.now c.add_upload.new.self = λ other. search rules in
     record {
-      tracked = λ pack h. c.self.invariant.tracked pack (sym (ap (is_own_in pack) slots_are) ∙ sym (c.add_uploads-count.ensures.own pack) ∙ h);
-      listed = found-settled c.self.inside.batches c.add.new.self c.settle_last.new.self (log ++ c.args.entry ∷ []) c.args.stops.now c.args.gtin c.args.serials.now (length log) c.in-Some.held (kept_table slots) (kept_table c.add_uploads-count.new.self.slots.entries)
-          (nat_lt 0 c.add_uploads-count.result) c.settle_last.ensures.stays
-          (λ none. c.settle_last.ensures.gone none c.self.inside.batches (length log)
-          last
-          c.add.ensures.keeps)
-          (λ none. sym (c.add_uploads-count.ensures.count ∙ (λ i. made_count (log_is i) (new_is i) (same i) c.args.gtin c.args.serials.now)) ∙ not-any c.add_uploads-count.result none)
-          (made ∙ ap (λ (entry : LogEntry). option_map held_of (pack_made_by entry.item)) (sym (newest-stands log c.args.entry)))
-          (last-listed c.self.inside.batches c.add.new.self key (length log) last) c.add.ensures.keeps (rw (← c.self.view_is) at c.requires.tracks) c.self.invariant.listed looks;
-      tally = c.add_uploads-count.ensures.tally;
+      shelves = shelves-on (take c.args.place c.args.log.now) c.self.inside.shelves.entries c.add_shelf.new.shelves.entries c.add_shelf.ensures.same (subst (ArePacksOf (take c.args.place c.args.log.now)) (sym c.self.view_is) c.requires.packs).shelves
+          new c.args.gtin.now c.add_upload.new.self c.args.log.now c.args.place c.requires.last refl looks c.in_ok-new.ensures.ok (upload-away c.args.log.now c.args.place c.args.gtin.now c.args.serials.now c.requires.last c.requires.upload);
+      tally = c.in_ok-new.ensures.tally;
     }

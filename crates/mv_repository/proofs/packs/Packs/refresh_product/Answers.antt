@@ -1,38 +1,53 @@
--- The packs that no status names are settled.
+-- The shelf of the product follows the log, and no other product is touched.
 use Rattle.std.specs.Prelude.{bytes_eq}
-use Rattle.std.proofs.Common.{◌∙◌, sym, subst}
-use Rattle.mv_repository.specs.PackState.{has_pack}
-use Rattle.mv_repository.specs.Packs.{kept_table, IsFound}
-use Rattle.mv_repository.specs.Track.{kept_in}
-use Rattle.mv_repository.specs.Tracked.{serials_in}
-use Rattle.mv_repository.proofs.PacksLemmas.{again-all, settled-track}
-use Rattle.mv_repository.proofs.BatchLemmas.{found-refreshed}
+use Rattle.std.proofs.Common.{◌≡◌, sym, subst, rules, arith, refl, get_or, take, Some, None, ℕ, List}
+use Rattle.mv_repository.specs.Shelf.{ShelfTable}
+use Rattle.std.specs.Map.{lookup}
+use Rattle.mv_pack.specs.Keys.{pack_key}
+use Rattle.mv_repository.specs.Packs.{ArePacksOf}
+use Rattle.mv_repository.specs.Stops.{no_entry}
+use Rattle.mv_repository.proofs.PacksLemmas.{shelf-found, shelves-on, none-bound, none-follow}
+use Rattle.mv_repository.proofs.RecallLemmas.{withdrawal-bears}
+use Rattle.mv_repository.proofs.ShelvesLemmas.{IsShelved}
+use Rattle.mv_repository.proofs.TallyUploads.{tally-longer}
+use Rattle.mv_repository.proofs.TrackLemmas.{log-split}
 use Rattle.mv_repository.proofs.packs.Packs.refresh_product.Goals as goal
 
-pub refresh_all-requires-clause-settled : goal.refresh_all-requires-clause-settled
-refresh_all-requires-clause-settled c =
-    let tracks = rw (← c.self.view_is) at c.requires.tracks in
-    (λ pack. settled-track c.args.log.now c.args.stops.now (tracks pack).before pack (kept_in pack (kept_table c.self.inside.table.slots.entries)) (tracks pack).track)
+pub refresh_product-requires-clause-shelf : goal.refresh_product-requires-clause-shelf
+refresh_product-requires-clause-shelf c =
+    let found : lookup (bytes_eq c.args.gtin.now) c.self.inside.shelves.entries ≡ Some c.in-Some.shelf.now = search rules in
+    shelf-found (take c.args.place c.args.log.now) c.self.inside.shelves.entries c.self.inside.shelves.entries (λ other. refl)
+    (subst (ArePacksOf (take c.args.place c.args.log.now)) (sym c.self.view_is) c.requires.packs).shelves c.args.gtin.now c.in-Some.shelf.now found
 
-pub invariant_of-self : goal.invariant_of-self
-invariant_of-self c =
-    let tracks = rw (← c.self.view_is) at c.requires.tracks in
-    let looks = rw c.of_product-serials.ensures at c.refresh_all.ensures.kept in
-    record {
-      tracked = λ pack h. c.self.invariant.tracked pack (sym (c.refresh_all.ensures.own pack) ∙ h);
-      listed = λ pack. subst (IsFound c.self.inside.batches pack) (sym (looks pack))
-          (found-refreshed c.self.inside.batches c.args.log.now c.args.stops.now pack (kept_in pack (kept_table c.self.inside.table.slots.entries)) (tracks pack) (c.self.invariant.listed pack)
-          (has_pack c.args.gtin.now (serials_in (bytes_eq c.args.gtin.now) c.self.inside.tracked) pack));
-      tally = c.refresh_all.ensures.tally;
-    }
+pub refresh_product-requires-clause-tally : goal.refresh_product-requires-clause-tally
+refresh_product-requires-clause-tally c =
+    let whole = c.args.log.now in
+    tally-longer (take c.args.place whole) (get_or whole c.args.place no_entry) c.self.inside.tally (subst (ArePacksOf (take c.args.place whole)) (sym c.self.view_is) c.requires.packs).tally whole (log-split whole c.args.place c.requires.last)
+
+pub refresh_product-requires-clause-bound : goal.refresh_product-requires-clause-bound
+refresh_product-requires-clause-bound c =
+    let whole = c.args.log.now in
+    none-bound whole c.args.place (record { shelves = c.self.inside.shelves.entries; tally = c.self.inside.tally }) c.requires.last
+    (withdrawal-bears c.args.log.now c.args.place c.requires.last c.args.gtin.now c.requires.withdrawal).uploads
+    (subst (ArePacksOf (take c.args.place whole)) (sym c.self.view_is) c.requires.packs) (omega arith)
 
 pub returns : goal.returns
 returns c =
-    let tracks = rw (← c.self.view_is) at c.requires.tracks in
+    let whole = c.args.log.now in
+    let new = (c.get_mut.follows.lender c.refresh_product.new.self).entries in
+    let looks : IsShelved c.self.inside.shelves.entries new c.args.gtin.now c.refresh_product.new.self = λ other. search rules in
     record {
-      kept = rw (← c.self.view_is)
-          (again-all c.args.log.now c.args.stops.now c.self.inside.table.slots.entries (kept_table c.refresh_all.new.self.slots.entries) c.self.inside.tracked c.args.gtin.now
-          c.self.invariant.tracked
-          (λ pack. settled-track c.args.log.now c.args.stops.now (tracks pack).before pack (kept_in pack (kept_table c.self.inside.table.slots.entries)) (tracks pack).track)
-          (rw c.of_product-serials.ensures at c.refresh_all.ensures.kept));
+      shelves = shelves-on (take c.args.place whole) c.self.inside.shelves.entries c.self.inside.shelves.entries (λ other. refl)
+          (subst (ArePacksOf (take c.args.place whole)) (sym c.self.view_is) c.requires.packs).shelves
+          new c.args.gtin.now c.refresh_product.new.self whole c.args.place c.requires.last refl looks c.refresh_product.ensures.shelf
+          (λ other serial e. (withdrawal-bears c.args.log.now c.args.place c.requires.last c.args.gtin.now c.requires.withdrawal).away (pack_key other serial) e);
+      tally = c.refresh_product.ensures.tally;
     }
+
+pub returns-in_default : goal.returns-in_default
+returns-in_default c =
+    let none : lookup (bytes_eq c.args.gtin.now) c.self.inside.shelves.entries ≡ None = search rules in
+    let same : c.get_mut.follows.lender-at-none.entries ≡ c.self.inside.shelves.entries = search rules in
+    subst (λ (shelves : List (List ℕ × ShelfTable)). ArePacksOf c.args.log.now (record { shelves = shelves; tally = c.self.inside.tally })) (sym same)
+    (none-follow c.args.log.now c.args.place c.args.stops.now c.args.gtin.now (record { shelves = c.self.inside.shelves.entries; tally = c.self.inside.tally })
+    c.requires.last c.requires.stops (withdrawal-bears c.args.log.now c.args.place c.requires.last c.args.gtin.now c.requires.withdrawal) none (subst (ArePacksOf (take c.args.place c.args.log.now)) (sym c.self.view_is) c.requires.packs))

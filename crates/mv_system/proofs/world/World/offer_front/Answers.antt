@@ -3,7 +3,7 @@ use Rattle.std.proofs.Common.{arith, refl, sym, ap, ◌∙◌}
 use Rattle.std.specs.Option.{option_copied}
 use Rattle.mv_party.specs.Site.{count_from}
 use Rattle.mv_link.specs.Receiving.{look_at}
-use Rattle.mv_system.proofs.WireLemmas.{numbers_of-front}
+use Rattle.mv_system.proofs.WireLemmas.{numbers_of-get}
 use Rattle.mv_system.proofs.SystemLemmas.{link_facts, site_facts, taken_kept, takes}
 use Rattle.mv_system.proofs.world.World.offer_front.Goals as goal
 
@@ -11,7 +11,7 @@ use Rattle.mv_system.proofs.world.World.offer_front.Goals as goal
 pub unreachable-requires : goal.unreachable-requires
 unreachable-requires c =
     let link = link_facts c.args.from c.args.to c.self.invariant c.self.view_is c.requires.parties c.at.ensures in
-    grind (arith, link.seen, numbers_of-front, c.requires.some)
+    grind (arith, link.seen, numbers_of-get, c.requires.some)
 
 pub invariant_of-self : goal.invariant_of-self
 invariant_of-self c =

@@ -1,0 +1,83 @@
+-- The replies of a run whose lines are counted are those of one whose lines are not.
+use Rattle.std.proofs.Common.{◌≡◌, ◌∷◌, ℕ, List, [], None, Some, IfSome, ap, subst}
+use Rattle.std.specs.Io.KnownBytes.{Consumes}
+use Rattle.std.specs.declared.option.Option.{Option}
+use Rattle.mv_lines.specs.declared.fault.ServeFault.{ServeFault}
+use Rattle.mv_lines.specs.declared.fault.ServeFault.TheVariants as faults
+use Rattle.mv_lines.specs.Lines.{Line}
+use Rattle.mv_lines.specs.Replies.{AreReplies, IsReplies}
+use Rattle.mv_lines.specs.Served.{Ended, Served, Stopped, WroteReplies}
+use Rattle.mv_lines.specs.Sessions.{IsReply, Open}
+use Rattle.mv_checks.specs.Strict.{IsStrictReply, Strict}
+
+-- what is counted is left out
+replies_uncounted : (before after : Strict) (lines : List Line) (texts : List (Option (List ℕ))) → AreReplies IsStrictReply before lines texts after
+    → AreReplies IsReply before.world lines texts after.world
+replies_uncounted before after [] [] is = ap (λ (s : Strict). s.world) is
+replies_uncounted before after [] (text ∷ texts) is = absurd is
+replies_uncounted before after (line ∷ lines) [] is = absurd is
+replies_uncounted before after (line ∷ lines) (text ∷ texts) (between, (answered, taken, text_is, counted), rest) =
+    (between.world, (answered, taken, text_is), replies_uncounted between after lines texts rest)
+
+uncounted : (before after : Strict) (lines : List Line) (out : List ℕ) → IsReplies IsStrictReply before lines out after
+    → IsReplies IsReply before.world lines out after.world
+uncounted before after lines out (texts, is, replies) = (texts, is, replies_uncounted before after lines texts replies)
+
+-- of a run that answered its whole input
+served_uncounted : (before after : Strict) (bytes : List ℕ) (old new : Option (List ℕ)) → Served IsStrictReply before bytes after old new
+    → Served IsReply before.world bytes after.world old new
+served_uncounted before after bytes old new served = record {
+  kept = served.kept;
+  out = served.out;
+  replied = uncounted before after _ _ served.replied;
+  written = served.written;
+}
+
+-- of one that stopped at a place
+stopped_uncounted : (fault : ServeFault) (before : Strict) (bytes out : List ℕ) → Stopped IsStrictReply fault [] 0 before bytes out
+    → Stopped IsReply fault [] 0 before.world bytes out
+stopped_uncounted fault before bytes out stopped = record {
+  good = stopped.good;
+  bad = stopped.bad;
+  cut = stopped.cut;
+  why = stopped.why;
+  kept = stopped.kept;
+  after = stopped.after.world;
+  replied = uncounted before stopped.after _ _ stopped.replied;
+}
+
+-- and of one that a fault ended
+ended_uncounted : (fault : ServeFault) (before : Strict) (bytes : List ℕ) (old new : Option (List ℕ)) → Ended IsStrictReply fault before bytes old new
+    → Ended IsReply fault before.world bytes old new
+ended_uncounted faults.Read before bytes old new (kept, (out, written, (after, replied))) =
+    (kept, (out, written, (after.world, uncounted before after _ _ replied)))
+ended_uncounted faults.Write before bytes old new wrote = record {
+  answered = wrote.answered;
+  unanswered = wrote.unanswered;
+  cut = wrote.cut;
+  kept = wrote.kept;
+  out = wrote.out;
+  unwritten = wrote.unwritten;
+  after = wrote.after.world;
+  replied = uncounted before wrote.after _ _ wrote.replied;
+  written = wrote.written;
+}
+ended_uncounted faults.Memory before bytes old new (out, written, stopped) = (out, written, stopped_uncounted _ before bytes out stopped)
+ended_uncounted faults.TooManyLines before bytes old new (out, written, stopped) = (out, written, stopped_uncounted _ before bytes out stopped)
+ended_uncounted faults.LineTooLong before bytes old new (out, written, stopped) = (out, written, stopped_uncounted _ before bytes out stopped)
+ended_uncounted faults.Start before bytes old new (out, written, stopped) = (out, written, stopped_uncounted _ before bytes out stopped)
+
+module _ (before after : Strict) (world : Open) (begins : before.world ≡ world) (old new : Option (List ℕ)) where
+  -- the same of a run over an input that may be known
+  pub served_input : (input : Option (List ℕ)) → IfSome input (λ bytes. Served IsStrictReply before bytes after old new)
+      → IfSome input (λ bytes. (last : Open) × Served IsReply world bytes last old new)
+  served_input None served = served
+  served_input (Some bytes) served =
+      (after.world, subst (λ w. Served IsReply w bytes after.world old new) begins (served_uncounted before after bytes old new served))
+
+  -- and of one that a fault ended
+  pub ended_input : (fault : ServeFault) (input rest : Option (List ℕ))
+      → ((bytes : List ℕ) × Consumes input rest bytes × Ended IsStrictReply fault before bytes old new)
+      → (bytes : List ℕ) × Consumes input rest bytes × Ended IsReply fault world bytes old new
+  ended_input fault input rest (bytes, consumed, ended) =
+      (bytes, consumed, subst (λ w. Ended IsReply fault w bytes old new) begins (ended_uncounted fault before bytes old new ended))

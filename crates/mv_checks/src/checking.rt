@@ -1,0 +1,96 @@
+//! Checks messages, a line each.
+
+ghost use Rattle.std.specs.Prelude.{◌≡◌, ℕ, List, true, IfOk, IfErr, IfSome};
+ghost use Rattle.std.specs.Io.KnownBytes.{Appends, Consumes};
+ghost use Rattle.mv_json.specs.Messages.{read_bytes};
+ghost use Rattle.mv_json.specs.Reading.{GivesOr};
+ghost use Rattle.mv_lines.specs.Served.{Served, Ended};
+ghost use Rattle.mv_checks.specs.Checks.{IsChecked, are_messages, refusals_of};
+
+use crate::refusing::append_refusal;
+use json::Scratch;
+use mv_json::MessageFault;
+use mv_lines::{Answering, ServeFault, answer_lines};
+use mv_message::Message;
+use std::alloc::{AllocError, Global};
+use std::io::{Read, Write};
+use std::marker::Model;
+
+/// What checks messages, seen as whether each line so far is one.
+#[derive(Drop)]
+struct Checker {
+    /// What memory is got from.
+    alloc: Global,
+    /// In which messages are read.
+    scratch: Scratch,
+    /// Whether each line so far is a message.
+    all_messages: bool,
+}
+
+impl Model for Checker {
+    ghost use Rattle.std.specs.Prelude.{Bool};
+
+    ghost Value = { Bool };
+
+    ghost view = { λ c. c.all_messages };
+}
+
+impl Answering for Checker {
+    ghost replies = { IsChecked };
+
+    fn answer(&mut self, number: u32, line: &[u8], out: &mut Vec<u8>) -> Result<bool, AllocError> {
+        match self.read(line) {
+            Ok(_) => Ok(false),
+            Err(MessageFault::Memory) => Err(AllocError),
+            Err(fault) => {
+                append_refusal(self.alloc, out, &fault, number)?;
+                self.all_messages = false;
+                Ok(true)
+            }
+        }
+    }
+}
+
+impl Checker {
+    /// Reads a message: by its tokens, and what these give no message of by its value.
+    fn read(&mut self, line: &[u8]) -> Result<Message, MessageFault>
+        ensures read { GivesOr result (read_bytes line.now) MessageFault.Memory }
+        ensures same { self.new ≡ self.old }
+    {
+        match mv_json::read_by_tokens(self.alloc, &mut self.scratch, line) {
+            Some(message) => Ok(message),
+            None => mv_json::read(self.alloc, line),
+        }
+    }
+}
+
+/// Writes the refusal of each message that is refused, with the number of its line, in order, each ended by a line feed, and nothing
+/// else. It answers whether each line is a message; an empty line is none that counts.
+///
+/// The lines, their limits, and what a fault leaves are as for `serve` of `mv_lines`. Memory that is refused is V3, also within a
+/// message.
+pub fn check<R: Read, W: Write>(
+    alloc: Global,
+    reader: &mut R,
+    writer: &mut W,
+) -> Result<bool, ServeFault>
+    ensures texts { IfOk result (λ _. IfSome (R.remaining reader.old) (λ bytes.
+        Appends (W.contents writer.old) (W.contents writer.new) (refusals_of bytes))) }
+    ensures all { IfOk result (λ all_messages. IfSome (R.remaining reader.old) (λ bytes.
+        all_messages ≡ are_messages bytes)) }
+    // The input had no line over the limits.
+    ensures ok { IfOk result (λ all_messages. IfSome (R.remaining reader.old) (λ bytes.
+        Served IsChecked true bytes all_messages (W.contents writer.old) (W.contents writer.new))) }
+    // The bytes are those that were read. The refusals of which of their lines went out, the fault says.
+    ensures err { IfErr result (λ fault. (bytes : List ℕ)
+        × Consumes (R.remaining reader.old) (R.remaining reader.new) bytes
+        × Ended IsChecked fault true bytes (W.contents writer.old) (W.contents writer.new)) }
+{
+    let mut checker = Checker {
+        alloc,
+        scratch: Scratch::new(alloc),
+        all_messages: true,
+    };
+    answer_lines(alloc, &mut checker, reader, writer)?;
+    Ok(checker.all_messages)
+}

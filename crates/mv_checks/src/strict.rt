@@ -1,0 +1,106 @@
+//! Runs steps, and counts the lines that were not taken.
+
+ghost use Rattle.std.specs.Prelude.{◌≡◌, ℕ, List, None, Some, OnOk, IfErr, IfSome, true};
+ghost use Rattle.std.specs.Io.KnownBytes.{Consumes};
+ghost use Rattle.mv_lines.specs.Served.{Served, Ended};
+ghost use Rattle.mv_lines.specs.Sessions.{Open, IsReply};
+ghost use Rattle.mv_checks.specs.Strict.{IsStrictReply, strict_at, tallied};
+
+use crate::answers::append_answer;
+use mv_lines::{Answering, ServeFault, Session, answer_lines};
+use std::alloc::{AllocError, Global};
+use std::io::{Read, Write};
+use std::marker::Model;
+use std::mem;
+
+/// Lines of a run that were not taken: refused by an M, C, H or O, or by S14.
+#[derive(Clone, Copy, Debug, PartialEq, Eq)]
+pub struct Untaken {
+    /// How many they are.
+    pub count: u32,
+    /// The number of the first, counted from one, with the empty lines.
+    pub first: u32,
+}
+
+/// How a strict run ended.
+#[derive(Clone, Copy, Debug, PartialEq, Eq)]
+pub struct StrictRun {
+    /// Whether a fault ended it.
+    pub ended: Result<(), ServeFault>,
+    /// The lines that were not taken, where there are any.
+    pub untaken: Option<Untaken>,
+}
+
+/// What answers steps, and counts.
+#[derive(Drop)]
+struct Counted {
+    /// What memory is got from.
+    alloc: Global,
+    /// What is open.
+    session: Session,
+    /// The lines so far that were not taken.
+    untaken: Option<Untaken>,
+}
+
+impl Model for Counted {
+    ghost use Rattle.mv_checks.specs.Strict.{Strict, strict_at};
+
+    ghost Value = { Strict };
+
+    ghost view = { λ c. strict_at c.session c.untaken };
+}
+
+impl Answering for Counted {
+    ghost replies = { IsStrictReply };
+
+    fn answer(&mut self, number: u32, line: &[u8], out: &mut Vec<u8>) -> Result<bool, AllocError> {
+        let answered = self.session.take(line)?;
+        append_answer(self.alloc, out, &answered)?;
+        if answered.is_refused() {
+            self.untaken = Some(tallied(self.untaken, number));
+        }
+        Ok(true)
+    }
+}
+
+/// The lines that were not taken, with one more.
+fn tallied(untaken: Option<Untaken>, number: u32) -> Untaken
+    ensures { Some result ≡ tallied true number untaken }
+{
+    match untaken {
+        None => Untaken {
+            count: 1,
+            first: number,
+        },
+        Some(untaken) => Untaken {
+            count: untaken.count.saturating_add(1),
+            first: untaken.first,
+        },
+    }
+}
+
+/// Does what `serve` of `mv_lines` does, and says which lines were not taken, also where a fault ended the run.
+///
+/// It is the last thing in a process: what is open at the end is not taken apart, since the process gives all its memory back at once.
+pub fn serve_strict<R: Read, W: Write>(alloc: Global, reader: &mut R, writer: &mut W) -> StrictRun
+    // The replies are those of `serve`.
+    ensures ok { OnOk result.ended (IfSome (R.remaining reader.old) (λ bytes. (after : Open)
+        × Served IsReply None bytes after (W.contents writer.old) (W.contents writer.new))) }
+    // The lines that were not taken are those of these replies.
+    ensures untaken { OnOk result.ended (IfSome (R.remaining reader.old) (λ bytes. (after : Open)
+        × Served IsStrictReply (strict_at None None) bytes (strict_at after result.untaken)
+        (W.contents writer.old) (W.contents writer.new))) }
+    ensures err { IfErr result.ended (λ fault. (bytes : List ℕ)
+        × Consumes (R.remaining reader.old) (R.remaining reader.new) bytes
+        × Ended IsReply fault None bytes (W.contents writer.old) (W.contents writer.new)) }
+{
+    let mut counted = Counted {
+        alloc,
+        session: Session::new(alloc),
+        untaken: None,
+    };
+    let ended = answer_lines(alloc, &mut counted, reader, writer);
+    let untaken = counted.untaken;
+    mem::forget(counted);
+    StrictRun { ended, untaken }
+}

@@ -1,0 +1,109 @@
+-- What `next` gives is one step of the pack's state, so the place of one entry is all that has to be kept of it.
+use Rattle.std.proofs.Common.{◌≡◌, ℕ, List, [], ◌∷◌, refl, sym, ◌∙◌, ap, subst, Bool, true, false, cond, Option, Some, None, IfSome, true≢false, fold}
+use Rattle.std.specs.Option.{option_map, option_map_or}
+use Rattle.mv_pack.specs.declared.key.PackKey.{PackKey}
+use Rattle.mv_pack.specs.declared.key.BatchKey.{BatchKey}
+use Rattle.mv_message.specs.declared.standing.Standing.{Standing}
+use Rattle.mv_message.specs.declared.standing.Standing.TheVariants as standings
+use Rattle.mv_message.specs.declared.message.Message.TheVariants.{Upload, Status}
+use Rattle.mv_link.specs.declared.item.Item.{Item}
+use Rattle.mv_link.specs.declared.item.Item.TheVariants.{Carried}
+use Rattle.mv_repository.specs.declared.effect.Effect.TheVariants as effects
+use Rattle.mv_repository.specs.declared.stops.BatchStanding.{BatchStanding}
+use Rattle.mv_pack.specs.Keys.{batch_key}
+use Rattle.mv_repository.specs.Order.{Placed, stands_before}
+use Rattle.mv_repository.specs.Pack.{KnownPack, is_active, is_done, change_effect}
+use Rattle.mv_repository.specs.State.{pack_made_by, standing_in, change_in, known_at, effect_by, next_by}
+use Rattle.mv_repository.specs.Stops.{FirstStops, standing_at}
+use Rattle.mv_repository.specs.Track.{pack_changed, pack_step, pack_grown}
+
+active-only : (to : Standing) → is_active to ≡ true → to ≡ standings.Active
+active-only standings.Active e = refl
+active-only _ e = absurd (true≢false (sym e))
+
+-- a pack of an upload, as it stands by the item of a sender at a place
+abbrev stood : Option KnownPack → ℕ → ℕ → Item → Option KnownPack
+stood made place sender item =
+    option_map (λ (made : KnownPack). record made { standing = standing_in item; change = change_in place sender item }) made
+
+-- by its own upload a pack stands active, and never changed
+fresh_item : (item : Item) (place sender : ℕ) → IfSome (pack_made_by item) (λ made. (made.standing ≡ standings.Active) × (made.change ≡ None) × (stood (pack_made_by item) place sender item ≡ Some made))
+fresh_item (Carried k stamp (Upload gtin batch expiry national serials)) place sender = (refl, refl, refl)
+fresh_item _ place sender = tt
+
+pub born : (birth : Placed) → known_at birth birth ≡ pack_made_by birth.entry.item
+born birth = by birth.entry.item
+  where
+    by : (item : Item) → stood (pack_made_by item) birth.place birth.entry.sender item ≡ pack_made_by item
+    by (Carried k stamp (Upload gtin batch expiry national serials)) = refl
+    by _ = refl
+
+module _ (stops : FirstStops) (pack : PackKey) (birth by placed : Placed) (made : KnownPack) (is : pack_made_by birth.entry.item ≡ Some made) where
+  fresh : (made.standing ≡ standings.Active) × (made.change ≡ None) × (stood (pack_made_by birth.entry.item) birth.place birth.entry.sender birth.entry.item ≡ Some made)
+  fresh = subst (λ (o : Option KnownPack). IfSome o (λ made. (made.standing ≡ standings.Active) × (made.change ≡ None) × (stood (pack_made_by birth.entry.item) birth.place birth.entry.sender birth.entry.item ≡ Some made))) is
+      (fresh_item birth.entry.item birth.place birth.entry.sender)
+
+  abbrev held : KnownPack
+  held = record made { standing = standing_in by.entry.item; change = change_in by.place by.entry.sender by.entry.item }
+
+  known_by : known_at birth by ≡ Some held
+  known_by = ap (λ (o : Option KnownPack). stood o by.place by.entry.sender by.entry.item) is
+
+  abbrev standing : BatchKey → BatchStanding
+  standing = standing_at stops placed
+
+  done : (key : PackKey) (k stamp : ℕ) (to : Standing) (user : List ℕ) (at : ℕ) → placed.entry.item ≡ Carried k stamp (Status key to user at) → (d a : Bool) → is_active to ≡ a
+      → known_at birth (cond d (cond a birth placed) by)
+      ≡ Some (cond d (record held { standing = to; change = cond a None (Some (record { by = placed.entry.sender; user = user; at = at; entry = placed.place })) }) held)
+  done key k stamp to user at e false a h = known_by
+  done key k stamp to user at e true true h = fresh.2 ∙ (λ i. Some (record made { standing = (fresh.0 ∙ sym (active-only to h)) i; change = fresh.1 i }))
+  done key k stamp to user at e true false h = (λ i. stood (is i) placed.place placed.entry.sender (e i))
+
+  stepped : (b : Bool) (item : Item) → placed.entry.item ≡ item
+      → known_at birth (cond (is_done (cond b (effect_by standing placed.entry.sender item pack.gtin held) effects.Unknown)) (cond (is_active (standing_in item)) birth placed) by)
+      ≡ Some (cond b (pack_changed standing placed.place placed.entry.sender item pack held) held)
+  stepped false item e = known_by
+  stepped true (Carried k stamp (Status key to user at)) e = done key k stamp to user at e (is_done (change_effect held (standing (batch_key pack.gtin made.batch)) to placed.entry.sender user at)) (is_active to) refl
+  stepped true _ e = known_by
+
+  next_made : known_at birth (next_by stops pack.gtin (Some birth) by placed) ≡ option_map (λ held. pack_step stops pack birth held placed) (known_at birth by)
+  next_made =
+      ap (λ (o : Option KnownPack). known_at birth (cond (is_done (cond (stands_before birth placed) (option_map_or (effect_by standing placed.entry.sender placed.entry.item pack.gtin) o effects.Unknown) effects.Unknown))
+      (cond (is_active (standing_in placed.entry.item)) birth placed) by)) known_by
+      ∙ stepped (stands_before birth placed) placed.entry.item refl
+      ∙ ap (option_map (λ held. pack_step stops pack birth held placed)) (sym known_by)
+
+-- the next entry by which a pack stands is one step of its state
+pub next-step : (stops : FirstStops) (pack : PackKey) (birth by placed : Placed)
+    → known_at birth (next_by stops pack.gtin (Some birth) by placed) ≡ option_map (λ held. pack_step stops pack birth held placed) (known_at birth by)
+next-step stops pack birth by placed = made (pack_made_by birth.entry.item) refl
+  where
+    made : (o : Option KnownPack) → pack_made_by birth.entry.item ≡ o
+        → known_at birth (next_by stops pack.gtin (Some birth) by placed) ≡ option_map (λ held. pack_step stops pack birth held placed) (known_at birth by)
+    made (Some one) e = next_made stops pack birth by placed one e
+    made None e =
+        let none : (x : Placed) → known_at birth x ≡ None = λ x. ap (λ (o : Option KnownPack). stood o x.place x.entry.sender x.entry.item) e in
+        none (next_by stops pack.gtin (Some birth) by placed) ∙ ap (option_map (λ held. pack_step stops pack birth held placed)) (sym (none by))
+
+map_self : (o : Option KnownPack) → option_map (λ one. one) o ≡ o
+map_self None = refl
+map_self (Some one) = refl
+
+map_twice : (f g : KnownPack → KnownPack) (o : Option KnownPack) → option_map (λ held. g (f held)) o ≡ option_map g (option_map f o)
+map_twice f g None = refl
+map_twice f g (Some one) = refl
+
+-- and all of them, one after another, are the state
+pub grown-from : (stops : FirstStops) (pack : PackKey) (birth by : Placed) (xs : List Placed)
+    → option_map (λ held. fold (pack_step stops pack birth) held xs) (known_at birth by) ≡ known_at birth (fold (next_by stops pack.gtin (Some birth)) by xs)
+grown-from stops pack birth by [] = map_self (known_at birth by)
+grown-from stops pack birth by (x ∷ xs) =
+    map_twice (λ held. pack_step stops pack birth held x) (λ held. fold (pack_step stops pack birth) held xs) (known_at birth by)
+    ∙ ap (option_map (λ held. fold (pack_step stops pack birth) held xs)) (sym (next-step stops pack birth by x))
+    ∙ grown-from stops pack birth (next_by stops pack.gtin (Some birth) by x) xs
+
+-- a pack by its first upload and its statuses is what stands by the last of these entries
+pub grown-by : (stops : FirstStops) (pack : PackKey) (birth : Placed) (xs : List Placed)
+    → pack_grown stops pack (Some birth) xs ≡ known_at birth (fold (next_by stops pack.gtin (Some birth)) birth xs)
+grown-by stops pack birth xs =
+    ap (option_map (λ held. fold (pack_step stops pack birth) held xs)) (sym (born birth)) ∙ grown-from stops pack birth birth xs

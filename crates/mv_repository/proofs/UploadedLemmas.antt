@@ -1,0 +1,270 @@
+-- Uploads: which packs a log names, and how many of those that an upload names are new.
+use Rattle.std.specs.Prelude.{bytes_eq}
+use Rattle.std.proofs.Common.{◌≡◌, ℕ, ◌+◌, ◌<◌, ◌≤◌, List, [], ◌∷◌, ◌++◌, length, take, get_or, refl, sym, ◌∙◌, ap, arith, subst, append-nil, append_assoc, Bool, true, false, cond, not, ◌&&◌, ◌||◌, Option, Some, None, IfSome, is_some, IsSome, true≢false, find, filter, map, fold}
+use Rattle.std.specs.Cmp.{IsEquivalence}
+use Rattle.std.specs.Cmp.Lexicographic.{same_text, nat_list_eq_equiv}
+use Rattle.std.specs.List.{list_any, flat_map}
+use Rattle.std.specs.Option.{option_map}
+use Rattle.std.specs.Set.{distinct_count, is_member, unique_keys}
+use Rattle.std.proofs.lemmas.List.{take_more}
+use Rattle.std.proofs.lemmas.List.Elements.{filter-append}
+use Rattle.std.proofs.lemmas.Map.Made.{is_member-filter}
+use Rattle.std.proofs.lemmas.Map.Steps.{list_any_congr}
+use Rattle.mv_pack.specs.declared.key.PackKey.{PackKey}
+use Rattle.mv_message.specs.declared.message.Message.TheVariants.{Upload}
+use Rattle.mv_link.specs.declared.item.Item.{Item}
+use Rattle.mv_link.specs.declared.item.Item.TheVariants.{Carried}
+use Rattle.mv_repository.specs.declared.entry.LogEntry.{LogEntry}
+use Rattle.mv_pack.specs.Keys.{is_same_pack, pack_key}
+use Rattle.mv_repository.specs.Order.{Placed, passes, put_in, ordered}
+use Rattle.mv_repository.specs.Pack.{KnownPack}
+use Rattle.mv_repository.specs.PackState.{has_pack, known_pack}
+use Rattle.mv_repository.specs.Counts.{uploaded_in, uploaded_packs}
+use Rattle.mv_repository.specs.Effect.{entries_before}
+use Rattle.mv_repository.specs.Stops.{first_stops, is_before, place_of, no_entry, comes_first, earlier_place}
+use Rattle.mv_repository.specs.Shelf.{IsUploadOf, has, new_count}
+use Rattle.mv_repository.specs.State.{pack_made_by}
+use Rattle.mv_repository.specs.Track.{is_upload_of, first_upload, statuses_of, pack_step, pack_grown, track_of}
+use Rattle.mv_repository.proofs.OrderLemmas.{placed_after, ordered-below, still-stand}
+use Rattle.mv_repository.proofs.StateLemmas.{find-stand, upload-makes}
+use Rattle.mv_repository.proofs.KeptLemmas.{text-sym, earlier_first}
+use Rattle.mv_repository.proofs.TableLemmas.{longer, newest, newest-stands, find-some}
+use Rattle.mv_repository.proofs.BeforeLemmas.{stays_before, counted, counted-before, find-below, known-before}
+use Rattle.mv_repository.proofs.UploadLemmas.{upload-has, has-own}
+
+-- the order of stamps has one of a kind where the log has
+
+any-put_in : (f : Placed → Bool) (x : Placed) (xs : List Placed) → list_any f (put_in x xs) ≡ (f x || list_any f xs)
+any-put_in f x [] = refl
+any-put_in f x (y ∷ ys) =
+    elim (passes x y) as (λ b. list_any f (cond b (x ∷ y ∷ ys) (y ∷ put_in x ys)) ≡ (f x || (f y || list_any f ys))) [
+      | true ↦ refl
+      | false ↦ ap (λ b. f y || b) (any-put_in f x ys) ∙ swap (f y) (f x) (list_any f ys)
+    ]
+  where
+    swap : (a b c : Bool) → (a || (b || c)) ≡ (b || (a || c))
+    swap true true c = refl
+    swap true false c = refl
+    swap false b c = refl
+
+any-after : (f : Item → Bool) (xs : List Placed) (log : List LogEntry)
+    → list_any (λ placed. f placed.entry.item) (placed_after xs log) ≡ (list_any (λ placed. f placed.entry.item) xs || list_any (λ entry. f entry.item) log)
+any-after f xs [] = elim (list_any (λ placed. f placed.entry.item) xs) as (λ b. b ≡ (b || false)) [ true ↦ refl | false ↦ refl ]
+any-after f xs (entry ∷ log) =
+    any-after f (put_in (record { place = length xs; entry = entry }) xs) log
+    ∙ ap (λ b. b || list_any (λ entry. f entry.item) log) (any-put_in (λ placed. f placed.entry.item) (record { place = length xs; entry = entry }) xs)
+    ∙ shift (f entry.item) (list_any (λ placed. f placed.entry.item) xs) (list_any (λ entry. f entry.item) log)
+  where
+    shift : (a b c : Bool) → ((a || b) || c) ≡ (b || (a || c))
+    shift true true c = refl
+    shift true false c = refl
+    shift false b c = refl
+
+pub any-ordered : (f : Item → Bool) (log : List LogEntry) → list_any (λ placed. f placed.entry.item) (ordered log) ≡ list_any (λ entry. f entry.item) log
+any-ordered f log = any-after f [] log
+
+pub any-append : {K : Type 0} → (f : K → Bool) (xs ys : List K) → list_any f (xs ++ ys) ≡ (list_any f xs || list_any f ys)
+any-append f [] ys = refl
+any-append f (x ∷ xs) ys = elim (f x) as (λ b. (b || list_any f (xs ++ ys)) ≡ ((b || list_any f xs) || list_any f ys)) [ true ↦ refl | false ↦ any-append f xs ys ]
+
+-- the keys that a log's items name
+pub any-flat : {K : Type 0} → (f : K → Bool) (names : Item → List K) (g : Item → Bool) → ((item : Item) → list_any f (names item) ≡ g item) → (log : List LogEntry)
+    → list_any f (flat_map (λ (entry : LogEntry). names entry.item) log) ≡ list_any (λ (entry : LogEntry). g entry.item) log
+any-flat f names g same [] = refl
+any-flat f names g same (entry ∷ log) = any-append f (names entry.item) (flat_map (λ (entry : LogEntry). names entry.item) log) ∙ (λ i. same entry.item i || any-flat f names g same log i)
+
+pub uploaded-is : (pack : PackKey) (item : Item) → list_any (is_same_pack pack) (uploaded_in item) ≡ is_upload_of pack item
+uploaded-is pack (Carried k stamp (Upload gtin batch expiry national serials)) = packs serials
+  where
+    packs : (serials : List (List ℕ)) → list_any (is_same_pack pack) (map (pack_key gtin) serials) ≡ has_pack gtin serials pack
+    packs [] = elim (bytes_eq gtin pack.gtin) as (λ b. false ≡ (b && false)) [ true ↦ refl | false ↦ refl ]
+    packs (serial ∷ rest) = (λ i. (text-sym pack.gtin gtin i && text-sym pack.serial serial i) || packs rest i) ∙ spread (bytes_eq gtin pack.gtin) (bytes_eq serial pack.serial) (list_any (λ serial. bytes_eq serial pack.serial) rest)
+      where
+        spread : (a b c : Bool) → ((a && b) || (a && c)) ≡ (a && (b || c))
+        spread true b c = refl
+        spread false b c = refl
+uploaded-is pack _ = refl
+
+pub found-any : (f : Placed → Bool) (xs : List Placed) → is_some (option_map place_of (find f xs)) ≡ list_any f xs
+found-any f [] = refl
+found-any f (x ∷ xs) =
+    elim (f x) as (λ b. is_some (option_map place_of (cond b (Some x) (find f xs))) ≡ (b || list_any f xs)) [
+      | true ↦ refl
+      | false ↦ found-any f xs
+    ]
+
+pub uploaded-any : (log : List LogEntry) (pack : PackKey) → is_member is_same_pack (uploaded_packs log) pack ≡ list_any (λ (entry : LogEntry). is_upload_of pack entry.item) log
+uploaded-any log pack = any-flat (is_same_pack pack) uploaded_in (is_upload_of pack) (uploaded-is pack) log
+
+-- a pack has a first upload where a log names it
+pub uploaded-found : (log : List LogEntry) (pack : PackKey) → is_some (track_of pack log).birth ≡ is_member is_same_pack (uploaded_packs log) pack
+uploaded-found log pack =
+    found-any (λ placed. is_upload_of pack placed.entry.item) (ordered log) ∙ any-ordered (is_upload_of pack) log
+    ∙ sym (uploaded-any log pack)
+
+-- the newest entry comes first of its kind where none of the kind stands before it
+pub first-effect : (f : Placed → Bool) (log : List LogEntry) (entry : LogEntry) (first : Option ℕ) → first ≡ option_map place_of (find f (ordered log))
+    → comes_first (longer log entry) (length log) first ≡ not (is_before (find f (ordered log)) (newest log entry))
+first-effect f log entry first e =
+    ap (comes_first (longer log entry) (length log)) e
+    ∙ by (find f (ordered log)) (find-stand f (longer log entry) (ordered log) (still-stand log entry))
+    ∙ ap not (counted-before (newest log entry) (find f (ordered log)) (find-below f (length log) (ordered log) (ordered-below log)))
+  where
+    by : (o : Option Placed) → IfSome o (λ y. get_or (longer log entry) y.place no_entry ≡ y.entry) → comes_first (longer log entry) (length log) (option_map place_of o) ≡ not (is_some (counted (newest log entry) o))
+    by None s = refl
+    by (Some y) s =
+        (λ i. passes (record { place = length log; entry = newest-stands log entry i }) (record y { entry = s i }))
+        ∙ elim (passes (newest log entry) y) as (λ b. b ≡ not (is_some (cond b None (Some y)))) [ true ↦ refl | false ↦ refl ]
+
+-- a pack is absent before the newest entry where that comes before its first upload
+pub absent-before : (log : List LogEntry) (entry : LogEntry) (pack : PackKey)
+    → comes_first (longer log entry) (length log) (track_of pack log).birth ≡ not (is_some (known_pack pack (entries_before log entry)))
+absent-before log entry pack =
+    first-effect (λ placed. is_upload_of pack placed.entry.item) log entry (track_of pack log).birth refl
+    ∙ ap not (sym (counted-before (newest log entry) (first_upload pack (ordered log)) (find-below (λ placed. is_upload_of pack placed.entry.item) (length log) (ordered log) (ordered-below log))))
+    ∙ ap not (made (counted (newest log entry) (first_upload pack (ordered log))) (counted-is (newest log entry) (first_upload pack (ordered log)) (find-is (ordered log))))
+    ∙ ap (λ o. not (is_some o)) (sym (known-before log entry pack))
+  where
+    find-is : (xs : List Placed) → IfSome (first_upload pack xs) (λ y. is_upload_of pack y.entry.item ≡ true)
+    find-is [] = tt
+    find-is (y ∷ ys) = by (is_upload_of pack y.entry.item) refl (find-is ys)
+      where
+        by : (b : Bool) → is_upload_of pack y.entry.item ≡ b → IfSome (first_upload pack ys) (λ y. is_upload_of pack y.entry.item ≡ true) → IfSome (cond b (Some y) (first_upload pack ys)) (λ y. is_upload_of pack y.entry.item ≡ true)
+        by true e r = e
+        by false e r = r
+
+    counted-is : (x : Placed) (o : Option Placed) → IfSome o (λ y. is_upload_of pack y.entry.item ≡ true) → IfSome (counted x o) (λ y. is_upload_of pack y.entry.item ≡ true)
+    counted-is x None h = tt
+    counted-is x (Some y) h = elim (passes x y) as (λ b. IfSome (cond b None (Some y)) (λ y. is_upload_of pack y.entry.item ≡ true)) [ true ↦ tt | false ↦ h ]
+
+    made : (o : Option Placed) → IfSome o (λ y. is_upload_of pack y.entry.item ≡ true)
+        → is_some o ≡ is_some (pack_grown (first_stops (ordered log)) pack o (filter (stays_before (newest log entry)) (statuses_of pack (ordered log))))
+    made None h = refl
+    made (Some y) h = sym (is_some-map (pack_made_by y.entry.item) (upload-makes pack y.entry.item h))
+      where
+        is_some-map : (o : Option KnownPack) → IsSome o → is_some (option_map (λ held. fold (pack_step (first_stops (ordered log)) pack y) held (filter (stays_before (newest log entry)) (statuses_of pack (ordered log)))) o) ≡ true
+        is_some-map (Some held) h = refl
+        is_some-map None h = absurd (true≢false (sym h))
+
+module _ {K : Type 0} (eq : K → K → Bool) (laws : IsEquivalence eq) where
+  push_member : (xs : List K) (x y : K) → is_member eq (xs ++ y ∷ []) x ≡ (is_member eq xs x || eq x y)
+  push_member [] x y = elim (eq x y) as (λ b. (b || false) ≡ b) [ true ↦ refl | false ↦ refl ]
+  push_member (z ∷ zs) x y = elim (eq x z) as (λ b. (b || is_member eq (zs ++ y ∷ []) x) ≡ ((b || is_member eq zs x) || eq x y)) [ true ↦ refl | false ↦ push_member zs x y ]
+
+  length-cond : (b : Bool) (x : K) (xs : List K) → length (cond b xs (x ∷ xs)) ≡ cond b (length xs) (length xs + 1)
+  length-cond true x xs = refl
+  length-cond false x xs = omega arith
+
+  -- one more, y, where x of the list is the same as y or not (b), and is in the rest or not (c), and y is in the rest or not (m)
+  push_count : (b c m : Bool) (n size : ℕ) → n ≡ size + cond m 0 1 → (b ≡ true → m ≡ c) → cond (c || b) n (n + 1) ≡ cond c size (size + 1) + cond (b || m) 0 1
+  push_count true true true n size e h = omega (arith, e)
+  push_count true true false n size e h = absurd (true≢false (sym (h refl)))
+  push_count true false true n size e h = absurd (true≢false (h refl))
+  push_count true false false n size e h = omega (arith, e)
+  push_count false true true n size e h = omega (arith, e)
+  push_count false true false n size e h = omega (arith, e)
+  push_count false false true n size e h = omega (arith, e)
+  push_count false false false n size e h = omega (arith, e)
+
+  -- one key more, counted once
+  pub distinct_push : (xs : List K) (y : K) → distinct_count eq (xs ++ y ∷ []) ≡ distinct_count eq xs + cond (is_member eq xs y) 0 1
+  distinct_push [] y = refl
+  distinct_push (x ∷ xs) y =
+      length-cond (is_member eq (xs ++ y ∷ []) x) x (unique_keys eq (xs ++ y ∷ []))
+      ∙ ap (λ b. cond b (distinct_count eq (xs ++ y ∷ [])) (distinct_count eq (xs ++ y ∷ []) + 1)) (push_member xs x y ∙ ap (λ b. is_member eq xs x || b) (laws.symm x y))
+      ∙ push_count (eq y x) (is_member eq xs x) (is_member eq xs y) (distinct_count eq (xs ++ y ∷ [])) (distinct_count eq xs) (distinct_push xs y) (λ e. list_any_congr laws y x xs e)
+      ∙ ap (λ n. n + cond (eq y x || is_member eq xs y) 0 1) (sym (length-cond (is_member eq xs x) x (unique_keys eq xs)))
+
+  -- keys that pass a test add nothing where they are there already, and any keys at most as many as they are
+  module _ (f : K → Bool) (same : (a b : K) → eq a b ≡ true → f a ≡ f b) where
+    pub covers-count : (xs ys : List K) → ((q : K) → f q ≡ true → is_member eq xs q ≡ true) → distinct_count eq (filter f (xs ++ ys)) ≡ distinct_count eq (filter f xs)
+    covers-count xs [] h = ap (λ (l : List K). distinct_count eq (filter f l)) (append-nil xs)
+    covers-count xs (y ∷ ys) h =
+        ap (λ (l : List K). distinct_count eq (filter f l)) (sym (append_assoc xs (y ∷ []) ys))
+        ∙ covers-count (xs ++ y ∷ []) ys (λ q e. push_member xs q y ∙ ap (λ b. b || eq q y) (h q e))
+        ∙ ap (distinct_count eq) (filter-append f xs (y ∷ []))
+        ∙ by (f y) refl
+      where
+        by : (b : Bool) → f y ≡ b → distinct_count eq (filter f xs ++ cond b (y ∷ []) []) ≡ distinct_count eq (filter f xs)
+        by false e = ap (distinct_count eq) (append-nil (filter f xs))
+        by true e =
+            let there : is_member eq (filter f xs) y ≡ true = is_member-filter laws f y (λ x e. same y x e) xs ∙ (λ i. h y e i && e i) in
+            let more = distinct_push (filter f xs) y ∙ ap (λ b. distinct_count eq (filter f xs) + cond b 0 1) there in
+            omega (arith, more)
+
+  pub more-count : (xs ys : List K) → distinct_count eq (xs ++ ys) ≤ distinct_count eq xs + length ys
+  more-count xs [] = let e = ap (distinct_count eq) (append-nil xs) in omega (arith, e)
+  more-count xs (y ∷ ys) =
+      let e = ap (distinct_count eq) (append_assoc xs (y ∷ []) ys) in
+      let rest = more-count (xs ++ y ∷ []) ys in
+      let one = distinct_push xs y in
+      let least : cond (is_member eq xs y) 0 1 ≤ 1 = elim (is_member eq xs y) as (λ b. cond b 0 1 ≤ 1) [ true ↦ omega arith | false ↦ omega arith ] in
+      omega (arith, e, rest, one, least)
+
+-- one serial number more
+module _ (log : List LogEntry) (entry : LogEntry) (gtin : List ℕ) (serials : List (List ℕ)) (upload : IsUploadOf entry.item gtin serials) where
+  abbrev pub More : List LogEntry → ℕ → Type 0
+  More whole place =
+      (at count : ℕ) (is_new : Bool) → at < length serials
+      → is_new ≡ comes_first whole place (track_of (pack_key gtin (get_or serials at [])) (cond (has (take at serials) (get_or serials at [])) whole log)).birth
+      → count ≡ new_count log entry gtin (take at serials) → cond is_new (count + 1) count ≡ new_count log entry gtin (take (at + 1) serials)
+
+  more_newest : More (longer log entry) (length log)
+  more_newest i count is_new l e h =
+      (λ j. cond ((e ∙ seen) j) (h j + 1) (h j))
+      ∙ by (has (take i serials) s) (absent s) refl
+      ∙ ap (λ (xs : List (List ℕ)). distinct_count bytes_eq xs) (sym (ap (filter absent) (take_more serials i [] l) ∙ filter-append absent (take i serials) (s ∷ [])))
+    where
+      s : List ℕ
+      s = get_or serials i []
+
+      key : PackKey
+      key = pack_key gtin s
+
+      absent : List ℕ → Bool
+      absent serial = not (is_some (known_pack (pack_key gtin serial) (entries_before log entry)))
+
+      front : List (List ℕ)
+      front = filter absent (take i serials)
+
+      birth : (track_of key (longer log entry)).birth ≡ earlier_place (longer log entry) (length log) (track_of key log).birth
+      birth = find-some (λ placed. is_upload_of key placed.entry.item) log entry (upload-has entry.item gtin serials upload s ∙ has-own serials i l)
+
+      seen : comes_first (longer log entry) (length log) (track_of key (cond (has (take i serials) s) (longer log entry) log)).birth ≡ (not (has (take i serials) s) && absent s)
+      seen = cases (has (take i serials) s)
+        where
+          cases : (b : Bool) → comes_first (longer log entry) (length log) (track_of key (cond b (longer log entry) log)).birth ≡ (not b && absent s)
+          cases true = ap (comes_first (longer log entry) (length log)) birth ∙ earlier_first (longer log entry) (length log) (track_of key log).birth
+          cases false = absent-before log entry key
+
+      among : (xs : List (List ℕ)) → has xs s ≡ is_member bytes_eq xs s
+      among [] = refl
+      among (x ∷ xs) = λ j. (text-sym x s j || among xs j)
+
+      has_is : has (take i serials) s ≡ is_member bytes_eq (take i serials) s
+      has_is = among (take i serials)
+
+      member : is_member bytes_eq front s ≡ (is_member bytes_eq (take i serials) s && absent s)
+      member = is_member-filter nat_list_eq_equiv absent s (λ x e. ap absent (same_text s x (sym e))) (take i serials)
+
+      by : (b c : Bool) → absent s ≡ c → cond (not (has (take i serials) s) && c) (distinct_count bytes_eq front + 1) (distinct_count bytes_eq front)
+          ≡ distinct_count bytes_eq (front ++ cond c (s ∷ []) [])
+      by b false a = elim (not (has (take i serials) s)) as (λ t. cond (t && false) (distinct_count bytes_eq front + 1) (distinct_count bytes_eq front) ≡ distinct_count bytes_eq (front ++ [])) [
+        | true ↦ ap (distinct_count bytes_eq) (sym (append-nil front))
+        | false ↦ ap (distinct_count bytes_eq) (sym (append-nil front))
+      ]
+      by b true a =
+          ap (λ t. cond (not t && true) (distinct_count bytes_eq front + 1) (distinct_count bytes_eq front)) (has_is ∙ and_true (is_member bytes_eq (take i serials) s) ∙ ap (λ t. is_member bytes_eq (take i serials) s && t) (sym a) ∙ sym member)
+          ∙ count_cases (is_member bytes_eq front s) (distinct_count bytes_eq front)
+          ∙ sym (distinct_push bytes_eq nat_list_eq_equiv front s)
+        where
+          and_true : (t : Bool) → t ≡ (t && true)
+          and_true true = refl
+          and_true false = refl
+
+          count_cases : (t : Bool) (n : ℕ) → cond (not t && true) (n + 1) n ≡ n + cond t 0 1
+          count_cases true n = omega arith
+          count_cases false n = omega arith
+
+  pub new-more : (whole : List LogEntry) (place : ℕ) → whole ≡ longer log entry → place ≡ length log → More whole place
+  new-more whole place e n = subst (λ (w : List LogEntry). More w place) (sym e) (subst (λ (m : ℕ). More (longer log entry) m) (sym n) more_newest)

@@ -1,0 +1,12 @@
+-- A shelf with no pack changes nothing.
+use Rattle.std.specs.Prelude.{bytes_eq}
+use Rattle.std.proofs.Common.{◌≡◌, rules, None}
+use Rattle.std.specs.Map.{lookup}
+use Rattle.mv_repository.proofs.ShelvesLemmas.{IsShelved, shelf-none}
+use Rattle.mv_repository.proofs.shelves.add_shelf.Goals as goal
+
+pub returns-in_ok-insert-clause-same : goal.returns-in_ok-insert-clause-same
+returns-in_ok-insert-clause-same c =
+    let none : lookup (bytes_eq c.args.gtin) c.args.shelves.now.entries ≡ None = search rules in
+    let looks : IsShelved c.args.shelves.now.entries c.insert.new.self.entries c.args.gtin c.new.result = λ other. search rules in
+    shelf-none c.args.shelves.now.entries c.insert.new.self.entries c.args.gtin c.new.result looks c.new.ensures none

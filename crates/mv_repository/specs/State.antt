@@ -1,0 +1,84 @@
+-- By which entry a pack stands: by the upload that made it, or by the status that changed it last. The place of that entry is
+-- the whole state of a pack whose upload is known.
+use Rattle.std.specs.Prelude.{ℕ, List, [], Option, Some, None, if◌then◌else◌}
+use Rattle.std.specs.Option.{option_map, option_map_or}
+use Rattle.mv_pack.specs.declared.key.BatchKey.{BatchKey}
+use Rattle.mv_message.specs.declared.standing.Standing.{Standing}
+use Rattle.mv_message.specs.declared.standing.Standing.TheVariants as standings
+use Rattle.mv_message.specs.declared.message.Message.TheVariants.{Upload, Status}
+use Rattle.mv_link.specs.declared.item.Item.{Item}
+use Rattle.mv_link.specs.declared.item.Item.TheVariants.{Carried}
+use Rattle.mv_repository.specs.declared.entry.LogEntry.{LogEntry}
+use Rattle.mv_repository.specs.declared.held.Held.{Held}
+use Rattle.mv_repository.specs.declared.held.Change.{Change}
+use Rattle.mv_repository.specs.declared.effect.Effect.{Effect}
+use Rattle.mv_repository.specs.declared.effect.Effect.TheVariants as effects
+use Rattle.mv_repository.specs.declared.stops.BatchStanding.{BatchStanding}
+use Rattle.mv_pack.specs.Keys.{batch_key}
+use Rattle.mv_repository.specs.Order.{Placed, stands_before}
+use Rattle.mv_repository.specs.Pack.{KnownPack, KnownChange, new_pack, is_active, is_done, change_effect}
+use Rattle.mv_repository.specs.PackState.{held_of}
+use Rattle.mv_repository.specs.Stops.{FirstStops, standing_at, entry_at}
+
+-- the pack that an upload makes; none where an item is no upload
+abbrev pub pack_made_by : Item → Option KnownPack
+pack_made_by (Carried k stamp (Upload gtin batch expiry national serials)) = Some (new_pack batch expiry national)
+pack_made_by _ = None
+
+-- how a pack stands that stands by an item: as a status asked, else active
+abbrev pub standing_in : Item → Standing
+standing_in (Carried k stamp (Status key to user at)) = to
+standing_in _ = standings.Active
+
+-- what took it from active, where it stands by a status of a sender at a place of the log
+abbrev pub change_in : ℕ → ℕ → Item → Option KnownChange
+change_in place sender (Carried k stamp (Status key to user at)) =
+    Some (record { by = sender; user = user; at = at; entry = place })
+change_in place sender _ = None
+
+-- the pack that an upload made, where it stands by an entry
+abbrev pub known_at : Placed → Placed → Option KnownPack
+known_at birth by =
+    option_map
+    (λ (made : KnownPack). record made { standing = standing_in by.entry.item; change = change_in by.place by.entry.sender by.entry.item })
+    (pack_made_by birth.entry.item)
+
+-- the same by places in a log, as a repository shows it
+abbrev pub held_at : List LogEntry → ℕ → ℕ → Option Held
+held_at log birth by = option_map held_of (known_at (entry_at log birth) (entry_at log by))
+
+-- the effect of an item on a pack that is held, where it is a status of it
+abbrev pub effect_by : (BatchKey → BatchStanding) → ℕ → Item → List ℕ → KnownPack → Effect
+effect_by standing sender (Carried k stamp (Status key to user at)) gtin held =
+    change_effect held (standing (batch_key gtin held.batch)) to sender user at
+effect_by standing sender _ gtin held = effects.Noted
+
+-- the effect of a status on a pack of a product, by its first upload and by the entry by which it stands; none stands
+-- before that upload
+abbrev pub effect_on : FirstStops → List ℕ → Option Placed → Placed → Placed → Effect
+effect_on stops gtin None by placed = effects.Unknown
+effect_on stops gtin (Some birth) by placed =
+    if stands_before birth placed
+    then option_map_or (effect_by (standing_at stops placed) placed.entry.sender placed.entry.item gtin) (known_at birth by) effects.Unknown
+    else effects.Unknown
+
+-- By which entry the pack stands then: a change is by the status, and a revert leaves the pack as its upload made it. Where
+-- there is no upload, the status itself is named.
+abbrev pub next_by : FirstStops → List ℕ → Option Placed → Placed → Placed → Placed
+next_by stops gtin None by placed = placed
+next_by stops gtin (Some birth) by placed =
+    if is_done (effect_on stops gtin (Some birth) by placed)
+    then (if is_active (standing_in placed.entry.item) then birth else placed)
+    else by
+
+-- what took a pack from active, with the user, who stands in the log
+abbrev pub user_in : Item → List ℕ
+user_in (Carried k stamp (Status key to user at)) = user
+user_in _ = []
+
+abbrev pub user_at : List LogEntry → ℕ → List ℕ
+user_at log place = user_in (entry_at log place).entry.item
+
+abbrev pub known_change : List LogEntry → Change → KnownChange
+known_change log change =
+    record { by = change.by; user = user_at log change.entry; at = change.at; entry = change.entry }

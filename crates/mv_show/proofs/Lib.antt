@@ -1,0 +1,5 @@
+pub mod NamingLemmas
+pub mod PlaceLemmas
+pub mod BlockLemmas
+pub mod LineLemmas
+pub mod ShowingLemmas

@@ -1,0 +1,11 @@
+use Rattle.std.proofs.Common.{◌≡◌, map, take}
+use Rattle.mv_pack.specs.Keys.{pack_key}
+use Rattle.indexmap.specs.IndexSet.{insert_all}
+use Rattle.mv_show.specs.declared.subject.Subject.TheVariants.{Pack}
+use Rattle.mv_show.specs.Subjects.{is_same_subject}
+use Rattle.mv_show.proofs.naming.note_packs.Given as goal
+
+-- the first packs are noted
+abbrev pub invariant-loop-serial : goal.invariant-loop-serial
+invariant-loop-serial l = l.subjects.keys
+    ≡ insert_all is_same_subject l.initial.subjects.keys (map (λ serial. Pack (pack_key l.gtin serial)) (take l.serial-index l.serial-items))

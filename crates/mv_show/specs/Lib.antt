@@ -1,0 +1,4 @@
+pub mod Subjects
+pub mod Shown
+pub mod Blocks
+pub mod Showing

@@ -1,0 +1,47 @@
+-- What a run that shows has read and written.
+use Rattle.std.specs.Prelude.{◌≡◌, ℕ, List, [], ◌∷◌, ◌⊎◌, Option, None, IfSome}
+use Rattle.std.specs.Io.KnownBytes.{Appends, Consumes}
+use Rattle.mv_lines.specs.declared.answered.Answered.{Answered}
+use Rattle.mv_lines.specs.declared.fault.ServeFault.{ServeFault}
+use Rattle.mv_lines.specs.declared.fault.ServeFault.TheVariants.{Read, Write, Memory}
+use Rattle.mv_lines.specs.Lines.{Line, lines_from, pieces, KeepLimits}
+use Rattle.mv_lines.specs.Output.{WrotePart}
+use Rattle.mv_lines.specs.Served.{Stopped}
+use Rattle.mv_lines.specs.Sessions.{Open, IsTaken}
+use Rattle.mv_show.specs.Shown.{shown_text}
+
+-- the line is taken as `steps` takes it, and nothing is written to it
+abbrev pub IsPassed : Open → Line → Option (List ℕ) → Open → Type 0
+IsPassed before line text after = (text ≡ None) × (answered : Answered) × IsTaken before line.bytes answered after
+
+-- the lines, taken one after another as `steps` takes them, lead from what is open before them to what is open after them
+abbrev pub Lead : Open → List Line → Open → Type 0
+Lead before [] after = after ≡ before
+Lead before (line ∷ lines) after = (answered : Answered) × (between : Open) × IsTaken before line.bytes answered between × Lead between lines after
+
+-- all lines of an input, which keep the limits, lead from what is open before them to this
+pub record LeadsTo (before : Open) (bytes : List ℕ) (after : Open) : Type 0 where
+  pub kept : KeepLimits 0 (pieces bytes)
+  pub led : Lead before (lines_from 0 (pieces bytes)) after
+
+-- why an input was not taken whole, of which these bytes were read: a read failed behind whole lines and what was begun, or at a place
+-- among the bytes one came that may not, or memory was refused
+abbrev pub Untaken : ServeFault → Open → List ℕ → Type 0
+Untaken Read before bytes = KeepLimits 0 (pieces bytes)
+Untaken Write before bytes = ⊥
+Untaken fault before bytes = Stopped IsPassed fault [] 0 before bytes []
+
+-- the input was not taken whole, and nothing went out
+abbrev pub NotShown : ServeFault → Option (List ℕ) → Option (List ℕ) → Option (List ℕ) → Option (List ℕ) → Type 0
+NotShown fault input rest old new = (bytes : List ℕ) × Consumes input rest bytes × Untaken fault None bytes × Appends old new []
+
+-- the input was taken whole, and some first bytes of what stands then went out
+abbrev pub ShownInPart : Option (List ℕ) → Option (List ℕ) → Option (List ℕ) → Type 0
+ShownInPart input old new = (after : Open) × IfSome input (λ bytes. LeadsTo None bytes after) × WrotePart (shown_text after) old new
+
+-- What a run that ended by a fault has written. Where a read failed, or a line or a byte came that may not: nothing. Where memory was
+-- refused: nothing, or, once the input was taken, the first bytes of what stands. Where a write failed: these.
+abbrev pub Unshown : ServeFault → Option (List ℕ) → Option (List ℕ) → Option (List ℕ) → Option (List ℕ) → Type 0
+Unshown Write input rest old new = ShownInPart input old new
+Unshown Memory input rest old new = NotShown Memory input rest old new ⊎ ShownInPart input old new
+Unshown fault input rest old new = NotShown fault input rest old new

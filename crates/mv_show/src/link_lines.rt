@@ -1,0 +1,107 @@
+//! The lines that tell of the links.
+
+ghost use Rattle.std.specs.Prelude.{◌≡◌, ◌==◌, ◌++◌, ◌∷◌, [], filter, length, IfOk, OnOk, IsTrue};
+ghost use Rattle.mv_hub.specs.Hub.{are_parties};
+ghost use Rattle.mv_machine.specs.State.{is_party, applied_count, hub_of, wire_of};
+ghost use Rattle.mv_show.specs.Shown.{link_value, link_values, links_values, lines_text};
+
+use crate::line::append_line;
+use mv_lines::Member;
+use mv_message::Party;
+use mv_repository::LogEntry;
+use mv_system::World;
+use std::alloc::{AllocError, Global};
+
+/// Writes the lines of the links from a party behind what the buffer holds.
+pub(crate) fn append_links(
+    alloc: Global,
+    out: &mut Vec<u8>,
+    world: &World,
+    from: Party,
+) -> Result<(), AllocError>
+    requires { IsTrue (is_party world.now from) }
+    ensures { OnOk result (out.new.items
+        ≡ out.old.items ++ lines_text (links_values world.now from)) }
+{
+    for to in 0..world.hub().parties().len() {
+        append_link(alloc, out, world, from, to)?;
+    }
+    Ok(())
+}
+
+/// Writes the line of a link, if it has one.
+fn append_link(
+    alloc: Global,
+    out: &mut Vec<u8>,
+    world: &World,
+    from: Party,
+    to: Party,
+) -> Result<(), AllocError>
+    requires { IsTrue (are_parties (hub_of world.now) from to) }
+    ensures { OnOk result (out.new.items
+        ≡ out.old.items ++ lines_text (link_values world.now from to)) }
+{
+    let hub = world.hub();
+    if hub.total(from, to) == 0 && hub.is_open(from, to) {
+        return Ok(());
+    }
+    append_shown_link(alloc, out, world, from, to)
+}
+
+/// Writes how far a link is.
+fn append_shown_link(
+    alloc: Global,
+    out: &mut Vec<u8>,
+    world: &World,
+    from: Party,
+    to: Party,
+) -> Result<(), AllocError>
+    requires { IsTrue (are_parties (hub_of world.now) from to) }
+    ensures { OnOk result (out.new.items
+        ≡ out.old.items ++ lines_text (link_value world.now from to ∷ [])) }
+{
+    let hub = world.hub();
+    let wire = wire_of(alloc, world, from, to)?;
+    append_line(
+        alloc,
+        out,
+        &[
+            Member::Number("applied", applied_count(world, from, to) as u64),
+            Member::Flag("closed", !hub.is_open(from, to)),
+            Member::Number("from", u64::from(from)),
+            Member::Number("put", u64::from(hub.total(from, to))),
+            Member::Number("relayed", u64::from(hub.relayed(from, to))),
+            Member::Text("show", "link"),
+            Member::Number("to", u64::from(to)),
+            Member::Parties("wire", wire.as_slice()),
+        ],
+    )
+}
+
+/// How many items of a sender a repository applied.
+#[tactic(auto, using(crate::proofs::PlaceLemmas::counted_from))]
+fn applied_count(world: &World, from: Party, to: Party) -> usize
+    requires { IsTrue (is_party world.now to) }
+    ensures { result ≡ applied_count world.now from to }
+{
+    entries_from(world.log(to), from)
+}
+
+/// How many entries of a log are of items from a sender.
+fn entries_from(log: &[LogEntry], sender: Party) -> usize
+    ensures { result ≡ length (filter (λ entry. entry.sender == sender) log.now) }
+{
+    log.iter().filter(|entry| entry.sender == sender).count()
+}
+
+/// The numbers of the frames under way on a link, the front first.
+fn wire_of(alloc: Global, world: &World, from: Party, to: Party) -> Result<Vec<u32>, AllocError>
+    requires { IsTrue (are_parties (hub_of world.now) from to) }
+    ensures { IfOk result (λ numbers. numbers.items ≡ wire_of world.now from to) }
+{
+    let mut numbers = Vec::new(alloc);
+    while let Some(number) = world.frame_number(from, to, numbers.len()) {
+        numbers.push(number)?;
+    }
+    Ok(numbers)
+}

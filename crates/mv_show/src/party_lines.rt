@@ -1,0 +1,249 @@
+//! The lines that tell of a party and of what its repository holds.
+
+ghost use Rattle.std.specs.Prelude.{◌≡◌, ◌++◌, ◌∷◌, [], Some, option_map, OnOk, IsTrue};
+ghost use Rattle.mv_pack.specs.Expiry.{expiry_text};
+ghost use Rattle.mv_machine.specs.State.{is_party};
+ghost use Rattle.mv_repository.specs.Repository.{product_of};
+ghost use Rattle.mv_repository.specs.State.{user_at, user_in};
+ghost use Rattle.mv_show.specs.Shown.{subject_values, party_value, product_value, recall_value};
+ghost use Rattle.mv_show.specs.Shown.{user_of, pack_value, pack_values, lines_text};
+
+use crate::line::append_line;
+use crate::subject::Subject;
+use arrayvec::ArrayString;
+use mv_lines::Member;
+use mv_link::Item;
+use mv_message::{Boxed, Message, Party};
+use mv_pack::{BatchKey, Gtin, PackKey};
+use mv_repository::{Change, Held, LogEntry, Repository};
+use mv_system::World;
+use std::alloc::{AllocError, Global};
+
+/// Writes the line that tells of a subject of a party behind what the buffer holds.
+pub(crate) fn append_subject(
+    alloc: Global,
+    out: &mut Vec<u8>,
+    world: &World,
+    party: Party,
+    subject: &Subject,
+) -> Result<(), AllocError>
+    requires { IsTrue (is_party world.now party) }
+    ensures { OnOk result (out.new.items
+        ≡ out.old.items ++ lines_text (subject_values world.now party subject.now)) }
+{
+    match subject {
+        Subject::Party => append_party(alloc, out, world, party),
+        Subject::Product(gtin) => append_product(alloc, out, world.repository(party), gtin),
+        Subject::Recall(key) => append_recall(alloc, out, party, key),
+        Subject::Pack(key) => append_pack(alloc, out, world.repository(party), key),
+    }
+}
+
+/// Writes how much a party has.
+fn append_party(
+    alloc: Global,
+    out: &mut Vec<u8>,
+    world: &World,
+    party: Party,
+) -> Result<(), AllocError>
+    requires { IsTrue (is_party world.now party) }
+    ensures { OnOk result (out.new.items
+        ≡ out.old.items ++ lines_text (party_value world.now party ∷ [])) }
+{
+    let counts = world.repository(party).counts();
+    let routed = world.hub().routed_count(party);
+    let submitted = world.sub(party).len();
+    append_line(
+        alloc,
+        out,
+        &[
+            Member::Number("active", counts.active as u64),
+            Member::Number("applied", counts.entries as u64),
+            Member::Number("packs", counts.packs as u64),
+            Member::Number("party", u64::from(party)),
+            Member::Number("products", counts.products as u64),
+            Member::Number("recalled", counts.recalled as u64),
+            Member::Number("routed", u64::from(routed)),
+            Member::Text("show", "party"),
+            Member::Number("submitted", submitted as u64),
+        ],
+    )
+}
+
+/// Writes what a repository knows of a product.
+fn append_product(
+    alloc: Global,
+    out: &mut Vec<u8>,
+    repository: &Repository,
+    gtin: &Gtin,
+) -> Result<(), AllocError>
+    ensures { OnOk result (out.new.items ≡ out.old.items
+        ++ lines_text (product_value repository.now.party repository.now.log gtin.now ∷ [])) }
+{
+    match repository.product(gtin) {
+        Some(product) => {
+            let master = Message::Master {
+                gtin: *gtin,
+                product: Boxed::new(alloc, product.copy(alloc)?)?,
+            };
+            append_master(alloc, out, repository, gtin, &master)
+        }
+        None => append_line(
+            alloc,
+            out,
+            &[
+                Member::Text("gtin", gtin.as_str()),
+                Member::Number("party", u64::from(repository.party())),
+                Member::Null("product"),
+                Member::Text("show", "product"),
+                Member::Flag("withdrawn", repository.withdrawn(gtin)),
+            ],
+        ),
+    }
+}
+
+/// Writes what a repository knows of a product that has this master.
+fn append_master<'a>(
+    alloc: Global,
+    out: &mut Vec<u8>,
+    repository: &'a Repository,
+    gtin: &'a Gtin,
+    master: &'a Message,
+) -> Result<(), AllocError>
+    requires { Some master.now
+        ≡ option_map (Message.Master gtin.now) (product_of repository.now.log gtin.now) }
+    ensures { OnOk result (out.new.items ≡ out.old.items
+        ++ lines_text (product_value repository.now.party repository.now.log gtin.now ∷ [])) }
+{
+    append_line(
+        alloc,
+        out,
+        &[
+            Member::Text("gtin", gtin.as_str()),
+            Member::Number("party", u64::from(repository.party())),
+            Member::Message("product", master),
+            Member::Text("show", "product"),
+            Member::Flag("withdrawn", repository.withdrawn(gtin)),
+        ],
+    )
+}
+
+/// Writes that a batch is recalled.
+fn append_recall(
+    alloc: Global,
+    out: &mut Vec<u8>,
+    party: Party,
+    key: &BatchKey,
+) -> Result<(), AllocError>
+    ensures { OnOk result (out.new.items
+        ≡ out.old.items ++ lines_text (recall_value party key.now ∷ [])) }
+{
+    append_line(
+        alloc,
+        out,
+        &[
+            Member::Text("batch", key.batch.as_str()),
+            Member::Text("gtin", key.gtin.as_str()),
+            Member::Number("party", u64::from(party)),
+            Member::Text("show", "recall"),
+        ],
+    )
+}
+
+/// Writes what a pack is, where the repository holds it.
+fn append_pack(
+    alloc: Global,
+    out: &mut Vec<u8>,
+    repository: &Repository,
+    key: &PackKey,
+) -> Result<(), AllocError>
+    ensures { OnOk result (out.new.items ≡ out.old.items
+        ++ lines_text (pack_values repository.now.party repository.now.log key.now)) }
+{
+    match repository.pack(key) {
+        Some(held) => {
+            let expiry = held.expiry.text();
+            append_held(alloc, out, repository, key, &Dated { held, expiry })
+        }
+        None => Ok(()),
+    }
+}
+
+/// A pack that is held, and the text of its expiry.
+#[derive(Drop)]
+struct Dated {
+    /// The pack.
+    held: Held,
+    /// When it expires.
+    expiry: ArrayString<6>,
+}
+
+/// Writes what a pack is that the repository holds so.
+fn append_held<'a>(
+    alloc: Global,
+    out: &mut Vec<u8>,
+    repository: &'a Repository,
+    key: &'a PackKey,
+    dated: &'a Dated,
+) -> Result<(), AllocError>
+    requires { dated.now.expiry.bytes ≡ expiry_text dated.now.held.expiry }
+    ensures { OnOk result (out.new.items ≡ out.old.items ++ lines_text
+        (pack_value repository.now.party repository.now.log key.now dated.now.held ∷ [])) }
+{
+    let held = &dated.held;
+    let batch = BatchKey {
+        gtin: key.gtin,
+        batch: held.batch.copy(),
+    };
+    let user = user_of(repository.log(), &held.change);
+    append_line(
+        alloc,
+        out,
+        &[
+            Member::Text("batch", held.batch.as_str()),
+            Member::Change("change", &held.change, user),
+            Member::Text("expiry", dated.expiry.as_str()),
+            Member::Text("gtin", key.gtin.as_str()),
+            Member::National("national", &held.national),
+            Member::Number("party", u64::from(repository.party())),
+            Member::Flag("recalled", repository.recalled(&batch)),
+            Member::Text("serial", key.serial.as_str()),
+            Member::Text("show", "pack"),
+            Member::Text("standing", held.standing.name()),
+            Member::Flag("withdrawn", repository.withdrawn(&key.gtin)),
+        ],
+    )
+}
+
+/// The user who asked for a change.
+fn user_of<'a>(log: &'a [LogEntry], change: &Option<Change>) -> &'a str
+    ensures { result.now ≡ user_of log.now change.now }
+{
+    match change {
+        Some(change) => user_at(log, change.entry),
+        None => "",
+    }
+}
+
+/// The user of the status at a place of a log.
+fn user_at(log: &[LogEntry], place: usize) -> &str
+    ensures { result.now ≡ user_at log.now place }
+{
+    match log.get(place) {
+        Some(entry) => user_in(&entry.item),
+        None => "",
+    }
+}
+
+/// The user of a status that an item carries.
+fn user_in(item: &Item) -> &str
+    ensures { result.now ≡ user_in item.now }
+{
+    let Item::Carried { message, .. } = item else {
+        return "";
+    };
+    match message.get() {
+        Message::Status { user, .. } => user.as_str(),
+        _ => "",
+    }
+}

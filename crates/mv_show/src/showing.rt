@@ -1,0 +1,62 @@
+//! Shows what stands when an input ends.
+
+ghost use Rattle.std.specs.Prelude.{◌≡◌, ℕ, List, None, is_some, IfOk, IfErr, OnOk, IfSome};
+ghost use Rattle.std.specs.Io.KnownBytes.{Appends, Consumes};
+ghost use Rattle.mv_lines.specs.Sessions.{Open};
+ghost use Rattle.mv_show.specs.Shown.{shown_text};
+ghost use Rattle.mv_show.specs.Showing.{LeadsTo, Untaken, Unshown};
+
+use crate::blocks::write_shown;
+use crate::passing::Passing;
+use mv_lines::{ServeFault, answer_lines};
+use std::alloc::Global;
+use std::io::{self, Read, Write};
+use std::mem;
+
+/// Does with each line what `steps` does, and writes nothing until the input ends. Then it writes what stands: how much each
+/// party has and what its repository holds, and how far each link is; where no system is open, C1. Whether one is open.
+///
+/// The lines and their limits are as for `serve`. It is the last thing in a process: what is open at the end is not taken
+/// apart, since the process gives all its memory back at once. What stands goes out in blocks of some 64 KiB, so memory may
+/// be refused when some have gone out.
+pub fn show<R: Read, W: Write>(
+    alloc: Global,
+    reader: &mut R,
+    writer: &mut W,
+) -> Result<bool, ServeFault>
+    // The input was taken whole, and all that stands then went out.
+    ensures ok { IfOk result (λ is_open. (after : Open)
+        × IfSome (R.remaining reader.old) (λ bytes. LeadsTo None bytes after) × (is_open ≡ is_some after)
+        × Appends (W.contents writer.old) (W.contents writer.new) (shown_text after)) }
+    // What was read and what went out, the fault says.
+    ensures err { IfErr result (λ fault. Unshown fault
+        (R.remaining reader.old) (R.remaining reader.new)
+        (W.contents writer.old) (W.contents writer.new)) }
+{
+    let mut passing = Passing::new(alloc);
+    take_lines(alloc, &mut passing, reader)?;
+    let shown = write_shown(alloc, passing.world(), writer);
+    mem::forget(passing);
+    shown
+}
+
+/// Does with each line what `steps` does.
+fn take_lines<R: Read>(
+    alloc: Global,
+    passing: &mut Passing,
+    reader: &mut R,
+) -> Result<(), ServeFault>
+    ensures ok { OnOk result (IfSome (R.remaining reader.old) (λ bytes.
+        LeadsTo passing.old bytes passing.new)) }
+    ensures err { IfErr result (λ fault. (bytes : List ℕ)
+        × Consumes (R.remaining reader.old) (R.remaining reader.new) bytes
+        × Untaken fault passing.old bytes) }
+{
+    match answer_lines(alloc, passing, reader, &mut io::sink()) {
+        Ok(()) => Ok(()),
+        // This never comes, since a sink takes all bytes, but no contract of a writer can say so. What is left is to say that
+        // memory was refused, which may come at any place.
+        Err(ServeFault::Write) => Err(ServeFault::Memory),
+        Err(fault) => Err(fault),
+    }
+}

@@ -1,0 +1,39 @@
+-- What is written of an event.
+use Rattle.std.proofs.Common.{◌≡◌, ℕ, List, length, subst, refl, IfOk, Bool, is_some, option_map, Option, Some, None, Result, Ok, Err}
+use Rattle.mv_message.specs.declared.message.Message.{Message}
+use Rattle.mv_hub.specs.declared.entry.Entry.{Entry}
+use Rattle.mv_hub.specs.declared.entry.Entry.TheVariants as entries
+use Rattle.mv_lines.specs.Lines.{line_at}
+use Rattle.mv_lines.specs.Replies.{Readied, said}
+use Rattle.mv_lines.specs.Sessions.{Open, IsTaken}
+use Rattle.mv_lines.specs.declared.answered.Answered.{Answered}
+use Rattle.mv_trail.specs.Events.{Event, event_of, last_of, routed, routing}
+use Rattle.mv_trail.specs.EventValues.{event_value}
+use Rattle.mv_trail.specs.Trail.{event_text, IsEvent, text_or_none, Says, Tells}
+
+-- the text of an event, where it is said that there is one
+said_event : (line : ℕ) (spoken : Bool) (event : Option Event) → spoken ≡ is_some event
+    → said spoken (text_or_none line event) ≡ option_map (event_text line) event
+said_event line spoken None is = rw is refl
+said_event line spoken (Some event) is = rw is refl
+
+-- what was said of a line's event is what may be written to the line
+pub event_answers : {E : Type 0} (r : Result Bool E) (old new : List ℕ) (line : ℕ) (before : Open) (bytes : List ℕ) (answered : Answered) (after : Open)
+    → IsTaken before bytes answered after → Tells r old new line (event_of answered after)
+    → IfOk r (λ spoken. Readied old new (λ text. IsEvent before (line_at line bytes) (said spoken text) after))
+event_answers (Ok spoken) old new line before bytes answered after taken tells =
+    (text_or_none line (event_of answered after), tells.1, (answered, taken, said_event line spoken (event_of answered after) tells.0))
+event_answers (Err e) old new line before bytes answered after taken tells = tt
+
+module _ {E : Type 0} (r : Result Bool E) (old new : List ℕ) (line : ℕ) where
+  -- an event that there is was written
+  pub says_tells : (event : Event) → Says r old new (event_value line event) → Tells r old new line (Some event)
+  says_tells event said = assumption said
+
+  -- so it was of a routing, by the entry that it made, the last of so many
+  pub route_tells : (reach : List ℕ) (all : List Entry) (from k : ℕ) (message written : Message)
+      → last_of all ≡ Some (entries.Routed from k message) → written ≡ message
+      → Says r old new (event_value line (routed from k written reach (length all)))
+      → Tells r old new line (routing reach (length all) (last_of all))
+  route_tells reach all from k message written last same said =
+      rw last (says_tells (routed from k message reach (length all)) (subst (λ m. Says r old new (event_value line (routed from k m reach (length all)))) same said))

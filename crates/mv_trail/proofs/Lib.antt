@@ -1,0 +1,4 @@
+pub mod StepLemmas
+pub mod ToldLemmas
+pub mod TrailLemmas
+pub mod EventLemmas

@@ -1,0 +1,134 @@
+-- The events of a run tell the record, the logs and the submissions.
+use Rattle.std.proofs.Common.{◌≡◌, ℕ, zero, suc, List, [], ◌∷◌, ◌++◌, map, length, Some, None, refl, sym, ap, ◌∙◌, subst, append-nil, append_assoc, get_or}
+use Rattle.std.specs.Prelude.{option_to_list, Option, Result, Ok, Err, MatchResult, replicate, ⊤}
+use Rattle.std.specs.List.{filter_map}
+use Rattle.mv_machine.specs.declared.step.Step.{Step}
+use Rattle.mv_machine.specs.declared.reply.Reply.{Reply}
+use Rattle.mv_machine.specs.Limits.{Bounds, limits_of}
+use Rattle.mv_machine.specs.State.{State, opening, submissions_of, log_of}
+use Rattle.mv_machine.specs.Runs.{Allows}
+use Rattle.mv_machine.proofs.LawfulLemmas.{IsSound, change-sound, opening-sound}
+use Rattle.mv_machine.proofs.StepLemmas.{step-changes}
+use Rattle.mv_hub.specs.Parties.{parties_of}
+use Rattle.mv_json.specs.Reading.{map_err}
+use Rattle.mv_lines.specs.declared.answered.Answered.{Answered}
+use Rattle.mv_lines.specs.declared.answered.Answered.TheVariants as answers
+use Rattle.mv_lines.specs.declared.line_fault.LineFault.{LineFault}
+use Rattle.mv_lines.specs.declared.open_fault.OpenFault.{OpenFault}
+use Rattle.mv_lines.specs.declared.open_fault.OpenFault.TheVariants as faults
+use Rattle.mv_lines.specs.declared.request.Request.{Request}
+use Rattle.mv_lines.specs.declared.request.Request.TheVariants as requests
+use Rattle.mv_lines.specs.Requests.{read_line}
+use Rattle.mv_lines.specs.Sessions.{Open, IsOpened, IsRequestTaken, IsTaken}
+use Rattle.mv_trail.specs.Events as events
+use Rattle.mv_trail.specs.Events.{Event, event_of, event_of_step}
+use Rattle.mv_trail.specs.Laws.{AreTold, placed, entry_told, applied_told, submission_told, unless_answer, RecordIsTold, LogsAreTold, SubmissionsAreTold}
+use Rattle.mv_trail.proofs.StepLemmas.{told, IsTold, step_grows}
+use Rattle.mv_trail.proofs.ToldLemmas.{record_told, log_told, submissions_told}
+
+-- What came of a line: it was refused, it opened a system, or a step was taken.
+data Came (before : Open) : Answered → Open → Type 0 where
+  unread : (fault : LineFault) → Came before (answers.Unread fault) before
+  not_taken : (fault : OpenFault) → Came before (answers.NotTaken fault) before
+  opened : (parties : List (List (List ℕ))) (limits : Bounds) (count : ℕ) → before ≡ None
+      → Came before (answers.Opened count) (Some (opening parties limits))
+  stepped : (old : State) (step : Step) (reply : Reply) (new : State) → before ≡ Some old → Allows old step reply new
+      → Came before (answers.Stepped step reply) (Some new)
+
+came-opened : (before : Open) (parties : Result (List (List (List ℕ))) OpenFault) (limits : Result Bounds OpenFault) (answered : Answered)
+    (after : Open) → IsOpened before parties limits answered after → Came before answered after
+came-opened (Some st) parties limits answered after taken = rw (taken.0, taken.1) (not_taken faults.AlreadyOpen)
+came-opened None (Err fault) limits answered after taken = rw (taken.0, taken.1) (not_taken fault)
+came-opened None (Ok parties) (Err fault) answered after taken = rw (taken.0, taken.1) (not_taken fault)
+came-opened None (Ok parties) (Ok limits) answered after taken = rw (taken.0, taken.1) (opened parties limits (length parties) refl)
+
+came-request : (before : Open) (request : Request) (answered : Answered) (after : Open) → IsRequestTaken before request answered after
+    → Came before answered after
+came-request before (requests.Open parties submissions uplink window wire) answered after taken =
+    came-opened before (map_err faults.Parties (parties_of parties)) (map_err faults.Limits (limits_of window wire uplink submissions)) answered after taken
+came-request None (requests.Step step) answered after taken = rw (taken.0, taken.1) (not_taken faults.NotOpen)
+came-request (Some old) (requests.Step step) answered after taken =
+    rw (taken.3, taken.4) (stepped old step taken.0 taken.1 refl taken.2)
+
+came-read : (before : Open) (read : Result Request LineFault) (answered : Answered) (after : Open)
+    → MatchResult read (λ request. IsRequestTaken before request answered after) (λ fault. (answered ≡ answers.Unread fault) × (after ≡ before))
+    → Came before answered after
+came-read before (Ok request) answered after taken = came-request before request answered after taken
+came-read before (Err fault) answered after taken = rw (taken.0, taken.1) (unread fault)
+
+came : (before : Open) (line : List ℕ) (answered : Answered) (after : Open) → IsTaken before line answered after → Came before answered after
+came before line answered after taken = came-read before (read_line line) answered after taken
+
+told-first : {X : Type 0} (tell : Event → Option X) (event : Option Event) (rest : List Event)
+    → filter_map tell (option_to_list event ++ rest) ≡ told tell event ++ filter_map tell rest
+told-first tell None rest = refl
+told-first tell (Some event) rest = told-one tell (tell event) event rest refl
+  where
+    told-one : {X : Type 0} (tell : Event → Option X) (found : Option X) (event : Event) (rest : List Event) → tell event ≡ found
+        → filter_map tell (event ∷ rest) ≡ option_to_list (tell event) ++ filter_map tell rest
+    told-one tell None event rest is = rw is refl
+    told-one tell (Some x) event rest is = rw is refl
+
+-- what holds of what is open, if something is
+abbrev OfOpen : (State → Type 0) → Open → Type 0
+OfOpen P None = ⊤
+OfOpen P (Some st) = P st
+
+came-sound : (before : Open) (answered : Answered) (after : Open) → Came before answered after → OfOpen IsSound before → OfOpen IsSound after
+came-sound before _ _ (unread fault) sound = sound
+came-sound before _ _ (not_taken fault) sound = sound
+came-sound before _ _ (opened parties limits count none) sound = opening-sound parties limits
+came-sound before _ _ (stepped old step reply new is allowed) sound =
+    change-sound old new _ (step-changes old step reply new allowed) (subst (OfOpen IsSound) is sound)
+
+-- what a state keeps, of what is open; nothing, before something is
+abbrev kept_of : {X : Type 0} → (State → List X) → Open → List X
+kept_of kept None = []
+kept_of kept (Some st) = kept st
+
+module _ {X : Type 0} (tell : Event → Option X) (kept : State → List X)
+    (begins : (parties : List (List (List ℕ))) (limits : Bounds) → kept (opening parties limits) ≡ [])
+    (silent : (parties : List (List (List ℕ))) (limits : Bounds) → tell (events.opened parties limits) ≡ None)
+    (grows : (st : State) → IsSound st → IsTold tell kept st) where
+  line-told : (before : Open) (answered : Answered) (after : Open) → Came before answered after → OfOpen IsSound before
+      → kept_of kept after ≡ kept_of kept before ++ told tell (event_of answered after)
+  line-told before _ _ (unread fault) sound = sym (append-nil (kept_of kept before))
+  line-told before _ _ (not_taken fault) sound = sym (append-nil (kept_of kept before))
+  line-told before _ _ (opened parties limits count none) sound = rw (none, silent parties limits) (begins parties limits)
+  line-told before _ _ (stepped old step reply new is allowed) sound =
+      rw is (step_grows tell kept old (grows old (subst (OfOpen IsSound) is sound)) step reply new allowed)
+
+  lines-told : (lines : List (List ℕ)) (events : List Event) (before after : Open) → OfOpen IsSound before → AreTold before lines events after
+      → kept_of kept after ≡ kept_of kept before ++ filter_map tell events
+  lines-told [] events before after sound are =
+      ap (kept_of kept) are.1 ∙ sym (append-nil (kept_of kept before)) ∙ ap (λ l. kept_of kept before ++ filter_map tell l) (sym are.0)
+  lines-told (line ∷ lines) events before after sound are =
+      let first = came before line are.0 are.1 are.3 in
+      lines-told lines are.2 are.1 after (came-sound before are.0 are.1 first sound) are.5
+      ∙ ap (λ l. l ++ filter_map tell are.2) (line-told before are.0 are.1 first sound)
+      ∙ append_assoc (kept_of kept before) (told tell (event_of are.0 are.1)) (filter_map tell are.2)
+      ∙ ap (λ l. kept_of kept before ++ l) (sym (told-first tell (event_of are.0 are.1) are.2))
+      ∙ ap (λ l. kept_of kept before ++ filter_map tell l) (sym are.4)
+
+  -- the events of a whole run tell all that is kept of its last state
+  pub run-told : (lines : List (List ℕ)) (events : List Event) (st : State) → AreTold None lines events (Some st) → filter_map tell events ≡ kept st
+  run-told lines events st are = sym (lines-told lines events None (Some st) tt are)
+
+pub record_is_told : RecordIsTold
+record_is_told = run-told entry_told (λ st. placed 0 st.entries) (λ parties limits. refl) (λ parties limits. refl) (λ st sound. record_told st)
+
+none-at : {A : Type 0} (count party : ℕ) → ◌≡◌ {A = List A} (get_or (replicate count []) party []) []
+none-at zero party = refl
+none-at (suc count) zero = refl
+none-at (suc count) (suc party) = none-at count party
+
+pub logs_are_told : LogsAreTold
+logs_are_told party =
+    run-told (applied_told party) (λ st. log_of st party) (λ parties limits. none-at (length parties) party) (λ parties limits. refl)
+    (λ st sound. log_told party st sound.well_formed)
+
+pub submissions_are_told : SubmissionsAreTold
+submissions_are_told party =
+    run-told (submission_told party) (λ st. placed 0 (map unless_answer (submissions_of st party)))
+    (λ parties limits. ap (λ messages. placed 0 (map unless_answer messages)) (none-at (length parties) party)) (λ parties limits. refl)
+    (λ st sound. submissions_told party st sound.well_formed)

@@ -1,0 +1,9 @@
+use Rattle.mv_trail.proofs.EventLemmas.{event_answers}
+use Rattle.mv_trail.proofs.trailing.RecorderAnswering.answer.Goals as goal
+
+-- the line was taken, and its event written
+pub returns-clause-ok : goal.returns-clause-ok
+returns-clause-ok c =
+    rw (← c.self.view_is) (
+    event_answers c.append_event.result _ _ c.args.number _ c.args.line.now c.in_ok-answered.answered _ c.in_ok-answered.ensures.ok
+    (rw c.world.ensures at c.append_event.ensures))

@@ -1,0 +1,108 @@
+-- The JSON value of each event, with the number of the line that made it: an object, its keys in byte order.
+use Rattle.std.specs.Prelude.{ℕ, List, [], ◌∷◌, codes, Bool, Option, Some, None, option_map}
+use Rattle.serde_json.specs.Data.{Data, boolean, string, array, object, Members, no_members}
+use Rattle.mv_json.specs.Messages.{value_of}
+use Rattle.mv_json.specs.Values.{whole}
+use Rattle.mv_link.specs.declared.item.Item.{Item}
+use Rattle.mv_link.specs.declared.item.Item.TheVariants.{Receipt, Carried}
+use Rattle.mv_message.specs.declared.message.Message.{Message}
+use Rattle.mv_repository.specs.Effect.{code_of}
+use Rattle.mv_repository.specs.declared.effect.Effect.{Effect}
+use Rattle.mv_repository.specs.declared.effect.Effect.TheVariants.{Uploaded}
+use Rattle.mv_repository.specs.declared.verdict.Verdict.{Verdict}
+use Rattle.mv_repository.specs.declared.verdict.Verdict.TheVariants.{Authentic, NotAuthentic}
+use Rattle.mv_lines.specs.Meanings.{markets_value}
+use Rattle.mv_lines.specs.ReplyLines.{wholes}
+use Rattle.mv_lines.specs.Writing.{member_where}
+use Rattle.mv_trail.specs.Events.{Event, opened, submitted, asked, verified, routed, applied, closed, decided}
+
+-- a member of an object: its key, and its value, where it has one
+abbrev pub Field : Type 0
+Field = List ℕ × Option Data
+
+abbrev pub text : List ℕ → List ℕ → Field
+text key value = (key, Some (string value))
+
+abbrev pub number : List ℕ → ℕ → Field
+number key n = (key, Some (whole n))
+
+abbrev pub number_if : List ℕ → Option ℕ → Field
+number_if key n = (key, option_map whole n)
+
+abbrev pub flag_if : List ℕ → Option Bool → Field
+flag_if key flag = (key, option_map boolean flag)
+
+abbrev pub parties : List ℕ → List ℕ → Field
+parties key list = (key, Some (array (wholes list)))
+
+abbrev pub message : Message → Field
+message it = (codes "message", Some (value_of it))
+
+-- the members of fields, but for those that have no value
+abbrev pub members_where : List Field → Members
+members_where [] = no_members
+members_where ((key, value) ∷ rest) = member_where key value (members_where rest)
+
+-- of an upload, how many of its packs were new
+abbrev pub new_packs : Effect → Option ℕ
+new_packs (Uploaded new old) = Some new
+new_packs effect = None
+
+-- of an upload, how many of its packs were there
+abbrev pub old_packs : Effect → Option ℕ
+old_packs (Uploaded new old) = Some old
+old_packs effect = None
+
+-- of a pack that is not authentic, whether a falsification is suspected
+abbrev pub suspicion : Verdict → Option Bool
+suspicion Authentic = None
+suspicion (NotAuthentic falsification) = Some falsification
+
+-- a verdict in words
+abbrev pub verdict_name : Verdict → List ℕ
+verdict_name Authentic = codes "authentic"
+verdict_name (NotAuthentic falsification) = codes "not authentic"
+
+-- the fields of an item that was applied: of a receipt, whom its message reached; of a message, what it is and its stamp
+abbrev pub applied_fields : ℕ → ℕ → ℕ → Effect → Option ℕ → ℕ → Item → List Field
+applied_fields line to n effect answer from (Receipt k reach query) =
+    text (codes "effect") (code_of effect) ∷ text (codes "event") (codes "applied") ∷ number (codes "from") from ∷ number (codes "k") k
+    ∷ number (codes "line") line ∷ number (codes "number") n ∷ flag_if (codes "query") (Some query) ∷ parties (codes "reach") reach
+    ∷ number (codes "to") to ∷ []
+applied_fields line to n effect answer from (Carried k stamp carried) =
+    number_if (codes "answer") answer ∷ text (codes "effect") (code_of effect) ∷ text (codes "event") (codes "applied")
+    ∷ number (codes "from") from ∷ number (codes "k") k ∷ number (codes "line") line ∷ message carried
+    ∷ number_if (codes "new") (new_packs effect) ∷ number (codes "number") n ∷ number_if (codes "old") (old_packs effect)
+    ∷ number (codes "stamp") stamp ∷ number (codes "to") to ∷ []
+
+-- the fields of an event that the line of this number made
+abbrev pub fields_of : ℕ → Event → List Field
+fields_of line (opened markets limits) =
+    text (codes "event") (codes "opened") ∷ number (codes "line") line ∷ (codes "parties", Some (markets_value markets))
+    ∷ number (codes "submissions") limits.submissions ∷ number (codes "uplink") limits.uplink
+    ∷ number (codes "window") limits.window ∷ number (codes "wire") limits.wire ∷ []
+fields_of line (submitted from k submission) =
+    text (codes "event") (codes "submitted") ∷ number (codes "from") from ∷ number (codes "k") k ∷ number (codes "line") line
+    ∷ message submission ∷ []
+fields_of line (asked party key q) =
+    text (codes "event") (codes "asked") ∷ text (codes "gtin") key.gtin ∷ number (codes "line") line ∷ number (codes "party") party
+    ∷ number (codes "q") q ∷ text (codes "serial") key.serial ∷ []
+fields_of line (verified party key verdict) =
+    text (codes "event") (codes "verified") ∷ flag_if (codes "falsification") (suspicion verdict) ∷ text (codes "gtin") key.gtin
+    ∷ number (codes "line") line ∷ number (codes "party") party ∷ text (codes "serial") key.serial
+    ∷ text (codes "verdict") (verdict_name verdict) ∷ []
+fields_of line (routed from k submission reach stamp) =
+    text (codes "event") (codes "routed") ∷ number (codes "from") from ∷ number (codes "k") k ∷ number (codes "line") line
+    ∷ message submission ∷ parties (codes "reach") reach ∷ number (codes "stamp") stamp ∷ []
+fields_of line (applied to n effect answer entry) = applied_fields line to n effect answer entry.sender entry.item
+fields_of line (closed from to stamp) =
+    text (codes "event") (codes "closed") ∷ number (codes "from") from ∷ number (codes "line") line ∷ number (codes "stamp") stamp
+    ∷ number (codes "to") to ∷ []
+fields_of line (decided party q key verdict) =
+    text (codes "event") (codes "verdict") ∷ flag_if (codes "falsification") (suspicion verdict) ∷ text (codes "gtin") key.gtin
+    ∷ number (codes "line") line ∷ number (codes "party") party ∷ number (codes "q") q ∷ text (codes "serial") key.serial
+    ∷ text (codes "verdict") (verdict_name verdict) ∷ []
+
+-- the value of an event that the line of this number made
+abbrev pub event_value : ℕ → Event → Data
+event_value line event = object (members_where (fields_of line event))

@@ -1,0 +1,63 @@
+-- The laws of the trail: its events are the hub's record, the log of each repository, and what each party submitted.
+use Rattle.std.specs.Prelude.{◌≡◌, ◌+◌, ◌==◌, ℕ, List, [], ◌∷◌, ◌++◌, map, if◌then◌else◌, option_to_list, Option, Some, None}
+use Rattle.std.specs.List.{filter_map}
+use Rattle.mv_message.specs.declared.message.Message.{Message}
+use Rattle.mv_message.specs.declared.message.Message.TheVariants.{Query, Answer}
+use Rattle.mv_hub.specs.declared.entry.Entry.{Entry}
+use Rattle.mv_hub.specs.declared.entry.Entry.TheVariants as entries
+use Rattle.mv_repository.specs.declared.entry.LogEntry.{LogEntry}
+use Rattle.mv_machine.specs.State.{State, submissions_of, log_of}
+use Rattle.mv_lines.specs.Sessions.{Open, IsTaken}
+use Rattle.mv_lines.specs.declared.answered.Answered.{Answered}
+use Rattle.mv_trail.specs.Events.{Event, submitted, asked, routed, applied, closed, event_of}
+
+-- these lines are taken one after another, and these are their events, in order
+abbrev pub AreTold : Open → List (List ℕ) → List Event → Open → Type 0
+AreTold before [] events after = (events ≡ []) × (after ≡ before)
+AreTold before (line ∷ lines) events after =
+    (answered : Answered) × (between : Open) × (rest : List Event) × IsTaken before line answered between
+    × (events ≡ option_to_list (event_of answered between) ++ rest) × AreTold between lines rest after
+
+-- the members of a list, each with its place, counted from one behind so many others
+abbrev pub placed : {A : Type 0} → ℕ → List A → List (ℕ × A)
+placed count [] = []
+placed count (x ∷ xs) = (count + 1, x) ∷ placed (count + 1) xs
+
+-- the entry of the record that an event tells, with its stamp
+abbrev pub entry_told : Event → Option (ℕ × Entry)
+entry_told (routed from k message reach stamp) = Some (stamp, entries.Routed from k message)
+entry_told (closed from to stamp) = Some (stamp, entries.Closed from to)
+entry_told event = None
+
+-- the entry of a party's log that an event tells
+abbrev pub applied_told : ℕ → Event → Option LogEntry
+applied_told party (applied to number effect answer entry) = if to == party then Some entry else None
+applied_told party event = None
+
+-- the submission of a party that an event tells: its number and the message; of an answer the number alone
+abbrev pub submission_told : ℕ → Event → Option (ℕ × Option Message)
+submission_told party (submitted from k message) = if from == party then Some (k, Some message) else None
+submission_told party (asked by key q) = if by == party then Some (q, Some (Query key)) else None
+submission_told party (applied to number effect (Some k) entry) = if to == party then Some (k, None) else None
+submission_told party event = None
+
+-- a message, unless it is an answer
+abbrev pub unless_answer : Message → Option Message
+unless_answer (Answer asker q key found) = None
+unless_answer message = Some message
+
+-- the entries that the events of a run tell are the hub's record, in its order, each with its place
+abbrev pub RecordIsTold : Type 0
+RecordIsTold = (lines : List (List ℕ)) (events : List Event) (st : State) → AreTold None lines events (Some st)
+    → filter_map entry_told events ≡ placed 0 st.entries
+
+-- the entries that the events of a run tell of a party are the log of its repository, in its order
+abbrev pub LogsAreTold : Type 0
+LogsAreTold = (party : ℕ) (lines : List (List ℕ)) (events : List Event) (st : State) → AreTold None lines events (Some st)
+    → filter_map (applied_told party) events ≡ log_of st party
+
+-- The submissions that the events of a run tell of a party are all that it submitted, in its order, each with its number; an answer by
+-- its number alone.
+abbrev pub SubmissionsAreTold : Type 0
+SubmissionsAreTold = (party : ℕ) (lines : List (List ℕ)) (events : List Event) (st : State) → AreTold None lines events (Some st)
+    → filter_map (submission_told party) events ≡ placed 0 (map unless_answer (submissions_of st party))

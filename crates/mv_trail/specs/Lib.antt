@@ -1,0 +1,4 @@
+pub mod Events
+pub mod EventValues
+pub mod Trail
+pub mod Laws

@@ -1,0 +1,22 @@
+//! Laws over the definitions alone: of what the events of a run tell.
+
+ghost use Rattle.mv_trail.specs.Laws.{RecordIsTold, LogsAreTold, SubmissionsAreTold};
+
+/// The events `routed` and `closed` of a run are the hub's record: each entry once, in its order, and with its stamp.
+#[tactic(auto, using(crate::proofs::TrailLemmas::record_is_told))]
+pub fn record_is_told()
+    ensures { RecordIsTold }
+{}
+
+/// The events `applied` to a party are the log of its repository: each entry once, and in its order.
+#[tactic(auto, using(crate::proofs::TrailLemmas::logs_are_told))]
+pub fn logs_are_told()
+    ensures { LogsAreTold }
+{}
+
+/// The events `submitted` and `asked` of a party, and the answers of those `applied` to it, are what it submitted: each message once,
+/// in its order, and with its number.
+#[tactic(auto, using(crate::proofs::TrailLemmas::submissions_are_told))]
+pub fn submissions_are_told()
+    ensures { SubmissionsAreTold }
+{}

@@ -150,11 +150,7 @@ fn write_national(writer: &mut Writer, national: &Option<National>) -> Result<()
 
 /// Writes what changed a pack, if something did.
 #[tactic(auto, unfolding(crate::specs::Writing::tokens_of))]
-fn write_change(
-    writer: &mut Writer,
-    change: &Option<Change>,
-    user: &str,
-) -> Result<(), AllocError>
+fn write_change(writer: &mut Writer, change: &Option<Change>, user: &str) -> Result<(), AllocError>
     ensures before { writer.new.before ≡ writer.old.before }
     ensures added { Adds result writer.old writer.new (change_value change.now user.now) }
 {

@@ -59,7 +59,12 @@ fn is_counted(alloc: Global, lines: &str, wanted: &str, untaken: Option<Untaken>
 fn a_refused_message_is_told_by_its_line(rt: HostRuntime) {
     assert!(rt; are_refusals(rt.alloc(), MESSAGES, REFUSALS));
     assert!(rt; are_refusals(rt.alloc(), "\r\n", ""));
-    assert!(rt; are_messages(rt.alloc(), r#"{"gtin":"09506000134352","msg":"query","serial":"S1"}"#));
+    assert!(rt;
+        are_messages(
+            rt.alloc(),
+            r#"{"gtin":"09506000134352","msg":"query","serial":"S1"}"#
+        )
+    );
     assert!(rt; !are_messages(rt.alloc(), MESSAGES));
 }
 

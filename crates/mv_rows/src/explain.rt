@@ -12,8 +12,18 @@ fn is_told(code: &str, wanted: &str) -> bool {
 
 #[test]
 fn a_code_is_told_in_a_sentence(rt: HostRuntime) {
-    assert!(rt; is_told("P8", "The market is not two capital letters: write FI, not fi."));
-    assert!(rt; is_told("S7", "The wire is full: apply or lose its front frame first."));
+    assert!(rt;
+        is_told(
+            "P8",
+            "The market is not two capital letters: write FI, not fi."
+        )
+    );
+    assert!(rt;
+        is_told(
+            "S7",
+            "The wire is full: apply or lose its front frame first."
+        )
+    );
     assert!(rt; sentence("S15").is_none());
     assert!(rt; sentence("M9").is_none());
     assert!(rt; sentence("").is_none());
@@ -26,10 +36,13 @@ fn codes_are_told_line_by_line(rt: HostRuntime) {
         assert!(rt; false);
         return;
     };
-    assert!(rt; text.as_str() == "\
+    assert!(rt;
+        text.as_str()
+            == "\
         S7 The wire is full: apply or lose its front frame first.\n\
         P8 The market is not two capital letters: write FI, not fi.\n\
-        S7 The wire is full: apply or lose its front frame first.\n");
+        S7 The wire is full: apply or lose its front frame first.\n"
+    );
 }
 
 #[test]

@@ -5,14 +5,16 @@ use mv_show::show;
 use std::alloc::Global;
 
 /// What the lines open, one of which is no line, and what they submit and route: the receipt waits on the link of party 0 to itself.
-const LINES: &str = r#"{"do":"open","parties":[["FI"]],"submissions":2,"uplink":1,"window":2,"wire":1}
+const LINES: &str =
+    r#"{"do":"open","parties":[["FI"]],"submissions":2,"uplink":1,"window":2,"wire":1}
 []
 {"do":"submit","from":0,"message":{"at":1,"batch":"B1","gtin":"09506000134352","msg":"recall"}}
 {"do":"route","from":0}
 "#;
 
 /// What stands then.
-const SHOWN: &str = r#"{"active":0,"applied":0,"packs":0,"party":0,"products":0,"recalled":0,"routed":1,"show":"party","submitted":1}
+const SHOWN: &str =
+    r#"{"active":0,"applied":0,"packs":0,"party":0,"products":0,"recalled":0,"routed":1,"show":"party","submitted":1}
 {"applied":0,"closed":false,"from":0,"put":1,"relayed":0,"show":"link","to":0,"wire":[]}
 "#;
 

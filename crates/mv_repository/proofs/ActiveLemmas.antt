@@ -1,5 +1,5 @@
 -- What is kept of a pack says what it is, and whether it is active.
-use Rattle.std.proofs.Common.{◌≡◌, ℕ, List, [], ◌∷◌, refl, sym, ◌∙◌, ap, arith, Bool, true, false, cond, ◌==◌, Option, Some, None, IfSome, IsSome, true≢false, fold, find, inl, inr, ◌⊎◌, get_or}
+use Rattle.std.proofs.Common.{◌≡◌, ℕ, List, [], ◌∷◌, refl, sym, ◌∙◌, ap, arith, Bool, true, false, cond, ◌==◌, Option, Some, None, IfSome, IsSome, true≢false, filter, fold, find, inl, inr, ◌⊎◌, get_or}
 use Rattle.std.proofs.lemmas.Bool.Decides.{nat_tests}
 use Rattle.std.specs.Option.{option_map, option_map_or, unwrap_or}
 use Rattle.mv_pack.specs.declared.key.PackKey.{PackKey}
@@ -8,7 +8,9 @@ use Rattle.mv_link.specs.declared.item.Item.{Item}
 use Rattle.mv_link.specs.declared.item.Item.TheVariants.{Carried}
 use Rattle.mv_repository.specs.declared.entry.LogEntry.{LogEntry}
 use Rattle.mv_repository.specs.declared.step.Step.{Step}
-use Rattle.mv_repository.specs.Counts.{is_held_active}
+use Rattle.std.specs.Set.{distinct_count}
+use Rattle.mv_pack.specs.Keys.{is_same_pack}
+use Rattle.mv_repository.specs.Counts.{is_held_active, uploaded_packs}
 use Rattle.mv_repository.specs.Order.{Placed, ordered}
 use Rattle.mv_repository.specs.Pack.{KnownPack, is_active, is_done}
 use Rattle.mv_repository.specs.PackState.{pack_state, held_of}
@@ -111,3 +113,8 @@ module _ (log : List LogEntry) (pack : PackKey) where
   track-active =
       active-birth (first_upload pack (ordered log)) (find-stand (λ placed. is_upload_of pack placed.entry.item) log (ordered log) (ordered-stand log)) (find-true (λ placed. is_upload_of pack placed.entry.item) (ordered log))
       ∙ ap (λ (o : Option KnownPack). is_held_active (option_map held_of o)) (sym (known-grown pack (ordered log) (ordered-ascends log)))
+
+-- the packs that are active, by what is kept and by the log
+pub active-all : (log : List LogEntry) → distinct_count is_same_pack (filter (λ pack. is_active_kept (track_of pack log)) (uploaded_packs log))
+    ≡ distinct_count is_same_pack (filter (λ pack. is_held_active (pack_state pack log)) (uploaded_packs log))
+active-all log i = distinct_count is_same_pack (filter (λ pack. track-active log pack i) (uploaded_packs log))

@@ -7,16 +7,14 @@ pub mod TableLemmas
 pub mod NextLemmas
 pub mod TrackLemmas
 pub mod UploadLemmas
-pub mod CountLemmas
 pub mod ActiveLemmas
 pub mod RecallLemmas
 pub mod AgainLemmas
-pub mod TallyLemmas
 pub mod UploadedLemmas
-pub mod TallyUploads
 pub mod OwnedLemmas
 pub mod ListedLemmas
 pub mod ShelvesLemmas
+pub mod CountedLemmas
 pub mod PacksLemmas
 pub mod StopLemmas
 pub mod FormLemmas

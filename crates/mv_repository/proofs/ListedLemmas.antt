@@ -1,6 +1,6 @@
 -- Each track stays listed under the batch of its pack.
 use Rattle.std.specs.Prelude.{bytes_eq}
-use Rattle.std.proofs.Common.{◌≡◌, ℕ, ◌+◌, ◌<◌, ◌||◌, List, [], ◌∷◌, length, get_or, take, refl, sym, ◌∙◌, ap, subst, Bool, true, false, cond, Option, Some, None, IfSome, is_some, true≢false, Result, Ok, Err, OnErr}
+use Rattle.std.proofs.Common.{◌≡◌, ℕ, ◌+◌, ◌<◌, ◌||◌, List, [], ◌∷◌, length, get_or, take, refl, sym, ◌∙◌, ap, subst, Bool, true, false, cond, Option, Some, None, IfSome, is_some, true≢false, Result, Ok, Err, OnOk, OnErr}
 use Rattle.std.proofs.lemmas.List.Folds.{list_any_more}
 use Rattle.std.specs.HashSet.{HashSet}
 use Rattle.std.specs.Cmp.Lexicographic.{same_text}
@@ -23,6 +23,10 @@ use Rattle.mv_repository.proofs.TrackLemmas.{log-split, log-length}
 use Rattle.mv_repository.proofs.UploadLemmas.{upload-has}
 
 -- what holds holds where a call fails
+pub on_ok : {A E : Type 0} → (r : Result A E) (P : Type 0) → P → OnOk r P
+on_ok (Ok x) P p = p
+on_ok (Err e) P p = tt
+
 pub on_err : {A E : Type 0} → (r : Result A E) (P : Type 0) → P → OnErr r P
 on_err (Ok x) P p = tt
 on_err (Err e) P p = p

@@ -1,13 +1,12 @@
--- Each track stays that of a pack, where another slot is written.
+-- A new track is that of one pack.
 use Rattle.std.specs.Prelude.{bytes_eq}
-use Rattle.std.proofs.Common.{◌≡◌, ◌∙◌, ◌+◌, ◌<◌, ◌++◌, ◌∷◌, [], ℕ, List, length, ap, sym, arith, refl, Bool, true, false, cond, Option, Some, zero, suc, inl, inr, ◌⊎◌}
+use Rattle.std.proofs.Common.{◌≡◌, ◌∙◌, ◌+◌, ◌<◌, ◌++◌, ◌∷◌, [], ℕ, List, length, ap, sym, arith, refl, Bool, true, false, cond, Option, Some, inl, inr, ◌⊎◌}
 use Rattle.std.specs.Cmp.Lexicographic.{same_text}
 use Rattle.std.specs.Map.{lookup}
 use Rattle.mv_repository.specs.declared.slot.Slot.{Slot}
 use Rattle.mv_repository.specs.declared.slot.Slot.TheVariants.{Own}
-use Rattle.mv_repository.specs.Shelf.{IsShelf, IsOwned}
+use Rattle.mv_repository.specs.Shelf.{IsShelf}
 use Rattle.mv_repository.specs.Track.{Kept}
-use Rattle.mv_repository.proofs.KeptLemmas.{text-self}
 
 -- a track stands in a slot
 abbrev pub is_own : Option Slot → Bool
@@ -20,35 +19,7 @@ number_in (Some (Own number)) = number
 number_in _ = 0
 
 module _ (slots slots' : List (List ℕ × Slot)) (serial : List ℕ) (slot : Slot)
-    (looks : (other : List ℕ) → lookup (bytes_eq other) slots' ≡ cond (bytes_eq serial other) (Some slot) (lookup (bytes_eq other) slots))
-    (free : (number : ℕ) → lookup (bytes_eq serial) slots ≡ Some (Own number) → ⊥) where
-  owner-stays : (number : ℕ) (one : List ℕ) → lookup (bytes_eq one) slots ≡ Some (Own number) → lookup (bytes_eq one) slots' ≡ Some (Own number)
-  owner-stays number one e = looks one ∙ by (bytes_eq serial one) refl
-    where
-      by : (b : Bool) → bytes_eq serial one ≡ b → cond b (Some slot) (lookup (bytes_eq one) slots) ≡ Some (Own number)
-      by true h = absurd (free number (ap (λ (s : List ℕ). lookup (bytes_eq s) slots) (same_text serial one (sym h)) ∙ e))
-      by false h = e
-
-  pub owned-written : (tracks : List Kept) → IsOwned slots tracks → IsOwned slots' tracks
-  owned-written tracks owned number l = let o = owned number l in (o.0, owner-stays number o.0 o.1)
-
-  pub owned-pushed : (tracks : List Kept) (track : Kept) → slot ≡ Own (length tracks) → IsOwned slots tracks → IsOwned slots' (tracks ++ track ∷ [])
-  owned-pushed tracks track e owned number l = by number (last tracks number l)
-    where
-      last : (xs : List Kept) (n : ℕ) → n < length (xs ++ track ∷ []) → (n < length xs) ⊎ (n ≡ length xs)
-      last [] zero l = inr refl
-      last [] (suc n) l = absurd (omega (arith, l))
-      last (x ∷ xs) zero l = inl (omega arith)
-      last (x ∷ xs) (suc n) l = more (last xs n (omega (arith, l)))
-        where
-          more : (n < length xs) ⊎ (n ≡ length xs) → (suc n < suc (length xs)) ⊎ (suc n ≡ suc (length xs))
-          more (inl h) = inl (omega (arith, h))
-          more (inr h) = inr (ap suc h)
-
-      by : (n : ℕ) → (n < length tracks) ⊎ (n ≡ length tracks) → (one : List ℕ) × (lookup (bytes_eq one) slots' ≡ Some (Own n))
-      by n (inl h) = let o = owned n h in (o.0, owner-stays n o.0 o.1)
-      by n (inr h) = (serial, looks serial ∙ (λ i. cond (text-self serial i) (Some slot) (lookup (bytes_eq serial) slots)) ∙ ap (λ (s : Slot). Some s) e ∙ ap (λ (m : ℕ). Some (Own m)) (sym h))
-
+    (looks : (other : List ℕ) → lookup (bytes_eq other) slots' ≡ cond (bytes_eq serial other) (Some slot) (lookup (bytes_eq other) slots)) where
   pub shelf-pushed : (tracks : List Kept) (track : Kept) → slot ≡ Own (length tracks) → IsShelf slots tracks → IsShelf slots' (tracks ++ track ∷ [])
   shelf-pushed tracks track e shelf = record {
     within = λ one number f. within one number (place one number f);

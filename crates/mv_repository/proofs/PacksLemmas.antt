@@ -1,43 +1,31 @@
 -- What is kept of all packs, by what is kept of those of each product.
-use Rattle.std.specs.Prelude.{bytes_eq, ◌^◌}
-use Rattle.std.proofs.Common.{◌≡◌, ℕ, ◌+◌, ◌<◌, List, [], ◌++◌, length, get_or, take, refl, sym, ◌∙◌, ap, arith, subst, append-nil, Bool, true, false, true≢false, ◌&&◌, Option, Some, None, is_some, filter}
+use Rattle.std.specs.Prelude.{bytes_eq}
+use Rattle.std.proofs.Common.{◌≡◌, ℕ, ◌+◌, List, [], length, get_or, take, refl, sym, ◌∙◌, ap, arith, subst, Bool, true, false, true≢false, ◌&&◌, Option, Some, None, is_some}
 use Rattle.std.specs.List.{list_any}
 use Rattle.std.specs.Cmp.Lexicographic.{same_text}
 use Rattle.std.specs.Map.{lookup}
 use Rattle.std.specs.Option.{unwrap_or}
-use Rattle.std.specs.Set.{distinct_count}
 use Rattle.mv_pack.specs.declared.key.PackKey.{PackKey}
 use Rattle.mv_pack.specs.Keys.{is_same_pack, pack_key}
 use Rattle.mv_message.specs.declared.message.Message.TheVariants.{Upload, Status}
 use Rattle.mv_link.specs.declared.item.Item.{Item}
 use Rattle.mv_link.specs.declared.item.Item.TheVariants.{Carried}
 use Rattle.mv_repository.specs.declared.entry.LogEntry.{LogEntry}
-use Rattle.mv_repository.specs.Counts.{uploaded_in, uploaded_packs, is_held_active}
+use Rattle.mv_repository.specs.Counts.{uploaded_in, uploaded_packs}
 use Rattle.mv_repository.specs.Packs.{PackTables, ArePacksOf}
-use Rattle.mv_repository.specs.PackState.{pack_state, has_pack}
+use Rattle.mv_repository.specs.PackState.{has_pack}
 use Rattle.mv_repository.specs.Shelf.{ShelfTable, IsShelfOf, IsUploadOf, NamesNone, no_shelf, shelf_of}
 use Rattle.mv_repository.specs.declared.slot.Slot.TheVariants.{Own}
 use Rattle.mv_repository.specs.Stops.{StopTables, AreStopsOf, no_entry}
-use Rattle.mv_repository.specs.Tally.{IsTally}
 use Rattle.mv_repository.specs.Track.{Kept, is_upload_of, is_status_of, track_of}
 use Rattle.mv_repository.proofs.AgainLemmas.{untracked}
-use Rattle.mv_repository.proofs.ActiveLemmas.{track-active}
 use Rattle.mv_repository.proofs.ListedLemmas.{listed-newest, listed-stay}
 use Rattle.mv_repository.proofs.RecallLemmas.{BearsOn}
 use Rattle.mv_repository.proofs.ShelvesLemmas.{IsShelved, shelves-follow}
 use Rattle.mv_repository.proofs.TableLemmas.{longer}
-use Rattle.mv_repository.proofs.TallyUploads.{flat-push, held-all, tally-longer, status-elsewhere}
+use Rattle.mv_repository.proofs.UploadedLemmas.{named-longer}
 use Rattle.mv_repository.proofs.TrackLemmas.{log-split}
-use Rattle.mv_repository.proofs.UploadLemmas.{upload-status, upload-stops, untouched}
-
--- the two counts
-pub held-counted : (log : List LogEntry) (packs : PackTables) → ArePacksOf log packs → packs.tally.held ≡ distinct_count is_same_pack (uploaded_packs log)
-held-counted log packs are = held-all log packs.tally are.tally
-
-pub active-counted : (log : List LogEntry) (packs : PackTables) → ArePacksOf log packs
-    → packs.tally.active ≡ distinct_count is_same_pack (filter (λ pack. is_held_active (pack_state pack log)) (uploaded_packs log))
-active-counted log packs are =
-    are.tally.active ∙ (λ i. distinct_count is_same_pack (filter (λ pack. track-active log pack i) (uploaded_packs log)))
+use Rattle.mv_repository.proofs.UploadLemmas.{status-only, upload-status, upload-stops, untouched}
 
 -- a shelf on whose packs the newest entry does not bear
 shelf-stays : (whole : List LogEntry) (place : ℕ) → length whole ≡ place + 1 → (gtin : List ℕ) (shelf : ShelfTable)
@@ -69,6 +57,14 @@ module _ (before : List LogEntry) (start old : List (List ℕ × ShelfTable)) (s
       shelves-follow old new gtin shelf looks whole before shelves-same now
       (λ other e shelf of. shelf-stays whole place l other shelf (λ serial. away other serial e ∙ ap (track_of (pack_key other serial)) b) (subst (λ (w : List LogEntry). IsShelfOf w other shelf) b of))
 
+-- a status bears on one pack
+status-elsewhere : (whole : List LogEntry) (place : ℕ) (pack : PackKey) → length whole ≡ place + 1 → is_status_of pack (get_or whole place no_entry).item ≡ true
+    → (k : PackKey) → is_same_pack pack k ≡ false → track_of k whole ≡ track_of k (take place whole)
+status-elsewhere whole place pack l own k e =
+    let only = status-only pack (get_or whole place no_entry).item own k in
+    ap (track_of k) (log-split whole place l)
+    ∙ untouched (take place whole) (get_or whole place no_entry) k only.0 (only.1 ∙ e) only.2
+
 -- an upload, and a status, of one product bears on no other
 pub upload-away : (whole : List LogEntry) (place : ℕ) (gtin : List ℕ) (serials : List (List ℕ)) → length whole ≡ place + 1 → IsUploadOf (get_or whole place no_entry).item gtin serials
     → (other serial : List ℕ) → bytes_eq gtin other ≡ false → track_of (pack_key other serial) whole ≡ track_of (pack_key other serial) (take place whole)
@@ -89,13 +85,12 @@ pub status-away : (whole : List LogEntry) (place : ℕ) (pack : PackKey) → len
 status-away whole place pack l own other serial e =
     status-elsewhere whole place pack l own (pack_key other serial) (λ i. e i && bytes_eq pack.serial serial)
 
--- where an entry uploads nothing there is room for the packs that there are
-pub none-bound : (whole : List LogEntry) (place : ℕ) (packs : PackTables) → length whole ≡ place + 1 → uploaded_in (get_or whole place no_entry).item ≡ []
-    → ArePacksOf (take place whole) packs → packs.tally.held < 2 ^ 64 → distinct_count is_same_pack (uploaded_packs whole) < 2 ^ 64
-none-bound whole place packs l none are fits =
-    let all = held-counted (take place whole) packs are in
-    let same = ap (distinct_count is_same_pack) (ap uploaded_packs (log-split whole place l) ∙ flat-push (take place whole) (get_or whole place no_entry) ∙ ap (λ (l : List PackKey). uploaded_packs (take place whole) ++ l) none ∙ append-nil (uploaded_packs (take place whole))) in
-    omega (arith, all, same, fits)
+-- an entry that uploads nothing names no pack more
+pub none-named : (log : List LogEntry) (entry : LogEntry) (named : ℕ) → uploaded_in entry.item ≡ [] → named ≡ length (uploaded_packs log) → (whole : List LogEntry) → whole ≡ longer log entry
+    → named ≡ length (uploaded_packs whole)
+none-named log entry named none is whole e =
+    let more = named-longer log entry whole e in
+    let zero : length (uploaded_in entry.item) ≡ 0 = ap length none in omega (arith, more, zero, is)
 
 pub status-uploads : (pack : PackKey) (item : Item) → is_status_of pack item ≡ true → uploaded_in item ≡ []
 status-uploads pack (Carried k stamp (Status key to user at)) e = refl
@@ -120,7 +115,7 @@ packs-same log entry packs none same are = record {
     kept = λ serial. (are.shelves gtin).kept serial ∙ sym (same (pack_key gtin serial));
     listed = listed-newest log entry gtin (shelf_of gtin packs.shelves).slots (shelf_of gtin packs.shelves).listing (λ serial. ap (λ (k : Kept). k.birth) (same (pack_key gtin serial))) (are.shelves gtin).listed;
   };
-  tally = subst (λ (f : PackKey → Kept). IsTally f (uploaded_packs (longer log entry)) packs.tally) (λ i pack. sym (same pack) i) (tally-longer log entry packs.tally are.tally (longer log entry) refl);
+  named = none-named log entry packs.named none are.named (longer log entry) refl;
 }
 
 -- where a product has no shelf, an entry that bears on no other product bears on no pack

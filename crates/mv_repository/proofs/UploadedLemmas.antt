@@ -1,12 +1,12 @@
 -- Uploads: which packs a log names, and how many of those that an upload names are new.
 use Rattle.std.specs.Prelude.{bytes_eq}
-use Rattle.std.proofs.Common.{◌≡◌, ℕ, ◌+◌, ◌<◌, ◌≤◌, List, [], ◌∷◌, ◌++◌, length, take, get_or, refl, sym, ◌∙◌, ap, arith, subst, append-nil, append_assoc, Bool, true, false, cond, not, ◌&&◌, ◌||◌, Option, Some, None, IfSome, is_some, IsSome, true≢false, find, filter, map, fold}
+use Rattle.std.proofs.Common.{◌≡◌, ℕ, ◌+◌, ◌<◌, List, [], ◌∷◌, ◌++◌, length, take, get_or, refl, sym, ◌∙◌, ap, arith, subst, append-nil, append_assoc, length-append, Bool, true, false, cond, not, ◌&&◌, ◌||◌, Option, Some, None, IfSome, is_some, IsSome, true≢false, find, filter, map, fold}
 use Rattle.std.specs.Cmp.{IsEquivalence}
 use Rattle.std.specs.Cmp.Lexicographic.{same_text, nat_list_eq_equiv}
 use Rattle.std.specs.List.{list_any, flat_map}
 use Rattle.std.specs.Option.{option_map}
 use Rattle.std.specs.Set.{distinct_count, is_member, unique_keys}
-use Rattle.std.proofs.lemmas.List.{take_more}
+use Rattle.std.proofs.lemmas.List.{length-map, take_more}
 use Rattle.std.proofs.lemmas.List.Elements.{filter-append}
 use Rattle.std.proofs.lemmas.Map.Made.{is_member-filter}
 use Rattle.std.proofs.lemmas.Map.Steps.{list_any_congr}
@@ -175,32 +175,6 @@ module _ {K : Type 0} (eq : K → K → Bool) (laws : IsEquivalence eq) where
       ∙ push_count (eq y x) (is_member eq xs x) (is_member eq xs y) (distinct_count eq (xs ++ y ∷ [])) (distinct_count eq xs) (distinct_push xs y) (λ e. list_any_congr laws y x xs e)
       ∙ ap (λ n. n + cond (eq y x || is_member eq xs y) 0 1) (sym (length-cond (is_member eq xs x) x (unique_keys eq xs)))
 
-  -- keys that pass a test add nothing where they are there already, and any keys at most as many as they are
-  module _ (f : K → Bool) (same : (a b : K) → eq a b ≡ true → f a ≡ f b) where
-    pub covers-count : (xs ys : List K) → ((q : K) → f q ≡ true → is_member eq xs q ≡ true) → distinct_count eq (filter f (xs ++ ys)) ≡ distinct_count eq (filter f xs)
-    covers-count xs [] h = ap (λ (l : List K). distinct_count eq (filter f l)) (append-nil xs)
-    covers-count xs (y ∷ ys) h =
-        ap (λ (l : List K). distinct_count eq (filter f l)) (sym (append_assoc xs (y ∷ []) ys))
-        ∙ covers-count (xs ++ y ∷ []) ys (λ q e. push_member xs q y ∙ ap (λ b. b || eq q y) (h q e))
-        ∙ ap (distinct_count eq) (filter-append f xs (y ∷ []))
-        ∙ by (f y) refl
-      where
-        by : (b : Bool) → f y ≡ b → distinct_count eq (filter f xs ++ cond b (y ∷ []) []) ≡ distinct_count eq (filter f xs)
-        by false e = ap (distinct_count eq) (append-nil (filter f xs))
-        by true e =
-            let there : is_member eq (filter f xs) y ≡ true = is_member-filter laws f y (λ x e. same y x e) xs ∙ (λ i. h y e i && e i) in
-            let more = distinct_push (filter f xs) y ∙ ap (λ b. distinct_count eq (filter f xs) + cond b 0 1) there in
-            omega (arith, more)
-
-  pub more-count : (xs ys : List K) → distinct_count eq (xs ++ ys) ≤ distinct_count eq xs + length ys
-  more-count xs [] = let e = ap (distinct_count eq) (append-nil xs) in omega (arith, e)
-  more-count xs (y ∷ ys) =
-      let e = ap (distinct_count eq) (append_assoc xs (y ∷ []) ys) in
-      let rest = more-count (xs ++ y ∷ []) ys in
-      let one = distinct_push xs y in
-      let least : cond (is_member eq xs y) 0 1 ≤ 1 = elim (is_member eq xs y) as (λ b. cond b 0 1 ≤ 1) [ true ↦ omega arith | false ↦ omega arith ] in
-      omega (arith, e, rest, one, least)
-
 -- one serial number more
 module _ (log : List LogEntry) (entry : LogEntry) (gtin : List ℕ) (serials : List (List ℕ)) (upload : IsUploadOf entry.item gtin serials) where
   abbrev pub More : List LogEntry → ℕ → Type 0
@@ -268,3 +242,17 @@ module _ (log : List LogEntry) (entry : LogEntry) (gtin : List ℕ) (serials : L
 
   pub new-more : (whole : List LogEntry) (place : ℕ) → whole ≡ longer log entry → place ≡ length log → More whole place
   new-more whole place e n = subst (λ (w : List LogEntry). More w place) (sym e) (subst (λ (m : ℕ). More (longer log entry) m) (sym n) more_newest)
+
+-- the keys of one more entry
+pub flat-push : (log : List LogEntry) (entry : LogEntry) → uploaded_packs (longer log entry) ≡ uploaded_packs log ++ uploaded_in entry.item
+flat-push [] entry = append-nil (uploaded_in entry.item)
+flat-push (one ∷ log) entry =
+    ap (λ (l : List PackKey). uploaded_in one.item ++ l) (flat-push log entry) ∙ sym (append_assoc (uploaded_in one.item) (uploaded_packs log) (uploaded_in entry.item))
+
+-- how many packs the uploads name, with one more entry
+pub named-longer : (log : List LogEntry) (entry : LogEntry) (whole : List LogEntry) → whole ≡ longer log entry → length (uploaded_packs whole) ≡ length (uploaded_packs log) + length (uploaded_in entry.item)
+named-longer log entry whole e = ap (λ (w : List LogEntry). length (uploaded_packs w)) e ∙ ap length (flat-push log entry) ∙ length-append (uploaded_packs log) (uploaded_in entry.item)
+
+pub named-upload : (gtin : List ℕ) (serials : List (List ℕ)) (item : Item) → IsUploadOf item gtin serials → length (uploaded_in item) ≡ length serials
+named-upload gtin serials (Carried k stamp (Upload named batch expiry national packs)) u = length-map packs (pack_key named) ∙ ap length u.1
+named-upload gtin serials _ u = absurd u

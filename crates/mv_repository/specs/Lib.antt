@@ -14,7 +14,7 @@ pub mod Stops
 pub mod Masters
 pub mod State
 pub mod Track
-pub mod Tally
+pub mod Counted
 pub mod Shelf
 pub mod Listing
 pub mod Packs

@@ -14,11 +14,8 @@ use Rattle.std.specs.Option.{unwrap_or}
 use Rattle.std.specs.Set.{distinct_count}
 use Rattle.mv_repository.specs.Effect.{entries_before}
 use Rattle.mv_repository.specs.PackState.{known_pack}
-use Rattle.mv_repository.specs.Counts.{uploaded_packs}
 use Rattle.mv_repository.specs.Listing.{numbers_of, has_number, batch_at, AreListed}
 use Rattle.mv_repository.specs.Stops.{FirstStops, comes_first}
-use Rattle.mv_repository.specs.declared.tally.Tally.{Tally}
-use Rattle.mv_repository.specs.Tally.{IsTally}
 use Rattle.mv_repository.specs.Track.{Kept, track_of, step_place, next_place, IsWorked, is_upload_of, is_status_of}
 
 -- nothing is kept
@@ -40,14 +37,6 @@ pub record IsShelf (slots : List (List ℕ × Slot)) (tracks : List Kept) : Type
   pub within : (serial : List ℕ) (number : ℕ) → lookup (bytes_eq serial) slots ≡ Some (Own number) → number < length tracks
   pub apart : (serial other : List ℕ) (number : ℕ) → lookup (bytes_eq serial) slots ≡ Some (Own number)
       → lookup (bytes_eq other) slots ≡ Some (Own number) → bytes_eq serial other ≡ true
-
--- each track is that of a pack
-abbrev pub IsOwned : List (List ℕ × Slot) → List Kept → Type 0
-IsOwned slots tracks = (number : ℕ) → number < length tracks → (serial : List ℕ) × (lookup (bytes_eq serial) slots ≡ Some (Own number))
-
-pub record IsOwnShelf (slots : List (List ℕ × Slot)) (tracks : List Kept) : Type 0 where
-  pub shelf : IsShelf slots tracks
-  pub owned : IsOwned slots tracks
 
 -- what is kept of the packs of a product
 pub record ShelfTable : Type 0 where
@@ -104,15 +93,10 @@ pub record IsAgain (log : List LogEntry) (stops : FirstStops) (gtin : List ℕ) 
   pub places : map step_place new.steps ≡ map step_place old.steps
   pub worked : IsWorked (next_place log stops gtin new.birth) (unwrap_or new.birth 0) new.steps
 
--- what is kept of each pack, where those of a product stand on a shelf, and the others are by a log
-abbrev pub kept_with : List ℕ → List (List ℕ × Slot) → List Kept → List LogEntry → PackKey → Kept
-kept_with gtin slots tracks log pack = if bytes_eq gtin pack.gtin then kept_on slots tracks pack.serial else track_of pack log
-
--- Each pack on a shelf is kept as one of two logs means it, and the tally is that of the packs on it and of the others, which
--- are by the second.
-pub record IsBetween (now before : List LogEntry) (gtin : List ℕ) (slots : List (List ℕ × Slot)) (tracks : List Kept) (tally : Tally) : Type 0 where
-  pub each : (serial : List ℕ) → (newer : Bool) × (kept_on slots tracks serial ≡ track_of (pack_key gtin serial) (if newer then now else before))
-  pub tally_is : IsTally (kept_with gtin slots tracks before) (uploaded_packs now) tally
+-- each pack on a shelf is kept as one of two logs means it
+abbrev pub IsBetween : List LogEntry → List LogEntry → List ℕ → List (List ℕ × Slot) → List Kept → Type 0
+IsBetween now before gtin slots tracks =
+    (serial : List ℕ) → (newer : Bool) × (kept_on slots tracks serial ≡ track_of (pack_key gtin serial) (if newer then now else before))
 
 -- an item is no upload and no status of a pack
 abbrev pub NamesNone : PackKey → Item → Type 0

@@ -18,6 +18,7 @@
 //! ```
 #![tactic(auto)]
 
+mod counted;
 mod counts;
 mod effect;
 mod entry;
@@ -37,7 +38,6 @@ mod state;
 mod step;
 mod stops;
 mod tables;
-mod tally;
 mod track;
 mod verdict;
 

@@ -1,17 +1,22 @@
-//! What is kept of all packs: a shelf for each product, and how many of the packs are held and active.
+//! What is kept of all packs: a shelf for each product.
 
-ghost use Rattle.std.specs.Prelude.{◌≡◌, ◌+◌, length, take, [], true, false, bytes_eq, OnOk, OnErr, IfOk};
+ghost use Rattle.std.specs.Prelude.{◌≡◌, ◌+◌, List, length, filter, take, [], true, OnOk, OnErr, IfOk};
+ghost use Rattle.std.specs.Set.{distinct_count};
+ghost use Rattle.mv_pack.specs.Keys.{is_same_pack};
+ghost use Rattle.mv_repository.specs.Counted.{is_counted};
+ghost use Rattle.mv_repository.specs.Counts.{uploaded_packs};
+ghost use Rattle.mv_repository.specs.declared.entry.LogEntry.{LogEntry as AnEntry};
 ghost use Rattle.mv_repository.specs.Effect.{effect_of};
 ghost use Rattle.mv_repository.specs.Packs.{ArePacksOf};
 ghost use Rattle.mv_repository.specs.PackState.{pack_state, is_recall_of, is_withdrawal_of};
 ghost use Rattle.mv_repository.specs.Shelf.{IsUploadOf};
 ghost use Rattle.mv_repository.specs.Stops.{AreStopsOf, entry_at};
-ghost use Rattle.mv_repository.specs.Track.{is_status_of};
+ghost use Rattle.mv_repository.specs.Track.{is_status_of, track_of};
 
+use crate::counted::Counted;
 use crate::shelf::{Newest, Shelf};
 use crate::shelves::add_shelf;
 use crate::stops::Stops;
-use crate::tally::Tally;
 use crate::{Effect, Held, LogEntry};
 use indexmap::IndexMap;
 use mv_pack::{BatchKey, Gtin, PackKey, Serial};
@@ -25,8 +30,8 @@ pub(crate) struct Packs {
     alloc: Global,
     /// What is kept of the packs of each product.
     shelves: IndexMap<Gtin, Shelf>,
-    /// How many packs are held, and how many of them are active.
-    tally: Tally,
+    /// How many packs all uploads name, each as often as it is named.
+    named: usize,
 }
 
 impl Model for Packs {
@@ -34,7 +39,7 @@ impl Model for Packs {
 
     ghost Value = { PackTables };
 
-    ghost view = { λ a. record { shelves = a.shelves.entries; tally = a.tally } };
+    ghost view = { λ a. record { shelves = a.shelves.entries; named = a.named } };
 }
 
 impl Packs {
@@ -45,15 +50,21 @@ impl Packs {
         Packs {
             alloc,
             shelves: IndexMap::new(alloc),
-            tally: Tally { held: 0, active: 0 },
+            named: 0,
         }
     }
 
-    /// How many packs are held, and how many of them are active.
-    pub fn tally(&self) -> Tally
-        ensures { result ≡ self.now.tally }
+    /// How many packs are counted, each once.
+    pub fn count(&self, counted: Counted) -> usize
+        ensures { (log : List AnEntry) → ArePacksOf log self.now
+            → result ≡ distinct_count is_same_pack (filter (λ pack. is_counted counted (track_of pack log)) (uploaded_packs log)) }
     {
-        self.tally
+        prove!(self.named <= usize::MAX);
+        let mut count = 0usize;
+        for (_, shelf) in self.shelves.iter() {
+            count = count.saturating_add(shelf.count(counted));
+        }
+        count
     }
 
     /// What a pack is; none where no upload names it.
@@ -82,19 +93,15 @@ impl Packs {
         ensures effect { IfOk result (λ effect. effect ≡ effect_of (take place log.now) (entry_at log.now place).entry) }
         ensures err { OnErr result (ArePacksOf (take place log.now) self.new) }
     {
-        if serials.len() > usize::MAX - self.tally.held {
+        if serials.len() > usize::MAX - self.named {
             return Err(AllocError);
         }
         add_shelf(self.alloc, &mut self.shelves, *gtin)?;
         let Some(shelf) = self.shelves.get_mut(gtin) else {
             unreachable!();
         };
-        let new = shelf.add_upload(
-            &Newest { log, stops, place },
-            gtin,
-            serials,
-            &mut self.tally,
-        )?;
+        let new = shelf.add_upload(&Newest { log, stops, place }, gtin, serials)?;
+        self.named += serials.len();
         Ok(Effect::Uploaded {
             new: new as u64,
             old: (serials.len() - new) as u64,
@@ -117,17 +124,11 @@ impl Packs {
         ensures effect { IfOk result (λ effect. effect ≡ effect_of (take place log.now) (entry_at log.now place).entry) }
         ensures err { OnErr result (ArePacksOf (take place log.now) self.new) }
     {
-        prove!(self.tally.held <= usize::MAX);
         add_shelf(self.alloc, &mut self.shelves, pack.gtin)?;
         let Some(shelf) = self.shelves.get_mut(&pack.gtin) else {
             unreachable!();
         };
-        let effect = shelf.add_status(
-            self.alloc,
-            &Newest { log, stops, place },
-            pack,
-            &mut self.tally,
-        )?;
+        let effect = shelf.add_status(self.alloc, &Newest { log, stops, place }, pack)?;
         Ok(effect)
     }
 
@@ -139,11 +140,10 @@ impl Packs {
         requires packs { ArePacksOf (take place log.now) self.old }
         ensures { ArePacksOf log.now self.new }
     {
-        prove!(self.tally.held <= usize::MAX);
         let Some(shelf) = self.shelves.get_mut(&batch.gtin) else {
             return;
         };
-        shelf.refresh_batch(&Newest { log, stops, place }, batch, &mut self.tally);
+        shelf.refresh_batch(&Newest { log, stops, place }, batch);
     }
 
     /// Works out again the packs of a product, of which the newest entry is a withdrawal.
@@ -154,10 +154,9 @@ impl Packs {
         requires packs { ArePacksOf (take place log.now) self.old }
         ensures { ArePacksOf log.now self.new }
     {
-        prove!(self.tally.held <= usize::MAX);
         let Some(shelf) = self.shelves.get_mut(gtin) else {
             return;
         };
-        shelf.refresh_product(&Newest { log, stops, place }, gtin, &mut self.tally);
+        shelf.refresh_product(&Newest { log, stops, place }, gtin);
     }
 }

@@ -3,6 +3,7 @@
 ghost use Rattle.std.specs.Prelude.{◌≡◌, OnOk, OnErr, IfOk};
 ghost use Rattle.std.specs.Option.{option_copied};
 
+use crate::counted::Counted;
 use crate::inquiries::Inquiries;
 use crate::state::is_active;
 use crate::tables::Tables;
@@ -112,16 +113,15 @@ impl Repository {
         self.tables.stops.has_withdrawal(gtin)
     }
 
-    /// How much the repository has, each thing counted once.
+    /// How much the repository has, each thing counted once. It goes through the table of packs.
     pub fn counts(&self) -> Counts
         ensures { result ≡ counts_of self.now.log }
     {
-        let tally = self.tables.packs.tally();
         Counts {
             entries: self.log.len(),
             products: self.tables.masters.len(),
-            packs: tally.held,
-            active: tally.active,
+            packs: self.tables.packs.count(Counted::Held),
+            active: self.tables.packs.count(Counted::Active),
             recalled: self.tables.stops.recalled_count(),
         }
     }

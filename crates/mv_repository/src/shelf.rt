@@ -1,26 +1,25 @@
 //! What is kept of each pack of one product, by serial numbers alone. This file knows no other product.
 
 ghost use Rattle.std.specs.Prelude.{◌≡◌, ◌<◌, ◌≤◌, ◌+◌, ◌^◌, ℕ, List, [], map, length, get_or, take, Some, true, false, ◌==◌, bytes_eq, OnOk, OnErr, IfOk};
-ghost use Rattle.std.specs.Map.{lookup};
+ghost use Rattle.std.specs.List.{IsDistinct};
+ghost use Rattle.std.specs.Map.{lookup, keys_of};
 ghost use Rattle.mv_repository.specs.declared.slot.Slot.TheVariants.{Own};
 ghost use Rattle.indexmap.specs.IndexMap.{spare};
-ghost use Rattle.std.specs.Set.{distinct_count};
-ghost use Rattle.mv_pack.specs.Keys.{pack_key, is_same_pack};
-ghost use Rattle.mv_repository.specs.Counts.{uploaded_packs};
-ghost use Rattle.mv_repository.specs.Tally.{share_of, IsMoved, IsTally};
+ghost use Rattle.mv_pack.specs.Keys.{pack_key};
+ghost use Rattle.mv_repository.specs.Counted.{is_counted, slots_counted};
 ghost use Rattle.mv_repository.specs.Stops.{AreStopsOf, entry_at, stops_in, comes_first, earlier_place};
-ghost use Rattle.mv_repository.specs.Shelf.{new_count, nothing_kept, kept_on, IsShelf, IsOwned, IsShelfOf, IsUploadOf, IsAgain, IsBetween, AreKept, NamesNone, has, AreMadeListed, HasNoOther};
+ghost use Rattle.mv_repository.specs.Shelf.{new_count, nothing_kept, kept_by, kept_on, IsShelf, IsShelfOf, IsUploadOf, IsAgain, IsBetween, AreKept, NamesNone, has, AreMadeListed, HasNoOther};
 ghost use Rattle.mv_repository.specs.Listing.{numbers_of, has_number, HasAllOf, batch_at, AreListed};
 ghost use Rattle.mv_repository.specs.Track.{IsTrack, step_place, track_of, is_status_of, state_by};
 ghost use Rattle.mv_repository.specs.Effect.{effect_of};
 ghost use Rattle.mv_repository.specs.PackState.{is_recall_of, is_withdrawal_of};
 
+use crate::counted::Counted;
 use crate::listing::Listing;
 use crate::order::passes;
 use crate::slot::Slot;
 use crate::state::held_at;
 use crate::stops::Stops;
-use crate::tally::{Share, Tally};
 use crate::track::Track;
 use crate::{Effect, Held, LogEntry};
 use indexmap::IndexMap;
@@ -39,26 +38,6 @@ pub(crate) struct Newest<'a> {
     pub place: u32,
 }
 
-/// What an upload did to a pack.
-#[derive(Clone, Copy)]
-struct Added {
-    /// Whether it is the first by stamp that names the pack.
-    is_first: bool,
-    /// What the pack added to the tally before.
-    was: Share,
-    /// What it adds now.
-    is: Share,
-}
-
-impl Added {
-    /// To a pack that no status names, and an upload that stands in front.
-    const NOTHING: Added = Added {
-        is_first: false,
-        was: Share::NEW,
-        is: Share::NEW,
-    };
-}
-
 /// Adds the newest entry, an upload, to what is kept of one pack that it names; whether it is the first such by stamp.
 fn put_upload(
     slots: &mut IndexMap<Serial, Slot>,
@@ -66,14 +45,12 @@ fn put_upload(
     newest: &Newest<'_>,
     gtin: &Gtin,
     serial: &Serial,
-) -> Added
+) -> bool
     requires room { 0 < spare slots.old }
     requires shelf { IsShelf slots.old.entries tracks.old.items }
-    requires owned { IsOwned slots.old.entries tracks.old.items }
     requires worked { IsTrack newest.now.log.now (stops_in newest.now.log.now newest.now.stops.now) gtin.now (kept_on slots.old.entries tracks.old.items serial.now) }
     ensures room { spare slots.old ≤ spare slots.new + 1 }
     ensures shelf { IsShelf slots.new.entries tracks.new.items }
-    ensures owned { IsOwned slots.new.entries tracks.new.items }
     ensures no_other { HasNoOther slots.old.entries slots.new.entries }
     ensures birth { (kept_on slots.new.entries tracks.new.items serial.now).birth
         ≡ earlier_place newest.now.log.now newest.now.place (kept_on slots.old.entries tracks.old.items serial.now).birth }
@@ -82,34 +59,24 @@ fn put_upload(
     ensures worked { IsTrack newest.now.log.now (stops_in newest.now.log.now newest.now.stops.now) gtin.now (kept_on slots.new.entries tracks.new.items serial.now) }
     ensures others { (other : List ℕ) → bytes_eq serial.now other ≡ false
         → kept_on slots.new.entries tracks.new.items other ≡ kept_on slots.old.entries tracks.old.items other }
-    ensures first { result.is_first ≡ comes_first newest.now.log.now newest.now.place (kept_on slots.old.entries tracks.old.items serial.now).birth }
-    ensures was { result.was ≡ share_of (kept_on slots.old.entries tracks.old.items serial.now) }
-    ensures is { result.is ≡ share_of (kept_on slots.new.entries tracks.new.items serial.now) }
+    ensures first { result ≡ comes_first newest.now.log.now newest.now.place (kept_on slots.old.entries tracks.old.items serial.now).birth }
 {
-    let was = match slots.get(serial).copied() {
+    match slots.get(serial).copied() {
         Some(Slot::Own(number)) => {
             let track = &mut tracks[number as usize];
-            let was = track.share();
-            let is_first = track.add_upload(newest.log, newest.stops, gtin, newest.place);
-            let is = track.share();
-            return Added { is_first, was, is };
+            return track.add_upload(newest.log, newest.stops, gtin, newest.place);
         }
         Some(Slot::Made(first)) => {
             if !passes(newest.log, newest.place as usize, first as usize) {
-                return Added::NOTHING;
+                return false;
             }
-            Share::NEW
         }
-        None => Share::NONE,
-    };
+        None => {}
+    }
     let Ok(_) = slots.insert(serial.copy(), Slot::Made(newest.place)) else {
         unreachable!();
     };
-    Added {
-        is_first: true,
-        was,
-        is: Share::NEW,
-    }
+    true
 }
 
 /// Adds the newest entry, an upload, to what is kept of each pack that it names, for which there is room; how many are new.
@@ -119,30 +86,23 @@ fn put_uploads(
     newest: &Newest<'_>,
     gtin: &Gtin,
     serials: &[Serial],
-    tally: &mut Tally,
 ) -> usize
     requires room { length serials.now ≤ spare slots.old }
     requires shelf { IsShelf slots.old.entries tracks.old.items }
-    requires owned { IsOwned slots.old.entries tracks.old.items }
     requires last { length newest.now.log.now ≡ newest.now.place + 1 }
     requires stops { AreStopsOf (take newest.now.place newest.now.log.now) newest.now.stops.now }
     requires upload { IsUploadOf (entry_at newest.now.log.now newest.now.place).entry.item gtin.now serials.now }
     requires kept { AreKept newest.now.log.now (take newest.now.place newest.now.log.now) [] gtin.now slots.old.entries tracks.old.items }
-    requires tally { IsTally (λ pack. track_of pack (take newest.now.place newest.now.log.now)) (uploaded_packs newest.now.log.now) tally.old }
-    requires bound { distinct_count is_same_pack (uploaded_packs newest.now.log.now) < 2 ^ 64 }
     ensures shelf { IsShelf slots.new.entries tracks.new.items }
-    ensures owned { IsOwned slots.new.entries tracks.new.items }
     ensures no_other { HasNoOther slots.old.entries slots.new.entries }
     ensures kept { AreKept newest.now.log.now (take newest.now.place newest.now.log.now) serials.now gtin.now slots.new.entries tracks.new.items }
-    ensures tally { IsTally (λ pack. track_of pack newest.now.log.now) (uploaded_packs newest.now.log.now) tally.new }
     ensures new { result ≡ new_count (take newest.now.place newest.now.log.now) (entry_at newest.now.log.now newest.now.place).entry gtin.now serials.now }
     ensures least { result ≤ length serials.now }
 {
     let mut count = 0;
     for serial in serials {
-        let added = put_upload(slots, tracks, newest, gtin, serial);
-        *tally = tally.moved(added.was, added.is);
-        count = if added.is_first { count + 1 } else { count };
+        let is_first = put_upload(slots, tracks, newest, gtin, serial);
+        count = if is_first { count + 1 } else { count };
     }
     count
 }
@@ -205,24 +165,18 @@ fn put_status(
     listing: &mut Listing,
     newest: &Newest<'_>,
     pack: &PackKey,
-    tally: &mut Tally,
 ) -> Result<Effect, AllocError>
     requires shelf { IsShelf slots.old.entries tracks.old.items }
-    requires owned { IsOwned slots.old.entries tracks.old.items }
     requires last { length newest.now.log.now ≡ newest.now.place + 1 }
     requires stops { AreStopsOf (take newest.now.place newest.now.log.now) newest.now.stops.now }
     requires own { is_status_of pack.now (entry_at newest.now.log.now newest.now.place).entry.item ≡ true }
     requires kept { kept_on slots.old.entries tracks.old.items pack.now.serial ≡ track_of pack.now (take newest.now.place newest.now.log.now) }
     requires listed { AreListed (take newest.now.place newest.now.log.now) pack.now.gtin slots.old.entries listing.old }
     ensures shelf { IsShelf slots.new.entries tracks.new.items }
-    ensures owned { IsOwned slots.new.entries tracks.new.items }
     ensures kept { OnOk result (kept_on slots.new.entries tracks.new.items pack.now.serial ≡ track_of pack.now newest.now.log.now) }
     ensures others { (other : List ℕ) → bytes_eq pack.now.serial other ≡ false
         → kept_on slots.new.entries tracks.new.items other ≡ kept_on slots.old.entries tracks.old.items other }
     ensures effect { IfOk result (λ effect. effect ≡ effect_of (take newest.now.place newest.now.log.now) (entry_at newest.now.log.now newest.now.place).entry) }
-    ensures tally { OnOk result (IsMoved tally.old (share_of (kept_on slots.old.entries tracks.old.items pack.now.serial))
-        (share_of (kept_on slots.new.entries tracks.new.items pack.now.serial)) tally.new) }
-    ensures tally_err { OnErr result (tally.new ≡ tally.old) }
     ensures listed { OnOk result (AreListed newest.now.log.now pack.now.gtin slots.new.entries listing.new) }
     ensures listed_err { OnErr result (AreListed (take newest.now.place newest.now.log.now) pack.now.gtin slots.new.entries listing.new) }
     ensures slots_err { OnErr result (slots.new.entries ≡ slots.old.entries) }
@@ -231,11 +185,7 @@ fn put_status(
     let birth = match slots.get(&pack.serial).copied() {
         Some(Slot::Own(number)) => {
             let track = &mut tracks[number as usize];
-            let was = track.share();
-            let effect = track.add_status(newest.log, newest.stops, pack, newest.place)?;
-            let is = track.share();
-            *tally = tally.moved(was, is);
-            return Ok(effect);
+            return track.add_status(newest.log, newest.stops, pack, newest.place);
         }
         Some(Slot::Made(first)) => Some(first),
         None => None,
@@ -245,36 +195,22 @@ fn put_status(
         return Err(AllocError);
     }
     let mut track = Track::new(alloc, birth);
-    let was = track.share();
     let effect = track.add_status(newest.log, newest.stops, pack, newest.place)?;
-    let is = track.share();
     tracks.reserve(1)?;
     listing.add(newest.log, birth, number as u32)?;
     slots.insert(pack.serial.copy(), Slot::Own(number as u32))?;
     tracks.push_reserved(track);
-    *tally = tally.moved(was, is);
     Ok(effect)
 }
 
 /// Works out again the track of a number.
-fn refresh_track(
-    tracks: &mut Vec<Track>,
-    newest: &Newest<'_>,
-    gtin: &Gtin,
-    number: usize,
-    tally: &mut Tally,
-)
+fn refresh_track(tracks: &mut Vec<Track>, newest: &Newest<'_>, gtin: &Gtin, number: usize)
     requires within { number < length tracks.old.items }
     ensures count { length tracks.new.items ≡ length tracks.old.items }
     ensures again { IsAgain newest.now.log.now (stops_in newest.now.log.now newest.now.stops.now) gtin.now (get_or tracks.old.items number nothing_kept) (get_or tracks.new.items number nothing_kept) }
     ensures others { (other : ℕ) → (other == number) ≡ false → get_or tracks.new.items other nothing_kept ≡ get_or tracks.old.items other nothing_kept }
-    ensures tally { IsMoved tally.old (share_of (get_or tracks.old.items number nothing_kept)) (share_of (get_or tracks.new.items number nothing_kept)) tally.new }
 {
-    let track = &mut tracks[number];
-    let was = track.share();
-    track.refresh(newest.log, newest.stops, gtin);
-    let is = track.share();
-    *tally = tally.moved(was, is);
+    tracks[number].refresh(newest.log, newest.stops, gtin);
 }
 
 /// Works out again all tracks of a product, where the newest entry names no pack.
@@ -283,22 +219,19 @@ fn refresh_tracks(
     tracks: &mut Vec<Track>,
     newest: &Newest<'_>,
     gtin: &Gtin,
-    tally: &mut Tally,
 )
     requires shelf { IsShelf slots.now.entries tracks.old.items }
-    requires owned { IsOwned slots.now.entries tracks.old.items }
     requires last { length newest.now.log.now ≡ newest.now.place + 1 }
     requires stops { AreStopsOf newest.now.log.now newest.now.stops.now }
     requires names { (serial : List ℕ) → NamesNone (pack_key gtin.now serial) (entry_at newest.now.log.now newest.now.place).entry.item }
-    requires bound { distinct_count is_same_pack (uploaded_packs newest.now.log.now) < 2 ^ 64 }
-    requires between { IsBetween newest.now.log.now (take newest.now.place newest.now.log.now) gtin.now slots.now.entries tracks.old.items tally.old }
+    requires between { IsBetween newest.now.log.now (take newest.now.place newest.now.log.now) gtin.now slots.now.entries tracks.old.items }
     ensures count { length tracks.new.items ≡ length tracks.old.items }
-    ensures between { IsBetween newest.now.log.now (take newest.now.place newest.now.log.now) gtin.now slots.now.entries tracks.new.items tally.new }
+    ensures between { IsBetween newest.now.log.now (take newest.now.place newest.now.log.now) gtin.now slots.now.entries tracks.new.items }
     ensures worked { (serial : List ℕ) (number : ℕ) → lookup (bytes_eq serial) slots.now.entries ≡ Some (Own number)
         → kept_on slots.now.entries tracks.new.items serial ≡ track_of (pack_key gtin.now serial) newest.now.log.now }
 {
     for number in 0..tracks.len() {
-        refresh_track(tracks, newest, gtin, number, tally);
+        refresh_track(tracks, newest, gtin, number);
     }
 }
 
@@ -309,24 +242,21 @@ fn refresh_listed(
     numbers: &[u32],
     newest: &Newest<'_>,
     gtin: &Gtin,
-    tally: &mut Tally,
 )
     requires shelf { IsShelf slots.now.entries tracks.old.items }
-    requires owned { IsOwned slots.now.entries tracks.old.items }
     requires last { length newest.now.log.now ≡ newest.now.place + 1 }
     requires stops { AreStopsOf newest.now.log.now newest.now.stops.now }
     requires names { (serial : List ℕ) → NamesNone (pack_key gtin.now serial) (entry_at newest.now.log.now newest.now.place).entry.item }
-    requires bound { distinct_count is_same_pack (uploaded_packs newest.now.log.now) < 2 ^ 64 }
-    requires between { IsBetween newest.now.log.now (take newest.now.place newest.now.log.now) gtin.now slots.now.entries tracks.old.items tally.old }
+    requires between { IsBetween newest.now.log.now (take newest.now.place newest.now.log.now) gtin.now slots.now.entries tracks.old.items }
     ensures count { length tracks.new.items ≡ length tracks.old.items }
-    ensures between { IsBetween newest.now.log.now (take newest.now.place newest.now.log.now) gtin.now slots.now.entries tracks.new.items tally.new }
+    ensures between { IsBetween newest.now.log.now (take newest.now.place newest.now.log.now) gtin.now slots.now.entries tracks.new.items }
     ensures worked { (serial : List ℕ) (number : ℕ) → lookup (bytes_eq serial) slots.now.entries ≡ Some (Own number)
         → has_number numbers.now number ≡ true → kept_on slots.now.entries tracks.new.items serial ≡ track_of (pack_key gtin.now serial) newest.now.log.now }
 {
     for listed in numbers {
         let number = *listed as usize;
         if number < tracks.len() {
-            refresh_track(tracks, newest, gtin, number, tally);
+            refresh_track(tracks, newest, gtin, number);
         }
     }
 }
@@ -343,13 +273,13 @@ pub(crate) struct Shelf {
 }
 
 impl Model for Shelf {
-    ghost use Rattle.mv_repository.specs.Shelf.{ShelfTable, IsOwnShelf};
+    ghost use Rattle.mv_repository.specs.Shelf.{ShelfTable, IsShelf};
 
     ghost Value = { ShelfTable };
 
     ghost view = { λ a. record { slots = a.slots.entries; tracks = a.tracks.items; listing = a.listing } };
 
-    ghost invariant = { λ a. IsOwnShelf a.slots.entries a.tracks.items };
+    ghost invariant = { λ a. IsShelf a.slots.entries a.tracks.items };
 }
 
 impl Shelf {
@@ -374,26 +304,45 @@ impl Shelf {
         }
     }
 
+    /// Whether the pack that a slot stands for is counted.
+    fn is_counted(&self, counted: Counted, slot: Slot) -> bool
+        ensures { result ≡ is_counted counted (kept_by self.now.tracks (Some slot)) }
+    {
+        match slot {
+            Slot::Made(_) => true,
+            Slot::Own(number) => match self.tracks.get(number as usize) {
+                Some(track) => track.is_counted(counted),
+                None => false,
+            },
+        }
+    }
+
+    /// How many packs of the product are counted.
+    pub fn count(&self, counted: Counted) -> usize
+        ensures count { result ≡ length (slots_counted counted self.now) }
+        ensures distinct { IsDistinct bytes_eq (keys_of self.now.slots) }
+    {
+        self.slots
+            .iter()
+            .filter(|slot| self.is_counted(counted, *slot.1))
+            .count()
+    }
+
     /// Adds the newest entry, an upload; how many of the packs are new. Where memory is refused nothing has changed.
     pub fn add_upload(
         &mut self,
         newest: &Newest<'_>,
         gtin: &Gtin,
         serials: &[Serial],
-        tally: &mut Tally,
     ) -> Result<usize, AllocError>
         requires last { length newest.now.log.now ≡ newest.now.place + 1 }
         requires stops { AreStopsOf (take newest.now.place newest.now.log.now) newest.now.stops.now }
         requires upload { IsUploadOf (entry_at newest.now.log.now newest.now.place).entry.item gtin.now serials.now }
         requires shelf { IsShelfOf (take newest.now.place newest.now.log.now) gtin.now self.old }
-        requires tally { IsTally (λ pack. track_of pack (take newest.now.place newest.now.log.now)) (uploaded_packs newest.now.log.now) tally.old }
-        requires bound { distinct_count is_same_pack (uploaded_packs newest.now.log.now) < 2 ^ 64 }
         ensures ok { OnOk result (IsShelfOf newest.now.log.now gtin.now self.new) }
-        ensures tally { OnOk result (IsTally (λ pack. track_of pack newest.now.log.now) (uploaded_packs newest.now.log.now) tally.new) }
         ensures new { IfOk result (λ new. new ≡ new_count (take newest.now.place newest.now.log.now) (entry_at newest.now.log.now newest.now.place).entry gtin.now serials.now) }
         ensures least { IfOk result (λ new. new ≤ length serials.now) }
         ensures err { OnErr result (IsShelfOf (take newest.now.place newest.now.log.now) gtin.now self.new) }
-        ensures tally_err { OnErr result (tally.new ≡ tally.old) }
     {
         list_made(
             &mut self.listing,
@@ -405,14 +354,7 @@ impl Shelf {
         )?;
         self.slots.reserve(serials.len())?;
         // All room is got: nothing fails from here on.
-        let new = put_uploads(
-            &mut self.slots,
-            &mut self.tracks,
-            newest,
-            gtin,
-            serials,
-            tally,
-        );
+        let new = put_uploads(&mut self.slots, &mut self.tracks, newest, gtin, serials);
         Ok(new)
     }
 
@@ -423,19 +365,14 @@ impl Shelf {
         alloc: Global,
         newest: &Newest<'_>,
         pack: &PackKey,
-        tally: &mut Tally,
     ) -> Result<Effect, AllocError>
         requires last { length newest.now.log.now ≡ newest.now.place + 1 }
         requires stops { AreStopsOf (take newest.now.place newest.now.log.now) newest.now.stops.now }
         requires own { is_status_of pack.now (entry_at newest.now.log.now newest.now.place).entry.item ≡ true }
         requires shelf { IsShelfOf (take newest.now.place newest.now.log.now) pack.now.gtin self.old }
-        requires tally { IsTally (λ pack. track_of pack (take newest.now.place newest.now.log.now)) (uploaded_packs newest.now.log.now) tally.old }
-        requires bound { distinct_count is_same_pack (uploaded_packs newest.now.log.now) < 2 ^ 64 }
         ensures ok { OnOk result (IsShelfOf newest.now.log.now pack.now.gtin self.new) }
-        ensures tally { OnOk result (IsTally (λ pack. track_of pack newest.now.log.now) (uploaded_packs newest.now.log.now) tally.new) }
         ensures effect { IfOk result (λ effect. effect ≡ effect_of (take newest.now.place newest.now.log.now) (entry_at newest.now.log.now newest.now.place).entry) }
         ensures err { OnErr result (IsShelfOf (take newest.now.place newest.now.log.now) pack.now.gtin self.new) }
-        ensures tally_err { OnErr result (tally.new ≡ tally.old) }
     {
         let effect = put_status(
             alloc,
@@ -444,37 +381,31 @@ impl Shelf {
             &mut self.listing,
             newest,
             pack,
-            tally,
         )?;
         Ok(effect)
     }
 
     /// Works out again all packs of the product, of which the newest entry is a withdrawal.
-    pub fn refresh_product(&mut self, newest: &Newest<'_>, gtin: &Gtin, tally: &mut Tally)
+    pub fn refresh_product(&mut self, newest: &Newest<'_>, gtin: &Gtin)
         requires last { length newest.now.log.now ≡ newest.now.place + 1 }
         requires stops { AreStopsOf newest.now.log.now newest.now.stops.now }
         requires withdrawal { is_withdrawal_of gtin.now (entry_at newest.now.log.now newest.now.place).entry.item ≡ true }
         requires shelf { IsShelfOf (take newest.now.place newest.now.log.now) gtin.now self.old }
-        requires tally { IsTally (λ pack. track_of pack (take newest.now.place newest.now.log.now)) (uploaded_packs newest.now.log.now) tally.old }
-        requires bound { distinct_count is_same_pack (uploaded_packs newest.now.log.now) < 2 ^ 64 }
-        ensures shelf { IsShelfOf newest.now.log.now gtin.now self.new }
-        ensures tally { IsTally (λ pack. track_of pack newest.now.log.now) (uploaded_packs newest.now.log.now) tally.new }
+        ensures { IsShelfOf newest.now.log.now gtin.now self.new }
     {
-        refresh_tracks(&self.slots, &mut self.tracks, newest, gtin, tally);
+        refresh_tracks(&self.slots, &mut self.tracks, newest, gtin);
     }
+
     /// Works out again the packs that may be of a batch of the product, of which the newest entry is a recall.
-    pub fn refresh_batch(&mut self, newest: &Newest<'_>, batch: &BatchKey, tally: &mut Tally)
+    pub fn refresh_batch(&mut self, newest: &Newest<'_>, batch: &BatchKey)
         requires last { length newest.now.log.now ≡ newest.now.place + 1 }
         requires stops { AreStopsOf newest.now.log.now newest.now.stops.now }
         requires recall { is_recall_of batch.now (entry_at newest.now.log.now newest.now.place).entry.item ≡ true }
         requires shelf { IsShelfOf (take newest.now.place newest.now.log.now) batch.now.gtin self.old }
-        requires tally { IsTally (λ pack. track_of pack (take newest.now.place newest.now.log.now)) (uploaded_packs newest.now.log.now) tally.old }
-        requires bound { distinct_count is_same_pack (uploaded_packs newest.now.log.now) < 2 ^ 64 }
-        ensures shelf { IsShelfOf newest.now.log.now batch.now.gtin self.new }
-        ensures tally { IsTally (λ pack. track_of pack newest.now.log.now) (uploaded_packs newest.now.log.now) tally.new }
+        ensures { IsShelfOf newest.now.log.now batch.now.gtin self.new }
     {
         let numbers = self.listing.of(&batch.batch);
         let gtin = &batch.gtin;
-        refresh_listed(&self.slots, &mut self.tracks, numbers, newest, gtin, tally);
+        refresh_listed(&self.slots, &mut self.tracks, numbers, newest, gtin);
     }
 }

@@ -3,18 +3,18 @@
 
 ghost use Rattle.std.specs.Prelude.{◌≡◌, ◌≤◌, ◌+◌, ℕ, List, [], length, map, insert, take, drop, true, OnOk, OnErr, IfOk};
 ghost use Rattle.std.specs.Option.{option_map, unwrap_or};
+ghost use Rattle.mv_repository.specs.Counted.{is_counted};
 ghost use Rattle.mv_repository.specs.Effect.{effect_of};
 ghost use Rattle.mv_repository.specs.Order.{Ascends};
 ghost use Rattle.mv_repository.specs.Shelf.{IsAgain};
 ghost use Rattle.mv_repository.specs.Stops.{AreStopsOf, entry_at, stops_in, comes_first, earlier_place};
-ghost use Rattle.mv_repository.specs.Tally.{share_of};
 ghost use Rattle.mv_repository.specs.Track.{is_status_of, track_of, IsTrack, state_by, step_place, next_place, IsWorked, last_by, put_place, places_before};
 
+use crate::counted::Counted;
 use crate::order::passes;
 use crate::state::{held_at, next};
 use crate::step::Step;
 use crate::stops::Stops;
-use crate::tally::Share;
 use crate::{Effect, Held, LogEntry};
 use mv_pack::{Gtin, PackKey};
 use std::alloc::{AllocError, Global};
@@ -118,16 +118,16 @@ impl Track {
         held_at(log, self.birth?, self.by_before(self.steps.len()))
     }
 
-    /// What the pack adds to a tally.
-    pub fn share(&self) -> Share
-        ensures { result ≡ share_of self.now }
+    /// Whether the pack is counted.
+    pub fn is_counted(&self, counted: Counted) -> bool
+        ensures { result ≡ is_counted counted self.now }
     {
         let Some(birth) = self.birth else {
-            return Share::NONE;
+            return false;
         };
-        Share {
-            held: true,
-            active: birth == self.by_before(self.steps.len()),
+        match counted {
+            Counted::Held => true,
+            Counted::Active => birth == self.by_before(self.steps.len()),
         }
     }
 

@@ -1,36 +1,19 @@
 -- The pack has the status, and no other track is touched.
 use Rattle.std.specs.Prelude.{bytes_eq}
-use Rattle.std.proofs.Common.{rules, ◌≡◌, ◌∙◌, ◌<◌, ◌++◌, ◌∷◌, [], ℕ, zero, suc, List, length, get_or, take, set, ap, sym, subst, arith, refl, cond, Option, Some, None, false, true≢false}
+use Rattle.std.proofs.Common.{rules, ◌≡◌, ◌∙◌, ◌<◌, ◌++◌, ◌∷◌, [], ℕ, zero, suc, List, length, get_or, take, ap, sym, subst, arith, refl, cond, Option, Some, None}
 use Rattle.std.specs.Map.{lookup}
-use Rattle.std.proofs.lemmas.List.{get_or_default}
 use Rattle.mv_repository.specs.declared.slot.Slot.{Slot}
 use Rattle.mv_repository.specs.declared.slot.Slot.TheVariants.{Made, Own}
-use Rattle.mv_repository.specs.declared.tally.Share.{Share}
-use Rattle.mv_repository.proofs.OwnedLemmas.{is_own, number_in, owned-pushed, shelf-pushed}
+use Rattle.mv_repository.proofs.OwnedLemmas.{number_in, shelf-pushed}
 use Rattle.mv_repository.proofs.shelf.put_status.Goals.{in-Some-Made, in-None}
-use Rattle.mv_repository.specs.Shelf.{IsShelf, IsOwned, kept_on, kept_by, nothing_kept}
-use Rattle.mv_repository.specs.Tally.{share_of, IsMoved}
+use Rattle.mv_repository.specs.Shelf.{IsShelf, kept_on, kept_by, nothing_kept}
 use Rattle.mv_repository.specs.Track.{Kept, track_of}
 use Rattle.mv_repository.specs.Listing.{numbers_of, has_number}
 use Rattle.mv_repository.specs.Stops.{no_entry}
 use Rattle.mv_pack.specs.Keys.{pack_key}
-use Rattle.mv_repository.proofs.ListedLemmas.{listed-none, listed-track}
+use Rattle.mv_repository.proofs.ListedLemmas.{on_ok, listed-none, listed-track}
 use Rattle.mv_repository.proofs.UploadLemmas.{status-only}
 use Rattle.mv_repository.proofs.shelf.put_status.Goals as goal
-
-pub returns-in-Some-Own-clause-tally : goal.returns-in-Some-Own-clause-tally
-returns-in-Some-Own-clause-tally c =
-    let serial = c.args.pack.now.serial in
-    let slots = c.args.slots.now.entries in
-    let tracks = c.args.tracks.now.items in
-    let now = set tracks c.in-Some-Own.number c.add_status.new.self in
-    let found : lookup (bytes_eq serial) slots ≡ Some (Own c.in-Some-Own.number) = search rules in
-    let before : c.index_mut-track.result.now ≡ kept_by tracks (Some (Own c.in-Some-Own.number)) = c.index_mut-track.ensures.value ∙ get_or_default tracks c.in-Some-Own.number _ nothing_kept (c.requires.shelf.within serial c.in-Some-Own.number found) in
-    let after : c.add_status.new.self ≡ kept_by now (Some (Own c.in-Some-Own.number)) = search rules in
-    let was : c.share-was.result ≡ share_of (kept_on slots tracks serial) = c.share-was.ensures ∙ ap share_of (before ∙ ap (kept_by tracks) (sym found)) in
-    let is : c.share-is.result ≡ share_of (kept_on slots now serial) = c.share-is.ensures ∙ ap share_of (after ∙ ap (kept_by now) (sym found)) in
-    subst (λ (x : Share). IsMoved c.args.tally.now x (share_of (kept_on slots now serial)) c.moved.result) was
-    (subst (λ (x : Share). IsMoved c.args.tally.now c.share-was.result x c.moved.result) is c.moved.ensures)
 
 front : (xs : List Kept) (x : Kept) (n : ℕ) → n < length xs → get_or (xs ++ x ∷ []) n nothing_kept ≡ get_or xs n nothing_kept
 front [] x n l = absurd (omega (arith, l))
@@ -50,23 +33,7 @@ returns-clause-others c other e =
     by (Some (Made place)) h = refl
     by (Some (Own n)) h = front c.args.tracks.now.items c.add_status-2.new.self n (c.requires.shelf.within other n h)
 
-pub returns-in_err-insert-clause-owned : goal.returns-in_err-insert-clause-owned
-returns-in_err-insert-clause-owned c =
-    let slots : c.insert.new.self.entries ≡ c.args.slots.now.entries = search rules in
-    let tracks : c.reserve.new.self.items ≡ c.args.tracks.now.items = search rules in
-    subst (λ (s : List (List ℕ × Slot)). IsOwned s c.reserve.new.self.items) (sym slots) (subst (IsOwned c.args.slots.now.entries) (sym tracks) c.requires.owned)
-
--- the slot that is written is no track's
-module _ (c : goal.After-moved-2) where
-  unowned : is_own (lookup (bytes_eq c.args.pack.now.serial) c.args.slots.now.entries) ≡ false
-  unowned = elim c.match-copied.branch [
-    | in-Some-Made w ↦ let found : lookup (bytes_eq c.args.pack.now.serial) c.args.slots.now.entries ≡ Some (Made w.in-Some-Made.first) = search rules in ap is_own found
-    | in-None w ↦ let found : lookup (bytes_eq c.args.pack.now.serial) c.args.slots.now.entries ≡ None = search rules in ap is_own found
-  ]
-
-  free : (number : ℕ) → lookup (bytes_eq c.args.pack.now.serial) c.args.slots.now.entries ≡ Some (Own number) → ⊥
-  free number e = true≢false (sym (ap is_own e) ∙ unowned)
-
+module _ (c : goal.After-push_reserved) where
   looks : (other : List ℕ) → lookup (bytes_eq other) c.insert.new.self.entries ≡ cond (bytes_eq c.args.pack.now.serial other) (Some (Own c.len-number.result)) (lookup (bytes_eq other) c.args.slots.now.entries)
   looks other = search rules
 
@@ -76,20 +43,16 @@ module _ (c : goal.After-moved-2) where
   number : Own c.len-number.result ≡ Own (length c.args.tracks.now.items)
   number = let n : c.len-number.result ≡ length c.args.tracks.now.items = search rules in ap (λ (n : ℕ). Own n) n
 
-pub returns-clause-owned : goal.returns-clause-owned
-returns-clause-owned c =
-    subst (IsOwned c.insert.new.self.entries) (sym (items c))
-    (owned-pushed c.args.slots.now.entries c.insert.new.self.entries c.args.pack.now.serial (Own c.len-number.result) (looks c) (free c) c.args.tracks.now.items c.add_status-2.new.self (number c) c.requires.owned)
-
 pub returns-clause-shelf : goal.returns-clause-shelf
 returns-clause-shelf c =
     subst (IsShelf c.insert.new.self.entries) (sym (items c))
-    (shelf-pushed c.args.slots.now.entries c.insert.new.self.entries c.args.pack.now.serial (Own c.len-number.result) (looks c) (free c) c.args.tracks.now.items c.add_status-2.new.self (number c) c.requires.shelf)
+    (shelf-pushed c.args.slots.now.entries c.insert.new.self.entries c.args.pack.now.serial (Own c.len-number.result) (looks c) c.args.tracks.now.items c.add_status-2.new.self (number c) c.requires.shelf)
 
 pub returns-in-Some-Own-clause-listed : goal.returns-in-Some-Own-clause-listed
 returns-in-Some-Own-clause-listed c =
-    listed-none c.args.newest.now.log.now c.args.newest.now.place c.requires.last c.args.pack.now.gtin c.args.slots.now.entries c.args.listing.now c.requires.listed
-    (λ serial. (status-only c.args.pack.now (get_or c.args.newest.now.log.now c.args.newest.now.place no_entry).item c.requires.own (pack_key c.args.pack.now.gtin serial)).0)
+    on_ok c.add_status.result _
+    (listed-none c.args.newest.now.log.now c.args.newest.now.place c.requires.last c.args.pack.now.gtin c.args.slots.now.entries c.args.listing.now c.requires.listed
+    (λ serial. (status-only c.args.pack.now (get_or c.args.newest.now.log.now c.args.newest.now.place no_entry).item c.requires.own (pack_key c.args.pack.now.gtin serial)).0))
 
 pub returns-clause-listed : goal.returns-clause-listed
 returns-clause-listed c =

@@ -1,23 +1,18 @@
 -- One serial number more.
 use Rattle.std.specs.Prelude.{bytes_eq}
-use Rattle.std.proofs.Common.{◌≡◌, ◌≤◌, ◌+◌, ◌∙◌, rules, ◌&&◌, [], ℕ, List, ap, sym, subst, get_or, map, take, arith, cond, refl, Bool, true, false}
+use Rattle.std.proofs.Common.{◌≡◌, ◌≤◌, ◌+◌, ◌∙◌, rules, [], ℕ, List, ap, sym, subst, get_or, map, take, arith, cond, refl, Bool, true, false}
 use Rattle.std.proofs.lemmas.List.{get_or_default, take_all}
 use Rattle.mv_pack.specs.Keys.{pack_key}
-use Rattle.mv_pack.specs.declared.key.PackKey.{PackKey}
-use Rattle.mv_repository.specs.declared.tally.Share.{Share}
-use Rattle.mv_repository.specs.Counts.{uploaded_packs}
-use Rattle.mv_repository.specs.Tally.{share_of, IsMoved, IsTally}
 use Rattle.mv_repository.specs.Shelf.{kept_on, has, AreKept, new_count}
 use Rattle.mv_repository.specs.Stops.{no_entry, stops_in, comes_first, earlier_place}
 use Rattle.mv_repository.specs.Track.{Kept, track_of, step_place, IsTrack}
 use Rattle.mv_repository.proofs.TrackLemmas.{log-split, log-length}
-use Rattle.mv_repository.proofs.TallyUploads.{kept_mid, names-all, tally-adds, mid-all}
 use Rattle.mv_repository.proofs.UploadedLemmas.{new-more}
 use Rattle.mv_repository.proofs.UploadLemmas.{upload-worked, upload-adds}
 use Rattle.mv_repository.proofs.shelf.put_uploads.Goals as goal
 
-pub put_upload-added-requires-clause-worked : goal.put_upload-added-requires-clause-worked
-put_upload-added-requires-clause-worked c =
+pub put_upload-is_first-requires-clause-worked : goal.put_upload-is_first-requires-clause-worked
+put_upload-is_first-requires-clause-worked c =
     let whole = c.args.newest.now.log.now in
     let place = c.args.newest.now.place in
     upload-worked (take place whole) (get_or whole place no_entry) c.args.newest.now.stops.now c.args.gtin.now c.args.serials.now c.requires.stops c.requires.upload
@@ -27,18 +22,12 @@ put_upload-added-requires-clause-worked c =
 pub loop-serial-init : goal.loop-serial-init
 loop-serial-init c = record {
   room = omega (arith, c.requires.room);
-  owned = c.requires.owned;
   no_other = λ serial number e. e;
   shelf = c.requires.shelf;
   kept = c.requires.kept;
-  tally = subst (λ (f : PackKey → Kept). IsTally f (uploaded_packs c.args.newest.now.log.now) c.args.tally.now) (λ i pack. track_of pack (cond (none (bytes_eq c.args.gtin.now pack.gtin) i) c.args.newest.now.log.now (take c.args.newest.now.place c.args.newest.now.log.now))) c.requires.tally;
   new = refl;
   least = omega arith;
 }
-  where
-    none : (b : Bool) → false ≡ (b && false)
-    none true = refl
-    none false = refl
 
 pub loop-serial-preserved : goal.loop-serial-preserved
 loop-serial-preserved c =
@@ -47,39 +36,31 @@ loop-serial-preserved c =
     let at = c.loop-serial.serial-index in
     let slots = c.loop-serial.slots.entries in
     let tracks = c.loop-serial.tracks.items in
-    let slots' = c.put_upload-added.new.slots.entries in
-    let tracks' = c.put_upload-added.new.tracks.items in
+    let slots' = c.put_upload-is_first.new.slots.entries in
+    let tracks' = c.put_upload-is_first.new.tracks.items in
     let serial : c.serial-item.result ≡ get_or c.args.serials.now at [] = c.serial-item.is ∙ get_or_default c.args.serials.now at _ [] c.loop-serial-test.true in
     let kept : AreKept whole (take place whole) (take (at + 1) c.args.serials.now) c.args.gtin.now slots' tracks' =
     upload-adds (take place whole) (get_or whole place no_entry) c.args.newest.now.stops.now c.args.gtin.now c.args.serials.now c.requires.stops c.requires.upload
     slots tracks whole place (log-split whole place c.requires.last) (log-length whole place c.requires.last)
     c.args.serials.now at slots' tracks' refl c.loop-serial-test.true c.loop-serial.invariant.kept
-    (subst (λ (s : List ℕ). (kept_on slots' tracks' s).birth ≡ earlier_place whole place (kept_on slots tracks s).birth) serial c.put_upload-added.ensures.birth)
-    (subst (λ (s : List ℕ). map step_place (kept_on slots' tracks' s).steps ≡ map step_place (kept_on slots tracks s).steps) serial c.put_upload-added.ensures.places)
-    (subst (λ (s : List ℕ). IsTrack whole (stops_in whole c.args.newest.now.stops.now) c.args.gtin.now (kept_on slots' tracks' s)) serial c.put_upload-added.ensures.worked)
-    (subst (λ (s : List ℕ). (other : List ℕ) → bytes_eq s other ≡ false → kept_on slots' tracks' other ≡ kept_on slots tracks other) serial c.put_upload-added.ensures.others) in
+    (subst (λ (s : List ℕ). (kept_on slots' tracks' s).birth ≡ earlier_place whole place (kept_on slots tracks s).birth) serial c.put_upload-is_first.ensures.birth)
+    (subst (λ (s : List ℕ). map step_place (kept_on slots' tracks' s).steps ≡ map step_place (kept_on slots tracks s).steps) serial c.put_upload-is_first.ensures.places)
+    (subst (λ (s : List ℕ). IsTrack whole (stops_in whole c.args.newest.now.stops.now) c.args.gtin.now (kept_on slots' tracks' s)) serial c.put_upload-is_first.ensures.worked)
+    (subst (λ (s : List ℕ). (other : List ℕ) → bytes_eq s other ≡ false → kept_on slots' tracks' other ≡ kept_on slots tracks other) serial c.put_upload-is_first.ensures.others) in
     let s : List ℕ = get_or c.args.serials.now at [] in
     let entry = get_or whole place no_entry in
     let split = log-split whole place c.requires.last in
-    let counted : c.if-added.count ≡ cond c.put_upload-added.result.is_first (c.loop-serial.count + 1) c.loop-serial.count = search rules in
+    let counted : c.if-is_first.count ≡ cond c.put_upload-is_first.result (c.loop-serial.count + 1) c.loop-serial.count = search rules in
     record {
-      room = omega (arith, c.loop-serial.invariant.room, c.put_upload-added.ensures.room);
-      owned = c.put_upload-added.ensures.owned;
-      no_other = λ serial number e. c.loop-serial.invariant.no_other serial number (c.put_upload-added.ensures.no_other serial number e);
-      shelf = c.put_upload-added.ensures.shelf;
+      room = omega (arith, c.loop-serial.invariant.room, c.put_upload-is_first.ensures.room);
+      no_other = λ serial number e. c.loop-serial.invariant.no_other serial number (c.put_upload-is_first.ensures.no_other serial number e);
+      shelf = c.put_upload-is_first.ensures.shelf;
       kept = kept;
-      tally = tally-adds whole (take place whole) c.args.gtin.now c.args.serials.now
-          (names-all (take place whole) entry c.args.gtin.now c.args.serials.now c.requires.upload whole split) c.requires.bound
-          at c.loop-serial-test.true c.loop-serial.tally c.moved.result c.loop-serial.invariant.tally
-          (subst (λ (x : Share). IsMoved c.loop-serial.tally x (share_of (track_of (pack_key c.args.gtin.now s) (cond (has (take (at + 1) c.args.serials.now) s) whole (take place whole)))) c.moved.result)
-          (c.put_upload-added.ensures.was ∙ ap (λ (one : List ℕ). share_of (kept_on slots tracks one)) serial ∙ ap share_of (c.loop-serial.invariant.kept s))
-          (subst (λ (x : Share). IsMoved c.loop-serial.tally c.put_upload-added.result.was x c.moved.result)
-          (c.put_upload-added.ensures.is ∙ ap (λ (one : List ℕ). share_of (kept_on slots' tracks' one)) serial ∙ ap share_of (kept s)) c.moved.ensures));
       new = counted ∙ new-more (take place whole) entry c.args.gtin.now c.args.serials.now c.requires.upload whole place split (log-length whole place c.requires.last)
-          at c.loop-serial.count c.put_upload-added.result.is_first c.loop-serial-test.true
-          (c.put_upload-added.ensures.first ∙ ap (λ (one : List ℕ). comes_first whole place (kept_on slots tracks one).birth) serial ∙ ap (λ (k : Kept). comes_first whole place k.birth) (c.loop-serial.invariant.kept s))
+          at c.loop-serial.count c.put_upload-is_first.result c.loop-serial-test.true
+          (c.put_upload-is_first.ensures.first ∙ ap (λ (one : List ℕ). comes_first whole place (kept_on slots tracks one).birth) serial ∙ ap (λ (k : Kept). comes_first whole place k.birth) (c.loop-serial.invariant.kept s))
           c.loop-serial.invariant.new;
-      least = subst (λ (n : ℕ). n ≤ at + 1) (sym counted) (grow c.put_upload-added.result.is_first c.loop-serial.count at c.loop-serial.invariant.least);
+      least = subst (λ (n : ℕ). n ≤ at + 1) (sym counted) (grow c.put_upload-is_first.result c.loop-serial.count at c.loop-serial.invariant.least);
     }
   where
     grow : (b : Bool) (count at : ℕ) → count ≤ at → cond b (count + 1) count ≤ at + 1
@@ -91,16 +72,6 @@ returns-clause-kept c serial =
     let all : take c.loop-serial.serial-index c.args.serials.now ≡ c.args.serials.now = take_all c.loop-serial.serial-index c.args.serials.now (omega arith) in
     c.loop-serial.invariant.kept serial
     ∙ ap (λ (l : List (List ℕ)). track_of (pack_key c.args.gtin.now serial) (cond (has l serial) c.args.newest.now.log.now (take c.args.newest.now.place c.args.newest.now.log.now))) all
-
-pub returns-clause-tally : goal.returns-clause-tally
-returns-clause-tally c =
-    let whole = c.args.newest.now.log.now in
-    let place = c.args.newest.now.place in
-    let all : take c.loop-serial.serial-index c.args.serials.now ≡ c.args.serials.now = take_all c.loop-serial.serial-index c.args.serials.now (omega arith) in
-    subst (λ (f : PackKey → Kept). IsTally f (uploaded_packs whole) c.loop-serial.tally)
-    (λ i pack. (ap (λ (done : List (List ℕ)). kept_mid whole (take place whole) c.args.gtin.now done pack) all
-    ∙ mid-all (take place whole) (get_or whole place no_entry) c.args.gtin.now c.args.serials.now c.requires.upload whole (log-split whole place c.requires.last) pack) i)
-    c.loop-serial.invariant.tally
 
 pub returns-clause-new : goal.returns-clause-new
 returns-clause-new c =

@@ -4,11 +4,10 @@ use Rattle.std.proofs.lemmas.List.{take_all}
 use Rattle.std.proofs.lemmas.List.Folds.{list_any_more}
 use Rattle.mv_repository.specs.declared.slot.Slot.TheVariants.{Own}
 use Rattle.mv_repository.specs.Listing.{has_number}
-use Rattle.mv_repository.specs.Shelf.{IsShelf, IsOwned, IsBetween, kept_on}
+use Rattle.mv_repository.specs.Shelf.{IsShelf, kept_on}
 use Rattle.mv_repository.specs.Track.{Kept}
-use Rattle.mv_repository.specs.declared.tally.Tally.{Tally}
 use Rattle.mv_repository.specs.declared.slot.Slot.{Slot}
-use Rattle.mv_repository.proofs.AgainLemmas.{is_number, step-own, step-keeps, between-step}
+use Rattle.mv_repository.proofs.AgainLemmas.{is_number, step-own, step-keeps, either as either_log}
 use Rattle.mv_repository.proofs.shelf.refresh_listed.Goals.{then-number-len, else-number-len}
 use Rattle.mv_repository.proofs.shelf.refresh_listed.Goals as goal
 
@@ -16,15 +15,13 @@ pub loop-listed-preserved : goal.loop-listed-preserved
 loop-listed-preserved c = elim c.if-number-len.branch [
   | then-number-len w ↦ (
       let now : c.if-number-len.tracks.items ≡ w.refresh_track.new.tracks.items = search rules in
-      let counted : c.if-number-len.tally ≡ w.refresh_track.new.tally = search rules in
-      let within : number < length c.loop-listed.tracks.items = search rules in
       record {
         count = ap (λ (t : List Kept). length t) now ∙ w.refresh_track.ensures.count ∙ size;
-        between = subst (λ (t : List Kept). IsBetween c.args.newest.now.log.now (take c.args.newest.now.place c.args.newest.now.log.now) c.args.gtin.now slots t c.if-number-len.tally) (sym now)
-            (subst (λ (t : Tally). IsBetween c.args.newest.now.log.now (take c.args.newest.now.place c.args.newest.now.log.now) c.args.gtin.now slots w.refresh_track.new.tracks.items t) (sym counted)
-            (between-step c.args.newest.now.log.now c.args.newest.now.place c.args.newest.now.stops.now c.args.gtin.now slots c.requires.last c.requires.stops c.requires.names
-            c.loop-listed.tracks.items w.refresh_track.new.tracks.items number w.refresh_track.ensures.again w.refresh_track.ensures.others within shelf owned c.requires.bound
-            c.loop-listed.tally w.refresh_track.new.tally c.loop-listed.invariant.between w.refresh_track.ensures.tally));
+        between = λ serial.
+            let was = either_log c.args.newest.now.log.now c.args.newest.now.place c.args.newest.now.stops.now c.args.gtin.now slots c.requires.last c.requires.stops c.requires.names
+            c.loop-listed.tracks.items w.refresh_track.new.tracks.items number w.refresh_track.ensures.again w.refresh_track.ensures.others
+            serial (c.loop-listed.invariant.between serial) in
+            (was.0, ap (λ (t : List Kept). kept_on slots t serial) now ∙ was.1);
         worked = λ serial n e h. ap (λ (t : List Kept). kept_on slots t serial) now
             ∙ either n h
             (λ was. step-keeps c.args.newest.now.log.now c.args.newest.now.place c.args.newest.now.stops.now c.args.gtin.now slots c.requires.last c.requires.stops c.requires.names
@@ -32,16 +29,16 @@ loop-listed-preserved c = elim c.if-number-len.branch [
             serial (c.loop-listed.invariant.worked serial n e was))
             (λ is. step-own c.args.newest.now.log.now c.args.newest.now.place c.args.newest.now.stops.now c.args.gtin.now slots c.requires.last c.requires.stops c.requires.names
             c.loop-listed.tracks.items w.refresh_track.new.tracks.items number w.refresh_track.ensures.again w.refresh_track.ensures.others
-            serial (c.loop-listed.invariant.between.each serial).0 (c.loop-listed.invariant.between.each serial).1 (e ∙ ap (λ (m : ℕ). Some (Own m)) (sym is)));
+            serial (c.loop-listed.invariant.between serial).0 (c.loop-listed.invariant.between serial).1 (e ∙ ap (λ (m : ℕ). Some (Own m)) (sym is)));
       })
   | else-number-len w ↦ (
       let now : c.if-number-len.tracks.items ≡ c.loop-listed.tracks.items = search rules in
-      let counted : c.if-number-len.tally ≡ c.loop-listed.tally = search rules in
       let beyond : length c.loop-listed.tracks.items ≤ number = search rules in
       record {
         count = ap (λ (t : List Kept). length t) now ∙ size;
-        between = subst (λ (t : List Kept). IsBetween c.args.newest.now.log.now (take c.args.newest.now.place c.args.newest.now.log.now) c.args.gtin.now slots t c.if-number-len.tally) (sym now)
-            (subst (λ (t : Tally). IsBetween c.args.newest.now.log.now (take c.args.newest.now.place c.args.newest.now.log.now) c.args.gtin.now slots c.loop-listed.tracks.items t) (sym counted) c.loop-listed.invariant.between);
+        between = λ serial.
+            let was = c.loop-listed.invariant.between serial in
+            (was.0, ap (λ (t : List Kept). kept_on slots t serial) now ∙ was.1);
         worked = λ serial n e h. ap (λ (t : List Kept). kept_on slots t serial) now
             ∙ either n h (λ was. c.loop-listed.invariant.worked serial n e was)
             (λ is. let l = shelf.within serial n e in absurd (omega (arith, is, l, beyond)));
@@ -62,9 +59,6 @@ loop-listed-preserved c = elim c.if-number-len.branch [
       within = λ serial n e. subst (λ (m : ℕ). n < m) (sym size) (c.requires.shelf.within serial n e);
       apart = c.requires.shelf.apart;
     }
-
-    owned : IsOwned slots c.loop-listed.tracks.items
-    owned n l = c.requires.owned n (subst (λ (m : ℕ). n < m) size l)
 
     -- a number that is listed so far, or is this one
     either : {P : Type 0} → (n : ℕ) → has_number (take (c.loop-listed.listed-index + 1) c.args.numbers.now) n ≡ true

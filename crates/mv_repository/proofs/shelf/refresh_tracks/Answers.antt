@@ -1,13 +1,13 @@
 -- One track more.
 use Rattle.std.specs.Prelude.{bytes_eq}
-use Rattle.std.proofs.Common.{◌≡◌, ◌∙◌, ◌<◌, ◌+◌, ◌==◌, ℕ, List, ap, sym, subst, length, arith, refl, Bool, true, false, Some}
+use Rattle.std.proofs.Common.{◌≡◌, ◌∙◌, ◌<◌, ◌+◌, ◌==◌, ℕ, List, ap, length, arith, refl, Bool, true, false, Some}
 use Rattle.std.proofs.lemmas.Bool.Decides.{nat_tests}
 use Rattle.std.specs.Map.{lookup}
 use Rattle.mv_pack.specs.Keys.{pack_key}
 use Rattle.mv_repository.specs.declared.slot.Slot.TheVariants.{Own}
-use Rattle.mv_repository.specs.Shelf.{IsShelf, IsOwned, kept_on}
+use Rattle.mv_repository.specs.Shelf.{kept_on}
 use Rattle.mv_repository.specs.Track.{track_of}
-use Rattle.mv_repository.proofs.AgainLemmas.{is_number, step-own, step-keeps, between-step}
+use Rattle.mv_repository.proofs.AgainLemmas.{either, is_number, step-own, step-keeps}
 use Rattle.mv_repository.proofs.shelf.refresh_tracks.Goals as goal
 
 pub loop-number-preserved : goal.loop-number-preserved
@@ -19,17 +19,10 @@ loop-number-preserved c =
     let new = c.refresh_track.new.tracks.items in
     let number = c.loop-number.number in
     let size : length old ≡ length c.args.tracks.now.items = c.loop-number.invariant.count in
-    let within : number < length old = omega (arith, size) in
-    let shelf : IsShelf slots old = record {
-      within = λ serial n e. subst (λ (m : ℕ). n < m) (sym size) (c.requires.shelf.within serial n e);
-      apart = c.requires.shelf.apart;
-    } in
-    let owned : IsOwned slots old = λ n l. c.requires.owned n (subst (λ (m : ℕ). n < m) size l) in
     record {
       count = c.refresh_track.ensures.count ∙ size;
-      between = between-step whole place c.args.newest.now.stops.now c.args.gtin.now slots c.requires.last c.requires.stops c.requires.names
-          old new number c.refresh_track.ensures.again c.refresh_track.ensures.others within shelf owned c.requires.bound
-          c.loop-number.tally c.refresh_track.new.tally c.loop-number.invariant.between c.refresh_track.ensures.tally;
+      between = λ serial. either whole place c.args.newest.now.stops.now c.args.gtin.now slots c.requires.last c.requires.stops c.requires.names
+          old new number c.refresh_track.ensures.again c.refresh_track.ensures.others serial (c.loop-number.invariant.between serial);
       worked = λ serial n e l. by serial n e l (n == number) refl;
     }
   where
@@ -39,7 +32,7 @@ loop-number-preserved c =
     by : (serial : List ℕ) (n : ℕ) → lookup (bytes_eq serial) c.args.slots.now.entries ≡ Some (Own n) → n < c.loop-number.number + 1 → (b : Bool) → (n == c.loop-number.number) ≡ b
         → kept_on c.args.slots.now.entries c.refresh_track.new.tracks.items serial ≡ track_of (pack_key c.args.gtin.now serial) c.args.newest.now.log.now
     by serial n e l true h =
-        let b = c.loop-number.invariant.between.each serial in
+        let b = c.loop-number.invariant.between serial in
         step-own c.args.newest.now.log.now c.args.newest.now.place c.args.newest.now.stops.now c.args.gtin.now c.args.slots.now.entries c.requires.last c.requires.stops c.requires.names
         c.loop-number.tracks.items c.refresh_track.new.tracks.items c.loop-number.number c.refresh_track.ensures.again c.refresh_track.ensures.others
         serial b.0 b.1 (e ∙ ap (λ (m : ℕ). Some (Own m)) (is_number n c.loop-number.number h))

@@ -11,7 +11,7 @@ use Rattle.mv_repository.proofs.shelf.refresh_tracks.Given as goal
 abbrev pub invariant-loop-number : goal.invariant-loop-number
 invariant-loop-number l = record {
   count : length l.tracks.items ≡ length l.fn.tracks.items;
-  between : IsBetween l.newest.log.now (take l.newest.place l.newest.log.now) l.gtin l.slots.entries l.tracks.items l.tally;
+  between : IsBetween l.newest.log.now (take l.newest.place l.newest.log.now) l.gtin l.slots.entries l.tracks.items;
   worked : (serial : List ℕ) (number : ℕ) → lookup (bytes_eq serial) l.slots.entries ≡ Some (Own number) → number < l.number
       → kept_on l.slots.entries l.tracks.items serial ≡ track_of (pack_key l.gtin serial) l.newest.log.now;
 }

@@ -1,16 +1,12 @@
 -- The shelf of the product has the entry, and no other product is touched.
 use Rattle.std.specs.Prelude.{bytes_eq}
-use Rattle.std.proofs.Common.{◌≡◌, refl, sym, subst, rules, arith, get_or, take, Some}
+use Rattle.std.proofs.Common.{◌≡◌, refl, sym, subst, rules, get_or, take, Some}
 use Rattle.std.specs.Map.{lookup}
 use Rattle.mv_repository.specs.Packs.{ArePacksOf}
-use Rattle.mv_repository.specs.Counts.{uploaded_packs}
 use Rattle.mv_repository.specs.Stops.{no_entry}
-use Rattle.mv_repository.specs.Tally.{IsTally}
-use Rattle.mv_repository.specs.Track.{track_of}
 use Rattle.mv_repository.proofs.ListedLemmas.{on_err}
-use Rattle.mv_repository.proofs.PacksLemmas.{shelves-same, shelf-found, shelves-stay, shelves-on, status-away, none-bound, status-uploads}
+use Rattle.mv_repository.proofs.PacksLemmas.{shelves-same, shelf-found, shelves-stay, shelves-on, status-away, none-named, status-uploads}
 use Rattle.mv_repository.proofs.ShelvesLemmas.{IsShelved}
-use Rattle.mv_repository.proofs.TallyUploads.{tally-longer}
 use Rattle.mv_repository.proofs.TrackLemmas.{log-split}
 use Rattle.mv_repository.proofs.packs.Packs.add_status.Goals as goal
 
@@ -19,23 +15,13 @@ returns-in_err-add_shelf-clause-err c =
     on_err c.from_residual.result _ (record {
       shelves = shelves-same (take c.args.place c.args.log.now) c.self.inside.shelves.entries c.add_shelf.new.shelves.entries c.add_shelf.ensures.same
           (subst (ArePacksOf (take c.args.place c.args.log.now)) (sym c.self.view_is) c.requires.packs).shelves;
-      tally = (subst (ArePacksOf (take c.args.place c.args.log.now)) (sym c.self.view_is) c.requires.packs).tally;
+      named = (subst (ArePacksOf (take c.args.place c.args.log.now)) (sym c.self.view_is) c.requires.packs).named;
     })
 
 pub add_status-requires-clause-shelf : goal.add_status-requires-clause-shelf
 add_status-requires-clause-shelf c =
     let found : lookup (bytes_eq c.args.pack.now.gtin) c.add_shelf.new.shelves.entries ≡ Some c.in-Some.shelf.now = search rules in
     shelf-found (take c.args.place c.args.log.now) c.self.inside.shelves.entries c.add_shelf.new.shelves.entries c.add_shelf.ensures.same (subst (ArePacksOf (take c.args.place c.args.log.now)) (sym c.self.view_is) c.requires.packs).shelves c.args.pack.now.gtin c.in-Some.shelf.now found
-
-pub add_status-requires-clause-tally : goal.add_status-requires-clause-tally
-add_status-requires-clause-tally c =
-    let whole = c.args.log.now in
-    tally-longer (take c.args.place whole) (get_or whole c.args.place no_entry) c.self.inside.tally (subst (ArePacksOf (take c.args.place c.args.log.now)) (sym c.self.view_is) c.requires.packs).tally whole (log-split whole c.args.place c.requires.last)
-
-pub add_status-requires-clause-bound : goal.add_status-requires-clause-bound
-add_status-requires-clause-bound c =
-    let whole = c.args.log.now in
-    none-bound whole c.args.place (record { shelves = c.self.inside.shelves.entries; tally = c.self.inside.tally }) c.requires.last (status-uploads c.args.pack.now (get_or whole c.args.place no_entry).item c.requires.own) (subst (ArePacksOf (take c.args.place whole)) (sym c.self.view_is) c.requires.packs) (omega arith)
 
 pub returns-in_err-effect-clause-err : goal.returns-in_err-effect-clause-err
 returns-in_err-effect-clause-err c =
@@ -44,7 +30,7 @@ returns-in_err-effect-clause-err c =
     on_err c.from_residual-in_err-effect.result _ (record {
       shelves = shelves-stay (take c.args.place c.args.log.now) c.self.inside.shelves.entries c.add_shelf.new.shelves.entries c.add_shelf.ensures.same (subst (ArePacksOf (take c.args.place c.args.log.now)) (sym c.self.view_is) c.requires.packs).shelves
           new c.args.pack.now.gtin c.add_status.new.self looks c.in_err-effect.ensures.err;
-      tally = subst (IsTally (λ pack. track_of pack (take c.args.place c.args.log.now)) (uploaded_packs (take c.args.place c.args.log.now))) (sym c.in_err-effect.ensures.tally_err) (subst (ArePacksOf (take c.args.place c.args.log.now)) (sym c.self.view_is) c.requires.packs).tally;
+      named = (subst (ArePacksOf (take c.args.place c.args.log.now)) (sym c.self.view_is) c.requires.packs).named;
     })
 
 pub returns-clause-ok : goal.returns-clause-ok
@@ -54,5 +40,7 @@ returns-clause-ok c =
     record {
       shelves = shelves-on (take c.args.place c.args.log.now) c.self.inside.shelves.entries c.add_shelf.new.shelves.entries c.add_shelf.ensures.same (subst (ArePacksOf (take c.args.place c.args.log.now)) (sym c.self.view_is) c.requires.packs).shelves
           new c.args.pack.now.gtin c.add_status.new.self c.args.log.now c.args.place c.requires.last refl looks c.in_ok-effect.ensures.ok (status-away c.args.log.now c.args.place c.args.pack.now c.requires.last c.requires.own);
-      tally = c.in_ok-effect.ensures.tally;
+      named = none-named (take c.args.place c.args.log.now) (get_or c.args.log.now c.args.place no_entry) c.self.inside.named
+          (status-uploads c.args.pack.now (get_or c.args.log.now c.args.place no_entry).item c.requires.own)
+          (subst (ArePacksOf (take c.args.place c.args.log.now)) (sym c.self.view_is) c.requires.packs).named c.args.log.now (log-split c.args.log.now c.args.place c.requires.last);
     }

@@ -3,14 +3,11 @@ use Rattle.std.specs.Prelude.{bytes_eq}
 use Rattle.std.proofs.Common.{◌≡◌, refl, sym, subst, rules, arith, get_or, take, Some}
 use Rattle.std.specs.Map.{lookup}
 use Rattle.mv_repository.specs.Packs.{ArePacksOf}
-use Rattle.mv_repository.specs.Counts.{uploaded_packs}
 use Rattle.mv_repository.specs.Stops.{no_entry}
-use Rattle.mv_repository.specs.Tally.{IsTally}
-use Rattle.mv_repository.specs.Track.{track_of}
 use Rattle.mv_repository.proofs.ListedLemmas.{on_err}
 use Rattle.mv_repository.proofs.PacksLemmas.{shelves-same, shelf-found, shelves-stay, shelves-on, upload-away}
 use Rattle.mv_repository.proofs.ShelvesLemmas.{IsShelved}
-use Rattle.mv_repository.proofs.TallyUploads.{tally-longer, longer-bound}
+use Rattle.mv_repository.proofs.UploadedLemmas.{named-longer, named-upload}
 use Rattle.mv_repository.proofs.TrackLemmas.{log-split}
 use Rattle.mv_repository.proofs.packs.Packs.add_upload.Goals as goal
 
@@ -19,23 +16,13 @@ returns-in_err-add_shelf-clause-err c =
     on_err c.from_residual.result _ (record {
       shelves = shelves-same (take c.args.place c.args.log.now) c.self.inside.shelves.entries c.add_shelf.new.shelves.entries c.add_shelf.ensures.same
           (subst (ArePacksOf (take c.args.place c.args.log.now)) (sym c.self.view_is) c.requires.packs).shelves;
-      tally = (subst (ArePacksOf (take c.args.place c.args.log.now)) (sym c.self.view_is) c.requires.packs).tally;
+      named = (subst (ArePacksOf (take c.args.place c.args.log.now)) (sym c.self.view_is) c.requires.packs).named;
     })
 
 pub add_upload-requires-clause-shelf : goal.add_upload-requires-clause-shelf
 add_upload-requires-clause-shelf c =
     let found : lookup (bytes_eq c.args.gtin.now) c.add_shelf.new.shelves.entries ≡ Some c.in-Some.shelf.now = search rules in
     shelf-found (take c.args.place c.args.log.now) c.self.inside.shelves.entries c.add_shelf.new.shelves.entries c.add_shelf.ensures.same (subst (ArePacksOf (take c.args.place c.args.log.now)) (sym c.self.view_is) c.requires.packs).shelves c.args.gtin.now c.in-Some.shelf.now found
-
-pub add_upload-requires-clause-tally : goal.add_upload-requires-clause-tally
-add_upload-requires-clause-tally c =
-    let whole = c.args.log.now in
-    tally-longer (take c.args.place whole) (get_or whole c.args.place no_entry) c.self.inside.tally (subst (ArePacksOf (take c.args.place c.args.log.now)) (sym c.self.view_is) c.requires.packs).tally whole (log-split whole c.args.place c.requires.last)
-
-pub add_upload-requires-clause-bound : goal.add_upload-requires-clause-bound
-add_upload-requires-clause-bound c =
-    let whole = c.args.log.now in
-    longer-bound (take c.args.place whole) (get_or whole c.args.place no_entry) c.self.inside.tally c.args.gtin.now c.args.serials.now (subst (ArePacksOf (take c.args.place whole)) (sym c.self.view_is) c.requires.packs).tally c.requires.upload (omega arith) whole (log-split whole c.args.place c.requires.last)
 
 pub returns-in_err-new-clause-err : goal.returns-in_err-new-clause-err
 returns-in_err-new-clause-err c =
@@ -44,7 +31,7 @@ returns-in_err-new-clause-err c =
     on_err c.from_residual-in_err-new.result _ (record {
       shelves = shelves-stay (take c.args.place c.args.log.now) c.self.inside.shelves.entries c.add_shelf.new.shelves.entries c.add_shelf.ensures.same (subst (ArePacksOf (take c.args.place c.args.log.now)) (sym c.self.view_is) c.requires.packs).shelves
           new c.args.gtin.now c.add_upload.new.self looks c.in_err-new.ensures.err;
-      tally = subst (IsTally (λ pack. track_of pack (take c.args.place c.args.log.now)) (uploaded_packs (take c.args.place c.args.log.now))) (sym c.in_err-new.ensures.tally_err) (subst (ArePacksOf (take c.args.place c.args.log.now)) (sym c.self.view_is) c.requires.packs).tally;
+      named = (subst (ArePacksOf (take c.args.place c.args.log.now)) (sym c.self.view_is) c.requires.packs).named;
     })
 
 pub returns-clause-ok : goal.returns-clause-ok
@@ -54,5 +41,9 @@ returns-clause-ok c =
     record {
       shelves = shelves-on (take c.args.place c.args.log.now) c.self.inside.shelves.entries c.add_shelf.new.shelves.entries c.add_shelf.ensures.same (subst (ArePacksOf (take c.args.place c.args.log.now)) (sym c.self.view_is) c.requires.packs).shelves
           new c.args.gtin.now c.add_upload.new.self c.args.log.now c.args.place c.requires.last refl looks c.in_ok-new.ensures.ok (upload-away c.args.log.now c.args.place c.args.gtin.now c.args.serials.now c.requires.last c.requires.upload);
-      tally = c.in_ok-new.ensures.tally;
+      named =
+          let more = named-longer (take c.args.place c.args.log.now) (get_or c.args.log.now c.args.place no_entry) c.args.log.now (log-split c.args.log.now c.args.place c.requires.last) in
+          let size = named-upload c.args.gtin.now c.args.serials.now (get_or c.args.log.now c.args.place no_entry).item c.requires.upload in
+          let was = (subst (ArePacksOf (take c.args.place c.args.log.now)) (sym c.self.view_is) c.requires.packs).named in
+          omega (arith, more, size, was);
     }

@@ -4,7 +4,7 @@ use Rattle.std.proofs.Common.{◌≡◌, ◌∙◌, ℕ, List, ap, sym, subst, r
 use Rattle.std.specs.Map.{lookup}
 use Rattle.mv_repository.specs.declared.slot.Slot.TheVariants.{Own}
 use Rattle.mv_repository.specs.declared.slot.Slot.{Slot}
-use Rattle.mv_repository.specs.Shelf.{IsOwned, IsShelfOf, AreMadeListed}
+use Rattle.mv_repository.specs.Shelf.{IsShelfOf, AreMadeListed}
 use Rattle.mv_repository.specs.Stops.{no_entry, comes_first}
 use Rattle.mv_repository.specs.Track.{Kept}
 use Rattle.mv_repository.proofs.ListedLemmas.{on_err, listed-more, listed-upload}
@@ -33,11 +33,6 @@ returns-clause-ok c =
 
     listed : AreMadeListed c.args.newest.now.log.now c.args.newest.now.place c.args.serials.now c.self.inside.slots.entries c.self.inside.tracks.items c.list_made.new.listing
     listed = search rules
-
-pub put_uploads-new-requires-clause-owned : goal.put_uploads-new-requires-clause-owned
-put_uploads-new-requires-clause-owned c =
-    let slots : c.reserve.new.self.entries ≡ c.self.inside.slots.entries = search rules in
-    subst (λ (s : List (List ℕ × Slot)). IsOwned s c.self.inside.tracks.items) (sym slots) c.self.invariant.owned
 
 pub returns-in_err-list_made-clause-err : goal.returns-in_err-list_made-clause-err
 returns-in_err-list_made-clause-err c =

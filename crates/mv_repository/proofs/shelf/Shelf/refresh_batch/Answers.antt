@@ -7,19 +7,19 @@ use Rattle.mv_repository.specs.declared.slot.Slot.TheVariants.{Own}
 use Rattle.mv_repository.specs.Listing.{has_number}
 use Rattle.mv_repository.specs.Shelf.{IsShelfOf, kept_on}
 use Rattle.mv_repository.specs.Track.{track_of}
-use Rattle.mv_repository.proofs.AgainLemmas.{untracked, between-start, between-end}
+use Rattle.mv_repository.proofs.AgainLemmas.{untracked}
 use Rattle.mv_repository.proofs.BatchLemmas.{recall-stays}
 use Rattle.mv_repository.proofs.ListedLemmas.{listed-none}
 use Rattle.mv_repository.proofs.RecallLemmas.{recall-bears}
+use Rattle.mv_repository.proofs.shelf.Shelf.refresh_batch.Goals.{After-refresh_listed}
 use Rattle.mv_repository.proofs.shelf.Shelf.refresh_batch.Goals as goal
 
 pub refresh_listed-requires-clause-between : goal.refresh_listed-requires-clause-between
-refresh_listed-requires-clause-between c =
-    between-start c.args.newest.now.log.now (take c.args.newest.now.place c.args.newest.now.log.now) c.args.batch.now.gtin c.self.inside.slots.entries c.self.inside.tracks.items c.args.tally.now
-    (subst (IsShelfOf (take c.args.newest.now.place c.args.newest.now.log.now) c.args.batch.now.gtin) (sym c.self.view_is) c.requires.shelf).kept c.requires.tally
+refresh_listed-requires-clause-between c serial =
+    (false, (subst (IsShelfOf (take c.args.newest.now.place c.args.newest.now.log.now) c.args.batch.now.gtin) (sym c.self.view_is) c.requires.shelf).kept serial)
 
 -- all packs of the product, once the listed tracks are worked out
-module _ (c : goal.After-refresh_listed) where
+module _ (c : After-refresh_listed) where
   abbrev of : IsShelfOf (take c.args.newest.now.place c.args.newest.now.log.now) c.args.batch.now.gtin (record { slots = c.self.inside.slots.entries; tracks = c.self.inside.tracks.items; listing = c.self.inside.listing })
   of = subst (IsShelfOf (take c.args.newest.now.place c.args.newest.now.log.now) c.args.batch.now.gtin) (sym c.self.view_is) c.requires.shelf
 
@@ -27,7 +27,7 @@ module _ (c : goal.After-refresh_listed) where
   worked serial =
       untracked c.args.newest.now.log.now c.args.newest.now.place c.args.newest.now.stops.now c.args.batch.now.gtin c.self.inside.slots.entries c.requires.last c.requires.stops
       (λ one. (recall-bears c.args.newest.now.log.now c.args.newest.now.place c.requires.last c.args.batch.now c.requires.recall).names (pack_key c.args.batch.now.gtin one))
-      c.refresh_listed.new.tracks.items serial (c.refresh_listed.ensures.between.each serial).0 (c.refresh_listed.ensures.between.each serial).1
+      c.refresh_listed.new.tracks.items serial (c.refresh_listed.ensures.between serial).0 (c.refresh_listed.ensures.between serial).1
       (λ number e. by number e (has_number c.of-numbers.result.now number) refl)
     where
       same : (newer : Bool) → track_of (pack_key c.args.batch.now.gtin serial) c.args.newest.now.log.now ≡ track_of (pack_key c.args.batch.now.gtin serial) (take c.args.newest.now.place c.args.newest.now.log.now)
@@ -39,20 +39,14 @@ module _ (c : goal.After-refresh_listed) where
           → kept_on c.self.inside.slots.entries c.refresh_listed.new.tracks.items serial ≡ track_of (pack_key c.args.batch.now.gtin serial) c.args.newest.now.log.now
       by number e true h = c.refresh_listed.ensures.worked serial number e h
       by number e false h =
-          (c.refresh_listed.ensures.between.each serial).1
-          ∙ same (c.refresh_listed.ensures.between.each serial).0
+          (c.refresh_listed.ensures.between serial).1
+          ∙ same (c.refresh_listed.ensures.between serial).0
           (recall-stays c.args.newest.now.log.now c.args.newest.now.place c.args.batch.now c.self.inside.slots.entries c.self.inside.listing c.requires.last c.requires.recall of.listed serial number e
           (ap (λ (l : List ℕ). has_number l number) (sym c.of-numbers.ensures) ∙ h))
 
-pub returns-clause-shelf : goal.returns-clause-shelf
-returns-clause-shelf c = record {
+pub returns : goal.returns
+returns c = record {
   kept = worked c;
   listed = listed-none c.args.newest.now.log.now c.args.newest.now.place c.requires.last c.args.batch.now.gtin c.self.inside.slots.entries c.self.inside.listing (of c).listed
       (λ serial. ((recall-bears c.args.newest.now.log.now c.args.newest.now.place c.requires.last c.args.batch.now c.requires.recall).names (pack_key c.args.batch.now.gtin serial)).0);
 }
-
-pub returns-clause-tally : goal.returns-clause-tally
-returns-clause-tally c =
-    between-end c.args.newest.now.log.now (take c.args.newest.now.place c.args.newest.now.log.now) c.args.batch.now.gtin c.self.inside.slots.entries c.refresh_listed.new.tracks.items c.refresh_listed.new.tally
-    c.refresh_listed.ensures.between (worked c)
-    (recall-bears c.args.newest.now.log.now c.args.newest.now.place c.requires.last c.args.batch.now c.requires.recall).away

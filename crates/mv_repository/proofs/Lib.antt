@@ -26,5 +26,7 @@ pub mod ProductLemmas
 pub mod InquiriesLemmas
 pub mod ChangesLemmas
 pub mod AgreementLemmas
+pub mod HistoryLemmas
+pub mod LentLemmas
 pub mod StampsLemmas
 pub mod SameAboutLemmas

@@ -20,3 +20,4 @@ pub mod Listing
 pub mod Packs
 pub mod Inquiries
 pub mod Tables
+pub mod History

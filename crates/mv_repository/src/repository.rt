@@ -7,7 +7,7 @@ use crate::inquiries::Inquiries;
 use crate::state::is_active;
 use crate::tables::Tables;
 use crate::verdict::{is_explained, verdict_when};
-use crate::{Counts, Effect, FromSender, Held, Joint, Local, LogEntry, masters};
+use crate::{Counts, Effect, FromSender, Held, History, Joint, Local, LogEntry, masters};
 use mv_link::Item;
 use mv_message::{Found, Message, Party, Product, Shared};
 use mv_pack::{BatchKey, Gtin, PackKey};
@@ -46,6 +46,7 @@ impl Repository {
     ghost use Rattle.mv_repository.specs.Repository.{new_repository, with_applied, product_of};
     ghost use Rattle.mv_repository.specs.PackState.{pack_state, is_recalled, is_withdrawn};
     ghost use Rattle.mv_repository.specs.Effect.{effect_of};
+    ghost use Rattle.mv_repository.specs.History.{history_of};
     ghost use Rattle.mv_repository.specs.Query.{found_of, answer_after, answer_to};
     ghost use Rattle.mv_repository.specs.Verdict.{local_verdict, joint_verdict};
     ghost use Rattle.mv_repository.specs.Counts.{counts_of};
@@ -96,6 +97,15 @@ impl Repository {
         ensures { result ≡ pack_state key.now self.now.log }
     {
         self.tables.packs.get(self.log.as_slice(), key)
+    }
+
+    /// What decides a pack: its first upload, its statuses, and the first recall of its batch and withdrawal of its product.
+    pub fn history(&self, key: &PackKey) -> History<'_>
+        ensures { result ≡ history_of key.now self.now.log }
+    {
+        let log = self.log.as_slice();
+        let (upload, steps) = self.tables.packs.parts(log, key);
+        History::new(log, &self.tables.stops, key, upload, steps)
     }
 
     /// Whether a batch is recalled.

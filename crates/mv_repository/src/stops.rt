@@ -67,6 +67,20 @@ impl Stops {
         self.withdrawals.contains_key(gtin)
     }
 
+    /// The place of the first recall of a batch.
+    pub fn first_recall(&self, batch: &BatchKey) -> Option<usize>
+        ensures { result ≡ lookup (is_same_batch batch.now) self.now.recalls }
+    {
+        self.recalls.get(batch).copied()
+    }
+
+    /// The place of the first withdrawal of a product.
+    pub fn first_withdrawal(&self, gtin: &Gtin) -> Option<usize>
+        ensures { result ≡ lookup (bytes_eq gtin.now) self.now.withdrawals }
+    {
+        self.withdrawals.get(gtin).copied()
+    }
+
     /// How many batches have a recall.
     pub fn recalled_count(&self) -> usize
         ensures count { result ≡ length self.now.recalls }
@@ -80,11 +94,9 @@ impl Stops {
         ensures { result
             ≡ standing_at (stops_in log.now self.now) (entry_at log.now place) batch.now }
     {
-        let recall = self.recalls.get(batch).copied();
-        let withdrawal = self.withdrawals.get(&batch.gtin).copied();
         BatchStanding {
-            recalled: is_before(log, recall, place),
-            withdrawn: is_before(log, withdrawal, place),
+            recalled: is_before(log, self.first_recall(batch), place),
+            withdrawn: is_before(log, self.first_withdrawal(&batch.gtin), place),
         }
     }
 

@@ -118,6 +118,13 @@ impl Track {
         held_at(log, self.birth?, self.by_before(self.steps.len()))
     }
 
+    /// The place of the first upload that names the pack, and its statuses.
+    pub fn parts(&self) -> (Option<u32>, &[Step])
+        ensures { record { birth = result.0; steps = result.1.now } ≡ self.now }
+    {
+        (self.birth, self.steps.as_slice())
+    }
+
     /// What the pack adds to a tally.
     pub fn share(&self) -> Share
         ensures { result ≡ share_of self.now }

@@ -3,6 +3,7 @@ pub mod StateLemmas
 pub mod BeforeLemmas
 pub mod PlaceLemmas
 pub mod KeptLemmas
+pub mod StoppedLemmas
 pub mod TableLemmas
 pub mod NextLemmas
 pub mod TrackLemmas

@@ -10,6 +10,7 @@ pub mod Changes
 pub mod Agreement
 pub mod Counts
 pub mod Repository
+pub mod Stopped
 pub mod Stops
 pub mod Masters
 pub mod State

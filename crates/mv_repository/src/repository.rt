@@ -47,6 +47,7 @@ impl Repository {
     ghost use Rattle.mv_repository.specs.PackState.{pack_state, is_recalled, is_withdrawn};
     ghost use Rattle.mv_repository.specs.Effect.{effect_of};
     ghost use Rattle.mv_repository.specs.History.{history_of};
+    ghost use Rattle.mv_repository.specs.Stopped.{recalled_batches, withdrawn_products};
     ghost use Rattle.mv_repository.specs.Query.{found_of, answer_after, answer_to};
     ghost use Rattle.mv_repository.specs.Verdict.{local_verdict, joint_verdict};
     ghost use Rattle.mv_repository.specs.Counts.{counts_of};
@@ -120,6 +121,20 @@ impl Repository {
         ensures { result ≡ is_withdrawn gtin.now self.now.log }
     {
         self.tables.stops.has_withdrawal(gtin)
+    }
+
+    /// The batches that are recalled, each once, in the order in which the first recall of each came.
+    pub fn recalled_batches(&self) -> &[BatchKey]
+        ensures { result.now ≡ recalled_batches self.now.log }
+    {
+        self.tables.stops.recalled()
+    }
+
+    /// The products that are withdrawn, each once, in the order in which the first withdrawal of each came.
+    pub fn withdrawn_products(&self) -> &[Gtin]
+        ensures { result.now ≡ withdrawn_products self.now.log }
+    {
+        self.tables.stops.withdrawn()
     }
 
     /// How much the repository has, each thing counted once.

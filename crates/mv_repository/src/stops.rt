@@ -4,6 +4,7 @@
 ghost use Rattle.std.specs.Prelude.{◌≡◌, ◌+◌, if◌then◌else◌, true, is_some, OnOk, OnErr, IfOk, bytes_eq, [], length, take};
 ghost use Rattle.std.specs.List.{IsDistinct};
 ghost use Rattle.std.specs.Map.{lookup, keys_of};
+ghost use Rattle.indexmap.specs.IndexSet.{insert_key};
 ghost use Rattle.mv_pack.specs.Keys.{is_same_batch};
 ghost use Rattle.mv_repository.specs.PackState.{is_recall_of, is_withdrawal_of};
 ghost use Rattle.mv_repository.specs.Stops.{AreStopsOf, stops_in, standing_at, entry_at, earlier_place, comes_first};
@@ -89,6 +90,20 @@ impl Stops {
         self.recalls.len()
     }
 
+    /// The batches that have a recall, in the order in which the first recall of each was added.
+    pub fn recalled(&self) -> &[BatchKey]
+        ensures { result.now ≡ keys_of self.now.recalls }
+    {
+        self.recalls.keys().as_slice()
+    }
+
+    /// The products that have a withdrawal, in the order in which the first withdrawal of each was added.
+    pub fn withdrawn(&self) -> &[Gtin]
+        ensures { result.now ≡ keys_of self.now.withdrawals }
+    {
+        self.withdrawals.keys().as_slice()
+    }
+
     /// How a batch stands where an entry stands.
     pub fn standing_at(&self, log: &[LogEntry], batch: &BatchKey, place: usize) -> BatchStanding
         ensures { result
@@ -141,6 +156,7 @@ impl Stops {
 
 /// Writes the place of the newest entry into a table where it is the first under its key by stamp; whether it is. Where
 /// memory is refused nothing has changed.
+#[tactic(auto, using(crate::proofs::StoppedLemmas::key_stays, crate::proofs::StoppedLemmas::key_added))]
 fn add_first<K: Eq + Hash + Drop>(
     places: &mut IndexMap<K, usize>,
     log: &[LogEntry],
@@ -153,6 +169,7 @@ fn add_first<K: Eq + Hash + Drop>(
         ≡ (if K.eq key other
         then earlier_place log.now place (lookup (K.eq key) places.old.entries)
         else lookup (K.eq other) places.old.entries)) }
+    ensures keys { OnOk result (keys_of places.new.entries ≡ insert_key K.eq (keys_of places.old.entries) key) }
     ensures err { OnErr result (places.new.entries ≡ places.old.entries) }
 {
     let first = places.get(&key).copied();

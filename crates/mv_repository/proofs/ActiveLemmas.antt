@@ -23,7 +23,7 @@ use Rattle.mv_repository.proofs.TableLemmas.{filter-stand}
 use Rattle.mv_repository.proofs.NextLemmas.{grown-by}
 use Rattle.mv_repository.proofs.TrackLemmas.{last-steps, fold-stands}
 
-find-true : (f : Placed → Bool) (xs : List Placed) → IfSome (find f xs) (λ x. f x ≡ true)
+pub find-true : (f : Placed → Bool) (xs : List Placed) → IfSome (find f xs) (λ x. f x ≡ true)
 find-true f [] = tt
 find-true f (x ∷ xs) = by (f x) refl (find-true f xs)
   where

@@ -158,7 +158,7 @@ change-unplaced : (to : Standing) (change : KnownChange) → option_map unplaced
 change-unplaced to change =
     elim (is_active to) as (λ b. option_map unplaced_change (cond b None (Some change)) ≡ cond b None (Some (unplaced_change change))) [ true ↦ refl | false ↦ refl ]
 
-status-unplaced : (held : KnownPack) (standing : BatchStanding) (to : Standing) (sender : ℕ) (user : List ℕ) (at entry : ℕ)
+pub status-unplaced : (held : KnownPack) (standing : BatchStanding) (to : Standing) (sender : ℕ) (user : List ℕ) (at entry : ℕ)
     → unplaced (pack_after_status held standing to sender user at entry) ≡ pack_after_status (unplaced held) standing to sender user at 0
 status-unplaced held standing to sender user at entry =
     by (is_done (change_effect held standing to sender user at))
@@ -313,20 +313,24 @@ verdict-by pack log = by (known_pack pack (ordered log))
     by None = refl
     by (Some held) = refl
 
+-- two logs agree where their states, recalls and withdrawals are the same
+pub agree-by : (pack : PackKey) (one other : List LogEntry) → unplaced_state pack one ≡ unplaced_state pack other
+    → is_batch_recalled pack.gtin (batch_in pack one) one ≡ is_batch_recalled pack.gtin (batch_in pack other) other
+    → is_withdrawn pack.gtin one ≡ is_withdrawn pack.gtin other → AgreeOn pack one other
+agree-by pack one other state recall withdrawal = record {
+  state = state;
+  recall = recall;
+  withdrawal = withdrawal;
+  verdict = verdict-by pack one ∙ (λ i. verdict_by (state i) (recall i) (withdrawal i)) ∙ sym (verdict-by pack other);
+}
+
 pub agree : (pack : PackKey) (one other : List LogEntry) → about pack one ≡ about pack other → AgreeOn pack one other
 agree pack one other same =
     let state : unplaced_state pack one ≡ unplaced_state pack other = state-about pack one ∙ ap (named_by pack) same ∙ sym (state-about pack other) in
     let batch : batch_in pack one ≡ batch_in pack other = batch-named pack one ∙ ap (option_map (λ held. held.batch)) state ∙ sym (batch-named pack other) in
-    let recall : is_batch_recalled pack.gtin (batch_in pack one) one ≡ is_batch_recalled pack.gtin (batch_in pack other) other =
-    recall-about pack one ∙ (λ i. recalled_by pack.gtin (batch i) (same i)) ∙ sym (recall-about pack other) in
-    let withdrawal : is_withdrawn pack.gtin one ≡ is_withdrawn pack.gtin other =
-    withdrawal-about pack one ∙ ap (λ (sent : List Sent). list_any (λ placed. is_withdrawal_of pack.gtin placed.entry.item) (map bare sent)) same ∙ sym (withdrawal-about pack other) in
-    record {
-      state = state;
-      recall = recall;
-      withdrawal = withdrawal;
-      verdict = verdict-by pack one ∙ (λ i. verdict_by (state i) (recall i) (withdrawal i)) ∙ sym (verdict-by pack other);
-    }
+    agree-by pack one other state
+    (recall-about pack one ∙ (λ i. recalled_by pack.gtin (batch i) (same i)) ∙ sym (recall-about pack other))
+    (withdrawal-about pack one ∙ ap (λ (sent : List Sent). list_any (λ placed. is_withdrawal_of pack.gtin placed.entry.item) (map bare sent)) same ∙ sym (withdrawal-about pack other))
 
 -- the batch of the first upload that names a pack, among messages in the order of stamps
 abbrev first_in : PackKey → Message → Option (List ℕ) → Option (List ℕ)

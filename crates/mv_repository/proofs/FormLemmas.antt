@@ -1,9 +1,10 @@
 -- What the tables are after one more entry, by its form.
 use Rattle.std.specs.Prelude.{bytes_eq}
 use Rattle.std.proofs.Common.{◌≡◌, ℕ, ◌+◌, List, [], length, get_or, take, refl, sym, ◌∙◌, arith, subst, Bool, true, false, not, true≢false, Option, cond, Result, Ok, Err, OnOk}
-use Rattle.std.specs.Map.{lookup}
+use Rattle.std.specs.Map.{lookup, keys_of}
 use Rattle.std.specs.Option.{option_map, unwrap_or}
 use Rattle.std.proofs.lemmas.List.{get_or_default}
+use Rattle.indexmap.specs.IndexSet.{insert_key}
 use Rattle.mv_pack.specs.declared.key.PackKey.{PackKey}
 use Rattle.mv_pack.specs.declared.key.BatchKey.{BatchKey}
 use Rattle.mv_pack.specs.Keys.{is_same_batch}
@@ -37,6 +38,10 @@ use Rattle.mv_repository.proofs.UploadLemmas.{untouched}
 pub on_ok : {A E P Q : Type 0} → (r : Result A E) → OnOk r P → (P → Q) → OnOk r Q
 on_ok (Ok x) p f = f p
 on_ok (Err e) p f = tt
+
+pub on_both : {A E P Q R : Type 0} → (r : Result A E) → OnOk r P → OnOk r Q → (P → Q → R) → OnOk r R
+on_both (Ok x) p q f = f p q
+on_both (Err e) p q f = tt
 
 -- what is read at the place of the newest entry
 pub entry_read : (whole : List LogEntry) (place : ℕ) (read : LogEntry) → length whole ≡ place + 1 → read ≡ get_or whole place read → get_or whole place no_entry ≡ read
@@ -123,12 +128,13 @@ module _ (whole : List LogEntry) (place : ℕ) (l : length whole ≡ place + 1) 
   module _ (key : BatchKey) (tables : StopTables) (own : is_recall_of key entry.item ≡ true) (stops : AreStopsOf log tables) where
     pub recall-stops : (tables' : StopTables)
         → ((batch : BatchKey) → lookup (is_same_batch batch) tables'.recalls ≡ cond (is_same_batch key batch) (earlier_place whole place (lookup (is_same_batch key) tables.recalls)) (lookup (is_same_batch batch) tables.recalls))
+        → keys_of tables'.recalls ≡ insert_key is_same_batch (keys_of tables.recalls) key
         → tables'.withdrawals ≡ tables.withdrawals → AreStopsOf whole tables'
-    recall-stops tables' looks same =
+    recall-stops tables' looks keys same =
         let form = recall-form key entry.item own in
         subst (λ (w : List LogEntry). AreStopsOf w tables') split
         (stops-recall log entry tables tables' key stops form.0 form.1
-        (λ batch. looks batch ∙ (λ i. cond (is_same_batch key batch) (earlier_place (sym split i) (sym at i) (lookup (is_same_batch key) tables.recalls)) (lookup (is_same_batch batch) tables.recalls))) same)
+        (λ batch. looks batch ∙ (λ i. cond (is_same_batch key batch) (earlier_place (sym split i) (sym at i) (lookup (is_same_batch key) tables.recalls)) (lookup (is_same_batch batch) tables.recalls))) keys same)
 
     pub recall-packs : (packs : PackTables) → comes_first whole place (lookup (is_same_batch key) tables.recalls) ≡ false → ArePacksOf log packs → ArePacksOf whole packs
     recall-packs packs later are =
@@ -143,12 +149,13 @@ module _ (whole : List LogEntry) (place : ℕ) (l : length whole ≡ place + 1) 
   module _ (key : List ℕ) (tables : StopTables) (own : is_withdrawal_of key entry.item ≡ true) (stops : AreStopsOf log tables) where
     pub withdrawal-stops : (tables' : StopTables)
         → ((gtin : List ℕ) → lookup (bytes_eq gtin) tables'.withdrawals ≡ cond (bytes_eq key gtin) (earlier_place whole place (lookup (bytes_eq key) tables.withdrawals)) (lookup (bytes_eq gtin) tables.withdrawals))
+        → keys_of tables'.withdrawals ≡ insert_key bytes_eq (keys_of tables.withdrawals) key
         → tables'.recalls ≡ tables.recalls → AreStopsOf whole tables'
-    withdrawal-stops tables' looks same =
+    withdrawal-stops tables' looks keys same =
         let form = withdrawal-form key entry.item own in
         subst (λ (w : List LogEntry). AreStopsOf w tables') split
         (stops-withdrawal log entry tables tables' key stops form.0 form.1
-        (λ gtin. looks gtin ∙ (λ i. cond (bytes_eq key gtin) (earlier_place (sym split i) (sym at i) (lookup (bytes_eq key) tables.withdrawals)) (lookup (bytes_eq gtin) tables.withdrawals))) same)
+        (λ gtin. looks gtin ∙ (λ i. cond (bytes_eq key gtin) (earlier_place (sym split i) (sym at i) (lookup (bytes_eq key) tables.withdrawals)) (lookup (bytes_eq gtin) tables.withdrawals))) keys same)
 
     pub withdrawal-packs : (packs : PackTables) → comes_first whole place (lookup (bytes_eq key) tables.withdrawals) ≡ false → ArePacksOf log packs → ArePacksOf whole packs
     withdrawal-packs packs later are =

@@ -42,6 +42,9 @@ text-self a = nat_list_eq_equiv.refl a
 pub pack-self : (a : PackKey) → is_same_pack a a ≡ true
 pack-self a = λ i. text-self a.gtin i && text-self a.serial i
 
+pub batch-self : (a : BatchKey) → is_same_batch a a ≡ true
+batch-self a = λ i. text-self a.gtin i && text-self a.batch i
+
 not_itself_n : (a : ℕ) → nat_lt a a ≡ false
 not_itself_n a = grind (arith, nat_tests)
 

@@ -3,6 +3,7 @@ pub mod StateLemmas
 pub mod BeforeLemmas
 pub mod PlaceLemmas
 pub mod KeptLemmas
+pub mod StoppedLemmas
 pub mod TableLemmas
 pub mod NextLemmas
 pub mod TrackLemmas
@@ -24,5 +25,7 @@ pub mod ProductLemmas
 pub mod InquiriesLemmas
 pub mod ChangesLemmas
 pub mod AgreementLemmas
+pub mod HistoryLemmas
+pub mod LentLemmas
 pub mod StampsLemmas
 pub mod SameAboutLemmas

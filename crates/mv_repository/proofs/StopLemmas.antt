@@ -2,8 +2,9 @@
 use Rattle.std.specs.Prelude.{bytes_eq}
 use Rattle.std.proofs.Common.{◌≡◌, ℕ, List, length, get_or, refl, sym, ◌∙◌, ap, Bool, true, false, cond, not, Option, Some, None, IfSome, true≢false, find}
 use Rattle.std.specs.Cmp.Lexicographic.{same_text}
-use Rattle.std.specs.Map.{lookup}
+use Rattle.std.specs.Map.{lookup, keys_of}
 use Rattle.std.specs.Option.{option_map}
+use Rattle.indexmap.specs.IndexSet.{insert_key}
 use Rattle.mv_pack.specs.declared.key.BatchKey.{BatchKey}
 use Rattle.mv_message.specs.declared.message.Message.TheVariants.{Recall, Withdraw}
 use Rattle.mv_link.specs.declared.item.Item.{Item}
@@ -13,10 +14,13 @@ use Rattle.mv_pack.specs.Keys.{is_same_batch}
 use Rattle.mv_repository.specs.Order.{Placed, passes, ordered}
 use Rattle.mv_repository.specs.PackState.{is_recall_of, is_withdrawal_of, is_recalled_by, is_withdrawn_by}
 use Rattle.mv_repository.specs.Effect.{entries_before, lasting_effect, effect_after, effect_of}
+use Rattle.mv_repository.specs.Counts.{recalled_in}
+use Rattle.mv_repository.specs.Stopped.{withdrawn_in}
 use Rattle.mv_repository.specs.Stops.{StopTables, first_stops, is_before, place_of, no_entry, AreStopsOf, comes_first, earlier_place}
 use Rattle.mv_repository.proofs.OrderLemmas.{still-stand}
 use Rattle.mv_repository.proofs.StateLemmas.{find-stand}
-use Rattle.mv_repository.proofs.KeptLemmas.{same_batch}
+use Rattle.mv_repository.proofs.KeptLemmas.{same_batch, batch-self, text-self}
+use Rattle.mv_repository.proofs.StoppedLemmas.{once-none, once-one, no-recall, no-withdrawal, one-recall, one-withdrawal}
 use Rattle.mv_repository.proofs.TableLemmas.{longer, newest, newest-stands, earlier, find-more, find-none, find-some}
 use Rattle.mv_repository.proofs.BeforeLemmas.{recalled-before, withdrawn-before}
 use Rattle.mv_repository.proofs.UploadedLemmas.{first-effect}
@@ -114,8 +118,12 @@ first-table {K = K} same is_of log entry places places' key one finds names look
 pub stops-recall : (log : List LogEntry) (entry : LogEntry) (tables tables' : StopTables) (key : BatchKey) → AreStopsOf log tables
     → ((batch : BatchKey) → is_recall_of batch entry.item ≡ is_same_batch key batch) → ((gtin : List ℕ) → is_withdrawal_of gtin entry.item ≡ false)
     → ((batch : BatchKey) → lookup (is_same_batch batch) tables'.recalls ≡ cond (is_same_batch key batch) (earlier_place (longer log entry) (length log) (lookup (is_same_batch key) tables.recalls)) (lookup (is_same_batch batch) tables.recalls))
+    → keys_of tables'.recalls ≡ insert_key is_same_batch (keys_of tables.recalls) key
     → tables'.withdrawals ≡ tables.withdrawals → AreStopsOf (longer log entry) tables'
-stops-recall log entry tables tables' key stops names none looks same = record {
+stops-recall log entry tables tables' key stops names none looks keys same = record {
+  recalled = keys ∙ ap (λ (l : List BatchKey). insert_key is_same_batch l key) stops.recalled
+      ∙ sym (once-one is_same_batch (λ (one : LogEntry). recalled_in one.item) log entry key (one-recall key entry.item (names key ∙ batch-self key)));
+  withdrawn = ap keys_of same ∙ stops.withdrawn ∙ sym (once-none bytes_eq (λ (one : LogEntry). withdrawn_in one.item) log entry (no-withdrawal entry.item none));
   recalls = first-table is_same_batch is_recall_of log entry tables.recalls tables'.recalls key (same_batch key) stops.recalls names looks;
   withdrawals = λ gtin. ap (lookup (bytes_eq gtin)) same ∙ stops.withdrawals gtin ∙ ap (option_map place_of) (sym (find-none (λ placed. is_withdrawal_of gtin placed.entry.item) log entry (none gtin)));
 }
@@ -123,8 +131,12 @@ stops-recall log entry tables tables' key stops names none looks same = record {
 pub stops-withdrawal : (log : List LogEntry) (entry : LogEntry) (tables tables' : StopTables) (key : List ℕ) → AreStopsOf log tables
     → ((gtin : List ℕ) → is_withdrawal_of gtin entry.item ≡ bytes_eq key gtin) → ((batch : BatchKey) → is_recall_of batch entry.item ≡ false)
     → ((gtin : List ℕ) → lookup (bytes_eq gtin) tables'.withdrawals ≡ cond (bytes_eq key gtin) (earlier_place (longer log entry) (length log) (lookup (bytes_eq key) tables.withdrawals)) (lookup (bytes_eq gtin) tables.withdrawals))
+    → keys_of tables'.withdrawals ≡ insert_key bytes_eq (keys_of tables.withdrawals) key
     → tables'.recalls ≡ tables.recalls → AreStopsOf (longer log entry) tables'
-stops-withdrawal log entry tables tables' key stops names none looks same = record {
+stops-withdrawal log entry tables tables' key stops names none looks keys same = record {
+  withdrawn = keys ∙ ap (λ (l : List (List ℕ)). insert_key bytes_eq l key) stops.withdrawn
+      ∙ sym (once-one bytes_eq (λ (one : LogEntry). withdrawn_in one.item) log entry key (one-withdrawal key entry.item (names key ∙ text-self key)));
+  recalled = ap keys_of same ∙ stops.recalled ∙ sym (once-none is_same_batch (λ (one : LogEntry). recalled_in one.item) log entry (no-recall entry.item none));
   withdrawals = first-table bytes_eq is_withdrawal_of log entry tables.withdrawals tables'.withdrawals key (λ other h. same_text key other (sym h)) stops.withdrawals names looks;
   recalls = λ batch. ap (lookup (is_same_batch batch)) same ∙ stops.recalls batch ∙ ap (option_map place_of) (sym (find-none (λ placed. is_recall_of batch placed.entry.item) log entry (none batch)));
 }

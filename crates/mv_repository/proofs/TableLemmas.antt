@@ -8,12 +8,15 @@ use Rattle.mv_pack.specs.declared.key.BatchKey.{BatchKey}
 use Rattle.mv_link.specs.declared.item.Item.{Item}
 use Rattle.mv_repository.specs.declared.entry.LogEntry.{LogEntry}
 use Rattle.mv_pack.specs.Keys.{is_same_batch}
+use Rattle.mv_repository.specs.Counts.{recalled_in}
 use Rattle.mv_repository.specs.Order.{Placed, passes, put_in, ordered, Ascends}
 use Rattle.mv_repository.specs.PackState.{is_recall_of, is_withdrawal_of}
+use Rattle.mv_repository.specs.Stopped.{withdrawn_in}
 use Rattle.mv_repository.specs.Stops.{StopTables, first_stops, stops_in, entry_at, place_of, no_entry, AreStopsOf, earlier_place}
 use Rattle.mv_repository.specs.Track.{put_place}
 use Rattle.mv_repository.proofs.OrderLemmas.{StandsBeforeAll, placed_at, passes_behind, ordered-ascends, ordered-push, Stand, still-stand}
 use Rattle.mv_repository.proofs.StateLemmas.{find-stand, find-stands}
+use Rattle.mv_repository.proofs.StoppedLemmas.{once-none, no-recall, no-withdrawal}
 
 -- a part of what ascends
 filter-before : (f : Placed → Bool) (x : Placed) (xs : List Placed) → StandsBeforeAll x xs → StandsBeforeAll x (filter f xs)
@@ -175,4 +178,6 @@ pub stops-stay : (log : List LogEntry) (entry : LogEntry) (tables : StopTables) 
 stops-stay log entry tables none stops = record {
   recalls = λ batch. stops.recalls batch ∙ ap (option_map place_of) (sym (find-none (λ placed. is_recall_of batch placed.entry.item) log entry (none.0 batch)));
   withdrawals = λ gtin. stops.withdrawals gtin ∙ ap (option_map place_of) (sym (find-none (λ placed. is_withdrawal_of gtin placed.entry.item) log entry (none.1 gtin)));
+  recalled = stops.recalled ∙ sym (once-none is_same_batch (λ (one : LogEntry). recalled_in one.item) log entry (no-recall entry.item none.0));
+  withdrawn = stops.withdrawn ∙ sym (once-none bytes_eq (λ (one : LogEntry). withdrawn_in one.item) log entry (no-withdrawal entry.item none.1));
 }

@@ -10,6 +10,7 @@ pub mod Changes
 pub mod Agreement
 pub mod Counts
 pub mod Repository
+pub mod Stopped
 pub mod Stops
 pub mod Masters
 pub mod State
@@ -20,3 +21,4 @@ pub mod Listing
 pub mod Packs
 pub mod Inquiries
 pub mod Tables
+pub mod History

@@ -1,6 +1,6 @@
 -- What stops a batch for ever: its first recall, and the first withdrawal of its product, by the order of stamps.
 use Rattle.std.specs.Prelude.{◌≡◌, ℕ, List, [], find, get_or, Bool, true, false, Option, Some, None, if◌then◌else◌, bytes_eq}
-use Rattle.std.specs.Map.{lookup}
+use Rattle.std.specs.Map.{lookup, keys_of}
 use Rattle.std.specs.Option.{option_map}
 use Rattle.mv_pack.specs.declared.key.BatchKey.{BatchKey}
 use Rattle.mv_link.specs.declared.item.Item.TheVariants.{Receipt}
@@ -9,6 +9,7 @@ use Rattle.mv_repository.specs.declared.stops.BatchStanding.{BatchStanding}
 use Rattle.mv_pack.specs.Keys.{is_same_batch}
 use Rattle.mv_repository.specs.Order.{Placed, passes, stands_before, ordered}
 use Rattle.mv_repository.specs.PackState.{is_recall_of, is_withdrawal_of}
+use Rattle.mv_repository.specs.Stopped.{recalled_batches, withdrawn_products}
 
 -- an entry that stands nowhere
 abbrev pub no_entry : LogEntry
@@ -61,6 +62,8 @@ stops_in log tables = record {
 pub record AreStopsOf (log : List LogEntry) (tables : StopTables) : Type 0 where
   pub recalls : (batch : BatchKey) → lookup (is_same_batch batch) tables.recalls ≡ option_map place_of ((first_stops (ordered log)).recall batch)
   pub withdrawals : (gtin : List ℕ) → lookup (bytes_eq gtin) tables.withdrawals ≡ option_map place_of ((first_stops (ordered log)).withdrawal gtin)
+  pub recalled : keys_of tables.recalls ≡ recalled_batches log
+  pub withdrawn : keys_of tables.withdrawals ≡ withdrawn_products log
 
 -- the newest entry comes first: there is none so far, or it stands before the first so far, which is at that place
 abbrev pub comes_first : List LogEntry → ℕ → Option ℕ → Bool

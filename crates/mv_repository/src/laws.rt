@@ -6,6 +6,7 @@ ghost use Rattle.mv_pack.specs.declared.key.PackKey.{PackKey as APackKey};
 ghost use Rattle.mv_repository.specs.declared.entry.LogEntry.{LogEntry as AnEntry};
 ghost use Rattle.mv_repository.specs.Agreement.{about, AgreeOn, HasDistinctStamps, HaveSameAbout, HaveSameEntries};
 ghost use Rattle.mv_repository.specs.Changes.{ChangeNamesStatus};
+ghost use Rattle.mv_repository.specs.History.{HaveSameHistory};
 ghost use Rattle.mv_repository.specs.Order.{IsOrderOf, ordered};
 ghost use Rattle.mv_repository.specs.PackState.{known_pack};
 ghost use Rattle.mv_repository.specs.Stops.{first_stops};
@@ -47,4 +48,11 @@ pub fn same_messages_agree()
 pub fn same_entries_agree()
     ensures { (pack : APackKey) (one other : List AnEntry) → HasDistinctStamps one
         → HasDistinctStamps other → HaveSameEntries one other → AgreeOn pack one other }
+{}
+
+/// Two logs that have the same history of a pack agree on it, whatever else they have: what decides the pack was sent alike, and
+/// each status stands alike behind the upload, the recall and the withdrawal. No stamp needs to be distinct.
+pub fn same_histories_agree()
+    ensures { (pack : APackKey) (one other : List AnEntry) → HaveSameHistory pack one other
+        → AgreeOn pack one other }
 {}

@@ -23,6 +23,7 @@ mod counts;
 mod effect;
 mod entry;
 mod held;
+mod history;
 mod inquiries;
 mod laws;
 mod listing;
@@ -45,9 +46,10 @@ pub use counts::Counts;
 pub use effect::Effect;
 pub use entry::LogEntry;
 pub use held::{Change, Held, REVERT_SECONDS};
+pub use history::{History, Statuses};
 pub use laws::{
     about_decides, change_names_its_status, ordered_is_the_order, pack_is_of_its_own_entries,
-    same_entries_agree, same_messages_agree,
+    same_entries_agree, same_histories_agree, same_messages_agree,
 };
 pub use repository::Repository;
 pub use sender::FromSender;

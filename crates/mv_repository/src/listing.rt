@@ -26,7 +26,7 @@ fn batch_in(item: &Item) -> Option<&Batch>
 }
 
 /// The batch of the packs that the entry at a place uploads.
-fn batch_at(log: &[LogEntry], place: u32) -> Option<&Batch>
+pub(crate) fn batch_at(log: &[LogEntry], place: u32) -> Option<&Batch>
     ensures { option_copied result ≡ batch_at log.now place }
 {
     let entry = log.get(place as usize)?;

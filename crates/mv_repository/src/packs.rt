@@ -16,6 +16,7 @@ ghost use Rattle.mv_repository.specs.Track.{is_status_of, track_of};
 use crate::counted::Counted;
 use crate::shelf::{Newest, Shelf};
 use crate::shelves::add_shelf;
+use crate::step::Step;
 use crate::stops::Stops;
 use crate::{Effect, Held, LogEntry};
 use indexmap::IndexMap;
@@ -74,6 +75,17 @@ impl Packs {
     {
         let shelf = self.shelves.get(&key.gtin)?;
         shelf.state(log, &key.serial)
+    }
+
+    /// The place of the first upload that names a pack, and its statuses.
+    pub fn parts(&self, log: &[LogEntry], key: &PackKey) -> (Option<u32>, &[Step])
+        requires { ArePacksOf log.now self.now }
+        ensures { record { birth = result.0; steps = result.1.now } ≡ track_of key.now log.now }
+    {
+        match self.shelves.get(&key.gtin) {
+            Some(shelf) => shelf.parts(&key.serial),
+            None => (None, &[]),
+        }
     }
 
     /// Adds the newest entry, an upload; its effect where it stands.

@@ -8,7 +8,7 @@ use crate::inquiries::Inquiries;
 use crate::state::is_active;
 use crate::tables::Tables;
 use crate::verdict::{is_explained, verdict_when};
-use crate::{Counts, Effect, FromSender, Held, Joint, Local, LogEntry, masters};
+use crate::{Counts, Effect, FromSender, Held, History, Joint, Local, LogEntry, masters};
 use mv_link::Item;
 use mv_message::{Found, Message, Party, Product, Shared};
 use mv_pack::{BatchKey, Gtin, PackKey};
@@ -47,6 +47,8 @@ impl Repository {
     ghost use Rattle.mv_repository.specs.Repository.{new_repository, with_applied, product_of};
     ghost use Rattle.mv_repository.specs.PackState.{pack_state, is_recalled, is_withdrawn};
     ghost use Rattle.mv_repository.specs.Effect.{effect_of};
+    ghost use Rattle.mv_repository.specs.History.{history_of};
+    ghost use Rattle.mv_repository.specs.Stopped.{recalled_batches, withdrawn_products};
     ghost use Rattle.mv_repository.specs.Query.{found_of, answer_after, answer_to};
     ghost use Rattle.mv_repository.specs.Verdict.{local_verdict, joint_verdict};
     ghost use Rattle.mv_repository.specs.Counts.{counts_of};
@@ -99,6 +101,15 @@ impl Repository {
         self.tables.packs.get(self.log.as_slice(), key)
     }
 
+    /// What decides a pack: its first upload, its statuses, and the first recall of its batch and withdrawal of its product.
+    pub fn history(&self, key: &PackKey) -> History<'_>
+        ensures { result ≡ history_of key.now self.now.log }
+    {
+        let log = self.log.as_slice();
+        let (upload, steps) = self.tables.packs.parts(log, key);
+        History::new(log, &self.tables.stops, key, upload, steps)
+    }
+
     /// Whether a batch is recalled.
     pub fn recalled(&self, batch: &BatchKey) -> bool
         ensures { result ≡ is_recalled batch.now self.now.log }
@@ -111,6 +122,20 @@ impl Repository {
         ensures { result ≡ is_withdrawn gtin.now self.now.log }
     {
         self.tables.stops.has_withdrawal(gtin)
+    }
+
+    /// The batches that are recalled, each once, in the order in which the first recall of each came.
+    pub fn recalled_batches(&self) -> &[BatchKey]
+        ensures { result.now ≡ recalled_batches self.now.log }
+    {
+        self.tables.stops.recalled()
+    }
+
+    /// The products that are withdrawn, each once, in the order in which the first withdrawal of each came.
+    pub fn withdrawn_products(&self) -> &[Gtin]
+        ensures { result.now ≡ withdrawn_products self.now.log }
+    {
+        self.tables.stops.withdrawn()
     }
 
     /// How much the repository has, each thing counted once. It goes through the table of packs.

@@ -19,6 +19,7 @@ use crate::listing::Listing;
 use crate::order::passes;
 use crate::slot::Slot;
 use crate::state::held_at;
+use crate::step::Step;
 use crate::stops::Stops;
 use crate::track::Track;
 use crate::{Effect, Held, LogEntry};
@@ -301,6 +302,17 @@ impl Shelf {
         match self.slots.get(serial).copied()? {
             Slot::Made(first) => held_at(log, first, first),
             Slot::Own(number) => self.tracks[number as usize].state(log),
+        }
+    }
+
+    /// The place of the first upload that names a pack of the product, and the pack's statuses.
+    pub fn parts(&self, serial: &Serial) -> (Option<u32>, &[Step])
+        ensures { record { birth = result.0; steps = result.1.now } ≡ kept_on self.now.slots self.now.tracks serial.now }
+    {
+        match self.slots.get(serial).copied() {
+            Some(Slot::Made(first)) => (Some(first), &[]),
+            Some(Slot::Own(number)) => self.tracks[number as usize].parts(),
+            None => (None, &[]),
         }
     }
 

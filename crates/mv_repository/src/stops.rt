@@ -4,6 +4,7 @@
 ghost use Rattle.std.specs.Prelude.{◌≡◌, ◌+◌, if◌then◌else◌, true, is_some, OnOk, OnErr, IfOk, bytes_eq, [], length, take};
 ghost use Rattle.std.specs.List.{IsDistinct};
 ghost use Rattle.std.specs.Map.{lookup, keys_of};
+ghost use Rattle.indexmap.specs.IndexSet.{insert_key};
 ghost use Rattle.mv_pack.specs.Keys.{is_same_batch};
 ghost use Rattle.mv_repository.specs.PackState.{is_recall_of, is_withdrawal_of};
 ghost use Rattle.mv_repository.specs.Stops.{AreStopsOf, stops_in, standing_at, entry_at, earlier_place, comes_first};
@@ -67,6 +68,20 @@ impl Stops {
         self.withdrawals.contains_key(gtin)
     }
 
+    /// The place of the first recall of a batch.
+    pub fn first_recall(&self, batch: &BatchKey) -> Option<usize>
+        ensures { result ≡ lookup (is_same_batch batch.now) self.now.recalls }
+    {
+        self.recalls.get(batch).copied()
+    }
+
+    /// The place of the first withdrawal of a product.
+    pub fn first_withdrawal(&self, gtin: &Gtin) -> Option<usize>
+        ensures { result ≡ lookup (bytes_eq gtin.now) self.now.withdrawals }
+    {
+        self.withdrawals.get(gtin).copied()
+    }
+
     /// How many batches have a recall.
     pub fn recalled_count(&self) -> usize
         ensures count { result ≡ length self.now.recalls }
@@ -75,16 +90,28 @@ impl Stops {
         self.recalls.len()
     }
 
+    /// The batches that have a recall, in the order in which the first recall of each was added.
+    pub fn recalled(&self) -> &[BatchKey]
+        ensures { result.now ≡ keys_of self.now.recalls }
+    {
+        self.recalls.keys().as_slice()
+    }
+
+    /// The products that have a withdrawal, in the order in which the first withdrawal of each was added.
+    pub fn withdrawn(&self) -> &[Gtin]
+        ensures { result.now ≡ keys_of self.now.withdrawals }
+    {
+        self.withdrawals.keys().as_slice()
+    }
+
     /// How a batch stands where an entry stands.
     pub fn standing_at(&self, log: &[LogEntry], batch: &BatchKey, place: usize) -> BatchStanding
         ensures { result
             ≡ standing_at (stops_in log.now self.now) (entry_at log.now place) batch.now }
     {
-        let recall = self.recalls.get(batch).copied();
-        let withdrawal = self.withdrawals.get(&batch.gtin).copied();
         BatchStanding {
-            recalled: is_before(log, recall, place),
-            withdrawn: is_before(log, withdrawal, place),
+            recalled: is_before(log, self.first_recall(batch), place),
+            withdrawn: is_before(log, self.first_withdrawal(&batch.gtin), place),
         }
     }
 
@@ -129,6 +156,7 @@ impl Stops {
 
 /// Writes the place of the newest entry into a table where it is the first under its key by stamp; whether it is. Where
 /// memory is refused nothing has changed.
+#[tactic(auto, using(crate::proofs::StoppedLemmas::key_stays, crate::proofs::StoppedLemmas::key_added))]
 fn add_first<K: Eq + Hash + Drop>(
     places: &mut IndexMap<K, usize>,
     log: &[LogEntry],
@@ -141,6 +169,7 @@ fn add_first<K: Eq + Hash + Drop>(
         ≡ (if K.eq key other
         then earlier_place log.now place (lookup (K.eq key) places.old.entries)
         else lookup (K.eq other) places.old.entries)) }
+    ensures keys { OnOk result (keys_of places.new.entries ≡ insert_key K.eq (keys_of places.old.entries) key) }
     ensures err { OnErr result (places.new.entries ≡ places.old.entries) }
 {
     let first = places.get(&key).copied();

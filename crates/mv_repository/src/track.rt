@@ -118,6 +118,13 @@ impl Track {
         held_at(log, self.birth?, self.by_before(self.steps.len()))
     }
 
+    /// The place of the first upload that names the pack, and its statuses.
+    pub fn parts(&self) -> (Option<u32>, &[Step])
+        ensures { record { birth = result.0; steps = result.1.now } ≡ self.now }
+    {
+        (self.birth, self.steps.as_slice())
+    }
+
     /// Whether the pack is counted.
     pub fn is_counted(&self, counted: Counted) -> bool
         ensures { result ≡ is_counted counted self.now }

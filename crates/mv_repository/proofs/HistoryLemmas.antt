@@ -1,0 +1,176 @@
+-- Two logs that have the same history of a pack agree on it.
+use Rattle.std.proofs.Common.{◌≡◌, ℕ, List, [], ◌∷◌, refl, sym, ◌∙◌, ap, Bool, true, false, cond, Option, Some, None, IfSome, is_some, true≢false, find, fold, map}
+use Rattle.std.specs.Option.{option_map, option_and_then}
+use Rattle.mv_pack.specs.declared.key.PackKey.{PackKey}
+use Rattle.mv_pack.specs.declared.key.BatchKey.{BatchKey}
+use Rattle.mv_pack.specs.Keys.{batch_key}
+use Rattle.mv_message.specs.declared.message.Message.TheVariants.{Upload, Status}
+use Rattle.mv_link.specs.declared.item.Item.{Item}
+use Rattle.mv_link.specs.declared.item.Item.TheVariants.{Receipt, Carried}
+use Rattle.mv_repository.specs.declared.entry.LogEntry.{LogEntry}
+use Rattle.mv_repository.specs.declared.stops.BatchStanding.{BatchStanding}
+use Rattle.mv_repository.specs.Order.{Placed, stands_before, ordered}
+use Rattle.mv_repository.specs.Pack.{KnownPack, new_pack, pack_after_status}
+use Rattle.mv_repository.specs.PackState.{held_of, is_recall_of, is_withdrawal_of, is_withdrawn}
+use Rattle.mv_repository.specs.Agreement.{Sent, sent_in, batch_in, unplaced, unplaced_state, is_batch_recalled, AgreeOn}
+use Rattle.mv_repository.specs.Listing.{batch_in as item_batch}
+use Rattle.mv_repository.specs.Masters.{entry_of}
+use Rattle.mv_repository.specs.State.{pack_made_by}
+use Rattle.mv_repository.specs.Stops.{FirstStops, first_stops, is_before, standing_at}
+use Rattle.mv_repository.specs.Track.{first_upload, statuses_of, pack_changed, pack_step, pack_grown}
+use Rattle.mv_repository.specs.History.{PackHistory, SentStatus, SentHistory, sent_of, sent_status, history_of, as_sent, HaveSameHistory}
+use Rattle.mv_repository.proofs.OrderLemmas.{ordered-ascends}
+use Rattle.mv_repository.proofs.StateLemmas.{known-grown}
+use Rattle.mv_repository.proofs.BeforeLemmas.{any-find}
+use Rattle.mv_repository.proofs.ActiveLemmas.{find-true}
+use Rattle.mv_repository.proofs.AgreementLemmas.{batch-status, status-unplaced, agree-by}
+
+-- no status changes the batch
+changed-batch : (standing : BatchKey → BatchStanding) (place sender : ℕ) (item : Item) (pack : PackKey) (held : KnownPack)
+    → (pack_changed standing place sender item pack held).batch ≡ held.batch
+changed-batch standing place sender (Carried k stamp (Status key to user at)) pack held =
+    batch-status held (standing (batch_key pack.gtin held.batch)) to sender user at place
+changed-batch standing place sender _ pack held = refl
+
+step-batch : (stops : FirstStops) (pack : PackKey) (birth : Placed) (held : KnownPack) (x : Placed) → (pack_step stops pack birth held x).batch ≡ held.batch
+step-batch stops pack birth held x =
+    elim (stands_before birth x) as (λ b. (cond b (pack_changed (standing_at stops x) x.place x.entry.sender x.entry.item pack held) held).batch ≡ held.batch) [
+      | true ↦ changed-batch (standing_at stops x) x.place x.entry.sender x.entry.item pack held
+      | false ↦ refl
+    ]
+
+fold-batch : (stops : FirstStops) (pack : PackKey) (birth : Placed) (held : KnownPack) (xs : List Placed) → (fold (pack_step stops pack birth) held xs).batch ≡ held.batch
+fold-batch stops pack birth held [] = refl
+fold-batch stops pack birth held (x ∷ xs) = fold-batch stops pack birth (pack_step stops pack birth held x) xs ∙ step-batch stops pack birth held x
+
+-- the batch of a pack is that of its upload
+pub batch-upload : (pack : PackKey) (log : List LogEntry) → batch_in pack log ≡ option_and_then (λ (x : Placed). item_batch x.entry.item) (first_upload pack (ordered log))
+batch-upload pack log =
+    ap (λ (known : Option KnownPack). option_map (λ held. held.batch) (option_map held_of known)) (known-grown pack (ordered log) (ordered-ascends log))
+    ∙ by (first_upload pack (ordered log))
+  where
+    made : (x : Placed) (item : Item)
+        → option_map (λ held. held.batch) (option_map held_of (option_map (λ held. fold (pack_step (first_stops (ordered log)) pack x) held (statuses_of pack (ordered log))) (pack_made_by item)))
+        ≡ item_batch item
+    made x (Carried k stamp (Upload gtin batch expiry national serials)) =
+        ap Some (fold-batch (first_stops (ordered log)) pack x (new_pack batch expiry national) (statuses_of pack (ordered log)))
+    made x _ = refl
+
+    by : (o : Option Placed) → option_map (λ held. held.batch) (option_map held_of (pack_grown (first_stops (ordered log)) pack o (statuses_of pack (ordered log))))
+        ≡ option_and_then (λ (x : Placed). item_batch x.entry.item) o
+    by None = refl
+    by (Some x) = made x x.entry.item
+
+-- a pack by what was sent
+abbrev made_of : Option Sent → Option KnownPack
+made_of None = None
+made_of (Some sent) = pack_made_by (Carried 0 sent.stamp sent.message)
+
+abbrev changed_of : PackKey → BatchStanding → KnownPack → Option Sent → KnownPack
+changed_of pack standing held None = held
+changed_of pack standing held (Some sent) = pack_changed (λ batch. standing) 0 sent.sender (Carried 0 sent.stamp sent.message) pack held
+
+abbrev step_of : PackKey → KnownPack → SentStatus → KnownPack
+step_of pack held status = cond status.is_uploaded (changed_of pack status.batch held status.sent) held
+
+abbrev state_of : PackKey → SentHistory → Option KnownPack
+state_of pack history = option_map (λ held. fold (step_of pack) held history.statuses) (made_of history.upload)
+
+changed-sent : (standing : BatchKey → BatchStanding) (place sender : ℕ) (item : Item) (pack : PackKey) (held : KnownPack) (number : List ℕ) → held.batch ≡ number
+    → unplaced (pack_changed standing place sender item pack held) ≡ changed_of pack (standing (batch_key pack.gtin number)) (unplaced held) (sent_in sender item)
+changed-sent standing place sender (Carried k stamp (Status key to user at)) pack held number e =
+    status-unplaced held (standing (batch_key pack.gtin held.batch)) to sender user at place
+    ∙ ap (λ (n : List ℕ). pack_after_status (unplaced held) (standing (batch_key pack.gtin n)) to sender user at 0) e
+changed-sent standing place sender (Receipt k reach query) pack held number e = refl
+changed-sent standing place sender (Carried k stamp message) pack held number e = refl
+
+module _ (stops : FirstStops) (pack : PackKey) where
+  -- a status as it was sent, of a pack of this upload and this batch
+  abbrev status : Option Placed → Option (List ℕ) → Placed → SentStatus
+  status upload batch x = record {
+    sent = sent_of x;
+    is_uploaded = is_before upload x;
+    batch = record {
+      recalled = is_before (option_and_then (λ (number : List ℕ). stops.recall (batch_key pack.gtin number)) batch) x;
+      withdrawn = is_before (stops.withdrawal pack.gtin) x;
+    };
+  }
+
+  fold-sent : (birth : Placed) (held : KnownPack) (number : List ℕ) (xs : List Placed) → held.batch ≡ number
+      → unplaced (fold (pack_step stops pack birth) held xs) ≡ fold (step_of pack) (unplaced held) (map (status (Some birth) (Some number)) xs)
+  fold-sent birth held number [] e = refl
+  fold-sent birth held number (x ∷ xs) e =
+      fold-sent birth (pack_step stops pack birth held x) number xs (step-batch stops pack birth held x ∙ e)
+      ∙ ap (λ (h : KnownPack). fold (step_of pack) h (map (status (Some birth) (Some number)) xs))
+      (elim (stands_before birth x) as (λ b. unplaced (cond b (pack_changed (standing_at stops x) x.place x.entry.sender x.entry.item pack held) held)
+      ≡ cond b (changed_of pack (standing_at stops x (batch_key pack.gtin number)) (unplaced held) (sent_of x)) (unplaced held)) [
+        | true ↦ changed-sent (standing_at stops x) x.place x.entry.sender x.entry.item pack held number e
+        | false ↦ refl
+      ])
+
+  grown-sent : (upload : Option Placed) (own : List Placed) → option_map unplaced (pack_grown stops pack upload own)
+      ≡ option_map (λ held. fold (step_of pack) held (map (status upload (option_and_then (λ (x : Placed). item_batch x.entry.item) upload)) own)) (made_of (option_and_then sent_of upload))
+  grown-sent None own = refl
+  grown-sent (Some x) own = by x.entry.item
+    where
+      by : (item : Item) → option_map unplaced (option_map (λ held. fold (pack_step stops pack x) held own) (pack_made_by item))
+          ≡ option_map (λ held. fold (step_of pack) held (map (status (Some x) (item_batch item)) own)) (made_of (sent_in x.entry.sender item))
+      by (Carried k stamp (Upload gtin batch expiry national serials)) = ap Some (fold-sent x (new_pack batch expiry national) batch own refl)
+      by (Receipt k reach query) = refl
+      by (Carried k stamp message) = refl
+
+state-sent : (pack : PackKey) (log : List LogEntry) → unplaced_state pack log ≡ state_of pack (as_sent (history_of pack log))
+state-sent pack log =
+    let stops = first_stops (ordered log) in
+    let upload = first_upload pack (ordered log) in
+    ap (option_map unplaced) (known-grown pack (ordered log) (ordered-ascends log))
+    ∙ grown-sent stops pack upload (statuses_of pack (ordered log))
+    ∙ ap (λ (batch : Option (List ℕ)). option_map (λ held. fold (step_of pack) held (map (status stops pack upload batch) (statuses_of pack (ordered log)))) (made_of (option_and_then sent_of upload)))
+    (sym (batch-upload pack log))
+
+-- two histories were sent alike, where each part was
+pub same-parts : (a b : PackHistory) → option_and_then sent_of a.upload ≡ option_and_then sent_of b.upload
+    → map (sent_status a) a.statuses ≡ map (sent_status b) b.statuses
+    → option_and_then sent_of a.recall ≡ option_and_then sent_of b.recall
+    → option_and_then sent_of a.withdrawal ≡ option_and_then sent_of b.withdrawal → as_sent a ≡ as_sent b
+same-parts a b upload statuses recall withdrawal =
+    λ i. record { upload = upload i; statuses = statuses i; recall = recall i; withdrawal = withdrawal i }
+
+-- an entry that is lent is sent as it stands
+pub sent-entry : (o : Option Placed) → option_and_then (λ (entry : LogEntry). sent_in entry.sender entry.item) (option_map entry_of o) ≡ option_and_then sent_of o
+sent-entry None = refl
+sent-entry (Some x) = refl
+
+-- what was found was sent, where no receipt passes the test
+found-sent : (test : Item → Bool) → ((k : ℕ) (reach : List ℕ) (query : Bool) → test (Receipt k reach query) ≡ false)
+    → (o : Option Placed) → IfSome o (λ x. test x.entry.item ≡ true) → is_some o ≡ is_some (option_and_then sent_of o)
+found-sent test none None h = refl
+found-sent test none (Some x) h = by x.entry.item h
+  where
+    by : (item : Item) → test item ≡ true → true ≡ is_some (sent_in x.entry.sender item)
+    by (Carried k stamp message) h = refl
+    by (Receipt k reach query) h = absurd (true≢false (sym h ∙ none k reach query))
+
+recall-sent : (pack : PackKey) (log : List LogEntry) → is_batch_recalled pack.gtin (batch_in pack log) log ≡ is_some (as_sent (history_of pack log)).recall
+recall-sent pack log = by (batch_in pack log)
+  where
+    by : (batch : Option (List ℕ)) → is_batch_recalled pack.gtin batch log
+        ≡ is_some (option_and_then sent_of (option_and_then (λ (number : List ℕ). (first_stops (ordered log)).recall (batch_key pack.gtin number)) batch))
+    by None = refl
+    by (Some number) =
+        let test : Item → Bool = is_recall_of (batch_key pack.gtin number) in
+        any-find (λ x. test x.entry.item) (ordered log)
+        ∙ found-sent test (λ k reach query. refl) (find (λ x. test x.entry.item) (ordered log)) (find-true (λ x. test x.entry.item) (ordered log))
+
+withdrawal-sent : (pack : PackKey) (log : List LogEntry) → is_withdrawn pack.gtin log ≡ is_some (as_sent (history_of pack log)).withdrawal
+withdrawal-sent pack log =
+    let test : Item → Bool = is_withdrawal_of pack.gtin in
+    any-find (λ x. test x.entry.item) (ordered log)
+    ∙ found-sent test (λ k reach query. refl) (find (λ x. test x.entry.item) (ordered log)) (find-true (λ x. test x.entry.item) (ordered log))
+
+pub same_history : (pack : PackKey) (one other : List LogEntry) → HaveSameHistory pack one other → AgreeOn pack one other
+same_history pack one other same =
+    agree-by pack one other
+    (state-sent pack one ∙ ap (state_of pack) same ∙ sym (state-sent pack other))
+    (recall-sent pack one ∙ ap (λ (h : SentHistory). is_some h.recall) same ∙ sym (recall-sent pack other))
+    (withdrawal-sent pack one ∙ ap (λ (h : SentHistory). is_some h.withdrawal) same ∙ sym (withdrawal-sent pack other))

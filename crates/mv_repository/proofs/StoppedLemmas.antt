@@ -1,0 +1,65 @@
+-- The batches that are recalled and the products that are withdrawn, after one more entry.
+use Rattle.std.proofs.Common.{◌≡◌, ℕ, List, [], ◌∷◌, ◌++◌, refl, sym, ◌∙◌, ap, Bool, true, false, cond, Option, Some, None, is_some, fold, true≢false}
+use Rattle.std.specs.Cmp.Lexicographic.{same_text}
+use Rattle.std.specs.List.{flat_map}
+use Rattle.std.specs.Map.{lookup, keys_of}
+use Rattle.std.proofs.lemmas.Grind.{flat_map-append}
+use Rattle.std.proofs.lemmas.List.Sums.{fold-append}
+use Rattle.std.proofs.lemmas.Map.Made.{is_some-lookup}
+use Rattle.indexmap.specs.IndexMap.{insert_entry}
+use Rattle.indexmap.specs.IndexSet.{insert_key}
+use Rattle.indexmap.proofs.SetLemmas.{keys_insert_entry}
+use Rattle.mv_pack.specs.declared.key.BatchKey.{BatchKey}
+use Rattle.mv_message.specs.declared.message.Message.TheVariants.{Recall, Withdraw}
+use Rattle.mv_link.specs.declared.item.Item.{Item}
+use Rattle.mv_link.specs.declared.item.Item.TheVariants.{Carried}
+use Rattle.mv_repository.specs.declared.entry.LogEntry.{LogEntry}
+use Rattle.mv_repository.specs.Counts.{recalled_in}
+use Rattle.mv_repository.specs.PackState.{is_recall_of, is_withdrawal_of}
+use Rattle.mv_repository.specs.Stopped.{withdrawn_in, each_once}
+use Rattle.mv_repository.specs.Stops.{comes_first}
+use Rattle.mv_repository.proofs.KeptLemmas.{same_batch, batch-self, text-self}
+
+module _ {K : Type 0} (same : K → K → Bool) (keys_in : LogEntry → List K) (log : List LogEntry) (entry : LogEntry) where
+  abbrev before : List K
+  before = each_once same (flat_map keys_in log)
+
+  once-more : each_once same (flat_map keys_in (log ++ entry ∷ [])) ≡ fold (insert_key same) before (keys_in entry ++ [])
+  once-more = ap (each_once same) (flat_map-append keys_in log (entry ∷ [])) ∙ fold-append (insert_key same) [] (flat_map keys_in log) (keys_in entry ++ [])
+
+  pub once-none : keys_in entry ≡ [] → each_once same (flat_map keys_in (log ++ entry ∷ [])) ≡ before
+  once-none e = once-more ∙ ap (λ (l : List K). fold (insert_key same) before (l ++ [])) e
+
+  pub once-one : (key : K) → keys_in entry ≡ key ∷ [] → each_once same (flat_map keys_in (log ++ entry ∷ [])) ≡ insert_key same before key
+  once-one key e = once-more ∙ ap (λ (l : List K). fold (insert_key same) before (l ++ [])) e
+
+pub no-recall : (item : Item) → ((batch : BatchKey) → is_recall_of batch item ≡ false) → recalled_in item ≡ []
+no-recall (Carried k stamp (Recall key at)) none = absurd (true≢false (sym (batch-self key) ∙ none key))
+no-recall _ none = refl
+
+pub no-withdrawal : (item : Item) → ((gtin : List ℕ) → is_withdrawal_of gtin item ≡ false) → withdrawn_in item ≡ []
+no-withdrawal (Carried k stamp (Withdraw gtin at)) none = absurd (true≢false (sym (text-self gtin) ∙ none gtin))
+no-withdrawal _ none = refl
+
+pub one-recall : (key : BatchKey) (item : Item) → is_recall_of key item ≡ true → recalled_in item ≡ key ∷ []
+one-recall key (Carried k stamp (Recall named at)) e = ap (λ (q : BatchKey). q ∷ []) (same_batch named key e)
+one-recall key _ e = absurd (true≢false (sym e))
+
+pub one-withdrawal : (key : List ℕ) (item : Item) → is_withdrawal_of key item ≡ true → withdrawn_in item ≡ key ∷ []
+one-withdrawal key (Carried k stamp (Withdraw named at)) e = ap (λ (q : List ℕ). q ∷ []) (same_text named key (sym e))
+one-withdrawal key _ e = absurd (true≢false (sym e))
+
+-- a key under which the newest entry is not the first is there
+pub key_stays : {K : Type 0} (same : K → K → Bool) (log : List LogEntry) (new : ℕ) (places : List (K × ℕ)) (key : K)
+    → comes_first log new (lookup (same key) places) ≡ false → keys_of places ≡ insert_key same (keys_of places) key
+key_stays same log new places key e =
+    sym (ap (λ b. cond b (keys_of places) (keys_of places ++ key ∷ [])) (sym (is_some-lookup (same key) places) ∙ some (lookup (same key) places) e))
+  where
+    some : (o : Option ℕ) → comes_first log new o ≡ false → is_some o ≡ true
+    some None e = absurd (true≢false e)
+    some (Some first) e = refl
+
+-- where it is the first, the key is there behind it
+pub key_added : {K : Type 0} (same : K → K → Bool) (places : List (K × ℕ)) (key : K) (place : ℕ)
+    → keys_of (insert_entry same places key place) ≡ insert_key same (keys_of places) key
+key_added same places key place = keys_insert_entry same places key place

@@ -20,6 +20,10 @@ put_of outlets from absent = sent (slice_index_or outlets.ends.items from absent
 abbrev pub HasRoomFor : Outlets → ℕ → Type 0
 HasRoomFor outlets from = (absent : Outlet) → 0 < known_free (slice_index_or outlets.ends.items from absent)
 
+-- the ring of the link from a sender was full when it was last looked at
+abbrev pub IsFullFor : Outlets → ℕ → Type 0
+IsFullFor outlets from = (absent : Outlet) → known_free (slice_index_or outlets.ends.items from absent) ≡ 0
+
 -- the ends of the same rings, at two moments
 abbrev pub SameOutlets : Outlets → Outlets → Type 0
 SameOutlets old new = SameEach SameProducer old.ends.items new.ends.items

@@ -179,3 +179,20 @@ same_but_one rs k was now in_range is same = (
         | inr other ↦ subst (λ e. SameRepoEnd (slice_index_or rs party absent) e) (sym (get_or-set_other rs k party now absent other)) (repo_itself (slice_index_or rs party absent))
       ],
 )
+
+pub repos_itself : (rs : List RepoEnd) → AreSameRepos rs rs
+repos_itself rs = (refl, λ party absent below. repo_itself (slice_index_or rs party absent))
+
+pub repos_further : (a b c : List RepoEnd) → AreSameRepos a b → AreSameRepos b c → AreSameRepos a c
+repos_further a b c p q = (
+  q.0 ∙ p.0,
+  λ party absent below.
+      repo_further (slice_index_or a party absent) (slice_index_or b party absent) (slice_index_or c party absent)
+      (p.1 party absent below) (q.1 party absent (omega (arith, p.0, below))),
+)
+
+-- one more of the ends was called
+pub same_by_one : (first repos : List RepoEnd) (k : ℕ) (was now : RepoEnd) → AreSameRepos first repos → k < length repos → was ≡ slice_index_or repos k was → SameRepoEnd was now
+    → AreSameRepos first (set repos k now)
+same_by_one first repos k was now before in_range is same =
+    repos_further first repos (set repos k now) before (same_but_one repos k was now in_range is same)

@@ -23,7 +23,7 @@ use Rattle.mv_ends.specs.declared.wires.Wires.{Wires}
 use Rattle.mv_ends.specs.declared.hub_end.HubEnd.{HubEnd}
 use Rattle.mv_ends.specs.declared.repo_end.RepoEnd.{RepoEnd}
 use Rattle.mv_ends.specs.Inlets.{SameInlets, TakesNothing}
-use Rattle.mv_ends.specs.Outlets.{SameOutlets, PutsNothing}
+use Rattle.mv_ends.specs.Outlets.{HaveSize, SameOutlets, PutsNothing}
 use Rattle.mv_ends.specs.Wires.{SameWires}
 use Rattle.mv_ends.specs.Rings.{AreJoined}
 use Rattle.mv_ends.specs.HubEnd.{SameHubEnd}
@@ -133,6 +133,11 @@ joined_kept o o' i i' x y joined = (
       (x.1 from put (omega (arith, joined.0, low))) (y.1 from taken low) (joined.1 from put taken low),
 )
 
+-- its rings stay of their size
+size_kept : (o o' : Outlets) (size size' : ℕ) → SameOutlets o o' → size' ≡ size → HaveSize size o → HaveSize size' o'
+size_kept o o' size size' same is all from absent below =
+    let low : from < length o.ends.items = omega (arith, same.0, below) in (same.1 from absent low).1 ∙ all from absent low ∙ sym is
+
 end_kept : (h h' : HubEnd) (party : ℕ) (r r' : RepoEnd) → party < length h.uplinks.ends.items → party < length h.wires.outlets.items → SameHubEnd h h' → SameRepoEnd r r'
     → IsEndOf h party r → IsEndOf h' party r'
 end_kept h h' party r r' is_uplink is_wire x y end = record {
@@ -145,6 +150,10 @@ end_kept h h' party r r' is_uplink is_wire x y end = record {
   links = λ none.
       joined_kept (slice_index_or h.wires.outlets.items party none) (slice_index_or h'.wires.outlets.items party none) r.inlets r'.inlets
       (x.wires.1 party none is_wire) y.inlets (end.links none);
+  uplink_size = y.uplink.1 ∙ end.uplink_size ∙ ap (λ l. l.uplink) (sym x.limits);
+  wire_sizes = λ none.
+      size_kept (slice_index_or h.wires.outlets.items party none) (slice_index_or h'.wires.outlets.items party none) h.limits.wire h'.limits.wire
+      (x.wires.1 party none is_wire) (ap (λ l. l.wire) x.limits) (end.wire_sizes none);
 }
 
 -- the ends of one opening stay such
@@ -170,3 +179,20 @@ same_but_one rs k was now in_range is same = (
         | inr other ↦ subst (λ e. SameRepoEnd (slice_index_or rs party absent) e) (sym (get_or-set_other rs k party now absent other)) (repo_itself (slice_index_or rs party absent))
       ],
 )
+
+pub repos_itself : (rs : List RepoEnd) → AreSameRepos rs rs
+repos_itself rs = (refl, λ party absent below. repo_itself (slice_index_or rs party absent))
+
+pub repos_further : (a b c : List RepoEnd) → AreSameRepos a b → AreSameRepos b c → AreSameRepos a c
+repos_further a b c p q = (
+  q.0 ∙ p.0,
+  λ party absent below.
+      repo_further (slice_index_or a party absent) (slice_index_or b party absent) (slice_index_or c party absent)
+      (p.1 party absent below) (q.1 party absent (omega (arith, p.0, below))),
+)
+
+-- one more of the ends was called
+pub same_by_one : (first repos : List RepoEnd) (k : ℕ) (was now : RepoEnd) → AreSameRepos first repos → k < length repos → was ≡ slice_index_or repos k was → SameRepoEnd was now
+    → AreSameRepos first (set repos k now)
+same_by_one first repos k was now before in_range is same =
+    repos_further first repos (set repos k now) before (same_but_one repos k was now in_range is same)

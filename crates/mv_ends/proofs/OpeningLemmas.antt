@@ -4,6 +4,7 @@ use Rattle.std.specs.declared.alloc.Global.{Global}
 use Rattle.rtrb.specs.declared.consumer.Consumer.{Consumer}
 use Rattle.rtrb.specs.declared.AnyItems.{AnyItems}
 use Rattle.mv_message.specs.declared.message.Message.{Message}
+use Rattle.mv_machine.specs.Limits.{Bounds}
 use Rattle.mv_ends.specs.declared.outlets.Outlets.{Outlets}
 use Rattle.mv_ends.specs.declared.repo_end.RepoEnd.{RepoEnd}
 use Rattle.mv_ends.specs.Opened.{IsOpened, AreOpened}
@@ -29,18 +30,18 @@ triples_push P xs ys zs x y z same other all here k a b c below =
     ]
 
 -- the ends that are opened, with those of the next party
-pub opened_more : (count limit opened : ℕ) (uplinks : List (Consumer Message Global AnyItems)) (outlets : List Outlets) (repos : List RepoEnd)
-    (uplink : Consumer Message Global AnyItems) (out : Outlets) (repo : RepoEnd) → AreOpened count limit opened uplinks outlets repos
-    → IsOpened count limit opened uplink out repo
-    → AreOpened count limit (opened + 1) (uplinks ++ uplink ∷ []) (outlets ++ out ∷ []) (repos ++ repo ∷ [])
-opened_more count limit opened uplinks outlets repos uplink out repo was here = record {
+pub opened_more : (count : ℕ) (limits : Bounds) (opened : ℕ) (uplinks : List (Consumer Message Global AnyItems)) (outlets : List Outlets) (repos : List RepoEnd)
+    (uplink : Consumer Message Global AnyItems) (out : Outlets) (repo : RepoEnd) → AreOpened count limits opened uplinks outlets repos
+    → IsOpened count limits opened uplink out repo
+    → AreOpened count limits (opened + 1) (uplinks ++ uplink ∷ []) (outlets ++ out ∷ []) (repos ++ repo ∷ [])
+opened_more count limits opened uplinks outlets repos uplink out repo was here = record {
   uplinks_each = length-append uplinks (uplink ∷ []) ∙ ap (λ n. n + 1) was.uplinks_each;
   outlets_each = length-append outlets (out ∷ []) ∙ ap (λ n. n + 1) was.outlets_each;
   repos_each = length-append repos (repo ∷ []) ∙ ap (λ n. n + 1) was.repos_each;
   each = λ party u o r below.
-      triples_push (IsOpened count limit) uplinks outlets repos uplink out repo (was.uplinks_each ∙ sym was.repos_each) (was.outlets_each ∙ sym was.repos_each)
+      triples_push (IsOpened count limits) uplinks outlets repos uplink out repo (was.uplinks_each ∙ sym was.repos_each) (was.outlets_each ∙ sym was.repos_each)
       (λ k a b c within. was.each k a b c (omega (arith, within, was.repos_each)))
-      (subst (λ n. IsOpened count limit n uplink out repo) (sym was.repos_each) here)
+      (subst (λ n. IsOpened count limits n uplink out repo) (sym was.repos_each) here)
       party u o r (omega (arith, below, was.repos_each, length-append repos (repo ∷ [])));
 }
 

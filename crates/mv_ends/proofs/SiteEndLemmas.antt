@@ -27,7 +27,7 @@ use Rattle.mv_ends.specs.Inlets.{taken_of, IsFront, SameInlets, TakesNothing, Ta
 use Rattle.mv_ends.specs.Answering.{answer_by, stands_to}
 use Rattle.mv_ends.specs.Accepted.{AreAccepted}
 use Rattle.mv_ends.specs.Refusals.{IsRefusedBy}
-use Rattle.mv_ends.specs.RepoEnd.{IsRepoUnchanged, TakesFrame, Applies}
+use Rattle.mv_ends.specs.RepoEnd.{is_uplink_full, IsRepoUnchanged, TakesFrame, Applies}
 
 -- a fault of the party calls for its refusal
 pub refused_for : (A : Type 0) (expected : Option SiteFault) (fault : SiteFault) → FailsBy {A = A} site_fault.Memory expected (Err fault)
@@ -44,14 +44,14 @@ memory_told site_fault.AnswerBusy is = absurd (cc)
 memory_told site_fault.Memory is = refl
 
 -- where the party refuses a frame, no frame was taken
-pub apply_refused : (from : ℕ) (old new : RepoEnd) (full : Bool) (frame : Frame) (fault : SiteFault) → IsRepoUnchanged old new
-    → IsFront new.inlets from frame → IsRefusedBy refusal_of (apply_fault full old.site from frame.item (stands_to old.site from frame)) (refusal_of fault)
+pub apply_refused : (from : ℕ) (old new : RepoEnd) (frame : Frame) (fault : SiteFault) → IsRepoUnchanged old new
+    → IsFront new.inlets from frame → IsRefusedBy refusal_of (apply_fault (is_uplink_full new) old.site from frame.item (stands_to old.site from frame)) (refusal_of fault)
     → (refusal_of fault ≡ Memory → stands_to old.site from frame ≡ look.Next) → Applies from old new (Refused (refusal_of fault))
-apply_refused from old new full frame site_fault.NotYours unchanged front why next = (unchanged, (full, frame, front, why, next))
-apply_refused from old new full frame site_fault.UplinkFull unchanged front why next = (unchanged, (full, frame, front, why, next))
-apply_refused from old new full frame site_fault.SenderFull unchanged front why next = (unchanged, (full, frame, front, why, next))
-apply_refused from old new full frame site_fault.AnswerBusy unchanged front why next = (unchanged, (full, frame, front, why, next))
-apply_refused from old new full frame site_fault.Memory unchanged front why next = (unchanged, (full, frame, front, why, next))
+apply_refused from old new frame site_fault.NotYours unchanged front why next = (unchanged, (frame, front, why, next))
+apply_refused from old new frame site_fault.UplinkFull unchanged front why next = (unchanged, (frame, front, why, next))
+apply_refused from old new frame site_fault.SenderFull unchanged front why next = (unchanged, (frame, front, why, next))
+apply_refused from old new frame site_fault.AnswerBusy unchanged front why next = (unchanged, (frame, front, why, next))
+apply_refused from old new frame site_fault.Memory unchanged front why next = (unchanged, (frame, front, why, next))
 
 -- where it took the frame, the reply says so
 pub apply_taken : (from number : ℕ) (old new : RepoEnd) (taken : Taken) → TakesFrame from old new (reply_to number taken) → Applies from old new (reply_to number taken)

@@ -16,8 +16,8 @@ use Rattle.mv_machine.specs.declared.reply.Refusal.TheVariants.{Party, UplinkEmp
 use Rattle.mv_machine.specs.Replies.{hub_refusal_of}
 use Rattle.mv_ends.specs.declared.hub_end.HubEnd.{HubEnd}
 use Rattle.mv_ends.specs.Refusals.{IsRefusedBy}
-use Rattle.mv_ends.specs.Inlets.{IsFront, SameInlets, TakesNothing, Takes}
-use Rattle.mv_ends.specs.Wires.{SameWires, PutsNoFrame, PutsFrame}
+use Rattle.mv_ends.specs.Inlets.{IsEmptyFrom, IsFront, SameInlets, TakesNothing, Takes}
+use Rattle.mv_ends.specs.Wires.{HasRoomOn, IsFullOn, SameWires, PutsNoFrame, PutsFrame}
 
 -- The same end of one opening, at two moments: it has the parties and limits that it had, and the ends of the same rings.
 pub record SameHubEnd (old new : HubEnd) : Type 0 where
@@ -49,12 +49,13 @@ pub record SeesFront (from : ℕ) (old new : HubEnd) (fault : Option RouteFault)
   pub front : IsFront new.uplinks from message
   pub why : route_fault old.hub from message ≡ fault
 
--- What `route` leaves, by its reply: a link that has no room has none for the message at the front of the uplink, and want of memory
+-- What `route` leaves, by its reply: nothing waited on the uplink where the party may have more routed; a link that has no room has none for the message at the front of the uplink, and want of memory
 -- stands in place of its routing alone.
 abbrev pub Routes : ℕ → HubEnd → HubEnd → Reply → Type 0
 Routes from old new (Routed k reached) = RoutesFront from old new k reached
 Routes from old new (Refused Party) = IsUnchanged old new × (from < length old.hub.parties → ⊥)
 Routes from old new (Refused UplinkEmpty) = IsUnchanged old new × (from < length old.hub.parties)
+    × (routed_count old.hub.entries from < old.limits.submissions → IsEmptyFrom new.uplinks from)
 Routes from old new (Refused (Busy to)) = IsUnchanged old new × SeesFront from old new (Some (route.Busy to))
 Routes from old new (Refused Memory) = IsUnchanged old new × SeesFront from old new None
 Routes from old new reply = ⊥
@@ -67,22 +68,25 @@ pub record PutsOf (from to number : ℕ) (old new : HubEnd) : Type 0 where
   pub put : PutsFrame from to frame old.wires new.wires
   pub taken : TakesNothing old.uplinks new.uplinks
 
--- why no frame is put on the ring of a link of two parties: it has no room; or the hub refuses it, for this fault if there is one
-abbrev pub IsPutRefused : HubEnd → ℕ → ℕ → Option HubFault → Refusal → Type 0
-IsPutRefused end from to fault refusal = ((refusal ≡ WireFull) × IsTrue (are_parties end.hub from to)) ⊎ IsRefusedBy hub_refusal_of fault refusal
+-- why no frame is put on the ring of a link of two parties: the ring was full; or it had room, and the hub refuses it, for this fault
+-- if there is one
+abbrev pub IsPutRefused : HubEnd → HubEnd → ℕ → ℕ → Option HubFault → Refusal → Type 0
+IsPutRefused old new from to fault refusal =
+    ((refusal ≡ WireFull) × IsTrue (are_parties old.hub from to) × IsFullOn new.wires from to)
+    ⊎ (IsRefusedBy hub_refusal_of fault refusal × (IsTrue (are_parties old.hub from to) → HasRoomOn new.wires from to))
 
 -- what `relay` leaves, by its reply: the frame that is put is the next one
 abbrev pub Relays : ℕ → ℕ → HubEnd → HubEnd → Reply → Type 0
 Relays from to old new (Relayed number) = PutsOf from to number old new × (new.hub ≡ with_relayed old.hub from to)
     × (number ≡ sent_of old.hub from to + 1) × (relay_fault old.hub from to ≡ None)
-Relays from to old new (Refused refusal) = IsUnchanged old new × IsPutRefused old from to (relay_fault old.hub from to) refusal
+Relays from to old new (Refused refusal) = IsUnchanged old new × IsPutRefused old new from to (relay_fault old.hub from to) refusal
 Relays from to old new reply = ⊥
 
 -- what `repeat` leaves, by its reply: the frame that is put is the one that was asked for
 abbrev pub Repeats : ℕ → ℕ → ℕ → HubEnd → HubEnd → Reply → Type 0
 Repeats from to number old new (Repeated again) =
     PutsOf from to number old new × (new.hub ≡ old.hub) × (again ≡ number) × (repeat_fault old.hub from to number ≡ None)
-Repeats from to number old new (Refused refusal) = IsUnchanged old new × IsPutRefused old from to (repeat_fault old.hub from to number) refusal
+Repeats from to number old new (Refused refusal) = IsUnchanged old new × IsPutRefused old new from to (repeat_fault old.hub from to number) refusal
 Repeats from to number old new reply = ⊥
 
 -- what `close` leaves, by its reply

@@ -18,6 +18,10 @@ module _ {T : Type 0} where
   abbrev pub HasFront : Inlets T → ℕ → Type 0
   HasFront inlets from = (absent : Consumer T Global AnyItems) → 0 < length (known_items (slice_index_or inlets.ends.items from absent))
 
+  -- the ring from a party was empty when it was last looked at
+  abbrev pub IsEmptyFrom : Inlets T → ℕ → Type 0
+  IsEmptyFrom inlets from = (absent : Consumer T Global AnyItems) → length (known_items (slice_index_or inlets.ends.items from absent)) ≡ 0
+
   -- this is at the front of the ring from a party
   abbrev pub IsFront : Inlets T → ℕ → T → Type 0
   IsFront inlets from front = (absent : Consumer T Global AnyItems) → IsPrefix (front ∷ []) (known_items (slice_index_or inlets.ends.items from absent))

@@ -1,5 +1,5 @@
 -- What the ends of one opening keep.
-use Rattle.std.specs.Prelude.{List}
+use Rattle.std.specs.Prelude.{◌≡◌, ℕ, ◌<◌, List, length, set, slice_index_or}
 use Rattle.mv_ends.specs.declared.hub_end.HubEnd.{HubEnd}
 use Rattle.mv_ends.specs.declared.repo_end.RepoEnd.{RepoEnd}
 use Rattle.mv_ends.specs.Same.{SameEach}
@@ -10,6 +10,19 @@ use Rattle.mv_ends.specs.Whole.{AreEnds}
 -- each end is the same at two moments
 abbrev pub AreSameRepos : List RepoEnd → List RepoEnd → Type 0
 AreSameRepos old new = SameEach SameRepoEnd old new
+
+-- each is the same as itself, in this sense
+abbrev pub IsSameItself : {A : Type 0} → (A → A → Type 0) → Type 0
+IsSameItself {A = A} IsSame = (it : A) → IsSame it it
+
+-- what is the same at a second moment, and from there at a third, is the same at the third
+abbrev pub IsSameFurther : {A : Type 0} → (A → A → Type 0) → Type 0
+IsSameFurther {A = A} IsSame = (first second third : A) → IsSame first second → IsSame second third → IsSame first third
+
+-- where each end is the same as at first, and then one is called, each is the same as at first
+abbrev pub IsSameByOne : Type 0
+IsSameByOne = (first repos : List RepoEnd) (place : ℕ) (was now : RepoEnd) → AreSameRepos first repos → place < length repos
+    → was ≡ slice_index_or repos place was → SameRepoEnd was now → AreSameRepos first (set repos place now)
 
 -- ends of one opening are those of one opening later too
 abbrev pub EndsStayEnds : Type 0

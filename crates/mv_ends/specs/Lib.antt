@@ -1,4 +1,5 @@
 pub mod Same
+pub mod Full
 pub mod Inlets
 pub mod Outlets
 pub mod Wires

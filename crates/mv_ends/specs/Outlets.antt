@@ -1,7 +1,7 @@
 -- What a contract sees of the hub's ends of the links to one party.
 use Rattle.std.specs.Prelude.{◌≡◌, ◌==◌, ℕ, ◌<◌, List, [], ◌∷◌, ◌++◌, length, slice_index_or, if◌then◌else◌}
 use Rattle.std.specs.declared.alloc.Global.{Global}
-use Rattle.rtrb.specs.Ring.{sent, known_free, SameProducer}
+use Rattle.rtrb.specs.Ring.{sent, known_free, producer_capacity, SameProducer}
 use Rattle.rtrb.specs.declared.producer.Producer.{Producer}
 use Rattle.rtrb.specs.declared.AnyItems.{AnyItems}
 use Rattle.mv_link.specs.declared.item.Frame.{Frame}
@@ -19,6 +19,15 @@ put_of outlets from absent = sent (slice_index_or outlets.ends.items from absent
 -- the ring of the link from a sender is known to have room
 abbrev pub HasRoomFor : Outlets → ℕ → Type 0
 HasRoomFor outlets from = (absent : Outlet) → 0 < known_free (slice_index_or outlets.ends.items from absent)
+
+-- the ring of the link from a sender was full when it was last looked at
+abbrev pub IsFullFor : Outlets → ℕ → Type 0
+IsFullFor outlets from = (absent : Outlet) → known_free (slice_index_or outlets.ends.items from absent) ≡ 0
+
+-- each ring of the links to one party holds so many frames
+abbrev pub HaveSize : ℕ → Outlets → Type 0
+HaveSize size outlets = (from : ℕ) (absent : Outlet) → from < length outlets.ends.items
+    → producer_capacity (slice_index_or outlets.ends.items from absent) ≡ size
 
 -- the ends of the same rings, at two moments
 abbrev pub SameOutlets : Outlets → Outlets → Type 0

@@ -17,7 +17,8 @@ use Rattle.mv_machine.specs.Replies.{refusal_of, reply_to}
 use Rattle.mv_ends.specs.declared.repo_end.RepoEnd.{RepoEnd}
 use Rattle.mv_ends.specs.Answering.{answer_by, stands_to}
 use Rattle.mv_ends.specs.Refusals.{IsRefusedBy}
-use Rattle.mv_ends.specs.Inlets.{IsFront, SameInlets, TakesNothing, Takes}
+use Rattle.mv_ends.specs.Full.{is_full}
+use Rattle.mv_ends.specs.Inlets.{IsEmptyFrom, IsFront, SameInlets, TakesNothing, Takes}
 
 -- The same end of one opening, at two moments: the same party, one of as many, with the ends of the same rings.
 pub record SameRepoEnd (old new : RepoEnd) : Type 0 where
@@ -33,6 +34,10 @@ pub record IsRepoUnchanged (old new : RepoEnd) : Type 0 where
   pub pushed : sent new.uplink ≡ sent old.uplink
   pub taken : TakesNothing old.inlets new.inlets
 
+-- the uplink was full when it was last looked at
+abbrev pub is_uplink_full : RepoEnd → Bool
+is_uplink_full end = is_full end.uplink
+
 -- The party submitted just this message, and just this was put on its uplink.
 pub record Puts (message : Message) (old new : RepoEnd) (number : ℕ) : Type 0 where
   pub site : new.site ≡ with_submission old.site message
@@ -40,16 +45,16 @@ pub record Puts (message : Message) (old new : RepoEnd) (number : ℕ) : Type 0 
   pub taken : TakesNothing old.inlets new.inlets
   pub numbered : number ≡ length old.site.submissions + 1
 
--- what `submit` leaves, by its reply: whether the uplink was full is for the ring to say
+-- what `submit` leaves, by its reply: a refusal is by whether the uplink was full
 abbrev pub Submits : Message → RepoEnd → RepoEnd → Reply → Type 0
 Submits message old new (Submitted k) = Puts message old new k × (submit_fault false old.site message ≡ None)
-Submits message old new (Refused refusal) = IsRepoUnchanged old new × ((full : Bool) × IsRefusedBy refusal_of (submit_fault full old.site message) refusal)
+Submits message old new (Refused refusal) = IsRepoUnchanged old new × IsRefusedBy refusal_of (submit_fault (is_uplink_full new) old.site message) refusal
 Submits message old new reply = ⊥
 
 -- what `ask` leaves, by its reply
 abbrev pub Asks : PackKey → RepoEnd → RepoEnd → Reply → Type 0
 Asks key old new (Asked q) = Puts (Query key) old new q × (ask_fault false old.site ≡ None)
-Asks key old new (Refused refusal) = IsRepoUnchanged old new × ((full : Bool) × IsRefusedBy refusal_of (ask_fault full old.site) refusal)
+Asks key old new (Refused refusal) = IsRepoUnchanged old new × IsRefusedBy refusal_of (ask_fault (is_uplink_full new) old.site) refusal
 Asks key old new reply = ⊥
 
 -- what `verify` leaves, by its reply
@@ -66,12 +71,12 @@ pub record TakesFrame (from : ℕ) (old new : RepoEnd) (reply : Reply) : Type 0 
   pub pushed : sent new.uplink ≡ sent old.uplink ++ option_to_list (answer_by old.site from frame.item (stands_to old.site from frame))
   pub reply_is : reply ≡ reply_to frame.number (taken_by old.site from frame.item (stands_to old.site from frame))
 
--- What `apply` leaves, by its reply: no frame is taken where there is no such party, where none is seen, and where the
--- party refuses the one at the front. Want of memory never stands in place of an old frame or one behind a gap.
+-- What `apply` leaves, by its reply: no frame is taken where there is no such party, where the link was empty, and where the
+-- party refuses the one at the front, by whether the uplink was full. Want of memory never stands in place of an old frame or one behind a gap.
 abbrev pub Applies : ℕ → RepoEnd → RepoEnd → Reply → Type 0
 Applies from old new (Refused Party) = IsRepoUnchanged old new × (from < old.site.parties → ⊥)
-Applies from old new (Refused WireEmpty) = IsRepoUnchanged old new × (from < old.site.parties)
-Applies from old new (Refused refusal) = IsRepoUnchanged old new × ((full : Bool) × (frame : Frame) × IsFront new.inlets from frame
-    × IsRefusedBy refusal_of (apply_fault full old.site from frame.item (stands_to old.site from frame)) refusal
+Applies from old new (Refused WireEmpty) = IsRepoUnchanged old new × (from < old.site.parties) × IsEmptyFrom new.inlets from
+Applies from old new (Refused refusal) = IsRepoUnchanged old new × ((frame : Frame) × IsFront new.inlets from frame
+    × IsRefusedBy refusal_of (apply_fault (is_uplink_full new) old.site from frame.item (stands_to old.site from frame)) refusal
     × (refusal ≡ Memory → stands_to old.site from frame ≡ Next))
 Applies from old new reply = TakesFrame from old new reply

@@ -4,7 +4,7 @@ use Rattle.mv_link.specs.declared.item.Frame.{Frame}
 use Rattle.mv_ends.specs.declared.outlets.Outlets.{Outlets}
 use Rattle.mv_ends.specs.declared.wires.Wires.{Wires}
 use Rattle.mv_ends.specs.Same.{SameEach}
-use Rattle.mv_ends.specs.Outlets.{Outlet, put_of, HasRoomFor, SameOutlets}
+use Rattle.mv_ends.specs.Outlets.{Outlet, put_of, HasRoomFor, IsFullFor, SameOutlets}
 
 -- what was put on the ring of the link from one party to another
 abbrev pub wire_of : Wires → ℕ → ℕ → Outlets → Outlet → List Frame
@@ -17,6 +17,10 @@ AreBetween wires from to = (to < length wires.outlets.items) × ((none : Outlets
 -- the ring of a link is known to have room
 abbrev pub HasRoomOn : Wires → ℕ → ℕ → Type 0
 HasRoomOn wires from to = (none : Outlets) → HasRoomFor (slice_index_or wires.outlets.items to none) from
+
+-- the ring of a link was full when it was last looked at
+abbrev pub IsFullOn : Wires → ℕ → ℕ → Type 0
+IsFullOn wires from to = (none : Outlets) → IsFullFor (slice_index_or wires.outlets.items to none) from
 
 -- the ends of the same rings, at two moments
 abbrev pub SameWires : Wires → Wires → Type 0

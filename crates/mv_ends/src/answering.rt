@@ -1,9 +1,10 @@
 //! The answer that a frame calls for: its parcel for the uplink, made before anything changes.
 
-ghost use Rattle.std.specs.Prelude.{◌≡◌, ◌<◌, ◌++◌, true, None, is_some, option_to_list, IfOk, OnErr};
-ghost use Rattle.rtrb.specs.Ring.{sent, known_free, SameProducer};
+ghost use Rattle.std.specs.Prelude.{◌≡◌, ◌<◌, ◌++◌, true, None, is_some, option_to_list, IfOk, IsFalse, OnErr};
+ghost use Rattle.rtrb.specs.Ring.{sent, known_free, SameProducer, ProducerLooked};
 ghost use Rattle.mv_party.specs.Calls.{apply_fault};
 ghost use Rattle.mv_ends.specs.Answering.{answer_by, stands_to};
+ghost use Rattle.mv_ends.specs.Full.{is_full};
 
 use crate::parcel::MessageParcel;
 use mv_link::{Frame, Look};
@@ -37,6 +38,15 @@ pub(crate) fn answer_parcel(
         Some(answer) => Ok(Some(MessageParcel::new(alloc, answer)?)),
         None => Ok(None),
     }
+}
+
+/// Whether an uplink has no room. The hub may make room at any time.
+pub(crate) fn is_full(uplink: &mut Producer<MessageParcel>) -> bool
+    ensures looked { ProducerLooked uplink.old uplink.new }
+    ensures value { result ≡ is_full uplink.new }
+    ensures room { IsFalse result → 0 < known_free uplink.new }
+{
+    uplink.is_full()
 }
 
 /// Puts an answer on an uplink that has room for it, where there is one.

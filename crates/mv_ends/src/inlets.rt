@@ -3,7 +3,7 @@
 //! The hub takes messages from the uplinks, and each repository frames from the links to it.
 
 ghost use Rattle.std.specs.Prelude.{◌≡◌, ◌<◌, length};
-ghost use Rattle.std.specs.Prelude.{IsFalse};
+ghost use Rattle.std.specs.Prelude.{IsTrue, IsFalse};
 
 use mv_message::Party;
 use rtrb::{Consumer, Producer};
@@ -17,7 +17,7 @@ pub struct Inlets<T> {
 
 impl<T: Drop> Inlets<T> {
     ghost use Rattle.rtrb.specs.Ring.{sent, SameProducer};
-    ghost use Rattle.mv_ends.specs.Inlets.{SameInlets, TakesNothing, Takes, HasFront, IsFront, IsPairAt, IsFrontOf};
+    ghost use Rattle.mv_ends.specs.Inlets.{SameInlets, TakesNothing, Takes, HasFront, IsEmptyFrom, IsFront, IsPairAt, IsFrontOf};
 
     /// The ends of these rings.
     pub(crate) fn new(ends: Vec<Consumer<T>>) -> Inlets<T>
@@ -39,6 +39,7 @@ impl<T: Drop> Inlets<T> {
         ensures same { SameInlets self.old self.new }
         ensures nothing { TakesNothing self.old self.new }
         ensures front { IsFalse result → HasFront self.new from }
+        ensures empty { IsTrue result → IsEmptyFrom self.new from }
     {
         self.ends[from as usize].is_empty()
     }

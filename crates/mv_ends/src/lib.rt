@@ -42,7 +42,7 @@ mod wires;
 pub use gathering::gather;
 pub use hub_end::HubEnd;
 pub use inlets::Inlets;
-pub use laws::ends_stay_ends;
+pub use laws::{ends_stay_ends, hub_end_stays, repo_end_stays, repo_ends_stay};
 pub use opening::open;
 pub use outcome::Outcome;
 pub use outlets::Outlets;

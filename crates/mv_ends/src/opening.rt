@@ -1,6 +1,7 @@
 //! The ends of one opening.
 
 ghost use Rattle.std.specs.Prelude.{◌≡◌, ◌<◌, ◌≤◌, ◌++◌, ◌∷◌, [], length, vec_len, vec_capacity, IfOk};
+ghost use Rattle.mv_ends.specs.Outlets.{HaveSize};
 ghost use Rattle.mv_ends.specs.Rings.{AreJoined, IsUnused, IsUntaken};
 ghost use Rattle.mv_ends.specs.Whole.{AreEnds, AreFresh};
 ghost use Rattle.mv_ends.specs.Opened.{IsOpened, AreOpened};
@@ -103,7 +104,7 @@ pub fn open(
 
 /// The ends of the rings of each of so many parties.
 fn open_each(alloc: Global, count: u32, limits: Limits) -> Result<Openings, AllocError>
-    ensures { IfOk result (λ opened. AreOpened count limits.submissions count opened.uplinks.items opened.outlets.items opened.repos.items) }
+    ensures { IfOk result (λ opened. AreOpened count limits count opened.uplinks.items opened.outlets.items opened.repos.items) }
 {
     let mut openings = Openings::with_room(alloc, count)?;
     for party in 0..count {
@@ -115,7 +116,7 @@ fn open_each(alloc: Global, count: u32, limits: Limits) -> Result<Openings, Allo
 
 /// The ends of the rings of one party, one of so many.
 fn open_one(alloc: Global, party: Party, count: u32, limits: Limits) -> Result<Opened, AllocError>
-    ensures { IfOk result (λ opened. IsOpened count limits.submissions party opened.uplink opened.outlets opened.repo) }
+    ensures { IfOk result (λ opened. IsOpened count limits party opened.uplink opened.outlets opened.repo) }
 {
     let (outlets, inlets) = open_links(alloc, count, limits.wire())?;
     let (producer, uplink) = RingBuffer::<MessageParcel>::new(alloc, limits.uplink() as usize)?;
@@ -136,6 +137,7 @@ fn open_links(
     ensures joined { IfOk result (λ ends. AreJoined ends.0 ends.1) }
     ensures wide { IfOk result (λ ends. length ends.0.ends.items ≡ count) }
     ensures unused { IfOk result (λ ends. IsUnused ends.0) }
+    ensures size { IfOk result (λ ends. HaveSize room ends.0) }
     ensures untaken { IfOk result (λ ends. IsUntaken ends.1) }
 {
     let mut outlets = Vec::new(alloc);

@@ -1,7 +1,7 @@
 //! The hub's ends of the links to one party: a ring for each sender.
 
 ghost use Rattle.std.specs.Prelude.{◌≡◌, ◌<◌, length};
-ghost use Rattle.std.specs.Prelude.{IsFalse};
+ghost use Rattle.std.specs.Prelude.{IsTrue, IsFalse};
 
 use crate::inlets::Inlets;
 use crate::parcel::FrameParcel;
@@ -18,7 +18,7 @@ pub struct Outlets {
 impl Outlets {
     ghost use Rattle.mv_ends.specs.Inlets.{SameInlets, TakesNothing, IsFrontOf};
     ghost use Rattle.mv_ends.specs.Rings.{AreJoined};
-    ghost use Rattle.mv_ends.specs.Outlets.{Outlet, put_of, HasRoomFor, SameOutlets, PutsNothing, Puts};
+    ghost use Rattle.mv_ends.specs.Outlets.{Outlet, put_of, HasRoomFor, IsFullFor, SameOutlets, PutsNothing, Puts};
 
     /// The ends of these rings.
     pub(crate) fn new(ends: Vec<Producer<FrameParcel>>) -> Outlets
@@ -33,6 +33,7 @@ impl Outlets {
         ensures same { SameOutlets self.old self.new }
         ensures nothing { PutsNothing self.old self.new }
         ensures room { IsFalse result → HasRoomFor self.new from }
+        ensures full { IsTrue result → IsFullFor self.new from }
     {
         self.ends[from as usize].is_full()
     }

@@ -7,7 +7,7 @@ ghost use Rattle.mv_ends.specs.Accepted.{AreAccepted};
 ghost use Rattle.mv_repository.specs.Verdict.{joint_verdict};
 ghost use Rattle.mv_party.specs.Site.{IsLawfulParty, new_site};
 
-use crate::answering::{answer_parcel, put_answer};
+use crate::answering::{answer_parcel, is_full, put_answer};
 use crate::inlets::Inlets;
 use crate::parcel::{FrameParcel, MessageParcel};
 use mv_machine::{Limits, Refusal, Reply};
@@ -108,7 +108,7 @@ impl RepoEnd {
         ensures same { SameRepoEnd self.old self.new }
         ensures reply { Submits message.now self.old self.new result }
     {
-        let full = self.uplink.is_full();
+        let full = is_full(&mut self.uplink);
         if let Err(fault) = self.site.check(message.get(), full) {
             return Reply::Refused(Refusal::from(fault));
         }
@@ -132,7 +132,7 @@ impl RepoEnd {
         ensures same { SameRepoEnd self.old self.new }
         ensures reply { Asks key.now self.old self.new result }
     {
-        let full = self.uplink.is_full();
+        let full = is_full(&mut self.uplink);
         if let Err(fault) = self.site.check_room(full) {
             return Reply::Refused(Refusal::from(fault));
         }
@@ -184,7 +184,7 @@ impl RepoEnd {
         if self.inlets.is_empty(from) {
             return Reply::Refused(Refusal::WireEmpty);
         }
-        let full = self.uplink.is_full();
+        let full = is_full(&mut self.uplink);
         let frame = self.inlets.front(from).frame();
         let number = frame.number;
         let Ok(parcel) = answer_parcel(self.alloc, &self.site, from, frame, full) else {

@@ -1,6 +1,6 @@
 //! The hub's ends of all links: a ring for each ordered pair of parties.
 
-ghost use Rattle.std.specs.Prelude.{◌≡◌, ◌<◌, ℕ, List, length, slice_index_or, All, IsFalse};
+ghost use Rattle.std.specs.Prelude.{◌≡◌, ◌<◌, ℕ, List, length, slice_index_or, All, IsTrue, IsFalse};
 ghost use mathlib.Core.List.{IsPrefix};
 ghost use Rattle.mv_link.specs.Frames.{IsFrameOf};
 ghost use Rattle.mv_link.specs.declared.item.Item.{Item as AnItem};
@@ -23,7 +23,7 @@ impl Wires {
     ghost use Rattle.mv_ends.specs.Outlets.{Outlet};
     ghost use Rattle.mv_ends.specs.Rings.{AreJoined};
     ghost use Rattle.mv_ends.specs.RepoEnd.{SameRepoEnd, IsRepoUnchanged};
-    ghost use Rattle.mv_ends.specs.Wires.{wire_of, AreBetween, HasRoomOn, SameWires, PutsNoFrame, PutsFrame};
+    ghost use Rattle.mv_ends.specs.Wires.{wire_of, AreBetween, HasRoomOn, IsFullOn, SameWires, PutsNoFrame, PutsFrame};
 
     /// The ends of these links.
     pub(crate) fn new(outlets: Vec<Outlets>) -> Wires
@@ -38,6 +38,7 @@ impl Wires {
         ensures same { SameWires self.old self.new }
         ensures nothing { PutsNoFrame self.old self.new }
         ensures room { IsFalse result → HasRoomOn self.new from to }
+        ensures full { IsTrue result → IsFullOn self.new from to }
     {
         self.outlets[to as usize].is_full(from)
     }

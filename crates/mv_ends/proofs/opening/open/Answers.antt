@@ -62,6 +62,8 @@ returns-clause-ends c =
             limit = ap (λ (s : SiteState). s.limit) (at u o).site ∙ sym (ap (λ (l : Bounds). l.submissions) c.in_ok-hub.ensures.limits);
             uplink = rw (c.in_ok-hub.ensures.uplinks, c.new.ensures) (λ taken. (at taken o).pair);
             links = rw (c.in_ok-hub.ensures.wires, c.new-2.ensures) (λ none. (at u none).joined);
+            uplink_size = (at u o).uplink_size ∙ sym (ap (λ (l : Bounds). l.uplink) c.in_ok-hub.ensures.limits);
+            wire_sizes = rw (c.in_ok-hub.ensures.wires, c.new-2.ensures, c.in_ok-hub.ensures.limits) (λ none. (at u none).wire_sizes);
           };
     }
 

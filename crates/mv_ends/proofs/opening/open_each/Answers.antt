@@ -22,7 +22,7 @@ loop-party-preserved c =
     let opened = c.in_ok-opened.opened in
     let before = c.loop-party.invariant in (
       rw (c.add.ensures.uplinks, c.add.ensures.outlets, c.add.ensures.repos)
-          (opened_more c.args.count c.args.limits.submissions c.loop-party.party was.uplinks.items was.outlets.items was.repos.items
+          (opened_more c.args.count c.args.limits c.loop-party.party was.uplinks.items was.outlets.items was.repos.items
           opened.uplink opened.outlets opened.repo before.0 c.in_ok-opened.ensures),
       subst (λ n. c.args.count ≤ n) (sym c.add.ensures.uplink_room) before.1,
       subst (λ n. c.args.count ≤ n) (sym c.add.ensures.outlet_room) before.2,

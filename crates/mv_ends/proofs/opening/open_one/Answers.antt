@@ -1,5 +1,5 @@
 -- The two ends of each ring are with the hub and with the party.
-use Rattle.std.proofs.Common.{sym, subst}
+use Rattle.std.proofs.Common.{sym, subst, rules}
 use Rattle.rtrb.specs.Ring.{IsPair}
 use Rattle.mv_ends.specs.Rings.{AreJoined}
 use Rattle.mv_ends.proofs.opening.open_one.Goals as goal
@@ -12,4 +12,6 @@ returns c = record {
   joined = subst (AreJoined c.in_ok-outlets.outlets) (sym c.in_ok-repo.ensures.inlets) c.in_ok-outlets.ensures.joined;
   wide = c.in_ok-outlets.ensures.wide;
   unused = c.in_ok-outlets.ensures.unused;
+  uplink_size = search rules;
+  wire_sizes = search rules;
 }

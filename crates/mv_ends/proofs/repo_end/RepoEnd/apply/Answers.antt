@@ -4,6 +4,7 @@ use Rattle.std.specs.Prelude.{option_to_list, Err}
 use Rattle.rtrb.specs.Ring.{sent}
 use Rattle.mv_party.specs.declared.taken.Taken.{Taken}
 use Rattle.mv_party.specs.Site.{SiteState}
+use Rattle.mv_party.specs.Calls.{apply_fault}
 use Rattle.mv_machine.specs.declared.reply.Refusal.TheVariants.{Memory}
 use Rattle.mv_machine.specs.Replies.{refusal_of}
 use Rattle.mv_ends.specs.Inlets.{Takes}
@@ -14,22 +15,34 @@ use Rattle.mv_ends.proofs.SiteEndLemmas.{apply_refused, memory_told, refused_for
 use Rattle.mv_ends.proofs.repo_end.RepoEnd.apply.Goals as goal
 
 pub returns-in_default-clause-reply : goal.returns-in_default-clause-reply
-returns-in_default-clause-reply c = (
-  search rules,
-  (c.is_full-full.result, c.frame-frame.result.now, rw c.frame-frame.ensures c.front.ensures, subst (λ o. IsRefusedBy refusal_of o Memory) (sym c.in_default.ensures.free) refl, λ _. c.in_default.ensures.next),
-)
+returns-in_default-clause-reply c =
+    let frame = c.frame-frame.result.now in
+    let site = c.args.self.now.site in (
+      search rules,
+      (
+        frame,
+        rw c.frame-frame.ensures c.front.ensures,
+        subst (λ full. IsRefusedBy refusal_of (apply_fault full site c.args.from frame.item (stands_to site c.args.from frame)) Memory) c.is_full-full.ensures.value
+            (subst (λ o. IsRefusedBy refusal_of o Memory) (sym c.in_default.ensures.free) refl),
+        λ _. c.in_default.ensures.next,
+      ),
+    )
 
 pub returns-in-Err-clause-reply : goal.returns-in-Err-clause-reply
 returns-in-Err-clause-reply c =
-    rw c.from.ensures (apply_refused c.args.from c.args.self.now _ c.is_full-full.result c.frame-frame.result.now c.in-Err.fault (search rules)
-    (rw c.frame-frame.ensures c.front.ensures) (refused_for Taken _ c.in-Err.fault c.in-Err.ensures.fault)
+    let frame = c.frame-frame.result.now in
+    let site = c.args.self.now.site in
+    rw c.from.ensures (apply_refused c.args.from c.args.self.now _ frame c.in-Err.fault (search rules)
+    (rw c.frame-frame.ensures c.front.ensures)
+    (subst (λ full. IsRefusedBy refusal_of (apply_fault full site c.args.from frame.item (stands_to site c.args.from frame)) (refusal_of c.in-Err.fault))
+    c.is_full-full.ensures.value (refused_for Taken _ c.in-Err.fault c.in-Err.ensures.fault))
     (λ wanting. c.in-Err.ensures.memory (ap Err (memory_told c.in-Err.fault wanting))))
 
 pub invariant_of-self-in-Ok-apply-clause-pushed : goal.invariant_of-self-in-Ok-apply-clause-pushed
 invariant_of-self-in-Ok-apply-clause-pushed c =
     let site = c.args.self.now.site in
     let frame = c.frame-frame.result.now in
-    let before : sent c.is_full-full.new.self ≡ site.submissions = search rules in
+    let before : sent c.is_full-full.new.uplink ≡ site.submissions = search rules in
     c.put_answer.ensures.put
     ∙ (λ i. before i ++ option_to_list (c.in-Ok.ensures.answer c.in-Ok-apply.ensures.fault i))
     ∙ sym (submitted_by site c.args.from frame.item (stands_to site c.args.from frame))

@@ -8,8 +8,9 @@ ghost use Rattle.mv_machine.specs.Stamps.{RepositoriesAgree};
 ghost use Rattle.mv_ends.specs.HubEnd.{SameHubEnd};
 ghost use Rattle.mv_ends.specs.Laws.{AreSameRepos};
 
-use mv_ends::{HubEnd, Outcome, RepoEnd};
-use mv_ends::{ends_stay_ends, gather, hub_end_stays, open, repo_ends_stay};
+use mv_ends::{
+    HubEnd, Outcome, RepoEnd, ends_stay_ends, gather, hub_end_stays, open, repo_ends_stay,
+};
 use mv_hub::Parties;
 use mv_machine::Limits;
 use mv_message::{Message, Party, Shared};

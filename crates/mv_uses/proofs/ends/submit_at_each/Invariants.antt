@@ -3,4 +3,4 @@ use Rattle.mv_ends.specs.Laws.{AreSameRepos}
 use Rattle.mv_uses.proofs.ends.submit_at_each.Given as goal
 
 abbrev pub invariant-loop-end : goal.invariant-loop-end
-invariant-loop-end l = AreSameRepos (vec_items l.fn.repos) (vec_items l.repos)
+invariant-loop-end l = AreSameRepos (vec_items l.fn.repos) l.end-items

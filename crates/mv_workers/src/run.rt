@@ -13,7 +13,7 @@ use crate::course::Course;
 use crate::crew::{CrewEnds, work_in};
 use crate::gate::Gate;
 use crate::plan::{Plan, WorkFault};
-use mv_ends::{Outcome, gather, open};
+use mv_ends::{Outcome, ends_stay_ends, gather, open};
 use mv_message::{Message, Shared};
 use std::alloc::Global;
 use std::marker::Sync;
@@ -84,6 +84,7 @@ pub fn run_workers<R: Threads + Wait + Sync, G: Gate>(
     let Some(CrewEnds { hub, repos, short }) = ends else {
         return Err(WorkFault::Start);
     };
+    ends_stay_ends();
     let outcome = gather(hub, repos);
     if is_complete(&outcome, work) {
         Ok(outcome)

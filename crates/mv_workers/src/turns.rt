@@ -9,7 +9,7 @@ ghost use Rattle.mv_workers.specs.Turns.{own_of, IsUnused, HasSubmitted, Tries};
 use crate::course::{Course, Turn};
 use crate::gate::Gate;
 use crate::pause::Pause;
-use mv_ends::{HubEnd, RepoEnd};
+use mv_ends::{HubEnd, RepoEnd, hub_end_stays, repo_end_stays};
 use mv_machine::{Refusal, Reply};
 use mv_message::{Message, Party, Shared};
 use std::alloc::AllocError;
@@ -26,7 +26,7 @@ fn has_moved(reply: &Reply) -> Result<bool, AllocError> {
 
 /// Tries the next message of a list once, of which so many were submitted: a query is asked. Answers how many were submitted
 /// then, and what the try came to.
-#[tactic(auto, using(mv_ends::proofs::LookLemmas::repo_further, mv_ends::proofs::LookLemmas::repo_itself, crate::proofs::TurnLemmas::more_submitted, crate::proofs::TurnLemmas::more_asked))]
+#[tactic(auto, using(crate::proofs::TurnLemmas::more_submitted, crate::proofs::TurnLemmas::more_asked))]
 fn submit_next(
     end: &mut RepoEnd,
     list: &[Shared<Message>],
@@ -36,6 +36,7 @@ fn submit_next(
     ensures same { SameRepoEnd end.old end.new }
     ensures submitted { HasSubmitted end.new result.0 list.now }
 {
+    repo_end_stays();
     if count >= list.len() {
         return (count, Ok(false));
     }
@@ -58,11 +59,12 @@ fn submit_one(end: &mut RepoEnd, message: &Shared<Message>) -> Reply
 }
 
 /// Passes the gate and looks for a frame, once for each party.
-#[tactic(auto, using(mv_ends::proofs::LookLemmas::repo_further, mv_ends::proofs::LookLemmas::repo_itself, crate::proofs::TurnLemmas::own_applied))]
+#[tactic(auto, using(crate::proofs::TurnLemmas::own_applied))]
 fn apply_each<G: Gate>(end: &mut RepoEnd, parties: u32, gate: &G) -> Result<bool, AllocError>
     ensures same { SameRepoEnd end.old end.new }
     ensures own { own_of end.new ≡ own_of end.old }
 {
+    repo_end_stays();
     let party = end.party();
     let mut moved = false;
     for from in 0..parties {
@@ -73,7 +75,6 @@ fn apply_each<G: Gate>(end: &mut RepoEnd, parties: u32, gate: &G) -> Result<bool
 }
 
 /// A turn of a repository's worker: it tries its next message once, and then looks once for a frame from each party.
-#[tactic(auto, using(mv_ends::proofs::LookLemmas::repo_further, mv_ends::proofs::LookLemmas::repo_itself))]
 fn repo_turn<G: Gate>(
     end: &mut RepoEnd,
     list: &[Shared<Message>],
@@ -85,6 +86,7 @@ fn repo_turn<G: Gate>(
     ensures same { SameRepoEnd end.old end.new }
     ensures submitted { HasSubmitted end.new result.0 list.now }
 {
+    repo_end_stays();
     let (count, submitted) = submit_next(end, list, count);
     let Ok(submitted) = submitted else {
         return (count, Err(AllocError));
@@ -96,7 +98,7 @@ fn repo_turn<G: Gate>(
 }
 
 /// The turns of a repository's worker. The flag says whether it ended for want of memory.
-#[tactic(auto, using(mv_ends::proofs::LookLemmas::repo_further, mv_ends::proofs::LookLemmas::repo_itself, crate::proofs::WorkLemmas::take_begins))]
+#[tactic(auto, using(crate::proofs::WorkLemmas::take_begins))]
 pub(crate) fn repo_turns<R: Wait, G: Gate>(
     rt: &R,
     end: RepoEnd,
@@ -108,6 +110,7 @@ pub(crate) fn repo_turns<R: Wait, G: Gate>(
     ensures same { SameRepoEnd end result.0 }
     ensures begins { Begins (own_of result.0) list.now }
 {
+    repo_end_stays();
     let mut end = end;
     let mut count = 0;
     if !course.start.wait(rt) {
@@ -129,10 +132,10 @@ pub(crate) fn repo_turns<R: Wait, G: Gate>(
 }
 
 /// Routes once from each party.
-#[tactic(auto, using(mv_ends::proofs::LookLemmas::hub_further, mv_ends::proofs::LookLemmas::hub_itself))]
 fn route_each(hub: &mut HubEnd, parties: u32) -> Result<bool, AllocError>
     ensures { SameHubEnd hub.old hub.new }
 {
+    hub_end_stays();
     let mut moved = false;
     for from in 0..parties {
         moved |= has_moved(&hub.route(from))?;
@@ -141,10 +144,10 @@ fn route_each(hub: &mut HubEnd, parties: u32) -> Result<bool, AllocError>
 }
 
 /// Relays once on each link from a party.
-#[tactic(auto, using(mv_ends::proofs::LookLemmas::hub_further, mv_ends::proofs::LookLemmas::hub_itself))]
 fn relay_from(hub: &mut HubEnd, from: Party, parties: u32) -> Result<bool, AllocError>
     ensures { SameHubEnd hub.old hub.new }
 {
+    hub_end_stays();
     let mut moved = false;
     for to in 0..parties {
         moved |= has_moved(&hub.relay(from, to))?;
@@ -153,10 +156,10 @@ fn relay_from(hub: &mut HubEnd, from: Party, parties: u32) -> Result<bool, Alloc
 }
 
 /// A turn of the hub's worker: it routes once from each party, and then relays once on each link.
-#[tactic(auto, using(mv_ends::proofs::LookLemmas::hub_further, mv_ends::proofs::LookLemmas::hub_itself))]
 fn hub_turn(hub: &mut HubEnd, parties: u32) -> Result<bool, AllocError>
     ensures { SameHubEnd hub.old hub.new }
 {
+    hub_end_stays();
     let mut moved = route_each(hub, parties)?;
     for from in 0..parties {
         moved |= relay_from(hub, from, parties)?;
@@ -165,10 +168,10 @@ fn hub_turn(hub: &mut HubEnd, parties: u32) -> Result<bool, AllocError>
 }
 
 /// The turns of the hub's worker. The flag says whether it ended for want of memory.
-#[tactic(auto, using(mv_ends::proofs::LookLemmas::hub_further, mv_ends::proofs::LookLemmas::hub_itself))]
 pub(crate) fn hub_turns<R: Wait>(rt: &R, hub: HubEnd, course: &Course) -> (HubEnd, bool)
     ensures { SameHubEnd hub result.0 }
 {
+    hub_end_stays();
     let mut hub = hub;
     if !course.start.wait(rt) {
         return (hub, false);

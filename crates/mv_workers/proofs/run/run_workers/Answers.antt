@@ -1,5 +1,4 @@
 use Rattle.std.proofs.Common.{◌≡◌, ◌∙◌, length, vec_len, sym, ap, subst, refl, rules}
-use Rattle.mv_ends.proofs.LookLemmas.{ends_kept}
 use Rattle.mv_workers.specs.Work.{Work}
 use Rattle.mv_workers.specs.Crews.{AllUnused, AllBegin}
 use Rattle.mv_workers.specs.Plans.{IsSound, KeepsPlan}
@@ -20,7 +19,7 @@ scoped-ends-requires g c =
 -- they are of one opening still
 pub gather-outcome-requires : goal.gather-outcome-requires
 gather-outcome-requires g c =
-    ends_kept c.in-Ok-open.hub c.in-Some.field-0.hub c.in-Ok-open.repos.items c.in-Some.field-0.repos.items c.in-Some.ensures.1.0 c.in-Some.ensures.1.1 c.in-Ok-open.ensures.ends
+    c.ends_stay_ends.ensures c.in-Ok-open.hub c.in-Some.field-0.hub c.in-Ok-open.repos.items c.in-Some.field-0.repos.items c.in-Some.ensures.1.0 c.in-Some.ensures.1.1 c.in-Ok-open.ensures.ends
 
 -- each party has begun with its list
 pub is_complete-requires-clause-begun : goal.is_complete-requires-clause-begun

@@ -1,5 +1,4 @@
 use Rattle.std.proofs.Common.{◌∙◌}
-use Rattle.mv_ends.proofs.LookLemmas.{repo_further}
 use Rattle.mv_workers.proofs.TurnLemmas.{own_applied}
 use Rattle.mv_workers.proofs.turns.apply_each.Goals as goal
 
@@ -9,6 +8,6 @@ returns-in_err-moved-clause-own g c =
 
 pub loop-from-preserved : goal.loop-from-preserved
 loop-from-preserved g c = (
-  repo_further c.args.end.now c.loop-from.end c.apply.new.self c.loop-from.invariant.0 c.apply.ensures.same,
+  c.repo_end_stays.ensures.further c.args.end.now c.loop-from.end c.apply.new.self c.loop-from.invariant.0 c.apply.ensures.same,
   own_applied c.loop-from.from c.loop-from.end c.apply.new.self c.apply.result c.apply.ensures.reply ∙ c.loop-from.invariant.1,
 )

@@ -1,18 +1,21 @@
 -- The kind of an error of mistaken words, and what a run comes to by its status.
-use Rattle.std.proofs.Common.{◌≡◌, Bool, List, [], ◌∷◌, true, false, if◌then◌else◌, None, Some, ◌⊎◌, inl, inr, ℕ, MatchResult, OnOk, IfOk, IfErr, IfSome, Result, Ok, Err, rules}
+use Rattle.std.proofs.Common.{◌≡◌, Bool, List, [], ◌∷◌, true, false, if◌then◌else◌, None, Some, ◌⊎◌, inl, inr, ℕ, MatchResult, OnOk, IfOk, IfErr, IfSome, Result, Ok, Err, rules, sym, ap, subst, ◌∙◌}
 use Rattle.std.specs.Prelude.{⊤}
 use Rattle.std.specs.List.{AllByRecursion}
 use Rattle.std.specs.Io.KnownBytes.{Consumes, Keeps}
 use Rattle.std.specs.declared.option.Option.{Option}
+use Rattle.std.specs.Option.{unwrap_or}
 use Rattle.clap.specs.Words.{IsAmong}
 use Rattle.clap.specs.declared.error.kind.ErrorKind.{ErrorKind}
 use Rattle.clap.specs.declared.error.kind.ErrorKind.TheVariants.{OutOfMemory}
-use Rattle.mv_words.specs.Words.{IsMistake}
+use Rattle.mv_words.specs.Words.{IsMistake, IsToExplain}
+use Rattle.mv_words.specs.declared.task.Task.{Task}
+use Rattle.mv_words.specs.declared.task.Task.TheVariants as tasks
 use Rattle.mv_lines.specs.declared.fault.ServeFault.{ServeFault}
 use Rattle.mv_tool.specs.declared.status.Status.{Status}
 use Rattle.mv_tool.specs.declared.status.Status.TheVariants.{Done, Failed, Refused}
 use Rattle.mv_lines.specs.Canon.{IsCanon}
-use Rattle.mv_tool.specs.Commands.{RanCheck, RanExplain, RanLines, RanShow, RanStrict, RanWork, ServedStrictly, Shows}
+use Rattle.mv_tool.specs.Commands.{Ran, RanCheck, RanExplain, RanLines, RanShow, RanStrict, RanWork, ServedStrictly, Shows}
 use Rattle.mv_tool.specs.Telling.{ToldCodes, ToldStrict}
 use Rattle.mv_checks.specs.declared.strict.Untaken.{Untaken}
 use Rattle.mv_checks.specs.Checks.{IsChecked}
@@ -98,3 +101,22 @@ pub ran_explain : (words given : List (List ℕ)) (status : Status) (input rest 
 ran_explain words given Done input rest old new told_old told_new same told unread = rw (← same) (unread, told.0, told.1)
 ran_explain words given Failed input rest old new told_old told_new same told unread = rw (← same) (unread, told.0, told.1)
 ran_explain words given Refused input rest old new told_old told_new same told unread = (unread, told.2)
+
+-- what a task is, is what ran
+pub ran_is : (task named : Task) (status : Status) (input rest old new told_old told_new : Option (List ℕ)) → task ≡ named
+    → Ran named status input rest old new told_old told_new → Ran task status input rest old new told_old told_new
+ran_is task named status input rest old new told_old told_new is ran = subst (λ (t : Task). Ran t status input rest old new told_old told_new) (sym is) ran
+
+-- the task that words name is the one that ran
+pub ran_named : (o : Option Task) (task named : Task) (status : Status) (input rest old new told_old told_new : Option (List ℕ)) → o ≡ Some task → o ≡ Some named
+    → Ran task status input rest old new told_old told_new → Ran named status input rest old new told_old told_new
+ran_named o task named status input rest old new told_old told_new is named_is ran =
+    subst (λ (t : Task). Ran t status input rest old new told_old told_new) (ap (λ (p : Option Task). unwrap_or p named) (sym is ∙ named_is)) ran
+
+pub ran_given : (o : Option Task) (task : Task) (given : List (List ℕ)) (status : Status) (input rest old new told_old told_new : Option (List ℕ)) → o ≡ Some task
+    → IsToExplain given o → Ran task status input rest old new told_old told_new → RanExplain given status input rest old new
+ran_given o task given status input rest old new told_old told_new is named ran = by task (subst (IsToExplain given) is named) ran
+  where
+    by : (task : Task) → IsToExplain given (Some task) → Ran task status input rest old new told_old told_new → RanExplain given status input rest old new
+    by (tasks.Explain words) e ran = rw (← e) ran
+    by _ e ran = absurd e

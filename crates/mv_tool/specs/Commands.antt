@@ -1,5 +1,5 @@
 -- What comes of the words that the command line takes.
-use Rattle.std.specs.Prelude.{◌≡◌, ◌⊎◌, ℕ, List, Bool, true, false, Option, Some, None, is_some, IfSome}
+use Rattle.std.specs.Prelude.{◌≡◌, ◌⊎◌, ℕ, List, Bool, true, false, Option, Some, None, is_some, map, IfSome}
 use Rattle.std.specs.Io.KnownBytes.{Appends, Consumes, Keeps}
 use Rattle.mv_explain.specs.Explained.{first_unknown, lines_of}
 use Rattle.mv_checks.specs.declared.strict.Untaken.{Untaken}
@@ -8,12 +8,16 @@ use Rattle.mv_checks.specs.Strict.{IsStrictReply, strict_at}
 use Rattle.mv_lines.specs.declared.fault.ServeFault.{ServeFault}
 use Rattle.mv_tool.specs.declared.status.Status.{Status}
 use Rattle.mv_tool.specs.declared.status.Status.TheVariants.{Done, Failed, Refused}
+use Rattle.mv_lines.specs.Canon.{IsCanon}
 use Rattle.mv_lines.specs.Replies.{ReplyRule}
 use Rattle.mv_lines.specs.Served.{Served, Ended}
 use Rattle.mv_lines.specs.Output.{WrotePart}
 use Rattle.mv_lines.specs.Sessions.{IsReply, Open}
 use Rattle.mv_show.specs.Showing.{LeadsTo, Unshown}
 use Rattle.mv_show.specs.Shown.{shown_text}
+use Rattle.mv_trail.specs.Trail.{IsEvent}
+use Rattle.mv_words.specs.declared.task.Task.{Task}
+use Rattle.mv_words.specs.declared.task.Task.TheVariants as tasks
 use Rattle.mv_tool.specs.Telling.{untaken_line}
 use Rattle.mv_tool.specs.Working.{Worked, Failed as WorkFailed}
 
@@ -83,3 +87,16 @@ abbrev pub RanExplain : List (List ℕ) → Status → Option (List ℕ) → Opt
 RanExplain words Done input rest old new = Keeps input rest × (first_unknown words ≡ None) × Appends old new (lines_of words)
 RanExplain words Failed input rest old new = Keeps input rest × (first_unknown words ≡ None) × WrotePart (lines_of words) old new
 RanExplain words Refused input rest old new = Keeps input rest × Keeps old new
+
+-- what a task came to, by its status, with what was read, written and told
+abbrev pub Ran : Task → Status → Option (List ℕ) → Option (List ℕ) → Option (List ℕ) → Option (List ℕ)
+    → Option (List ℕ) → Option (List ℕ) → Type 0
+Ran tasks.Steps status input rest old new told_old told_new = RanLines IsReply None status input rest old new
+Ran tasks.Strict status input rest old new told_old told_new = RanStrict status input rest old new told_old told_new
+Ran tasks.Trail status input rest old new told_old told_new = RanLines IsEvent None status input rest old new
+Ran tasks.Show status input rest old new told_old told_new = RanShow status input rest old new
+Ran tasks.Canon status input rest old new told_old told_new = RanLines IsCanon tt status input rest old new
+Ran tasks.Check status input rest old new told_old told_new = RanCheck status input rest old new told_old told_new
+Ran (tasks.Work turns) status input rest old new told_old told_new = RanWork status input rest old new
+Ran (tasks.Explain words) status input rest old new told_old told_new =
+    RanExplain (map (λ word. word.now) words.items) status input rest old new

@@ -11,15 +11,12 @@ ghost use Rattle.mv_lines.specs.Sessions.{IsReply};
 ghost use Rattle.mv_tool.specs.Statuses.{status_code};
 ghost use Rattle.mv_tool.specs.declared.status.Status.{Status as AStatus};
 
-use crate::telling::{explain_codes, status_of, status_of_answer, status_of_strict};
-use crate::{Status, work};
+use crate::Status;
+use crate::performing::perform;
+use crate::telling::status_of;
 use clap::Error;
-use mv_checks::{check, serve_strict};
-use mv_lines::{canon, put_out, serve_last};
-use mv_show::show;
-use mv_trail::trail;
-use mv_words::{Task, task_of};
-use mv_workers::NoGate;
+use mv_lines::put_out;
+use mv_words::task_of;
 use std::alloc::Global;
 use std::io::{Read, Write};
 use std::marker::Sync;
@@ -129,20 +126,7 @@ fn run<H: Threads + Wait + Sync, R: Read, W: Write, F: Write>(
     ensures quiet { result ≡ Status.Done → Keeps (F.contents faults.old) (F.contents faults.new) }
 {
     match task_of(alloc, words) {
-        Ok(Some(Task::Steps)) => status_of(serve_last(alloc, reader, writer), faults),
-        Ok(Some(Task::Strict)) => {
-            status_of_strict(alloc, serve_strict(alloc, reader, writer), faults)
-        }
-        Ok(Some(Task::Trail)) => status_of(trail(alloc, reader, writer), faults),
-        Ok(Some(Task::Show)) => status_of_answer(show(alloc, reader, writer), faults),
-        Ok(Some(Task::Canon)) => status_of(canon(alloc, reader, writer), faults),
-        Ok(Some(Task::Check)) => status_of_answer(check(alloc, reader, writer), faults),
-        Ok(Some(Task::Work { turns })) => {
-            status_of_answer(work(rt, alloc, reader, writer, turns, &NoGate), faults)
-        }
-        Ok(Some(Task::Explain { codes })) => {
-            explain_codes(alloc, codes.as_slice(), writer, faults)
-        }
+        Ok(Some(task)) => perform(rt, alloc, task, reader, writer, faults),
         Ok(None) => Status::Refused,
         Err(error) => explain(alloc, &error, writer, faults),
     }

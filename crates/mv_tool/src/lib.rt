@@ -30,6 +30,7 @@
 #![tactic(auto)]
 
 mod command_line;
+mod performing;
 mod status;
 mod telling;
 mod working;

@@ -27,7 +27,7 @@ pub(crate) fn perform<H: Threads + Wait + Sync, R: Read, W: Write, F: Write>(
     writer: &mut W,
     faults: &mut F,
 ) -> Status
-    ensures ran { Ran task result (R.remaining reader.old) (R.remaining reader.new)
+    ensures ran { Ran task.entry result (R.remaining reader.old) (R.remaining reader.new)
         (W.contents writer.old) (W.contents writer.new)
         (F.contents faults.old) (F.contents faults.new) }
     ensures unwritten { result ≡ Status.Refused

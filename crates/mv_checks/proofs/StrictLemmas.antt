@@ -7,7 +7,7 @@ use Rattle.mv_lines.specs.declared.fault.ServeFault.{ServeFault}
 use Rattle.mv_lines.specs.declared.fault.ServeFault.TheVariants as faults
 use Rattle.mv_lines.specs.Lines.{Line}
 use Rattle.mv_lines.specs.Replies.{AreReplies, GotNoReply, IsReplies}
-use Rattle.mv_lines.specs.Served.{Ended, EndedAt, Served, Stopped, WroteReplies}
+use Rattle.mv_lines.specs.Served.{Ended, EndedAt, Served, Stopped}
 use Rattle.mv_lines.specs.Sessions.{is_refused, IsReply, IsTaken, Open}
 use Rattle.mv_checks.specs.Strict.{IsStrictReply, Strict, strict_at, tallied}
 use Rattle.mv_checks.specs.declared.strict.Untaken.{Untaken}

@@ -1,10 +1,10 @@
 -- What is said of lines that are only checked.
-use Rattle.std.proofs.Common.{◌≡◌, ◌++◌, ◌∷◌, ◌&&◌, ℕ, List, [], Bool, true, false, None, Some, IfSome, refl, ap, ap₂, sym, ◌∙◌, map, subst}
+use Rattle.std.proofs.Common.{◌≡◌, ◌∷◌, ◌&&◌, ℕ, List, [], Bool, true, false, None, Some, IfSome, refl, ap, ap₂, ◌∙◌, map, subst}
 use Rattle.std.specs.declared.option.Option.{Option}
 use Rattle.std.specs.List.{list_all}
 use Rattle.std.specs.Io.KnownBytes.{Appends}
 use Rattle.mv_lines.specs.Lines.{Line}
-use Rattle.mv_lines.specs.Replies.{AreReplies, IsReplies, said_texts, text_lines}
+use Rattle.mv_lines.specs.Replies.{AreReplies, said_texts, text_lines}
 use Rattle.mv_lines.specs.Served.{Served}
 use Rattle.mv_checks.specs.Checks.{IsChecked, are_messages, checked, is_message, lines_in, refusals_of}
 

@@ -1,14 +1,16 @@
 -- The replies of a run whose lines are counted are those of one whose lines are not.
-use Rattle.std.proofs.Common.{◌≡◌, ◌∷◌, ℕ, List, [], None, Some, IfSome, ap, subst}
+use Rattle.std.proofs.Common.{◌≡◌, ◌∷◌, ℕ, List, [], None, Some, IfErr, IfSome, Result, Ok, Err, ap, inr, refl, subst, sym}
 use Rattle.std.specs.Io.KnownBytes.{Consumes}
 use Rattle.std.specs.declared.option.Option.{Option}
+use Rattle.mv_lines.specs.declared.answered.Answered.{Answered}
 use Rattle.mv_lines.specs.declared.fault.ServeFault.{ServeFault}
 use Rattle.mv_lines.specs.declared.fault.ServeFault.TheVariants as faults
 use Rattle.mv_lines.specs.Lines.{Line}
-use Rattle.mv_lines.specs.Replies.{AreReplies, IsReplies}
-use Rattle.mv_lines.specs.Served.{Ended, Served, Stopped, WroteReplies}
-use Rattle.mv_lines.specs.Sessions.{IsReply, Open}
-use Rattle.mv_checks.specs.Strict.{IsStrictReply, Strict}
+use Rattle.mv_lines.specs.Replies.{AreReplies, GotNoReply, IsReplies}
+use Rattle.mv_lines.specs.Served.{Ended, EndedAt, Served, Stopped}
+use Rattle.mv_lines.specs.Sessions.{is_refused, IsReply, IsTaken, Open}
+use Rattle.mv_checks.specs.Strict.{IsStrictReply, Strict, strict_at, tallied}
+use Rattle.mv_checks.specs.declared.strict.Untaken.{Untaken}
 
 -- what is counted is left out
 replies_uncounted : (before after : Strict) (lines : List Line) (texts : List (Option (List ℕ))) → AreReplies IsStrictReply before lines texts after
@@ -81,3 +83,23 @@ module _ (before after : Strict) (world : Open) (begins : before.world ≡ world
       → (bytes : List ℕ) × Consumes input rest bytes × Ended IsReply fault world bytes old new
   ended_input fault input rest (bytes, consumed, ended) =
       (bytes, consumed, subst (λ w. Ended IsReply fault w bytes old new) begins (ended_uncounted fault before bytes old new ended))
+
+-- a line that was taken and counted may get no reply
+pub counted_unanswered : {A E : Type 0} (r : Result A E) (before after : Strict) (line : Line) (answered : Answered)
+    → IsTaken before.world line.bytes answered after.world → after.untaken ≡ tallied (is_refused answered) line.number before.untaken
+    → IfErr r (λ _. GotNoReply IsStrictReply before line after)
+counted_unanswered (Ok u) before after line answered taken counted = tt
+counted_unanswered (Err e) before after line answered taken counted = inr (_, (answered, taken, refl, counted))
+
+-- what was counted when a fault ended a run in which nothing was open, nor counted
+pub counted_input : (fault : ServeFault) (first last : Open) (untaken : Option Untaken) (after : Strict) (input rest old new : Option (List ℕ))
+    → first ≡ None → strict_at last untaken ≡ after
+    → (bytes : List ℕ) × Consumes input rest bytes × EndedAt IsStrictReply fault (strict_at first None) bytes after old new
+    → (bytes : List ℕ) × Consumes input rest bytes × (last : Open) × EndedAt IsStrictReply fault (strict_at None None) bytes (strict_at last untaken) old new
+counted_input fault first last untaken after input rest old new nothing is (bytes, consumed, ended) = (
+  bytes,
+  consumed,
+  last,
+  subst (λ (s : Strict). EndedAt IsStrictReply fault (strict_at None None) bytes s old new) (sym is)
+      (subst (λ (w : Open). EndedAt IsStrictReply fault (strict_at w None) bytes after old new) nothing ended),
+)

@@ -1,5 +1,5 @@
 -- What is said of messages that are only checked: the refusal of each that is refused, with the number of its line.
-use Rattle.std.specs.Prelude.{◌≡◌, ◌&&◌, ℕ, List, map, codes, Bool, true, Option, Some, None, Result, Ok, Err, is_ok, if◌then◌else◌}
+use Rattle.std.specs.Prelude.{◌≡◌, ◌&&◌, ℕ, List, map, codes, Bool, Option, Some, None, Result, Ok, Err, is_ok, if◌then◌else◌}
 use Rattle.std.specs.List.{list_all}
 use Rattle.std.specs.Ordering.{nat_cmp, is_lt}
 use Rattle.std.specs.Cmp.Lexicographic.{slice_cmp}

@@ -2,7 +2,7 @@
 
 ghost use Rattle.std.specs.Prelude.{◌≡◌, ℕ, List, None, Some, OnOk, IfErr, IfSome, true};
 ghost use Rattle.std.specs.Io.KnownBytes.{Consumes};
-ghost use Rattle.mv_lines.specs.Served.{Served, Ended};
+ghost use Rattle.mv_lines.specs.Served.{Served, Ended, EndedAt};
 ghost use Rattle.mv_lines.specs.Sessions.{Open, IsReply};
 ghost use Rattle.mv_checks.specs.Strict.{IsStrictReply, strict_at, tallied};
 
@@ -55,10 +55,10 @@ impl Answering for Counted {
 
     fn answer(&mut self, number: u32, line: &[u8], out: &mut Vec<u8>) -> Result<bool, AllocError> {
         let answered = self.session.take(line)?;
-        append_answer(self.alloc, out, &answered)?;
         if answered.is_refused() {
             self.untaken = Some(tallied(self.untaken, number));
         }
+        append_answer(self.alloc, out, &answered)?;
         Ok(true)
     }
 }
@@ -93,6 +93,11 @@ pub fn serve_strict<R: Read, W: Write>(alloc: Global, reader: &mut R, writer: &m
     ensures err { IfErr result.ended (λ fault. (bytes : List ℕ)
         × Consumes (R.remaining reader.old) (R.remaining reader.new) bytes
         × Ended IsReply fault None bytes (W.contents writer.old) (W.contents writer.new)) }
+    // The lines that were not taken are those of the lines that were answered, and of one more where memory was refused for its reply.
+    ensures counted { IfErr result.ended (λ fault. (bytes : List ℕ)
+        × Consumes (R.remaining reader.old) (R.remaining reader.new) bytes × (after : Open)
+        × EndedAt IsStrictReply fault (strict_at None None) bytes (strict_at after result.untaken)
+        (W.contents writer.old) (W.contents writer.new)) }
 {
     let mut counted = Counted {
         alloc,

@@ -1,14 +1,14 @@
 -- Lemmas on an input that comes in parts.
-use Rattle.std.proofs.Common.{◌≡◌, ℕ, ◌+◌, ◌<◌, ◌≤◌, List, [], ◌∷◌, ◌++◌, length, refl, sym, ◌∙◌, ap, subst, arith, append_assoc, append-nil, length-append, true, false, rules}
+use Rattle.std.proofs.Common.{◌≡◌, ℕ, ◌+◌, ◌<◌, ◌≤◌, List, [], ◌∷◌, ◌++◌, length, refl, sym, ◌∙◌, ap, subst, arith, append_assoc, append-nil, length-append, true, false, rules, inl, inr}
 use Rattle.std.proofs.lemmas.List.{map-append}
 use Rattle.std.proofs.lemmas.List.Elements.{All-append}
 use Rattle.std.specs.Prelude.{cond, ◌==◌, map, Option, Result, Ok, Err, OnOk, IfErr}
 use Rattle.std.specs.Io.BufRead.{strip_last}
 use Rattle.mv_lines.specs.declared.fault.ServeFault.{ServeFault}
 use Rattle.mv_lines.specs.declared.fault.ServeFault.TheVariants.{Read, Write, Memory, TooManyLines, LineTooLong, Start}
-use Rattle.mv_lines.specs.Lines.{Line, line_unless_empty, whole_from, rest_from, lines_from, lines_of, line_limit, lines_limit, IsUnended, KeepLimits}
-use Rattle.mv_lines.specs.Replies.{IsReplies}
-use Rattle.mv_lines.specs.Served.{StopsAt, StopsIn, Stopped}
+use Rattle.mv_lines.specs.Lines.{Line, line_at, line_begun, line_unless_empty, whole_from, rest_from, lines_from, lines_of, line_limit, lines_limit, IsUnended, KeepLimits}
+use Rattle.mv_lines.specs.Replies.{IsReplies, GotNoReply}
+use Rattle.mv_lines.specs.Served.{StopsAt, StopsIn, StoppedAt, LeftBy}
 use Rattle.mv_lines.specs.Taking.{Taken}
 use Rattle.mv_lines.proofs.PartLemmas.{unended_whole, unended_rest, unended_front}
 use Rattle.mv_lines.proofs.RepliesLemmas.{IsReplies-append, IsReplies-nil}
@@ -94,11 +94,43 @@ stops_later LineTooLong begun count front good bad tail (behind, full, next, mor
   other,
 )
 
+-- the line that is begun behind a later part is that of the whole
+pub begun_later : (begun front begun' good : List ℕ) (count count' : ℕ) → begun' ≡ rest_from begun front → count' ≡ count + length (whole_from begun front)
+    → line_begun count' begun' good ≡ line_begun count begun (front ++ good)
+begun_later begun front begun' good count count' rest counted =
+    ap (λ n. line_at n (strip_last 13 (rest_from begun' good))) (rw (whole_from-append begun front good, length-append, ← rest) (omega (arith, counted)))
+    ∙ ap (λ l. line_at (count + length (whole_from begun (front ++ good)) + 1) (strip_last 13 l)) (ap (λ b. rest_from b good) rest ∙ sym (rest_from-append begun front good))
+
 -- no bytes are added
 pub none_added : (kept kept' : List ℕ) → kept' ≡ kept → kept' ≡ kept ++ []
 none_added kept kept' same = same ∙ sym (append-nil kept)
 
 module _ {S : Type 0} (Reply : S → Line → Option (List ℕ) → S → Type 0) where
+  -- what answers may be as it was, whatever the fault
+  left_alone : (fault : ServeFault) (a : S) (next : Line) → LeftBy fault Reply a next a
+  left_alone Read a next = inl refl
+  left_alone Write a next = inl refl
+  left_alone Start a next = inl refl
+  left_alone Memory a next = inl refl
+  left_alone TooManyLines a next = refl
+  left_alone LineTooLong a next = refl
+
+  -- where it was left by a fault, the next line got no reply
+  pub left_without : (fault : ServeFault) (a b : S) (next : Line) → LeftBy fault Reply a next b → GotNoReply Reply a next b
+  left_without Read a b next left = left
+  left_without Write a b next left = left
+  left_without Start a b next left = left
+  left_without Memory a b next left = left
+  left_without TooManyLines a b next left = inl left
+  left_without LineTooLong a b next left = inl left
+
+  -- there was a reply to a line, and it was dropped
+  pub reply_dropped : (count : ℕ) (piece line : List ℕ) (text : Option (List ℕ)) (a b : S) → line ≡ strip_last 13 piece
+      → Reply a (line_at (count + 1) line) text b → GotNoReply Reply a (line_begun count piece []) b
+  reply_dropped count piece line text a b stripped reply =
+      let numbers : count + 1 ≡ count + 0 + 1 = omega arith in
+      inr (text, subst (λ next. Reply a next text b) (ap (λ l. line_at (count + 1) l) stripped ∙ ap (λ n. line_at n (strip_last 13 piece)) numbers) reply)
+
   -- bytes that end no line are taken
   pub part_taken : (begun part begun' : List ℕ) (count count' : ℕ) (a : S) → IsUnended part → count ≤ lines_limit → begun' ≡ begun ++ part → count' ≡ count
       → Taken Reply begun count a part begun' count' a []
@@ -121,30 +153,38 @@ module _ {S : Type 0} (Reply : S → Line → Option (List ℕ) → S → Type 0
   }
 
   -- where the taking of a middle part stopped, it stopped in the whole
-  pub stopped_later : {begun front begun' out other back all : List ℕ} {count count' : ℕ} {a b : S} (fault : ServeFault) (tail : List ℕ)
-      → all ≡ front ++ (back ++ tail) → Taken Reply begun count a front begun' count' b out → Stopped Reply fault begun' count' b back other
-      → Stopped Reply fault begun count a all (out ++ other)
-  stopped_later {begun = begun} {front = front} {out = out} {other = other} {count = count} {a = a} {b = b} fault tail cut first stopped = record {
-    good = front ++ stopped.good;
-    bad = stopped.bad ++ tail;
-    cut = cut ∙ ap (λ l. front ++ (l ++ tail)) stopped.cut ∙ simp append_assoc;
-    why = stops_later fault begun count front stopped.good stopped.bad tail (rw (first.rest, first.counted) at stopped.why);
-    kept = rw (whole_from-append begun front stopped.good, ← first.rest) (KeepLimits-append count _ _ first.kept (rw first.counted at stopped.kept));
-    after = stopped.after;
-    replied = rw (whole_lines-append count begun front stopped.good, ← first.rest, ← first.counted) (IsReplies-append Reply a b stopped.after _ _ out other first.replied stopped.replied);
-  }
+  pub stopped_later : {begun front begun' out other back all : List ℕ} {count count' : ℕ} {a b c : S} (fault : ServeFault) (tail : List ℕ)
+      → all ≡ front ++ (back ++ tail) → Taken Reply begun count a front begun' count' b out → StoppedAt Reply fault begun' count' b back c other
+      → StoppedAt Reply fault begun count a all c (out ++ other)
+  stopped_later {begun = begun} {front = front} {begun' = begun'} {out = out} {other = other} {count = count} {count' = count'} {a = a} {b = b} {c = c} fault tail cut first at_end =
+      let stopped = at_end.stopped in
+      record {
+        stopped = record {
+          good = front ++ stopped.good;
+          bad = stopped.bad ++ tail;
+          cut = cut ∙ ap (λ l. front ++ (l ++ tail)) stopped.cut ∙ simp append_assoc;
+          why = stops_later fault begun count front stopped.good stopped.bad tail (rw (first.rest, first.counted) at stopped.why);
+          kept = rw (whole_from-append begun front stopped.good, ← first.rest) (KeepLimits-append count _ _ first.kept (rw first.counted at stopped.kept));
+          after = stopped.after;
+          replied = rw (whole_lines-append count begun front stopped.good, ← first.rest, ← first.counted) (IsReplies-append Reply a b stopped.after _ _ out other first.replied stopped.replied);
+        };
+        left = subst (λ next. LeftBy fault Reply stopped.after next c) (begun_later begun front begun' stopped.good count count' first.rest first.counted) at_end.left;
+      }
 
   -- the taking of bytes that end no line stops
   pub part_stopped : (fault : ServeFault) (begun part tail : List ℕ) (count : ℕ) (a : S) → IsUnended part → count ≤ lines_limit → StopsIn fault begun count part
-      → Stopped Reply fault begun count a (part ++ tail) []
+      → StoppedAt Reply fault begun count a (part ++ tail) a []
   part_stopped fault begun part tail count a unended few (good, bad, cut, why) = record {
-    good = good;
-    bad = bad ++ tail;
-    cut = ap (λ l. l ++ tail) cut ∙ append_assoc good bad tail;
-    why = stops_later fault begun count [] good bad tail (subst (λ n. StopsAt fault begun n good bad) (omega arith) why);
-    kept = rw (unended_whole begun good (unended_front good bad (rw cut at unended))) (KeepLimits-nil count few);
-    after = a;
-    replied = rw (unended_whole begun good (unended_front good bad (rw cut at unended))) (IsReplies-nil Reply a);
+    stopped = record {
+      good = good;
+      bad = bad ++ tail;
+      cut = ap (λ l. l ++ tail) cut ∙ append_assoc good bad tail;
+      why = stops_later fault begun count [] good bad tail (subst (λ n. StopsAt fault begun n good bad) (omega arith) why);
+      kept = rw (unended_whole begun good (unended_front good bad (rw cut at unended))) (KeepLimits-nil count few);
+      after = a;
+      replied = rw (unended_whole begun good (unended_front good bad (rw cut at unended))) (IsReplies-nil Reply a);
+    };
+    left = left_alone fault a _;
   }
 
   -- a line feed is taken, and the line that it ends is answered; `kept` are the replies before
@@ -159,19 +199,23 @@ module _ {S : Type 0} (Reply : S → Line → Option (List ℕ) → S → Type 0
   )
 
   -- the taking stops before one byte
-  pub stopped_here : (kept begun : List ℕ) (count byte : ℕ) (a : S) (fault : ServeFault) → count ≤ lines_limit → StopsAt fault begun count [] (byte ∷ [])
-      → (out : List ℕ) × (kept ≡ kept ++ out) × Stopped Reply fault begun count a (byte ∷ []) out
-  stopped_here kept begun count byte a fault few why = (
+  pub stopped_here : (kept begun : List ℕ) (count byte : ℕ) (a b : S) (fault : ServeFault) → count ≤ lines_limit → StopsAt fault begun count [] (byte ∷ [])
+      → LeftBy fault Reply a (line_begun count begun []) b
+      → (out : List ℕ) × (kept ≡ kept ++ out) × StoppedAt Reply fault begun count a (byte ∷ []) b out
+  stopped_here kept begun count byte a b fault few why left = (
     [],
     sym (append-nil kept),
-    record { good = []; bad = byte ∷ []; cut = refl; why = why; kept = KeepLimits-nil count few; after = a; replied = IsReplies-nil Reply a },
+    record {
+      stopped = record { good = []; bad = byte ∷ []; cut = refl; why = why; kept = KeepLimits-nil count few; after = a; replied = IsReplies-nil Reply a };
+      left = left;
+    },
   )
 
   -- what stopped a later part of the bytes, stopped their taking; `kept` are the replies before
-  pub grown_stopped : (kept kept' kept'' : List ℕ) {begun front begun' out back all : List ℕ} {count count' : ℕ} {a b : S} (fault : ServeFault) (tail : List ℕ)
+  pub grown_stopped : (kept kept' kept'' : List ℕ) {begun front begun' out back all : List ℕ} {count count' : ℕ} {a b c : S} (fault : ServeFault) (tail : List ℕ)
       → all ≡ front ++ (back ++ tail) → kept' ≡ kept ++ out → Taken Reply begun count a front begun' count' b out
-      → (other : List ℕ) × (kept'' ≡ kept' ++ other) × Stopped Reply fault begun' count' b back other
-      → (whole : List ℕ) × (kept'' ≡ kept ++ whole) × Stopped Reply fault begun count a all whole
+      → (other : List ℕ) × (kept'' ≡ kept' ++ other) × StoppedAt Reply fault begun' count' b back c other
+      → (whole : List ℕ) × (kept'' ≡ kept ++ whole) × StoppedAt Reply fault begun count a all c whole
   grown_stopped kept kept' kept'' {out = out} fault tail cut grown first (other, more, stopped) =
       (out ++ other, more ∙ ap (λ l. l ++ other) grown ∙ append_assoc kept out other, stopped_later fault tail cut first stopped)
 
@@ -198,7 +242,7 @@ module _ {S : Type 0} (Reply : S → Line → Option (List ℕ) → S → Type 0
       → all ≡ front ++ rest → IsUnended rest → count' ≤ lines_limit → kept'' ≡ kept'
       → (out : List ℕ) × (kept' ≡ kept ++ out) × Taken Reply begun count a front begun' count' b out
       → IfErr ended (λ fault. StopsIn fault begun' count' rest)
-      → IfErr ended (λ fault. (whole : List ℕ) × (kept'' ≡ kept ++ whole) × Stopped Reply fault begun count a all whole)
+      → IfErr ended (λ fault. (whole : List ℕ) × (kept'' ≡ kept ++ whole) × StoppedAt Reply fault begun count a all b whole)
   rest_stopped (Ok u) kept kept' kept'' begun front begun' rest all count count' a b cut unended few same first stops = stops
   rest_stopped (Err fault) kept kept' kept'' begun front begun' rest all count count' a b cut unended few same (out, grown, first) stops =
       grown_stopped kept kept' kept'' fault [] (simp append-nil cut) grown first ([], none_added kept' kept'' same, part_stopped fault begun' rest [] count' b unended few stops)

@@ -1,5 +1,5 @@
 -- The replies to lines, by a rule that says what a reply to one line may be.
-use Rattle.std.specs.Prelude.{◌≡◌, ℕ, List, [], ◌∷◌, ◌++◌, flat_map, Bool, true, false, Option, Some, None}
+use Rattle.std.specs.Prelude.{◌≡◌, ℕ, List, [], ◌∷◌, ◌++◌, ◌⊎◌, flat_map, Bool, true, false, Option, Some, None}
 use Rattle.mv_lines.specs.Lines.{Line}
 
 -- Which replies to a line are right: what answers before the line, the line, the reply's text, if there is one, and what answers the
@@ -11,6 +11,10 @@ ReplyRule S = S → Line → Option (List ℕ) → S → Type 0
 abbrev pub said : Bool → List ℕ → Option (List ℕ)
 said true text = Some text
 said false text = None
+
+-- A line got no reply, since memory was refused: what answers is as it was before the line, or as a right reply would leave it.
+abbrev pub GotNoReply : {S : Type 0} → ReplyRule S → S → Line → S → Type 0
+GotNoReply rule before line after = (after ≡ before) ⊎ ((text : Option (List ℕ)) × rule before line text after)
 
 -- some bytes came behind the ones that stand ready to be written, and the fact holds of them
 abbrev pub Readied : List ℕ → List ℕ → (List ℕ → Type 0) → Type 0

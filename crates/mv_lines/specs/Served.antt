@@ -3,8 +3,8 @@ use Rattle.std.specs.Prelude.{◌≡◌, ◌≢◌, ℕ, ◌+◌, ◌<◌, List,
 use Rattle.std.specs.Io.KnownBytes.{Appends}
 use Rattle.mv_lines.specs.declared.fault.ServeFault.{ServeFault}
 use Rattle.mv_lines.specs.declared.fault.ServeFault.TheVariants.{Read, Write, Memory, TooManyLines, LineTooLong}
-use Rattle.mv_lines.specs.Lines.{whole_from, rest_from, pieces, lines_from, line_limit, lines_limit, KeepLimits}
-use Rattle.mv_lines.specs.Replies.{ReplyRule, IsReplies}
+use Rattle.mv_lines.specs.Lines.{Line, line_at, line_begun, whole_from, rest_from, pieces, lines_from, line_limit, lines_limit, KeepLimits}
+use Rattle.mv_lines.specs.Replies.{ReplyRule, IsReplies, GotNoReply}
 
 -- some bytes went out, and the fact holds of them
 abbrev pub Wrote : Option (List ℕ) → Option (List ℕ) → (List ℕ → Type 0) → Type 0
@@ -38,6 +38,18 @@ pub record Stopped {S : Type 0} (rule : ReplyRule S) (fault : ServeFault) (begun
   pub after : S
   pub replied : IsReplies rule before (lines_from count (whole_from begun good)) out after
 
+-- What answers is left behind the lines that were answered; where memory was refused, the next line got no reply.
+abbrev pub LeftBy : {S : Type 0} → ServeFault → ReplyRule S → S → Line → S → Type 0
+LeftBy TooManyLines rule behind next after = after ≡ behind
+LeftBy LineTooLong rule behind next after = after ≡ behind
+LeftBy fault rule behind next after = GotNoReply rule behind next after
+
+-- the same, and what answers is left in the state `after`
+pub record StoppedAt {S : Type 0} (rule : ReplyRule S) (fault : ServeFault) (begun : List ℕ) (count : ℕ) (before : S)
+    (bytes : List ℕ) (after : S) (out : List ℕ) : Type 0 where
+  pub stopped : Stopped rule fault begun count before bytes out
+  pub left : LeftBy fault rule stopped.after (line_begun count begun stopped.good) after
+
 -- Of the replies to some first pieces the first bytes went out, and no more. Those pieces keep the limits, behind `count` lines.
 pub record WroteReplies {S : Type 0} (rule : ReplyRule S) (count : ℕ) (before : S) (ps : List (List ℕ))
     (old new : Option (List ℕ)) : Type 0 where
@@ -50,6 +62,14 @@ pub record WroteReplies {S : Type 0} (rule : ReplyRule S) (count : ℕ) (before 
   pub after : S
   pub replied : IsReplies rule before (lines_from count answered) (out ++ unwritten) after
   pub written : Appends old new out
+
+-- The same, and what answers is left in the state `after`: behind the lines whose replies were ready. Where memory was refused before
+-- the write failed, the next line got no reply.
+pub record WroteAt {S : Type 0} (rule : ReplyRule S) (count : ℕ) (before : S) (ps : List (List ℕ)) (after : S)
+    (old new : Option (List ℕ)) : Type 0 where
+  pub wrote : WroteReplies rule count before ps old new
+  pub next : List ℕ
+  pub left : GotNoReply rule wrote.after (line_at (count + length wrote.answered + 1) next) after
 
 -- A whole input was answered: its lines keep the limits, and the replies to them went out.
 pub record Served {S : Type 0} (rule : ReplyRule S) (before : S) (bytes : List ℕ) (after : S)
@@ -68,3 +88,11 @@ Ended {S = S} rule Read before bytes old new = KeepLimits 0 (pieces bytes)
     × Wrote old new (λ out. (after : S) × IsReplies rule before (lines_from 0 (whole_from [] bytes)) out after)
 Ended rule Write before bytes old new = WroteReplies rule 0 before (pieces bytes) old new
 Ended rule fault before bytes old new = Wrote old new (Stopped rule fault [] 0 before bytes)
+
+-- The same, and what answers is left in the state `after`: behind the lines that were answered, and, where memory was refused, perhaps
+-- behind the next, though no reply to it stands ready.
+abbrev pub EndedAt : {S : Type 0} → ReplyRule S → ServeFault → S → List ℕ → S → Option (List ℕ) → Option (List ℕ) → Type 0
+EndedAt rule Read before bytes after old new = KeepLimits 0 (pieces bytes)
+    × Wrote old new (λ out. IsReplies rule before (lines_from 0 (whole_from [] bytes)) out after)
+EndedAt rule Write before bytes after old new = WroteAt rule 0 before (pieces bytes) after old new
+EndedAt rule fault before bytes after old new = Wrote old new (StoppedAt rule fault [] 0 before bytes after)

@@ -2,7 +2,7 @@
 
 ghost use Rattle.std.specs.Prelude.{◌≡◌, ℕ, ◌<◌, ◌≤◌, List, length, take, OnOk, IfOk, IfErr, IfSome};
 ghost use Rattle.std.specs.Io.KnownBytes.{Consumes, Keeps, IsAtEnd};
-ghost use Rattle.mv_lines.specs.Served.{Served, Ended};
+ghost use Rattle.mv_lines.specs.Served.{Served, Ended, EndedAt};
 
 use crate::input::Input;
 use crate::limits::{BLOCK_LEN, INTERRUPTIONS_LIMIT};
@@ -25,6 +25,11 @@ pub fn answer_lines<S: Answering, R: Read, W: Write>(
     ensures err { IfErr result (λ fault. (bytes : List ℕ)
         × Consumes (R.remaining reader.old) (R.remaining reader.new) bytes
         × Ended S.replies fault answering.old bytes (W.contents writer.old) (W.contents writer.new)) }
+    // And so what answers is left behind the lines that were answered.
+    ensures ended { IfErr result (λ fault. (bytes : List ℕ)
+        × Consumes (R.remaining reader.old) (R.remaining reader.new) bytes
+        × EndedAt S.replies fault answering.old bytes answering.new
+        (W.contents writer.old) (W.contents writer.new)) }
 {
     let mut input = Input::new(alloc);
     let mut interruptions = 0;

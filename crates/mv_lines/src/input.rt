@@ -2,10 +2,10 @@
 
 ghost use Rattle.std.specs.Prelude.{◌≡◌, ℕ, ◌+◌, ◌<◌, ◌≤◌, List, [], ◌∷◌, ◌++◌, length, OnOk, IfErr, vec_items};
 ghost use Rattle.std.specs.Io.BufRead.{strip_last};
-ghost use Rattle.mv_lines.specs.Lines.{IsUnended, last_piece, lines_from, line_limit, lines_limit};
-ghost use Rattle.mv_lines.specs.Replies.{IsReplies, Readied};
+ghost use Rattle.mv_lines.specs.Lines.{IsUnended, last_piece, line_begun, lines_from, line_limit, lines_limit};
+ghost use Rattle.mv_lines.specs.Replies.{GotNoReply, IsReplies, Readied};
 ghost use Rattle.std.specs.Io.KnownBytes.{Appends};
-ghost use Rattle.mv_lines.specs.Served.{Wrote, StopsIn, Stopped};
+ghost use Rattle.mv_lines.specs.Served.{Wrote, StopsIn, StoppedAt};
 ghost use Rattle.mv_lines.specs.Taking.{Taken, Halted, HaltedLast};
 
 use crate::limits::{LINE_LIMIT, LINES_LIMIT};
@@ -53,7 +53,7 @@ impl Input {
             Taken S.replies self.old.begun.items self.old.lines answering.old bytes.now
             self.new.begun.items self.new.lines answering.new out)) }
         ensures err { IfErr result (λ fault.
-            Halted S.replies fault self.old.begun.items self.old.lines answering.old bytes.now
+            Halted S.replies fault self.old.begun.items self.old.lines answering.old bytes.now answering.new
             (W.contents writer.old) (W.contents writer.new)) }
     {
         self.replies.clear();
@@ -72,7 +72,7 @@ impl Input {
             IsReplies S.replies answering.old (lines_from self.old.lines (last_piece self.old.begun.items))
             out answering.new)) }
         ensures err { IfErr result (λ fault.
-            HaltedLast S.replies fault self.old.lines answering.old (last_piece self.old.begun.items)
+            HaltedLast S.replies fault self.old.begun.items self.old.lines answering.old answering.new
             (W.contents writer.old) (W.contents writer.new)) }
     {
         self.replies.clear();
@@ -88,8 +88,8 @@ impl Input {
             self.new.begun.items self.new.lines answering.new out)) }
         ensures err { IfErr result (λ fault.
             Readied self.old.replies.items self.new.replies.items (λ out.
-            Stopped S.replies fault self.old.begun.items self.old.lines answering.old
-            bytes.now out)) }
+            StoppedAt S.replies fault self.old.begun.items self.old.lines answering.old
+            bytes.now answering.new out)) }
     {
         let mut rest = bytes;
         while let Some(end) = memchr(b'\n', rest) {
@@ -107,8 +107,8 @@ impl Input {
             (part.now ++ 10 ∷ []) self.new.begun.items self.new.lines answering.new out)) }
         ensures err { IfErr result (λ fault.
             Readied self.old.replies.items self.new.replies.items (λ out.
-            Stopped S.replies fault self.old.begun.items self.old.lines answering.old
-            (part.now ++ 10 ∷ []) out)) }
+            StoppedAt S.replies fault self.old.begun.items self.old.lines answering.old
+            (part.now ++ 10 ∷ []) answering.new out)) }
     {
         if self.begun.is_empty() {
             return self.take_whole_line(answering, part);
@@ -141,8 +141,8 @@ impl Input {
             (line.now ++ 10 ∷ []) self.new.begun.items self.new.lines answering.new out)) }
         ensures err { IfErr result (λ fault.
             Readied self.old.replies.items self.new.replies.items (λ out.
-            Stopped S.replies fault self.old.begun.items self.old.lines answering.old
-            (line.now ++ 10 ∷ []) out)) }
+            StoppedAt S.replies fault self.old.begun.items self.old.lines answering.old
+            (line.now ++ 10 ∷ []) answering.new out)) }
     {
         self.check_part(line)?;
         if self.lines == LINES_LIMIT {
@@ -194,6 +194,8 @@ impl Input {
             out answering.new)) }
         ensures fault { IfErr result (λ fault. fault ≡ ServeFault.Memory) }
         ensures err { IfErr result (λ _. self.new.replies.items ≡ self.old.replies.items) }
+        ensures left { IfErr result (λ _.
+            GotNoReply S.replies answering.old (line_begun self.old.lines self.old.begun.items []) answering.new) }
     {
         if self.begun.is_empty() {
             return Ok(());
@@ -220,6 +222,8 @@ fn answer_piece<S: Answering>(
         IsReplies S.replies answering.old (lines_from count (piece.now ∷ [])) out answering.new)) }
     ensures fault { IfErr result (λ fault. fault ≡ ServeFault.Memory) }
     ensures err { IfErr result (λ _. replies.new.items ≡ replies.old.items) }
+    ensures left { IfErr result (λ _.
+        GotNoReply S.replies answering.old (line_begun count piece.now []) answering.new) }
 {
     let line = without_return(piece);
     if line.is_empty() {

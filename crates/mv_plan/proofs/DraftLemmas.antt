@@ -1,6 +1,7 @@
 -- Lemmas on plans that grow.
 use Rattle.std.proofs.Common.{inl, inr, ◌≡◌, ℕ, ◌<◌, List, [], ◌∷◌, ◌++◌, ap, sym, ◌∙◌, subst, arith, length, map, slice_index_or, slice_set}
 use Rattle.std.specs.Prelude.{OnOk, OnErr, Result, Ok, Err}
+use Rattle.std.proofs.Math.Seq.{map-set_same}
 use Rattle.std.specs.declared.alloc.Global.{Global}
 use Rattle.std.specs.declared.vec.Vec.{Vec}
 use Rattle.std.proofs.lemmas.Bool.Decides.{eqb_tells}
@@ -48,6 +49,14 @@ module _ {E : Type 0} (parties : List (List (List ℕ))) (limits : Bounds) (work
       ap (λ (lists : List (List Message)). record (parts_in parties limits work) { work = lists }) (lists_more work party message was now below found more)
       ∙ ap (λ (p : Parts). with_message p party message) same
   grown (Err e) plan same below more = tt
+
+  -- where that list stayed as it was, so did the plan
+  pub not_grown : (r : Result (Unit {0}) E) (plan : Parts) → parts_in parties limits work ≡ plan → OnErr r (now.items ≡ was.items)
+      → OnErr r (parts_in parties limits (slice_set work party now) ≡ plan)
+  not_grown (Ok done) plan same kept = tt
+  not_grown (Err e) plan same kept =
+      ap (λ (lists : List (List Message)). record (parts_in parties limits work) { work = lists })
+      (map-set_same items_of work party now was (kept ∙ ap items_of found)) ∙ same
 
   -- it can be run, where the message is no answer
   pub grown_can_run : (r : Result (Unit {0}) E) → CanRun (parts_in parties limits work) → party < length work → answers_in (message ∷ []) ≡ []

@@ -58,7 +58,8 @@ impl Draft {
     pub(crate) fn add(&mut self, party: Party, message: &Shared<Message>) -> Result<(), AllocError>
         requires party { party < length self.old.parties }
         requires own { answers_in (message.now ∷ []) ≡ [] }
-        ensures { OnOk result (self.new ≡ with_message self.old party message.now) }
+        ensures ok { OnOk result (self.new ≡ with_message self.old party message.now) }
+        ensures err { OnErr result (self.new ≡ self.old) }
     {
         add_to(&mut self.work[party as usize], message)
     }
@@ -71,7 +72,8 @@ impl Draft {
         key: &PackKey,
     ) -> Result<(), AllocError>
         requires party { party < length self.old.parties }
-        ensures { OnOk result (self.new ≡ with_message self.old party (Message.Query key.now)) }
+        ensures ok { OnOk result (self.new ≡ with_message self.old party (Message.Query key.now)) }
+        ensures err { OnErr result (self.new ≡ self.old) }
     {
         let query = Shared::new(alloc, Message::Query { key: key.copy() })?;
         self.add(party, &query)

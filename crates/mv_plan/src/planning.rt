@@ -1,6 +1,6 @@
 //! What a line adds to a plan.
 
-ghost use Rattle.std.specs.Prelude.{◌≡◌, Ok, Some, IfOk, option_map, string_bytes};
+ghost use Rattle.std.specs.Prelude.{◌≡◌, Ok, Some, IfOk, OnErr, option_map, string_bytes};
 ghost use Rattle.serde_json.specs.Written.{compact_text};
 ghost use Rattle.mv_lines.specs.Openings.{map_err, code_of};
 ghost use Rattle.mv_lines.specs.ReplyLines.{refused, refusal_value};
@@ -24,8 +24,9 @@ pub(crate) fn plan_line(
     draft: &mut Option<Draft>,
     line: &[u8],
 ) -> Result<Option<String>, AllocError>
-    ensures { IfOk result (λ refusal. planned_by (option_map string_bytes refusal) draft.new
+    ensures ok { IfOk result (λ refusal. planned_by (option_map string_bytes refusal) draft.new
         ≡ plan_line (Ok draft.old) line.now) }
+    ensures err { OnErr result (draft.new ≡ draft.old) }
 {
     match Request::read_in(alloc, scratch, line) {
         Ok(request) => plan_request(alloc, draft, request),
@@ -40,8 +41,9 @@ fn plan_request(
     draft: &mut Option<Draft>,
     request: Request,
 ) -> Result<Option<String>, AllocError>
-    ensures { IfOk result (λ refusal. planned_by (option_map string_bytes refusal) draft.new
+    ensures ok { IfOk result (λ refusal. planned_by (option_map string_bytes refusal) draft.new
         ≡ plan_request draft.old request) }
+    ensures err { OnErr result (draft.new ≡ draft.old) }
 {
     match request {
         Request::Open {
@@ -73,8 +75,9 @@ fn begin(
     lists: MarketLists,
     limits: Result<Limits, OpenFault>,
 ) -> Result<Option<String>, AllocError>
-    ensures { IfOk result (λ refusal. planned_by (option_map string_bytes refusal) draft.new
+    ensures ok { IfOk result (λ refusal. planned_by (option_map string_bytes refusal) draft.new
         ≡ begins (map_err OpenFault.Parties (parties_of lists)) limits) }
+    ensures err { OnErr result (draft.new ≡ draft.old) }
 {
     let parties = match parties_of(alloc, lists) {
         Ok(parties) => parties,
@@ -92,8 +95,9 @@ fn begin(
 
 /// Plans a step: C3, S1, S2.
 fn plan_step(alloc: Global, draft: &mut Draft, step: &Step) -> Result<Option<String>, AllocError>
-    ensures { IfOk result (λ refusal. planned_by (option_map string_bytes refusal) (Some draft.new)
+    ensures ok { IfOk result (λ refusal. planned_by (option_map string_bytes refusal) (Some draft.new)
         ≡ plan_step draft.old step.now) }
+    ensures err { OnErr result (draft.new ≡ draft.old) }
 {
     match step {
         Step::Submit { from, message } => {

@@ -1,10 +1,10 @@
 -- What is written of an event.
-use Rattle.std.proofs.Common.{◌≡◌, ℕ, List, length, subst, refl, IfOk, Bool, is_some, option_map, Option, Some, None, Result, Ok, Err}
+use Rattle.std.proofs.Common.{◌≡◌, ℕ, List, length, subst, refl, inr, IfOk, IfErr, Bool, is_some, option_map, Option, Some, None, Result, Ok, Err}
 use Rattle.mv_message.specs.declared.message.Message.{Message}
 use Rattle.mv_hub.specs.declared.entry.Entry.{Entry}
 use Rattle.mv_hub.specs.declared.entry.Entry.TheVariants as entries
 use Rattle.mv_lines.specs.Lines.{line_at}
-use Rattle.mv_lines.specs.Replies.{Readied, said}
+use Rattle.mv_lines.specs.Replies.{GotNoReply, Readied, said}
 use Rattle.mv_lines.specs.Sessions.{Open, IsTaken}
 use Rattle.mv_lines.specs.declared.answered.Answered.{Answered}
 use Rattle.mv_trail.specs.Events.{Event, event_of, last_of, routed, routing}
@@ -24,6 +24,13 @@ pub event_answers : {E : Type 0} (r : Result Bool E) (old new : List ℕ) (line 
 event_answers (Ok spoken) old new line before bytes answered after taken tells =
     (text_or_none line (event_of answered after), tells.1, (answered, taken, said_event line spoken (event_of answered after) tells.0))
 event_answers (Err e) old new line before bytes answered after taken tells = tt
+
+-- where there was no memory for it, the line was taken all the same
+pub event_unanswered : {E : Type 0} (r : Result Bool E) (line : ℕ) (before : Open) (bytes : List ℕ) (answered : Answered) (after : Open)
+    → IsTaken before bytes answered after → IfErr r (λ _. GotNoReply IsEvent before (line_at line bytes) after)
+event_unanswered (Ok spoken) line before bytes answered after taken = tt
+event_unanswered (Err e) line before bytes answered after taken =
+    inr (option_map (event_text line) (event_of answered after), (answered, taken, refl))
 
 module _ {E : Type 0} (r : Result Bool E) (old new : List ℕ) (line : ℕ) where
   -- an event that there is was written

@@ -1,27 +1,27 @@
 use Rattle.std.proofs.KnownBytes.{Consumes-kept, Consumes-whole, Consumes-trans, Appends-trans}
-use Rattle.std.proofs.lemmas.Result.{err_from_is_err_and, MatchResult-weaker}
+use Rattle.std.proofs.lemmas.Result.{err_from_is_err_and, IfErr-weaker, MatchResult-weaker}
 use Rattle.mv_lines.proofs.InputLemmas.{taken_more}
-use Rattle.mv_lines.proofs.ServedLemmas.{unread, halted_later, halted_last, served_whole, read_none}
+use Rattle.mv_lines.proofs.ServedLemmas.{unread, unread_at, halted_later, halted_last, ended_input, served_whole, read_none}
 use Rattle.mv_lines.proofs.engine.answer_lines.Goals as goal
 
 -- the read failed
-pub returns-in_err-count-clause-err : goal.returns-in_err-count-clause-err
-returns-in_err-count-clause-err g c =
+pub returns-in_err-count-clause-ended : goal.returns-in_err-count-clause-ended
+returns-in_err-count-clause-ended g c =
     let p = err_from_is_err_and c.from_residual.result c.from_residual.ensures.1 in
     rw (p.1, p.2, c.in_err-count.ensures.fault) (
       c.loop.invariant.0,
       Consumes-kept _ _ _ _ c.loop.invariant.1 c.in_err-count.ensures.err,
-      unread g.S.Answering.replies _ _ _ _ _ _ _ _ c.loop.invariant.3 c.loop.invariant.4 c.loop.input.few c.loop.input.not_behind c.loop.input.short,
+      unread_at g.S.Answering.replies _ _ _ _ _ _ _ _ c.loop.invariant.3 c.loop.invariant.4 c.loop.input.few c.loop.input.not_behind c.loop.input.short,
     )
 
 -- the bytes that were read stopped it
-pub returns-in_err-answer_block-clause-err : goal.returns-in_err-answer_block-clause-err
-returns-in_err-answer_block-clause-err g c =
+pub returns-in_err-answer_block-clause-ended : goal.returns-in_err-answer_block-clause-ended
+returns-in_err-answer_block-clause-ended g c =
     let p = err_from_is_err_and c.from_residual-in_err-answer_block.result c.from_residual-in_err-answer_block.ensures.1 in
     rw (p.1, p.2) (
       _,
       Consumes-trans _ _ _ _ _ c.loop.invariant.1 c.in_ok-count.ensures.read,
-      halted_later g.S.Answering.replies _ _ _ _ _ _ _ _ _ _ _ c.loop.invariant.3 c.loop.invariant.4 c.in_err-answer_block.ensures.err,
+      halted_later g.S.Answering.replies _ _ _ _ _ _ _ _ _ _ _ _ c.loop.invariant.3 c.loop.invariant.4 c.in_err-answer_block.ensures.err,
     )
 
 -- one more block is answered
@@ -43,15 +43,41 @@ returns-then-count-eq0-clause-ok g c =
     (served_whole g.S.Answering.replies _ _ _ _ _ _ _ _ _ _ _ c.loop.invariant.3 c.loop.invariant.4 c.loop.input.few c.loop.input.not_behind c.loop.input.short last.1 last.2)) (λ e t. t)
 
 -- the input ended, and the answering of the last line failed
-pub returns-then-count-eq0-clause-err : goal.returns-then-count-eq0-clause-err
-returns-then-count-eq0-clause-err g c =
+pub returns-then-count-eq0-clause-ended : goal.returns-then-count-eq0-clause-ended
+returns-then-count-eq0-clause-ended g c =
     MatchResult-weaker c.answer_last.result c.answer_last.ensures.err (λ u t. t) (λ fault halted. (
       c.loop.invariant.0,
       read_none _ _ _ _ _ _ c.loop.invariant.1 c.in_ok-count.ensures.read c.if-count-eq0.true,
-      halted_last g.S.Answering.replies fault _ _ _ _ _ _ _ _ _ c.loop.invariant.3 c.loop.invariant.4 halted,
+      halted_last g.S.Answering.replies fault _ _ _ _ _ _ _ _ _ _ c.loop.invariant.3 c.loop.invariant.4 halted,
     ))
 
 -- no more reads are made
+pub returns-clause-ended : goal.returns-clause-ended
+returns-clause-ended g c = (
+  c.loop.invariant.0,
+  c.loop.invariant.1,
+  unread_at g.S.Answering.replies _ _ _ _ _ _ _ _ c.loop.invariant.3 c.loop.invariant.4 c.loop.input.few c.loop.input.not_behind c.loop.input.short,
+)
+
+-- and so it is known what was written
+pub returns-in_err-count-clause-err : goal.returns-in_err-count-clause-err
+returns-in_err-count-clause-err g c =
+    let p = err_from_is_err_and c.from_residual.result c.from_residual.ensures.1 in
+    rw (p.1, p.2, c.in_err-count.ensures.fault) (
+      c.loop.invariant.0,
+      Consumes-kept _ _ _ _ c.loop.invariant.1 c.in_err-count.ensures.err,
+      unread g.S.Answering.replies _ _ _ _ _ _ _ _ c.loop.invariant.3 c.loop.invariant.4 c.loop.input.few c.loop.input.not_behind c.loop.input.short,
+    )
+
+pub returns-in_err-answer_block-clause-err : goal.returns-in_err-answer_block-clause-err
+returns-in_err-answer_block-clause-err g c =
+    IfErr-weaker c.from_residual-in_err-answer_block.result _ _ (λ fault ended. ended_input g.S.Answering.replies fault _ _ _ _ _ _ ended)
+    (returns-in_err-answer_block-clause-ended g c)
+
+pub returns-then-count-eq0-clause-err : goal.returns-then-count-eq0-clause-err
+returns-then-count-eq0-clause-err g c =
+    IfErr-weaker c.answer_last.result _ _ (λ fault ended. ended_input g.S.Answering.replies fault _ _ _ _ _ _ ended) (returns-then-count-eq0-clause-ended g c)
+
 pub returns-clause-err : goal.returns-clause-err
 returns-clause-err g c = (
   c.loop.invariant.0,

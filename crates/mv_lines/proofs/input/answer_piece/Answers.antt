@@ -1,5 +1,6 @@
 use Rattle.std.proofs.Common.{rules, arith, ◌≡◌, ◌≢◌, length, sym, ◌∙◌}
 use Rattle.std.specs.Io.BufRead.{strip_last}
+use Rattle.mv_lines.proofs.InputLemmas.{reply_dropped}
 use Rattle.mv_lines.proofs.RepliesLemmas.{nothing_added, reply_added, none_said, length_zero, length_none}
 use Rattle.mv_lines.proofs.input.answer_piece.Goals as goal
 
@@ -27,3 +28,9 @@ returns-clause-ok g c =
     let stripped : line ≡ strip_last 13 c.args.piece.now = search rules in
     let some : length line ≢ 0 = search rules in
     reply_added g.S.Answering.replies c.args.count _ c.args.replies.now.items _ _ c.args.piece.now line c.args.answering.now _ (search rules) stripped (length_none line some) c.in_ok-answer.ensures.ok (search rules)
+
+-- there is a reply, and no memory for its line feed
+pub returns-then-is_err-clause-left : goal.returns-then-is_err-clause-left
+returns-then-is_err-clause-left g c =
+    let stripped : c.without_return-line.result.now ≡ strip_last 13 c.args.piece.now = search rules in
+    reply_dropped g.S.Answering.replies _ c.args.piece.now _ _ _ _ stripped c.in_ok-answer.ensures.ok.2

@@ -7,4 +7,4 @@ pub returns-in_err-put_out-clause-err : goal.returns-in_err-put_out-clause-err
 returns-in_err-put_out-clause-err g c =
     let p = err_from_is_err_and c.from_residual.result c.from_residual.ensures.1 in
     rw (p.1, p.2, c.in_err-put_out.ensures.fault)
-    (last_broken g.S.Answering.replies c.finish-answered.result _ _ _ _ _ _ _ _ c.clear.ensures.items c.args.self.now.few c.args.self.now.not_behind c.args.self.now.short c.finish-answered.ensures.ok c.finish-answered.ensures.err (rw c.as_slice.ensures.value at (c.in_err-put_out.ensures.err)))
+    (last_broken g.S.Answering.replies c.finish-answered.result _ _ _ _ _ _ _ _ c.clear.ensures.items c.args.self.now.few c.args.self.now.not_behind c.args.self.now.short c.finish-answered.ensures.ok c.finish-answered.ensures.err c.finish-answered.ensures.left (rw c.as_slice.ensures.value at (c.in_err-put_out.ensures.err)))

@@ -20,7 +20,7 @@ returns-then-self-eq-LINES_LIMIT-clause-err g c =
     grown_stopped g.S.Answering.replies _ _ _ TooManyLines [] refl
     (none_added _ _ c.in_ok-take_part.ensures.replies)
     (part_taken g.S.Answering.replies _ _ _ _ _ _ c.requires.unended c.args.self.now.few c.in_ok-take_part.ensures.ok c.in_ok-take_part.ensures.lines)
-    (stopped_here g.S.Answering.replies _ _ _ 10 _ TooManyLines c.take_part.new.self.few (omega (arith, c.if-self-eq-LINES_LIMIT.true), omega arith))
+    (stopped_here g.S.Answering.replies _ _ _ 10 _ _ TooManyLines c.take_part.new.self.few (omega (arith, c.if-self-eq-LINES_LIMIT.true), omega arith) refl)
 
 -- the line got no reply
 pub returns-in_err-answer_piece-clause-err : goal.returns-in_err-answer_piece-clause-err
@@ -30,7 +30,7 @@ returns-in_err-answer_piece-clause-err g c =
     (grown_stopped g.S.Answering.replies _ _ _ Memory [] refl
     (none_added _ _ c.in_ok-take_part.ensures.replies)
     (part_taken g.S.Answering.replies _ _ _ _ _ _ c.requires.unended c.args.self.now.few c.in_ok-take_part.ensures.ok c.in_ok-take_part.ensures.lines)
-    (stopped_here g.S.Answering.replies _ _ _ 10 _ Memory c.take_part.new.self.few tt))
+    (stopped_here g.S.Answering.replies _ _ _ 10 _ _ Memory c.take_part.new.self.few tt (rw c.as_slice.ensures.value at c.in_err-answer_piece.ensures.left)))
 
 -- the part is taken, and the line is answered
 pub returns-clause-ok : goal.returns-clause-ok

@@ -21,17 +21,18 @@ returns-then-self-eq-LINES_LIMIT-clause-err g c =
     grown_stopped g.S.Answering.replies _ _ _ TooManyLines [] refl
     (none_added _ _ refl)
     (part_taken g.S.Answering.replies _ _ _ _ _ _ c.requires.unended c.args.self.now.few refl refl)
-    (stopped_here g.S.Answering.replies _ _ _ 10 _ TooManyLines c.args.self.now.few (omega (arith, c.if-self-eq-LINES_LIMIT.true), omega arith))
+    (stopped_here g.S.Answering.replies _ _ _ 10 _ _ TooManyLines c.args.self.now.few (omega (arith, c.if-self-eq-LINES_LIMIT.true), omega arith) refl)
 
 -- the line got no reply
 pub returns-in_err-answer_piece-clause-err : goal.returns-in_err-answer_piece-clause-err
 returns-in_err-answer_piece-clause-err g c =
     let p = err_from_is_err_and c.from_residual-in_err-answer_piece.result c.from_residual-in_err-answer_piece.ensures.1 in
-    rw (p.1, p.2, c.in_err-answer_piece.ensures.fault, c.in_err-answer_piece.ensures.err)
+    let none : c.args.self.now.begun.items ≡ [] = length_zero _ c.requires.begun in
+    rw (p.1, p.2, c.in_err-answer_piece.ensures.fault, c.in_err-answer_piece.ensures.err, none)
     (grown_stopped g.S.Answering.replies _ _ _ Memory [] refl
     (none_added _ _ refl)
-    (part_taken g.S.Answering.replies _ _ _ _ _ _ c.requires.unended c.args.self.now.few refl refl)
-    (stopped_here g.S.Answering.replies _ _ _ 10 _ Memory c.args.self.now.few tt))
+    (part_taken g.S.Answering.replies [] c.args.line.now c.args.line.now _ _ _ c.requires.unended c.args.self.now.few refl refl)
+    (stopped_here g.S.Answering.replies _ _ _ 10 _ _ Memory c.args.self.now.few tt c.in_err-answer_piece.ensures.left))
 
 -- the line is answered
 pub returns-clause-ok : goal.returns-clause-ok

@@ -13,5 +13,5 @@ pub returns-clause-ok : goal.returns-clause-ok
 returns-clause-ok c = (
   [],
   sym (append-nil _),
-  planned_next string_bytes c.self.inside.refusal c.self.inside.draft _ _ c.args.line.now (search rules) c.self.view_is c.in_ok-self-inside.ensures,
+  planned_next string_bytes c.self.inside.refusal c.self.inside.draft _ _ c.args.line.now (search rules) c.self.view_is c.in_ok-self-inside.ensures.ok,
 )

@@ -49,8 +49,8 @@ pub record SeesFront (from : ℕ) (old new : HubEnd) (fault : Option RouteFault)
   pub front : IsFront new.uplinks from message
   pub why : route_fault old.hub from message ≡ fault
 
--- What `route` leaves, by its reply: nothing waited on the uplink where the party may have more routed; a link that has no room has none for the message at the front of the uplink, and want of memory
--- stands in place of its routing alone.
+-- What `route` leaves, by its reply: nothing waited on the uplink where the party may have more routed; a link that has no room has none
+-- for the message at the front of the uplink, and want of memory stands in place of its routing alone.
 abbrev pub Routes : ℕ → HubEnd → HubEnd → Reply → Type 0
 Routes from old new (Routed k reached) = RoutesFront from old new k reached
 Routes from old new (Refused Party) = IsUnchanged old new × (from < length old.hub.parties → ⊥)

@@ -71,8 +71,8 @@ pub record TakesFrame (from : ℕ) (old new : RepoEnd) (reply : Reply) : Type 0 
   pub pushed : sent new.uplink ≡ sent old.uplink ++ option_to_list (answer_by old.site from frame.item (stands_to old.site from frame))
   pub reply_is : reply ≡ reply_to frame.number (taken_by old.site from frame.item (stands_to old.site from frame))
 
--- What `apply` leaves, by its reply: no frame is taken where there is no such party, where the link was empty, and where the
--- party refuses the one at the front, by whether the uplink was full. Want of memory never stands in place of an old frame or one behind a gap.
+-- What `apply` leaves, by its reply: no frame is taken where there is no such party, where the link was empty, and where the party
+-- refuses the one at the front, by whether the uplink was full. Want of memory never stands in place of an old frame or one behind a gap.
 abbrev pub Applies : ℕ → RepoEnd → RepoEnd → Reply → Type 0
 Applies from old new (Refused Party) = IsRepoUnchanged old new × (from < old.site.parties → ⊥)
 Applies from old new (Refused WireEmpty) = IsRepoUnchanged old new × (from < old.site.parties) × IsEmptyFrom new.inlets from

@@ -1,7 +1,7 @@
 -- Lemmas on an input that was taken, and on what was shown of it.
-use Rattle.std.proofs.Common.{◌≡◌, ◌≢◌, ℕ, List, [], ◌∷◌, ◌++◌, refl, ap, sym, ◌∙◌, subst, arith, inl, inr, ◌⊎◌}
+use Rattle.std.proofs.Common.{◌≡◌, ◌≢◌, ℕ, List, [], ◌∷◌, refl, ap, sym, ◌∙◌, subst, arith, inl, inr}
 use Rattle.std.specs.Prelude.{IfSome, Option, Some, None}
-use Rattle.std.specs.Io.KnownBytes.{Appends, Consumes}
+use Rattle.std.specs.Io.KnownBytes.{Consumes}
 use Rattle.std.proofs.KnownBytes.{Appends-nil}
 use Rattle.mv_lines.specs.declared.fault.ServeFault.{ServeFault}
 use Rattle.mv_lines.specs.declared.fault.ServeFault.TheVariants.{Read, Write, Memory, TooManyLines, LineTooLong, Start}
@@ -10,7 +10,7 @@ use Rattle.mv_lines.specs.Replies.{AreReplies, said_texts, text_lines}
 use Rattle.mv_lines.specs.Served.{Served, Stopped, Ended}
 use Rattle.mv_lines.specs.Sessions.{Open}
 use Rattle.mv_show.specs.Blocks.{EndsWriting}
-use Rattle.mv_show.specs.Showing.{IsPassed, Lead, LeadsTo, Untaken, NotShown, ShownInPart, Unshown}
+use Rattle.mv_show.specs.Showing.{IsPassed, Lead, LeadsTo, Untaken, ShownInPart, Unshown}
 
 -- lines to which nothing is written lead on
 lead : (before : Open) (lines : List Line) (texts : List (Option (List ℕ))) (after : Open) → AreReplies IsPassed before lines texts after → Lead before lines after

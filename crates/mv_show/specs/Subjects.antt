@@ -1,5 +1,5 @@
 -- What the log of a repository names, and in which order.
-use Rattle.std.specs.Prelude.{ℕ, List, [], ◌∷◌, ◌++◌, map, Bool, true, false, bytes_eq}
+use Rattle.std.specs.Prelude.{List, [], ◌∷◌, ◌++◌, map, Bool, true, false, bytes_eq}
 use Rattle.std.specs.List.{flat_map}
 use Rattle.mv_pack.specs.Keys.{is_same_pack, is_same_batch, pack_key}
 use Rattle.mv_message.specs.declared.message.Message.{Message}

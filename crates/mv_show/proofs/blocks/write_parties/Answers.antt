@@ -1,6 +1,6 @@
 use Rattle.std.proofs.Common.{◌≡◌, ◌<◌, ◌∙◌, ap, refl, length, arith}
 use Rattle.mv_show.specs.Shown.{party_values}
-use Rattle.mv_show.proofs.BlockLemmas.{err_always, number_next, number_part, number_stop}
+use Rattle.mv_show.proofs.BlockLemmas.{err_always, number_next, number_part}
 use Rattle.mv_show.proofs.blocks.write_parties.Goals as goal
 
 pub returns-in_err-write_party-clause-err : goal.returns-in_err-write_party-clause-err

@@ -1,6 +1,5 @@
-use Rattle.std.proofs.Common.{◌≡◌, ◌∙◌, ap, ◌++◌, flat_map}
 use Rattle.std.specs.List.{range_with_len}
-use Rattle.mv_show.specs.Shown.{link_values, lines_text}
+use Rattle.mv_show.specs.Shown.{link_values}
 use Rattle.mv_show.proofs.BlockLemmas.{text_next}
 use Rattle.mv_show.proofs.PlaceLemmas.{range_next}
 use Rattle.mv_show.proofs.link_lines.append_links.Goals as goal

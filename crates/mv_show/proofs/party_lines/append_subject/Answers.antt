@@ -1,4 +1,3 @@
-use Rattle.std.proofs.Common.{sym}
 use Rattle.mv_show.proofs.LineLemmas.{own_values}
 use Rattle.mv_show.proofs.party_lines.append_subject.Goals as goal
 

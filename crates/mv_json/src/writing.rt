@@ -14,7 +14,9 @@ use json::Writer;
 use mv_message::Message;
 use serde_json::Value;
 use std::alloc::{AllocError, Global};
-use std::mem;
+
+/// How many bytes most messages take; a longer one makes its buffer grow.
+const USUAL_LEN: usize = 512;
 
 /// The JSON value of a message, of version 2 where it could not say all in version 1. The only refusal is M9, for want of
 /// memory.
@@ -36,14 +38,10 @@ pub fn write_text(alloc: Global, message: &Message, out: &mut Vec<u8>) -> Result
     ensures utf8 { OnOk result (IsUtf8 (compact_text (value_of message.now))) }
     ensures err { OnErr result (out.new.items ≡ out.old.items) }
 {
-    let len = out.len();
-    let mut writer = Writer::new(mem::replace(out, Vec::new(alloc)));
-    let written = put_message(&mut writer, message);
-    *out = writer.into_inner();
-    if written.is_err() {
-        out.truncate(len);
-    }
-    written
+    // A writer makes room ahead of what it holds, so it begins with nothing.
+    let mut writer = Writer::new(Vec::with_capacity(alloc, USUAL_LEN)?);
+    put_message(&mut writer, message)?;
+    out.extend_from_slice(writer.into_inner().as_slice())
 }
 
 /// Writes the value of a message, with its keys in byte order, as a value of what a writer has begun. The only refusal is want of

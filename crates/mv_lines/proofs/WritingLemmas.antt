@@ -1,6 +1,6 @@
 -- What is written of a reply's object is its canonical text.
-use Rattle.std.proofs.Common.{◌≡◌, ℕ, ◌≤◌, List, [], ◌∷◌, ◌++◌, refl, ap, map, flat_map, length, take, take_all, take_at, decimal, codes, sym, ◌∙◌, append_assoc, true≢false}
-use Rattle.std.specs.Prelude.{IfOk, OnOk, Some, None, Result, Ok, Err, is_err, false, true}
+use Rattle.std.proofs.Common.{◌≡◌, ℕ, ◌≤◌, List, [], ◌∷◌, ◌++◌, refl, ap, map, flat_map, length, take, take_all, decimal, codes, sym, ◌∙◌, append_assoc}
+use Rattle.std.specs.Prelude.{IfOk, OnOk, Some, None, Result, Ok, Err}
 use Rattle.json.specs.Token.{Token, begin_array, end_array, begin_object, end_object, key, string, number, boolean, null}
 use Rattle.json.specs.Tree.{json_tokens, items_tokens, members_tokens}
 use Rattle.json.specs.Print.{print}
@@ -15,7 +15,7 @@ use Rattle.mv_lines.specs.Meanings.{markets_value}
 use Rattle.mv_lines.specs.declared.members.Member.{Member}
 use Rattle.mv_lines.specs.declared.members.Member.TheVariants as members
 use Rattle.mv_lines.specs.ReplyLines.{wholes}
-use Rattle.mv_lines.specs.Writing.{change_object, change_value, national_value, tokens_of, wholes_tokens, member_tokens, members_of, Appended}
+use Rattle.mv_lines.specs.Writing.{change_object, change_value, national_value, tokens_of, wholes_tokens, member_tokens, members_of}
 
 -- the token of a whole number
 abbrev pub whole_token : ℕ → Token
@@ -146,17 +146,3 @@ module _ {E : Type 0} where
       closed ∙ ap (λ l. l ++ end_object ∷ []) before ∙ append_assoc old _ _
       ∙ ap (λ l. old ++ l) (ap (λ l. begin_object ∷ (flat_map member_tokens l ++ end_object ∷ [])) (take_all i ms all) ∙ sym (object_is ms))
   object_closed (Err e) ms i old mid new all before closed = tt
-
-  -- a value was written behind what a buffer held
-  pub appended : (r : Result (Unit {0}) E) (kept out before : List ℕ) (old new : List Token) (value : Data) → is_err r ≡ false
-      → out ≡ before ++ print new → before ≡ kept → old ≡ [] → IfOk r (λ _. new ≡ old ++ tokens_of value)
-      → Appended r kept out value
-  appended (Ok u) kept out before old new value fine whole same none added =
-      whole ∙ ap (λ l. l ++ print new) same ∙ ap (λ l. kept ++ l) (text_written new value (rw none at added))
-  appended (Err e) kept out before old new value fine whole same none added = absurd (true≢false fine)
-
-  -- what was written behind it is cut off
-  pub cut_off : (r : Result (Unit {0}) E) (kept out before cut more : List ℕ) (n : ℕ) (value : Data) → is_err r ≡ true
-      → cut ≡ take n out → n ≡ length kept → out ≡ before ++ more → before ≡ kept → Appended r kept cut value
-  cut_off (Ok u) kept out before cut more n value fails is len whole same = absurd (true≢false (sym fails))
-  cut_off (Err e) kept out before cut more n value fails is len whole same = rw (is, whole, same) (take_at kept more n (sym len))

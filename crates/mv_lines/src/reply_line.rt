@@ -14,7 +14,9 @@ use mv_machine::{Refusal, Reply};
 use mv_pack::PackFault;
 use mv_repository::{Effect, Joint, Verdict};
 use std::alloc::{AllocError, Global};
-use std::mem;
+
+/// How many bytes most replies take; a longer one makes its buffer grow.
+const USUAL_LEN: usize = 256;
 
 /// What answers a line. It is written as one JSON object.
 pub(crate) trait ReplyLine {
@@ -35,14 +37,10 @@ pub(crate) fn append<T: ReplyLine>(
 ) -> Result<(), AllocError>
     ensures { Appended result out.old.items out.new.items (T.value reply.now) }
 {
-    let kept = out.len();
-    let mut writer = Writer::new(mem::replace(out, Vec::new(alloc)));
-    let written = reply.write(&mut writer);
-    *out = writer.into_inner();
-    if written.is_err() {
-        out.truncate(kept);
-    }
-    written
+    // A writer makes room ahead of what it holds, so it begins with nothing.
+    let mut writer = Writer::new(Vec::with_capacity(alloc, USUAL_LEN)?);
+    reply.write(&mut writer)?;
+    out.extend_from_slice(writer.into_inner().as_slice())
 }
 
 /// The text of the reply to a step.

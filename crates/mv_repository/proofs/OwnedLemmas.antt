@@ -8,11 +8,6 @@ use Rattle.mv_repository.specs.declared.slot.Slot.TheVariants.{Own}
 use Rattle.mv_repository.specs.Shelf.{IsShelf}
 use Rattle.mv_repository.specs.Track.{Kept}
 
--- a track stands in a slot
-abbrev pub is_own : Option Slot → Bool
-is_own (Some (Own number)) = true
-is_own _ = false
-
 -- the number of the track in a slot
 abbrev pub number_in : Option Slot → ℕ
 number_in (Some (Own number)) = number

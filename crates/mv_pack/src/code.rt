@@ -12,10 +12,11 @@ ghost use Rattle.std.specs.List.{position_from};
 ghost use Rattle.mv_pack.specs.Code.{is_code_character, is_zero, first_wrong, filled_up, most_code_bytes, read_code, text_before, IsCode};
 
 use crate::PackFault;
+use crate::ascii::text_of;
 use std::cmp::Ordering;
+use std::fmt;
 use std::hash::{Hash, Hasher};
 use std::marker::{Model, PhantomData};
-use std::{fmt, str};
 
 /// The most bytes of a serial, batch or national number.
 pub const MOST_CODE_BYTES: usize = 20;
@@ -95,10 +96,7 @@ impl<K> Code<K> {
     pub fn as_str(&self) -> &str
         ensures { result.now ≡ self.now }
     {
-        let Ok(text) = str::from_utf8(text_before(&self.bytes)) else {
-            unreachable!();
-        };
-        text
+        text_of(text_before(&self.bytes))
     }
 
     /// The same once more; it takes no memory.

@@ -138,6 +138,7 @@ fn count_filled(bytes: &[u8; MOST_CODE_BYTES]) -> usize
 }
 
 /// Whether the text is a code, or its first fault.
+#[inline(always)]
 #[tactic(auto, using(crate::proofs::CodeLemmas::no_wrong_byte))]
 fn check_code(text: &str) -> Result<(), PackFault>
     ensures { MatchResult result (λ _. IsCode text.now) (λ e. read_code text.now ≡ Err e) }

@@ -137,33 +137,34 @@ submissions_are_told party =
     (λ st sound. submissions_told party st sound.well_formed)
 
 -- an event, where there is one, with the number of its line
-numbered : ℕ → Option Event → List (ℕ × Event)
+abbrev numbered : ℕ → Option Event → List (ℕ × Event)
 numbered line event = map (λ it. (line, it)) (option_to_list event)
 
 -- what is written to a line and to others is the text of its event and those of theirs
-text-first : (line : ℕ) (event : Option Event) (texts : List (Option (List ℕ))) (told : List (ℕ × Event)) → said_texts texts ≡ texts_in told
-    → said_texts (option_map (event_text line) event ∷ texts) ≡ texts_in (numbered line event ++ told)
-text-first line None texts told are = are
-text-first line (Some event) texts told are = ap (λ others. event_text line event ∷ others) are
+text-first : (line : ℕ) (event : Option Event) (texts : List (Option (List ℕ))) (others : List (ℕ × Event)) → said_texts texts ≡ texts_in others
+    → said_texts (option_map (event_text line) event ∷ texts) ≡ texts_in (numbered line event ++ others)
+text-first line None texts others are = are
+text-first line (Some event) texts others are = ap (λ rest. event_text line event ∷ rest) are
 
-event-first : (line : ℕ) (event : Option Event) (told : List (ℕ × Event)) → events_in (numbered line event ++ told) ≡ option_to_list event ++ events_in told
-event-first line None told = refl
-event-first line (Some event) told = refl
+event-first : (line : ℕ) (event : Option Event) (others : List (ℕ × Event)) → events_in (numbered line event ++ others) ≡ option_to_list event ++ events_in others
+event-first line None others = refl
+event-first line (Some event) others = refl
 
 -- what is written to lines are the texts of their events
 texts-told : (before : Open) (lines : List Line) (texts : List (Option (List ℕ))) (after : Open) → AreReplies IsEvent before lines texts after
-    → (told : List (ℕ × Event)) × (said_texts texts ≡ texts_in told) × AreTold before (map (λ (line : Line). line.bytes) lines) (events_in told) after
+    → (pairs : List (ℕ × Event)) × (said_texts texts ≡ texts_in pairs) × AreTold before (map (λ (line : Line). line.bytes) lines) (events_in pairs) after
 texts-told before [] [] after are = ([], refl, (refl, are))
 texts-told before [] (text ∷ texts) after are = absurd are
 texts-told before (line ∷ lines) [] after are = absurd are
 texts-told before (line ∷ lines) (text ∷ texts) after (between, (answered, taken, is), rest) =
     let others = texts-told between lines texts after rest in
-    let event = event_of answered between in
-    (numbered line.number event ++ others.0,
-    ap (λ t. said_texts (t ∷ texts)) is ∙ text-first line.number event texts others.0 others.1,
-    (answered, between, events_in others.0, taken, event-first line.number event others.0, others.2))
+    let event = event_of answered between in (
+      numbered line.number event ++ others.0,
+      ap (λ t. said_texts (t ∷ texts)) is ∙ text-first line.number event texts others.0 others.1,
+      (answered, between, events_in others.0, taken, event-first line.number event others.0, others.2),
+    )
 
 pub events_are_written : EventsAreWritten
 events_are_written before lines out after (texts, is, replies) =
-    let told = texts-told before lines texts after replies in
-    (told.0, is ∙ ap text_lines told.1, told.2)
+    let pairs = texts-told before lines texts after replies in
+    (pairs.0, is ∙ ap text_lines pairs.1, pairs.2)

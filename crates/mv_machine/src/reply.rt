@@ -3,7 +3,7 @@
 ghost use Rattle.std.specs.Prelude.{◌≡◌};
 
 use mv_hub::{HubFault, RouteFault};
-use mv_link::SharedReach;
+use mv_link::Reached;
 use mv_message::Party;
 use mv_party::{SiteFault, Taken};
 use mv_repository::{Effect, Joint, Verdict};
@@ -29,7 +29,7 @@ pub enum Reply {
         /// Its number among the messages of the party, counted from one.
         k: u32,
         /// The parties that it was routed to.
-        reach: SharedReach,
+        reach: Reached,
     },
     /// The frame of this number went on the wire.
     Relayed {

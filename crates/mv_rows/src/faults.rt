@@ -21,19 +21,39 @@ fn values_and_messages(rt: HostRuntime) {
     assert!(rt; matches!(Gtin::read("00000000000018"), Err(fault) if says(fault, digit)));
     let character = "the byte at place 2 is none of the 82 characters of codes";
     assert!(rt; matches!(Serial::read("A B"), Err(fault) if says(fault, character)));
-    assert!(rt; says(MessageFault::Missing(Field::Gtin), "the field `gtin` is missing"));
+    assert!(rt;
+        says(
+            MessageFault::Missing(Field::Gtin),
+            "the field `gtin` is missing"
+        )
+    );
     let market = MessageFault::Pack(Field::Markets, PackFault::Market);
-    assert!(rt; says(market, "the field `markets`: a market has two capital letters"));
+    assert!(rt;
+        says(
+            market,
+            "the field `markets`: a market has two capital letters"
+        )
+    );
     let nested = LineFault::Message(MessageFault::Count(Field::Serials));
     assert!(rt; says(nested, "the list `serials` has too few or too many members"));
 }
 
 #[test]
 fn calls(rt: HostRuntime) {
-    assert!(rt; says(LinkFault::Gone, "the frame of this number is kept no longer"));
+    assert!(rt;
+        says(
+            LinkFault::Gone,
+            "the frame of this number is kept no longer"
+        )
+    );
     assert!(rt; says(HubFault::ServedTwice, "a market is served twice"));
     assert!(rt; says(RouteFault::Busy(3), "the link to party 3 has no room"));
     assert!(rt; says(SiteFault::UplinkFull, "the uplink is full"));
     assert!(rt; says(Refusal::Memory, "out of memory"));
-    assert!(rt; says(OpenFault::Limits(LimitsFault::Wire), "the wire is not 1 to 64"));
+    assert!(rt;
+        says(
+            OpenFault::Limits(LimitsFault::Wire),
+            "the wire is not 1 to 64"
+        )
+    );
 }

@@ -1,4 +1,4 @@
-"""What `mvhub canon --check` and `mvhub steps --strict` say, by the plain machine, as docs/FORMATS.md says.
+"""What `mvhub canon`, `mvhub canon --check` and `mvhub steps --strict` say, by the plain machine, as docs/FORMATS.md says.
 
 As a program it checks the messages of its standard input, as `mvhub canon --check` would: `python3 tests/plain_checks.py < FILE`.
 """
@@ -6,12 +6,21 @@ As a program it checks the messages of its standard input, as `mvhub canon --che
 import sys
 
 from plain_lines import Refused, json_of, message, reply_text
+from plain_state import message_value
 
 
 def lines_of(given):
     """The lines of an input that are not empty, each with its number: lines are counted from one, and empty ones too."""
     lines = [line.removesuffix(b"\r") for line in given.split(b"\n")]
     return [(number, line) for number, line in enumerate(lines, start=1) if line]
+
+
+def canonical(line):
+    """The canonical value of the message that a line is, or the refusal of its first fault."""
+    try:
+        return message_value(message(None, json_of(line)))
+    except Refused as refused:
+        return refused.reply
 
 
 def refusals(given):

@@ -1,6 +1,6 @@
 -- The events of a run tell the record, the logs and the submissions.
 use Rattle.std.proofs.Common.{◌≡◌, ℕ, zero, suc, List, [], ◌∷◌, ◌++◌, map, length, Some, None, refl, sym, ap, ◌∙◌, subst, append-nil, append_assoc, get_or}
-use Rattle.std.specs.Prelude.{option_to_list, Option, Result, Ok, Err, MatchResult, replicate, ⊤}
+use Rattle.std.specs.Prelude.{option_map, option_to_list, Option, Result, Ok, Err, MatchResult, replicate, ⊤}
 use Rattle.std.specs.List.{filter_map}
 use Rattle.mv_machine.specs.declared.step.Step.{Step}
 use Rattle.mv_machine.specs.declared.reply.Reply.{Reply}
@@ -18,11 +18,14 @@ use Rattle.mv_lines.specs.declared.open_fault.OpenFault.{OpenFault}
 use Rattle.mv_lines.specs.declared.open_fault.OpenFault.TheVariants as faults
 use Rattle.mv_lines.specs.declared.request.Request.{Request}
 use Rattle.mv_lines.specs.declared.request.Request.TheVariants as requests
+use Rattle.mv_lines.specs.Lines.{Line}
+use Rattle.mv_lines.specs.Replies.{AreReplies, said_texts, text_lines}
 use Rattle.mv_lines.specs.Requests.{read_line}
 use Rattle.mv_lines.specs.Sessions.{Open, IsOpened, IsRequestTaken, IsTaken}
 use Rattle.mv_trail.specs.Events as events
 use Rattle.mv_trail.specs.Events.{Event, event_of, event_of_step}
-use Rattle.mv_trail.specs.Laws.{AreTold, placed, entry_told, applied_told, submission_told, unless_answer, RecordIsTold, LogsAreTold, SubmissionsAreTold}
+use Rattle.mv_trail.specs.Laws.{AreTold, events_in, texts_in, placed, entry_told, applied_told, submission_told, unless_answer, EventsAreWritten, RecordIsTold, LogsAreTold, SubmissionsAreTold}
+use Rattle.mv_trail.specs.Trail.{IsEvent, event_text}
 use Rattle.mv_trail.proofs.StepLemmas.{told, IsTold, step_grows}
 use Rattle.mv_trail.proofs.ToldLemmas.{record_told, log_told, submissions_told}
 
@@ -132,3 +135,36 @@ submissions_are_told party =
     run-told (submission_told party) (λ st. placed 0 (map unless_answer (submissions_of st party)))
     (λ parties limits. ap (λ messages. placed 0 (map unless_answer messages)) (none-at (length parties) party)) (λ parties limits. refl)
     (λ st sound. submissions_told party st sound.well_formed)
+
+-- an event, where there is one, with the number of its line
+abbrev numbered : ℕ → Option Event → List (ℕ × Event)
+numbered line event = map (λ it. (line, it)) (option_to_list event)
+
+-- what is written to a line and to others is the text of its event and those of theirs
+text-first : (line : ℕ) (event : Option Event) (texts : List (Option (List ℕ))) (others : List (ℕ × Event)) → said_texts texts ≡ texts_in others
+    → said_texts (option_map (event_text line) event ∷ texts) ≡ texts_in (numbered line event ++ others)
+text-first line None texts others are = are
+text-first line (Some event) texts others are = ap (λ rest. event_text line event ∷ rest) are
+
+event-first : (line : ℕ) (event : Option Event) (others : List (ℕ × Event)) → events_in (numbered line event ++ others) ≡ option_to_list event ++ events_in others
+event-first line None others = refl
+event-first line (Some event) others = refl
+
+-- what is written to lines are the texts of their events
+texts-told : (before : Open) (lines : List Line) (texts : List (Option (List ℕ))) (after : Open) → AreReplies IsEvent before lines texts after
+    → (pairs : List (ℕ × Event)) × (said_texts texts ≡ texts_in pairs) × AreTold before (map (λ (line : Line). line.bytes) lines) (events_in pairs) after
+texts-told before [] [] after are = ([], refl, (refl, are))
+texts-told before [] (text ∷ texts) after are = absurd are
+texts-told before (line ∷ lines) [] after are = absurd are
+texts-told before (line ∷ lines) (text ∷ texts) after (between, (answered, taken, is), rest) =
+    let others = texts-told between lines texts after rest in
+    let event = event_of answered between in (
+      numbered line.number event ++ others.0,
+      ap (λ t. said_texts (t ∷ texts)) is ∙ text-first line.number event texts others.0 others.1,
+      (answered, between, events_in others.0, taken, event-first line.number event others.0, others.2),
+    )
+
+pub events_are_written : EventsAreWritten
+events_are_written before lines out after (texts, is, replies) =
+    let pairs = texts-told before lines texts after replies in
+    (pairs.0, is ∙ ap text_lines pairs.1, pairs.2)

@@ -1,4 +1,5 @@
--- The laws of the trail: its events are the hub's record, the log of each repository, and what each party submitted.
+-- The laws of the trail: what is written are the events of a run, and these are the hub's record, the log of each repository, and what each
+-- party submitted.
 use Rattle.std.specs.Prelude.{◌≡◌, ◌+◌, ◌==◌, ℕ, List, [], ◌∷◌, ◌++◌, map, if◌then◌else◌, option_to_list, Option, Some, None}
 use Rattle.std.specs.List.{filter_map}
 use Rattle.mv_message.specs.declared.message.Message.{Message}
@@ -7,9 +8,12 @@ use Rattle.mv_hub.specs.declared.entry.Entry.{Entry}
 use Rattle.mv_hub.specs.declared.entry.Entry.TheVariants as entries
 use Rattle.mv_repository.specs.declared.entry.LogEntry.{LogEntry}
 use Rattle.mv_machine.specs.State.{State, submissions_of, log_of}
+use Rattle.mv_lines.specs.Lines.{Line}
+use Rattle.mv_lines.specs.Replies.{IsReplies, text_lines}
 use Rattle.mv_lines.specs.Sessions.{Open, IsTaken}
 use Rattle.mv_lines.specs.declared.answered.Answered.{Answered}
 use Rattle.mv_trail.specs.Events.{Event, submitted, asked, routed, applied, closed, event_of}
+use Rattle.mv_trail.specs.Trail.{IsEvent, event_text}
 
 -- these lines are taken one after another, and these are their events, in order
 abbrev pub AreTold : Open → List (List ℕ) → List Event → Open → Type 0
@@ -17,6 +21,18 @@ AreTold before [] events after = (events ≡ []) × (after ≡ before)
 AreTold before (line ∷ lines) events after =
     (answered : Answered) × (between : Open) × (rest : List Event) × IsTaken before line answered between
     × (events ≡ option_to_list (event_of answered between) ++ rest) × AreTold between lines rest after
+
+-- the events that are each told with the number of a line, and their texts
+abbrev pub events_in : List (ℕ × Event) → List Event
+events_in told = map (λ it. it.1) told
+
+abbrev pub texts_in : List (ℕ × Event) → List (List ℕ)
+texts_in told = map (λ it. event_text it.0 it.1) told
+
+-- What is written to lines by the rule of the trail are the texts of their events, in order, each with a line feed and the number of its line.
+abbrev pub EventsAreWritten : Type 0
+EventsAreWritten = (before : Open) (lines : List Line) (out : List ℕ) (after : Open) → IsReplies IsEvent before lines out after
+    → (told : List (ℕ × Event)) × (out ≡ text_lines (texts_in told)) × AreTold before (map (λ line. line.bytes) lines) (events_in told) after
 
 -- the members of a list, each with its place, counted from one behind so many others
 abbrev pub placed : {A : Type 0} → ℕ → List A → List (ℕ × A)

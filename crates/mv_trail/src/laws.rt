@@ -1,6 +1,13 @@
 //! Laws over the definitions alone: of what the events of a run tell.
 
-ghost use Rattle.mv_trail.specs.Laws.{RecordIsTold, LogsAreTold, SubmissionsAreTold};
+ghost use Rattle.mv_trail.specs.Laws.{EventsAreWritten, RecordIsTold, LogsAreTold, SubmissionsAreTold};
+
+/// What `trail` writes to the lines of a run are the events of what the lines did, each once and in their order: those of which the other
+/// laws speak.
+#[tactic(auto, using(crate::proofs::TrailLemmas::events_are_written))]
+pub fn events_are_written()
+    ensures { EventsAreWritten }
+{}
 
 /// The events `routed` and `closed` of a run are the hub's record: each entry once, in its order, and with its stamp.
 #[tactic(auto, using(crate::proofs::TrailLemmas::record_is_told))]

@@ -21,7 +21,7 @@ pub const TRAIL: &str =
 
 /// What `show` does.
 pub const SHOW: &str =
-    "Takes the lines of steps, and writes what stands behind them: parties, products, recalls, packs and links";
+    "Takes the lines of steps, and writes what stands after them: parties, products, recalls, packs and links";
 
 /// What `canon` does.
 pub const CANON: &str =
@@ -51,11 +51,11 @@ pub const WHERE_TO_READ: &str =
 
 /// What stands below the help of `steps`.
 pub const STEPS_EXAMPLE: &str =
-    "A line, and what comes out:\n  {\"do\":\"open\",\"parties\":[[],[\"FI\"]],\"submissions\":1000,\"uplink\":8,\"window\":8,\"wire\":8}\n  {\"opened\":2}\n\nEvery line and every reply: docs/FORMATS.md. What each means: docs/OPERATING.md. A day of them: docs/TOUR.md.";
+    "A line, and what comes out:\n  {\"do\":\"open\",\"parties\":[[],[\"FI\"]],\"submissions\":1000,\"uplink\":8,\"window\":8,\"wire\":8}\n  {\"opened\":2}\n\nWith --strict, a line that is not taken, and what is told on standard error:\n  {\"do\":\"opne\"}\n  mvhub: lines not taken: 1, the first: 1\n\nEvery line and every reply: docs/FORMATS.md. What each means: docs/OPERATING.md. A day of them: docs/TOUR.md.";
 
 /// What stands below the help of `canon`.
 pub const CANON_EXAMPLE: &str =
-    "A line, and what comes out:\n  {\"serial\":\"S1\",\"gtin\":\"9506000134352\",\"msg\":\"query\"}\n  {\"gtin\":\"09506000134352\",\"msg\":\"query\",\"serial\":\"S1\"}\n\nEvery message, its fields and its faults: docs/FORMATS.md.";
+    "A line, and what comes out:\n  {\"serial\":\"S1\",\"gtin\":\"9506000134352\",\"msg\":\"query\"}\n  {\"gtin\":\"09506000134352\",\"msg\":\"query\",\"serial\":\"S1\"}\n\nWith --check, a message that is refused, and what comes out:\n  {\"gtin\":\"09506000134353\",\"msg\":\"query\",\"serial\":\"S1\"}\n  {\"fault\":\"P3\",\"field\":\"gtin\",\"line\":1,\"refused\":\"M6\"}\n\nEvery message, its fields and its faults: docs/FORMATS.md.";
 
 /// What stands below the help of `trail`.
 pub const TRAIL_EXAMPLE: &str =

@@ -8,10 +8,10 @@ use Rattle.std.proofs.lemmas.Nat.{and_le_l}
 use Rattle.std.proofs.lemmas.Nat.Bits.{bit_at-lt, bit_at-zero, bit_at_and, bit_at_or, bit_at_above, bit_at_set_same, bit_at_set_other, bit_at_clear_same, bit_at_clear_other, bit_at-trailing_zeros}
 use Rattle.std.proofs.lemmas.List.Filters.{length-filter_both}
 use Rattle.std.proofs.lemmas.List.FromFn.{length-range_with_len}
-use Rattle.mv_hub.specs.declared.party_set.PartySet.{PartySet}
+use Rattle.mv_link.specs.declared.party_set.PartySet.{PartySet}
 use Rattle.std.specs.List.Sorted.{IsStrictlyIncreasing}
-use Rattle.mv_hub.specs.PartySets.{those, has_party, parties_in}
-use Rattle.mv_hub.proofs.NumberLemmas.{increasing-those, passing-none, passing-first, those-within}
+use Rattle.mv_link.specs.PartySets.{those, has_party, parties_in}
+use Rattle.mv_link.proofs.NumberLemmas.{increasing-those, passing-none, passing-first, those-within}
 
 both-bits : (x y : ℕ) → x < 2 → y < 2 → (min x y == 1) ≡ ((x == 1) && (y == 1))
 both-bits zero zero p q = refl

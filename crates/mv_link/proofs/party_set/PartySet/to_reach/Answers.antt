@@ -1,6 +1,6 @@
 use Rattle.std.proofs.Common.{ℕ, ◌∙◌, length, ap, arith, length-append, append-nil}
-use Rattle.mv_hub.proofs.PartySetLemmas.{few-in, increasing-in}
-use Rattle.mv_hub.proofs.party_set.PartySet.to_reach.Goals as goal
+use Rattle.mv_link.proofs.PartySetLemmas.{few-in, increasing-in}
+use Rattle.mv_link.proofs.party_set.PartySet.to_reach.Goals as goal
 
 pub push-requires : goal.push-requires
 push-requires c =

@@ -2,36 +2,36 @@
 
 ghost use Rattle.std.specs.Prelude.{◌≡◌, ◌<◌, ◌==◌, ◌&&◌, ◌||◌, ℕ, [], ◌∷◌, not, true, false};
 ghost use Rattle.std.specs.Prelude.{MatchOption};
-ghost use Rattle.mv_hub.specs.PartySets.{has_party, parties_in};
+ghost use Rattle.mv_link.specs.PartySets.{has_party, parties_in};
 
+use crate::{PARTIES_LIMIT, Reach};
 use arrayvec::ArrayVec;
-use mv_link::{PARTIES_LIMIT, Reach};
 use mv_message::Party;
 
 /// A set of parties. It takes no memory.
-#[derive(Clone, Copy)]
-pub(crate) struct PartySet {
+#[derive(Clone, Copy, Debug)]
+pub struct PartySet {
     /// The bit at the place of a party, counted from the lowest, says whether the set has it.
     bits: u64,
 }
 
 impl PartySet {
     /// The set of no party.
-    pub(crate) fn none() -> PartySet
+    pub fn none() -> PartySet
         ensures { (party : ℕ) → has_party result party ≡ false }
     {
         PartySet { bits: 0 }
     }
 
     /// The set of all parties that there can be.
-    pub(crate) fn all() -> PartySet
+    pub fn all() -> PartySet
         ensures { (party : ℕ) → party < PARTIES_LIMIT → has_party result party ≡ true }
     {
         PartySet { bits: u64::MAX }
     }
 
     /// Whether the set has a party.
-    pub(crate) fn has(self, party: Party) -> bool
+    pub fn has(self, party: Party) -> bool
         requires { party < PARTIES_LIMIT }
         ensures { result ≡ has_party self party }
     {
@@ -39,7 +39,7 @@ impl PartySet {
     }
 
     /// The set and a party.
-    pub(crate) fn with(self, party: Party) -> PartySet
+    pub fn with(self, party: Party) -> PartySet
         requires { party < PARTIES_LIMIT }
         ensures { (other : ℕ) → has_party result other
             ≡ (has_party self other || (other == party)) }
@@ -50,7 +50,7 @@ impl PartySet {
     }
 
     /// The set without a party.
-    pub(crate) fn without(self, party: Party) -> PartySet
+    pub fn without(self, party: Party) -> PartySet
         requires { party < PARTIES_LIMIT }
         ensures { (other : ℕ) → has_party result other
             ≡ (has_party self other && not (other == party)) }
@@ -61,7 +61,7 @@ impl PartySet {
     }
 
     /// The parties that one of two sets has.
-    pub(crate) fn or(self, other: PartySet) -> PartySet
+    pub fn or(self, other: PartySet) -> PartySet
         ensures { (party : ℕ) → has_party result party
             ≡ (has_party self party || has_party other party) }
     {
@@ -71,7 +71,7 @@ impl PartySet {
     }
 
     /// The parties that both of two sets have.
-    pub(crate) fn and(self, other: PartySet) -> PartySet
+    pub fn and(self, other: PartySet) -> PartySet
         ensures { (party : ℕ) → has_party result party
             ≡ (has_party self party && has_party other party) }
     {
@@ -81,7 +81,7 @@ impl PartySet {
     }
 
     /// Takes the least party out of the set.
-    pub(crate) fn pop_first(&mut self) -> Option<Party>
+    pub fn pop_first(&mut self) -> Option<Party>
         ensures list { MatchOption result (parties_in self.old ≡ [])
             (λ party. parties_in self.old ≡ party ∷ parties_in self.new) }
         ensures sets { MatchOption result ((party : ℕ) → has_party self.old party ≡ false)
@@ -98,7 +98,7 @@ impl PartySet {
     }
 
     /// The parties of the set, ascending.
-    pub(crate) fn to_reach(self) -> Reach
+    pub fn to_reach(self) -> Reach
         ensures { result ≡ parties_in self }
     {
         let mut found: ArrayVec<Party, PARTIES_LIMIT> = ArrayVec::new();

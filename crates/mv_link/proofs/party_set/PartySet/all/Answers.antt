@@ -1,6 +1,6 @@
 use Rattle.std.proofs.lemmas.Nat.Bits.{bit_at_ones}
-use Rattle.mv_hub.specs.PartySets.{has_party}
-use Rattle.mv_hub.proofs.party_set.PartySet.all.Goals as goal
+use Rattle.mv_link.specs.PartySets.{has_party}
+use Rattle.mv_link.proofs.party_set.PartySet.all.Goals as goal
 
 pub returns : goal.returns
 unfolding has_party

@@ -1,6 +1,6 @@
 use Rattle.std.proofs.Common.{arith}
-use Rattle.mv_hub.proofs.PartySetLemmas.{first-in, rest-in, none-in, empty-has}
-use Rattle.mv_hub.proofs.party_set.PartySet.pop_first.Goals as goal
+use Rattle.mv_link.proofs.PartySetLemmas.{first-in, rest-in, none-in, empty-has}
+use Rattle.mv_link.proofs.party_set.PartySet.pop_first.Goals as goal
 
 pub returns-then-self-eq0-clause-list : goal.returns-then-self-eq0-clause-list
 returns-then-self-eq0-clause-list c = none-in c.args.self.now (omega arith)

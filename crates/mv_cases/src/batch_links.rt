@@ -2,7 +2,7 @@
 
 use crate::message::message_of;
 use mv_hub::{Catalogue, Hub, Parties, RouteFault};
-use mv_link::SharedReach;
+use mv_link::Reached;
 use mv_message::{Message, Shared};
 use mv_pack::{Batch, BatchKey, Gtin};
 use std::alloc::Global;
@@ -59,7 +59,7 @@ fn lengths(hub: &Hub) -> [usize; 2] {
 }
 
 /// What comes of a routing. Where memory was refused nothing has changed, and the message is routed again.
-fn routed_at_last(hub: &mut Hub, message: &Shared<Message>) -> Option<(u32, SharedReach)> {
+fn routed_at_last(hub: &mut Hub, message: &Shared<Message>) -> Option<(u32, Reached)> {
     if hub.record().len() > 1_000_000 {
         return None;
     }
@@ -81,7 +81,7 @@ fn is_routed(hub: &mut Hub, alloc: Global, text: &str, number: u32) -> bool {
         return false;
     };
     match routed_at_last(hub, &message) {
-        Some((k, reach)) => k == number && reach.as_slice().is_empty(),
+        Some((k, reach)) => k == number && reach.to_reach().as_slice().is_empty(),
         None => false,
     }
 }

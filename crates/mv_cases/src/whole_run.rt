@@ -63,7 +63,7 @@ fn replies_at_last(world: &mut World, steps: &[Step]) -> Option<Vec<Reply>> {
 /// Whether a message was routed to Finland's party alone.
 fn is_routed(reply: &Reply, number: u32) -> bool {
     match reply {
-        Reply::Routed { k, reach } => *k == number && reach.as_slice() == [1].as_slice(),
+        Reply::Routed { k, reach } => *k == number && reach.to_reach().as_slice() == [1].as_slice(),
         _ => false,
     }
 }

@@ -106,7 +106,7 @@ fn item_of(alloc: Global, item: &Item) -> Result<Item, AllocError>
     match item {
         Item::Receipt { k, reach, query } => Ok(Item::Receipt {
             k: *k,
-            reach: reach.copy(alloc)?,
+            reach: reach.copy(),
             query: *query,
         }),
         Item::Carried { k, stamp, message } => Ok(Item::Carried {

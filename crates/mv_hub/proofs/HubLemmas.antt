@@ -18,9 +18,9 @@ use Rattle.mv_hub.specs.declared.entry.Entry.{Entry}
 use Rattle.mv_hub.specs.declared.entry.Entry.TheVariants.{Routed, Closed}
 use Rattle.mv_hub.specs.Record.{routed_count, is_open}
 use Rattle.mv_hub.specs.declared.hub.routing.Routing.{Routing}
-use Rattle.mv_hub.specs.declared.party_set.PartySet.{PartySet}
-use Rattle.mv_hub.specs.Targets.{reach, is_reached, is_target, is_query}
-use Rattle.mv_hub.specs.PartySets.{has_party, parties_in, no_parties, is_candidate}
+use Rattle.mv_link.specs.declared.party_set.PartySet.{PartySet}
+use Rattle.mv_hub.specs.Targets.{reach, is_reached, is_target, is_candidate, is_query}
+use Rattle.mv_link.specs.PartySets.{has_party, parties_in, no_parties}
 use Rattle.mv_hub.specs.Links.{gained, link_items}
 use Rattle.std.specs.Option.{option_map}
 use Rattle.mv_hub.specs.Hub.{HubState, new_hub, sent_of, items_on, next_items, is_busy, busy_party, route_fault, with_relayed}
@@ -29,8 +29,8 @@ use Rattle.mv_hub.specs.Kept.{link_at, sent_table, Carries, AreOpen, AreLinks, I
 use Rattle.mv_hub.specs.Gains.{PushesItems, PushesRow, IsRouting, receipt_of, gain_of}
 use Rattle.mv_hub.proofs.LinksLemmas.{room-after}
 use Rattle.mv_hub.proofs.RecordLemmas.{routed_from-append, link_items-push, gained_other, gained-closed}
-use Rattle.mv_hub.proofs.NumberLemmas.{find-none_at, find-those}
-use Rattle.mv_hub.proofs.PartySetLemmas.{listed-in}
+use Rattle.mv_link.proofs.NumberLemmas.{find-none_at, find-those}
+use Rattle.mv_link.proofs.PartySetLemmas.{listed-in}
 
 -- what the hub is seen as
 abbrev pub view : List (List (List ℕ)) → ℕ → List Entry → List (List Sending) → HubState

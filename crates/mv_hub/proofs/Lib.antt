@@ -1,6 +1,4 @@
 pub mod RecordLemmas
-pub mod NumberLemmas
-pub mod PartySetLemmas
 pub mod MarketTableLemmas
 pub mod PartiesLemmas
 pub mod LinksLemmas

@@ -7,8 +7,8 @@ use Rattle.mv_link.specs.declared.item.Item.{Item}
 use Rattle.mv_link.specs.Sending.{Sending, HasRoom, new_sending}
 use Rattle.mv_pairs.specs.Pairs.{put, IsSquare}
 use Rattle.mv_pairs.proofs.PairsLemmas.{cell-put_same, cell-put_other, square-put, put-map_same}
-use Rattle.mv_hub.specs.declared.party_set.PartySet.{PartySet}
-use Rattle.mv_hub.specs.PartySets.{has_party}
+use Rattle.mv_link.specs.declared.party_set.PartySet.{PartySet}
+use Rattle.mv_link.specs.PartySets.{has_party}
 use Rattle.mv_hub.specs.Kept.{link_at}
 use Rattle.mv_hub.specs.Gains.{PushesItems, PushesRow}
 

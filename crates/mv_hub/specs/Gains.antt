@@ -8,7 +8,7 @@ use Rattle.mv_pairs.specs.Pairs.{IsSquare}
 use Rattle.mv_hub.specs.declared.hub.routing.Routing.{Routing}
 use Rattle.mv_hub.specs.Record.{routed_count, is_open}
 use Rattle.mv_hub.specs.Targets.{reach, is_reached, is_query}
-use Rattle.mv_hub.specs.PartySets.{has_party}
+use Rattle.mv_link.specs.PartySets.{has_party}
 use Rattle.mv_hub.specs.Hub.{HubState}
 use Rattle.mv_hub.specs.Kept.{link_at, sent_table}
 

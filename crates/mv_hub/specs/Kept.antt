@@ -7,8 +7,8 @@ use Rattle.mv_link.specs.Sending.{Sending, IsWindow, HasRoom, EndsWithHeld, new_
 use Rattle.mv_pairs.specs.Pairs.{cell, IsSquare}
 use Rattle.mv_hub.specs.declared.entry.Entry.{Entry}
 use Rattle.mv_hub.specs.declared.catalogue.Catalogue.{Catalogue}
-use Rattle.mv_hub.specs.declared.party_set.PartySet.{PartySet}
-use Rattle.mv_hub.specs.PartySets.{has_party, no_parties}
+use Rattle.mv_link.specs.declared.party_set.PartySet.{PartySet}
+use Rattle.mv_link.specs.PartySets.{has_party, no_parties}
 use Rattle.mv_hub.specs.Record.{routed_count, is_open}
 use Rattle.mv_hub.specs.Listing.{distinct}
 use Rattle.mv_hub.specs.Catalogue.{catalogue_of}

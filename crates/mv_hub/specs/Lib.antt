@@ -2,7 +2,6 @@ pub mod Record
 pub mod Parties
 pub mod MarketTables
 pub mod Targets
-pub mod PartySets
 pub mod Links
 pub mod Listing
 pub mod Catalogue

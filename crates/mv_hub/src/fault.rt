@@ -5,27 +5,37 @@ ghost use Rattle.std.specs.Prelude.{◌≡◌};
 use mv_link::LinkFault;
 use mv_message::Party;
 use std::alloc::AllocError;
+use thiserror::Error;
 
 /// Why parties cannot be made, why the hub gives no frame, or why it closes no link.
-#[derive(Clone, Copy, Debug, PartialEq, Eq)]
+#[derive(Clone, Copy, Debug, PartialEq, Eq, Error)]
 pub enum HubFault {
     /// H1: there is no party.
+    #[error("there is no party")]
     NoParty,
     /// H2: there are more than 64 parties.
+    #[error("there are more than 64 parties")]
     TooMany,
     /// H3: a market is served twice.
+    #[error("a market is served twice")]
     ServedTwice,
     /// H4: there is no such party.
+    #[error("there is no such party")]
     StrangerParty,
     /// H6: the link was closed before.
+    #[error("the link was closed before")]
     AlreadyClosed,
     /// H7: memory was refused.
+    #[error("out of memory")]
     Memory,
     /// H8: every item of the link has been relayed.
+    #[error("every item of the link has been relayed")]
     Nothing,
     /// H9: no frame of this number was relayed.
+    #[error("no frame of this number was relayed")]
     NotSent,
     /// H10: the frame of this number is kept no longer.
+    #[error("the frame of this number is kept no longer")]
     Gone,
 }
 
@@ -78,13 +88,16 @@ impl From<AllocError> for HubFault {
 }
 
 /// Why the hub does not route a message.
-#[derive(Clone, Copy, Debug, PartialEq, Eq)]
+#[derive(Clone, Copy, Debug, PartialEq, Eq, Error)]
 pub enum RouteFault {
     /// H4: there is no such party.
+    #[error("there is no such party")]
     StrangerParty,
     /// H5: the link to this party, the least such, has no room for what the message would put on it.
+    #[error("the link to party {0} has no room")]
     Busy(Party),
     /// H7: memory was refused.
+    #[error("out of memory")]
     Memory,
 }
 

@@ -11,10 +11,9 @@ ghost use Rattle.mv_hub.specs.Catalogue.{catalogue_of};
 ghost use Rattle.mv_hub.specs.BatchLinks.{batch_cmp, linked_to, IsDescendant};
 ghost use Rattle.mv_hub.specs.Kept.{Carries};
 
-use crate::party_set::PartySet;
 use crate::trail::AuditTrail;
 use crate::{Catalogue, Entry, Parties};
-use mv_link::Outgoing;
+use mv_link::{Outgoing, PartySet};
 use mv_message::Party;
 use mv_pack::{BatchKey, Gtin, Market};
 use mv_pairs::PairTable;

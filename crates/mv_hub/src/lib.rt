@@ -29,7 +29,6 @@ mod fault;
 mod hub;
 mod market_table;
 mod parties;
-mod party_set;
 mod trail;
 
 pub use catalogue::{Catalogue, MasterProduct, Pairs};

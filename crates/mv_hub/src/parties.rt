@@ -3,12 +3,11 @@
 ghost use Rattle.std.specs.Prelude.{◌≡◌, ◌≤◌, ◌&&◌, ◌==◌, ℕ, map, length, nat_lt, IfOk};
 ghost use Rattle.mv_hub.specs.Fault.{Gives};
 ghost use Rattle.mv_hub.specs.Parties.{parties_of, serving, serves_one, served_by};
-ghost use Rattle.mv_hub.specs.PartySets.{has_party};
+ghost use Rattle.mv_link.specs.PartySets.{has_party};
 
 use crate::HubFault;
 use crate::market_table::MarketTable;
-use crate::party_set::PartySet;
-use mv_link::{PARTIES_LIMIT, Reach};
+use mv_link::{PARTIES_LIMIT, PartySet, Reach};
 use mv_message::{Markets, Party};
 use mv_pack::Market;
 use std::alloc::{AllocError, Global};

@@ -65,6 +65,7 @@ pub(crate) struct Entry {
 }
 
 /// Adds an entry, unless its field was met before or memory is refused, and says whether it did.
+#[inline(always)]
 pub(crate) fn adds(entries: &mut Vec<Entry>, field: Field, part: Part) -> bool
     ensures added { IsTrue result
         → entries.new.items ≡ entries.old.items ++ entry field part ∷ [] }
@@ -102,6 +103,7 @@ pub(crate) fn find(entries: &[Entry], field: Field) -> Option<&Part>
 }
 
 /// Takes out what stands in a field.
+#[inline(always)]
 pub(crate) fn take(entries: &mut Vec<Entry>, field: Field) -> Option<Part>
     ensures { IfSome result (λ part. IsTaken entries.old.items field part entries.new.items) }
 {

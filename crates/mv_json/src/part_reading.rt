@@ -52,6 +52,7 @@ fn take_members(alloc: Global, reader: &mut Reader<'_>) -> Option<Vec<Entry>>
 }
 
 /// Takes the key of a field, or the end of the object, which is none.
+#[inline(always)]
 fn next_field(reader: &mut Reader<'_>) -> Option<Option<Field>>
     ensures { IfSome result (λ next. MatchOption next
         (reader.old ≡ end_object ∷ reader.new)
@@ -126,6 +127,7 @@ fn likely_field(name: &[u8]) -> Option<Field> {
 }
 
 /// Takes what stands in a field of a message, by the field's kind.
+#[inline(always)]
 fn take_part(alloc: Global, reader: &mut Reader<'_>, field: Field) -> Option<Part>
     ensures { IfSome result (λ part. BeginWithPart 2 reader.old part reader.new) }
 {
@@ -361,12 +363,15 @@ fn fitted(mut serials: Vec<Serial>) -> Vec<Serial>
     serials
 }
 
-/// Takes a serial number of a list.
+/// Takes a serial number of a list. The token is taken here, since most of what is read are these.
 fn take_item(reader: &mut Reader<'_>) -> Option<Serial>
     ensures { IfSome result (λ serial.
         BeginWithText reader.old (λ text. read_code text ≡ Ok serial) reader.new) }
 {
-    Serial::read(take_text(reader)?).ok()
+    match reader.next()? {
+        Token::String(text) => Serial::read(text).ok(),
+        _ => None,
+    }
 }
 
 /// Takes a moment.

@@ -8,25 +8,34 @@ use mv_json::MessageFault;
 use mv_message::Text;
 use mv_pack::PackFault;
 use std::alloc::{AllocError, AllocFailed};
+use thiserror::Error;
 
 /// Why a line asks nothing.
-#[derive(Debug, Drop)]
+#[derive(Debug, Drop, Error)]
 pub enum LineFault {
     /// M1: the line is no JSON.
+    #[error("the line is no JSON")]
     NotJson,
     /// M2: the line is no JSON object.
+    #[error("the line is no JSON object")]
     NotObject,
     /// M3: the field is absent.
+    #[error("the field `{name}` is missing", name = .0.as_str())]
     Missing(LineField),
     /// M4: the line has a key that lines of its kind do not have: the first, in byte order.
+    #[error("lines of this kind have no field `{name}`", name = .0.as_str())]
     Unknown(Text),
     /// M5: the field is of another kind.
+    #[error("the field `{name}` is of another kind", name = .0.as_str())]
     Kind(LineField),
     /// M6: a text of the field is no value.
+    #[error("the field `{name}`: {1}", name = .0.as_str())]
     Pack(LineField, PackFault),
     /// The message that the line holds has a fault.
+    #[error(transparent)]
     Message(MessageFault),
     /// Memory was refused.
+    #[error("out of memory")]
     Memory,
 }
 

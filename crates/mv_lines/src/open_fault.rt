@@ -4,19 +4,25 @@ ghost use Rattle.std.specs.Prelude.{◌≡◌};
 
 use mv_hub::HubFault;
 use mv_machine::LimitsFault;
+use thiserror::Error;
 
 /// Why a line is refused by what is open.
-#[derive(Clone, Copy, Debug, PartialEq, Eq)]
+#[derive(Clone, Copy, Debug, PartialEq, Eq, Error)]
 pub enum OpenFault {
     /// C1: no opening has succeeded.
+    #[error("no system is open")]
     NotOpen,
     /// C2: an opening has succeeded.
+    #[error("a system is open already")]
     AlreadyOpen,
     /// H1 to H3: the parties cannot be made.
+    #[error(transparent)]
     Parties(HubFault),
     /// O1 to O4: a limit is out of its range.
+    #[error(transparent)]
     Limits(LimitsFault),
     /// Memory was refused.
+    #[error("out of memory")]
     Memory,
 }
 

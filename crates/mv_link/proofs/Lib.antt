@@ -1,1 +1,3 @@
 pub mod LinkLemmas
+pub mod NumberLemmas
+pub mod PartySetLemmas

@@ -2,3 +2,4 @@ pub mod Frames
 pub mod Receiving
 pub mod Sending
 pub mod Fault
+pub mod PartySets

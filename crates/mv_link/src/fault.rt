@@ -3,17 +3,22 @@
 ghost use Rattle.std.specs.Prelude.{◌≡◌};
 
 use std::alloc::AllocError;
+use thiserror::Error;
 
 /// Why a link gives no frame.
-#[derive(Clone, Copy, Debug, PartialEq, Eq)]
+#[derive(Clone, Copy, Debug, PartialEq, Eq, Error)]
 pub enum LinkFault {
     /// L1: every item that was pushed has been relayed.
+    #[error("every item of the link has been relayed")]
     Nothing,
     /// L2: no frame of this number was relayed.
+    #[error("no frame of this number was relayed")]
     NotSent,
     /// L3: the frame of this number is kept no longer.
+    #[error("the frame of this number is kept no longer")]
     Gone,
     /// L4: memory was refused.
+    #[error("out of memory")]
     Memory,
 }
 

@@ -2,7 +2,7 @@
 
 ghost use Rattle.std.specs.Prelude.{◌≡◌, IfOk, IfErr};
 
-use crate::{LinkFault, SharedReach};
+use crate::{LinkFault, Reached};
 use mv_message::{Message, Shared};
 
 /// What a link carries from its sender.
@@ -13,7 +13,7 @@ pub enum Item {
         /// The number of the message among those of the sender.
         k: u32,
         /// The parties that it was routed to.
-        reach: SharedReach,
+        reach: Reached,
         /// Whether it was a query.
         query: bool,
     },
@@ -30,7 +30,7 @@ pub enum Item {
 
 impl Item {
     /// An item of its own that equals this one. It takes no memory: L4, the only refusal, is where so many hold the
-    /// message, or the reach, that they cannot be counted.
+    /// message that they cannot be counted.
     pub fn copy(&self) -> Result<Item, LinkFault>
         ensures copy { IfOk result (λ item. item ≡ self.now) }
         ensures memory { IfErr result (λ fault. fault ≡ LinkFault.Memory) }
@@ -38,7 +38,7 @@ impl Item {
         match self {
             Item::Receipt { k, reach, query } => Ok(Item::Receipt {
                 k: *k,
-                reach: reach.share()?,
+                reach: reach.copy(),
                 query: *query,
             }),
             Item::Carried { k, stamp, message } => Ok(Item::Carried {

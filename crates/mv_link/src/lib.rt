@@ -8,11 +8,8 @@
 //! A caller that pushes an item where the window has room, proved in the gate (`mv_rows`):
 //!
 //! ```rust
-//! fn push(alloc: Global, link: &mut Outgoing, k: u32) -> bool {
-//!     match receipt(alloc, k) {
-//!         Ok(item) => link.room(1) && link.push(item).is_ok(),
-//!         Err(_) => false,
-//!     }
+//! fn push(link: &mut Outgoing, k: u32) -> bool {
+//!     link.room(1) && link.push(receipt(k)).is_ok()
 //! }
 //! ```
 #![tactic(auto)]
@@ -23,8 +20,9 @@ mod item;
 mod laws;
 mod limits;
 mod outgoing;
+mod party_set;
 mod reach;
-mod shared_reach;
+mod reached;
 
 pub use fault::LinkFault;
 pub use incoming::{Incoming, Look};
@@ -32,5 +30,6 @@ pub use item::{Frame, Item};
 pub use laws::{accepted_is_prefix, one_more_frame_is_looked_at};
 pub use limits::{NUMBER_LIMIT, PARTIES_LIMIT, WINDOW_LEAST, WINDOW_LIMIT};
 pub use outgoing::Outgoing;
+pub use party_set::PartySet;
 pub use reach::Reach;
-pub use shared_reach::SharedReach;
+pub use reached::Reached;

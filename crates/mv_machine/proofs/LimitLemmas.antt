@@ -16,7 +16,7 @@ use Rattle.mv_hub.specs.Hub.{next_entry, is_busy, busy_party, route_fault, items
 use Rattle.mv_hub.specs.Record.{routed_count}
 use Rattle.mv_hub.specs.Links.{gained, link_items}
 use Rattle.mv_hub.proofs.RecordLemmas.{link_items-push, gained_other}
-use Rattle.mv_hub.proofs.NumberLemmas.{find-none_at}
+use Rattle.mv_link.proofs.NumberLemmas.{find-none_at}
 use Rattle.mv_repository.specs.declared.entry.LogEntry.{LogEntry}
 use Rattle.mv_repository.specs.Query.{answer_to}
 use Rattle.mv_party.specs.Site.{SiteState, entry_from, with_submission, with_applied}

@@ -6,6 +6,7 @@ ghost use Rattle.mv_machine.specs.Limits.{is_between};
 use mv_link::{WINDOW_LEAST, WINDOW_LIMIT};
 use mv_party::SUBMISSIONS_LIMIT;
 use std::marker::Model;
+use thiserror::Error;
 
 /// The most frames that are under way on each link.
 pub const WIRE_LIMIT: u32 = 64;
@@ -123,15 +124,19 @@ fn is_between(least: u32, most: u32, number: u32) -> bool
 }
 
 /// Which limit is out of its range.
-#[derive(Clone, Copy, Debug, PartialEq, Eq)]
+#[derive(Clone, Copy, Debug, PartialEq, Eq, Error)]
 pub enum LimitsFault {
     /// O1: the window is not 2 to 256.
+    #[error("the window is not 2 to 256")]
     Window,
     /// O2: the wire is not 1 to 64.
+    #[error("the wire is not 1 to 64")]
     Wire,
     /// O3: the uplink is not 1 to 64.
+    #[error("the uplink is not 1 to 64")]
     Uplink,
     /// O4: the submissions are not 1 to 1,000,000.
+    #[error("the submissions are not 1 to 1,000,000")]
     Submissions,
 }
 

@@ -3,10 +3,11 @@
 ghost use Rattle.std.specs.Prelude.{◌≡◌};
 
 use mv_hub::{HubFault, RouteFault};
-use mv_link::SharedReach;
+use mv_link::Reached;
 use mv_message::Party;
 use mv_party::{SiteFault, Taken};
 use mv_repository::{Effect, Joint, Verdict};
+use thiserror::Error;
 
 /// What a step is answered.
 #[derive(Debug, PartialEq, Eq, Drop)]
@@ -28,7 +29,7 @@ pub enum Reply {
         /// Its number among the messages of the party, counted from one.
         k: u32,
         /// The parties that it was routed to.
-        reach: SharedReach,
+        reach: Reached,
     },
     /// The frame of this number went on the wire.
     Relayed {
@@ -95,35 +96,49 @@ impl Reply {
 }
 
 /// Why a step was refused. Nothing has changed then.
-#[derive(Clone, Copy, Debug, PartialEq, Eq)]
+#[derive(Clone, Copy, Debug, PartialEq, Eq, Error)]
 pub enum Refusal {
     /// S1: a party that the step names does not exist.
+    #[error("there is no such party")]
     Party,
     /// S2: the message is none that a party submits.
+    #[error("the message is none that a party submits")]
     NotYours,
     /// S3: as many messages of the party are under way to the hub as the uplink takes.
+    #[error("the uplink is full")]
     UplinkFull,
     /// S4: the party has submitted as many messages as it may.
+    #[error("the party submitted as many messages as it may")]
     SenderFull,
     /// S5: no message of the party waits to be routed.
+    #[error("no message of the party waits to be routed")]
     UplinkEmpty,
     /// S6: the link to this party, the least such, has no room for what the message would put on it.
+    #[error("the link to party {0} has no room")]
     Busy(Party),
     /// S7: as many frames are under way on the link as the wire takes.
+    #[error("the wire of the link is full")]
     WireFull,
     /// S8: no frame is under way on the link.
+    #[error("no frame is under way on the link")]
     WireEmpty,
     /// S9: no frame of this number was relayed on the link.
+    #[error("no frame of this number was relayed on the link")]
     NotSent,
     /// S10: the frame of this number is kept no longer.
+    #[error("the frame of this number is kept no longer")]
     Gone,
     /// S11: every item of the link has been relayed.
+    #[error("every item of the link has been relayed")]
     Nothing,
     /// S12: the link is closed already.
+    #[error("the link is closed already")]
     AlreadyClosed,
     /// S13: the next frame carries a query, and the party can submit no answer now.
+    #[error("the next frame carries a query, and the party can submit no answer now")]
     AnswerBusy,
     /// S14: memory was refused.
+    #[error("out of memory")]
     Memory,
 }
 

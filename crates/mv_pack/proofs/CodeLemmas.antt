@@ -1,15 +1,17 @@
 -- What is read as a serial, batch or national number.
-use Rattle.std.proofs.Common.{◌≡◌, ◌∙◌, ℕ, zero, suc, ◌<◌, ◌+◌, ◌-◌, ◌++◌, List, [], ◌∷◌, Bool, true, false, cond, not, ◌&&◌, length, take, replicate, refl, sym, ap, subst, arith}
-use Rattle.std.proofs.Math.Dec.{ltb}
+use Rattle.std.proofs.Common.{◌≡◌, ◌∙◌, ℕ, zero, suc, ◌<◌, ◌≤◌, ◌+◌, ◌-◌, ◌*◌, ◌++◌, List, [], ◌∷◌, Bool, true, false, cond, not, ◌&&◌, length, take, drop, replicate, refl, sym, ap, ap₂, subst, arith}
 use Rattle.std.specs.Prelude.{◌==◌, nat_lt, IsUtf8, Option, None, Some, Result, Ok, Err}
-use Rattle.std.specs.List.{list_all, position_from, position_or_len, prefix_len}
-use Rattle.std.specs.Option.{unwrap_or}
+use Rattle.std.specs.List.{count_by, list_all, position_from, prefix_len}
 use Rattle.std.proofs.lemmas.Bool.{and_parts}
-use Rattle.std.proofs.lemmas.List.{take_all}
-use Rattle.std.proofs.lemmas.Iterator.Adapters.{position_from-zero}
+use Rattle.std.proofs.lemmas.List.{take_all, take-take, length-take-le, length-drop, length-append, take-append-le, take-append-drop, drop-replicate}
+use Rattle.std.proofs.lemmas.Slice.{take-put_mid, drop-put_mid}
+use Rattle.std.proofs.lemmas.List.Sums.{count_by-le-length, sum_by-append, sum_by-cons}
+use Rattle.std.proofs.lemmas.List.Folds.{sum_by-replicate, list_all-append}
+use Rattle.std.proofs.Math.Seq.{take-append_seam, drop-append-add}
+use borrow.Rule.Slice.PartMut.{put_mid}
 use Rattle.mv_pack.proofs.TextLemmas.{text_of_ascii}
 use Rattle.std.proofs.lemmas.Bool.Decides.{nat_tests}
-use Rattle.mv_pack.specs.Code.{is_code_character, is_zero, first_wrong, read_characters, read_code, filled_up, text_before, IsCode, IsFilledUp, most_code_bytes}
+use Rattle.mv_pack.specs.Code.{is_code_character, is_filled, is_zero, first_wrong, read_characters, read_code, filled_up, text_before, IsCode, IsFilledUp, most_code_bytes}
 use Rattle.mv_pack.specs.declared.fault.PackFault.{PackFault}
 use Rattle.mv_pack.specs.declared.fault.PackFault.TheVariants.{Empty, TooLong}
 
@@ -56,21 +58,6 @@ read_code_is_code t c h =
     subst IsCode tests.3
     (grind (arith, nat_tests, tests.0), grind (arith, nat_tests, tests.1), no_wrong_byte t tests.2)
 
--- what stands before the first zero, by its place
-pub found_zero : (bytes : List ℕ) (place : ℕ) → position_from is_zero 0 bytes ≡ Some place → take place bytes ≡ text_before bytes
-found_zero bytes place h = by (ltb (position_or_len is_zero bytes) (length bytes)) (position_from-zero is_zero bytes ∙ h)
-  where
-    by : (b : Bool) → cond b (Some (position_or_len is_zero bytes)) None ≡ Some place → take place bytes ≡ text_before bytes
-    by true e = ap (λ (o : Option ℕ). take (unwrap_or o 0) bytes) (sym e)
-    by false e = cc
-
-pub no_zero : (bytes : List ℕ) → position_from is_zero 0 bytes ≡ None → bytes ≡ text_before bytes
-no_zero bytes h = by (ltb (position_or_len is_zero bytes) (length bytes)) refl (position_from-zero is_zero bytes ∙ h)
-  where
-    by : (b : Bool) → ltb (position_or_len is_zero bytes) (length bytes) ≡ b → cond b (Some (position_or_len is_zero bytes)) None ≡ None → bytes ≡ text_before bytes
-    by true t e = cc
-    by false t e = sym (take_all (position_or_len is_zero bytes) bytes (grind (arith, nat_tests)))
-
 character_below : (byte : ℕ) → is_code_character byte ≡ true → byte < 128
 character_below byte h = grind (arith, nat_tests)
 
@@ -99,3 +86,76 @@ text_filled_up text code = before_zeros text (most_code_bytes - length text) cod
 
 pub code_filled_up : (text : List ℕ) → IsCode text → IsFilledUp (filled_up text)
 code_filled_up text code = (subst IsCode (sym (text_filled_up text code)) code, ap filled_up (sym (text_filled_up text code)))
+
+-- zeros behind a text do not count, where a zero does not pass
+count_behind : (p : ℕ → Bool) (text : List ℕ) (k : ℕ) → p 0 ≡ false → count_by p (text ++ replicate k 0) ≡ count_by p text
+count_behind p text k h =
+    let one = λ (x : ℕ). cond (p x) 1 0 in
+    let all = sum_by-append one text (replicate k 0) in
+    let zeros = sum_by-replicate one k 0 ∙ ap (λ b. k * cond b 1 0) h in
+    omega (arith, all, zeros)
+
+count_cons : (p : ℕ → Bool) (byte : ℕ) (text : List ℕ) → count_by p (byte ∷ text) ≡ cond (p byte) 1 0 + count_by p text
+count_cons p byte text = sum_by-cons (λ x. cond (p x) 1 0) byte text
+
+-- where as many pass as there are, all pass
+all_of_count : (p : ℕ → Bool) (text : List ℕ) → count_by p text ≡ length text → list_all p text ≡ true
+all_of_count p [] h = refl
+all_of_count p (byte ∷ text) h =
+    let most = count_by-le-length p text in
+    elim (p byte) as (λ b. cond b 1 0 + count_by p text ≡ suc (length text) → (b && list_all p text) ≡ true) [ true ↦ λ e. all_of_count p text (omega arith) | false ↦ λ e. absurd (omega arith) ] (sym (count_cons p byte text) ∙ h)
+
+-- where all pass, as many pass as there are
+count_of_all : (p : ℕ → Bool) (text : List ℕ) → list_all p text ≡ true → count_by p text ≡ length text
+count_of_all p [] h = refl
+count_of_all p (byte ∷ text) h =
+    let parts = and_parts (p byte) (list_all p text) h in
+    let rest = count_of_all p text parts.1 in
+    count_cons p byte text ∙ ap (λ b. cond b 1 0 + count_by p text) parts.0 ∙ omega arith
+
+-- a text of 8 to 16 bytes has no wrong byte where all of its first 8 and of its last 8 are characters
+pub none_wrong_in_pieces : (t : List ℕ) → 8 ≤ length t → length t ≤ 16 → count_by is_code_character (take 8 t) + count_by is_code_character (drop (length t - 8) t) ≡ 16 → first_wrong t ≡ None
+none_wrong_in_pieces t least most count =
+    let p = is_code_character in
+    let a = length t - 8 in
+    let front_long = length-take-le 8 t least in
+    let back_long = length-drop a t in
+    let front_most = count_by-le-length p (take 8 t) in
+    let back_most = count_by-le-length p (drop a t) in
+    let front = all_of_count p (take 8 t) (omega arith) in
+    let back = all_of_count p (drop a t) (omega arith) in
+    let piece = take 8 t in
+    let parts = and_parts _ _ (sym (list_all-append p (take a piece) (drop a piece)) ∙ ap (list_all p) (take-append-drop a piece) ∙ front) in
+    let first = ap (list_all p) (sym (take-take a 8 t (omega arith))) ∙ parts.0 in
+    all_right p t 0 (ap (list_all p) (sym (take-append-drop a t)) ∙ list_all-append p (take a t) (drop a t) ∙ ap₂ (λ x y. x && y) first back)
+
+all_filled : (text : List ℕ) → list_all is_code_character text ≡ true → list_all is_filled text ≡ true
+all_filled [] h = refl
+all_filled (byte ∷ text) h =
+    let parts = and_parts (is_code_character byte) (list_all is_code_character text) h in
+    ap₂ (λ zero rest. not zero && rest) (no_zero_character byte parts.0) (all_filled text parts.1)
+
+-- what stands before the zeros, by how many bytes are none
+pub filled_counted : (bytes : List ℕ) → IsFilledUp bytes → take (count_by is_filled bytes) bytes ≡ text_before bytes
+filled_counted bytes h =
+    let text = text_before bytes in
+    let count : count_by is_filled bytes ≡ length text = ap (count_by is_filled) h.1 ∙ count_behind is_filled text (most_code_bytes - length text) refl ∙ count_of_all is_filled text (all_filled text h.0.2) in
+    ap₂ take count h.1 ∙ take-append_seam text (replicate (most_code_bytes - length text) 0)
+
+-- the first 8 bytes of a text of 8 to 16, and over these its last 8, with zeros behind
+pub two_pieces : (t : List ℕ) (k : ℕ) (ys : List ℕ) → 8 ≤ length t → length t ≤ 16 → k ≡ 8 → ys ≡ take k (drop (length t - 8) t) → put_mid (length t - 8) k (take 8 t ++ replicate 12 0) ys ≡ filled_up t
+two_pieces t k ys least most eight part =
+    let a = length t - 8 in
+    let last = part ∙ take_all k (drop a t) (omega (arith, length-drop a t)) in
+    let zeros : List ℕ = replicate 12 0 in
+    let xs : List ℕ = take 8 t ++ zeros in
+    let short = length-take-le 8 t least in
+    let long : length ys ≡ 8 = ap length last ∙ length-drop a t ∙ omega arith in
+    let within : a ≤ length xs = omega (arith, length-append (take 8 t) zeros) in
+    let front = take-put_mid a k xs ys (length t) (omega arith) within
+    ∙ ap₂ (λ x y. x ++ y) (take-append-le a (take 8 t) zeros (omega arith) ∙ take-take a 8 t (omega arith)) last
+    ∙ take-append-drop a t in
+    let behind = drop-put_mid a k xs ys (length t) (omega arith) within (omega arith)
+    ∙ ap (λ n. drop n xs) (omega arith)
+    ∙ drop-append-add (take 8 t) zeros a ∙ drop-replicate a 12 0 in
+    sym (take-append-drop (length t) (put_mid a k xs ys)) ∙ ap₂ (λ x y. x ++ y) front (behind ∙ ap (λ n. replicate n 0) (omega arith))

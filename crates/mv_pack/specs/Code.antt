@@ -36,6 +36,10 @@ filled_up text = text ++ replicate (most_code_bytes - length text) 0
 abbrev pub is_zero : ℕ → Bool
 is_zero byte = byte == 0
 
+-- a byte stands for a character
+abbrev pub is_filled : ℕ → Bool
+is_filled byte = not (is_zero byte)
+
 -- what stands before the first zero
 abbrev pub text_before : List ℕ → List ℕ
 text_before bytes = before_first is_zero bytes

@@ -2,34 +2,24 @@
 //!
 //! The three are one type with a marker, so that reading, equality, order and hash are written once.
 
-ghost use Rattle.std.specs.Prelude.{◌≡◌, ◌<◌, ◌≤◌, ◌↔◌, ◌∷◌, [], length, take, drop, nat_eq, refl, IsOk, IfSome, MatchResult, Ok, Err, Some};
+ghost use Rattle.std.specs.Prelude.{◌≡◌, ◌<◌, ◌≤◌, ◌↔◌, ◌∷◌, [], length, take, drop, nat_eq, refl, IsOk, IfSome, IsTrue, MatchResult, Ok, Err, Some, None};
 ghost use Rattle.std.specs.Ordering.{nat_cmp};
 ghost use Rattle.std.specs.Cmp.{partial_equiv_from_equiv};
 ghost use Rattle.std.specs.Cmp.Lexicographic.{pointwise, slice_cmp, nat_list_eq_equiv, nat_list_cmp_total, texts_po, texts_ties};
 ghost use Rattle.std.specs.Cmp.Rules.{hashing};
 ghost use Rattle.std.proofs.Common.{rules};
-ghost use Rattle.std.specs.List.{position_from};
-ghost use Rattle.mv_pack.specs.Code.{is_code_character, is_zero, first_wrong, filled_up, most_code_bytes, read_code, text_before, IsCode};
+ghost use Rattle.std.specs.List.{count_by};
+ghost use Rattle.mv_pack.specs.Code.{is_code_character, is_mark, is_filled, first_wrong, filled_up, most_code_bytes, read_code, text_before, IsCode, IsFilledUp};
 
 use crate::PackFault;
+use crate::ascii::text_of;
 use std::cmp::Ordering;
+use std::fmt;
 use std::hash::{Hash, Hasher};
 use std::marker::{Model, PhantomData};
-use std::{fmt, str};
 
 /// The most bytes of a serial, batch or national number.
 pub const MOST_CODE_BYTES: usize = 20;
-
-/// Each character of codes at its own place, and at every other place `#`, which is none.
-static CODE_CHARACTERS: [u8; 256] = *b"\
-    ################################\
-    #!\"##%&'()*+,-./0123456789:;<=>?\
-    #ABCDEFGHIJKLMNOPQRSTUVWXYZ####_\
-    #abcdefghijklmnopqrstuvwxyz#####\
-    ################################\
-    ################################\
-    ################################\
-    ################################";
 
 /// The serial number of a pack (Delegated Regulation (EU) 2016/161, Article 4(b)(ii)).
 pub type Serial = Code<SerialKind>;
@@ -95,10 +85,7 @@ impl<K> Code<K> {
     pub fn as_str(&self) -> &str
         ensures { result.now ≡ self.now }
     {
-        let Ok(text) = str::from_utf8(text_before(&self.bytes)) else {
-            unreachable!();
-        };
-        text
+        text_of(text_before(&self.bytes))
     }
 
     /// The same once more; it takes no memory.
@@ -118,30 +105,40 @@ fn filled_up(text: &[u8]) -> [u8; MOST_CODE_BYTES]
     ensures { result ≡ filled_up text.now }
 {
     let mut bytes = [0; MOST_CODE_BYTES];
-    bytes[..text.len()].copy_from_slice(text);
+    let len = text.len();
+    if len < 8 || len > 16 {
+        bytes[..len].copy_from_slice(text);
+    } else {
+        // Two pieces of a fixed length, which meet or overlap, are copied without a call.
+        bytes[..8].copy_from_slice(&text[..8]);
+        bytes[len - 8..len].copy_from_slice(&text[len - 8..]);
+    }
     bytes
 }
 
-/// What stands before the first zero.
-#[tactic(auto, using(crate::proofs::CodeLemmas::found_zero, crate::proofs::CodeLemmas::no_zero))]
-fn text_before(bytes: &[u8]) -> &[u8]
+/// What stands before the zeros.
+#[tactic(auto, using(crate::proofs::CodeLemmas::filled_counted))]
+fn text_before(bytes: &[u8; MOST_CODE_BYTES]) -> &[u8]
+    requires { IsFilledUp bytes.now }
     ensures { result.now ≡ text_before bytes.now }
 {
-    match first_zero(bytes) {
-        Some(place) => &bytes[..place],
-        None => bytes,
-    }
+    &bytes[..count_filled(bytes)]
 }
 
-/// The place of the first zero.
-fn first_zero(bytes: &[u8]) -> Option<usize>
-    ensures place { result ≡ position_from is_zero 0 bytes.now }
-    ensures bound { IfSome result (λ i. i < length bytes.now) }
+/// How many bytes are not zero. Each is looked at, so that many are at once.
+fn count_filled(bytes: &[u8; MOST_CODE_BYTES]) -> usize
+    ensures value { result ≡ count_by is_filled bytes.now }
+    ensures bound { result ≤ most_code_bytes }
 {
-    bytes.iter().position(|byte| *byte == 0)
+    let mut count = 0u8;
+    for byte in bytes.as_slice() {
+        count += (*byte != 0) as u8;
+    }
+    count as usize
 }
 
 /// Whether the text is a code, or its first fault.
+#[inline(always)]
 #[tactic(auto, using(crate::proofs::CodeLemmas::no_wrong_byte))]
 fn check_code(text: &str) -> Result<(), PackFault>
     ensures { MatchResult result (λ _. IsCode text.now) (λ e. read_code text.now ≡ Err e) }
@@ -163,14 +160,54 @@ fn first_wrong(text: &[u8]) -> Option<usize>
     ensures place { result ≡ first_wrong text.now }
     ensures bound { IfSome result (λ i. i < length text.now) }
 {
+    if has_characters_alone(text) {
+        return None;
+    }
     text.iter().position(|byte| !is_code_character(*byte))
+}
+
+/// Whether all bytes are characters of codes; one of fewer than 8 bytes or more than 16 may have them alone and is not said to.
+#[tactic(auto, using(crate::proofs::CodeLemmas::none_wrong_in_pieces))]
+fn has_characters_alone(text: &[u8]) -> bool
+    ensures { IsTrue result → first_wrong text.now ≡ None }
+{
+    let len = text.len();
+    if len < 8 || len > 16 {
+        return false;
+    }
+    // The first 8 and the last 8, which meet or overlap.
+    count_characters(&text[..8]) + count_characters(&text[len - 8..]) == 16
+}
+
+/// How many bytes of a piece are characters of codes. Each is looked at, so that many are at once.
+#[inline(always)]
+fn count_characters(piece: &[u8]) -> u8
+    requires { length piece.now ≡ 8 }
+    ensures value { result ≡ count_by is_code_character piece.now }
+    ensures bound { result ≤ 8 }
+{
+    let mut count = 0u8;
+    for byte in piece {
+        count += is_code_character(*byte) as u8;
+    }
+    count
 }
 
 /// Whether a byte is one of the 82 characters of codes.
 fn is_code_character(byte: u8) -> bool
     ensures { result ≡ is_code_character byte }
 {
-    CODE_CHARACTERS[byte as usize] != b'#'
+    byte.is_ascii_alphanumeric() | is_mark(byte)
+}
+
+/// Whether a byte is one of the 20 marks of codes.
+fn is_mark(byte: u8) -> bool
+    ensures { result ≡ is_mark byte }
+{
+    ((byte >= b'!') & (byte <= b'"'))
+        | ((byte >= b'%') & (byte <= b'/'))
+        | ((byte >= b':') & (byte <= b'?'))
+        | (byte == b'_')
 }
 
 impl<K> PartialEq for Code<K> {

@@ -9,9 +9,9 @@ ghost use Rattle.mv_pack.specs.Gtin.{is_digit, check_sum, padded, read_gtin, IsG
 ghost use Rattle.mv_pack.specs.Gtin.{digit_values};
 
 use crate::PackFault;
+use crate::ascii::text_of;
 use std::hash::{Hash, Hasher};
 use std::marker::Model;
-use std::str;
 
 /// A Global Trade Item Number, by its 14 digits.
 #[derive(Clone, Copy, Debug, PartialEq, Eq, PartialOrd, Ord)]
@@ -62,10 +62,7 @@ impl Gtin {
     pub fn as_str(&self) -> &str
         ensures { result.now ≡ self.now }
     {
-        let Ok(text) = str::from_utf8(&self.bytes) else {
-            unreachable!();
-        };
-        text
+        text_of(&self.bytes)
     }
 
     /// The 14 numbers.

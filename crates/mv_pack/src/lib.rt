@@ -17,6 +17,7 @@
 //! ```
 #![tactic(auto)]
 
+mod ascii;
 mod code;
 mod expiry;
 mod fault;

@@ -5,8 +5,8 @@ ghost use Rattle.std.specs.List.{list_all};
 ghost use Rattle.mv_pack.specs.Market.{is_capital, read_market, place_of, IsMarket};
 
 use crate::PackFault;
+use crate::ascii::text_of;
 use std::marker::Model;
-use std::str;
 
 /// How many markets there can be: each has two letters of 26.
 pub const MARKETS_LIMIT: usize = 676;
@@ -52,10 +52,7 @@ impl Market {
     pub fn as_str(&self) -> &str
         ensures { result.now ≡ self.now }
     {
-        let Ok(text) = str::from_utf8(&self.letters) else {
-            unreachable!();
-        };
-        text
+        text_of(&self.letters)
     }
 
     /// Its place among all markets that there can be, in the order of their letters, from 0.

@@ -17,7 +17,7 @@ use crate::state::is_active;
 use crate::verdict::{is_explained, verdict_when};
 use crate::{Joint, LogEntry, Verdict};
 use indexmap::{IndexMap, IndexSet};
-use mv_link::{Item, SharedReach};
+use mv_link::{Item, Reached};
 use mv_message::{Found, Message, Party};
 use std::alloc::{AllocError, Global};
 
@@ -155,7 +155,7 @@ impl Inquiries {
         let Some(asked) = parties_at(log, inquiry.receipt) else {
             return Joint::NotAsked;
         };
-        let left = self.left_count(q, asked.as_slice());
+        let left = self.left_count(q, asked.to_reach().as_slice());
         if left == 0 {
             Joint::Decided(inquiry.verdict())
         } else {
@@ -221,7 +221,7 @@ impl Inquiry {
 }
 
 /// The parties that the receipt at a place of a log names.
-fn parties_at(log: &[LogEntry], place: Option<usize>) -> Option<&SharedReach>
+fn parties_at(log: &[LogEntry], place: Option<usize>) -> Option<&Reached>
     ensures { option_copied result ≡ parties_at log.now place }
 {
     match &log.get(place?)?.item {

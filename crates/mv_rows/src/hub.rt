@@ -130,7 +130,7 @@ fn reaches(hub: &mut Hub, from: u32, message: &Shared<Message>, k: u32, reached:
         return false;
     }
     match hub.route(from, message) {
-        Ok((number, reach)) => number == k && reach.as_slice() == reached,
+        Ok((number, reach)) => number == k && reach.to_reach().as_slice() == reached,
         Err(_) => false,
     }
 }
@@ -233,7 +233,7 @@ fn is_stamped(hub: &mut Hub, alloc: Global) -> bool {
 fn is_receipt(frame: &Frame) -> bool {
     match &frame.item {
         Item::Receipt { k, reach, query } => {
-            *k == 1 && *query && reach.as_slice() == [2].as_slice()
+            *k == 1 && *query && reach.to_reach().as_slice() == [2].as_slice()
         }
         Item::Carried { .. } => false,
     }

@@ -54,7 +54,7 @@ fn master(alloc: Global) -> Option<Shared<Message>> {
 /// Whether a reply says that the first message of a party was routed to this party alone.
 fn is_routed_to(reply: &Reply, party: Party) -> bool {
     match reply {
-        Reply::Routed { k, reach } => *k == 1 && reach.as_slice() == [party].as_slice(),
+        Reply::Routed { k, reach } => *k == 1 && reach.to_reach().as_slice() == [party].as_slice(),
         _ => false,
     }
 }

@@ -10,7 +10,12 @@ use std::alloc::Global;
 pub(crate) fn write_item(page: &mut Page, key: &str, item: &Item) -> Option<()> {
     page.key(key)?;
     match item {
-        Item::Receipt { k, reach, query } => write_receipt(page, *k, reach.as_slice(), *query),
+        Item::Receipt { k, reach, query } => write_receipt(
+            page,
+            *k,
+            reach.to_reach().as_slice(),
+            *query,
+        ),
         Item::Carried { k, stamp, message } => write_carried(page, *k, *stamp, message.get()),
     }
 }

@@ -5,7 +5,7 @@ ghost use Rattle.std.specs.Prelude.{if◌then◌else◌};
 ghost use Rattle.std.specs.Option.{option_to_list};
 ghost use Rattle.mv_link.specs.Sending.{HasRoom};
 ghost use Rattle.mv_pairs.specs.Pairs.{IsSquare};
-ghost use Rattle.mv_hub.specs.PartySets.{has_party, parties_in};
+ghost use Rattle.mv_link.specs.PartySets.{has_party, parties_in};
 ghost use Rattle.mv_hub.specs.Gains.{PushesItems, PushesRow, carried_to, gain_of};
 ghost use Rattle.mv_hub.specs.Kept.{link_at};
 

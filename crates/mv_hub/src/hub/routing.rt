@@ -6,7 +6,7 @@ ghost use Rattle.std.specs.Prelude.{OnOk, OnErr, None};
 ghost use Rattle.std.specs.Option.{option_to_list};
 ghost use Rattle.mv_hub.specs.Record.{routed_count};
 ghost use Rattle.mv_hub.specs.Targets.{reach};
-ghost use Rattle.mv_hub.specs.PartySets.{has_party, parties_in};
+ghost use Rattle.mv_link.specs.PartySets.{has_party, parties_in};
 ghost use Rattle.mv_link.specs.Fault.{FailsBy};
 ghost use Rattle.mv_link.specs.declared.limits.TheConstants.{NUMBER_LIMIT};
 ghost use Rattle.mv_hub.specs.Hub.{next_items, is_busy, busy_party, route_fault, with_routed};
@@ -15,9 +15,8 @@ ghost use Rattle.mv_hub.specs.Gains.{IsRouting, receipt_of};
 use crate::hub::Hub;
 use crate::hub::gains::put_gains;
 use crate::hub::targets::is_query;
-use crate::party_set::PartySet;
 use crate::{Entry, RouteFault};
-use mv_link::{Item, SharedReach};
+use mv_link::{Item, PartySet, Reached};
 use mv_message::{Message, Party, Shared};
 use std::alloc::{AllocError, Global};
 
@@ -109,35 +108,27 @@ impl Hub {
     }
 
     /// The receipt of the routing, unless the link of its sender to itself is closed.
-    fn receipt(
-        &self,
-        routing: &Routing<'_>,
-        reached: &SharedReach,
-    ) -> Result<Option<Item>, AllocError>
-        requires from { routing.now.from < length self.now.parties }
-        requires reached { reached.now ≡ reach self.now.parties self.now.entries
-            routing.now.from routing.now.message.now }
-        ensures { IfOk result (λ receipt.
-            option_to_list receipt ≡ receipt_of self.now routing.now) }
+    fn receipt(&self, routing: &Routing<'_>) -> Option<Item>
+        requires { IsRouting self.now routing.now }
+        ensures { option_to_list result ≡ receipt_of self.now routing.now }
     {
         if !self.is_open(routing.from, routing.from) {
-            return Ok(None);
+            return None;
         }
-        Ok(Some(Item::Receipt {
+        Some(Item::Receipt {
             k: routing.k,
-            reach: reached.share()?,
+            reach: self.reach_of(routing),
             query: is_query(routing.message.get()),
-        }))
+        })
     }
 
-    /// The parties that the message reaches, as a list. Refused for want of memory.
-    fn reach_of(&self, routing: &Routing<'_>) -> Result<SharedReach, AllocError>
+    /// The parties that the message reaches.
+    fn reach_of(&self, routing: &Routing<'_>) -> Reached
         requires { IsRouting self.now routing.now }
-        ensures reach { IfOk result (λ reached. reached ≡ reach self.now.parties self.now.entries
-            routing.now.from routing.now.message.now) }
-        ensures parties { IfOk result (λ reached. reached ≡ parties_in routing.now.reached) }
+        ensures { result ≡ reach self.now.parties self.now.entries
+            routing.now.from routing.now.message.now }
     {
-        SharedReach::of(self.alloc, &routing.reached.to_reach())
+        Reached::of(routing.reached)
     }
 
     /// Puts the message into the record and the tables, and what its routing puts on links on these.
@@ -177,7 +168,7 @@ impl Hub {
         &mut self,
         from: Party,
         message: &Shared<Message>,
-    ) -> Result<(u32, SharedReach), RouteFault>
+    ) -> Result<(u32, Reached), RouteFault>
         requires { length self.old.entries < NUMBER_LIMIT }
         ensures number { IfOk result (λ routed. routed.0 ≡ routed_count self.old.entries from + 1) }
         ensures reach { IfOk result (λ routed.
@@ -193,22 +184,24 @@ impl Hub {
         if let Some(to) = self.busy_party(&routing) {
             return Err(RouteFault::Busy(to));
         }
-        let reached = self.reach_of(&routing)?;
-        let receipt = self.receipt(&routing, &reached)?;
-        let shares = shares_of(self.alloc, message, reached.as_slice().len())?;
+        let reached = self.reach_of(&routing);
+        let receipt = self.receipt(&routing);
+        let shares = shares_of(self.alloc, message, routing.reached)?;
         self.put_routed(&routing, receipt, shares)?;
         Ok((routing.k, reached))
     }
 }
 
-/// A message, so many times. Refused for want of memory.
+/// A message, once for each of these parties. Refused for want of memory.
 fn shares_of(
     alloc: Global,
     message: &Shared<Message>,
-    count: usize,
+    parties: PartySet,
 ) -> Result<Vec<Shared<Message>>, AllocError>
-    ensures { IfOk result (λ shares. shares.items ≡ replicate count message.now) }
+    ensures { IfOk result (λ shares. shares.items
+        ≡ replicate (length (parties_in parties)) message.now) }
 {
+    let count = parties.to_reach().as_slice().len();
     let mut shares = Vec::with_capacity(alloc, count)?;
     for _ in 0..count {
         shares.push(message.share()?)?;

@@ -2,12 +2,11 @@
 
 ghost use Rattle.std.specs.Prelude.{◌≡◌, ◌<◌, ◌≤◌, ◌&&◌, ℕ, length, nat_lt};
 ghost use Rattle.mv_hub.specs.Record.{market_table};
-ghost use Rattle.mv_hub.specs.Targets.{serves_product, is_reached, is_query};
-ghost use Rattle.mv_hub.specs.PartySets.{has_party, is_candidate};
+ghost use Rattle.mv_hub.specs.Targets.{serves_product, is_reached, is_candidate, is_query};
+ghost use Rattle.mv_link.specs.PartySets.{has_party};
 
 use crate::hub::Hub;
-use crate::party_set::PartySet;
-use mv_link::PARTIES_LIMIT;
+use mv_link::{PARTIES_LIMIT, PartySet};
 use mv_message::{Message, Party};
 use mv_pack::{Gtin, Market};
 

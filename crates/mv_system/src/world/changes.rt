@@ -19,7 +19,7 @@ ghost use Rattle.mv_system.specs.World.{Submits, OffersFront};
 
 use crate::world::World;
 use mv_hub::{HubFault, RouteFault};
-use mv_link::{Frame, SharedReach};
+use mv_link::{Frame, Reached};
 use mv_message::{Message, Party, Shared};
 use mv_pack::PackKey;
 use mv_party::{SiteFault, Taken};
@@ -53,7 +53,7 @@ impl World {
     }
 
     /// Routes the front of an uplink.
-    pub(super) fn put_routed(&mut self, from: Party) -> Result<(u32, SharedReach), RouteFault>
+    pub(super) fn put_routed(&mut self, from: Party) -> Result<(u32, Reached), RouteFault>
         requires party { IsTrue (is_party self.old from) }
         requires some { IsSome
             (slice_get (submissions_of self.old from) (routed_count self.old.entries from)) }

@@ -1,7 +1,7 @@
 use Rattle.std.proofs.Common.{◌∙◌, ◌&&◌, not, IsTrue, ap, rules, arith}
 use Rattle.std.specs.Prelude.{◌==◌}
 use Rattle.std.proofs.lemmas.List.{get_or_default}
-use Rattle.mv_hub.specs.PartySets.{has_party, no_parties}
+use Rattle.mv_link.specs.PartySets.{has_party, no_parties}
 use Rattle.mv_hub.proofs.HubLemmas.{kept-closed}
 use Rattle.mv_hub.proofs.hub.Hub.close.Goals as goal
 

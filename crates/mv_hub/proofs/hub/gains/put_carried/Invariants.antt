@@ -1,5 +1,5 @@
 use Rattle.std.proofs.Common.{◌≡◌, ℕ, ◌&&◌, not, true, cond, [], ◌∷◌, length, replicate}
-use Rattle.mv_hub.specs.PartySets.{has_party, parties_in}
+use Rattle.mv_link.specs.PartySets.{has_party, parties_in}
 use Rattle.mv_hub.specs.Gains.{PushesRow, carried_by}
 use Rattle.mv_hub.proofs.hub.gains.put_carried.Given as goal
 

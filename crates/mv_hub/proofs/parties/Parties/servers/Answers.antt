@@ -3,7 +3,7 @@ use Rattle.std.specs.Prelude.{◌==◌}
 use Rattle.std.proofs.Math.Bool.{or-false}
 use Rattle.std.proofs.lemmas.Bool.{eq-eqb}
 use Rattle.mv_hub.specs.Parties.{has_market, served_by}
-use Rattle.mv_hub.specs.PartySets.{has_party}
+use Rattle.mv_link.specs.PartySets.{has_party}
 use Rattle.mv_hub.proofs.PartiesLemmas.{server-is_party, serves_one-none, serves-more}
 use Rattle.mv_hub.proofs.parties.Parties.servers.Goals.{in-Some, in_default}
 use Rattle.mv_hub.proofs.parties.Parties.servers.Goals as goal

@@ -40,7 +40,7 @@ fn submit_next(
     if count >= list.len() {
         return (count, Ok(false));
     }
-    let reply = submit_one(end, &list[count]);
+    let reply = submit_one(end, list[count].get());
     match &reply {
         Reply::Submitted { .. } | Reply::Asked { .. } => (count + 1, Ok(true)),
         refused => (count, has_moved(refused)),
@@ -48,13 +48,13 @@ fn submit_next(
 }
 
 /// Tries to submit a message once: a query is asked.
-fn submit_one(end: &mut RepoEnd, message: &Shared<Message>) -> Reply
+fn submit_one(end: &mut RepoEnd, message: &Message) -> Reply
     ensures same { SameRepoEnd end.old end.new }
     ensures reply { Tries message.now end.old end.new result }
 {
-    match message.get() {
+    match message {
         Message::Query { key } => end.ask(key),
-        _ => end.submit(message),
+        own => end.submit(own),
     }
 }
 

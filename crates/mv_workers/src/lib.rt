@@ -34,6 +34,7 @@ mod run;
 mod standstill;
 mod start;
 mod turns;
+mod waiting;
 mod work;
 
 pub use gate::{Gate, NoGate};

@@ -6,9 +6,9 @@ ghost use Rattle.mv_party.specs.Calls.{apply_fault};
 ghost use Rattle.mv_ends.specs.Answering.{answer_by, stands_to};
 ghost use Rattle.mv_ends.specs.Full.{is_full};
 
-use crate::parcel::MessageParcel;
+use crate::parcel::Parcel;
 use mv_link::{Frame, Look};
-use mv_message::Party;
+use mv_message::{Message, Party, Shared};
 use mv_party::Site;
 use rtrb::Producer;
 use std::alloc::{AllocError, Global};
@@ -21,7 +21,7 @@ pub(crate) fn answer_parcel(
     from: Party,
     frame: &Frame,
     full: bool,
-) -> Result<Option<MessageParcel>, AllocError>
+) -> Result<Option<Parcel<Shared<Message>>>, AllocError>
     requires { from < site.now.parties }
     ensures answer { IfOk result (λ parcel. apply_fault full site.now from frame.now.item (stands_to site.now from frame.now) ≡ None
         → parcel ≡ answer_by site.now from frame.now.item (stands_to site.now from frame.now)) }
@@ -35,13 +35,13 @@ pub(crate) fn answer_parcel(
         return Ok(None);
     }
     match site.answer(from, &frame.item) {
-        Some(answer) => Ok(Some(MessageParcel::new(alloc, answer)?)),
+        Some(answer) => Ok(Some(Parcel::of_message(alloc, answer)?)),
         None => Ok(None),
     }
 }
 
 /// Whether an uplink has no room. The hub may make room at any time.
-pub(crate) fn is_full(uplink: &mut Producer<MessageParcel>) -> bool
+pub(crate) fn is_full(uplink: &mut Producer<Parcel<Shared<Message>>>) -> bool
     ensures looked { ProducerLooked uplink.old uplink.new }
     ensures value { result ≡ is_full uplink.new }
     ensures room { IsFalse result → 0 < known_free uplink.new }
@@ -50,7 +50,10 @@ pub(crate) fn is_full(uplink: &mut Producer<MessageParcel>) -> bool
 }
 
 /// Puts an answer on an uplink that has room for it, where there is one.
-pub(crate) fn put_answer(uplink: &mut Producer<MessageParcel>, answer: Option<MessageParcel>)
+pub(crate) fn put_answer(
+    uplink: &mut Producer<Parcel<Shared<Message>>>,
+    answer: Option<Parcel<Shared<Message>>>,
+)
     requires { is_some answer ≡ true → 0 < known_free uplink.old }
     ensures same { SameProducer uplink.old uplink.new }
     ensures put { sent uplink.new ≡ sent uplink.old ++ option_to_list answer }

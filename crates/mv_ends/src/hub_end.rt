@@ -5,12 +5,12 @@ ghost use Rattle.mv_machine.specs.Lawful.{IsLawfulRecord};
 ghost use Rattle.mv_ends.specs.Valid.{TookAll, IsFor, AreUnused, AreOfLinks, AreWithin, IsLawfulRecord-prop};
 
 use crate::inlets::Inlets;
-use crate::parcel::{FrameParcel, MessageParcel};
+use crate::parcel::Parcel;
 use crate::repo_end::RepoEnd;
 use crate::wires::Wires;
 use mv_hub::{Entry, Hub, Parties};
 use mv_machine::{Limits, Refusal, Reply};
-use mv_message::Party;
+use mv_message::{Message, Party, Shared};
 use std::alloc::{AllocError, Global};
 
 /// The hub's end of all rings, with the hub.
@@ -23,7 +23,7 @@ pub struct HubEnd {
     /// The hub.
     hub: Hub,
     /// The ends of the uplinks.
-    uplinks: Inlets<MessageParcel>,
+    uplinks: Inlets<Shared<Message>>,
     /// The ends of the links.
     wires: Wires,
     /// The window of the hub is that of the limits.
@@ -55,7 +55,7 @@ impl HubEnd {
         alloc: Global,
         parties: Parties,
         limits: Limits,
-        uplinks: Inlets<MessageParcel>,
+        uplinks: Inlets<Shared<Message>>,
         wires: Wires,
     ) -> Result<HubEnd, AllocError>
         requires each { length uplinks.ends.items ≡ length parties }
@@ -111,9 +111,9 @@ impl HubEnd {
         if self.uplinks.is_empty(from) {
             return Reply::Refused(Refusal::UplinkEmpty);
         }
-        match self.hub.route(from, self.uplinks.front(from).message()) {
+        match self.hub.route(from, self.uplinks.front(from)) {
             Ok((k, reach)) => {
-                let _parcel = self.uplinks.take(from);
+                let _message = self.uplinks.take(from);
                 Reply::Routed { k, reach }
             }
             Err(fault) => Reply::Refused(Refusal::from(fault)),
@@ -139,7 +139,7 @@ impl HubEnd {
             Ok(frame) => frame,
             Err(fault) => return Reply::Refused(Refusal::from(fault)),
         };
-        let Ok(parcel) = FrameParcel::of(self.alloc, &frame) else {
+        let Ok(parcel) = Parcel::of_frame(self.alloc, &frame) else {
             return Reply::Refused(Refusal::Memory);
         };
         let Ok(relayed) = self.hub.relay(from, to) else {
@@ -171,7 +171,7 @@ impl HubEnd {
             Ok(frame) => frame,
             Err(fault) => return Reply::Refused(Refusal::from(fault)),
         };
-        let Ok(again) = FrameParcel::of(self.alloc, &frame) else {
+        let Ok(again) = Parcel::of_frame(self.alloc, &frame) else {
             return Reply::Refused(Refusal::Memory);
         };
         self.wires.put(from, to, again);

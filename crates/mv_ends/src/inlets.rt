@@ -5,14 +5,15 @@
 ghost use Rattle.std.specs.Prelude.{◌≡◌, ◌<◌, length};
 ghost use Rattle.std.specs.Prelude.{IsTrue, IsFalse};
 
+use crate::parcel::{Parcel, front_of};
 use mv_message::Party;
 use rtrb::{Consumer, Producer};
 
-/// The ends of rings that are taken from, by the party that puts there.
+/// The ends of rings of parcels that are taken from, by the party that puts there.
 #[derive(Drop)]
 pub struct Inlets<T> {
     /// The ends, that of the ring from party 0 first.
-    ends: Vec<Consumer<T>>,
+    ends: Vec<Consumer<Parcel<T>>>,
 }
 
 impl<T: Drop> Inlets<T> {
@@ -20,7 +21,7 @@ impl<T: Drop> Inlets<T> {
     ghost use Rattle.mv_ends.specs.Inlets.{SameInlets, TakesNothing, Takes, HasFront, IsEmptyFrom, IsFront, IsPairAt, IsFrontOf};
 
     /// The ends of these rings.
-    pub(crate) fn new(ends: Vec<Consumer<T>>) -> Inlets<T>
+    pub(crate) fn new(ends: Vec<Consumer<Parcel<T>>>) -> Inlets<T>
         ensures { result.ends.items ≡ ends.items }
     {
         Inlets { ends }
@@ -44,16 +45,16 @@ impl<T: Drop> Inlets<T> {
         self.ends[from as usize].is_empty()
     }
 
-    /// What is at the front of the ring from a party.
+    /// What is in the parcel at the front of the ring from a party.
     pub(crate) fn front(&self, from: Party) -> &T
         requires from { from < length self.now.ends.items }
         requires some { HasFront self.now from }
         ensures { IsFront self.now from result.now }
     {
-        self.ends[from as usize].peek_known()
+        front_of(&self.ends[from as usize])
     }
 
-    /// Takes what is at the front of the ring from a party.
+    /// Takes the parcel at the front of the ring from a party, and opens it.
     pub(crate) fn take(&mut self, from: Party) -> T
         requires from { from < length self.old.ends.items }
         requires some { HasFront self.old from }
@@ -61,11 +62,11 @@ impl<T: Drop> Inlets<T> {
         ensures takes { Takes from result self.old self.new }
         ensures front { (front : T) → IsFront self.old from front → result ≡ front }
     {
-        self.ends[from as usize].pop_known()
+        self.ends[from as usize].pop_known().open()
     }
 
     /// Looks at both ends of the ring from a party: what was taken is a front of what was put.
-    pub(crate) fn look_beside(&mut self, from: Party, producer: &mut Producer<T>)
+    pub(crate) fn look_beside(&mut self, from: Party, producer: &mut Producer<Parcel<T>>)
         requires from { from < length self.old.ends.items }
         requires pair { IsPairAt from producer.old self.old }
         ensures same { SameInlets self.old self.new }

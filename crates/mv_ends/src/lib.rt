@@ -14,7 +14,7 @@
 //!     alloc: Global,
 //!     parties: Parties,
 //!     limits: Limits,
-//!     message: &Shared<Message>,
+//!     message: &Message,
 //! ) -> Option<Outcome> {
 //!     let Ok((mut hub, mut repos)) = open(alloc, parties, limits) else {
 //!         return None;
@@ -46,6 +46,6 @@ pub use laws::{ends_stay_ends, hub_end_stays, repo_end_stays, repo_ends_stay};
 pub use opening::open;
 pub use outcome::Outcome;
 pub use outlets::Outlets;
-pub use parcel::{FrameParcel, MessageParcel};
+pub use parcel::Parcel;
 pub use repo_end::RepoEnd;
 pub use wires::Wires;

@@ -9,12 +9,13 @@ ghost use Rattle.mv_ends.specs.Opened.{IsOpened, AreOpened};
 use crate::hub_end::HubEnd;
 use crate::inlets::Inlets;
 use crate::outlets::Outlets;
-use crate::parcel::{FrameParcel, MessageParcel};
+use crate::parcel::Parcel;
 use crate::repo_end::RepoEnd;
 use crate::wires::Wires;
 use mv_hub::Parties;
+use mv_link::Frame;
 use mv_machine::Limits;
-use mv_message::Party;
+use mv_message::{Message, Party, Shared};
 use rtrb::{Consumer, RingBuffer};
 use std::alloc::{AllocError, Global};
 
@@ -22,7 +23,7 @@ use std::alloc::{AllocError, Global};
 #[derive(Drop)]
 struct Opened {
     /// The hub's end of the party's uplink.
-    uplink: Consumer<MessageParcel>,
+    uplink: Consumer<Parcel<Shared<Message>>>,
     /// The hub's ends of the links to the party.
     outlets: Outlets,
     /// The end of the party's repository.
@@ -33,7 +34,7 @@ struct Opened {
 #[derive(Drop)]
 struct Openings {
     /// The hub's end of each party's uplink.
-    uplinks: Vec<Consumer<MessageParcel>>,
+    uplinks: Vec<Consumer<Parcel<Shared<Message>>>>,
     /// The hub's ends of the links to each party.
     outlets: Vec<Outlets>,
     /// The end of each party's repository.
@@ -119,7 +120,10 @@ fn open_one(alloc: Global, party: Party, count: u32, limits: Limits) -> Result<O
     ensures { IfOk result (λ opened. IsOpened count limits party opened.uplink opened.outlets opened.repo) }
 {
     let (outlets, inlets) = open_links(alloc, count, limits.wire())?;
-    let (producer, uplink) = RingBuffer::<MessageParcel>::new(alloc, limits.uplink() as usize)?;
+    let (producer, uplink) = RingBuffer::<Parcel<Shared<Message>>>::new(
+        alloc,
+        limits.uplink() as usize,
+    )?;
     let repo = RepoEnd::new(alloc, party, count, limits, producer, inlets)?;
     Ok(Opened {
         uplink,
@@ -129,11 +133,7 @@ fn open_one(alloc: Global, party: Party, count: u32, limits: Limits) -> Result<O
 }
 
 /// The two ends of the links to one party from so many.
-fn open_links(
-    alloc: Global,
-    count: u32,
-    room: u32,
-) -> Result<(Outlets, Inlets<FrameParcel>), AllocError>
+fn open_links(alloc: Global, count: u32, room: u32) -> Result<(Outlets, Inlets<Frame>), AllocError>
     ensures joined { IfOk result (λ ends. AreJoined ends.0 ends.1) }
     ensures wide { IfOk result (λ ends. length ends.0.ends.items ≡ count) }
     ensures unused { IfOk result (λ ends. IsUnused ends.0) }
@@ -143,7 +143,7 @@ fn open_links(
     let mut outlets = Vec::new(alloc);
     let mut inlets = Vec::new(alloc);
     for _from in 0..count {
-        let (producer, consumer) = RingBuffer::<FrameParcel>::new(alloc, room as usize)?;
+        let (producer, consumer) = RingBuffer::<Parcel<Frame>>::new(alloc, room as usize)?;
         outlets.push(producer)?;
         inlets.push(consumer)?;
     }

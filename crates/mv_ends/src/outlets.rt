@@ -4,7 +4,8 @@ ghost use Rattle.std.specs.Prelude.{◌≡◌, ◌<◌, length};
 ghost use Rattle.std.specs.Prelude.{IsTrue, IsFalse};
 
 use crate::inlets::Inlets;
-use crate::parcel::FrameParcel;
+use crate::parcel::Parcel;
+use mv_link::Frame;
 use mv_message::Party;
 use rtrb::Producer;
 
@@ -12,7 +13,7 @@ use rtrb::Producer;
 #[derive(Drop)]
 pub struct Outlets {
     /// The ends, that of the ring of party 0 first.
-    ends: Vec<Producer<FrameParcel>>,
+    ends: Vec<Producer<Parcel<Frame>>>,
 }
 
 impl Outlets {
@@ -21,7 +22,7 @@ impl Outlets {
     ghost use Rattle.mv_ends.specs.Outlets.{Outlet, put_of, HasRoomFor, IsFullFor, SameOutlets, PutsNothing, Puts};
 
     /// The ends of these rings.
-    pub(crate) fn new(ends: Vec<Producer<FrameParcel>>) -> Outlets
+    pub(crate) fn new(ends: Vec<Producer<Parcel<Frame>>>) -> Outlets
         ensures { result.ends.items ≡ ends.items }
     {
         Outlets { ends }
@@ -39,7 +40,7 @@ impl Outlets {
     }
 
     /// Puts a frame on the ring of the link from a sender.
-    pub(crate) fn put(&mut self, from: Party, parcel: FrameParcel)
+    pub(crate) fn put(&mut self, from: Party, parcel: Parcel<Frame>)
         requires from { from < length self.old.ends.items }
         requires room { HasRoomFor self.old from }
         ensures same { SameOutlets self.old self.new }
@@ -49,7 +50,7 @@ impl Outlets {
     }
 
     /// Looks at both ends of the ring of the link from a sender: what the receiver took is a front of what was put.
-    pub(crate) fn look_beside(&mut self, from: Party, inlets: &mut Inlets<FrameParcel>)
+    pub(crate) fn look_beside(&mut self, from: Party, inlets: &mut Inlets<Frame>)
         requires joined { AreJoined self.old inlets.old }
         requires from { from < length inlets.old.ends.items }
         ensures same { SameOutlets self.old self.new }

@@ -1,118 +1,123 @@
 //! What crosses a ring: a message, or a frame, in memory of its own.
 //!
-//! Whoever puts something on a ring keeps what it has, and what it has may be shared with other lists of its own. So a parcel
-//! is made of a copy, or of a message that was made for it: nothing in it is held by anyone else. Whoever takes it from the ring
-//! owns all of it.
+//! Whoever puts something on a ring keeps what it has, and what it has may be shared with other lists of its own. So what goes on a
+//! ring is a parcel, of which nobody else holds anything: it is made of a message that is given by value, of a copy, or of other
+//! parcels; it is never shared, and is opened by value. Only the end that takes from a ring looks into what is at its front.
 
-ghost use Rattle.std.specs.Prelude.{◌≡◌, IfOk};
+ghost use Rattle.std.specs.Prelude.{◌≡◌, ◌<◌, [], ◌∷◌, length, IfOk};
+ghost use mathlib.Core.List.{IsPrefix};
+ghost use Rattle.rtrb.specs.Ring.{known_items};
 
-use mv_link::{Frame, Item};
+use mv_link::{Frame, Item, Reached};
 use mv_message::{Message, Shared};
+use rtrb::Consumer;
 use std::alloc::{AllocError, Global};
 use std::marker::Model;
 
-/// A message in memory of its own. Contracts see the message.
+/// Something in memory of its own, of which nobody else holds anything. Contracts see what is in it.
 #[derive(Drop)]
-pub struct MessageParcel {
-    /// The message, which nobody else holds.
-    message: Shared<Message>,
+pub struct Parcel<T> {
+    /// What is in it.
+    inside: T,
 }
 
-impl Model for MessageParcel {
-    ghost use Rattle.mv_message.specs.declared.message.Message.{Message};
+impl<T> Model for Parcel<T> {
+    ghost Value = { T };
 
-    ghost Value = { Message };
-
-    ghost view = { λ parcel. parcel.message };
+    ghost view = { λ parcel. parcel.inside };
 }
 
-impl MessageParcel {
-    /// A message that nobody else holds. Refused for want of memory.
-    pub(crate) fn new(alloc: Global, message: Message) -> Result<MessageParcel, AllocError>
+impl<T> Parcel<T> {
+    /// What is in it. It is no parcel any more.
+    pub(crate) fn open(self) -> T
+        ensures { result ≡ self }
+    {
+        self.inside
+    }
+}
+
+impl Parcel<Shared<Message>> {
+    /// A message in memory of its own, since it is given by value, and a message holds nothing that is shared. Refused for want of
+    /// memory.
+    pub(crate) fn of_message(
+        alloc: Global,
+        message: Message,
+    ) -> Result<Parcel<Shared<Message>>, AllocError>
         ensures { IfOk result (λ parcel. parcel ≡ message) }
     {
-        Ok(MessageParcel {
-            message: Shared::new(alloc, message)?,
-        })
+        let inside = Shared::new(alloc, message)?;
+        Ok(Parcel { inside })
     }
 
     /// A copy of a message. Refused for want of memory.
-    pub fn of(alloc: Global, message: &Message) -> Result<MessageParcel, AllocError>
+    pub(crate) fn of_copy(
+        alloc: Global,
+        message: &Message,
+    ) -> Result<Parcel<Shared<Message>>, AllocError>
         ensures { IfOk result (λ parcel. parcel ≡ message.now) }
     {
-        Ok(MessageParcel {
-            message: copy_of(alloc, message)?,
-        })
+        Parcel::of_message(alloc, message.copy(alloc)?)
     }
+}
 
-    /// The message.
-    pub fn message(&self) -> &Shared<Message>
-        ensures { result.now ≡ self.now }
+impl Parcel<Item> {
+    /// A receipt, which holds nothing that can be shared.
+    fn receipt(k: u32, reach: Reached, query: bool) -> Parcel<Item>
+        ensures { result ≡ Item.Receipt k reach query }
     {
-        &self.message
+        Parcel {
+            inside: Item::Receipt { k, reach, query },
+        }
+    }
+
+    /// A message that is carried.
+    fn carried(k: u32, stamp: u32, message: Parcel<Shared<Message>>) -> Parcel<Item>
+        ensures { result ≡ Item.Carried k stamp message }
+    {
+        let message = message.open();
+        Parcel {
+            inside: Item::Carried { k, stamp, message },
+        }
+    }
+
+    /// A copy of an item. Refused for want of memory.
+    fn of_item(alloc: Global, item: &Item) -> Result<Parcel<Item>, AllocError>
+        ensures { IfOk result (λ parcel. parcel ≡ item.now) }
+    {
+        match item {
+            Item::Receipt { k, reach, query } => Ok(Parcel::receipt(*k, reach.copy(), *query)),
+            Item::Carried { k, stamp, message } => {
+                let message = Parcel::of_copy(alloc, message.get())?;
+                Ok(Parcel::carried(*k, *stamp, message))
+            }
+        }
     }
 }
 
-/// A frame in memory of its own. Contracts see the frame.
-#[derive(Drop)]
-pub struct FrameParcel {
-    /// The frame, whose item nobody else holds.
-    frame: Frame,
-}
+impl Parcel<Frame> {
+    /// A frame of an item.
+    fn framed(number: u32, item: Parcel<Item>) -> Parcel<Frame>
+        ensures { result ≡ record { number = number; item = item } }
+    {
+        let item = item.open();
+        Parcel {
+            inside: Frame { number, item },
+        }
+    }
 
-impl Model for FrameParcel {
-    ghost use Rattle.mv_link.specs.declared.item.Frame.{Frame};
-
-    ghost Value = { Frame };
-
-    ghost view = { λ parcel. parcel.frame };
-}
-
-impl FrameParcel {
     /// A copy of a frame. Refused for want of memory.
-    pub fn of(alloc: Global, frame: &Frame) -> Result<FrameParcel, AllocError>
+    pub(crate) fn of_frame(alloc: Global, frame: &Frame) -> Result<Parcel<Frame>, AllocError>
         ensures { IfOk result (λ parcel. parcel ≡ frame.now) }
     {
-        Ok(FrameParcel {
-            frame: Frame {
-                number: frame.number,
-                item: item_of(alloc, &frame.item)?,
-            },
-        })
-    }
-
-    /// The frame.
-    pub fn frame(&self) -> &Frame
-        ensures { result.now ≡ self.now }
-    {
-        &self.frame
+        let item = Parcel::of_item(alloc, &frame.item)?;
+        Ok(Parcel::framed(frame.number, item))
     }
 }
 
-/// A copy of a message in a block of its own.
-fn copy_of(alloc: Global, message: &Message) -> Result<Shared<Message>, AllocError>
-    ensures { IfOk result (λ copied. copied ≡ message.now) }
+/// What is in the parcel at the front of a ring, for the end that takes from it.
+pub(crate) fn front_of<T: Drop>(ring: &Consumer<Parcel<T>>) -> &T
+    requires { 0 < length (known_items ring.now) }
+    ensures { IsPrefix (result.now ∷ []) (known_items ring.now) }
 {
-    let Ok(copied) = message.copy(alloc) else {
-        return Err(AllocError);
-    };
-    Shared::new(alloc, copied)
-}
-
-/// A copy of an item in memory of its own.
-fn item_of(alloc: Global, item: &Item) -> Result<Item, AllocError>
-    ensures { IfOk result (λ copied. copied ≡ item.now) }
-{
-    match item {
-        Item::Receipt { k, reach, query } => Ok(Item::Receipt {
-            k: *k,
-            reach: reach.copy(),
-            query: *query,
-        }),
-        Item::Carried { k, stamp, message } => Ok(Item::Carried {
-            k: *k,
-            stamp: *stamp,
-            message: copy_of(alloc, message.get())?,
-        }),
-    }
+    &ring.peek_known().inside
 }

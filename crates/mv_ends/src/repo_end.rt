@@ -9,7 +9,8 @@ ghost use Rattle.mv_party.specs.Site.{IsLawfulParty, new_site};
 
 use crate::answering::{answer_parcel, is_full, put_answer};
 use crate::inlets::Inlets;
-use crate::parcel::{FrameParcel, MessageParcel};
+use crate::parcel::Parcel;
+use mv_link::Frame;
 use mv_machine::{Limits, Refusal, Reply};
 use mv_message::{Message, Party, Shared};
 use mv_pack::PackKey;
@@ -28,9 +29,9 @@ pub struct RepoEnd {
     /// The party: its submissions and its repository.
     site: Site,
     /// The end of the party's uplink.
-    uplink: Producer<MessageParcel>,
+    uplink: Producer<Parcel<Shared<Message>>>,
     /// The ends of the links to the party.
-    inlets: Inlets<FrameParcel>,
+    inlets: Inlets<Frame>,
     /// What was put on the uplink is what the party submitted.
     ghost pushed: { sent uplink ≡ site.submissions },
     /// There is a link from each party.
@@ -50,8 +51,8 @@ impl RepoEnd {
         party: Party,
         count: u32,
         limits: Limits,
-        uplink: Producer<MessageParcel>,
-        inlets: Inlets<FrameParcel>,
+        uplink: Producer<Parcel<Shared<Message>>>,
+        inlets: Inlets<Frame>,
     ) -> Result<RepoEnd, AllocError>
         requires pushed { sent uplink ≡ [] }
         requires each { length inlets.ends.items ≡ count }
@@ -99,23 +100,24 @@ impl RepoEnd {
         self.site.repository()
     }
 
-    /// Submits a message that is neither a query nor an answer: a copy goes on the uplink.
+    /// Submits a message that is neither a query nor an answer: a copy of it is kept, and another goes on the uplink, so that the end
+    /// shares nothing with its caller.
     ///
     /// Answers `Submitted`, or the first of these refusals that holds: S2, the message is a query or an answer; S3, the uplink
     /// has no room; S4, the party submitted as many messages as it may; S14, memory was refused. S3 may be told though room
     /// was just made.
-    pub fn submit(&mut self, message: &Shared<Message>) -> Reply
+    pub fn submit(&mut self, message: &Message) -> Reply
         ensures same { SameRepoEnd self.old self.new }
         ensures reply { Submits message.now self.old self.new result }
     {
         let full = is_full(&mut self.uplink);
-        if let Err(fault) = self.site.check(message.get(), full) {
+        if let Err(fault) = self.site.check(message, full) {
             return Reply::Refused(Refusal::from(fault));
         }
-        let Ok(submitted) = MessageParcel::of(self.alloc, message.get()) else {
+        let Ok((kept, submitted)) = copies_of(self.alloc, message) else {
             return Reply::Refused(Refusal::Memory);
         };
-        match self.site.submit(message, full) {
+        match self.site.submit(&kept, full) {
             Ok(k) => {
                 self.uplink.push_reserved(submitted);
                 Reply::Submitted { k }
@@ -136,7 +138,7 @@ impl RepoEnd {
         if let Err(fault) = self.site.check_room(full) {
             return Reply::Refused(Refusal::from(fault));
         }
-        let Ok(asked) = MessageParcel::new(self.alloc, Message::Query { key: key.copy() }) else {
+        let Ok(asked) = Parcel::of_message(self.alloc, Message::Query { key: key.copy() }) else {
             return Reply::Refused(Refusal::Memory);
         };
         match self.site.ask(key, full) {
@@ -185,7 +187,7 @@ impl RepoEnd {
             return Reply::Refused(Refusal::WireEmpty);
         }
         let full = is_full(&mut self.uplink);
-        let frame = self.inlets.front(from).frame();
+        let frame = self.inlets.front(from);
         let number = frame.number;
         let Ok(parcel) = answer_parcel(self.alloc, &self.site, from, frame, full) else {
             return Reply::Refused(Refusal::Memory);
@@ -194,10 +196,23 @@ impl RepoEnd {
             Ok(taken) => {
                 // Nothing fails from here on: the answer goes out before its query's frame is taken.
                 put_answer(&mut self.uplink, parcel);
-                let _parcel = self.inlets.take(from);
+                let _frame = self.inlets.take(from);
                 Reply::of_taken(number, taken)
             }
             Err(fault) => Reply::Refused(Refusal::from(fault)),
         }
     }
+}
+
+/// A copy of a message to be kept, and another that goes on a ring. Refused for want of memory.
+fn copies_of(
+    alloc: Global,
+    message: &Message,
+) -> Result<(Shared<Message>, Parcel<Shared<Message>>), AllocError>
+    ensures kept { IfOk result (λ copies. copies.0 ≡ message.now) }
+    ensures parcel { IfOk result (λ copies. copies.1 ≡ message.now) }
+{
+    let kept = Parcel::of_copy(alloc, message)?;
+    let parcel = Parcel::of_copy(alloc, message)?;
+    Ok((kept.open(), parcel))
 }

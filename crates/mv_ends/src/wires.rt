@@ -7,8 +7,9 @@ ghost use Rattle.mv_link.specs.declared.item.Item.{Item as AnItem};
 ghost use Rattle.mv_repository.specs.Log.{items_from};
 
 use crate::outlets::Outlets;
-use crate::parcel::FrameParcel;
+use crate::parcel::Parcel;
 use crate::repo_end::RepoEnd;
+use mv_link::Frame;
 use mv_message::Party;
 
 /// The hub's ends of all links, by the party that they go to.
@@ -44,7 +45,7 @@ impl Wires {
     }
 
     /// Puts a frame on the ring of a link.
-    pub(crate) fn put(&mut self, from: Party, to: Party, parcel: FrameParcel)
+    pub(crate) fn put(&mut self, from: Party, to: Party, parcel: Parcel<Frame>)
         requires ends { AreBetween self.old from to }
         requires room { HasRoomOn self.old from to }
         ensures same { SameWires self.old self.new }

@@ -14,7 +14,7 @@
 //!         return false;
 //!     }
 //!     match hub.route(from, message) {
-//!         Ok((number, reach)) => number == k && reach.as_slice() == reached,
+//!         Ok((number, reach)) => number == k && reach.to_reach().as_slice() == reached,
 //!         Err(_) => false,
 //!     }
 //! }

@@ -1,35 +1,27 @@
 -- Lemmas on what `work` writes.
-use Rattle.std.proofs.Common.{◌≡◌, ℕ, List, ◌++◌, refl, ap, sym, ◌∙◌, subst, true≢false, ◌⊎◌, inl, inr, length, arith, string_bytes}
-use Rattle.std.proofs.lemmas.List.{length-map}
-use Rattle.std.specs.declared.alloc.Global.{Global}
-use Rattle.std.specs.declared.vec.Vec.{Vec}
+use Rattle.std.proofs.Common.{◌≡◌, ℕ, List, ◌++◌, refl, ap, sym, ◌∙◌, subst, true≢false, ◌⊎◌, inl, inr, string_bytes}
 use Rattle.std.specs.Prelude.{◌↔◌, IsTrue, IfOk, IfErr, IfSome, Option, Some, None, Result, Ok, Err, Bool, true, false}
 use Rattle.mv_machine.specs.State.{State}
 use Rattle.mv_workers.specs.declared.plan.Plan.{Plan}
-use Rattle.mv_message.specs.declared.message.Message.{Message}
 use Rattle.mv_workers.specs.declared.plan.WorkFault.{WorkFault}
 use Rattle.mv_workers.specs.declared.plan.WorkFault.TheVariants as faults
 use Rattle.mv_workers.specs.Plans.{IsSound, KeepsPlan, IsComplete, Faults}
 use Rattle.mv_tool.specs.declared.working.Output.{Output}
 use Rattle.mv_lines.specs.declared.fault.ServeFault.{ServeFault}
 use Rattle.mv_lines.specs.declared.fault.ServeFault.TheVariants.{Memory, Start}
-use Rattle.mv_plan.specs.Drafts.{Parts, parts_in, CanRun}
+use Rattle.mv_plan.specs.Drafts.{Parts, CanRun}
 use Rattle.mv_report.specs.Report.{report_text}
 use Rattle.mv_plan.specs.Planning.{Planned}
 use Rattle.mv_plan.specs.Reading.{IsRead}
 use Rattle.mv_lines.specs.Output.{WrotePart}
-use Rattle.mv_tool.specs.Working.{end_line, Written, report_of, output_of, IsReported, IsOutput, IsWorked, Worked, Failed}
+use Rattle.mv_tool.specs.Working.{end_line, parts_of, Written, report_of, output_of, IsReported, IsOutput, IsWorked, Worked, Failed}
 use Rattle.std.specs.Io.KnownBytes.{Appends, Keeps}
 
 -- a plan of parts that can be run can be run
-pub sound_of : (plan : Plan) (parts : Parts) → parts_in plan.parties plan.limits plan.work.items ≡ parts → CanRun parts → IsSound plan
+pub sound_of : (plan : Plan) (parts : Parts) → parts_of plan ≡ parts → CanRun parts → IsSound plan
 sound_of plan parts same runs =
-    let kept : CanRun (parts_in plan.parties plan.limits plan.work.items) = subst CanRun (sym same) runs in
-    let count : length (parts_in plan.parties plan.limits plan.work.items).work ≡ length plan.work.items = length-map plan.work.items (λ (list : Vec Message Global). list.items) in
-    record {
-      each = sym count ∙ kept.each;
-      no_answers = λ party below. kept.no_answers party (omega (arith, below, count));
-    }
+    let kept : CanRun (parts_of plan) = subst CanRun (sym same) runs in
+    record { each = kept.each; no_answers = kept.no_answers }
 
 -- what was reported is what is written of an outcome
 pub reported_of : {E : Type 0} (r : Result Output E) (ran : Result State WorkFault) (outcome : State) (finished : Bool)
@@ -47,7 +39,7 @@ written_in other (Err fault) = other
 -- what is written of an outcome of a plan is its report
 reported_as : (output : Output) (plan : Plan) (outcome : State) (finished : Bool) → KeepsPlan plan outcome → IsTrue finished ↔ IsComplete plan outcome
     → report_of finished outcome ≡ record { text = string_bytes output.text; finished = output.finished }
-    → IsReported (parts_in plan.parties plan.limits plan.work.items) (string_bytes output.text) output.finished
+    → IsReported (parts_of plan) (string_bytes output.text) output.finished
 reported_as output plan outcome finished keeps complete is =
     let done : finished ≡ output.finished = ap (λ (it : Written). it.finished) is in
     record {
@@ -63,7 +55,7 @@ reported_as output plan outcome finished keeps complete is =
 pub run_reported : (output : Output) (plan : Plan) (ran : Result State WorkFault)
     → IfOk ran (λ outcome. IsSound plan × KeepsPlan plan outcome × IsComplete plan outcome) → IfErr ran (λ fault. Faults plan fault)
     → output_of ran ≡ Ok (record { text = string_bytes output.text; finished = output.finished })
-    → IsReported (parts_in plan.parties plan.limits plan.work.items) (string_bytes output.text) output.finished
+    → IsReported (parts_of plan) (string_bytes output.text) output.finished
 unfolding written_in
 run_reported output plan (Ok outcome) kept fails is =
     reported_as output plan outcome true kept.1 (λ told. kept.2, λ complete. refl) (ap (written_in (report_of true outcome)) is)

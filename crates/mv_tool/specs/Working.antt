@@ -13,7 +13,7 @@ use Rattle.mv_lines.specs.declared.open_fault.OpenFault.TheVariants.{NotOpen}
 use Rattle.mv_lines.specs.Openings.{code_of}
 use Rattle.mv_lines.specs.Output.{WrotePart}
 use Rattle.mv_lines.specs.ReplyLines.{refused}
-use Rattle.mv_plan.specs.Drafts.{Parts, parts_in}
+use Rattle.mv_plan.specs.Drafts.{Parts}
 use Rattle.mv_plan.specs.Planning.{Planned}
 use Rattle.mv_plan.specs.Reading.{IsRead, Unread}
 use Rattle.mv_report.specs.Report.{report_text}
@@ -39,10 +39,14 @@ output_of (Err (faults.Memory outcome)) = Err Memory
 output_of (Err faults.Start) = Err Start
 output_of (Err faults.Plan) = Err Start
 
+-- the parts of a plan that is run
+abbrev pub parts_of : Plan → Parts
+parts_of plan = record { parties = plan.parties; limits = plan.limits; work = plan.work }
+
 -- The output is the report of an outcome of the plan, and says that it is finished exactly where that is complete.
 pub record IsReported (parts : Parts) (out : List ℕ) (finished : Bool) : Type 0 where
   pub plan : Plan
-  pub planned : parts_in plan.parties plan.limits plan.work.items ≡ parts
+  pub planned : parts_of plan ≡ parts
   pub outcome : State
   pub keeps : KeepsPlan plan outcome
   pub complete : IsTrue finished ↔ IsComplete plan outcome

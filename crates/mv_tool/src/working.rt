@@ -3,15 +3,15 @@
 ghost use Rattle.std.specs.Prelude.{◌≡◌, ◌++◌, ◌∷◌, [], ◌⊎◌, false, IfOk, IfErr, IfSome, string_bytes};
 ghost use Rattle.mv_workers.specs.Plans.{IsSound};
 ghost use Rattle.mv_plan.specs.Planning.{planned_of};
-ghost use Rattle.mv_plan.specs.Drafts.{Parts, parts_in};
+ghost use Rattle.mv_plan.specs.Drafts.{Parts};
 ghost use Rattle.mv_report.specs.Report.{report_text};
-ghost use Rattle.mv_tool.specs.Working.{end_line, output_of, IsReported, IsOutput, Worked, Failed};
+ghost use Rattle.mv_tool.specs.Working.{end_line, parts_of, output_of, IsReported, IsOutput, Worked, Failed};
 
 use mv_ends::Outcome;
 use mv_lines::{OpenFault, ServeFault, put_out, refusal_text};
 use mv_plan::{Draft, Planned, read_plan};
 use mv_report::report;
-use mv_workers::{Gate, Plan, WorkFault, run_workers};
+use mv_workers::{Gate, Plan, Work, WorkFault, run_workers};
 use std::alloc::Global;
 use std::io::{Read, Write};
 use std::marker::Sync;
@@ -77,14 +77,14 @@ fn carry_out<H: Threads + Wait + Sync, G: Gate>(
 /// The plan of these parts.
 #[tactic(auto, using(crate::proofs::WorkLemmas::sound_of))]
 fn plan_of(draft: Draft) -> Plan
-    ensures parts { parts_in result.parties result.limits result.work.items ≡ draft }
+    ensures parts { parts_of result ≡ draft }
     ensures sound { IsSound result }
 {
     let (parties, limits, work) = draft.into_parts();
     Plan {
         parties,
         limits,
-        work,
+        work: Work::new(work),
     }
 }
 
@@ -111,7 +111,7 @@ fn run<H: Threads + Wait + Sync, G: Gate>(
     gate: &G,
 ) -> Result<Output, ServeFault>
     requires sound { IsSound plan }
-    ensures ok { IfOk result (λ output. IsReported (parts_in plan.parties plan.limits plan.work.items)
+    ensures ok { IfOk result (λ output. IsReported (parts_of plan)
         (string_bytes output.text) output.finished) }
     ensures err { IfErr result (λ fault. (fault ≡ ServeFault.Memory) ⊎ (fault ≡ ServeFault.Start)) }
 {

@@ -13,13 +13,13 @@ use mv_ends::{
 };
 use mv_hub::Parties;
 use mv_machine::Limits;
-use mv_message::{Message, Party, Shared};
+use mv_message::{Message, Party};
 use mv_pack::PackKey;
 use mv_repository::Local;
 use std::alloc::Global;
 
 /// Has each party submit a message.
-fn submit_at_each(repos: &mut Vec<RepoEnd>, message: &Shared<Message>)
+fn submit_at_each(repos: &mut Vec<RepoEnd>, message: &Message)
     ensures { AreSameRepos repos.old.items repos.new.items }
 {
     repo_ends_stay();
@@ -55,7 +55,7 @@ pub fn outcome_in_turn(
     alloc: Global,
     parties: Parties,
     limits: Limits,
-    message: &Shared<Message>,
+    message: &Message,
 ) -> Option<Outcome>
     ensures { IfSome result (λ outcome. RepositoriesAgree outcome) }
 {

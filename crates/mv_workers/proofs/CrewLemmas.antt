@@ -5,12 +5,12 @@ use Rattle.mv_ends.specs.declared.repo_end.RepoEnd.{RepoEnd}
 use Rattle.mv_ends.specs.RepoEnd.{SameRepoEnd}
 use Rattle.mv_ends.specs.Laws.{AreSameRepos}
 use Rattle.mv_ends.proofs.OpeningLemmas.{some_of}
-use Rattle.mv_workers.specs.Work.{Work, Begins}
+use Rattle.mv_workers.specs.Work.{Begins}
 use Rattle.mv_workers.specs.Turns.{own_of}
 use Rattle.mv_workers.specs.Crews.{Handle, AllBegin, AllPromised, AllKept}
 
 -- the ends are those that the workers were started with
-pub same_back : (repos after : List RepoEnd) (work : Work) (handles : List Handle) → AllPromised repos work handles → AllKept handles after → AreSameRepos repos after
+pub same_back : (repos after : List RepoEnd) (work : List (List Message)) (handles : List Handle) → AllPromised repos work handles → AllKept handles after → AreSameRepos repos after
 same_back repos after work handles promised kept = (
   kept.0 ∙ promised.0,
   λ party absent below.
@@ -20,7 +20,7 @@ same_back repos after work handles promised kept = (
 )
 
 -- each party's list was begun at its end
-pub begun_back : (repos after : List RepoEnd) (work : Work) (handles : List Handle) → AllPromised repos work handles → AllKept handles after → AllBegin work after
+pub begun_back : (repos after : List RepoEnd) (work : List (List Message)) (handles : List Handle) → AllPromised repos work handles → AllKept handles after → AllBegin work after
 begun_back repos after work handles promised kept = λ party absent below.
     let among : party < length repos = omega (arith, promised.0, kept.0, below) in
     let handle = some_of handles party (omega (arith, promised.0, among)) in

@@ -5,7 +5,7 @@ use Rattle.mv_message.specs.declared.message.Message.{Message}
 use Rattle.mv_ends.specs.declared.repo_end.RepoEnd.{RepoEnd}
 use Rattle.mv_ends.specs.RepoEnd.{SameRepoEnd}
 use Rattle.mv_workers.specs.declared.crew.RepoPromise.{RepoPromise}
-use Rattle.mv_workers.specs.Work.{Work, list_at, Begins}
+use Rattle.mv_workers.specs.Work.{list_at, Begins}
 use Rattle.mv_workers.specs.Turns.{own_of, IsUnused}
 
 -- the handle of a repository's worker
@@ -17,7 +17,7 @@ abbrev pub AllUnused : List RepoEnd → Type 0
 AllUnused repos = (party : ℕ) (absent : RepoEnd) → party < length repos → IsUnused (slice_index_or repos party absent)
 
 -- what each end submitted of its own is where its party's list begins
-abbrev pub AllBegin : Work → List RepoEnd → Type 0
+abbrev pub AllBegin : List (List Message) → List RepoEnd → Type 0
 AllBegin work repos = (party : ℕ) (absent : RepoEnd) → party < length repos → Begins (own_of (slice_index_or repos party absent)) (list_at work party)
 
 -- a handle promises an end, at which a list was begun
@@ -25,7 +25,7 @@ abbrev pub IsPromised : RepoEnd → List Message → Handle → Type 0
 IsPromised end list handle = (handle.promise.was.value ≡ end) × (handle.promise.list.now ≡ list)
 
 -- each handle promises the end that stands at its place, and its party's list
-abbrev pub AllPromised : List RepoEnd → Work → List Handle → Type 0
+abbrev pub AllPromised : List RepoEnd → List (List Message) → List Handle → Type 0
 AllPromised repos work handles =
     (length handles ≡ length repos)
     × ((party : ℕ) (handle : Handle) (absent : RepoEnd) → party < length repos

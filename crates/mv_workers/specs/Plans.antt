@@ -11,8 +11,8 @@ use Rattle.mv_workers.specs.Done.{IsDone}
 
 -- A plan can be run: it has a list for each party, and no answer is planned.
 pub record IsSound (plan : Plan) : Type 0 where
-  pub each : length plan.work.items ≡ length plan.parties
-  pub no_answers : (party : ℕ) → party < length plan.work.items → answers_in (list_at plan.work.items party) ≡ []
+  pub each : length plan.work ≡ length plan.parties
+  pub no_answers : (party : ℕ) → party < length plan.work → answers_in (list_at plan.work party) ≡ []
 
 -- An outcome is one of a plan: it is lawful and has the plan's parties and limits, and what each party submitted of its own is where
 -- its list begins.
@@ -21,12 +21,12 @@ pub record KeepsPlan (plan : Plan) (outcome : State) : Type 0 where
   pub parties : outcome.parties ≡ plan.parties
   pub limits : outcome.limits ≡ plan.limits
   pub submitted : (party : ℕ) → party < length outcome.parties
-      → Begins (own_among (submissions_of outcome party)) (list_at plan.work.items party)
+      → Begins (own_among (submissions_of outcome party)) (list_at plan.work party)
 
 -- An outcome is complete: every planned message was submitted in order, all that was submitted was routed, and all that was routed was
 -- applied.
 abbrev pub IsComplete : Plan → State → Type 0
-IsComplete plan outcome = (party : ℕ) → party < length outcome.parties → IsDone outcome party (list_at plan.work.items party)
+IsComplete plan outcome = (party : ℕ) → party < length outcome.parties → IsDone outcome party (list_at plan.work party)
 
 -- why a run has no complete outcome
 abbrev pub Faults : Plan → WorkFault → Type 0

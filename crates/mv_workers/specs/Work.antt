@@ -5,13 +5,13 @@ use Rattle.std.specs.declared.vec.Vec.{Vec}
 use Rattle.mv_message.specs.declared.message.Message.{Message}
 use Rattle.mv_message.specs.declared.message.Message.TheVariants.{Answer}
 
--- what each party is to submit, party 0 first
-abbrev pub Work : Type 0
-Work = List (Vec Message Global)
+-- what each party is to submit, by the lists that are kept of it
+abbrev pub lists_of : List (Vec Message Global) → List (List Message)
+lists_of lists = map (λ (list : Vec Message Global). list.items) lists
 
 -- what one party is to submit, in order
-abbrev pub list_at : Work → ℕ → List Message
-list_at work party = slice_index_or (map (λ (list : Vec Message Global). list.items) work) party []
+abbrev pub list_at : List (List Message) → ℕ → List Message
+list_at work party = slice_index_or work party []
 
 -- a message is the answer to a query
 abbrev pub is_answer : Message → Bool

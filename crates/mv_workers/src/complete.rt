@@ -11,6 +11,7 @@ ghost use Rattle.mv_machine.specs.State.{is_party, submissions_of, log_of, hub_o
 ghost use Rattle.mv_workers.specs.Work.{list_at, own_among, is_answer, Begins};
 ghost use Rattle.mv_workers.specs.Done.{IsDone};
 
+use crate::work::Work;
 use mv_ends::Outcome;
 use mv_message::{Message, Party, Shared};
 use mv_repository::LogEntry;
@@ -80,7 +81,7 @@ fn is_done(outcome: &Outcome, party: Party, list: &[Shared<Message>]) -> bool
 }
 
 /// Whether each party is done with its list.
-pub(crate) fn is_complete(outcome: &Outcome, work: &[Vec<Shared<Message>>]) -> bool
+pub(crate) fn is_complete(outcome: &Outcome, work: &Work) -> bool
     requires each { length work.now ≡ length outcome.now.parties }
     requires begun { (party : ℕ) → party < length outcome.now.parties
         → Begins (own_among (submissions_of outcome.now party)) (list_at work.now party) }
@@ -88,7 +89,7 @@ pub(crate) fn is_complete(outcome: &Outcome, work: &[Vec<Shared<Message>>]) -> b
         → IsDone outcome.now party (list_at work.now party)) }
 {
     for party in 0..outcome.parties().len() {
-        if !is_done(outcome, party, work[party as usize].as_slice()) {
+        if !is_done(outcome, party, work.list(party as usize)) {
             return false;
         }
     }

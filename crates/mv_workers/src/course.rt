@@ -57,19 +57,28 @@ impl Course {
         })
     }
 
+    /// How many moves of all workers there were before a turn. None where the worker did something in the turn before: it is not
+    /// looked at whether nothing more can come until it rests twice.
+    pub(crate) fn moves_before(&self, pause: &Pause) -> Option<u64> {
+        if pause.is_begun() {
+            return Some(self.standstill.moves());
+        }
+        None
+    }
+
     /// Notes the turn of a worker, which began behind so many moves, and waits for its next. False where the worker takes no
     /// further one: memory was refused to it, or no worker can do anything any more.
     pub(crate) fn goes_on(
         &self,
         rt: &impl Wait,
         worker: u32,
-        moves: u64,
+        moves: Option<u64>,
         turn: Turn,
         pause: &mut Pause,
     ) -> bool {
         match turn {
             Turn::Rested => {
-                if self.standstill.rested(worker, moves) {
+                if moves.is_some_and(|moves| self.standstill.rested(worker, moves)) {
                     self.standstill.gone(worker);
                     return false;
                 }
@@ -77,12 +86,12 @@ impl Course {
                 true
             }
             Turn::Moved => {
-                self.standstill.moved();
+                self.standstill.moved(worker);
                 pause.reset();
                 true
             }
             Turn::Refused => {
-                self.standstill.moved();
+                self.standstill.moved(worker);
                 self.standstill.gone(worker);
                 false
             }

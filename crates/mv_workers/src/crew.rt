@@ -11,6 +11,7 @@ ghost use Rattle.mv_workers.specs.Crews.{AllUnused, AllBegin, IsPromised, AllPro
 use crate::course::Course;
 use crate::gate::Gate;
 use crate::turns::{hub_turns, repo_turns};
+use crate::work::Work;
 use mv_ends::{HubEnd, RepoEnd};
 use mv_message::{Message, Shared};
 use std::alloc::Global;
@@ -102,7 +103,7 @@ fn start_repos<'s, E, R: Wait + Sync, G: Gate>(
     scope: &Scope<'s, E>,
     rt: &'s R,
     repos: Vec<RepoEnd>,
-    work: &'s [Vec<Shared<Message>>],
+    work: &'s Work,
     gate: &'s G,
     course: &'s Course,
     into: Vec<RepoHandle<'s>>,
@@ -115,8 +116,7 @@ fn start_repos<'s, E, R: Wait + Sync, G: Gate>(
 {
     let mut handles = into;
     for end in repos {
-        let place = handles.len();
-        let list = work[place].as_slice();
+        let list = work.list(handles.len());
         let handle = start_repo(scope, rt, end, list, gate, course)?;
         handles.push_reserved(handle);
     }
@@ -130,7 +130,7 @@ fn start_crew<'s, E, R: Wait + Sync, G: Gate>(
     rt: &'s R,
     hub: HubEnd,
     repos: Vec<RepoEnd>,
-    work: &'s [Vec<Shared<Message>>],
+    work: &'s Work,
     gate: &'s G,
     course: &'s Course,
     into: Vec<RepoHandle<'s>>,
@@ -196,7 +196,7 @@ pub(crate) fn work_in<'s, E, R: Threads + Wait + Sync, G: Gate>(
     alloc: Global,
     hub: HubEnd,
     repos: Vec<RepoEnd>,
-    work: &'s [Vec<Shared<Message>>],
+    work: &'s Work,
     gate: &'s G,
     course: &'s Course,
 ) -> Option<CrewEnds>

@@ -34,7 +34,10 @@ mod run;
 mod standstill;
 mod start;
 mod turns;
+mod waiting;
+mod work;
 
 pub use gate::{Gate, NoGate};
 pub use plan::{Plan, WorkFault};
 pub use run::run_workers;
+pub use work::Work;

@@ -1,15 +1,13 @@
 //! How a worker that can do nothing waits for its next turn.
 
 use std::sync::Wait;
+use std::thread;
 use std::thread::Parker;
 use std::time::Duration;
-use std::{hint, thread};
 
-/// Up to so many rests in a row the worker goes on at once.
-const SPINS: u32 = 16;
-
-/// Up to so many it leaves its processor to others. Behind that it sleeps.
-const YIELDS: u32 = 64;
+/// Up to so many rests in a row the worker leaves its processor to others. Behind that it sleeps: a worker that looks at its rings again and
+/// again takes them from the cache of the one that puts there.
+const YIELDS: u32 = 4;
 
 /// How long its first sleep is, in microseconds. Each further one is twice as long, up to the longest.
 const FIRST_SLEEP: u64 = 50;
@@ -38,6 +36,11 @@ impl Pause {
         }
     }
 
+    /// Whether nothing was done in the turn before.
+    pub(crate) fn is_begun(&self) -> bool {
+        self.rests > 0
+    }
+
     /// Notes a turn in which something was done.
     pub(crate) fn reset(&mut self) {
         self.rests = 0;
@@ -46,10 +49,7 @@ impl Pause {
 
     /// Waits behind one more turn in which nothing was done.
     pub(crate) fn wait(&mut self, rt: &impl Wait) {
-        if self.rests < SPINS {
-            self.rests += 1;
-            hint::spin_loop();
-        } else if self.rests < YIELDS {
+        if self.rests < YIELDS {
             self.rests += 1;
             thread::yield_now();
         } else {

@@ -1,9 +1,9 @@
 //! What a run is to do, and why it has no complete outcome.
 
+use crate::work::Work;
 use mv_ends::Outcome;
 use mv_hub::Parties;
 use mv_machine::Limits;
-use mv_message::{Message, Shared};
 
 /// What each party is to submit, in order.
 #[derive(Drop)]
@@ -14,7 +14,7 @@ pub struct Plan {
     pub limits: Limits,
     /// A list for each party, party 0 first. A query in it is asked, whether the party holds the pack or not; an answer is none
     /// that can be planned.
-    pub work: Vec<Vec<Shared<Message>>>,
+    pub work: Work,
 }
 
 /// Why a run has no complete outcome.

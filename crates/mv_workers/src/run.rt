@@ -13,8 +13,8 @@ use crate::course::Course;
 use crate::crew::{CrewEnds, work_in};
 use crate::gate::Gate;
 use crate::plan::{Plan, WorkFault};
+use crate::work::Work;
 use mv_ends::{Outcome, ends_stay_ends, gather, open};
-use mv_message::{Message, Shared};
 use std::alloc::Global;
 use std::marker::Sync;
 use std::sync::Wait;
@@ -22,11 +22,11 @@ use std::thread;
 use std::thread::Threads;
 
 /// Whether no answer is among what parties are to submit.
-fn plans_no_answer(work: &[Vec<Shared<Message>>]) -> bool
+fn plans_no_answer(work: &Work) -> bool
     ensures { IsTrue result ↔ ((party : ℕ) → party < length work.now → answers_in (list_at work.now party) ≡ []) }
 {
     for party in 0..work.len() {
-        let list = work[party].as_slice();
+        let list = work.list(party);
         if own_count(list) != list.len() {
             return false;
         }
@@ -38,12 +38,12 @@ fn plans_no_answer(work: &[Vec<Shared<Message>>]) -> bool
 fn is_sound(plan: &Plan) -> bool
     ensures { IsTrue result ↔ IsSound plan.now }
 {
-    plan.work.len() == plan.parties.len() as usize && plans_no_answer(plan.work.as_slice())
+    plan.work.len() == plan.parties.len() as usize && plans_no_answer(&plan.work)
 }
 
 /// Runs one worker for the hub and one for each repository, each of which takes so many turns at most, and gathers their ends.
 ///
-/// In a turn the hub's worker routes once from each party and then relays once on each link; a repository's worker tries the next
+/// In a turn the hub's worker routes once from each party and then relays once on each link on which something waits; a repository's worker tries the next
 /// message of its party's list once, a query by asking it, and then passes the gate and looks for a frame once for each party. All
 /// take their first turn once all have started. A worker ends when memory is refused to it, and when nothing more can come in the
 /// whole run; one that can do nothing waits the longer the longer it can't.
@@ -70,7 +70,7 @@ pub fn run_workers<R: Threads + Wait + Sync, G: Gate>(
         return Err(WorkFault::Start);
     };
     let shared = &course;
-    let work = plan.work.as_slice();
+    let work = &plan.work;
     let ends = thread::scope(
         thread::scope_env(),
         rt,

@@ -3,6 +3,9 @@
 //! A worker rests where each call of its turn was refused, and what a call answers follows from its end and from what is on its
 //! rings. So once every worker has rested, each in a turn that began behind the last move of any, every call would be refused for
 //! ever. No contract speaks of this: a run that ended early is complete or not by what it left.
+//!
+//! Each worker writes its own counts alone, and only one that rests looks at those of all. Counts only grow: where their sum is what
+//! it was, no worker has moved between.
 
 use std::alloc::{AllocError, Global};
 use std::sync::atomic::{AtomicU64, Ordering};
@@ -10,44 +13,60 @@ use std::sync::atomic::{AtomicU64, Ordering};
 /// What stands for a worker that takes no turn any more.
 const GONE: u64 = u64::MAX;
 
+/// What is noted of a worker.
+#[derive(Drop)]
+struct Notes {
+    /// How many of its turns there were in which something was done.
+    moves: AtomicU64,
+    /// 0, or one more than the moves of all workers that it saw when its last rest began, or [`GONE`].
+    rest: AtomicU64,
+    /// So wide that the notes of two workers never are in one line of a processor's cache.
+    apart: [u64; 6],
+}
+
 /// Notes the moves and the rests of the workers of a run.
 #[derive(Drop)]
 pub(crate) struct Standstill {
-    /// How many turns there were in which something was done.
-    moves: AtomicU64,
-    /// For each worker 0, or one more than the moves that there were when its last rest began, or [`GONE`].
-    rests: Vec<AtomicU64>,
+    /// The notes of each worker.
+    notes: Vec<Notes>,
 }
 
 impl Standstill {
     /// For so many workers, none of which took a turn yet. Refused for want of memory.
     pub(crate) fn new(alloc: Global, workers: u32) -> Result<Standstill, AllocError> {
-        let mut rests = Vec::new(alloc);
+        let mut notes = Vec::new(alloc);
         for _ in 0..workers {
-            rests.push(AtomicU64::new(0))?;
+            notes.push(Notes {
+                moves: AtomicU64::new(0),
+                rest: AtomicU64::new(0),
+                apart: [0; 6],
+            })?;
         }
-        Ok(Standstill {
-            moves: AtomicU64::new(0),
-            rests,
-        })
+        Ok(Standstill { notes })
     }
 
-    /// How many moves there were.
+    /// How many moves there were of all workers.
     pub(crate) fn moves(&self) -> u64 {
-        self.moves.load(Ordering::SeqCst)
+        let mut moves = 0_u64;
+        for notes in self.notes.iter() {
+            moves = moves.wrapping_add(notes.moves.load(Ordering::SeqCst));
+        }
+        moves
     }
 
-    /// Notes that something was done in a turn, before the worker's next turn begins.
-    pub(crate) fn moved(&self) {
-        self.moves.fetch_add(1, Ordering::SeqCst);
+    /// Notes that a worker did something in a turn, before its next turn begins.
+    pub(crate) fn moved(&self, worker: u32) {
+        if let Some(notes) = self.notes.get(worker as usize) {
+            notes.moves.fetch_add(1, Ordering::SeqCst);
+        }
     }
 
-    /// Notes that nothing was done in a turn that began behind so many moves. True where no worker can do anything any more.
+    /// Notes that a worker did nothing in a turn that began behind so many moves. True where no worker can do anything any more.
     pub(crate) fn rested(&self, worker: u32, moves: u64) -> bool {
         let rest = moves.wrapping_add(1);
         self.note(worker, rest);
-        for noted in self.rests.iter() {
-            let noted = noted.load(Ordering::SeqCst);
+        for notes in self.notes.iter() {
+            let noted = notes.rest.load(Ordering::SeqCst);
             if noted != rest && noted != GONE {
                 return false;
             }
@@ -62,8 +81,8 @@ impl Standstill {
 
     /// Writes down what stands for a worker from now on.
     fn note(&self, worker: u32, rest: u64) {
-        if let Some(noted) = self.rests.get(worker as usize) {
-            noted.store(rest, Ordering::SeqCst);
+        if let Some(notes) = self.notes.get(worker as usize) {
+            notes.rest.store(rest, Ordering::SeqCst);
         }
     }
 }

@@ -9,6 +9,7 @@ ghost use Rattle.mv_workers.specs.Turns.{own_of, IsUnused, HasSubmitted, Tries};
 use crate::course::{Course, Turn};
 use crate::gate::Gate;
 use crate::pause::Pause;
+use crate::waiting::Waiting;
 use mv_ends::{HubEnd, RepoEnd, hub_end_stays, repo_end_stays};
 use mv_machine::{Refusal, Reply};
 use mv_message::{Message, Party, Shared};
@@ -40,7 +41,7 @@ fn submit_next(
     if count >= list.len() {
         return (count, Ok(false));
     }
-    let reply = submit_one(end, &list[count]);
+    let reply = submit_one(end, list[count].get());
     match &reply {
         Reply::Submitted { .. } | Reply::Asked { .. } => (count + 1, Ok(true)),
         refused => (count, has_moved(refused)),
@@ -48,13 +49,13 @@ fn submit_next(
 }
 
 /// Tries to submit a message once: a query is asked.
-fn submit_one(end: &mut RepoEnd, message: &Shared<Message>) -> Reply
+fn submit_one(end: &mut RepoEnd, message: &Message) -> Reply
     ensures same { SameRepoEnd end.old end.new }
     ensures reply { Tries message.now end.old end.new result }
 {
-    match message.get() {
+    match message {
         Message::Query { key } => end.ask(key),
-        _ => end.submit(message),
+        own => end.submit(own),
     }
 }
 
@@ -119,7 +120,7 @@ pub(crate) fn repo_turns<R: Wait, G: Gate>(
     let worker = end.party();
     let mut pause = Pause::new();
     for _turn in 0..course.turns {
-        let moves = course.standstill.moves();
+        let moves = course.moves_before(&pause);
         let (after, moved) = repo_turn(&mut end, list, count, course.parties, gate);
         count = after;
         let turn = Turn::of(moved);
@@ -132,37 +133,50 @@ pub(crate) fn repo_turns<R: Wait, G: Gate>(
 }
 
 /// Routes once from each party.
-fn route_each(hub: &mut HubEnd, parties: u32) -> Result<bool, AllocError>
+fn route_each(hub: &mut HubEnd, waiting: &mut Waiting, parties: u32) -> Result<bool, AllocError>
     ensures { SameHubEnd hub.old hub.new }
 {
     hub_end_stays();
     let mut moved = false;
     for from in 0..parties {
-        moved |= has_moved(&hub.route(from))?;
+        let reply = hub.route(from);
+        waiting.note_routed(from, &reply);
+        moved |= has_moved(&reply)?;
     }
     Ok(moved)
 }
 
-/// Relays once on each link from a party.
-fn relay_from(hub: &mut HubEnd, from: Party, parties: u32) -> Result<bool, AllocError>
+/// Relays once on each link from a party on which something may wait.
+fn relay_from(
+    hub: &mut HubEnd,
+    waiting: &mut Waiting,
+    from: Party,
+    parties: u32,
+) -> Result<bool, AllocError>
     ensures { SameHubEnd hub.old hub.new }
 {
     hub_end_stays();
     let mut moved = false;
     for to in 0..parties {
-        moved |= has_moved(&hub.relay(from, to))?;
+        if waiting.has(from, to) {
+            let reply = hub.relay(from, to);
+            waiting.note_relayed(from, to, &reply);
+            moved |= has_moved(&reply)?;
+        }
     }
     Ok(moved)
 }
 
-/// A turn of the hub's worker: it routes once from each party, and then relays once on each link.
-fn hub_turn(hub: &mut HubEnd, parties: u32) -> Result<bool, AllocError>
+/// A turn of the hub's worker: it routes once from each party, and then relays once on each link on which something may wait.
+fn hub_turn(hub: &mut HubEnd, waiting: &mut Waiting, parties: u32) -> Result<bool, AllocError>
     ensures { SameHubEnd hub.old hub.new }
 {
     hub_end_stays();
-    let mut moved = route_each(hub, parties)?;
+    let mut moved = route_each(hub, waiting, parties)?;
     for from in 0..parties {
-        moved |= relay_from(hub, from, parties)?;
+        if waiting.has_any(from) {
+            moved |= relay_from(hub, waiting, from, parties)?;
+        }
     }
     Ok(moved)
 }
@@ -177,10 +191,11 @@ pub(crate) fn hub_turns<R: Wait>(rt: &R, hub: HubEnd, course: &Course) -> (HubEn
         return (hub, false);
     }
     let worker = course.parties;
+    let mut waiting = Waiting::new();
     let mut pause = Pause::new();
     for _turn in 0..course.turns {
-        let moves = course.standstill.moves();
-        let turn = Turn::of(hub_turn(&mut hub, course.parties));
+        let moves = course.moves_before(&pause);
+        let turn = Turn::of(hub_turn(&mut hub, &mut waiting, course.parties));
         if !course.goes_on(rt, worker, moves, turn, &mut pause) {
             return (hub, turn.is_refused());
         }

@@ -31,7 +31,7 @@ fn called(end: RepoEnd, step: &Step) -> (RepoEnd, Reply)
     let mut end = end;
     match step {
         Step::Submit { from: _, message } => {
-            let reply = end.submit(message);
+            let reply = end.submit(message.get());
             (end, reply)
         }
         Step::Verify { party: _, key } => {

@@ -5,7 +5,7 @@ use mv_machine::Limits;
 use mv_message::{Message, Party, Shared};
 use mv_plan::{Planned, read_plan};
 use mv_tool::work;
-use mv_workers::{Gate, NoGate, Plan, WorkFault, run_workers};
+use mv_workers::{Gate, NoGate, Plan, Work, WorkFault, run_workers};
 use std::alloc::Global;
 use std::io::Cursor;
 use std::marker::Sync;
@@ -85,7 +85,7 @@ fn empty_plan(alloc: Global, lists: usize) -> Option<Plan> {
     Some(Plan {
         parties: Parties::new(alloc, parties).ok()?,
         limits: Limits::of(8, 8, 8, 1000).ok()?,
-        work,
+        work: Work::new(work),
     })
 }
 

@@ -260,7 +260,7 @@ fn refuses_what_the_ends_lists_say(rt: HostRuntime) {
 
 /// Submits a message at the first of the ends of repositories.
 #[tactic(auto, using(mv_ends::proofs::LookLemmas::same_but_one, mv_ends::proofs::LookLemmas::repo_itself))]
-fn submit_first(repos: &mut Vec<RepoEnd>, message: &Shared<Message>)
+fn submit_first(repos: &mut Vec<RepoEnd>, message: &Message)
     ensures { AreSameRepos repos.old.items repos.new.items }
 {
     if repos.is_empty() {
@@ -274,7 +274,7 @@ fn routed_at_once(
     alloc: Global,
     parties: Parties,
     limits: Limits,
-    message: &Shared<Message>,
+    message: &Message,
 ) -> Option<Outcome> {
     let Ok((mut hub, mut repos)) = open(alloc, parties, limits) else {
         return None;

@@ -11,15 +11,14 @@ ghost use Rattle.mv_ends.specs.Rings.{AreJoined};
 
 use crate::inlets::Inlets;
 use crate::outlets::Outlets;
-use crate::parcel::MessageParcel;
 use crate::repo_end::RepoEnd;
-use mv_message::Party;
+use mv_message::{Message, Party, Shared};
 
 impl RepoEnd {
     ghost use Rattle.mv_ends.specs.RepoEnd.{SameRepoEnd, IsRepoUnchanged};
 
     /// Looks at both ends of the uplink: what the hub took of it is a front of what the party submitted.
-    pub(crate) fn look_at_uplink(&mut self, uplinks: &mut Inlets<MessageParcel>)
+    pub(crate) fn look_at_uplink(&mut self, uplinks: &mut Inlets<Shared<Message>>)
         requires party { self.old.site.party < length uplinks.old.ends.items }
         requires pair { IsPairAt self.old.site.party self.old.uplink uplinks.old }
         ensures same { SameRepoEnd self.old self.new }

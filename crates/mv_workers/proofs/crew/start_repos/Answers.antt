@@ -1,10 +1,6 @@
 use Rattle.std.proofs.Common.{◌≡◌, ◌∙◌, ◌+◌, ◌<◌, ℕ, [], ◌∷◌, length, length-append, get_or, vec_items, vec_len, sym, ap, subst, arith, rules}
-use Rattle.std.specs.declared.alloc.Global.{Global}
-use Rattle.std.specs.declared.vec.Vec.{Vec}
 use Rattle.mv_ends.specs.declared.repo_end.RepoEnd.{RepoEnd}
 use Rattle.mv_workers.specs.Turns.{IsUnused}
-use Rattle.std.proofs.lemmas.List.{get_or-map}
-use Rattle.mv_message.specs.declared.message.Message.{Message}
 use Rattle.mv_workers.specs.Work.{list_at}
 use Rattle.mv_workers.specs.Crews.{Handle, IsPromised}
 use Rattle.mv_workers.proofs.PushLemmas.{each_push}
@@ -15,15 +11,12 @@ loop-end-preserved g c =
     let was = c.loop-end.invariant in
     let step = c.in-Some.ensures.steps in
     let repos = vec_items c.args.repos in let work = c.args.work.now in let place = vec_len c.loop-end.handles in
-    let place_is : c.len-place.result ≡ place = search rules in
+    let place_is : c.len.result ≡ place = search rules in
     let at : (r : RepoEnd) → c.in-Some.end ≡ get_or repos place r = λ r. let h = was.4 0 r in grind rules in
     let P : ℕ → Handle → Type 0 = λ s h. (r : RepoEnd) → IsPromised (get_or repos s r) (list_at work s) h in
     let before : (s : ℕ) (h : Handle) → s < length (vec_items c.loop-end.handles) → P s (get_or (vec_items c.loop-end.handles) s h) = λ s h below r. was.5 s h r (search rules) in
-    let here : c.index-work-place.result.items ≡ list_at work place =
-    ap (λ (v : Vec Message Global). v.items) c.index-work-place.is
-    ∙ ap (λ (k : ℕ). (get_or work k c.index-work-place.result).items) place_is
-    ∙ sym (get_or-map (λ (v : Vec Message Global). v.items) work place c.index-work-place.result [] (search rules)) in
-    let now : P place c.in_ok-handle.handle = λ r. (c.in_ok-handle.ensures.0 ∙ at r, c.in_ok-handle.ensures.1 ∙ (c.as_slice-list.ensures.value ∙ here)) in (
+    let here : c.list-list.result.now ≡ list_at work place = c.list-list.ensures ∙ ap (list_at work) place_is in
+    let now : P place c.in_ok-handle.handle = λ r. (c.in_ok-handle.ensures.0 ∙ at r, c.in_ok-handle.ensures.1 ∙ here) in (
       search rules,
       search rules,
       search rules,

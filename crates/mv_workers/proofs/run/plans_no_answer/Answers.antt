@@ -1,10 +1,7 @@
-use Rattle.std.proofs.Common.{◌≡◌, ◌∙◌, [], length, sym, ap, subst, arith, inl, inr}
-use Rattle.std.specs.declared.alloc.Global.{Global}
-use Rattle.std.specs.declared.vec.Vec.{Vec}
+use Rattle.std.proofs.Common.{◌≡◌, [], length, sym, ap, subst, arith, inl, inr}
 use Rattle.std.proofs.lemmas.Bool.{cases_lt}
 use Rattle.std.proofs.lemmas.Bool.Decides.{nat_tests}
-use Rattle.std.proofs.lemmas.List.{get_or-map, nil_from_length}
-use Rattle.mv_message.specs.declared.message.Message.{Message}
+use Rattle.std.proofs.lemmas.List.{nil_from_length}
 use Rattle.mv_party.specs.Site.{answers_in}
 use Rattle.mv_workers.specs.Work.{list_at, own_among}
 use Rattle.mv_workers.proofs.WorkLemmas.{answers_and_own}
@@ -14,13 +11,11 @@ use Rattle.mv_workers.proofs.run.plans_no_answer.Goals as goal
 pub returns-then-own_count-list : goal.returns-then-own_count-list
 returns-then-own_count-list c =
     let work = c.args.work.now in let at = c.loop-party.party in
-    let list : c.as_slice-list.result.now ≡ list_at work at =
-    c.as_slice-list.ensures.value ∙ ap (λ (v : Vec Message Global). v.items) c.index-work-party.is
-    ∙ sym (get_or-map (λ (v : Vec Message Global). v.items) work at c.index-work-party.result [] c.loop-party-test.true) in (
+    let list : c.list-list.result.now ≡ list_at work at = c.list-list.ensures in (
       (λ h. absurd (cc)),
       (λ none.
-          let answers : length (answers_in (list_at work at)) ≡ 0 = ap length (none at c.loop-party-test.true) in
-          let same : c.own_count.result ≡ length c.as_slice-list.result.now =
+          let answers : length (answers_in (list_at work at)) ≡ 0 = ap length (none at (omega (arith, c.loop-party-test.true, c.len-party-end.ensures))) in
+          let same : c.own_count.result ≡ length c.list-list.result.now =
           omega (arith, answers, answers_and_own (list_at work at), c.own_count.ensures, ap length list, ap (λ l. length (own_among l)) list) in
           absurd (grind (arith, nat_tests, same, c.if-own_count-list.true))),
     )
@@ -29,10 +24,8 @@ returns-then-own_count-list c =
 pub loop-party-preserved : goal.loop-party-preserved
 loop-party-preserved c = λ party below.
     let work = c.args.work.now in let at = c.loop-party.party in
-    let list : c.as_slice-list.result.now ≡ list_at work at =
-    c.as_slice-list.ensures.value ∙ ap (λ (v : Vec Message Global). v.items) c.index-work-party.is
-    ∙ sym (get_or-map (λ (v : Vec Message Global). v.items) work at c.index-work-party.result [] c.loop-party-test.true) in
-    let same : c.own_count.result ≡ length c.as_slice-list.result.now = grind (arith, nat_tests, c.if-own_count-list.false) in
+    let list : c.list-list.result.now ≡ list_at work at = c.list-list.ensures in
+    let same : c.own_count.result ≡ length c.list-list.result.now = grind (arith, nat_tests, c.if-own_count-list.false) in
     let none : length (answers_in (list_at work at)) ≡ 0 =
     omega (arith, same, answers_and_own (list_at work at), c.own_count.ensures, ap length list, ap (λ l. length (own_among l)) list) in
     elim (cases_lt party at) [

@@ -12,6 +12,6 @@ invariant_of-self-2-clause-square c =
 pub invariant_of-self-2-clause-of_links : goal.invariant_of-self-2-clause-of_links
 invariant_of-self-2-clause-of_links c =
     let hub = c.args.self.now.hub in
-    let puts = subst (λ f. PutsFrame c.args.from c.args.to f c.is_full.new.self c.put.new.self) c.in-Ok-of.ensures c.put.ensures.puts in
+    let puts = subst (λ f. PutsFrame c.args.from c.args.to f c.is_full.new.self c.put.new.self) c.in-Ok-of_frame.ensures c.put.ensures.puts in
     of_links_put hub c.is_full.new.self c.put.new.self c.args.from c.args.to c.in-Ok.frame c.put.ensures.same puts c.in-Ok.ensures.frame
     (of_links_same hub c.args.self.now.wires c.is_full.new.self c.is_full.ensures.same c.is_full.ensures.nothing c.args.self.now.of_links)

@@ -16,12 +16,12 @@ use Rattle.mv_ends.proofs.repo_end.RepoEnd.apply.Goals as goal
 
 pub returns-in_default-clause-reply : goal.returns-in_default-clause-reply
 returns-in_default-clause-reply c =
-    let frame = c.frame-frame.result.now in
+    let frame = c.front-frame.result.now in
     let site = c.args.self.now.site in (
       search rules,
       (
         frame,
-        rw c.frame-frame.ensures c.front.ensures,
+        c.front-frame.ensures,
         subst (λ full. IsRefusedBy refusal_of (apply_fault full site c.args.from frame.item (stands_to site c.args.from frame)) Memory) c.is_full-full.ensures.value
             (subst (λ o. IsRefusedBy refusal_of o Memory) (sym c.in_default.ensures.free) refl),
         λ _. c.in_default.ensures.next,
@@ -30,10 +30,10 @@ returns-in_default-clause-reply c =
 
 pub returns-in-Err-clause-reply : goal.returns-in-Err-clause-reply
 returns-in-Err-clause-reply c =
-    let frame = c.frame-frame.result.now in
+    let frame = c.front-frame.result.now in
     let site = c.args.self.now.site in
     rw c.from.ensures (apply_refused c.args.from c.args.self.now _ frame c.in-Err.fault (search rules)
-    (rw c.frame-frame.ensures c.front.ensures)
+    c.front-frame.ensures
     (subst (λ full. IsRefusedBy refusal_of (apply_fault full site c.args.from frame.item (stands_to site c.args.from frame)) (refusal_of c.in-Err.fault))
     c.is_full-full.ensures.value (refused_for Taken _ c.in-Err.fault c.in-Err.ensures.fault))
     (λ wanting. c.in-Err.ensures.memory (ap Err (memory_told c.in-Err.fault wanting))))
@@ -41,7 +41,7 @@ returns-in-Err-clause-reply c =
 pub invariant_of-self-in-Ok-apply-clause-pushed : goal.invariant_of-self-in-Ok-apply-clause-pushed
 invariant_of-self-in-Ok-apply-clause-pushed c =
     let site = c.args.self.now.site in
-    let frame = c.frame-frame.result.now in
+    let frame = c.front-frame.result.now in
     let before : sent c.is_full-full.new.uplink ≡ site.submissions = search rules in
     c.put_answer.ensures.put
     ∙ (λ i. before i ++ option_to_list (c.in-Ok.ensures.answer c.in-Ok-apply.ensures.fault i))
@@ -51,9 +51,9 @@ invariant_of-self-in-Ok-apply-clause-pushed c =
 pub invariant_of-self-in-Ok-apply-clause-accepted : goal.invariant_of-self-in-Ok-apply-clause-accepted
 invariant_of-self-in-Ok-apply-clause-accepted c =
     let site = c.args.self.now.site in
-    let frame = c.frame-frame.result.now in
-    let taken : c.take-parcel.result ≡ frame = c.take-parcel.ensures.front c.front.result.now c.front.ensures ∙ sym c.frame-frame.ensures in
-    subst (λ (s : SiteState). AreAccepted s.log c.take-parcel.new.self) (sym c.in-Ok-apply.ensures.ok)
-    (accepted_taken site c.args.from frame c.is_empty.new.self c.take-parcel.new.self c.take-parcel.ensures.same
-    (subst (λ f. Takes c.args.from f c.is_empty.new.self c.take-parcel.new.self) taken c.take-parcel.ensures.takes)
+    let frame = c.front-frame.result.now in
+    let taken : c.take-frame.result ≡ frame = c.take-frame.ensures.front frame c.front-frame.ensures in
+    subst (λ (s : SiteState). AreAccepted s.log c.take-frame.new.self) (sym c.in-Ok-apply.ensures.ok)
+    (accepted_taken site c.args.from frame c.is_empty.new.self c.take-frame.new.self c.take-frame.ensures.same
+    (subst (λ f. Takes c.args.from f c.is_empty.new.self c.take-frame.new.self) taken c.take-frame.ensures.takes)
     (accepted_same site.log c.args.self.now.inlets c.is_empty.new.self c.is_empty.ensures.same c.is_empty.ensures.nothing c.args.self.now.accepted))

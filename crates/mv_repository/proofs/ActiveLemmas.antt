@@ -7,21 +7,20 @@ use Rattle.mv_message.specs.declared.message.Message.TheVariants.{Upload}
 use Rattle.mv_link.specs.declared.item.Item.{Item}
 use Rattle.mv_link.specs.declared.item.Item.TheVariants.{Carried}
 use Rattle.mv_repository.specs.declared.entry.LogEntry.{LogEntry}
-use Rattle.mv_repository.specs.declared.step.Step.{Step}
 use Rattle.std.specs.Set.{distinct_count}
 use Rattle.mv_pack.specs.Keys.{is_same_pack}
 use Rattle.mv_repository.specs.Counts.{is_held_active, uploaded_packs}
 use Rattle.mv_repository.specs.Order.{Placed, ordered}
 use Rattle.mv_repository.specs.Pack.{KnownPack, is_active, is_done}
 use Rattle.mv_repository.specs.PackState.{pack_state, held_of}
-use Rattle.mv_repository.specs.State.{pack_made_by, standing_in, change_in, known_at, held_at, effect_on, next_by}
+use Rattle.mv_repository.specs.State.{pack_made_by, standing_in, change_in, known_at, effect_on, next_by}
 use Rattle.mv_repository.specs.Stops.{FirstStops, first_stops, entry_at, place_of, no_entry}
-use Rattle.mv_repository.specs.Track.{is_upload_of, is_status_of, first_upload, statuses_of, pack_grown, last_by, steps_by, track_of, state_from, state_by, is_active_kept}
+use Rattle.mv_repository.specs.Track.{is_upload_of, is_status_of, first_upload, statuses_of, pack_grown, track_of, state_from, state_by, is_active_kept}
 use Rattle.mv_repository.proofs.OrderLemmas.{Stand, ordered-ascends, ordered-stand}
 use Rattle.mv_repository.proofs.StateLemmas.{known-grown, entry-stands, find-stand, upload-makes}
 use Rattle.mv_repository.proofs.TableLemmas.{filter-stand}
 use Rattle.mv_repository.proofs.NextLemmas.{grown-by}
-use Rattle.mv_repository.proofs.TrackLemmas.{last-steps, fold-stands}
+use Rattle.mv_repository.proofs.TrackLemmas.{fold-stands}
 
 pub find-true : (f : Placed → Bool) (xs : List Placed) → IfSome (find f xs) (λ x. f x ≡ true)
 find-true f [] = tt
@@ -62,16 +61,15 @@ module _ (log : List LogEntry) (pack : PackKey) where
   own-stand : Stand log own
   own-stand = filter-stand (λ placed. is_status_of pack placed.entry.item) log (ordered log) (ordered-stand log)
 
-  abbrev steps : Option Placed → List Step
-  steps birth = steps_by (next_by S pack.gtin birth) (unwrap_or birth (entry_at [] 0)) own
+  abbrev last : Option Placed → ℕ
+  last birth = (fold (next_by S pack.gtin birth) (unwrap_or birth (entry_at [] 0)) own).place
 
   of-birth : (birth : Option Placed) → IfSome birth (λ x. get_or log x.place no_entry ≡ x.entry)
-      → state_from log (option_map place_of birth) (steps birth) ≡ option_map held_of (pack_grown S pack birth own)
+      → state_from log (option_map place_of birth) (last birth) ≡ option_map held_of (pack_grown S pack birth own)
   of-birth None s = refl
   of-birth (Some y) s =
-      let last = fold (next_by S pack.gtin (Some y)) y own in
-      ap (held_at log y.place) (last-steps (next_by S pack.gtin (Some y)) y own)
-      ∙ (λ i. option_map held_of (known_at (entry-stands log y s i) (entry-stands log last (fold-stands log S pack.gtin y y own s s own-stand) i)))
+      let by = fold (next_by S pack.gtin (Some y)) y own in
+      (λ i. option_map held_of (known_at (entry-stands log y s i) (entry-stands log by (fold-stands log S pack.gtin y y own s s own-stand) i)))
       ∙ ap (option_map held_of) (sym (grown-by S pack y own))
 
   -- a pack is what stands by its last step
@@ -81,13 +79,12 @@ module _ (log : List LogEntry) (pack : PackKey) where
       ∙ ap (option_map held_of) (sym (known-grown pack (ordered log) (ordered-ascends log)))
 
   active-birth : (birth : Option Placed) → IfSome birth (λ x. get_or log x.place no_entry ≡ x.entry) → IfSome birth (λ x. is_upload_of pack x.entry.item ≡ true)
-      → option_map_or (λ (first : ℕ). first == last_by first (steps birth)) (option_map place_of birth) false ≡ is_held_active (option_map held_of (pack_grown S pack birth own))
+      → option_map_or (λ (first : ℕ). first == last birth) (option_map place_of birth) false ≡ is_held_active (option_map held_of (pack_grown S pack birth own))
   active-birth None s u = refl
   active-birth (Some y) s u =
-      let last : Placed = fold (next_by S pack.gtin (Some y)) y own in
-      ap (λ (n : ℕ). y.place == n) (last-steps (next_by S pack.gtin (Some y)) y own)
-      ∙ by last (fold-settled S pack.gtin y y own (inl refl)) (fold-stands log S pack.gtin y y own s s own-stand)
-      ∙ sym (ap (λ (o : Option KnownPack). is_held_active (option_map held_of o)) (grown-by S pack y own) ∙ held (pack_made_by y.entry.item) (upload-makes pack y.entry.item u) last)
+      let end : Placed = fold (next_by S pack.gtin (Some y)) y own in
+      by end (fold-settled S pack.gtin y y own (inl refl)) (fold-stands log S pack.gtin y y own s s own-stand)
+      ∙ sym (ap (λ (o : Option KnownPack). is_held_active (option_map held_of o)) (grown-by S pack y own) ∙ held (pack_made_by y.entry.item) (upload-makes pack y.entry.item u) end)
     where
       held : (o : Option KnownPack) → IsSome o → (last : Placed)
           → is_held_active (option_map held_of (option_map (λ (made : KnownPack). record made { standing = standing_in last.entry.item; change = change_in last.place last.entry.sender last.entry.item }) o)) ≡ is_active (standing_in last.entry.item)

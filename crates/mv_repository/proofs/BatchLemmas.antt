@@ -19,7 +19,7 @@ use Rattle.mv_repository.specs.Pack.{KnownPack}
 use Rattle.mv_repository.specs.PackState.{is_recall_of}
 use Rattle.mv_repository.specs.State.{pack_made_by}
 use Rattle.mv_repository.specs.Stops.{no_entry, place_of}
-use Rattle.mv_repository.specs.Track.{first_upload, track_of, is_upload_of}
+use Rattle.mv_repository.specs.Track.{first_upload, life_of, track_of, is_upload_of}
 use Rattle.mv_repository.proofs.OrderLemmas.{ordered-stand}
 use Rattle.mv_repository.proofs.RecallLemmas.{recall-elsewhere, recall-form}
 use Rattle.mv_repository.proofs.StateLemmas.{find-stand}
@@ -28,7 +28,7 @@ use Rattle.mv_repository.proofs.TrackLemmas.{log-split}
 
 pub recall-unlisted : (log : List LogEntry) (entry : LogEntry) (key : BatchKey) (pack : PackKey) → is_recall_of key entry.item ≡ true
     → ((birth : ℕ) (batch : List ℕ) → (track_of pack log).birth ≡ Some birth → batch_at log birth ≡ Some batch → bytes_eq key.batch batch ≡ false)
-    → track_of pack (longer log entry) ≡ track_of pack log
+    → life_of pack (longer log entry) ≡ life_of pack log
 recall-unlisted log entry key pack own away =
     let form = recall-form key entry.item own in
     let names = form.2.0 pack in
@@ -57,9 +57,9 @@ recall-unlisted log entry key pack own away =
 pub recall-stays : (whole : List LogEntry) (place : ℕ) (key : BatchKey) (slots : List (List ℕ × Slot)) (own : List (List ℕ × List ℕ)) → length whole ≡ place + 1
     → is_recall_of key (get_or whole place no_entry).item ≡ true → AreListed (take place whole) key.gtin slots own
     → (serial : List ℕ) (number : ℕ) → lookup (bytes_eq serial) slots ≡ Some (Own number) → has_number (numbers_of own key.batch) number ≡ false
-    → track_of (pack_key key.gtin serial) whole ≡ track_of (pack_key key.gtin serial) (take place whole)
+    → life_of (pack_key key.gtin serial) whole ≡ life_of (pack_key key.gtin serial) (take place whole)
 recall-stays whole place key slots own l recall listed serial number found none =
-    ap (track_of (pack_key key.gtin serial)) (log-split whole place l)
+    ap (life_of (pack_key key.gtin serial)) (log-split whole place l)
     ∙ recall-unlisted (take place whole) (get_or whole place no_entry) key (pack_key key.gtin serial) recall (λ birth batch b e. by birth batch b e (bytes_eq key.batch batch) refl)
   where
     by : (birth : ℕ) (batch : List ℕ) → (track_of (pack_key key.gtin serial) (take place whole)).birth ≡ Some birth → batch_at (take place whole) birth ≡ Some batch

@@ -5,7 +5,8 @@ use Rattle.std.specs.Cmp.{IsEquivalence}
 use Rattle.std.specs.Cmp.Lexicographic.{nat_list_eq_equiv, same_text}
 use Rattle.std.specs.List.{AllByRecursion, IsDistinct}
 use Rattle.std.specs.Map.{lookup, keys_of}
-use Rattle.std.specs.Option.{unwrap_or}
+use Rattle.std.specs.Option.{option_map_or, unwrap_or}
+use Rattle.std.specs.Prelude.{◌==◌}
 use Rattle.std.specs.Set.{distinct_count, is_member}
 use Rattle.std.proofs.lemmas.List.{length-append, length-map}
 use Rattle.std.proofs.lemmas.Map.Entries.{length-keys_of, lookup-filter-values, option_filter}
@@ -17,12 +18,11 @@ use Rattle.mv_repository.specs.declared.counted.Counted.{Counted}
 use Rattle.mv_repository.specs.declared.counted.Counted.TheVariants.{Held, Active}
 use Rattle.mv_repository.specs.declared.entry.LogEntry.{LogEntry}
 use Rattle.mv_repository.specs.declared.slot.Slot.{Slot}
-use Rattle.mv_repository.specs.declared.step.Step.{Step}
 use Rattle.mv_repository.specs.Counted.{is_counted, slots_counted, packs_counted}
 use Rattle.mv_repository.specs.Counts.{uploaded_packs}
 use Rattle.mv_repository.specs.Packs.{PackTables, ArePacksOf}
 use Rattle.mv_repository.specs.Shelf.{ShelfTable, nothing_kept, kept_by, kept_on, no_shelf, shelf_of}
-use Rattle.mv_repository.specs.Track.{Kept, is_active_kept, track_of}
+use Rattle.mv_repository.specs.Track.{Kept, bare, track_of}
 use Rattle.mv_repository.proofs.KeptLemmas.{same_pack, pack-self, pack-sym}
 use Rattle.mv_repository.proofs.UploadedLemmas.{any-append, uploaded-found}
 
@@ -36,11 +36,16 @@ pack-equiv = record {
 -- a pack that is counted has an upload
 born : (counted : Counted) (k : Kept) → is_counted counted k ≡ true → is_some k.birth ≡ true
 born Held k t = t
-born Active k t = by k.birth k.steps t
+born Active k t = by k.birth t
   where
-    by : (o : Option ℕ) (steps : List Step) → is_active_kept (record { birth = o; steps = steps }) ≡ true → is_some o ≡ true
-    by None steps t = t
-    by (Some x) steps t = refl
+    by : (o : Option ℕ) → option_map_or (λ birth. birth == k.by) o false ≡ true → is_some o ≡ true
+    by None t = t
+    by (Some x) t = refl
+
+-- the blocks don't matter
+counted-bare : (counted : Counted) (k : Kept) → is_counted counted k ≡ is_counted counted (bare k)
+counted-bare Held k = refl
+counted-bare Active k = refl
 
 pub none-counted : (counted : Counted) → is_counted counted nothing_kept ≡ false
 none-counted Held = refl
@@ -171,7 +176,8 @@ module _ (counted : Counted) where
       → length (packs_counted counted packs.shelves) ≡ distinct_count is_same_pack (filter (λ pack. is_counted counted (track_of pack log)) (uploaded_packs log))
   all-counted log packs are d keyed =
       length-from_keys pack-equiv (packs_counted counted packs.shelves) (filter test (uploaded_packs log)) (in-distinct packs.shelves d keyed)
-      (λ q. in-shelves packs.shelves d keyed q ∙ ap (is_counted counted) ((are.shelves q.gtin).kept q.serial)
+      (λ q. in-shelves packs.shelves d keyed q ∙ counted-bare counted (kept_on (shelf_of q.gtin packs.shelves).slots (shelf_of q.gtin packs.shelves).tracks q.serial)
+      ∙ ap (is_counted counted) ((are.shelves q.gtin).kept q.serial).bare
       ∙ sym (is_member-filter pack-equiv test q (λ y e. ap test (same_pack q y e)) (uploaded_packs log) ∙ ap (λ b. b && test q) (sym (uploaded-found log q)) ∙ there q (test q) refl))
     where
       test : PackKey → Bool

@@ -1,8 +1,7 @@
 -- What the tables are after one more entry, by its form.
 use Rattle.std.specs.Prelude.{bytes_eq}
-use Rattle.std.proofs.Common.{◌≡◌, ℕ, ◌+◌, List, [], length, get_or, take, refl, sym, ◌∙◌, arith, subst, Bool, true, false, not, true≢false, Option, cond, Result, Ok, Err, OnOk}
+use Rattle.std.proofs.Common.{◌≡◌, ℕ, ◌+◌, List, length, get_or, take, refl, sym, ◌∙◌, arith, subst, Bool, true, false, not, true≢false, Option, cond, Result, Ok, Err, OnOk}
 use Rattle.std.specs.Map.{lookup, keys_of}
-use Rattle.std.specs.Option.{option_map, unwrap_or}
 use Rattle.std.proofs.lemmas.List.{get_or_default}
 use Rattle.indexmap.specs.IndexSet.{insert_key}
 use Rattle.mv_pack.specs.declared.key.PackKey.{PackKey}
@@ -24,9 +23,9 @@ use Rattle.mv_repository.specs.PackState.{is_recall_of, is_withdrawal_of}
 use Rattle.mv_repository.specs.Packs.{PackTables, ArePacksOf}
 use Rattle.mv_repository.specs.Shelf.{IsUploadOf}
 use Rattle.mv_repository.specs.State.{next_by}
-use Rattle.mv_repository.specs.Stops.{StopTables, first_stops, entry_at, place_of, no_entry, AreStopsOf, comes_first, earlier_place}
+use Rattle.mv_repository.specs.Stops.{StopTables, first_stops, no_entry, AreStopsOf, comes_first, earlier_place}
 use Rattle.mv_repository.specs.Tables.{AreTablesOf}
-use Rattle.mv_repository.specs.Track.{first_upload, statuses_of, steps_by, is_upload_of, is_status_of}
+use Rattle.mv_repository.specs.Track.{first_upload, statuses_of, is_upload_of, is_status_of}
 use Rattle.mv_repository.proofs.PacksLemmas.{packs-same}
 use Rattle.mv_repository.proofs.ProductLemmas.{masters-noted}
 use Rattle.mv_repository.proofs.RecallLemmas.{NoPack, NoMaster, recall-form, withdrawal-form}
@@ -91,8 +90,9 @@ packs-stopped log entry packs none same = packs-same log entry packs none.1 (λ 
     let first : first_upload pack (ordered (longer log entry)) ≡ first_upload pack (ordered log) = find-none (λ placed. is_upload_of pack placed.entry.item) log entry (none.0 pack).0 in
     let own : statuses_of pack (ordered (longer log entry)) ≡ statuses_of pack (ordered log) = filter-none (λ placed. is_status_of pack placed.entry.item) log entry (none.0 pack).1 in
     (λ i. record {
-      birth = option_map place_of (first i);
-      steps = steps_by (next_by (same i) pack.gtin (first i)) (unwrap_or (first i) (entry_at [] 0)) (own i);
+      birth = first i;
+      statuses = own i;
+      next = next_by (same i) pack.gtin (first i);
     }))
 
 -- the same by the place of the newest entry

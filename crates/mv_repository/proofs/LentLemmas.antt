@@ -12,25 +12,20 @@ use Rattle.mv_repository.specs.PackState.{is_recall_of, is_withdrawal_of}
 use Rattle.mv_repository.specs.Agreement.{batch_in}
 use Rattle.mv_repository.specs.Listing.{batch_at, batch_in as item_batch}
 use Rattle.mv_repository.specs.Stops.{StopTables, AreStopsOf, first_stops, entry_at, place_of, no_entry}
-use Rattle.mv_repository.specs.Track.{is_upload_of, is_status_of, first_upload, statuses_of, steps_by, step_place, track_of}
+use Rattle.mv_repository.specs.Track.{is_upload_of, is_status_of, first_upload, statuses_of, track_of}
 use Rattle.mv_repository.specs.History.{IsAt, AreAt, history_of}
 use Rattle.mv_repository.proofs.OrderLemmas.{AreOf, ordered-of, ordered-stand}
 use Rattle.mv_repository.proofs.StateLemmas.{find-stand, find-stands, map-stands}
 use Rattle.mv_repository.proofs.TableLemmas.{filter-stand}
 use Rattle.mv_repository.proofs.HistoryLemmas.{batch-upload}
 
-steps-places : (next : Placed → Placed → Placed) (by : Placed) (xs : List Placed) → map step_place (steps_by next by xs) ≡ map place_of xs
-steps-places next by [] = refl
-steps-places next by (x ∷ xs) = ap (λ (l : List ℕ). x.place ∷ l) (steps-places next (next by x) xs)
-
 module _ (log : List LogEntry) (pack : PackKey) where
   pub lent-upload : option_map (entry_at log) (track_of pack log).birth ≡ (history_of pack log).upload
   lent-upload = find-stands (λ x. is_upload_of pack x.entry.item) log (ordered log) (ordered-stand log)
 
-  pub lent-statuses : map (entry_at log) (map step_place (track_of pack log).steps) ≡ (history_of pack log).statuses
+  pub lent-statuses : map (entry_at log) (track_of pack log).statuses ≡ (history_of pack log).statuses
   lent-statuses =
-      ap (map (entry_at log)) (steps-places _ _ (statuses_of pack (ordered log)))
-      ∙ map-stands log (statuses_of pack (ordered log)) (filter-stand (λ x. is_status_of pack x.entry.item) log (ordered log) (ordered-stand log))
+      map-stands log (statuses_of pack (ordered log)) (filter-stand (λ x. is_status_of pack x.entry.item) log (ordered log) (ordered-stand log))
 
   -- the batch of the upload at its place
   batch-there : (o : Option Placed) → IfSome o (λ x. get_or log x.place no_entry ≡ x.entry)

@@ -6,6 +6,7 @@ pub mod KeptLemmas
 pub mod StoppedLemmas
 pub mod TableLemmas
 pub mod NextLemmas
+pub mod BlockLemmas
 pub mod TrackLemmas
 pub mod UploadLemmas
 pub mod ActiveLemmas

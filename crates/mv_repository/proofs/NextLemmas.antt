@@ -1,5 +1,8 @@
 -- What `next` gives is one step of the pack's state, so the place of one entry is all that has to be kept of it.
-use Rattle.std.proofs.Common.{◌≡◌, ℕ, List, [], ◌∷◌, refl, sym, ◌∙◌, ap, subst, Bool, true, false, cond, Option, Some, None, IfSome, true≢false, fold}
+use Rattle.std.proofs.Common.{◌≡◌, ℕ, List, [], ◌∷◌, refl, sym, ◌∙◌, ap, subst, Bool, true, false, cond, Option, Some, None, IfSome, true≢false, fold, ◌==◌}
+use Rattle.std.proofs.lemmas.Bool.Decides.{nat_tests}
+use Rattle.std.proofs.Common.{arith}
+use Rattle.std.specs.List.{AllByRecursion}
 use Rattle.std.specs.Option.{option_map, option_map_or}
 use Rattle.mv_pack.specs.declared.key.PackKey.{PackKey}
 use Rattle.mv_pack.specs.declared.key.BatchKey.{BatchKey}
@@ -8,13 +11,18 @@ use Rattle.mv_message.specs.declared.standing.Standing.TheVariants as standings
 use Rattle.mv_message.specs.declared.message.Message.TheVariants.{Upload, Status}
 use Rattle.mv_link.specs.declared.item.Item.{Item}
 use Rattle.mv_link.specs.declared.item.Item.TheVariants.{Carried}
+use Rattle.mv_pack.specs.Expiry.{CivilDate}
+use Rattle.mv_repository.specs.declared.entry.LogEntry.{LogEntry}
+use Rattle.mv_link.specs.declared.party_set.PartySet.{PartySet}
+use Rattle.mv_repository.specs.declared.effect.Effect.{Effect}
+use Rattle.mv_repository.specs.Blocks.{may_have, IsCovered}
 use Rattle.mv_repository.specs.declared.effect.Effect.TheVariants as effects
 use Rattle.mv_repository.specs.declared.stops.BatchStanding.{BatchStanding}
 use Rattle.mv_pack.specs.Keys.{batch_key}
 use Rattle.mv_repository.specs.Order.{Placed, stands_before}
-use Rattle.mv_repository.specs.Pack.{KnownPack, is_active, is_done, change_effect}
-use Rattle.mv_repository.specs.State.{pack_made_by, standing_in, change_in, known_at, effect_by, next_by}
-use Rattle.mv_repository.specs.Stops.{FirstStops, standing_at}
+use Rattle.mv_repository.specs.Pack.{KnownPack, is_active, is_final, is_done, change_effect, revert_effect}
+use Rattle.mv_repository.specs.State.{pack_made_by, standing_in, change_in, known_at, effect_by, next_by, next_place}
+use Rattle.mv_repository.specs.Stops.{FirstStops, standing_at, entry_at}
 use Rattle.mv_repository.specs.Track.{pack_changed, pack_step, pack_grown}
 
 active-only : (to : Standing) → is_active to ≡ true → to ≡ standings.Active
@@ -107,3 +115,60 @@ pub grown-by : (stops : FirstStops) (pack : PackKey) (birth : Placed) (xs : List
     → pack_grown stops pack (Some birth) xs ≡ known_at birth (fold (next_by stops pack.gtin (Some birth)) birth xs)
 grown-by stops pack birth xs =
     ap (option_map (λ held. fold (pack_step stops pack birth) held xs)) (sym (born birth)) ∙ grown-from stops pack birth birth xs
+
+-- a pack that was changed goes by a status as it was, where that is no revert of the sender who changed it
+pub next-passed : (stops : FirstStops) (gtin : List ℕ) (birth : Option Placed) (by placed : Placed) → is_active (standing_in by.entry.item) ≡ false
+    → (is_active (standing_in placed.entry.item) ≡ true → (by.entry.sender == placed.entry.sender) ≡ false) → next_by stops gtin birth by placed ≡ by
+next-passed stops gtin None by placed changed other = refl
+next-passed stops gtin (Some birth) by placed changed other = ap (λ d. cond d (cond (is_active (standing_in placed.entry.item)) birth placed) by) (front (stands_before birth placed))
+  where
+    reverted : (item : Item) (expiry : CivilDate) (batch : BatchStanding) (user : List ℕ) (at : ℕ) → (by.entry.sender == placed.entry.sender) ≡ false
+        → is_done (revert_effect expiry batch (change_in by.place by.entry.sender item) placed.entry.sender user at) ≡ false
+    reverted (Carried k stamp (Status key to changer when)) expiry batch user at o = rw o refl
+    reverted _ expiry batch user at o = refl
+
+    asked : (made : KnownPack) (item : Item) → (is_active (standing_in item) ≡ true → (by.entry.sender == placed.entry.sender) ≡ false)
+        → is_done (effect_by (standing_at stops placed) placed.entry.sender item gtin (record made { standing = standing_in by.entry.item; change = change_in by.place by.entry.sender by.entry.item })) ≡ false
+    asked made (Carried k stamp (Status key to user at)) o = by_standing (is_active to) refl
+      where
+        batch : BatchStanding
+        batch = standing_at stops placed (batch_key gtin made.batch)
+
+        revert : Effect
+        revert = revert_effect made.expiry batch (change_in by.place by.entry.sender by.entry.item) placed.entry.sender user at
+
+        by_standing : (t : Bool) → is_active to ≡ t
+            → is_done (cond t (cond (is_active (standing_in by.entry.item)) effects.AlreadyActive (cond (is_final (standing_in by.entry.item)) effects.Fixed revert)) (cond (is_active (standing_in by.entry.item)) effects.Done effects.NotActive)) ≡ false
+        by_standing false e = ap (λ b. is_done (cond b effects.Done effects.NotActive)) changed
+        by_standing true e =
+            ap (λ b. is_done (cond b effects.AlreadyActive (cond (is_final (standing_in by.entry.item)) effects.Fixed revert))) changed
+            ∙ elim (is_final (standing_in by.entry.item)) as (λ f. is_done (cond f effects.Fixed revert) ≡ false) [
+              | true ↦ refl
+              | false ↦ reverted by.entry.item made.expiry batch user at (o e)
+            ]
+    asked made _ o = refl
+
+    made : (o : Option KnownPack) → is_done (option_map_or (effect_by (standing_at stops placed) placed.entry.sender placed.entry.item gtin) (stood o by.place by.entry.sender by.entry.item) effects.Unknown) ≡ false
+    made None = refl
+    made (Some one) = asked one placed.entry.item other
+
+    front : (b : Bool) → is_done (cond b (option_map_or (effect_by (standing_at stops placed) placed.entry.sender placed.entry.item gtin) (known_at birth by) effects.Unknown) effects.Unknown) ≡ false
+    front false = refl
+    front true = made (pack_made_by birth.entry.item)
+
+-- so it does by many
+pub own-passed : (log : List LogEntry) (stops : FirstStops) (gtin : List ℕ) (birth : Option ℕ) (by : ℕ) (own : List ℕ) (reverters : PartySet)
+    → is_active (standing_in (entry_at log by).entry.item) ≡ false → may_have reverters (entry_at log by).entry.sender ≡ false
+    → AllByRecursion (λ place. IsCovered reverters (entry_at log place)) own → fold (next_place log stops gtin birth) by own ≡ by
+own-passed log stops gtin birth by [] reverters changed none covered = refl
+own-passed log stops gtin birth by (place ∷ own) reverters changed none covered =
+    ap (λ (n : ℕ). fold (next_place log stops gtin birth) n own)
+    (ap (λ (x : Placed). x.place) (next-passed stops gtin (option_map (entry_at log) birth) (entry_at log by) (entry_at log place) changed (λ r. apart (covered.0 r) ((entry_at log by).entry.sender == (entry_at log place).entry.sender) refl)))
+    ∙ own-passed log stops gtin birth by own reverters changed none covered.1
+  where
+    is_number : (a b : ℕ) → (a == b) ≡ true → a ≡ b
+    is_number a b e = grind (arith, nat_tests)
+
+    apart : may_have reverters (entry_at log place).entry.sender ≡ true → (b : Bool) → ((entry_at log by).entry.sender == (entry_at log place).entry.sender) ≡ b → b ≡ false
+    apart h false e = refl
+    apart h true e = absurd (true≢false (sym h ∙ sym (ap (may_have reverters) (is_number (entry_at log by).entry.sender (entry_at log place).entry.sender e)) ∙ none))

@@ -14,10 +14,10 @@ use Rattle.mv_repository.specs.declared.entry.LogEntry.{LogEntry}
 use Rattle.mv_repository.specs.Counts.{uploaded_in, uploaded_packs}
 use Rattle.mv_repository.specs.Packs.{PackTables, ArePacksOf}
 use Rattle.mv_repository.specs.PackState.{has_pack}
-use Rattle.mv_repository.specs.Shelf.{ShelfTable, IsShelfOf, IsUploadOf, NamesNone, no_shelf, shelf_of}
+use Rattle.mv_repository.specs.Shelf.{ShelfTable, kept_on, IsShelfOf, IsUploadOf, NamesNone, no_shelf, shelf_of}
 use Rattle.mv_repository.specs.declared.slot.Slot.TheVariants.{Own}
 use Rattle.mv_repository.specs.Stops.{StopTables, AreStopsOf, no_entry}
-use Rattle.mv_repository.specs.Track.{Kept, is_upload_of, is_status_of, track_of}
+use Rattle.mv_repository.specs.Track.{Life, is_upload_of, is_status_of, life_of, kept_of, IsKept}
 use Rattle.mv_repository.proofs.AgainLemmas.{untracked}
 use Rattle.mv_repository.proofs.ListedLemmas.{listed-newest, listed-stay}
 use Rattle.mv_repository.proofs.RecallLemmas.{BearsOn}
@@ -29,10 +29,10 @@ use Rattle.mv_repository.proofs.UploadLemmas.{status-only, upload-status, upload
 
 -- a shelf on whose packs the newest entry does not bear
 shelf-stays : (whole : List LogEntry) (place : ℕ) → length whole ≡ place + 1 → (gtin : List ℕ) (shelf : ShelfTable)
-    → ((serial : List ℕ) → track_of (pack_key gtin serial) whole ≡ track_of (pack_key gtin serial) (take place whole)) → IsShelfOf (take place whole) gtin shelf → IsShelfOf whole gtin shelf
+    → ((serial : List ℕ) → life_of (pack_key gtin serial) whole ≡ life_of (pack_key gtin serial) (take place whole)) → IsShelfOf (take place whole) gtin shelf → IsShelfOf whole gtin shelf
 shelf-stays whole place l gtin shelf same of = record {
-  kept = λ serial. of.kept serial ∙ sym (same serial);
-  listed = listed-stay whole place l gtin shelf.slots shelf.listing of.listed (λ serial. ap (λ (k : Kept). k.birth) (same serial));
+  kept = λ serial. subst (λ (l : Life). IsKept l (kept_on shelf.slots shelf.tracks serial)) (sym (same serial)) (of.kept serial);
+  listed = listed-stay whole place l gtin shelf.slots shelf.listing of.listed (λ serial. ap (λ (l : Life). (kept_of l).birth) (same serial));
 }
 
 -- the shelves, where add_shelf kept what is on them
@@ -51,25 +51,25 @@ module _ (before : List LogEntry) (start old : List (List ℕ × ShelfTable)) (s
   -- the shelf follows a longer log
   pub shelves-on : (new : List (List ℕ × ShelfTable)) (gtin : List ℕ) (shelf : ShelfTable) (whole : List LogEntry) (place : ℕ) → length whole ≡ place + 1 → before ≡ take place whole
       → IsShelved old new gtin shelf → IsShelfOf whole gtin shelf
-      → ((other serial : List ℕ) → bytes_eq gtin other ≡ false → track_of (pack_key other serial) whole ≡ track_of (pack_key other serial) before)
+      → ((other serial : List ℕ) → bytes_eq gtin other ≡ false → life_of (pack_key other serial) whole ≡ life_of (pack_key other serial) before)
       → (other : List ℕ) → IsShelfOf whole other (shelf_of other new)
   shelves-on new gtin shelf whole place l b looks now away =
       shelves-follow old new gtin shelf looks whole before shelves-same now
-      (λ other e shelf of. shelf-stays whole place l other shelf (λ serial. away other serial e ∙ ap (track_of (pack_key other serial)) b) (subst (λ (w : List LogEntry). IsShelfOf w other shelf) b of))
+      (λ other e shelf of. shelf-stays whole place l other shelf (λ serial. away other serial e ∙ ap (life_of (pack_key other serial)) b) (subst (λ (w : List LogEntry). IsShelfOf w other shelf) b of))
 
 -- a status bears on one pack
 status-elsewhere : (whole : List LogEntry) (place : ℕ) (pack : PackKey) → length whole ≡ place + 1 → is_status_of pack (get_or whole place no_entry).item ≡ true
-    → (k : PackKey) → is_same_pack pack k ≡ false → track_of k whole ≡ track_of k (take place whole)
+    → (k : PackKey) → is_same_pack pack k ≡ false → life_of k whole ≡ life_of k (take place whole)
 status-elsewhere whole place pack l own k e =
     let only = status-only pack (get_or whole place no_entry).item own k in
-    ap (track_of k) (log-split whole place l)
+    ap (life_of k) (log-split whole place l)
     ∙ untouched (take place whole) (get_or whole place no_entry) k only.0 (only.1 ∙ e) only.2
 
 -- an upload, and a status, of one product bears on no other
 pub upload-away : (whole : List LogEntry) (place : ℕ) (gtin : List ℕ) (serials : List (List ℕ)) → length whole ≡ place + 1 → IsUploadOf (get_or whole place no_entry).item gtin serials
-    → (other serial : List ℕ) → bytes_eq gtin other ≡ false → track_of (pack_key other serial) whole ≡ track_of (pack_key other serial) (take place whole)
+    → (other serial : List ℕ) → bytes_eq gtin other ≡ false → life_of (pack_key other serial) whole ≡ life_of (pack_key other serial) (take place whole)
 upload-away whole place gtin serials l upload other serial e =
-    ap (track_of (pack_key other serial)) (log-split whole place l)
+    ap (life_of (pack_key other serial)) (log-split whole place l)
     ∙ untouched (take place whole) entry (pack_key other serial) (is entry.item upload)
     (upload-status entry.item gtin serials upload (pack_key other serial)) (upload-stops entry.item gtin serials upload)
   where
@@ -81,7 +81,7 @@ upload-away whole place gtin serials l upload other serial e =
     is _ u = absurd u
 
 pub status-away : (whole : List LogEntry) (place : ℕ) (pack : PackKey) → length whole ≡ place + 1 → is_status_of pack (get_or whole place no_entry).item ≡ true
-    → (other serial : List ℕ) → bytes_eq pack.gtin other ≡ false → track_of (pack_key other serial) whole ≡ track_of (pack_key other serial) (take place whole)
+    → (other serial : List ℕ) → bytes_eq pack.gtin other ≡ false → life_of (pack_key other serial) whole ≡ life_of (pack_key other serial) (take place whole)
 status-away whole place pack l own other serial e =
     status-elsewhere whole place pack l own (pack_key other serial) (λ i. e i && bytes_eq pack.serial serial)
 
@@ -108,12 +108,12 @@ shelf-empty whole place tables gtin l stops names of = record {
     none number e = true≢false (sym (ap is_some e))
 
 -- an entry that uploads nothing, and bears on no pack
-pub packs-same : (log : List LogEntry) (entry : LogEntry) (packs : PackTables) → uploaded_in entry.item ≡ [] → ((pack : PackKey) → track_of pack (longer log entry) ≡ track_of pack log)
+pub packs-same : (log : List LogEntry) (entry : LogEntry) (packs : PackTables) → uploaded_in entry.item ≡ [] → ((pack : PackKey) → life_of pack (longer log entry) ≡ life_of pack log)
     → ArePacksOf log packs → ArePacksOf (longer log entry) packs
 packs-same log entry packs none same are = record {
   shelves = λ gtin. record {
-    kept = λ serial. (are.shelves gtin).kept serial ∙ sym (same (pack_key gtin serial));
-    listed = listed-newest log entry gtin (shelf_of gtin packs.shelves).slots (shelf_of gtin packs.shelves).listing (λ serial. ap (λ (k : Kept). k.birth) (same (pack_key gtin serial))) (are.shelves gtin).listed;
+    kept = λ serial. subst (λ (l : Life). IsKept l (kept_on (shelf_of gtin packs.shelves).slots (shelf_of gtin packs.shelves).tracks serial)) (sym (same (pack_key gtin serial))) ((are.shelves gtin).kept serial);
+    listed = listed-newest log entry gtin (shelf_of gtin packs.shelves).slots (shelf_of gtin packs.shelves).listing (λ serial. ap (λ (l : Life). (kept_of l).birth) (same (pack_key gtin serial))) (are.shelves gtin).listed;
   };
   named = none-named log entry packs.named none are.named (longer log entry) refl;
 }
@@ -121,18 +121,16 @@ packs-same log entry packs none same are = record {
 -- where a product has no shelf, an entry that bears on no other product bears on no pack
 pub none-follow : (whole : List LogEntry) (place : ℕ) (tables : StopTables) (gtin : List ℕ) (packs : PackTables) → length whole ≡ place + 1 → AreStopsOf whole tables
     → BearsOn whole place gtin → lookup (bytes_eq gtin) packs.shelves ≡ None → ArePacksOf (take place whole) packs → ArePacksOf whole packs
-none-follow whole place tables gtin packs l stops bears none are =
-    subst (λ (w : List LogEntry). ArePacksOf w packs) (sym (log-split whole place l))
-    (packs-same (take place whole) (get_or whole place no_entry) packs bears.uploads (λ pack. ap (track_of pack) (sym (log-split whole place l)) ∙ same pack (bytes_eq gtin pack.gtin) refl) are)
+none-follow whole place tables gtin packs l stops bears none are = record {
+  shelves = λ other. by other (bytes_eq gtin other) refl;
+  named = none-named (take place whole) (get_or whole place no_entry) packs.named bears.uploads are.named whole (log-split whole place l);
+}
   where
-    before : IsShelfOf (take place whole) gtin no_shelf
-    before = subst (λ (o : Option ShelfTable). IsShelfOf (take place whole) gtin (unwrap_or o no_shelf)) none (are.shelves gtin)
+    own : IsShelfOf whole gtin (shelf_of gtin packs.shelves)
+    own =
+        subst (λ (o : Option ShelfTable). IsShelfOf whole gtin (unwrap_or o no_shelf)) (sym none)
+        (shelf-empty whole place tables gtin l stops (λ serial. bears.names (pack_key gtin serial)) (subst (λ (o : Option ShelfTable). IsShelfOf (take place whole) gtin (unwrap_or o no_shelf)) none (are.shelves gtin)))
 
-    after : IsShelfOf whole gtin no_shelf
-    after = shelf-empty whole place tables gtin l stops (λ serial. bears.names (pack_key gtin serial)) before
-
-    same : (pack : PackKey) (b : Bool) → bytes_eq gtin pack.gtin ≡ b → track_of pack whole ≡ track_of pack (take place whole)
-    same pack false e = bears.away pack e
-    same pack true e =
-        subst (λ (g : List ℕ). track_of (pack_key g pack.serial) whole ≡ track_of (pack_key g pack.serial) (take place whole)) (same_text gtin pack.gtin (sym e))
-        (sym (after.kept pack.serial) ∙ before.kept pack.serial)
+    by : (other : List ℕ) (b : Bool) → bytes_eq gtin other ≡ b → IsShelfOf whole other (shelf_of other packs.shelves)
+    by other false e = shelf-stays whole place l other (shelf_of other packs.shelves) (λ serial. bears.away (pack_key other serial) e) (are.shelves other)
+    by other true e = subst (λ (g : List ℕ). IsShelfOf whole g (shelf_of g packs.shelves)) (same_text gtin other (sym e)) own

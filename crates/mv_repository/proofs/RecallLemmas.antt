@@ -1,7 +1,7 @@
 -- A recall of another batch leaves what is kept of a pack.
 use Rattle.std.specs.Prelude.{bytes_eq}
-use Rattle.std.proofs.Common.{◌≡◌, ℕ, ◌+◌, length, get_or, take, List, [], ◌∷◌, refl, sym, ◌∙◌, ap, true, false, true≢false, cond, ◌&&◌, Option, Some, None, IfSome}
-use Rattle.std.specs.Option.{option_map, option_map_or, unwrap_or}
+use Rattle.std.proofs.Common.{◌≡◌, ℕ, ◌+◌, length, get_or, take, List, [], refl, sym, ◌∙◌, ap, true, false, true≢false, cond, ◌&&◌, Option, Some, None, IfSome}
+use Rattle.std.specs.Option.{option_map, option_map_or}
 use Rattle.mv_pack.specs.declared.key.PackKey.{PackKey}
 use Rattle.mv_pack.specs.declared.key.BatchKey.{BatchKey}
 use Rattle.mv_message.specs.declared.message.Message.TheVariants.{Status, Recall, Withdraw}
@@ -10,7 +10,6 @@ use Rattle.mv_link.specs.declared.item.Item.TheVariants.{Carried}
 use Rattle.mv_repository.specs.declared.entry.LogEntry.{LogEntry}
 use Rattle.mv_repository.specs.declared.effect.Effect.{Effect}
 use Rattle.mv_repository.specs.declared.effect.Effect.TheVariants as effects
-use Rattle.mv_repository.specs.declared.step.Step.{Step}
 use Rattle.mv_repository.specs.declared.stops.BatchStanding.{BatchStanding}
 use Rattle.std.specs.Cmp.Lexicographic.{same_text}
 use Rattle.mv_repository.specs.Counts.{uploaded_in}
@@ -21,8 +20,8 @@ use Rattle.mv_repository.specs.Order.{Placed, ordered, stands_before}
 use Rattle.mv_repository.specs.Pack.{KnownPack, change_effect, is_done, is_active}
 use Rattle.mv_repository.specs.PackState.{is_recall_of, is_withdrawal_of}
 use Rattle.mv_repository.specs.State.{pack_made_by, standing_in, change_in, effect_by, effect_on, next_by}
-use Rattle.mv_repository.specs.Stops.{FirstStops, first_stops, is_before, standing_at, entry_at, place_of, no_entry}
-use Rattle.mv_repository.specs.Track.{is_upload_of, is_status_of, first_upload, statuses_of, steps_by, track_of}
+use Rattle.mv_repository.specs.Stops.{FirstStops, first_stops, is_before, standing_at, no_entry}
+use Rattle.mv_repository.specs.Track.{is_upload_of, is_status_of, first_upload, statuses_of, life_of}
 use Rattle.mv_repository.proofs.KeptLemmas.{same_batch}
 use Rattle.mv_repository.proofs.TableLemmas.{longer, find-none, filter-none}
 use Rattle.mv_repository.proofs.TrackLemmas.{log-split}
@@ -52,13 +51,6 @@ next-same stops stops' gtin None by x same = refl
 next-same stops stops' gtin (Some birth) by x same =
     ap (λ (e : Effect). cond (is_done e) (cond (is_active (standing_in x.entry.item)) birth x) by) (effect-same stops stops' gtin birth by x same)
 
-pub steps-same : (stops stops' : FirstStops) (gtin : List ℕ) (birth : Option Placed) (by : Placed) (xs : List Placed) → IsSameFor stops stops' gtin birth
-    → steps_by (next_by stops' gtin birth) by xs ≡ steps_by (next_by stops gtin birth) by xs
-steps-same stops stops' gtin birth by [] same = refl
-steps-same stops stops' gtin birth by (x ∷ xs) same =
-    (λ i. record { place = x.place; by = (next-same stops stops' gtin birth by x same i).place } ∷ steps_by (next_by stops' gtin birth) (next-same stops stops' gtin birth by x same i) xs)
-    ∙ ap (λ (l : List Step). record { place = x.place; by = (next_by stops gtin birth by x).place } ∷ l) (steps-same stops stops' gtin birth (next_by stops gtin birth by x) xs same)
-
 -- the item is no withdrawal of the product of a pack, and no recall of its batch
 abbrev pub IsElsewhere : Item → List ℕ → Option Placed → Type 0
 IsElsewhere item gtin birth =
@@ -66,15 +58,16 @@ IsElsewhere item gtin birth =
     × IfSome birth (λ (first : Placed). IfSome (pack_made_by first.entry.item) (λ (made : KnownPack). is_recall_of (batch_key gtin made.batch) item ≡ false))
 
 pub recall-elsewhere : (log : List LogEntry) (entry : LogEntry) (pack : PackKey) → is_upload_of pack entry.item ≡ false → is_status_of pack entry.item ≡ false
-    → IsElsewhere entry.item pack.gtin (first_upload pack (ordered log)) → track_of pack (longer log entry) ≡ track_of pack log
+    → IsElsewhere entry.item pack.gtin (first_upload pack (ordered log)) → life_of pack (longer log entry) ≡ life_of pack log
 recall-elsewhere log entry pack n s away =
     let first : first_upload pack (ordered (longer log entry)) ≡ first_upload pack (ordered log) = find-none (λ placed. is_upload_of pack placed.entry.item) log entry n in
     let own : statuses_of pack (ordered (longer log entry)) ≡ statuses_of pack (ordered log) = filter-none (λ placed. is_status_of pack placed.entry.item) log entry s in
     let S' = first_stops (ordered (longer log entry)) in
-    (λ i. record { birth = option_map place_of (first i); steps = steps_by (next_by S' pack.gtin (first i)) (unwrap_or (first i) (entry_at [] 0)) (own i) })
+    (λ i. record { birth = first i; statuses = own i; next = next_by S' pack.gtin (first i) })
     ∙ (λ i. record {
-      birth = option_map place_of (first_upload pack (ordered log));
-      steps = steps-same (first_stops (ordered log)) S' pack.gtin (first_upload pack (ordered log)) (unwrap_or (first_upload pack (ordered log)) (entry_at [] 0)) (statuses_of pack (ordered log)) (same (first_upload pack (ordered log)) away.1) i;
+      birth = first_upload pack (ordered log);
+      statuses = statuses_of pack (ordered log);
+      next = λ by x. next-same (first_stops (ordered log)) S' pack.gtin (first_upload pack (ordered log)) by x (same (first_upload pack (ordered log)) away.1) i;
     })
   where
     stand : (number : List ℕ) → is_recall_of (batch_key pack.gtin number) entry.item ≡ false → (x : Placed)
@@ -115,7 +108,7 @@ withdrawal-form gtin _ e = absurd (true≢false (sym e))
 
 -- an entry that names no pack, withdraws not the product of a pack, and recalls no batch of it
 elsewhere : (log : List LogEntry) (entry : LogEntry) (pack : PackKey) → NamesNone pack entry.item → is_withdrawal_of pack.gtin entry.item ≡ false
-    → ((number : List ℕ) → is_recall_of (batch_key pack.gtin number) entry.item ≡ false) → track_of pack (longer log entry) ≡ track_of pack log
+    → ((number : List ℕ) → is_recall_of (batch_key pack.gtin number) entry.item ≡ false) → life_of pack (longer log entry) ≡ life_of pack log
 elsewhere log entry pack names withdrawal recall = recall-elsewhere log entry pack names.0 names.1 (withdrawal, first (first_upload pack (ordered log)))
   where
     first : (birth : Option Placed) → IfSome birth (λ (first : Placed). IfSome (pack_made_by first.entry.item) (λ (made : KnownPack). is_recall_of (batch_key pack.gtin made.batch) entry.item ≡ false))
@@ -130,7 +123,7 @@ elsewhere log entry pack names withdrawal recall = recall-elsewhere log entry pa
 pub record BearsOn (whole : List LogEntry) (place : ℕ) (gtin : List ℕ) : Type 0 where
   pub names : (pack : PackKey) → NamesNone pack (get_or whole place no_entry).item
   pub uploads : uploaded_in (get_or whole place no_entry).item ≡ []
-  pub away : (pack : PackKey) → bytes_eq gtin pack.gtin ≡ false → track_of pack whole ≡ track_of pack (take place whole)
+  pub away : (pack : PackKey) → bytes_eq gtin pack.gtin ≡ false → life_of pack whole ≡ life_of pack (take place whole)
 
 pub recall-bears : (whole : List LogEntry) (place : ℕ) → length whole ≡ place + 1 → (key : BatchKey) → is_recall_of key (get_or whole place no_entry).item ≡ true → BearsOn whole place key.gtin
 recall-bears whole place l key e =
@@ -138,7 +131,7 @@ recall-bears whole place l key e =
     record {
       names = form.2.0;
       uploads = form.2.1;
-      away = λ pack n. ap (track_of pack) (log-split whole place l)
+      away = λ pack n. ap (life_of pack) (log-split whole place l)
           ∙ elsewhere (take place whole) (get_or whole place no_entry) pack (form.2.0 pack) (form.1 pack.gtin)
           (λ number. form.0 (batch_key pack.gtin number) ∙ ap (λ b. b && bytes_eq key.batch number) n);
     }
@@ -149,6 +142,6 @@ withdrawal-bears whole place l gtin e =
     record {
       names = form.2.0;
       uploads = form.2.1;
-      away = λ pack n. ap (track_of pack) (log-split whole place l)
+      away = λ pack n. ap (life_of pack) (log-split whole place l)
           ∙ elsewhere (take place whole) (get_or whole place no_entry) pack (form.2.0 pack) (form.0 pack.gtin ∙ n) (λ number. form.1 (batch_key pack.gtin number));
     }

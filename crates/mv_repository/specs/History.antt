@@ -10,7 +10,7 @@ use Rattle.mv_repository.specs.declared.stops.BatchStanding.{BatchStanding}
 use Rattle.mv_repository.specs.Order.{Placed, ordered}
 use Rattle.mv_repository.specs.Agreement.{Sent, sent_in, batch_in}
 use Rattle.mv_repository.specs.Stops.{first_stops, is_before, entry_at}
-use Rattle.mv_repository.specs.Track.{first_upload, statuses_of, step_place}
+use Rattle.mv_repository.specs.Track.{first_upload, statuses_of}
 
 -- the entries of a log that decide a pack, each with its place
 pub record PackHistory : Type 0 where
@@ -80,7 +80,7 @@ pub record AreAt (log : List LogEntry) (history : PackHistory) : Type 0 where
 abbrev pub history_at : Places → PackHistory
 history_at places = record {
   upload = option_map (entry_at places.log.now) places.upload;
-  statuses = map (entry_at places.log.now) (map step_place places.steps.now);
+  statuses = map (entry_at places.log.now) places.statuses.now;
   recall = option_map (entry_at places.log.now) places.recall;
   withdrawal = option_map (entry_at places.log.now) places.withdrawal;
 }

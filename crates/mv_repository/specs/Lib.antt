@@ -14,6 +14,7 @@ pub mod Stopped
 pub mod Stops
 pub mod Masters
 pub mod State
+pub mod Blocks
 pub mod Track
 pub mod Counted
 pub mod Shelf

@@ -1,5 +1,5 @@
 -- What is kept of each pack of a product: a pack that has no status has a slot alone, and each other a track.
-use Rattle.std.specs.Prelude.{◌≡◌, ◌<◌, ℕ, List, [], length, get_or, map, filter, not, is_some, Bool, true, false, Option, Some, None, if◌then◌else◌, bytes_eq}
+use Rattle.std.specs.Prelude.{◌≡◌, ◌<◌, ℕ, List, [], length, get_or, filter, not, is_some, Bool, true, false, Option, Some, None, if◌then◌else◌, bytes_eq}
 use Rattle.std.specs.Map.{lookup}
 use Rattle.mv_repository.specs.declared.slot.Slot.{Slot}
 use Rattle.mv_repository.specs.declared.slot.Slot.TheVariants.{Made, Own}
@@ -16,16 +16,16 @@ use Rattle.mv_repository.specs.Effect.{entries_before}
 use Rattle.mv_repository.specs.PackState.{known_pack}
 use Rattle.mv_repository.specs.Listing.{numbers_of, has_number, batch_at, AreListed}
 use Rattle.mv_repository.specs.Stops.{FirstStops, comes_first}
-use Rattle.mv_repository.specs.Track.{Kept, track_of, step_place, next_place, IsWorked, is_upload_of, is_status_of}
+use Rattle.mv_repository.specs.Track.{Kept, life_of, IsKept, IsTrack, is_upload_of, is_status_of}
 
 -- nothing is kept
 abbrev pub nothing_kept : Kept
-nothing_kept = record { birth = None; steps = [] }
+nothing_kept = record { birth = None; statuses = []; by = 0; blocks = [] }
 
 -- what a slot stands for
 abbrev pub kept_by : List Kept → Option Slot → Kept
 kept_by tracks None = nothing_kept
-kept_by tracks (Some (Made place)) = record { birth = Some place; steps = [] }
+kept_by tracks (Some (Made place)) = record { birth = Some place; statuses = []; by = place; blocks = [] }
 kept_by tracks (Some (Own number)) = get_or tracks number nothing_kept
 
 -- what is kept of the pack with a serial number
@@ -61,7 +61,7 @@ new_count log entry gtin serials =
 -- each pack of a product is kept as a log means it, where these packs are by the first of two logs, and the others by the second
 abbrev pub AreKept : List LogEntry → List LogEntry → List (List ℕ) → List ℕ → List (List ℕ × Slot) → List Kept → Type 0
 AreKept now before done gtin slots tracks =
-    (serial : List ℕ) → kept_on slots tracks serial ≡ track_of (pack_key gtin serial) (if has done serial then now else before)
+    (serial : List ℕ) → IsKept (life_of (pack_key gtin serial) (if has done serial then now else before)) (kept_on slots tracks serial)
 
 -- of the packs with these serial numbers, those that an upload makes have their tracks listed under its batch
 abbrev pub AreMadeListed : List LogEntry → ℕ → List (List ℕ) → List (List ℕ × Slot) → List Kept → List (List ℕ × List ℕ) → Type 0
@@ -76,7 +76,7 @@ HasNoOther old new =
 
 -- a shelf is that of a product by a log
 pub record IsShelfOf (log : List LogEntry) (gtin : List ℕ) (shelf : ShelfTable) : Type 0 where
-  pub kept : (serial : List ℕ) → kept_on shelf.slots shelf.tracks serial ≡ track_of (pack_key gtin serial) log
+  pub kept : (serial : List ℕ) → IsKept (life_of (pack_key gtin serial) log) (kept_on shelf.slots shelf.tracks serial)
   pub listed : AreListed log gtin shelf.slots shelf.listing
 
 -- a shelf with no pack
@@ -90,13 +90,13 @@ shelf_of gtin shelves = unwrap_or (lookup (bytes_eq gtin) shelves) no_shelf
 -- a track was worked out again by a log
 pub record IsAgain (log : List LogEntry) (stops : FirstStops) (gtin : List ℕ) (old new : Kept) : Type 0 where
   pub birth : new.birth ≡ old.birth
-  pub places : map step_place new.steps ≡ map step_place old.steps
-  pub worked : IsWorked (next_place log stops gtin new.birth) (unwrap_or new.birth 0) new.steps
+  pub statuses : new.statuses ≡ old.statuses
+  pub worked : IsTrack log stops gtin new
 
 -- each pack on a shelf is kept as one of two logs means it
 abbrev pub IsBetween : List LogEntry → List LogEntry → List ℕ → List (List ℕ × Slot) → List Kept → Type 0
 IsBetween now before gtin slots tracks =
-    (serial : List ℕ) → (newer : Bool) × (kept_on slots tracks serial ≡ track_of (pack_key gtin serial) (if newer then now else before))
+    (serial : List ℕ) → (newer : Bool) × IsKept (life_of (pack_key gtin serial) (if newer then now else before)) (kept_on slots tracks serial)
 
 -- an item is no upload and no status of a pack
 abbrev pub NamesNone : PackKey → Item → Type 0

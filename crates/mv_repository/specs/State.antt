@@ -62,14 +62,18 @@ effect_on stops gtin (Some birth) by placed =
     then option_map_or (effect_by (standing_at stops placed) placed.entry.sender placed.entry.item gtin) (known_at birth by) effects.Unknown
     else effects.Unknown
 
--- By which entry the pack stands then: a change is by the status, and a revert leaves the pack as its upload made it. Where
--- there is no upload, the status itself is named.
+-- By which entry the pack stands then: a change is by the status, and a revert leaves the pack as its upload made it.
 abbrev pub next_by : FirstStops → List ℕ → Option Placed → Placed → Placed → Placed
-next_by stops gtin None by placed = placed
+next_by stops gtin None by placed = by
 next_by stops gtin (Some birth) by placed =
     if is_done (effect_on stops gtin (Some birth) by placed)
     then (if is_active (standing_in placed.entry.item) then birth else placed)
     else by
+
+-- the same by places in a log
+abbrev pub next_place : List LogEntry → FirstStops → List ℕ → Option ℕ → ℕ → ℕ → ℕ
+next_place log stops gtin birth by place =
+    (next_by stops gtin (option_map (entry_at log) birth) (entry_at log by) (entry_at log place)).place
 
 -- what took a pack from active, with the user, who stands in the log
 abbrev pub user_in : Item → List ℕ

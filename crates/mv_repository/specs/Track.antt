@@ -1,6 +1,5 @@
--- What is kept of one pack: its first upload, and its statuses in the order of stamps, each with the entry by which the pack
--- stands behind it.
-use Rattle.std.specs.Bool.{⊤}
+-- What is kept of one pack: its first upload, its statuses in the order of stamps, and the entry by which the pack stands
+-- behind them.
 use Rattle.std.specs.Prelude.{◌≡◌, ℕ, List, [], ◌∷◌, map, fold, filter, find, not, ◌==◌, Bool, false, Option, Some, None, if◌then◌else◌}
 use Rattle.std.specs.Option.{option_map, option_map_or, unwrap_or}
 use Rattle.mv_pack.specs.declared.key.PackKey.{PackKey}
@@ -9,14 +8,15 @@ use Rattle.mv_message.specs.declared.message.Message.TheVariants.{Upload, Status
 use Rattle.mv_link.specs.declared.item.Item.{Item}
 use Rattle.mv_link.specs.declared.item.Item.TheVariants.{Carried}
 use Rattle.mv_repository.specs.declared.entry.LogEntry.{LogEntry}
-use Rattle.mv_repository.specs.declared.step.Step.{Step}
+use Rattle.mv_repository.specs.declared.blocks.Block.{Block}
 use Rattle.mv_repository.specs.declared.stops.BatchStanding.{BatchStanding}
 use Rattle.mv_pack.specs.Keys.{is_same_pack, batch_key}
-use Rattle.mv_repository.specs.Order.{Placed, passes, stands_before, ordered, Ascends}
+use Rattle.mv_repository.specs.Order.{Placed, passes, stands_before, ordered}
 use Rattle.mv_repository.specs.Pack.{KnownPack, pack_after_status}
 use Rattle.mv_repository.specs.PackState.{has_pack}
 use Rattle.mv_repository.specs.declared.held.Held.{Held}
-use Rattle.mv_repository.specs.State.{pack_made_by, next_by, held_at}
+use Rattle.mv_repository.specs.Blocks.{AreBlocks}
+use Rattle.mv_repository.specs.State.{pack_made_by, next_by, next_place, held_at}
 use Rattle.mv_repository.specs.Stops.{FirstStops, entry_at, place_of, first_stops, standing_at}
 
 -- an item is an upload that names a pack
@@ -55,43 +55,51 @@ pack_grown stops pack None statuses = None
 pack_grown stops pack (Some birth) statuses =
     option_map (λ held. fold (pack_step stops pack birth) held statuses) (pack_made_by birth.entry.item)
 
--- what is kept of a pack
+-- what a log means for a pack: its first upload, its statuses, and by which entry it stands behind one of them, where it
+-- stood by another
+pub record Life : Type 0 where
+  pub birth : Option Placed
+  pub statuses : List Placed
+  pub next : Placed → Placed → Placed
+
+abbrev pub life_of : PackKey → List LogEntry → Life
+life_of pack log = record {
+  birth = first_upload pack (ordered log);
+  statuses = statuses_of pack (ordered log);
+  next = next_by (first_stops (ordered log)) pack.gtin (first_upload pack (ordered log));
+}
+
+-- the entry by which a pack stands in front of its statuses: its upload
+abbrev pub start_of : Life → Placed
+start_of life = unwrap_or life.birth (entry_at [] 0)
+
+-- what is kept of a pack, by places in the log
 pub record Kept : Type 0 where
   pub birth : Option ℕ
-  pub steps : List Step
+  pub statuses : List ℕ
+  pub by : ℕ  -- the entry by which it stands behind all
+  pub blocks : List Block  -- what many statuses do, as far as that is known
 
-abbrev pub step_place : Step → ℕ
-step_place step = step.place
+-- the same but for the blocks
+abbrev pub bare : Kept → Kept
+bare kept = record kept { blocks = [] }
 
--- statuses with the entries by which a pack stands behind them
-abbrev pub steps_by : (Placed → Placed → Placed) → Placed → List Placed → List Step
-steps_by next by [] = []
-steps_by next by (placed ∷ rest) =
-    record { place = placed.place; by = (next by placed).place } ∷ steps_by next (next by placed) rest
+-- what is to be kept of a pack, but for the blocks
+abbrev pub kept_of : Life → Kept
+kept_of life = record {
+  birth = option_map place_of life.birth;
+  statuses = map place_of life.statuses;
+  by = (fold life.next (start_of life) life.statuses).place;
+  blocks = [];
+}
 
--- what is to be kept of a pack, by a log
 abbrev pub track_of : PackKey → List LogEntry → Kept
-track_of pack log =
-    let birth = first_upload pack (ordered log) in
-    record {
-      birth = option_map place_of birth;
-      steps = steps_by (next_by (first_stops (ordered log)) pack.gtin birth) (unwrap_or birth (entry_at [] 0)) (statuses_of pack (ordered log));
-    }
+track_of pack log = kept_of (life_of pack log)
 
--- by places in a log
-abbrev pub next_place : List LogEntry → FirstStops → List ℕ → Option ℕ → ℕ → ℕ → ℕ
-next_place log stops gtin birth by place =
-    (next_by stops gtin (option_map (entry_at log) birth) (entry_at log by) (entry_at log place)).place
-
--- each step has the entry by which the pack stands behind it, from the one in front of it on
-abbrev pub IsWorked : (ℕ → ℕ → ℕ) → ℕ → List Step → Type 0
-IsWorked next by [] = ⊤
-IsWorked next by (step ∷ rest) = (step.by ≡ next by step.place) × IsWorked next step.by rest
-
--- the entry by which a pack stands behind these steps
-abbrev pub last_by : ℕ → List Step → ℕ
-last_by by [] = by
-last_by by (step ∷ rest) = last_by step.by rest
+-- a pack is kept as a log means it, and its blocks are those of its first statuses
+pub record IsKept (life : Life) (kept : Kept) : Type 0 where
+  pub bare : bare kept ≡ kept_of life
+  pub blocks : AreBlocks (λ placed. placed) life.next (start_of life) (start_of life) kept.blocks life.statuses
 
 -- places with the newest put in
 abbrev pub put_place : List LogEntry → ℕ → List ℕ → List ℕ
@@ -103,19 +111,20 @@ put_place log new (first ∷ rest) =
 abbrev pub places_before : List LogEntry → ℕ → List ℕ → List ℕ
 places_before log new places = filter (λ place. not (passes (entry_at log new) (entry_at log place))) places
 
--- the statuses stand in order, and the pack is worked out behind each
+-- a pack is worked out, by places in a log
 pub record IsTrack (log : List LogEntry) (stops : FirstStops) (gtin : List ℕ) (kept : Kept) : Type 0 where
-  pub ascend : Ascends (map (entry_at log) (map step_place kept.steps))
-  pub worked : IsWorked (next_place log stops gtin kept.birth) (unwrap_or kept.birth 0) kept.steps
+  pub by : kept.by ≡ fold (next_place log stops gtin kept.birth) (unwrap_or kept.birth 0) kept.statuses
+  pub blocks : AreBlocks (entry_at log) (next_place log stops gtin kept.birth) (unwrap_or kept.birth 0) (unwrap_or kept.birth 0)
+      kept.blocks kept.statuses
 
 -- what a pack is that is kept so
-abbrev pub state_from : List LogEntry → Option ℕ → List Step → Option Held
-state_from log None steps = None
-state_from log (Some birth) steps = held_at log birth (last_by birth steps)
+abbrev pub state_from : List LogEntry → Option ℕ → ℕ → Option Held
+state_from log None by = None
+state_from log (Some birth) by = held_at log birth by
 
 abbrev pub state_by : List LogEntry → Kept → Option Held
-state_by log kept = state_from log kept.birth kept.steps
+state_by log kept = state_from log kept.birth kept.by
 
 -- a pack is held, and active: it stands by its upload
 abbrev pub is_active_kept : Kept → Bool
-is_active_kept kept = option_map_or (λ birth. birth == last_by birth kept.steps) kept.birth false
+is_active_kept kept = option_map_or (λ birth. birth == kept.by) kept.birth false

@@ -15,7 +15,6 @@ ghost use Rattle.mv_repository.specs.Track.{track_of};
 use crate::LogEntry;
 use crate::listing::batch_at;
 use crate::order::is_before;
-use crate::step::Step;
 use crate::stops::Stops;
 use mv_link::Item;
 use mv_message::laws::messages_are_equal;
@@ -31,7 +30,7 @@ struct Places<'a> {
     /// The first upload that names the pack.
     upload: Option<usize>,
     /// The statuses, in the order of stamps.
-    steps: &'a [Step],
+    statuses: &'a [u32],
     /// The first recall of the pack's batch.
     recall: Option<usize>,
     /// The first withdrawal of the pack's product.
@@ -94,13 +93,13 @@ fn have_same_statuses(one: &Places<'_>, other: &Places<'_>) -> bool
     ensures { IsTrue result ↔ (map (sent_status (history_at one.now)) (history_at one.now).statuses
         ≡ map (sent_status (history_at other.now)) (history_at other.now).statuses) }
 {
-    let mut mine = one.steps;
-    let mut theirs = other.steps;
+    let mut mine = one.statuses;
+    let mut theirs = other.statuses;
     while let Some((first, rest)) = mine.split_first() {
         let Some((second, others)) = theirs.split_first() else {
             return false;
         };
-        if !is_same_status(one, first.place as usize, other, second.place as usize) {
+        if !is_same_status(one, *first as usize, other, *second as usize) {
             return false;
         }
         mine = rest;
@@ -161,16 +160,17 @@ impl<'a> History<'a> {
         stops: &Stops,
         pack: &PackKey,
         upload: Option<u32>,
-        steps: &'a [Step],
+        statuses: &'a [u32],
     ) -> History<'a>
         requires stops { AreStopsOf log.now stops.now }
-        requires kept { record { birth = upload; steps = steps.now } ≡ track_of pack.now log.now }
+        requires upload { upload ≡ (track_of pack.now log.now).birth }
+        requires statuses { statuses.now ≡ (track_of pack.now log.now).statuses }
         ensures { result ≡ history_of pack.now log.now }
     {
         let places = Places {
             log,
             upload: widened(upload),
-            steps,
+            statuses,
             recall: batch_recall(log, stops, pack, upload),
             withdrawal: stops.first_withdrawal(&pack.gtin),
         };
@@ -190,7 +190,7 @@ impl<'a> History<'a> {
     {
         Statuses {
             log: self.places.log,
-            steps: self.places.steps,
+            statuses: self.places.statuses,
         }
     }
 
@@ -226,7 +226,7 @@ pub struct Statuses<'a> {
     /// The log.
     log: &'a [LogEntry],
     /// Where in it those stand that are still to come.
-    steps: &'a [Step],
+    statuses: &'a [u32],
 }
 
 impl<'a> Model for Statuses<'a> {
@@ -236,13 +236,12 @@ impl<'a> Model for Statuses<'a> {
     ghost use Rattle.mv_repository.specs.History.{IsAt};
     ghost use Rattle.mv_repository.specs.Masters.{entry_of};
     ghost use Rattle.mv_repository.specs.Stops.{entry_at};
-    ghost use Rattle.mv_repository.specs.Track.{step_place};
 
     ghost Value = { List AnEntry };
 
-    ghost view = { λ it. map entry_of (map (entry_at it.log.now) (map step_place it.steps.now)) };
+    ghost view = { λ it. map entry_of (map (entry_at it.log.now) it.statuses.now) };
 
-    ghost invariant = { λ it. AllByRecursion (IsAt it.log.now) (map (entry_at it.log.now) (map step_place it.steps.now)) };
+    ghost invariant = { λ it. AllByRecursion (IsAt it.log.now) (map (entry_at it.log.now) it.statuses.now) };
 }
 
 impl<'a> Iterator for Statuses<'a> {
@@ -253,8 +252,8 @@ impl<'a> Iterator for Statuses<'a> {
     ghost remaining = { item_count (λ it. it) };
 
     fn next(&mut self) -> Option<&'a LogEntry> {
-        let (step, rest) = self.steps.split_first()?;
-        self.steps = rest;
-        self.log.get(step.place as usize)
+        let (place, rest) = self.statuses.split_first()?;
+        self.statuses = rest;
+        self.log.get(*place as usize)
     }
 }

@@ -18,6 +18,7 @@
 //! ```
 #![tactic(auto)]
 
+mod blocks;
 mod counted;
 mod counts;
 mod effect;
@@ -36,7 +37,6 @@ mod shelf;
 mod shelves;
 mod slot;
 mod state;
-mod step;
 mod stops;
 mod tables;
 mod track;

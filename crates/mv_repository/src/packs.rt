@@ -16,7 +16,6 @@ ghost use Rattle.mv_repository.specs.Track.{is_status_of, track_of};
 use crate::counted::Counted;
 use crate::shelf::{Newest, Shelf};
 use crate::shelves::add_shelf;
-use crate::step::Step;
 use crate::stops::Stops;
 use crate::{Effect, Held, LogEntry};
 use indexmap::IndexMap;
@@ -78,9 +77,10 @@ impl Packs {
     }
 
     /// The place of the first upload that names a pack, and its statuses.
-    pub fn parts(&self, log: &[LogEntry], key: &PackKey) -> (Option<u32>, &[Step])
+    pub fn parts(&self, log: &[LogEntry], key: &PackKey) -> (Option<u32>, &[u32])
         requires { ArePacksOf log.now self.now }
-        ensures { record { birth = result.0; steps = result.1.now } ≡ track_of key.now log.now }
+        ensures birth { result.0 ≡ (track_of key.now log.now).birth }
+        ensures statuses { result.1.now ≡ (track_of key.now log.now).statuses }
     {
         match self.shelves.get(&key.gtin) {
             Some(shelf) => shelf.parts(&key.serial),

@@ -106,8 +106,8 @@ impl Repository {
         ensures { result ≡ history_of key.now self.now.log }
     {
         let log = self.log.as_slice();
-        let (upload, steps) = self.tables.packs.parts(log, key);
-        History::new(log, &self.tables.stops, key, upload, steps)
+        let (upload, statuses) = self.tables.packs.parts(log, key);
+        History::new(log, &self.tables.stops, key, upload, statuses)
     }
 
     /// Whether a batch is recalled.

@@ -1,6 +1,6 @@
 //! What is kept of each pack of one product, by serial numbers alone. This file knows no other product.
 
-ghost use Rattle.std.specs.Prelude.{◌≡◌, ◌<◌, ◌≤◌, ◌+◌, ◌^◌, ℕ, List, [], map, length, get_or, take, Some, true, false, ◌==◌, bytes_eq, OnOk, OnErr, IfOk};
+ghost use Rattle.std.specs.Prelude.{◌≡◌, ◌<◌, ◌≤◌, ◌+◌, ◌^◌, ℕ, List, [], length, get_or, take, Some, true, false, ◌==◌, bytes_eq, OnOk, OnErr, IfOk};
 ghost use Rattle.std.specs.List.{IsDistinct};
 ghost use Rattle.std.specs.Map.{lookup, keys_of};
 ghost use Rattle.mv_repository.specs.declared.slot.Slot.TheVariants.{Own};
@@ -10,7 +10,7 @@ ghost use Rattle.mv_repository.specs.Counted.{is_counted, slots_counted};
 ghost use Rattle.mv_repository.specs.Stops.{AreStopsOf, entry_at, stops_in, comes_first, earlier_place};
 ghost use Rattle.mv_repository.specs.Shelf.{new_count, nothing_kept, kept_by, kept_on, IsShelf, IsShelfOf, IsUploadOf, IsAgain, IsBetween, AreKept, NamesNone, has, AreMadeListed, HasNoOther};
 ghost use Rattle.mv_repository.specs.Listing.{numbers_of, has_number, HasAllOf, batch_at, AreListed};
-ghost use Rattle.mv_repository.specs.Track.{IsTrack, step_place, track_of, is_status_of, state_by};
+ghost use Rattle.mv_repository.specs.Track.{IsTrack, IsKept, life_of, is_status_of, state_by};
 ghost use Rattle.mv_repository.specs.Effect.{effect_of};
 ghost use Rattle.mv_repository.specs.PackState.{is_recall_of, is_withdrawal_of};
 
@@ -19,7 +19,6 @@ use crate::listing::Listing;
 use crate::order::passes;
 use crate::slot::Slot;
 use crate::state::held_at;
-use crate::step::Step;
 use crate::stops::Stops;
 use crate::track::Track;
 use crate::{Effect, Held, LogEntry};
@@ -55,8 +54,8 @@ fn put_upload(
     ensures no_other { HasNoOther slots.old.entries slots.new.entries }
     ensures birth { (kept_on slots.new.entries tracks.new.items serial.now).birth
         ≡ earlier_place newest.now.log.now newest.now.place (kept_on slots.old.entries tracks.old.items serial.now).birth }
-    ensures places { map step_place (kept_on slots.new.entries tracks.new.items serial.now).steps
-        ≡ map step_place (kept_on slots.old.entries tracks.old.items serial.now).steps }
+    ensures statuses { (kept_on slots.new.entries tracks.new.items serial.now).statuses
+        ≡ (kept_on slots.old.entries tracks.old.items serial.now).statuses }
     ensures worked { IsTrack newest.now.log.now (stops_in newest.now.log.now newest.now.stops.now) gtin.now (kept_on slots.new.entries tracks.new.items serial.now) }
     ensures others { (other : List ℕ) → bytes_eq serial.now other ≡ false
         → kept_on slots.new.entries tracks.new.items other ≡ kept_on slots.old.entries tracks.old.items other }
@@ -171,10 +170,10 @@ fn put_status(
     requires last { length newest.now.log.now ≡ newest.now.place + 1 }
     requires stops { AreStopsOf (take newest.now.place newest.now.log.now) newest.now.stops.now }
     requires own { is_status_of pack.now (entry_at newest.now.log.now newest.now.place).entry.item ≡ true }
-    requires kept { kept_on slots.old.entries tracks.old.items pack.now.serial ≡ track_of pack.now (take newest.now.place newest.now.log.now) }
+    requires kept { IsKept (life_of pack.now (take newest.now.place newest.now.log.now)) (kept_on slots.old.entries tracks.old.items pack.now.serial) }
     requires listed { AreListed (take newest.now.place newest.now.log.now) pack.now.gtin slots.old.entries listing.old }
     ensures shelf { IsShelf slots.new.entries tracks.new.items }
-    ensures kept { OnOk result (kept_on slots.new.entries tracks.new.items pack.now.serial ≡ track_of pack.now newest.now.log.now) }
+    ensures kept { OnOk result (IsKept (life_of pack.now newest.now.log.now) (kept_on slots.new.entries tracks.new.items pack.now.serial)) }
     ensures others { (other : List ℕ) → bytes_eq pack.now.serial other ≡ false
         → kept_on slots.new.entries tracks.new.items other ≡ kept_on slots.old.entries tracks.old.items other }
     ensures effect { IfOk result (λ effect. effect ≡ effect_of (take newest.now.place newest.now.log.now) (entry_at newest.now.log.now newest.now.place).entry) }
@@ -229,7 +228,7 @@ fn refresh_tracks(
     ensures count { length tracks.new.items ≡ length tracks.old.items }
     ensures between { IsBetween newest.now.log.now (take newest.now.place newest.now.log.now) gtin.now slots.now.entries tracks.new.items }
     ensures worked { (serial : List ℕ) (number : ℕ) → lookup (bytes_eq serial) slots.now.entries ≡ Some (Own number)
-        → kept_on slots.now.entries tracks.new.items serial ≡ track_of (pack_key gtin.now serial) newest.now.log.now }
+        → IsKept (life_of (pack_key gtin.now serial) newest.now.log.now) (kept_on slots.now.entries tracks.new.items serial) }
 {
     for number in 0..tracks.len() {
         refresh_track(tracks, newest, gtin, number);
@@ -252,7 +251,7 @@ fn refresh_listed(
     ensures count { length tracks.new.items ≡ length tracks.old.items }
     ensures between { IsBetween newest.now.log.now (take newest.now.place newest.now.log.now) gtin.now slots.now.entries tracks.new.items }
     ensures worked { (serial : List ℕ) (number : ℕ) → lookup (bytes_eq serial) slots.now.entries ≡ Some (Own number)
-        → has_number numbers.now number ≡ true → kept_on slots.now.entries tracks.new.items serial ≡ track_of (pack_key gtin.now serial) newest.now.log.now }
+        → has_number numbers.now number ≡ true → IsKept (life_of (pack_key gtin.now serial) newest.now.log.now) (kept_on slots.now.entries tracks.new.items serial) }
 {
     for listed in numbers {
         let number = *listed as usize;
@@ -306,8 +305,9 @@ impl Shelf {
     }
 
     /// The place of the first upload that names a pack of the product, and the pack's statuses.
-    pub fn parts(&self, serial: &Serial) -> (Option<u32>, &[Step])
-        ensures { record { birth = result.0; steps = result.1.now } ≡ kept_on self.now.slots self.now.tracks serial.now }
+    pub fn parts(&self, serial: &Serial) -> (Option<u32>, &[u32])
+        ensures birth { result.0 ≡ (kept_on self.now.slots self.now.tracks serial.now).birth }
+        ensures statuses { result.1.now ≡ (kept_on self.now.slots self.now.tracks serial.now).statuses }
     {
         match self.slots.get(serial).copied() {
             Some(Slot::Made(first)) => (Some(first), &[]),

@@ -5,9 +5,8 @@ ghost use Rattle.std.specs.Prelude.{◌≡◌, ℕ, List, Option as AnOption};
 ghost use Rattle.std.specs.Option.{option_map};
 ghost use Rattle.mv_pack.specs.Keys.{batch_key};
 ghost use Rattle.mv_repository.specs.Pack.{is_active, is_final, revert_effect, change_effect};
-ghost use Rattle.mv_repository.specs.State.{standing_in, change_in, user_in, user_at, known_change, effect_by, effect_on, next_by, held_at};
+ghost use Rattle.mv_repository.specs.State.{standing_in, change_in, user_in, user_at, known_change, effect_by, effect_on, next_place, held_at};
 ghost use Rattle.mv_repository.specs.Stops.{entry_at, standing_at, stops_in, place_of};
-ghost use Rattle.mv_repository.specs.Track.{next_place};
 
 use crate::held::{REVERT_SECONDS, copy_of};
 use crate::order::stands_before;
@@ -57,6 +56,16 @@ fn user_at(log: &[LogEntry], place: usize) -> &str
     match log.get(place) {
         Some(entry) => user_in(&entry.item),
         None => "",
+    }
+}
+
+/// The sender of the entry at a place.
+pub(crate) fn sender_at(log: &[LogEntry], place: usize) -> Party
+    ensures { result ≡ (entry_at log.now place).entry.sender }
+{
+    match log.get(place) {
+        Some(entry) => entry.sender,
+        None => 0,
     }
 }
 
@@ -264,7 +273,7 @@ pub(crate) fn next(
     ensures by { result.1 ≡ next_place log.now (stops_in log.now stops.now) gtin.now birth by place }
 {
     let Some(birth) = birth else {
-        return (Effect::Unknown, place);
+        return (Effect::Unknown, by);
     };
     let effect = effect_on(
         log,

@@ -1,19 +1,20 @@
-//! What is kept of one pack: the place in the log of its first upload, and its statuses in the order of stamps, each with the
-//! entry by which the pack stands behind it. This file knows no other pack.
+//! What is kept of one pack: the place in the log of its first upload, its statuses in the order of stamps, and the entry by
+//! which the pack stands behind them. This file knows no other pack.
 
-ghost use Rattle.std.specs.Prelude.{◌≡◌, ◌≤◌, ◌+◌, ℕ, List, [], length, map, insert, take, drop, true, OnOk, OnErr, IfOk};
-ghost use Rattle.std.specs.Option.{option_map, unwrap_or};
+ghost use Rattle.std.specs.Prelude.{◌≡◌, ◌≤◌, ◌<◌, ◌+◌, ℕ, List, [], length, map, insert, take, fold, true, OnOk, OnErr, IfOk};
+ghost use Rattle.std.specs.Option.{unwrap_or};
+ghost use Rattle.mv_repository.specs.Blocks.{AreBlocks, entry_in, next_in, start_in, without};
 ghost use Rattle.mv_repository.specs.Counted.{is_counted};
 ghost use Rattle.mv_repository.specs.Effect.{effect_of};
 ghost use Rattle.mv_repository.specs.Order.{Ascends};
 ghost use Rattle.mv_repository.specs.Shelf.{IsAgain};
 ghost use Rattle.mv_repository.specs.Stops.{AreStopsOf, entry_at, stops_in, comes_first, earlier_place};
-ghost use Rattle.mv_repository.specs.Track.{is_status_of, track_of, IsTrack, state_by, step_place, next_place, IsWorked, last_by, put_place, places_before};
+ghost use Rattle.mv_repository.specs.Track.{is_status_of, life_of, IsKept, IsTrack, state_by, put_place, places_before};
 
+use crate::blocks::{Basis, Block, cut_at, put_late};
 use crate::counted::Counted;
 use crate::order::passes;
 use crate::state::{held_at, next};
-use crate::step::Step;
 use crate::stops::Stops;
 use crate::{Effect, Held, LogEntry};
 use mv_pack::{Gtin, PackKey};
@@ -21,17 +22,17 @@ use std::alloc::{AllocError, Global};
 use std::marker::Model;
 
 /// Where the newest entry goes among statuses in the order of stamps: behind all that it doesn't pass.
-fn place_for(log: &[LogEntry], steps: &[Step], new: u32) -> usize
-    requires ascend { Ascends (map (entry_at log.now) (map step_place steps.now)) }
-    ensures within { result ≤ length steps.now }
-    ensures put { insert (map step_place steps.now) result new ≡ put_place log.now new (map step_place steps.now) }
-    ensures before { take result (map step_place steps.now) ≡ places_before log.now new (map step_place steps.now) }
+fn place_for(log: &[LogEntry], statuses: &[u32], new: u32) -> usize
+    requires ascend { Ascends (map (entry_at log.now) statuses.now) }
+    ensures within { result ≤ length statuses.now }
+    ensures put { insert statuses.now result new ≡ put_place log.now new statuses.now }
+    ensures before { take result statuses.now ≡ places_before log.now new statuses.now }
 {
     let mut front = 0;
-    let mut back = steps.len();
+    let mut back = statuses.len();
     let mut middle = back.saturating_sub(1);
     while front < back {
-        if passes(log, new as usize, steps[middle].place as usize) {
+        if passes(log, new as usize, statuses[middle] as usize) {
             back = middle;
         } else {
             front = middle + 1;
@@ -41,46 +42,42 @@ fn place_for(log: &[LogEntry], steps: &[Step], new: u32) -> usize
     back
 }
 
-/// Works out the steps of a pack from one on, in front of which it stands by an entry, until one leaves the pack as it did
-/// before. Those in front are worked out, and the others were, from some entry on.
-fn carry_on(
-    log: &[LogEntry],
-    stops: &Stops,
-    gtin: &Gtin,
-    birth: Option<u32>,
-    by: u32,
-    steps: &mut Vec<Step>,
-    from: usize,
-)
-    requires { from ≤ length steps.old.items }
-    ensures places { map step_place steps.new.items ≡ map step_place steps.old.items }
-    ensures worked { let next = next_place log.now (stops_in log.now stops.now) gtin.now birth in
-        (base was : ℕ) → IsWorked next base (take from steps.old.items) → last_by base (take from steps.old.items) ≡ by
-        → IsWorked next was (drop from steps.old.items) → IsWorked next base steps.new.items }
+/// The place of the entry by which a pack stands in front of the status at a place among these, where it is known how it
+/// stands behind all.
+fn by_before(basis: &Basis<'_>, own: &[u32], blocks: &Vec<Block>, at: usize, standing: u32) -> u32
+    requires within { at ≤ length own.now }
+    requires blocks { AreBlocks (entry_in basis.now) (next_in basis.now) (start_in basis.now) (start_in basis.now) blocks.now.items own.now }
+    requires standing { standing ≡ fold (next_in basis.now) (start_in basis.now) own.now }
+    ensures { result ≡ fold (next_in basis.now) (start_in basis.now) (take at own.now) }
 {
-    let mut last = by;
-    for at in from..steps.len() {
-        let (_, after) = next(log, stops, gtin, birth, last, steps[at].place);
-        if after == steps[at].by {
-            return;
-        }
-        steps[at].by = after;
-        last = after;
+    if at == own.len() {
+        return standing;
     }
+    let cut = cut_at(basis, blocks, at);
+    basis.after(cut.by, &own[cut.start..at])
 }
 
-/// Works out all steps of a pack.
-fn work_out(log: &[LogEntry], stops: &Stops, gtin: &Gtin, birth: Option<u32>, steps: &mut Vec<Step>)
-    ensures places { map step_place steps.new.items ≡ map step_place steps.old.items }
-    ensures worked { IsWorked (next_place log.now (stops_in log.now stops.now) gtin.now birth)
-        (unwrap_or birth 0) steps.new.items }
+/// The place of the entry by which a pack stands behind these statuses, where the one at a place was put in, and what is known
+/// of its blocks: the pack stands by an entry behind that one, and it stood by another behind all.
+fn by_behind(
+    basis: &Basis<'_>,
+    own: &[u32],
+    blocks: &mut Vec<Block>,
+    at: usize,
+    by: u32,
+    standing: u32,
+) -> u32
+    requires within { at < length own.now }
+    requires by { by ≡ fold (next_in basis.now) (start_in basis.now) (take (at + 1) own.now) }
+    requires blocks { AreBlocks (entry_in basis.now) (next_in basis.now) (start_in basis.now) (start_in basis.now) blocks.old.items (without own.now at) }
+    requires standing { standing ≡ fold (next_in basis.now) (start_in basis.now) (without own.now at) }
+    ensures blocks { AreBlocks (entry_in basis.now) (next_in basis.now) (start_in basis.now) (start_in basis.now) blocks.new.items own.now }
+    ensures by { result ≡ fold (next_in basis.now) (start_in basis.now) own.now }
 {
-    let mut last = birth.unwrap_or(0);
-    for at in 0..steps.len() {
-        let (_, after) = next(log, stops, gtin, birth, last, steps[at].place);
-        steps[at].by = after;
-        last = after;
+    if at + 1 == own.len() {
+        return by;
     }
+    put_late(basis, own, blocks, at, standing)
 }
 
 /// What is kept of a pack.
@@ -88,8 +85,12 @@ fn work_out(log: &[LogEntry], stops: &Stops, gtin: &Gtin, birth: Option<u32>, st
 pub(crate) struct Track {
     /// The place of the first upload that names the pack.
     birth: Option<u32>,
-    /// Its statuses, in the order of stamps.
-    steps: Vec<Step>,
+    /// The places of its statuses, in the order of stamps.
+    statuses: Vec<u32>,
+    /// The place of the entry by which it stands behind all.
+    by: u32,
+    /// What many statuses do, where one came late.
+    blocks: Vec<Block>,
 }
 
 impl Model for Track {
@@ -97,17 +98,19 @@ impl Model for Track {
 
     ghost Value = { Kept };
 
-    ghost view = { λ a. record { birth = a.birth; steps = a.steps.items } };
+    ghost view = { λ a. record { birth = a.birth; statuses = a.statuses.items; by = a.by; blocks = a.blocks.items } };
 }
 
 impl Track {
     /// A track of a pack that has no status.
     pub fn new(alloc: Global, birth: Option<u32>) -> Track
-        ensures { result ≡ record { birth = birth; steps = [] } }
+        ensures { result ≡ record { birth = birth; statuses = []; by = unwrap_or birth 0; blocks = [] } }
     {
         Track {
             birth,
-            steps: Vec::new(alloc),
+            statuses: Vec::new(alloc),
+            by: birth.unwrap_or(0),
+            blocks: Vec::new(alloc),
         }
     }
 
@@ -115,14 +118,15 @@ impl Track {
     pub fn state(&self, log: &[LogEntry]) -> Option<Held>
         ensures { result ≡ state_by log.now self.now }
     {
-        held_at(log, self.birth?, self.by_before(self.steps.len()))
+        held_at(log, self.birth?, self.by)
     }
 
-    /// The place of the first upload that names the pack, and its statuses.
-    pub fn parts(&self) -> (Option<u32>, &[Step])
-        ensures { record { birth = result.0; steps = result.1.now } ≡ self.now }
+    /// The place of the first upload that names the pack, and those of its statuses.
+    pub fn parts(&self) -> (Option<u32>, &[u32])
+        ensures birth { result.0 ≡ self.now.birth }
+        ensures statuses { result.1.now ≡ self.now.statuses }
     {
-        (self.birth, self.steps.as_slice())
+        (self.birth, self.statuses.as_slice())
     }
 
     /// Whether the pack is counted.
@@ -134,19 +138,7 @@ impl Track {
         };
         match counted {
             Counted::Held => true,
-            Counted::Active => birth == self.by_before(self.steps.len()),
-        }
-    }
-
-    /// The place of the entry by which the pack stood before the status at a place among its own.
-    fn by_before(&self, at: usize) -> u32
-        requires { at ≤ length self.now.steps }
-        ensures { result ≡ last_by (unwrap_or self.now.birth 0) (take at self.now.steps) }
-    {
-        if at == 0 {
-            self.birth.unwrap_or(0)
-        } else {
-            self.steps[at - 1].by
+            Counted::Active => birth == self.by,
         }
     }
 
@@ -162,28 +154,33 @@ impl Track {
         requires last { length log.now ≡ place + 1 }
         requires stops { AreStopsOf (take place log.now) stops.now }
         requires own { is_status_of pack.now (entry_at log.now place).entry.item ≡ true }
-        requires kept { self.old ≡ track_of pack.now (take place log.now) }
-        ensures ok { OnOk result (self.new ≡ track_of pack.now log.now) }
+        requires kept { IsKept (life_of pack.now (take place log.now)) self.old }
+        ensures ok { OnOk result (IsKept (life_of pack.now log.now) self.new) }
         ensures effect { IfOk result (λ effect. effect
             ≡ effect_of (take place log.now) (entry_at log.now place).entry) }
         ensures err { OnErr result (self.new ≡ self.old) }
     {
-        self.steps.reserve(1)?;
+        self.statuses.reserve(1)?;
         // All room is got: nothing fails from here on.
-        let at = place_for(log, self.steps.as_slice(), place);
-        let before = self.by_before(at);
-        let (effect, by) = next(log, stops, &pack.gtin, self.birth, before, place);
-        let Ok(()) = self.steps.insert(at, Step { place, by }) else {
-            unreachable!();
-        };
-        carry_on(
+        let basis = Basis {
             log,
             stops,
-            &pack.gtin,
-            self.birth,
+            gtin: &pack.gtin,
+            birth: self.birth,
+        };
+        let at = place_for(log, self.statuses.as_slice(), place);
+        let before = by_before(&basis, self.statuses.as_slice(), &self.blocks, at, self.by);
+        let (effect, by) = next(log, stops, &pack.gtin, self.birth, before, place);
+        let Ok(()) = self.statuses.insert(at, place) else {
+            unreachable!();
+        };
+        self.by = by_behind(
+            &basis,
+            self.statuses.as_slice(),
+            &mut self.blocks,
+            at,
             by,
-            &mut self.steps,
-            at + 1,
+            self.by,
         );
         Ok(effect)
     }
@@ -202,7 +199,7 @@ impl Track {
     pub fn add_upload(&mut self, log: &[LogEntry], stops: &Stops, gtin: &Gtin, place: u32) -> bool
         requires { IsTrack log.now (stops_in log.now stops.now) gtin.now self.old }
         ensures birth { self.new.birth ≡ earlier_place log.now place self.old.birth }
-        ensures places { map step_place self.new.steps ≡ map step_place self.old.steps }
+        ensures statuses { self.new.statuses ≡ self.old.statuses }
         ensures worked { IsTrack log.now (stops_in log.now stops.now) gtin.now self.new }
         ensures first { result ≡ comes_first log.now place self.old.birth }
     {
@@ -210,7 +207,7 @@ impl Track {
             return false;
         }
         self.birth = Some(place);
-        work_out(log, stops, gtin, self.birth, &mut self.steps);
+        self.refresh(log, stops, gtin);
         true
     }
 
@@ -218,6 +215,13 @@ impl Track {
     pub fn refresh(&mut self, log: &[LogEntry], stops: &Stops, gtin: &Gtin)
         ensures { IsAgain log.now (stops_in log.now stops.now) gtin.now self.old self.new }
     {
-        work_out(log, stops, gtin, self.birth, &mut self.steps);
+        let basis = Basis {
+            log,
+            stops,
+            gtin,
+            birth: self.birth,
+        };
+        self.by = basis.after(basis.start(), self.statuses.as_slice());
+        self.blocks.clear();
     }
 }

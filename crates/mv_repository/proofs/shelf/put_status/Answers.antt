@@ -79,4 +79,4 @@ returns-clause-listed c =
     ]
 
     birth_is : c.match-copied.birth ≡ (track_of c.args.pack.now (take c.args.newest.now.place c.args.newest.now.log.now)).birth
-    birth_is = found ∙ ap (λ (k : Kept). k.birth) c.requires.kept
+    birth_is = found ∙ ap (λ (k : Kept). k.birth) c.requires.kept.bare

@@ -1,11 +1,11 @@
 -- One serial number more.
 use Rattle.std.specs.Prelude.{bytes_eq}
-use Rattle.std.proofs.Common.{◌≡◌, ◌≤◌, ◌+◌, ◌∙◌, rules, [], ℕ, List, ap, sym, subst, get_or, map, take, arith, cond, refl, Bool, true, false}
+use Rattle.std.proofs.Common.{◌≡◌, ◌≤◌, ◌+◌, ◌∙◌, rules, [], ℕ, List, ap, sym, subst, get_or, take, arith, cond, refl, Bool, true, false}
 use Rattle.std.proofs.lemmas.List.{get_or_default, take_all}
 use Rattle.mv_pack.specs.Keys.{pack_key}
 use Rattle.mv_repository.specs.Shelf.{kept_on, has, AreKept, new_count}
 use Rattle.mv_repository.specs.Stops.{no_entry, stops_in, comes_first, earlier_place}
-use Rattle.mv_repository.specs.Track.{Kept, track_of, step_place, IsTrack}
+use Rattle.mv_repository.specs.Track.{Kept, life_of, IsKept, IsTrack}
 use Rattle.mv_repository.proofs.TrackLemmas.{log-split, log-length}
 use Rattle.mv_repository.proofs.UploadedLemmas.{new-more}
 use Rattle.mv_repository.proofs.UploadLemmas.{upload-worked, upload-adds}
@@ -44,7 +44,7 @@ loop-serial-preserved c =
     slots tracks whole place (log-split whole place c.requires.last) (log-length whole place c.requires.last)
     c.args.serials.now at slots' tracks' refl c.loop-serial-test.true c.loop-serial.invariant.kept
     (subst (λ (s : List ℕ). (kept_on slots' tracks' s).birth ≡ earlier_place whole place (kept_on slots tracks s).birth) serial c.put_upload-is_first.ensures.birth)
-    (subst (λ (s : List ℕ). map step_place (kept_on slots' tracks' s).steps ≡ map step_place (kept_on slots tracks s).steps) serial c.put_upload-is_first.ensures.places)
+    (subst (λ (s : List ℕ). (kept_on slots' tracks' s).statuses ≡ (kept_on slots tracks s).statuses) serial c.put_upload-is_first.ensures.statuses)
     (subst (λ (s : List ℕ). IsTrack whole (stops_in whole c.args.newest.now.stops.now) c.args.gtin.now (kept_on slots' tracks' s)) serial c.put_upload-is_first.ensures.worked)
     (subst (λ (s : List ℕ). (other : List ℕ) → bytes_eq s other ≡ false → kept_on slots' tracks' other ≡ kept_on slots tracks other) serial c.put_upload-is_first.ensures.others) in
     let s : List ℕ = get_or c.args.serials.now at [] in
@@ -58,7 +58,7 @@ loop-serial-preserved c =
       kept = kept;
       new = counted ∙ new-more (take place whole) entry c.args.gtin.now c.args.serials.now c.requires.upload whole place split (log-length whole place c.requires.last)
           at c.loop-serial.count c.put_upload-is_first.result c.loop-serial-test.true
-          (c.put_upload-is_first.ensures.first ∙ ap (λ (one : List ℕ). comes_first whole place (kept_on slots tracks one).birth) serial ∙ ap (λ (k : Kept). comes_first whole place k.birth) (c.loop-serial.invariant.kept s))
+          (c.put_upload-is_first.ensures.first ∙ ap (λ (one : List ℕ). comes_first whole place (kept_on slots tracks one).birth) serial ∙ ap (λ (k : Kept). comes_first whole place k.birth) (c.loop-serial.invariant.kept s).bare)
           c.loop-serial.invariant.new;
       least = subst (λ (n : ℕ). n ≤ at + 1) (sym counted) (grow c.put_upload-is_first.result c.loop-serial.count at c.loop-serial.invariant.least);
     }
@@ -70,8 +70,8 @@ loop-serial-preserved c =
 pub returns-clause-kept : goal.returns-clause-kept
 returns-clause-kept c serial =
     let all : take c.loop-serial.serial-index c.args.serials.now ≡ c.args.serials.now = take_all c.loop-serial.serial-index c.args.serials.now (omega arith) in
-    c.loop-serial.invariant.kept serial
-    ∙ ap (λ (l : List (List ℕ)). track_of (pack_key c.args.gtin.now serial) (cond (has l serial) c.args.newest.now.log.now (take c.args.newest.now.place c.args.newest.now.log.now))) all
+    subst (λ (l : List (List ℕ)). IsKept (life_of (pack_key c.args.gtin.now serial) (cond (has l serial) c.args.newest.now.log.now (take c.args.newest.now.place c.args.newest.now.log.now)))
+    (kept_on c.loop-serial.slots.entries c.loop-serial.tracks.items serial)) all (c.loop-serial.invariant.kept serial)
 
 pub returns-clause-new : goal.returns-clause-new
 returns-clause-new c =

@@ -1,11 +1,12 @@
 -- One track more.
-use Rattle.std.proofs.Common.{rules, ◌≡◌, ◌∙◌, ◌<◌, ◌≤◌, ◌+◌, ◌==◌, ◌||◌, ℕ, List, ap, sym, subst, length, get_or, take, arith, refl, Bool, true, false, Some}
+use Rattle.std.proofs.Common.{rules, ◌≡◌, ◌∙◌, ◌<◌, ◌≤◌, ◌+◌, ◌==◌, ◌||◌, ℕ, List, ap, sym, subst, length, get_or, take, cond, arith, refl, Bool, true, false, Some}
 use Rattle.std.proofs.lemmas.List.{take_all}
 use Rattle.std.proofs.lemmas.List.Folds.{list_any_more}
 use Rattle.mv_repository.specs.declared.slot.Slot.TheVariants.{Own}
 use Rattle.mv_repository.specs.Listing.{has_number}
 use Rattle.mv_repository.specs.Shelf.{IsShelf, kept_on}
-use Rattle.mv_repository.specs.Track.{Kept}
+use Rattle.mv_pack.specs.Keys.{pack_key}
+use Rattle.mv_repository.specs.Track.{Kept, life_of, IsKept}
 use Rattle.mv_repository.specs.declared.slot.Slot.{Slot}
 use Rattle.mv_repository.proofs.AgainLemmas.{is_number, step-own, step-keeps, either as either_log}
 use Rattle.mv_repository.proofs.shelf.refresh_listed.Goals.{then-number-len, else-number-len}
@@ -21,15 +22,15 @@ loop-listed-preserved c = elim c.if-number-len.branch [
             let was = either_log c.args.newest.now.log.now c.args.newest.now.place c.args.newest.now.stops.now c.args.gtin.now slots c.requires.last c.requires.stops c.requires.names
             c.loop-listed.tracks.items w.refresh_track.new.tracks.items number w.refresh_track.ensures.again w.refresh_track.ensures.others
             serial (c.loop-listed.invariant.between serial) in
-            (was.0, ap (λ (t : List Kept). kept_on slots t serial) now ∙ was.1);
-        worked = λ serial n e h. ap (λ (t : List Kept). kept_on slots t serial) now
-            ∙ either n h
+            (was.0, subst (λ (t : List Kept). IsKept (life_of (pack_key c.args.gtin.now serial) (cond was.0 c.args.newest.now.log.now (take c.args.newest.now.place c.args.newest.now.log.now))) (kept_on slots t serial)) (sym now) was.1);
+        worked = λ serial n e h. subst (λ (t : List Kept). IsKept (life_of (pack_key c.args.gtin.now serial) c.args.newest.now.log.now) (kept_on slots t serial)) (sym now)
+            (either n h
             (λ was. step-keeps c.args.newest.now.log.now c.args.newest.now.place c.args.newest.now.stops.now c.args.gtin.now slots c.requires.last c.requires.stops c.requires.names
             c.loop-listed.tracks.items w.refresh_track.new.tracks.items number w.refresh_track.ensures.again w.refresh_track.ensures.others
             serial (c.loop-listed.invariant.worked serial n e was))
             (λ is. step-own c.args.newest.now.log.now c.args.newest.now.place c.args.newest.now.stops.now c.args.gtin.now slots c.requires.last c.requires.stops c.requires.names
             c.loop-listed.tracks.items w.refresh_track.new.tracks.items number w.refresh_track.ensures.again w.refresh_track.ensures.others
-            serial (c.loop-listed.invariant.between serial).0 (c.loop-listed.invariant.between serial).1 (e ∙ ap (λ (m : ℕ). Some (Own m)) (sym is)));
+            serial (c.loop-listed.invariant.between serial).0 (c.loop-listed.invariant.between serial).1 (e ∙ ap (λ (m : ℕ). Some (Own m)) (sym is))));
       })
   | else-number-len w ↦ (
       let now : c.if-number-len.tracks.items ≡ c.loop-listed.tracks.items = search rules in
@@ -38,10 +39,10 @@ loop-listed-preserved c = elim c.if-number-len.branch [
         count = ap (λ (t : List Kept). length t) now ∙ size;
         between = λ serial.
             let was = c.loop-listed.invariant.between serial in
-            (was.0, ap (λ (t : List Kept). kept_on slots t serial) now ∙ was.1);
-        worked = λ serial n e h. ap (λ (t : List Kept). kept_on slots t serial) now
-            ∙ either n h (λ was. c.loop-listed.invariant.worked serial n e was)
-            (λ is. let l = shelf.within serial n e in absurd (omega (arith, is, l, beyond)));
+            (was.0, subst (λ (t : List Kept). IsKept (life_of (pack_key c.args.gtin.now serial) (cond was.0 c.args.newest.now.log.now (take c.args.newest.now.place c.args.newest.now.log.now))) (kept_on slots t serial)) (sym now) was.1);
+        worked = λ serial n e h. subst (λ (t : List Kept). IsKept (life_of (pack_key c.args.gtin.now serial) c.args.newest.now.log.now) (kept_on slots t serial)) (sym now)
+            (either n h (λ was. c.loop-listed.invariant.worked serial n e was)
+            (λ is. let l = shelf.within serial n e in absurd (omega (arith, is, l, beyond))));
       })
 ]
   where

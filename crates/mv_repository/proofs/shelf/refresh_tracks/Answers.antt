@@ -6,7 +6,7 @@ use Rattle.std.specs.Map.{lookup}
 use Rattle.mv_pack.specs.Keys.{pack_key}
 use Rattle.mv_repository.specs.declared.slot.Slot.TheVariants.{Own}
 use Rattle.mv_repository.specs.Shelf.{kept_on}
-use Rattle.mv_repository.specs.Track.{track_of}
+use Rattle.mv_repository.specs.Track.{life_of, IsKept}
 use Rattle.mv_repository.proofs.AgainLemmas.{either, is_number, step-own, step-keeps}
 use Rattle.mv_repository.proofs.shelf.refresh_tracks.Goals as goal
 
@@ -30,7 +30,7 @@ loop-number-preserved c =
     not_number a b e l = grind (arith, nat_tests)
 
     by : (serial : List ℕ) (n : ℕ) → lookup (bytes_eq serial) c.args.slots.now.entries ≡ Some (Own n) → n < c.loop-number.number + 1 → (b : Bool) → (n == c.loop-number.number) ≡ b
-        → kept_on c.args.slots.now.entries c.refresh_track.new.tracks.items serial ≡ track_of (pack_key c.args.gtin.now serial) c.args.newest.now.log.now
+        → IsKept (life_of (pack_key c.args.gtin.now serial) c.args.newest.now.log.now) (kept_on c.args.slots.now.entries c.refresh_track.new.tracks.items serial)
     by serial n e l true h =
         let b = c.loop-number.invariant.between serial in
         step-own c.args.newest.now.log.now c.args.newest.now.place c.args.newest.now.stops.now c.args.gtin.now c.args.slots.now.entries c.requires.last c.requires.stops c.requires.names

@@ -4,7 +4,7 @@ use Rattle.std.specs.Map.{lookup}
 use Rattle.mv_pack.specs.Keys.{pack_key}
 use Rattle.mv_repository.specs.declared.slot.Slot.TheVariants.{Own}
 use Rattle.mv_repository.specs.Shelf.{IsBetween, kept_on}
-use Rattle.mv_repository.specs.Track.{track_of}
+use Rattle.mv_repository.specs.Track.{life_of, IsKept}
 use Rattle.mv_repository.proofs.shelf.refresh_tracks.Given as goal
 
 -- those so far are worked out
@@ -13,5 +13,5 @@ invariant-loop-number l = record {
   count : length l.tracks.items ≡ length l.fn.tracks.items;
   between : IsBetween l.newest.log.now (take l.newest.place l.newest.log.now) l.gtin l.slots.entries l.tracks.items;
   worked : (serial : List ℕ) (number : ℕ) → lookup (bytes_eq serial) l.slots.entries ≡ Some (Own number) → number < l.number
-      → kept_on l.slots.entries l.tracks.items serial ≡ track_of (pack_key l.gtin serial) l.newest.log.now;
+      → IsKept (life_of (pack_key l.gtin serial) l.newest.log.now) (kept_on l.slots.entries l.tracks.items serial);
 }

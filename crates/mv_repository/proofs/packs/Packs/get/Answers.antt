@@ -16,7 +16,7 @@ returns-in_err-shelf c =
     let result : c.from_residual.result ≡ None = search rules in
     result
     ∙ ap (λ (o : Option ShelfTable). let shelf = unwrap_or o no_shelf in state_by log (kept_on shelf.slots shelf.tracks c.args.key.now.serial)) (sym none)
-    ∙ ap (state_by log) (((subst (ArePacksOf c.args.log.now) (sym c.self.view_is) c.requires).shelves c.args.key.now.gtin).kept c.args.key.now.serial)
+    ∙ ap (state_by log) (((subst (ArePacksOf c.args.log.now) (sym c.self.view_is) c.requires).shelves c.args.key.now.gtin).kept c.args.key.now.serial).bare
     ∙ track-state log c.args.key.now
 
 pub returns : goal.returns
@@ -25,5 +25,5 @@ returns c =
     let found : lookup (bytes_eq c.args.key.now.gtin) c.self.inside.shelves.entries ≡ Some c.in_ok-shelf.shelf.now = search rules in
     c.state.ensures
     ∙ ap (λ (o : Option ShelfTable). let shelf = unwrap_or o no_shelf in state_by log (kept_on shelf.slots shelf.tracks c.args.key.now.serial)) (sym found)
-    ∙ ap (state_by log) (((subst (ArePacksOf c.args.log.now) (sym c.self.view_is) c.requires).shelves c.args.key.now.gtin).kept c.args.key.now.serial)
+    ∙ ap (state_by log) (((subst (ArePacksOf c.args.log.now) (sym c.self.view_is) c.requires).shelves c.args.key.now.gtin).kept c.args.key.now.serial).bare
     ∙ track-state log c.args.key.now

@@ -25,7 +25,7 @@ returns-clause-ok c =
           c.args.serials.now c.requires.upload c.put_uploads-new.new.slots.entries c.list_made.new.listing c.list_made.ensures.kept
           (λ serial number e. subst (λ (s : List (List ℕ × Slot)). lookup (bytes_eq serial) s ≡ Some (Own number)) slots (c.put_uploads-new.ensures.no_other serial number e))
           (λ serial number batch h f first b. listed serial number batch h f
-          (ap (λ (k : Kept). comes_first whole place k.birth) ((subst (IsShelfOf (take place whole) c.args.gtin.now) (sym c.self.view_is) c.requires.shelf).kept serial) ∙ first) b);
+          (ap (λ (k : Kept). comes_first whole place k.birth) ((subst (IsShelfOf (take place whole) c.args.gtin.now) (sym c.self.view_is) c.requires.shelf).kept serial).bare ∙ first) b);
     }
   where
     slots : c.reserve.new.self.entries ≡ c.self.inside.slots.entries

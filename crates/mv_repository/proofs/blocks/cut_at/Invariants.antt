@@ -1,0 +1,15 @@
+use Rattle.std.proofs.Common.{◌≤◌, ◌-◌, ℕ, List, length}
+use Rattle.mv_repository.specs.Blocks.{AreBlocks, IsCut, entry_in, next_in, start_in}
+use Rattle.mv_repository.proofs.blocks.cut_at.Given as goal
+
+-- the blocks so far end at the cut
+abbrev pub invariant-loop-cut : goal.invariant-loop-cut
+invariant-loop-cut l = record {
+  at : l.cut.start ≤ l.at;
+  number : l.cut.number ≤ length l.blocks.items;
+  cut : (own : List ℕ) → AreBlocks (entry_in l.basis) (next_in l.basis) (start_in l.basis) (start_in l.basis) l.blocks.items own
+      → IsCut (entry_in l.basis) (next_in l.basis) (start_in l.basis) l.blocks.items own l.cut;
+}
+
+abbrev pub decreases-loop-cut : goal.decreases-loop-cut
+decreases-loop-cut l = length l.blocks.items - l.cut.number

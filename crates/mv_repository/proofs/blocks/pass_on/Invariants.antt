@@ -1,0 +1,14 @@
+use Rattle.std.proofs.Common.{◌≡◌, List, ℕ, fold, length, take, drop}
+use Rattle.mv_repository.specs.Blocks.{AreBlocks, IsFront, entry_in, next_in, start_in}
+use Rattle.mv_repository.proofs.blocks.pass_on.Given as goal
+
+-- the blocks so far are right, in front of the rest; the others are as they were
+abbrev pub invariant-loop-number : goal.invariant-loop-number
+invariant-loop-number l = record {
+  count : length l.blocks.items ≡ length l.fn.blocks.items;
+  behind : AreBlocks (entry_in l.basis) (next_in l.basis) (start_in l.basis) l.before (drop l.number l.blocks.items) l.rest;
+  standing : l.fn.standing ≡ fold (next_in l.basis) l.before l.rest;
+  by : fold (next_in l.basis) l.last l.rest ≡ fold (next_in l.basis) l.fn.cut.by l.fn.own;
+  front : (all : List ℕ) → IsFront (entry_in l.basis) (next_in l.basis) (start_in l.basis) (take l.fn.cut.number l.fn.blocks.items) all l.fn.cut.by l.fn.own
+      → IsFront (entry_in l.basis) (next_in l.basis) (start_in l.basis) (take l.number l.blocks.items) all l.last l.rest;
+}

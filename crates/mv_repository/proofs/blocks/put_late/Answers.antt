@@ -1,0 +1,52 @@
+-- The block in which the status stands is worked out again, and what stands behind it.
+use Rattle.std.proofs.Common.{◌∙◌, ◌<◌, ◌+◌, List, ap, subst, sym, refl, take, fold}
+use Rattle.mv_repository.specs.declared.blocks.Block.{Block}
+use Rattle.mv_repository.specs.Blocks.{IsFront, entry_in, next_in, start_in, without}
+use Rattle.mv_repository.proofs.BlockLemmas.{late-front, late-fold, renewed-was, renewed-standing, renewed-front, renewed-done}
+use Rattle.mv_repository.proofs.blocks.put_late.Goals as goal
+
+pub returns-in_default-clause-blocks : goal.returns-in_default-clause-blocks
+returns-in_default-clause-blocks c =
+    c.extend.ensures.blocks c.args.own.now
+    (subst (λ (t : List Block). IsFront (entry_in c.args.basis.now) (next_in c.args.basis.now) (start_in c.args.basis.now) t c.args.own.now c.cut_at-cut.result.by c.split_at.result.1.now) (sym c.truncate.ensures.items)
+    (subst (IsFront (entry_in c.args.basis.now) (next_in c.args.basis.now) (start_in c.args.basis.now) (take c.cut_at-cut.result.number c.args.blocks.now.items) c.args.own.now c.cut_at-cut.result.by) (sym c.split_at.ensures.back)
+    (late-front (entry_in c.args.basis.now) (next_in c.args.basis.now) (start_in c.args.basis.now) (λ n. refl) c.args.blocks.now.items c.args.own.now c.args.at c.cut_at-cut.result
+    c.requires.at c.cut_at-cut.ensures.at (c.cut_at-cut.ensures.cut (without c.args.own.now c.args.at) c.requires.was))))
+
+pub returns-in_default-clause-by : goal.returns-in_default-clause-by
+returns-in_default-clause-by c =
+    c.extend.ensures.by ∙ ap (fold (next_in c.args.basis.now) c.cut_at-cut.result.by) c.split_at.ensures.back
+    ∙ late-fold (entry_in c.args.basis.now) (next_in c.args.basis.now) (start_in c.args.basis.now) (λ n. refl) c.args.blocks.now.items c.args.own.now c.args.at c.cut_at-cut.result
+    c.requires.at c.cut_at-cut.ensures.at (c.cut_at-cut.ensures.cut (without c.args.own.now c.args.at) c.requires.was)
+
+pub pass_on-requires-clause-was : goal.pass_on-requires-clause-was
+pass_on-requires-clause-was c =
+    renewed-was (entry_in c.args.basis.now) (next_in c.args.basis.now) (start_in c.args.basis.now) (λ n. refl) c.args.blocks.now.items c.args.own.now c.args.at c.cut_at-cut.result
+    c.requires.at c.cut_at-cut.ensures.at (c.cut_at-cut.ensures.cut (without c.args.own.now c.args.at) c.requires.was)
+    c.in-Some.old c.in-Some.ensures.0 c.in-Some.ensures.1 (subst (λ (b : Block). c.args.at < c.cut_at-cut.result.start + b.count) (sym c.in-Some.ensures.1) (c.cut_at-cut.ensures.inside c.in-Some.ensures.0))
+    c.of-block.result c.split_at.result.1.now c.split_at-2.result.0.now c.split_at-2.result.1.now c.split_at.ensures.back c.split_at-2.ensures.front c.split_at-2.ensures.back c.of-block.ensures.after
+
+pub pass_on-requires-clause-standing : goal.pass_on-requires-clause-standing
+pass_on-requires-clause-standing c =
+    renewed-standing (entry_in c.args.basis.now) (next_in c.args.basis.now) (start_in c.args.basis.now) (λ n. refl) c.args.blocks.now.items c.args.own.now c.args.at c.cut_at-cut.result
+    c.requires.at c.cut_at-cut.ensures.at (c.cut_at-cut.ensures.cut (without c.args.own.now c.args.at) c.requires.was)
+    c.in-Some.old c.in-Some.ensures.0 c.in-Some.ensures.1 (subst (λ (b : Block). c.args.at < c.cut_at-cut.result.start + b.count) (sym c.in-Some.ensures.1) (c.cut_at-cut.ensures.inside c.in-Some.ensures.0))
+    c.of-block.result c.split_at.result.1.now c.split_at-2.result.0.now c.split_at-2.result.1.now c.split_at.ensures.back c.split_at-2.ensures.front c.split_at-2.ensures.back c.of-block.ensures.after
+    c.args.standing c.requires.standing
+
+pub returns-clause-blocks : goal.returns-clause-blocks
+returns-clause-blocks c =
+    c.pass_on.ensures.blocks c.args.own.now
+    (renewed-front (entry_in c.args.basis.now) (next_in c.args.basis.now) (start_in c.args.basis.now) (λ n. refl) c.args.blocks.now.items c.args.own.now c.args.at c.cut_at-cut.result
+    c.requires.at c.cut_at-cut.ensures.at (c.cut_at-cut.ensures.cut (without c.args.own.now c.args.at) c.requires.was)
+    c.in-Some.old c.in-Some.ensures.0 c.in-Some.ensures.1 (subst (λ (b : Block). c.args.at < c.cut_at-cut.result.start + b.count) (sym c.in-Some.ensures.1) (c.cut_at-cut.ensures.inside c.in-Some.ensures.0))
+    c.of-block.result c.split_at.result.1.now c.split_at-2.result.0.now c.split_at-2.result.1.now c.split_at.ensures.back c.split_at-2.ensures.front c.split_at-2.ensures.back c.of-block.ensures.after
+    (c.of-block.ensures.count ∙ c.split_at-2.ensures.front_len) c.of-block.ensures.summary)
+
+pub returns-clause-by : goal.returns-clause-by
+returns-clause-by c =
+    c.pass_on.ensures.by
+    ∙ renewed-done (entry_in c.args.basis.now) (next_in c.args.basis.now) (start_in c.args.basis.now) (λ n. refl) c.args.blocks.now.items c.args.own.now c.args.at c.cut_at-cut.result
+    c.requires.at c.cut_at-cut.ensures.at (c.cut_at-cut.ensures.cut (without c.args.own.now c.args.at) c.requires.was)
+    c.in-Some.old c.in-Some.ensures.0 c.in-Some.ensures.1 (subst (λ (b : Block). c.args.at < c.cut_at-cut.result.start + b.count) (sym c.in-Some.ensures.1) (c.cut_at-cut.ensures.inside c.in-Some.ensures.0))
+    c.of-block.result c.split_at.result.1.now c.split_at-2.result.0.now c.split_at-2.result.1.now c.split_at.ensures.back c.split_at-2.ensures.front c.split_at-2.ensures.back c.of-block.ensures.after

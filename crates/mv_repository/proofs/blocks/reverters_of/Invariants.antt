@@ -1,0 +1,9 @@
+use Rattle.std.proofs.Common.{take}
+use Rattle.std.specs.List.{AllByRecursion}
+use Rattle.mv_repository.specs.Blocks.{IsCovered}
+use Rattle.mv_repository.specs.Stops.{entry_at}
+use Rattle.mv_repository.proofs.blocks.reverters_of.Given as goal
+
+-- those so far are covered
+abbrev pub invariant-loop-place : goal.invariant-loop-place
+invariant-loop-place l = AllByRecursion (λ place. IsCovered l.reverters (entry_at l.log place)) (take l.place-index l.own)

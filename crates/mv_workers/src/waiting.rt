@@ -43,7 +43,8 @@ impl Waiting {
             return;
         };
         *links |= bit_of(from);
-        for to in reach.as_slice() {
+        let reached = reach.to_reach();
+        for to in reached.as_slice() {
             *links |= bit_of(*to);
         }
     }

@@ -156,9 +156,9 @@ pub lawful_closed : (hub : HubState) (sender receiver : ℕ) → sender < length
 lawful_closed hub sender receiver one other was_open lawful = record-entered (length hub.parties) hub.entries (Closed sender receiver) lawful (one, other, was_open)
 
 -- what is taken next to nothing is all that is taken
-pub takes_after : (sender : ℕ) (message : Message) (first second third : Inlets Message) → SameInlets first second → TakesNothing first second → Takes sender message second third → Takes sender message first third
-takes_after sender message first second third same nothing takes from absent below =
-    takes from absent (subst (λ n. from < n) (sym same.0) below) ∙ ap (λ l. l ++ cond (eqb from sender) (message ∷ []) []) (nothing from absent below)
+pub takes_after : {A : Type 0} (sender : ℕ) (taken : A) (first second third : Inlets A) → SameInlets first second → TakesNothing first second → Takes sender taken second third → Takes sender taken first third
+takes_after sender taken first second third same nothing takes from absent below =
+    takes from absent (subst (λ n. from < n) (sym same.0) below) ∙ ap (λ l. l ++ cond (eqb from sender) (taken ∷ []) []) (nothing from absent below)
 
 -- a fault of the hub calls for its refusal
 pub refused_by : (expected : Option HubFault) (fault : HubFault) → FailsBy {A = Frame} hub_fault.Memory expected (Err fault) → IsRefusedBy hub_refusal_of expected (hub_refusal_of fault)

@@ -50,6 +50,7 @@ members_are (members.FlagOrNone name None ∷ ms) = members_are ms
 members_are (members.FlagOrNone name (Some flag) ∷ ms) = ap (λ ts. key name.now ∷ boolean flag ∷ ts) (members_are ms)
 members_are (members.Null name ∷ ms) = ap (λ ts. key name.now ∷ null ∷ ts) (members_are ms)
 members_are (members.Parties name parties ∷ ms) = behind name.now (array (wholes parties.now)) ms (members_are ms)
+members_are (members.Numbers name numbers ∷ ms) = behind name.now (array (wholes numbers.now)) ms (members_are ms)
 members_are (members.Markets name lists ∷ ms) = behind name.now (markets_value lists.now) ms (members_are ms)
 members_are (members.Message name message ∷ ms) = behind name.now (value_of message.now) ms (members_are ms)
 members_are (members.National name national ∷ ms) = behind name.now (national_value national.now) ms (members_are ms)

@@ -9,6 +9,7 @@ ghost use Rattle.mv_lines.specs.Writing.{Adds, Appended, change_object, change_v
 
 use crate::reply_line::{ReplyLine, append};
 use json::Writer;
+use mv_link::Reached;
 use mv_message::{Markets, Message, Party};
 use mv_pack::{Market, National};
 use mv_repository::Change;
@@ -29,8 +30,10 @@ pub enum Member<'a> {
     FlagOrNone(&'static str, Option<bool>),
     /// `null`.
     Null(&'static str),
-    /// A list of parties.
-    Parties(&'static str, &'a [Party]),
+    /// The parties that a message reached, as a list.
+    Parties(&'static str, &'a Reached),
+    /// A list of whole numbers.
+    Numbers(&'static str, &'a [u32]),
     /// The markets of each party, a list of texts each.
     Markets(&'static str, &'a [Markets]),
     /// A message, as `canon` writes it.
@@ -115,7 +118,11 @@ fn write_member(writer: &mut Writer, member: Member<'_>) -> Result<(), AllocErro
         }
         Member::Parties(key, parties) => {
             writer.key(key)?;
-            write_parties(writer, parties)
+            write_numbers(writer, parties.to_reach().as_slice())
+        }
+        Member::Numbers(key, numbers) => {
+            writer.key(key)?;
+            write_numbers(writer, numbers)
         }
         Member::Markets(key, lists) => {
             writer.key(key)?;
@@ -175,15 +182,15 @@ fn write_fields(writer: &mut Writer, at: u64, by: Party, user: &str) -> Result<(
     writer.end_object()
 }
 
-/// Writes a list of parties.
-fn write_parties(writer: &mut Writer, parties: &[Party]) -> Result<(), AllocError>
+/// Writes a list of whole numbers.
+fn write_numbers(writer: &mut Writer, numbers: &[u32]) -> Result<(), AllocError>
     ensures before { writer.new.before ≡ writer.old.before }
     ensures added { IfOk result (λ _.
-        writer.new.tokens ≡ writer.old.tokens ++ wholes_tokens parties.now) }
+        writer.new.tokens ≡ writer.old.tokens ++ wholes_tokens numbers.now) }
 {
     writer.begin_array()?;
-    for party in parties {
-        writer.u64(u64::from(*party))?;
+    for number in numbers {
+        writer.u64(u64::from(*number))?;
     }
     writer.end_array()
 }

@@ -103,16 +103,13 @@ impl ReplyLine for Reply {
                 writer,
                 &[Member::Number("submitted", u64::from(*k))],
             ),
-            Reply::Routed { k, reach } => {
-                let reached = reach.to_reach();
-                write_object(
-                    writer,
-                    &[
-                        Member::Parties("reach", reached.as_slice()),
-                        Member::Number("routed", u64::from(*k)),
-                    ],
-                )
-            }
+            Reply::Routed { k, reach } => write_object(
+                writer,
+                &[
+                    Member::Parties("reach", reach),
+                    Member::Number("routed", u64::from(*k)),
+                ],
+            ),
             Reply::Relayed { number } => write_object(
                 writer,
                 &[Member::Number("relayed", u64::from(*number))],

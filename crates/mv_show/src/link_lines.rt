@@ -73,7 +73,7 @@ fn append_shown_link(
             Member::Number("relayed", u64::from(hub.relayed(from, to))),
             Member::Text("show", "link"),
             Member::Number("to", u64::from(to)),
-            Member::Parties("wire", wire.as_slice()),
+            Member::Numbers("wire", wire.as_slice()),
         ],
     )
 }

@@ -192,7 +192,6 @@ impl<'a> Teller<'a> {
         let Some(Entry::Routed { from, k, message }) = record.last() else {
             return Ok(false);
         };
-        let reached = reach.to_reach();
         self.say(
             &[
                 Member::Text("event", "routed"),
@@ -200,7 +199,7 @@ impl<'a> Teller<'a> {
                 Member::Number("k", u64::from(*k)),
                 Member::Number("line", u64::from(self.line)),
                 Member::Message("message", message.get()),
-                Member::Parties("reach", reached.as_slice()),
+                Member::Parties("reach", reach),
                 Member::Number("stamp", record.len() as u64),
             ],
             out,
@@ -250,23 +249,20 @@ impl<'a> Teller<'a> {
             frame.to frame.number frame.effect frame.answer (entry_from frame.from item.now))) }
     {
         match item {
-            Item::Receipt { k, reach, query } => {
-                let reached = reach.to_reach();
-                self.say(
-                    &[
-                        Member::Text("effect", frame.effect.code()),
-                        Member::Text("event", "applied"),
-                        Member::Number("from", u64::from(frame.from)),
-                        Member::Number("k", u64::from(*k)),
-                        Member::Number("line", u64::from(self.line)),
-                        Member::Number("number", u64::from(frame.number)),
-                        Member::Flag("query", *query),
-                        Member::Parties("reach", reached.as_slice()),
-                        Member::Number("to", u64::from(frame.to)),
-                    ],
-                    out,
-                )
-            }
+            Item::Receipt { k, reach, query } => self.say(
+                &[
+                    Member::Text("effect", frame.effect.code()),
+                    Member::Text("event", "applied"),
+                    Member::Number("from", u64::from(frame.from)),
+                    Member::Number("k", u64::from(*k)),
+                    Member::Number("line", u64::from(self.line)),
+                    Member::Number("number", u64::from(frame.number)),
+                    Member::Flag("query", *query),
+                    Member::Parties("reach", reach),
+                    Member::Number("to", u64::from(frame.to)),
+                ],
+                out,
+            ),
             Item::Carried { k, stamp, message } => self.say(
                 &[
                     Member::NumberOrNone("answer", wide(frame.answer)),

@@ -10,7 +10,7 @@ returns-in-Receipt c =
     let frame = c.args.frame in
     rw c.in-Receipt.is (says_tells c.say.result _ _ _
     (applied frame.to frame.number frame.effect frame.answer (entry_from frame.from (Receipt c.in-Receipt.k c.in-Receipt.reach c.in-Receipt.query)))
-    (rw (c.code.ensures, c.from.ensures, c.from-in-Receipt.ensures, c.from-in-Receipt-2.ensures, c.from-in-Receipt-3.ensures, c.as_slice.ensures.value, c.to_reach.ensures, c.from-in-Receipt-4.ensures) at c.say.ensures))
+    (rw (c.code.ensures, c.from.ensures, c.from-in-Receipt.ensures, c.from-in-Receipt-2.ensures, c.from-in-Receipt-3.ensures, c.from-in-Receipt-4.ensures) at c.say.ensures))
 
 -- a message
 pub returns-in-Carried : goal.returns-in-Carried

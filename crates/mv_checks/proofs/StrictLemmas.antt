@@ -64,10 +64,7 @@ ended_uncounted faults.Write before bytes old new wrote = record {
   replied = uncounted before wrote.after _ _ wrote.replied;
   written = wrote.written;
 }
-ended_uncounted faults.Memory before bytes old new (out, written, stopped) = (out, written, stopped_uncounted _ before bytes out stopped)
-ended_uncounted faults.TooManyLines before bytes old new (out, written, stopped) = (out, written, stopped_uncounted _ before bytes out stopped)
-ended_uncounted faults.LineTooLong before bytes old new (out, written, stopped) = (out, written, stopped_uncounted _ before bytes out stopped)
-ended_uncounted faults.Start before bytes old new (out, written, stopped) = (out, written, stopped_uncounted _ before bytes out stopped)
+ended_uncounted fault before bytes old new ended = (ended.0, ended.1, stopped_uncounted fault before bytes ended.0 ended.2)
 
 module _ (before after : Strict) (world : Open) (begins : before.world ≡ world) (old new : Option (List ℕ)) where
   -- the same of a run over an input that may be known

@@ -11,7 +11,7 @@ use mv_lines::{Answering, ServeFault, Session, answer_lines};
 use std::alloc::{AllocError, Global};
 use std::io::{Read, Write};
 use std::marker::Model;
-use std::mem;
+use std::mem::ManuallyDrop;
 
 /// Lines of a run that were not taken: refused by an M, C, H or O, or by S14.
 #[derive(Clone, Copy, Debug, PartialEq, Eq)]
@@ -36,18 +36,19 @@ pub struct StrictRun {
 struct Counted {
     /// What memory is got from.
     alloc: Global,
-    /// What is open.
-    session: Session,
+    /// What takes the lines. What is open at the end is not taken apart.
+    session: ManuallyDrop<Session>,
     /// The lines so far that were not taken.
     untaken: Option<Untaken>,
 }
 
 impl Model for Counted {
+    ghost use Rattle.std.specs.Mem.{manually_drop_value};
     ghost use Rattle.mv_checks.specs.Strict.{Strict, strict_at};
 
     ghost Value = { Strict };
 
-    ghost view = { λ c. strict_at c.session c.untaken };
+    ghost view = { λ c. strict_at (manually_drop_value c.session) c.untaken };
 }
 
 impl Answering for Counted {
@@ -101,11 +102,12 @@ pub fn serve_strict<R: Read, W: Write>(alloc: Global, reader: &mut R, writer: &m
 {
     let mut counted = Counted {
         alloc,
-        session: Session::new(alloc),
+        session: Session::last(alloc),
         untaken: None,
     };
     let ended = answer_lines(alloc, &mut counted, reader, writer);
-    let untaken = counted.untaken;
-    mem::forget(counted);
-    StrictRun { ended, untaken }
+    StrictRun {
+        ended,
+        untaken: counted.untaken,
+    }
 }

@@ -2,7 +2,7 @@
 use Rattle.std.proofs.Common.{◌≡◌, ◌≤◌, ◌<◌, ◌+◌, ℕ, List, [], ◌∷◌, ◌++◌, length, sym, ◌∙◌, ap, refl, subst, arith, Bool, true, false, cond, eqb, append-nil, Some, slice_index_or, length-append, ◌-◌, eqb-true}
 use Rattle.std.specs.List.{All}
 use Rattle.std.proofs.lemmas.List.Elements.{All-nil, All-cons, All-head, All-tail}
-use Rattle.std.proofs.lemmas.Bool.{eqb-false, lt-ltb}
+use Rattle.std.proofs.lemmas.Bool.{lt-ltb}
 use Rattle.std.proofs.lemmas.Grind.{common_steps}
 use mathlib.Core.List.{IsPrefix}
 use Rattle.std.specs.Option.{option_map}
@@ -27,11 +27,9 @@ use Rattle.mv_ends.specs.Refusals.{IsRefusedBy}
 use Rattle.mv_hub.specs.Links.{gained}
 use Rattle.mv_hub.specs.Hub.{HubState, items_on, busy_party, route_fault, close_fault, with_closed}
 use Rattle.std.proofs.lemmas.Bool.Decides.{nat_tests}
-use Rattle.mv_hub.proofs.RecordLemmas.{routed_from-append, link_items-push}
+use Rattle.mv_hub.proofs.CallerLemmas.{routed_from-append, link_items-push}
 use Rattle.mv_machine.specs.Lawful.{IsLawfulRecord}
-use Rattle.mv_machine.proofs.BoundLemmas.{record-few}
-use Rattle.mv_machine.proofs.PartLemmas.{record-entered}
-use Rattle.mv_machine.proofs.PrefixLemmas.{slice_get-append}
+use Rattle.mv_machine.proofs.CallerLemmas.{stamps_suffice, record-entered, slice_get-append}
 use Rattle.mv_ends.specs.declared.inlets.Inlets.{Inlets}
 use Rattle.mv_ends.specs.declared.wires.Wires.{Wires}
 use Rattle.mv_ends.specs.declared.hub_end.HubEnd.{HubEnd}
@@ -94,13 +92,7 @@ of_links_put hub old new sender receiver frame same puts one all from to none ab
         (subst (λ r. IsFrameOf (items_on hub from r) frame) (sym (e refl)) (subst (λ s. IsFrameOf (items_on hub s receiver) frame) (sym (f refl)) one))
 
 eqb-swap : (a b : ℕ) → eqb a b ≡ eqb b a
-eqb-swap a b = by (eqb a b) (eqb b a) refl refl
-  where
-    by : (p q : Bool) → eqb a b ≡ p → eqb b a ≡ q → p ≡ q
-    by true true e f = refl
-    by false false e f = refl
-    by true false e f = absurd (eqb-false b a f (sym (eqb-true a b e)))
-    by false true e f = absurd (eqb-false a b e (sym (eqb-true b a f)))
+eqb-swap a b = grind (arith, nat_tests)
 
 -- the message that was taken is the one that was routed
 pub took_routed : (entries : List Entry) (sender k : ℕ) (message : Message) (old new : Inlets Message) → SameInlets old new → Takes sender message old new
@@ -143,7 +135,7 @@ within_closed most hub sender receiver within from in_range =
 -- a record of so few parties and submissions has room for more
 pub room_left : (count most : ℕ) (hub : HubState) → count ≡ length hub.parties → IsLawfulRecord (length hub.parties) hub.entries → length hub.parties ≤ PARTIES_LIMIT → most ≤ SUBMISSIONS_LIMIT → AreWithin most hub → length hub.entries < NUMBER_LIMIT
 room_left count most hub each lawful few bounded within =
-    omega (arith, record-few (length hub.parties) hub.entries lawful few (λ party below. omega (arith, within party below, bounded)))
+    omega (arith, stamps_suffice (length hub.parties) hub.entries lawful few (λ party below. omega (arith, within party below, bounded)))
 
 -- the record stays lawful with the next message of a party, and with the closing of a link that was open
 pub lawful_routed : (hub : HubState) (sender : ℕ) (message : Message) → sender < length hub.parties → IsLawfulRecord (length hub.parties) hub.entries

@@ -13,57 +13,58 @@ use Rattle.mv_message.specs.declared.message.Message.{Message}
 use Rattle.mv_link.specs.declared.item.Item.{Item}
 use Rattle.mv_link.specs.declared.item.Frame.{Frame}
 use Rattle.mv_link.specs.Frames.{IsFrameOf, accepted}
-use Rattle.mv_link.proofs.LinkLemmas.{accepted_front}
+use Rattle.mv_link.proofs.CallerLemmas.{accepted_front}
 use Rattle.mv_repository.specs.declared.entry.LogEntry.{LogEntry}
 use Rattle.mv_repository.specs.Log.{items_from}
-use Rattle.mv_machine.proofs.PrefixLemmas.{All-front}
+use Rattle.mv_machine.proofs.CallerLemmas.{All-front}
 use Rattle.mv_ends.specs.declared.inlets.Inlets.{Inlets}
 use Rattle.mv_ends.specs.declared.outlets.Outlets.{Outlets}
-use Rattle.mv_ends.specs.declared.wires.Wires.{Wires}
 use Rattle.mv_ends.specs.declared.hub_end.HubEnd.{HubEnd}
 use Rattle.mv_ends.specs.declared.repo_end.RepoEnd.{RepoEnd}
 use Rattle.mv_ends.specs.Inlets.{SameInlets, TakesNothing}
 use Rattle.mv_ends.specs.Outlets.{HaveSize, SameOutlets, PutsNothing}
-use Rattle.mv_ends.specs.Wires.{SameWires}
 use Rattle.mv_ends.specs.Rings.{AreJoined}
 use Rattle.mv_ends.specs.HubEnd.{SameHubEnd}
 use Rattle.mv_ends.specs.RepoEnd.{SameRepoEnd, IsRepoUnchanged}
-use Rattle.mv_ends.specs.Whole.{AreEnds, IsEndOf}
-use Rattle.mv_ends.specs.Laws.{AreSameRepos}
+use Rattle.mv_ends.specs.Whole.{IsEndOf}
+use Rattle.mv_ends.specs.Same.{SameEach}
+use Rattle.mv_ends.specs.Laws.{AreSameRepos, EndsStayEnds, IsSameByOne, IsSameFurther, IsSameItself}
 
 -- the end of a ring that is taken from
 abbrev Inlet : Type 0 → Type 0
 Inlet T = Consumer T Global AnyItems
 
-consumer_further : (T : Type 0) (a b c : Inlet T) → SameConsumer a b → SameConsumer b c → SameConsumer a c
+-- what is the same in each place is so over what follows, and over nothing
+each_further : {A : Type 0} (IsSame : A → A → Type 0) → IsSameFurther IsSame → IsSameFurther (SameEach IsSame)
+each_further IsSame further a b c p q = (
+  q.0 ∙ p.0,
+  λ place absent below.
+      further (slice_index_or a place absent) (slice_index_or b place absent) (slice_index_or c place absent)
+      (p.1 place absent below) (q.1 place absent (omega (arith, p.0, below))),
+)
+
+each_itself : {A : Type 0} (IsSame : A → A → Type 0) → IsSameItself IsSame → IsSameItself (SameEach IsSame)
+each_itself IsSame itself a = (refl, λ place absent below. itself (slice_index_or a place absent))
+
+consumer_further : (T : Type 0) → IsSameFurther {A = Inlet T} SameConsumer
 consumer_further T a b c p q = ((q.0.0 ∙ p.0.0, q.0.1 ∙ p.0.1, q.0.2 ∙ p.0.2, q.0.3 ∙ p.0.3), q.1 ∙ p.1)
 
-producer_further : (T : Type 0) (a b c : Producer T Global AnyItems) → SameProducer a b → SameProducer b c → SameProducer a c
+producer_further : (T : Type 0) → IsSameFurther {A = Producer T Global AnyItems} SameProducer
 producer_further T a b c p q = ((q.0.0 ∙ p.0.0, q.0.1 ∙ p.0.1, q.0.2 ∙ p.0.2, q.0.3 ∙ p.0.3), q.1 ∙ p.1)
 
-inlets_further : (T : Type 0) (a b c : Inlets T) → SameInlets a b → SameInlets b c → SameInlets a c
-inlets_further T a b c p q = (
-  q.0 ∙ p.0,
-  λ from absent below.
-      consumer_further T (slice_index_or a.ends.items from absent) (slice_index_or b.ends.items from absent) (slice_index_or c.ends.items from absent)
-      (p.1 from absent below) (q.1 from absent (omega (arith, p.0, below))),
-)
+inlets_further : (T : Type 0) → IsSameFurther {A = Inlets T} SameInlets
+inlets_further T a b c = each_further SameConsumer (consumer_further T) a.ends.items b.ends.items c.ends.items
 
 nothing_further : (T : Type 0) (a b c : Inlets T) → SameInlets a b → TakesNothing a b → TakesNothing b c → TakesNothing a c
 nothing_further T a b c same p q from absent below = q from absent (omega (arith, same.0, below)) ∙ p from absent below
 
-pub outlets_further : (a b c : Outlets) → SameOutlets a b → SameOutlets b c → SameOutlets a c
-outlets_further a b c p q = (
-  q.0 ∙ p.0,
-  λ from absent below.
-      producer_further Frame (slice_index_or a.ends.items from absent) (slice_index_or b.ends.items from absent) (slice_index_or c.ends.items from absent)
-      (p.1 from absent below) (q.1 from absent (omega (arith, p.0, below))),
-)
+pub outlets_further : IsSameFurther SameOutlets
+outlets_further a b c = each_further SameProducer (producer_further Frame) a.ends.items b.ends.items c.ends.items
 
 pub puts_nothing_further : (a b c : Outlets) → SameOutlets a b → PutsNothing a b → PutsNothing b c → PutsNothing a c
 puts_nothing_further a b c same p q from absent below = q from absent (omega (arith, same.0, below)) ∙ p from absent below
 
-pub repo_further : (a b c : RepoEnd) → SameRepoEnd a b → SameRepoEnd b c → SameRepoEnd a c
+pub repo_further : IsSameFurther SameRepoEnd
 repo_further a b c p q = record {
   party = q.party ∙ p.party;
   parties = q.parties ∙ p.parties;
@@ -79,38 +80,35 @@ repo_unchanged_further a b c same p q = record {
   taken = nothing_further Frame a.inlets b.inlets c.inlets same.inlets p.taken q.taken;
 }
 
-pub repo_itself : (a : RepoEnd) → SameRepoEnd a a
+inlets_itself : (T : Type 0) → IsSameItself {A = Inlets T} SameInlets
+inlets_itself T a = each_itself SameConsumer (λ end. ((refl, refl, refl, refl), refl)) a.ends.items
+
+pub outlets_itself : IsSameItself SameOutlets
+outlets_itself a = each_itself SameProducer (λ end. ((refl, refl, refl, refl), refl)) a.ends.items
+
+pub repo_itself : IsSameItself SameRepoEnd
 repo_itself a = record {
   party = refl;
   parties = refl;
   limit = refl;
   uplink = ((refl, refl, refl, refl), refl);
-  inlets = (refl, λ from absent below. ((refl, refl, refl, refl), refl));
+  inlets = inlets_itself Frame a.inlets;
 }
 
--- the links' ends at three moments
-wires_further : (a b c : Wires) → SameWires a b → SameWires b c → SameWires a c
-wires_further a b c p q = (
-  q.0 ∙ p.0,
-  λ to none below.
-      outlets_further (slice_index_or a.outlets.items to none) (slice_index_or b.outlets.items to none) (slice_index_or c.outlets.items to none)
-      (p.1 to none below) (q.1 to none (omega (arith, p.0, below))),
-)
-
-pub hub_further : (a b c : HubEnd) → SameHubEnd a b → SameHubEnd b c → SameHubEnd a c
+pub hub_further : IsSameFurther SameHubEnd
 hub_further a b c p q = record {
   parties = q.parties ∙ p.parties;
   limits = q.limits ∙ p.limits;
   uplinks = inlets_further Message a.uplinks b.uplinks c.uplinks p.uplinks q.uplinks;
-  wires = wires_further a.wires b.wires c.wires p.wires q.wires;
+  wires = each_further SameOutlets outlets_further a.wires.outlets.items b.wires.outlets.items c.wires.outlets.items p.wires q.wires;
 }
 
-pub hub_itself : (a : HubEnd) → SameHubEnd a a
+pub hub_itself : IsSameItself SameHubEnd
 hub_itself a = record {
   parties = refl;
   limits = refl;
-  uplinks = (refl, λ from absent below. ((refl, refl, refl, refl), refl));
-  wires = (refl, λ to none below. (refl, λ from absent within. ((refl, refl, refl, refl), refl)));
+  uplinks = inlets_itself Message a.uplinks;
+  wires = each_itself SameOutlets outlets_itself a.wires.outlets.items;
 }
 
 -- what was applied is a front of each list whose frames were put, where what was taken is a front of what was put
@@ -157,7 +155,7 @@ end_kept h h' party r r' is_uplink is_wire x y end = record {
 }
 
 -- the ends of one opening stay such
-pub ends_kept : (h h' : HubEnd) (rs rs' : List RepoEnd) → SameHubEnd h h' → AreSameRepos rs rs' → AreEnds h rs → AreEnds h' rs'
+pub ends_kept : EndsStayEnds
 ends_kept h h' rs rs' x y ends = record {
   each = y.0 ∙ ends.each ∙ ap length (sym x.parties);
   ends = λ party absent below.
@@ -180,19 +178,13 @@ same_but_one rs k was now in_range is same = (
       ],
 )
 
-pub repos_itself : (rs : List RepoEnd) → AreSameRepos rs rs
-repos_itself rs = (refl, λ party absent below. repo_itself (slice_index_or rs party absent))
+pub repos_itself : IsSameItself AreSameRepos
+repos_itself = each_itself SameRepoEnd repo_itself
 
-pub repos_further : (a b c : List RepoEnd) → AreSameRepos a b → AreSameRepos b c → AreSameRepos a c
-repos_further a b c p q = (
-  q.0 ∙ p.0,
-  λ party absent below.
-      repo_further (slice_index_or a party absent) (slice_index_or b party absent) (slice_index_or c party absent)
-      (p.1 party absent below) (q.1 party absent (omega (arith, p.0, below))),
-)
+pub repos_further : IsSameFurther AreSameRepos
+repos_further = each_further SameRepoEnd repo_further
 
 -- one more of the ends was called
-pub same_by_one : (first repos : List RepoEnd) (k : ℕ) (was now : RepoEnd) → AreSameRepos first repos → k < length repos → was ≡ slice_index_or repos k was → SameRepoEnd was now
-    → AreSameRepos first (set repos k now)
+pub same_by_one : IsSameByOne
 same_by_one first repos k was now before in_range is same =
     repos_further first repos (set repos k now) before (same_but_one repos k was now in_range is same)

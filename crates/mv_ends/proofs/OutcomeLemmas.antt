@@ -5,7 +5,7 @@ use Rattle.std.proofs.lemmas.List.{get_or-map, length-map, map-set, set-get_or, 
 use Rattle.std.proofs.lemmas.Bool.{cases_lt}
 use mathlib.Core.List.{IsPrefix}
 use Rattle.mv_pairs.specs.Pairs.{IsSquare}
-use Rattle.mv_pairs.proofs.PairsLemmas.{square-replicate}
+use Rattle.mv_pairs.proofs.CallerLemmas.{square-replicate}
 use Rattle.mv_hub.specs.Record.{routed_from}
 use Rattle.mv_hub.specs.Links.{link_items}
 use Rattle.mv_repository.specs.Log.{items_from}
@@ -13,8 +13,7 @@ use Rattle.mv_party.specs.Site.{SiteState, IsLawfulParty}
 use Rattle.mv_machine.specs.State.{State, is_party, submissions_of, log_of, opening}
 use Rattle.mv_machine.specs.Lawful.{IsLawful, IsLawfulRecord, IsWellFormed}
 use Rattle.mv_machine.specs.Headline.{HeadlineHolds}
-use Rattle.mv_machine.proofs.HeadlineLemmas.{headline}
-use Rattle.mv_machine.proofs.LawfulLemmas.{opening-sound}
+use Rattle.mv_machine.proofs.CallerLemmas.{headline, opening-sound}
 use Rattle.mv_ends.specs.declared.hub_end.HubEnd.{HubEnd}
 use Rattle.mv_ends.specs.declared.repo_end.RepoEnd.{RepoEnd}
 use Rattle.mv_ends.specs.HubEnd.{SameHubEnd, IsUnchanged}

@@ -1,6 +1,6 @@
 //! The hub's end: the hub, the ends of the uplinks that it takes messages from, and those of the links that it puts frames on.
 
-ghost use Rattle.std.specs.Prelude.{◌≡◌, ◌<◌, length, IfOk};
+ghost use Rattle.std.specs.Prelude.{◌≡◌, ◌<◌, length, Option, None, Some, IfOk, IfSome, IsTrue, false};
 ghost use Rattle.mv_machine.specs.Lawful.{IsLawfulRecord};
 ghost use Rattle.mv_ends.specs.Valid.{TookAll, IsFor, AreUnused, AreOfLinks, AreWithin, IsLawfulRecord-prop};
 
@@ -9,6 +9,7 @@ use crate::parcel::Parcel;
 use crate::repo_end::RepoEnd;
 use crate::wires::Wires;
 use mv_hub::{Entry, Hub, Parties};
+use mv_link::Frame;
 use mv_machine::{Limits, Refusal, Reply};
 use mv_message::{Message, Party, Shared};
 use std::alloc::{AllocError, Global};
@@ -43,9 +44,14 @@ pub struct HubEnd {
 }
 
 impl HubEnd {
-    ghost use Rattle.mv_hub.specs.Hub.{new_hub, are_parties};
+    ghost use Rattle.mv_link.specs.Frames.{IsFrameOf};
+    ghost use Rattle.mv_hub.specs.declared.fault.HubFault.{HubFault as AFault};
+    ghost use Rattle.mv_hub.specs.declared.fault.HubFault.TheVariants.{StrangerParty};
+    ghost use Rattle.mv_hub.specs.Hub.{new_hub, are_parties, items_on};
     ghost use Rattle.mv_ends.specs.Rings.{IsUntaken};
-    ghost use Rattle.mv_ends.specs.HubEnd.{SameHubEnd, IsUnchanged, Routes, Relays, Repeats, Closes};
+    ghost use Rattle.mv_ends.specs.Inlets.{TakesNothing};
+    ghost use Rattle.mv_ends.specs.Wires.{HasRoomOn, PutsFrame};
+    ghost use Rattle.mv_ends.specs.HubEnd.{SameHubEnd, IsUnchanged, IsPutRefused, Routes, Relays, Repeats, Closes};
     ghost use Rattle.mv_ends.specs.RepoEnd.{SameRepoEnd, IsRepoUnchanged};
     ghost use Rattle.mv_ends.specs.Whole.{IsEndOf};
     ghost use Rattle.mv_ends.specs.Looking.{IsLawfulAt};
@@ -97,7 +103,7 @@ impl HubEnd {
     /// Answers `Routed`, or the first of these refusals that holds: S1, there is no such party; S5, no message of the party
     /// is there to be routed, or as many of its messages were routed as it may submit; S6, a link has no room; S14, memory was
     /// refused. S5 may be told though a message was just put on the uplink.
-    #[tactic(auto, using(crate::proofs::EndLemmas::of_links_entered, crate::proofs::EndLemmas::took_routed, crate::proofs::EndLemmas::took_same, crate::proofs::EndLemmas::within_routed, crate::proofs::EndLemmas::room_left, crate::proofs::EndLemmas::lawful_routed, crate::proofs::EndLemmas::route_refused))]
+    #[tactic(auto, using(crate::proofs::EndLemmas::took_same, crate::proofs::EndLemmas::room_left))]
     pub fn route(&mut self, from: Party) -> Reply
         ensures same { SameHubEnd self.old self.new }
         ensures reply { Routes from self.old self.new result }
@@ -124,16 +130,12 @@ impl HubEnd {
     ///
     /// Answers `Relayed`, or the first of these refusals that holds: S1, one of the parties is none; S7, the ring has no room;
     /// S11, every item of the link has been relayed; S14, memory was refused. S7 may be told though room was just made.
-    #[tactic(auto, using(crate::proofs::EndLemmas::of_links_same, crate::proofs::EndLemmas::of_links_put, crate::proofs::EndLemmas::refused_by))]
     pub fn relay(&mut self, from: Party, to: Party) -> Reply
         ensures same { SameHubEnd self.old self.new }
         ensures reply { Relays from to self.old self.new result }
     {
-        if !self.are_parties(from, to) {
-            return Reply::Refused(Refusal::Party);
-        }
-        if self.wires.is_full(from, to) {
-            return Reply::Refused(Refusal::WireFull);
+        if let Some(refusal) = self.put_refusal(from, to) {
+            return Reply::Refused(refusal);
         }
         let frame = match self.hub.next_frame(from, to) {
             Ok(frame) => frame,
@@ -145,7 +147,7 @@ impl HubEnd {
         let Ok(relayed) = self.hub.relay(from, to) else {
             return Reply::Refused(Refusal::Memory);
         };
-        self.wires.put(from, to, parcel);
+        self.put(from, to, parcel);
         Reply::Relayed {
             number: relayed.number,
         }
@@ -156,16 +158,12 @@ impl HubEnd {
     /// Answers `Repeated`, or the first of these refusals that holds: S1, one of the parties is none; S7, the ring has no room;
     /// S9, no frame of this number was relayed; S10, it is kept no longer; S14, memory was refused. S7 may be told though room
     /// was just made.
-    #[tactic(auto, using(crate::proofs::EndLemmas::of_links_same, crate::proofs::EndLemmas::of_links_put, crate::proofs::EndLemmas::refused_by))]
     pub fn repeat(&mut self, from: Party, to: Party, number: u32) -> Reply
         ensures same { SameHubEnd self.old self.new }
         ensures reply { Repeats from to number self.old self.new result }
     {
-        if !self.are_parties(from, to) {
-            return Reply::Refused(Refusal::Party);
-        }
-        if self.wires.is_full(from, to) {
-            return Reply::Refused(Refusal::WireFull);
+        if let Some(refusal) = self.put_refusal(from, to) {
+            return Reply::Refused(refusal);
         }
         let frame = match self.hub.repeat(from, to, number) {
             Ok(frame) => frame,
@@ -174,7 +172,7 @@ impl HubEnd {
         let Ok(again) = Parcel::of_frame(self.alloc, &frame) else {
             return Reply::Refused(Refusal::Memory);
         };
-        self.wires.put(from, to, again);
+        self.put(from, to, again);
         Reply::Repeated { number }
     }
 
@@ -182,7 +180,6 @@ impl HubEnd {
     ///
     /// Answers `Closed`, or the first of these refusals that holds: S1, one of the parties is none; S12, the link is closed
     /// already; S14, memory was refused.
-    #[tactic(auto, using(crate::proofs::EndLemmas::of_links_entered, crate::proofs::EndLemmas::took_closed, crate::proofs::EndLemmas::within_closed, crate::proofs::EndLemmas::lawful_closed, crate::proofs::EndLemmas::refused_by))]
     pub fn close(&mut self, from: Party, to: Party) -> Reply
         ensures same { SameHubEnd self.old self.new }
         ensures reply { Closes from to self.old self.new result }
@@ -209,6 +206,39 @@ impl HubEnd {
         let count = self.hub.parties().len();
         repo.look_at_uplink(&mut self.uplinks);
         self.wires.look_beside(party, count, repo);
+    }
+
+    /// Why nothing can be put on the ring of a link, whatever the hub answers: one of the parties is none, or the ring is full.
+    #[tactic(auto, using(crate::proofs::EndLemmas::of_links_same, crate::proofs::EndLemmas::for_same))]
+    fn put_refusal(&mut self, from: Party, to: Party) -> Option<Refusal>
+        ensures same { SameHubEnd self.old self.new }
+        ensures unchanged { IsUnchanged self.old self.new }
+        ensures refused { IfSome result (λ refusal. (fault : Option AFault)
+            → (are_parties self.old.hub from to ≡ false → fault ≡ Some StrangerParty)
+            → IsPutRefused self.old self.new from to fault refusal) }
+        ensures room { result ≡ None → IsTrue (are_parties self.old.hub from to) × HasRoomOn self.new.wires from to }
+    {
+        if !self.are_parties(from, to) {
+            return Some(Refusal::Party);
+        }
+        if self.wires.is_full(from, to) {
+            return Some(Refusal::WireFull);
+        }
+        None
+    }
+
+    /// Puts a frame of a link on its ring, which has room.
+    #[tactic(auto, using(crate::proofs::EndLemmas::of_links_put, crate::proofs::EndLemmas::for_same))]
+    fn put(&mut self, from: Party, to: Party, frame: Parcel<Frame>)
+        requires parties { IsTrue (are_parties self.old.hub from to) }
+        requires room { HasRoomOn self.old.wires from to }
+        requires member { IsFrameOf (items_on self.old.hub from to) frame }
+        ensures same { SameHubEnd self.old self.new }
+        ensures hub { self.new.hub ≡ self.old.hub }
+        ensures taken { TakesNothing self.old.uplinks self.new.uplinks }
+        ensures put { PutsFrame from to frame self.old.wires self.new.wires }
+    {
+        self.wires.put(from, to, frame);
     }
 
     /// Whether both are parties.

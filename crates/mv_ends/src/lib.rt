@@ -47,5 +47,5 @@ pub use opening::open;
 pub use outcome::Outcome;
 pub use outlets::Outlets;
 pub use parcel::Parcel;
-pub use repo_end::RepoEnd;
+pub use repo_end::{RepoEnd, Unsubmitted};
 pub use wires::Wires;

@@ -11,6 +11,7 @@ use mv_hub::{Entry, Hub, Parties};
 use mv_message::{Message, Party, Shared};
 use mv_repository::{LogEntry, Repository};
 use std::marker::Model;
+use std::mem;
 
 /// What happened in a run: the record of the hub, and what each party submitted and applied.
 ///
@@ -47,6 +48,12 @@ impl Outcome {
         ensures headline { HeadlineHolds (opening result.parties result.limits) result }
     {
         Outcome { hub, repos }
+    }
+
+    /// Leaves the outcome to the end of the process, which gives all its memory back at once: it is not taken apart. Nothing is
+    /// promised of it.
+    pub fn leave(self) {
+        mem::forget(self);
     }
 
     /// The parties.

@@ -2,7 +2,9 @@
 //!
 //! Whoever puts something on a ring keeps what it has, and what it has may be shared with other lists of its own. So what goes on a
 //! ring is a parcel, of which nobody else holds anything: it is made of a message that is given by value, of a copy, or of other
-//! parcels; it is never shared, and is opened by value. Only the end that takes from a ring looks into what is at its front.
+//! parcels; it is never shared by whoever has it, and is opened by value. Only the end that takes from a ring looks into what is at its
+//! front, and an end that keeps what it is given shares it until the submission is made, or hands it back as the only one that has it.
+//! A message that is given to an end by value is a parcel too, so that no two ends are given the same.
 
 ghost use Rattle.std.specs.Prelude.{◌≡◌, ◌<◌, [], ◌∷◌, length, IfOk};
 ghost use mathlib.Core.List.{IsPrefix};
@@ -39,7 +41,7 @@ impl<T> Parcel<T> {
 impl Parcel<Shared<Message>> {
     /// A message in memory of its own, since it is given by value, and a message holds nothing that is shared. Refused for want of
     /// memory.
-    pub(crate) fn of_message(
+    pub fn of_message(
         alloc: Global,
         message: Message,
     ) -> Result<Parcel<Shared<Message>>, AllocError>
@@ -57,6 +59,20 @@ impl Parcel<Shared<Message>> {
         ensures { IfOk result (λ parcel. parcel ≡ message.now) }
     {
         Parcel::of_message(alloc, message.copy(alloc)?)
+    }
+
+    /// The message.
+    pub fn message(&self) -> &Message
+        ensures { result.now ≡ self.now }
+    {
+        self.inside.get()
+    }
+
+    /// The message, to be shared with lists of the end that the parcel is given to.
+    pub(crate) fn shared(&self) -> &Shared<Message>
+        ensures { result.now ≡ self.now }
+    {
+        &self.inside
     }
 }
 

@@ -1,10 +1,11 @@
 //! A repository's end: the party, the end of its uplink that it puts messages on, and those of the links that it takes frames
 //! from.
 
-ghost use Rattle.std.specs.Prelude.{◌≡◌, [], length, IfOk};
+ghost use Rattle.std.specs.Prelude.{◌≡◌, [], length, IfOk, IfErr};
 ghost use Rattle.rtrb.specs.Ring.{sent};
 ghost use Rattle.mv_ends.specs.Accepted.{AreAccepted};
 ghost use Rattle.mv_repository.specs.Verdict.{joint_verdict};
+ghost use Rattle.mv_machine.specs.Replies.{refusal_of};
 ghost use Rattle.mv_party.specs.Site.{IsLawfulParty, new_site};
 
 use crate::answering::{answer_parcel, is_full, put_answer};
@@ -14,7 +15,7 @@ use mv_link::Frame;
 use mv_machine::{Limits, Refusal, Reply};
 use mv_message::{Message, Party, Shared};
 use mv_pack::PackKey;
-use mv_party::Site;
+use mv_party::{Site, SiteFault};
 use mv_repository::{Local, LogEntry, Repository};
 use rtrb::Producer;
 use std::alloc::{AllocError, Global};
@@ -38,6 +39,27 @@ pub struct RepoEnd {
     ghost each: { length inlets.ends.items ≡ site.parties },
     /// Of the frames that were taken from each link, just those were accepted that the log has from its sender.
     ghost accepted: { AreAccepted site.log inlets },
+}
+
+/// A message that was not submitted, handed back, and why.
+#[derive(Drop)]
+pub struct Unsubmitted {
+    /// The message.
+    pub message: Parcel<Shared<Message>>,
+    /// Why it was not submitted.
+    pub refusal: Refusal,
+}
+
+impl Unsubmitted {
+    /// A message that a party does not submit, for this fault.
+    fn new(message: Parcel<Shared<Message>>, fault: SiteFault) -> Unsubmitted
+        ensures { result ≡ record { message = message; refusal = refusal_of fault } }
+    {
+        Unsubmitted {
+            message,
+            refusal: Refusal::from(fault),
+        }
+    }
 }
 
 impl RepoEnd {
@@ -106,6 +128,7 @@ impl RepoEnd {
     /// Answers `Submitted`, or the first of these refusals that holds: S2, the message is a query or an answer; S3, the uplink
     /// has no room; S4, the party submitted as many messages as it may; S14, memory was refused. S3 may be told though room
     /// was just made.
+    #[tactic(auto, using(crate::proofs::SiteEndLemmas::submitted_after, crate::proofs::SiteEndLemmas::refused_after))]
     pub fn submit(&mut self, message: &Message) -> Reply
         ensures same { SameRepoEnd self.old self.new }
         ensures reply { Submits message.now self.old self.new result }
@@ -114,15 +137,36 @@ impl RepoEnd {
         if let Err(fault) = self.site.check(message, full) {
             return Reply::Refused(Refusal::from(fault));
         }
-        let Ok((kept, submitted)) = copies_of(self.alloc, message) else {
+        let Ok(kept) = Parcel::of_copy(self.alloc, message) else {
             return Reply::Refused(Refusal::Memory);
         };
-        match self.site.submit(&kept, full) {
+        match self.submit_own(kept) {
+            Ok(k) => Reply::Submitted { k },
+            Err(back) => Reply::Refused(back.refusal),
+        }
+    }
+
+    /// Submits a message that is given by value, as [`RepoEnd::submit`] does: the message itself is kept, and a copy goes on the
+    /// uplink. Answers its number among all that the party submitted, or hands it back with the refusal, and nothing has changed.
+    pub fn submit_own(&mut self, message: Parcel<Shared<Message>>) -> Result<u32, Unsubmitted>
+        ensures same { SameRepoEnd self.old self.new }
+        ensures ok { IfOk result (λ k. Submits message self.old self.new (Reply.Submitted k)) }
+        ensures err { IfErr result (λ back. Submits message self.old self.new (Reply.Refused back.refusal)) }
+        ensures back { IfErr result (λ back. back.message ≡ message) }
+    {
+        let full = is_full(&mut self.uplink);
+        if let Err(fault) = self.site.check(message.message(), full) {
+            return Err(Unsubmitted::new(message, fault));
+        }
+        let Ok(submitted) = Parcel::of_copy(self.alloc, message.message()) else {
+            return Err(Unsubmitted::new(message, SiteFault::Memory));
+        };
+        match self.site.submit(message.shared(), full) {
             Ok(k) => {
                 self.uplink.push_reserved(submitted);
-                Reply::Submitted { k }
+                Ok(k)
             }
-            Err(fault) => Reply::Refused(Refusal::from(fault)),
+            Err(fault) => Err(Unsubmitted::new(message, fault)),
         }
     }
 
@@ -175,7 +219,6 @@ impl RepoEnd {
     /// Answers `Applied`, `Old` or `Gap`, or the first of these refusals that holds: S1, there is no such party; S8, no frame is
     /// there; S13, the frame is the next and carries a query, and the party can submit no answer now; S14, memory was refused.
     /// S8 and S13 may be told though a frame was just put there, or room just made.
-    #[tactic(auto, using(crate::proofs::SiteEndLemmas::apply_taken))]
     pub fn apply(&mut self, from: Party) -> Reply
         ensures same { SameRepoEnd self.old self.new }
         ensures reply { Applies from self.old self.new result }
@@ -202,17 +245,4 @@ impl RepoEnd {
             Err(fault) => Reply::Refused(Refusal::from(fault)),
         }
     }
-}
-
-/// A copy of a message to be kept, and another that goes on a ring. Refused for want of memory.
-fn copies_of(
-    alloc: Global,
-    message: &Message,
-) -> Result<(Shared<Message>, Parcel<Shared<Message>>), AllocError>
-    ensures kept { IfOk result (λ copies. copies.0 ≡ message.now) }
-    ensures parcel { IfOk result (λ copies. copies.1 ≡ message.now) }
-{
-    let kept = Parcel::of_copy(alloc, message)?;
-    let parcel = Parcel::of_copy(alloc, message)?;
-    Ok((kept.open(), parcel))
 }

@@ -1,36 +1,33 @@
 -- What the hub keeps, through a routing and a relay.
-use Rattle.std.proofs.Common.{◌≡◌, ℕ, ◌+◌, ◌<◌, ◌≤◌, Bool, true, false, ◌&&◌, ◌||◌, not, List, [], ◌∷◌, ◌++◌, length, get_or, set, cond, Some, None, sym, refl, ap, ◌∙◌, arith, inl, inr, append-nil, ◌↔◌, length-set}
+use Rattle.std.proofs.Common.{◌≡◌, ℕ, ◌+◌, ◌<◌, ◌≤◌, Bool, true, false, ◌&&◌, ◌||◌, not, List, [], ◌∷◌, ◌++◌, length, get_or, set, cond, None, sym, refl, ap, ◌∙◌, arith, inl, inr, append-nil, ◌↔◌, length-set}
 use mir.Val.{bool_byte}
 use Rattle.std.specs.Prelude.{◌==◌, nat_lt, find, replicate}
 use Rattle.std.specs.List.{All}
-use Rattle.std.proofs.lemmas.Bool.{cases_eq, cases_lt, eq-eqb, ne_eqb, lt-ltb, le-ltb, false_from_ne_true}
-use Rattle.std.proofs.lemmas.List.{get_or-replicate, length-replicate, get_or-set_same, get_or-set_other, get_or_default}
+use Rattle.std.proofs.lemmas.Bool.{cases_eq, cases_lt, eq-eqb, ne_eqb, le-ltb, false_from_ne_true}
+use Rattle.std.proofs.lemmas.List.{get_or-replicate, length-replicate, get_or_default}
 use Rattle.std.proofs.lemmas.Bool.Decides.{nat_tests}
-use Rattle.std.proofs.lemmas.Grind.{common_steps}
+use Rattle.std.proofs.lemmas.Grind.{common_steps, elements}
 use Rattle.mv_message.specs.declared.message.Message.{Message}
 use Rattle.mv_link.specs.declared.item.Item.{Item}
 use Rattle.mv_link.specs.declared.item.Item.TheVariants.{Receipt, Carried}
 use Rattle.mv_link.specs.declared.limits.TheConstants.{PARTIES_LIMIT}
 use Rattle.mv_link.specs.Sending.{Sending, IsWindow, HasRoom, new_sending}
 use Rattle.mv_pairs.specs.Pairs.{cell, put, IsSquare}
-use Rattle.mv_pairs.proofs.PairsLemmas.{cell-map, put-map, cell-all, table-all, put-read}
+use Rattle.mv_pairs.proofs.CallerLemmas.{cell-map, put-map, cell-all, table-all, put-read}
 use Rattle.mv_hub.specs.declared.entry.Entry.{Entry}
 use Rattle.mv_hub.specs.declared.entry.Entry.TheVariants.{Routed, Closed}
 use Rattle.mv_hub.specs.Record.{routed_count, is_open}
 use Rattle.mv_hub.specs.declared.hub.routing.Routing.{Routing}
 use Rattle.mv_link.specs.declared.party_set.PartySet.{PartySet}
-use Rattle.mv_hub.specs.Targets.{reach, is_reached, is_target, is_candidate, is_query}
+use Rattle.mv_hub.specs.Targets.{reach, is_reached, is_target, is_query}
 use Rattle.mv_link.specs.PartySets.{has_party, parties_in, no_parties}
 use Rattle.mv_hub.specs.Links.{gained, link_items}
-use Rattle.std.specs.Option.{option_map}
-use Rattle.mv_hub.specs.Hub.{HubState, new_hub, sent_of, items_on, next_items, is_busy, busy_party, route_fault, with_relayed}
-use Rattle.mv_hub.specs.declared.fault.RouteFault.TheVariants.{StrangerParty, Busy}
+use Rattle.mv_hub.specs.Hub.{HubState, new_hub, sent_of, items_on, next_items, is_busy, busy_party, with_relayed}
 use Rattle.mv_hub.specs.Kept.{link_at, sent_table, Carries, AreOpen, AreLinks, IsKept}
-use Rattle.mv_hub.specs.Gains.{PushesItems, PushesRow, IsRouting, receipt_of, gain_of}
+use Rattle.mv_hub.specs.Gains.{PushesItems, PushesRow, IsRouting, gain_of}
 use Rattle.mv_hub.proofs.LinksLemmas.{room-after}
-use Rattle.mv_hub.proofs.RecordLemmas.{routed_from-append, link_items-push, gained_other, gained-closed}
-use Rattle.mv_link.proofs.NumberLemmas.{find-none_at, find-those}
-use Rattle.mv_link.proofs.PartySetLemmas.{listed-in}
+use Rattle.mv_hub.proofs.RecordLemmas.{routed_from-append, is_open-append, link_items-push, gained_other, gained-closed}
+use Rattle.mv_link.proofs.CallerLemmas.{find-none_at, find-those, listed-in}
 
 -- what the hub is seen as
 abbrev pub view : List (List (List ℕ)) → ℕ → List Entry → List (List Sending) → HubState
@@ -41,12 +38,6 @@ pub routed_count_most : (entries : List Entry) (party : ℕ) → routed_count en
 routed_count_most [] party = omega arith
 routed_count_most (Routed from k message ∷ entries) party = grind (arith, routed_count_most entries party)
 routed_count_most (Closed from to ∷ entries) party = grind (arith, routed_count_most entries party)
-
--- what no entry of two records closes is open
-is_open-append : (before after : List Entry) (from to : ℕ) → is_open (before ++ after) from to ≡ (is_open before from to && is_open after from to)
-is_open-append [] after from to = refl
-is_open-append (Routed sender k message ∷ before) after from to = is_open-append before after from to
-is_open-append (Closed sender receiver ∷ before) after from to = grind (arith, is_open-append before after from to)
 
 -- what the routing of a message puts on a link
 next_items-are : (hub : HubState) (from to : ℕ) (message : Message) → next_items hub from message to
@@ -62,16 +53,11 @@ pub length_next_items : (hub : HubState) (from to : ℕ) (message : Message) →
     ≡ bool_byte ((to == from) && is_open hub.entries from from) + bool_byte (is_reached hub.parties hub.entries from message to)
 length_next_items hub from to message = grind (arith, next_items-are hub from to message)
 
--- what a link gains is what the record will put on it
-pub next-gain : (hub : HubState) (routing : Routing) (receipt : List Item) (to : ℕ) → IsRouting hub routing → receipt ≡ receipt_of hub routing
-    → gain_of routing receipt to ≡ next_items hub routing.from routing.message.now to
-next-gain hub routing receipt to is e = rw (e, is.reaches to, is.number, is.place, next_items-are) (grind arith)
-
 -- the parties to which a link of one is open
-pub open-at : {parties : ℕ} {entries : List Entry} {open_links : List PartySet} (from to : ℕ) (opened : PartySet)
+pub open_at : {parties : ℕ} {entries : List Entry} {open_links : List PartySet} (from to : ℕ) (opened : PartySet)
     → AreOpen parties entries open_links → from < parties → to < parties → opened ≡ get_or open_links from opened
     → has_party opened to ≡ is_open entries from to
-open-at {open_links = open_links} from to opened are is_from is_to at =
+open_at {open_links = open_links} from to opened are is_from is_to at =
     ap (λ s. has_party s to) (at ∙ get_or_default open_links from opened no_parties (omega (arith, are.each))) ∙ are.values from to is_from is_to
 
 -- what is known of a link, by what the hub is seen as
@@ -80,56 +66,55 @@ pub record LinkFacts (hub : HubState) (from to : ℕ) (link : Sending) : Type 0 
   pub sent : link.sent ≡ sent_of hub from to
 
 -- a link is busy exactly where it has no room
-pub busy-is : (hub : HubState) (from to : ℕ) (message : Message) (link : Sending) (count : ℕ)
+pub busy_is : (hub : HubState) (from to : ℕ) (message : Message) (link : Sending) (count : ℕ)
     → LinkFacts hub from to link → count ≡ length (next_items hub from message to) → is_busy hub from message to ≡ false ↔ HasRoom link count
 unfolding is_busy
-busy-is hub from to message link count facts e =
+busy_is hub from to message link count facts e =
     let total = facts.carries.ends.count in
     let window = facts.carries.window in
     let sent = facts.sent in
     (λ free. grind (arith, nat_tests), λ room. grind (arith, nat_tests))
 
--- whom a message reaches, of those that it may be for
-reached-candidate : (parties : List (List (List ℕ))) (entries : List Entry) (from : ℕ) (message : Message) (to : ℕ)
-    → ((nat_lt to (length parties) && is_candidate parties entries message to) && is_open entries from to)
-    && not (is_query message && (to == from)) ≡ is_reached parties entries from message to
-unfolding is_reached is_target
-reached-candidate parties entries from message to = grind arith
-
--- by a set of those that it may be for, and one of those to which the link is open
-pub reached-of : (parties : List (List (List ℕ))) (entries : List Entry) (from : ℕ) (message : Message) (candidates opened : PartySet) (to : ℕ)
-    → has_party candidates to ≡ (nat_lt to (length parties) && is_candidate parties entries message to)
+-- whom a message reaches, by a set of those that it is for, and one of those to which the link is open
+pub reached_of : (parties : List (List (List ℕ))) (entries : List Entry) (from : ℕ) (message : Message) (targets opened : PartySet) (to : ℕ)
+    → has_party targets to ≡ (nat_lt to (length parties) && is_target parties entries from message to)
     → (to < length parties → has_party opened to ≡ is_open entries from to)
-    → ((has_party candidates to && has_party opened to) && not (is_query message && (to == from))) ≡ is_reached parties entries from message to
+    → (has_party targets to && has_party opened to) ≡ is_reached parties entries from message to
 unfolding is_reached
-reached-of parties entries from message candidates opened to may is = elim (cases_lt to (length parties)) [
-  | inl lt ↦ rw (may, is lt) (reached-candidate parties entries from message to)
-  | inr beyond ↦ rw (may, le-ltb to (length parties) beyond)
+reached_of parties entries from message targets opened to are is = elim (cases_lt to (length parties)) [
+  | inl lt ↦ rw (are, is lt)
+  | inr beyond ↦ rw (are, le-ltb to (length parties) beyond)
 ]
 
 -- which are parties alone
-pub reached-below : (parties : List (List (List ℕ))) (entries : List Entry) (from : ℕ) (message : Message) (to : ℕ)
+pub reached_below : (parties : List (List (List ℕ))) (entries : List Entry) (from : ℕ) (message : Message) (to : ℕ)
     → is_reached parties entries from message to ≡ true → to < length parties
 unfolding is_reached
-reached-below parties entries from message to reached = grind (arith, reached, nat_tests)
+reached_below parties entries from message to reached = grind (arith, reached, nat_tests)
 
 -- so the list of the set of those that are reached is this
-pub reach-listed : (parties : List (List (List ℕ))) (entries : List Entry) (from : ℕ) (message : Message) (reached : PartySet)
+pub reach_listed : (parties : List (List (List ℕ))) (entries : List Entry) (from : ℕ) (message : Message) (reached : PartySet)
     → length parties ≤ 64 → ((to : ℕ) → has_party reached to ≡ is_reached parties entries from message to)
     → parties_in reached ≡ reach parties entries from message
 unfolding reach
-reach-listed parties entries from message reached few is =
+reach_listed parties entries from message reached few is =
     listed-in reached (is_reached parties entries from message) (length parties) few (λ to lt. is to)
-    (λ to beyond. is to ∙ false_from_ne_true _ (λ e. absurd (omega (arith, reached-below parties entries from message to e))))
+    (λ to beyond. is to ∙ false_from_ne_true _ (λ e. absurd (omega (arith, reached_below parties entries from message to e))))
+
+-- what a link gains is what the record will put on it
+pub next-gain : (hub : HubState) (routing : Routing) (to : ℕ) → IsRouting hub routing → gain_of routing to ≡ next_items hub routing.from routing.message.now to
+next-gain hub routing to is =
+    let listed = reach_listed hub.parties hub.entries routing.from routing.message.now routing.reached is.few is.reaches in
+    rw (listed, is.own, is.reaches to, is.number, is.place, next_items-are)
 
 -- how many items of a link were relayed
-pub sent-at : (links : List (List Sending)) (from to : ℕ) → cell (sent_table links) from to 0 ≡ (link_at links from to).sent
-sent-at links from to = cell-map (λ v. v.sent) links from to (new_sending 0)
+pub sent_at : (links : List (List Sending)) (from to : ℕ) → cell (sent_table links) from to 0 ≡ (link_at links from to).sent
+sent_at links from to = cell-map (λ v. v.sent) links from to (new_sending 0)
 
 module _ (parties : List (List (List ℕ))) (window : ℕ) (entries : List Entry) (links : List (List Sending)) where
   pub link_facts : (from to : ℕ) → AreLinks parties window entries links → from < length parties → to < length parties
       → LinkFacts (view parties window entries links) from to (link_at links from to)
-  link_facts from to are is_from is_to = record { carries = are.values from to is_from is_to; sent = sym (sent-at links from to) }
+  link_facts from to are is_from is_to = record { carries = are.values from to is_from is_to; sent = sym (sent_at links from to) }
 
   -- a link that gains nothing is not busy
   idle : (from to : ℕ) (message : Message) → AreLinks parties window entries links → from < length parties → to < length parties
@@ -138,16 +123,16 @@ module _ (parties : List (List (List ℕ))) (window : ℕ) (entries : List Entry
   idle from to message are is_from is_to none =
       let hub = view parties window entries links in
       let facts = link_facts from to are is_from is_to in
-      (busy-is hub from to message (link_at links from to) 0 facts (grind (arith, length_next_items hub from to message))).1 facts.carries.fits
+      (busy_is hub from to message (link_at links from to) 0 facts (grind (arith, length_next_items hub from to message))).1 facts.carries.fits
 
   -- so the least busy party is the first of those whose links gain something
-  pub busy-among : (from : ℕ) (message : Message) (gaining : PartySet) → AreLinks parties window entries links → length parties ≤ 64
+  pub busy_among : (from : ℕ) (message : Message) (gaining : PartySet) → AreLinks parties window entries links → length parties ≤ 64
       → from < length parties
       → ((to : ℕ) → has_party gaining to ≡ (is_reached parties entries from message to || ((to == from) && is_open entries from from)))
       → busy_party (view parties window entries links) from message
       ≡ find (is_busy (view parties window entries links) from message) (parties_in gaining)
   unfolding busy_party
-  busy-among from message gaining are few is_from gains =
+  busy_among from message gaining are few is_from gains =
       let busy = is_busy (view parties window entries links) from message in
       let test : ℕ → Bool = λ (to : ℕ). is_reached parties entries from message to || ((to == from) && is_open entries from from) in
       let listed = listed-in gaining test (length parties) few (λ to lt. gains to) (λ to beyond. gains to ∙ none to beyond) in
@@ -157,7 +142,7 @@ module _ (parties : List (List (List ℕ))) (window : ℕ) (entries : List Entry
           → (is_reached parties entries from message to || ((to == from) && is_open entries from from)) ≡ false
       none to beyond =
           let stranger = false_from_ne_true (is_reached parties entries from message to)
-          (λ e. absurd (omega (arith, reached-below parties entries from message to e))) in
+          (λ e. absurd (omega (arith, reached_below parties entries from message to e))) in
           rw (stranger, ne_eqb to from (λ e. absurd (omega arith)))
 
   -- where no link is busy, each has room for its gain
@@ -166,7 +151,7 @@ module _ (parties : List (List (List ℕ))) (window : ℕ) (entries : List Entry
       → (to : ℕ) → to < length parties → HasRoom (link_at links from to) (length (next_items (view parties window entries links) from message to))
   unfolding busy_party
   rooms from message are is_from none to is_to =
-      (busy-is (view parties window entries links) from to message (link_at links from to) _ (link_facts from to are is_from is_to) refl).0
+      (busy_is (view parties window entries links) from to message (link_at links from to) _ (link_facts from to are is_from is_to) refl).0
       (find-none_at (is_busy (view parties window entries links) from message) to (length parties) is_to none)
 
 carries-gain : (window : ℕ) (items more : List Item) (old new : Sending) → Carries window items old → PushesItems more old new
@@ -216,12 +201,12 @@ kept-routed {parties} {window} {entries} {routed_counts} {old = old} new from me
     }
 
 -- all that the hub keeps, once a link was closed
-pub kept-closed : {parties : List (List (List ℕ))} {window : ℕ} {entries : List Entry} {routed_counts : List ℕ}
+pub kept_closed : {parties : List (List (List ℕ))} {window : ℕ} {entries : List Entry} {routed_counts : List ℕ}
     {open_links : List PartySet} {links : List (List Sending)} (from to : ℕ) (rest : PartySet)
     → IsKept parties window entries routed_counts open_links links → from < length parties
     → ((other : ℕ) → has_party rest other ≡ (has_party (get_or open_links from no_parties) other && not (other == to)))
     → IsKept parties window (entries ++ Closed from to ∷ []) routed_counts (set open_links from rest) links
-kept-closed {parties} {entries = entries} {open_links = open_links} from to rest kept is_from without = record {
+kept_closed {parties} {entries = entries} {open_links = open_links} from to rest kept is_from without = record {
   some = kept.some;
   few = kept.few;
   is_window = kept.is_window;
@@ -232,18 +217,9 @@ kept-closed {parties} {entries = entries} {open_links = open_links} from to rest
   };
   are_open = record {
     each = length-set open_links from rest ∙ kept.are_open.each;
-    values = λ a b is_a is_b. elim (cases_eq a from) [
-      | inl same ↦
-          let within : from < length open_links = omega (arith, kept.are_open.each) in
-          let open_before = kept.are_open.values from b is_from is_b in
-          rw (same, get_or-set_same open_links from rest no_parties within, is_open-append entries (Closed from to ∷ []) from b, without b, open_before)
-          (grind (arith, cases_eq b to))
-      | inr other ↦
-          let open_before = kept.are_open.values a b is_a is_b in
-          let apart = ne_eqb from a (λ e. other (sym e)) in
-          rw (get_or-set_other open_links from a rest no_parties other, is_open-append entries (Closed from to ∷ []) a b, open_before, apart)
-          (grind arith)
-    ];
+    values = λ a b is_a is_b.
+        let before = kept.are_open.values a b is_a is_b in
+        grind (arith, elements, cases_eq a from, without b, before, kept.are_open.each, is_open-append entries (Closed from to ∷ []) a b);
   };
   are_links = record {
     square = kept.are_links.square;
@@ -262,7 +238,7 @@ view_put_back parties window entries links from to new old at same =
 pub view_relayed : (parties : List (List (List ℕ))) (window : ℕ) (entries : List Entry) (links : List (List Sending)) (from to : ℕ) (new : Sending)
     → new.sent ≡ (link_at links from to).sent + 1
     → view parties window entries (put links from to new) ≡ with_relayed (view parties window entries links) from to
-view_relayed parties window entries links from to new e = rw (put-map (λ (v : Sending). v.sent) links from to new, e, sent-at links from to)
+view_relayed parties window entries links from to new e = rw (put-map (λ (v : Sending). v.sent) links from to new, e, sent_at links from to)
 
 -- a hub where nothing has happened keeps what it should
 pub kept-new : (parties : List (List (List ℕ))) (window : ℕ) (all : PartySet) (links : List (List Sending))
@@ -294,13 +270,3 @@ pub view-new : (parties : List (List (List ℕ))) (window : ℕ) (links : List (
 view-new parties window links square fresh =
     ap {A = List (List ℕ)} {B = HubState} (λ l. record { parties = parties; window = window; entries = []; sent = l })
     (table-all (λ (v : Sending). v.sent) 0 (length parties) links square (λ k d lt j e below. ap (λ (v : Sending). v.sent) (fresh k d lt j e below)))
-
--- why a message of a stranger, and of a party, is not routed
-pub stranger_is_not_routed : (hub : HubState) (from : ℕ) (message : Message) → length hub.parties ≤ from → route_fault hub from message ≡ Some StrangerParty
-unfolding route_fault
-stranger_is_not_routed hub from message ge = rw (le-ltb from (length hub.parties) ge)
-
-pub party_is_routed : (hub : HubState) (from : ℕ) (message : Message) → from < length hub.parties
-    → route_fault hub from message ≡ option_map Busy (busy_party hub from message)
-unfolding route_fault
-party_is_routed hub from message lt = rw (lt-ltb from (length hub.parties) lt)

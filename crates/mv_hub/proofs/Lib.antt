@@ -6,3 +6,4 @@ pub mod HubLemmas
 pub mod SearchLemmas
 pub mod ListingLemmas
 pub mod TrailLemmas
+pub mod CallerLemmas

@@ -1,12 +1,12 @@
 -- Links that gain items.
-use Rattle.std.proofs.Common.{◌≡◌, ℕ, suc, ◌+◌, ◌<◌, ◌&&◌, not, true, List, [], ◌∷◌, ◌++◌, cond, length, get_or, take, replicate, refl, sym, ap, ◌∙◌, arith, inl, inr, append-nil, append_assoc, length-append}
+use Rattle.std.proofs.Common.{◌≡◌, ℕ, suc, ◌+◌, ◌<◌, ◌&&◌, not, true, List, [], ◌∷◌, ◌++◌, cond, length, replicate, refl, sym, ap, ◌∙◌, arith, inl, inr, append-nil, append_assoc, length-append}
 use Rattle.std.specs.Prelude.{◌==◌}
 use Rattle.std.proofs.lemmas.Bool.{cases_eq, eq-eqb, ne_eqb}
-use Rattle.std.proofs.lemmas.List.{take_at, length_push, get_or_push, length-replicate, replicate_more}
+use Rattle.std.proofs.lemmas.List.{same_from_push, replicate_more}
 use Rattle.mv_link.specs.declared.item.Item.{Item}
 use Rattle.mv_link.specs.Sending.{Sending, HasRoom, new_sending}
 use Rattle.mv_pairs.specs.Pairs.{put, IsSquare}
-use Rattle.mv_pairs.proofs.PairsLemmas.{cell-put_same, cell-put_other, square-put, put-map_same}
+use Rattle.mv_pairs.proofs.CallerLemmas.{cell-put_same, cell-put_other, square-put, put-map_same}
 use Rattle.mv_link.specs.declared.party_set.PartySet.{PartySet}
 use Rattle.mv_link.specs.PartySets.{has_party}
 use Rattle.mv_hub.specs.Kept.{link_at}
@@ -28,15 +28,6 @@ pushes-then xs ys old mid new first second = record {
 pub room-after : (xs : List Item) (old new : Sending) (count : ℕ) → PushesItems xs old new → HasRoom old (length xs + count) → HasRoom new count
 room-after xs old new count gains room =
     (omega (arith, gains.total, gains.sent, gains.window, room.0), omega (arith, gains.total, room.1))
-
--- no link has gained anything
-pub row-none : {n from : ℕ} {old : List (List Sending)} → IsSquare n old → PushesRow n from (λ to. []) old old
-row-none square = record {
-  square = square;
-  gained = λ to below. pushes-none _;
-  others = λ party to other. refl;
-  sent = refl;
-}
 
 -- what is gained first, and then
 pub row-then : {n from : ℕ} {g h : ℕ → List Item} {old mid new : List (List Sending)} → PushesRow n from g old mid → PushesRow n from h mid new
@@ -77,18 +68,12 @@ pub carried-more : (reached rest left : PartySet) (item : Item) (to other : ℕ)
     → has_party left other ≡ (has_party rest other && not (other == to))
     → cond (has_party reached other && not (has_party rest other)) (item ∷ []) [] ++ cond (other == to) (item ∷ []) []
     ≡ cond (has_party reached other && not (has_party left other)) (item ∷ []) []
-carried-more reached rest left item to other is_reached is_left without = elim (cases_eq other to) [
-  | inl same ↦ rw (without, same, is_reached, is_left, eq-eqb to to refl)
-  | inr apart ↦ rw (without, ne_eqb other to apart) (grind (arith, append-nil {A = Item}))
-]
+carried-more reached rest left item to other is_reached is_left without =
+    grind (arith, cases_eq other to, without, is_reached, is_left, append-nil {A = Item})
 
 -- what was taken off the end of a list of equal members is one of them, and the others are left
 pub pop-equal : {A : Type 0} (n : ℕ) (same last : A) (rest : List A) → rest ++ last ∷ [] ≡ same ∷ replicate n same
     → (rest ≡ replicate n same) × (last ≡ same)
 pop-equal n same last rest e =
     let more : suc n ≡ n + 1 = omega arith in
-    let whole = e ∙ ap (λ k. replicate k same) more ∙ sym (replicate_more n same) in
-    let count : length rest ≡ n = omega (arith, ap length e, length_push rest last, length-replicate n same) in (
-      sym (take_at rest (last ∷ []) n count) ∙ ap (take n) whole ∙ take_at (replicate n same) (same ∷ []) n (length-replicate n same),
-      sym (get_or_push rest last same n count) ∙ ap (λ l. get_or l n same) whole ∙ get_or_push (replicate n same) same same n (length-replicate n same),
-    )
+    same_from_push rest (replicate n same) last same (e ∙ ap (λ k. replicate k same) more ∙ sym (replicate_more n same))

@@ -1,5 +1,5 @@
 -- Texts, batches and listings: when two are the same, the order of batches, and lists that hold each member once.
-use Rattle.std.proofs.Common.{◌≡◌, true, List, ℕ, Bool, false, not, cond, [], ◌∷◌, ◌++◌, filter, Option, Some, None, Contains, ◌↔◌, sym, refl, ap, ◌∙◌, append-nil, arith}
+use Rattle.std.proofs.Common.{◌≡◌, true, List, ℕ, Bool, false, not, cond, [], ◌∷◌, ◌++◌, filter, Option, Some, None, ◌↔◌, sym, refl, ap, ◌∙◌, append-nil, arith}
 use Rattle.std.specs.Cmp.{IsEquivalence, IsTotalOrder}
 use Rattle.std.specs.Cmp.Lexicographic.{pointwise}
 use Rattle.std.specs.Ordering.{eq_by_cmp}
@@ -8,12 +8,12 @@ use Rattle.std.proofs.lemmas.Bool.Decides.{Decides-and, Decides-eqb}
 use Rattle.std.proofs.lemmas.Slice.Eq.{bytes_eq-Decides}
 use Rattle.std.specs.List.{list_any, filter_map}
 use Rattle.std.proofs.lemmas.List.Elements.{filter-append, filter_map-append}
-use Rattle.std.proofs.lemmas.Map.Views.{any-filter_same, Contains-from_any, list_any-from_Contains}
+use Rattle.std.proofs.lemmas.Map.Views.{any-filter_same}
 use Rattle.mv_pack.specs.declared.key.BatchKey.{BatchKey}
 use Rattle.mv_pack.specs.contracts.key.BatchKeyEq.TheImpl.Laws as equal
 use Rattle.mv_pack.specs.contracts.key.BatchKeyOrd.TheImpl.Laws as order
 use Rattle.mv_pack.specs.Keys.{is_same_batch}
-use Rattle.mv_hub.specs.BatchLinks.{batch_cmp}
+use Rattle.mv_hub.specs.BatchLinks.{batch_cmp, IsAscendingList}
 use Rattle.mv_hub.specs.Listing.{Listing, is_same_listing, distinct}
 
 pub batch_equivalence : IsEquivalence is_same_batch
@@ -24,6 +24,13 @@ batch_order = order.total-law
 
 pub batch_ties : (a b : BatchKey) → is_same_batch a b ≡ eq_by_cmp batch_cmp a b
 batch_ties = order.matches_eq-law
+
+-- a list of batches, said in other words
+pub listed-same : {list : List BatchKey} {P Q : BatchKey → Type 0} → ((batch : BatchKey) → P batch ↔ Q batch) → IsAscendingList list P → IsAscendingList list Q
+listed-same same listed = record {
+  order = listed.order;
+  members = λ batch. (λ h. (same batch).0 ((listed.members batch).0 h), λ h. (listed.members batch).1 ((same batch).1 h));
+}
 
 -- texts that agree in each byte are the same
 pub text-same : (a b : List ℕ) → pointwise nat_eq a b ≡ true → a ≡ b
@@ -67,14 +74,3 @@ module _ {A : Type 0} (same : A → A → Bool) where
         → distinct same (filter_map named (entries ++ entry ∷ [])) ≡ add_to (distinct same (filter_map named entries)) (named entry)
     distinct-named named entries entry =
         grind (arith, filter_map-append named entries (entry ∷ []), append-nil {A = A}, distinct-push (filter_map named entries))
-
-    any-distinct : (x : A) (xs : List A) → list_any (same x) (distinct same xs) ≡ list_any (same x) xs
-    any-distinct x [] = refl
-    any-distinct x (y ∷ ys) = grind (arith, any-others x y (distinct same ys), any-distinct x ys)
-
-    -- a list that holds each member once has the same members
-    pub members-distinct : (xs : List A) (x : A) → Contains (distinct same xs) x ↔ Contains xs x
-    members-distinct xs x = (
-      λ h. Contains-from_any tells x xs (sym (any-distinct x xs) ∙ list_any-from_Contains laws x (distinct same xs) h),
-      λ h. Contains-from_any tells x (distinct same xs) (any-distinct x xs ∙ list_any-from_Contains laws x xs h),
-    )

@@ -3,41 +3,37 @@ use Rattle.std.proofs.Common.{◌≡◌, ◌≢◌, ℕ, zero, suc, ◌+◌, ◌
 use Rattle.std.specs.Prelude.{◌==◌, bytes_eq}
 use Rattle.std.specs.Cmp.Lexicographic.{nat_list_eq_equiv}
 use Rattle.std.proofs.lemmas.Bool.{cases_Bool, cases_eq, cases_lt, eq-eqb, ne_eqb}
-use Rattle.std.proofs.lemmas.List.{take_more, take-append-drop, map-append, length-map, length-take-le, get_or-set_same, get_or-set_other, get_or-replicate, length-replicate}
+use Rattle.std.proofs.lemmas.List.{ext_get_or, take_more, take-append-drop, map-append, length-map, length-take-le, get_or-set_same, get_or-set_other, get_or-replicate, length-replicate}
 use Rattle.std.proofs.Math.ListN.{get_or-eq_default}
-use Rattle.std.proofs.lemmas.List.Folds.{list_any-append}
+use Rattle.std.proofs.lemmas.List.Folds.{list_any-append, list_all_at}
 use Rattle.std.proofs.lemmas.Bool.Decides.{nat_tests}
 use Rattle.std.proofs.lemmas.Slice.Eq.{bytes_eq-Decides}
-use Rattle.mv_pack.specs.Market.{IsMarket, place_of}
+use Rattle.mv_pack.specs.Market.{IsMarket, place_of, is_capital}
 use Rattle.mv_hub.specs.Parties.{has_market, has_twice, served_by, all_markets}
 use Rattle.mv_hub.specs.MarketTables.{AreNoted}
 
 -- the letters of a market
 letters_within : (m : List ℕ) → IsMarket m → (65 ≤ get_or m 0 0) × (get_or m 0 0 ≤ 90) × (65 ≤ get_or m 1 0) × (get_or m 1 0 ≤ 90)
-letters_within [] h = absurd (omega (arith, h.0))
-letters_within (a ∷ []) h = absurd (omega (arith, h.0))
-letters_within (a ∷ b ∷ []) h = grind (arith, nat_tests, h.1)
-letters_within (a ∷ b ∷ c ∷ m) h = absurd (omega (arith, h.0))
+letters_within m h = grind (arith, nat_tests, h.0, list_all_at is_capital m 0 0, list_all_at is_capital m 1 0, h.1)
 
 -- two markets at one place are the same
 same-market : (a b : List ℕ) → IsMarket a → IsMarket b → place_of a ≡ place_of b → a ≡ b
-same-market (x ∷ y ∷ []) (z ∷ w ∷ []) h k e =
-    let left = letters_within (x ∷ y ∷ []) h in
-    let right = letters_within (z ∷ w ∷ []) k in
-    let first : x ≡ z = omega arith in
-    let second : y ≡ w = omega arith in
-    rw (first, second)
-same-market [] b h k e = absurd (omega (arith, h.0))
-same-market (x ∷ []) b h k e = absurd (omega (arith, h.0))
-same-market (x ∷ y ∷ v ∷ a) b h k e = absurd (omega (arith, h.0))
-same-market (x ∷ y ∷ []) [] h k e = absurd (omega (arith, k.0))
-same-market (x ∷ y ∷ []) (z ∷ []) h k e = absurd (omega (arith, k.0))
-same-market (x ∷ y ∷ []) (z ∷ w ∷ v ∷ b) h k e = absurd (omega (arith, k.0))
+same-market a b h k e =
+    let left = letters_within a h in
+    let right = letters_within b k in
+    ext_get_or 0 a b (h.0 ∙ sym k.0) (λ i lt. elim (cases_eq i 0) [
+      | inl first ↦ rw first (omega (arith, left, right, e))
+      | inr later ↦ let second : i ≡ 1 = omega (arith, h.0) in rw second (omega (arith, left, right, e))
+    ])
 
 -- the markets of the first lists, and those of the others
 all_markets-append : (xs ys : List (List (List ℕ))) → all_markets (xs ++ ys) ≡ all_markets xs ++ all_markets ys
 all_markets-append [] ys = refl
 all_markets-append (x ∷ xs) ys = rw (all_markets-append xs ys) (sym (append_assoc x (all_markets xs) (all_markets ys)))
+
+-- and those of one more list
+all_markets-push : (lists : List (List (List ℕ))) (markets : List (List ℕ)) → all_markets (lists ++ markets ∷ []) ≡ all_markets lists ++ markets
+all_markets-push lists markets = rw (all_markets-append lists (markets ∷ []), append-nil markets)
 
 -- one more market stands twice if it stood in the list, or one did twice
 has_twice-push : (xs : List (List ℕ)) (market : List ℕ)
@@ -77,13 +73,6 @@ served-push [] markets (suc party) = grind arith
 served-push (x ∷ xs) markets zero = grind arith
 served-push (x ∷ xs) markets (suc party) = grind (arith, served-push xs markets party)
 
--- which is empty where it has none
-served-next : (lists : List (List (List ℕ))) (party : ℕ) → served_by (lists ++ [] ∷ []) party ≡ served_by lists party
-served-next [] zero = refl
-served-next [] (suc party) = refl
-served-next (x ∷ xs) zero = refl
-served-next (x ∷ xs) (suc party) = served-next xs party
-
 -- no market is noted yet
 pub noted-none : (size : ℕ) → AreNoted [] (replicate size 0)
 noted-none size = record {
@@ -97,25 +86,12 @@ noted-none size = record {
       | inr beyond ↦ get_or-eq_default (replicate {A = ℕ} size 0) 0 {n = place} (omega (arith, length-replicate {A = ℕ} size 0))
     ]
 
--- nor one of the next party
-pub noted-next : (lists : List (List (List ℕ))) (noted : List ℕ) → AreNoted lists noted → AreNoted (lists ++ [] ∷ []) noted
-noted-next lists noted are = record {
-  once = rw (all_markets-append lists ([] ∷ []), append-nil (all_markets lists)) are.once;
-  parties = λ market party is. rw served-next (are.parties market party is);
-}
-
 -- one more market of the last list stands twice if any did, or if it stood before
 twice-more : (lists : List (List (List ℕ))) (markets : List (List ℕ)) (market : List ℕ)
     → has_twice (all_markets (lists ++ (markets ++ market ∷ []) ∷ []))
     ≡ (has_twice (all_markets (lists ++ markets ∷ [])) || has_market (all_markets (lists ++ markets ∷ [])) market)
 twice-more lists markets market =
-    rw (
-      all_markets-append lists ((markets ++ market ∷ []) ∷ []),
-      all_markets-append lists (markets ∷ []),
-      append-nil markets,
-      append-nil (markets ++ market ∷ []),
-      ← append_assoc (all_markets lists) markets (market ∷ []),
-    )
+    rw (all_markets-push lists (markets ++ market ∷ []), all_markets-push lists markets, ← append_assoc (all_markets lists) markets (market ∷ []))
     (has_twice-push (all_markets lists ++ markets) market)
 
 -- the market at hand, which no list has, is noted
@@ -132,16 +108,14 @@ noted-more lists markets market noted are is within free = record {
     -- the market itself, and another
     itself : (party : ℕ) (b : Bool) → (party == length lists) ≡ b → has_market (cond b markets (served_by lists party)) market ≡ (0 == (party + 1))
         → has_market (cond b (markets ++ market ∷ []) (served_by lists party)) market ≡ ((length lists + 1) == (party + 1))
-    itself party true e before =
-        grind (arith, e, list_any-append (λ m. bytes_eq m market) markets (market ∷ []), nat_list_eq_equiv.refl market)
-    itself party false e before = grind (arith, e, before)
+    itself party b e before =
+        grind (arith, e, before, list_any-append (λ m. bytes_eq m market) markets (market ∷ []), nat_list_eq_equiv.refl market)
 
     another : (other : List ℕ) (party noted_at : ℕ) (b : Bool) → bytes_eq market other ≡ false
         → has_market (cond b markets (served_by lists party)) other ≡ (noted_at == (party + 1))
         → has_market (cond b (markets ++ market ∷ []) (served_by lists party)) other ≡ (noted_at == (party + 1))
-    another other party noted_at true apart before =
+    another other party noted_at b apart before =
         grind (arith, apart, before, list_any-append (λ m. bytes_eq m other) markets (market ∷ []))
-    another other party noted_at false apart before = before
 
     by : (other : List ℕ) (party : ℕ) (b : Bool) → (party == length lists) ≡ b → IsMarket other
         → has_market (cond b (markets ++ market ∷ []) (served_by lists party)) other
@@ -172,10 +146,8 @@ noted-twice lists markets market noted are is taken =
 pub twice-front : (lists : List (List (List ℕ))) (markets : List (List ℕ)) (i : ℕ)
     → has_twice (all_markets (lists ++ take i markets ∷ [])) ≡ true → has_twice (all_markets (lists ++ markets ∷ [])) ≡ true
 twice-front lists markets i twice =
-    let front = rw (all_markets-append lists (take i markets ∷ []), append-nil (take i markets)) at twice in
-    let longer = rw (append_assoc (all_markets lists) (take i markets) (drop i markets), take-append-drop i markets)
-    at (has_twice-longer (all_markets lists ++ take i markets) (drop i markets) front) in
-    rw (all_markets-append lists (markets ∷ []), append-nil markets) longer
+    let longer = has_twice-longer (all_markets lists ++ take i markets) (drop i markets) (rw (all_markets-push lists (take i markets)) at twice) in
+    rw (all_markets-push lists markets) (rw (append_assoc (all_markets lists) (take i markets) (drop i markets), take-append-drop i markets) at longer)
 
 -- what the first lists have twice, all lists have twice
 pub twice-first : {V : Type 0} (items : V → List (List ℕ)) (lists : List V) (i : ℕ)

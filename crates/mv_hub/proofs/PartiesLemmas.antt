@@ -9,16 +9,16 @@ use Rattle.mv_hub.specs.Parties.{has_market, serves_one, served_by}
 use Rattle.mv_hub.specs.MarketTables.{is_found}
 
 -- who serves a market is a party
-pub server-is_party : (parties : List (List (List ℕ))) (party : ℕ) (market : List ℕ) → has_market (served_by parties party) market ≡ true
+pub server_is_party : (parties : List (List (List ℕ))) (party : ℕ) (market : List ℕ) → has_market (served_by parties party) market ≡ true
     → party < length parties
-server-is_party [] party market has = absurd (cc)
-server-is_party (x ∷ parties) zero market has = omega arith
-server-is_party (x ∷ parties) (suc party) market has = omega (arith, server-is_party parties party market has)
+server_is_party [] party market has = absurd (cc)
+server_is_party (x ∷ parties) zero market has = omega arith
+server_is_party (x ∷ parties) (suc party) market has = omega (arith, server_is_party parties party market has)
 
 -- none serves no market
-pub serves_one-none : (served : List (List ℕ)) → serves_one served [] ≡ false
-serves_one-none [] = refl
-serves_one-none (s ∷ served) = serves_one-none served
+pub serves_one_none : (served : List (List ℕ)) → serves_one served [] ≡ false
+serves_one_none [] = refl
+serves_one_none (s ∷ served) = serves_one_none served
 
 -- who serves one more market
 serves_one-push : (served markets : List (List ℕ)) (market : List ℕ)
@@ -29,10 +29,10 @@ serves_one-push (s ∷ served) markets market =
     grind (arith, more, nat_list_eq_equiv.symm market s, serves_one-push served markets market)
 
 -- with one more market of a list, for which a look-up found this
-pub serves-more : (parties : List (List (List ℕ))) (markets : List (List ℕ)) (i : ℕ) (market : List ℕ) (party : ℕ) (found : Option ℕ)
+pub serves_more : (parties : List (List (List ℕ))) (markets : List (List ℕ)) (i : ℕ) (market : List ℕ) (party : ℕ) (found : Option ℕ)
     → i < length markets → market ≡ get_or markets i market → has_market (served_by parties party) market ≡ is_found found party
     → ((nat_lt party (length parties) && serves_one (served_by parties party) (take i markets)) || is_found found party)
     ≡ (nat_lt party (length parties) && serves_one (served_by parties party) (take (i + 1) markets))
-serves-more parties markets i market party found lt at is =
-    let known = server-is_party parties party market in
+serves_more parties markets i market party found lt at is =
+    let known = server_is_party parties party market in
     rw (take_more markets i market lt, ← at, serves_one-push (served_by parties party) (take i markets) market) (grind (arith, is, known, nat_tests))

@@ -1,16 +1,19 @@
 -- What one more entry at the end of a record changes.
-use Rattle.std.proofs.Common.{◌≡◌, ℕ, false, List, [], ◌∷◌, ◌++◌, eqb, sym, refl, ap, ◌∙◌, append_assoc, append-nil, arith}
+use Rattle.std.proofs.Common.{◌≡◌, ℕ, ◌&&◌, false, List, [], ◌∷◌, ◌++◌, eqb, sym, refl, ap, ◌∙◌, append_assoc, append-nil, arith}
 use Rattle.mv_message.specs.declared.message.Message.{Message}
 use Rattle.mv_hub.specs.declared.entry.Entry.{Entry}
 use Rattle.mv_hub.specs.declared.entry.Entry.TheVariants.{Routed, Closed}
-use Rattle.mv_hub.specs.Record.{routed_from}
+use Rattle.mv_hub.specs.Record.{routed_from, is_open}
 use Rattle.mv_hub.specs.Links.{gained, link_items_after, link_items}
 
 pub routed_from-append : (before after : List Entry) (party : ℕ) → routed_from (before ++ after) party ≡ routed_from before party ++ routed_from after party
 routed_from-append [] after party = refl
-routed_from-append (Routed from k message ∷ before) after party =
-    grind (arith, routed_from-append before after party)
-routed_from-append (Closed from to ∷ before) after party = routed_from-append before after party
+routed_from-append (entry ∷ before) after party = grind (arith, routed_from-append before after party)
+
+-- what no entry of two records closes is open
+pub is_open-append : (before after : List Entry) (from to : ℕ) → is_open (before ++ after) from to ≡ (is_open before from to && is_open after from to)
+is_open-append [] after from to = refl
+is_open-append (entry ∷ before) after from to = grind (arith, is_open-append before after from to)
 
 link_items_after-append : (parties : List (List (List ℕ))) (before entries more : List Entry) (from to : ℕ)
     → link_items_after parties before (entries ++ more) from to

@@ -1,5 +1,5 @@
 -- The search for the batches that chains of links lead to.
-use Rattle.std.proofs.Common.{◌≡◌, ◌<◌, ◌≤◌, ◌+◌, ℕ, Bool, true, false, cond, List, [], ◌∷◌, ◌++◌, length, get_or, take, take_all, Contains, ◌↔◌, ◌⊎◌, inl, inr, subst, sym, refl, ap, ◌∙◌, arith, append_assoc, append-nil, length-append}
+use Rattle.std.proofs.Common.{◌≡◌, ◌<◌, ◌≤◌, ◌+◌, ℕ, Bool, true, false, cond, List, [], ◌∷◌, ◌++◌, length, get_or, take, take_all, Contains, ◌↔◌, ◌⊎◌, inl, inr, subst, sym, refl, ap, ◌∙◌, arith, append_assoc, length-append}
 use Rattle.std.specs.List.{list_any}
 use Rattle.std.proofs.lemmas.List.{take_more, take-append-le}
 use Rattle.std.proofs.lemmas.List.Elements.{Contains-push, Contains-push_cases, Contains-append_left}
@@ -13,20 +13,13 @@ use Rattle.mv_hub.proofs.ListingLemmas.{batch-same}
 none-in : (batch : BatchKey) → Contains [] batch → ⊥
 none-in batch (k, below, at) = omega (arith, below)
 
--- no batch was put behind the others yet
-pub gathers-none : (old : List BatchKey) → Gathers old [] old
-gathers-none old = record {
-  behind = ([], sym (append-nil old));
-  members = λ batch. (λ h. inl h, elim [ inl h ↦ h | inr h ↦ absurd (none-in batch h) ]);
-}
-
-one-more : (xs : List BatchKey) (x batch : BatchKey) → Contains (xs ++ x ∷ []) batch ↔ (Contains xs batch ⊎ (x ≡ batch))
+pub one-more : (xs : List BatchKey) (x batch : BatchKey) → Contains (xs ++ x ∷ []) batch ↔ (Contains xs batch ⊎ (x ≡ batch))
 one-more xs x batch = (
   Contains-push_cases xs x batch,
   elim [ inl h ↦ Contains-append_left xs (x ∷ []) batch h | inr e ↦ subst (Contains (xs ++ x ∷ [])) e (Contains-push xs x) ],
 )
 
-one-link : (xs : List BatchKey) (x batch : BatchKey) → Contains (with_link xs x) batch ↔ (Contains xs batch ⊎ (x ≡ batch))
+pub one-link : (xs : List BatchKey) (x batch : BatchKey) → Contains (with_link xs x) batch ↔ (Contains xs batch ⊎ (x ≡ batch))
 one-link xs x batch = by (list_any (is_same_batch x) xs) refl
   where
     by : (b : Bool) → list_any (is_same_batch x) xs ≡ b → Contains (cond b xs (xs ++ x ∷ [])) batch ↔ (Contains xs batch ⊎ (x ≡ batch))
@@ -34,8 +27,8 @@ one-link xs x batch = by (list_any (is_same_batch x) xs) refl
     by false e = one-more xs x batch
 
 -- one more batch was
-pub gathers-more : (old more now : List BatchKey) (x : BatchKey) → Gathers old more now → Gathers old (more ++ x ∷ []) (with_link now x)
-gathers-more old more now x gathers = record {
+pub gathers_more : (old more now : List BatchKey) (x : BatchKey) → Gathers old more now → Gathers old (more ++ x ∷ []) (with_link now x)
+gathers_more old more now x gathers = record {
   behind = by (list_any (is_same_batch x) now);
   members = λ batch. grind (arith, one-link now x batch, one-more more x batch, gathers.members batch);
 }
@@ -52,9 +45,9 @@ pub record IsSearching (links : BatchKey → List BatchKey) (batch : BatchKey) (
   pub within : next ≤ length reached
 
 -- at first those that are linked to the batch were reached
-pub searching-start : (links : BatchKey → List BatchKey) (batch : BatchKey) (reached : List BatchKey) → Gathers [] (links batch) reached
+pub searching_start : (links : BatchKey → List BatchKey) (batch : BatchKey) (reached : List BatchKey) → Gathers [] (links batch) reached
     → IsSearching links batch 0 reached
-searching-start links batch reached gathers = record {
+searching_start links batch reached gathers = record {
   sound = λ other h. elim ((gathers.members other).0 h) [ inl h ↦ absurd (none-in other h) | inr h ↦ ([], h) ];
   begun = λ other h. (gathers.members other).1 (inr h);
   closed = λ from other h. absurd (none-in from h);
@@ -68,10 +61,10 @@ chain-more links batch [] last other chain linked = (chain, linked)
 chain-more links batch (next ∷ between) last other chain linked = (chain.0, chain-more links next between last other chain.1 linked)
 
 -- the batches that are linked to one more were reached
-pub searching-more : (links : BatchKey → List BatchKey) (batch : BatchKey) (next : ℕ) (reached new : List BatchKey) (current : BatchKey)
+pub searching_more : (links : BatchKey → List BatchKey) (batch : BatchKey) (next : ℕ) (reached new : List BatchKey) (current : BatchKey)
     → IsSearching links batch next reached → next < length reached → get_or reached next current ≡ current → Gathers reached (links current) new
     → IsSearching links batch (next + 1) new
-searching-more links batch next reached new current search below at gathers = record {
+searching_more links batch next reached new current search below at gathers = record {
   sound = λ other h. elim ((gathers.members other).0 h) [
     | inl h ↦ search.sound other h
     | inr h ↦
@@ -92,10 +85,10 @@ searching-more links batch next reached new current search below at gathers = re
         ∙ take_more reached next current below ∙ ap (λ b. take next reached ++ b ∷ []) at
 
 -- where each batch that was reached was looked at, all were reached
-pub searching-end : (links : BatchKey → List BatchKey) (batch : BatchKey) (next : ℕ) (reached : List BatchKey)
+pub searching_end : (links : BatchKey → List BatchKey) (batch : BatchKey) (next : ℕ) (reached : List BatchKey)
     → IsSearching links batch next reached → length reached ≤ next
     → (other : BatchKey) → Contains reached other ↔ IsReachedFrom links batch other
-searching-end links batch next reached search all other = (search.sound other, λ chain. complete chain.0 batch search.begun chain.1)
+searching_end links batch next reached search all other = (search.sound other, λ chain. complete chain.0 batch search.begun chain.1)
   where
     complete : (between : List BatchKey) (from : BatchKey) → ((b : BatchKey) → Contains (links from) b → Contains reached b)
         → IsChain links from between other → Contains reached other

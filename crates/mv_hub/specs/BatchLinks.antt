@@ -1,9 +1,10 @@
 -- Links between batches: a routed repack makes packs of the batch before into packs of the batch after.
-use Rattle.std.specs.Prelude.{List, [], ◌∷◌, Contains, Option, Some, None, if◌then◌else◌}
+use Rattle.std.specs.Prelude.{List, [], ◌∷◌, ◌↔◌, Contains, Option, Some, None, if◌then◌else◌}
 use Rattle.std.specs.Cmp.Lexicographic.{slice_cmp}
 use Rattle.std.specs.Ordering.{nat_cmp, ordering_then}
 use Rattle.std.specs.declared.cmp.Ordering.{Ordering}
 use Rattle.std.specs.List.{filter_map}
+use Rattle.std.specs.List.Sorted.{IsStrictlySortedBy}
 use Rattle.mv_pack.specs.declared.key.BatchKey.{BatchKey}
 use Rattle.mv_pack.specs.Keys.{is_same_batch}
 use Rattle.mv_message.specs.declared.message.Message.TheVariants.{Repack}
@@ -13,6 +14,11 @@ use Rattle.mv_hub.specs.declared.entry.Entry.TheVariants.{Routed}
 -- batches in the order of the bytes of their product code, and of one product in that of the bytes of their number
 abbrev pub batch_cmp : BatchKey → BatchKey → Ordering
 batch_cmp a b = ordering_then (slice_cmp nat_cmp a.gtin b.gtin) (slice_cmp nat_cmp a.batch b.batch)
+
+-- a list has the batches of which this holds, ascending and each once
+pub record IsAscendingList (list : List BatchKey) (P : BatchKey → Type 0) : Type 0 where
+  pub order : IsStrictlySortedBy batch_cmp list
+  pub members : (batch : BatchKey) → Contains list batch ↔ P batch
 
 -- the batch that an entry links to a batch: the batch after of a routed repack whose batch before it is
 abbrev pub link_in : BatchKey → Entry → Option BatchKey

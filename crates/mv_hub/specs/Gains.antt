@@ -1,5 +1,5 @@
 -- What a routing puts on the links of its sender.
-use Rattle.std.specs.Prelude.{◌≡◌, ◌≢◌, ◌<◌, ◌≤◌, ◌+◌, ◌==◌, ◌++◌, ◌∷◌, [], ℕ, List, length, if◌then◌else◌}
+use Rattle.std.specs.Prelude.{◌≡◌, ◌≢◌, ◌<◌, ◌≤◌, ◌+◌, ◌==◌, ◌&&◌, ◌++◌, ◌∷◌, [], ℕ, List, length, if◌then◌else◌}
 use Rattle.mv_link.specs.declared.item.Item.{Item}
 use Rattle.mv_link.specs.declared.item.Item.TheVariants.{Receipt, Carried}
 use Rattle.mv_link.specs.declared.limits.TheConstants.{PARTIES_LIMIT}
@@ -7,8 +7,8 @@ use Rattle.mv_link.specs.Sending.{Sending, EndsWithHeld}
 use Rattle.mv_pairs.specs.Pairs.{IsSquare}
 use Rattle.mv_hub.specs.declared.hub.routing.Routing.{Routing}
 use Rattle.mv_hub.specs.Record.{routed_count, is_open}
-use Rattle.mv_hub.specs.Targets.{reach, is_reached, is_query}
-use Rattle.mv_link.specs.PartySets.{has_party}
+use Rattle.mv_hub.specs.Targets.{is_reached, is_query}
+use Rattle.mv_link.specs.PartySets.{has_party, parties_in}
 use Rattle.mv_hub.specs.Hub.{HubState}
 use Rattle.mv_hub.specs.Kept.{link_at, sent_table}
 
@@ -18,14 +18,16 @@ pub record IsRouting (hub : HubState) (routing : Routing) : Type 0 where
   pub few : length hub.parties ≤ PARTIES_LIMIT
   pub number : routing.k ≡ routed_count hub.entries routing.from + 1
   pub place : routing.stamp ≡ length hub.entries + 1
+  pub own : routing.receipted ≡ is_open hub.entries routing.from routing.from
   pub reaches : (to : ℕ) → has_party routing.reached to ≡ is_reached hub.parties hub.entries routing.from routing.message.now to
 
--- the receipt of a routing, unless the link of the sender to itself is closed
-abbrev pub receipt_of : HubState → Routing → List Item
-receipt_of hub routing =
-    if is_open hub.entries routing.from routing.from
-    then Receipt routing.k (reach hub.parties hub.entries routing.from routing.message.now) (is_query routing.message.now) ∷ []
-    else []
+-- the receipt of a routing
+abbrev pub receipt_of : Routing → Item
+receipt_of routing = Receipt routing.k (parties_in routing.reached) (is_query routing.message.now)
+
+-- the receipt, on the link of its sender to itself while that is open
+abbrev pub receipt_to : Routing → ℕ → List Item
+receipt_to routing to = if (to == routing.from) && routing.receipted then receipt_of routing ∷ [] else []
 
 -- the item that a routing puts on the link to each party that is reached
 abbrev pub carried_by : Routing → Item
@@ -35,9 +37,9 @@ carried_by routing = Carried routing.k routing.stamp routing.message.now
 abbrev pub carried_to : Routing → ℕ → List Item
 carried_to routing to = if has_party routing.reached to then carried_by routing ∷ [] else []
 
--- what a link to a party gains: on the sender's own the receipt, if there is one, and then the item, if the party is reached
-abbrev pub gain_of : Routing → List Item → ℕ → List Item
-gain_of routing receipt to = (if to == routing.from then receipt else []) ++ carried_to routing to
+-- what a link to a party gains: the receipt, and then the item
+abbrev pub gain_of : Routing → ℕ → List Item
+gain_of routing to = receipt_to routing to ++ carried_to routing to
 
 -- these items were pushed on a sending end, and nothing else changed
 pub record PushesItems (items : List Item) (old new : Sending) : Type 0 where

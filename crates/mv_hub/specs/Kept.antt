@@ -1,5 +1,5 @@
 -- What the hub keeps beside its record, and how that follows from the record.
-use Rattle.std.specs.Prelude.{◌≡◌, ◌<◌, ◌≤◌, ℕ, List, length, map, slice_index_or}
+use Rattle.std.specs.Prelude.{◌≡◌, ◌↔◌, ◌<◌, ◌≤◌, ℕ, List, length, map, slice_index_or, Contains}
 use Rattle.mv_pack.specs.declared.key.BatchKey.{BatchKey}
 use Rattle.mv_link.specs.declared.item.Item.{Item}
 use Rattle.mv_link.specs.declared.limits.TheConstants.{PARTIES_LIMIT}
@@ -10,12 +10,9 @@ use Rattle.mv_hub.specs.declared.catalogue.Catalogue.{Catalogue}
 use Rattle.mv_link.specs.declared.party_set.PartySet.{PartySet}
 use Rattle.mv_link.specs.PartySets.{has_party, no_parties}
 use Rattle.mv_hub.specs.Record.{routed_count, is_open}
-use Rattle.mv_hub.specs.Listing.{distinct}
 use Rattle.mv_hub.specs.Catalogue.{catalogue_of}
-use Rattle.mv_hub.specs.Tables.{catalogue_in}
-use Rattle.mv_pack.specs.Keys.{is_same_batch}
+use Rattle.mv_hub.specs.Tables.{catalogue_in, linked_in}
 use Rattle.mv_hub.specs.BatchLinks.{linked_to}
-use Rattle.mv_hub.specs.Tables.{linked_in}
 use Rattle.mv_hub.specs.Links.{link_items}
 
 -- the sending end of a link, by sender and receiver
@@ -34,7 +31,7 @@ pub record AreRoutedCounts (parties : ℕ) (entries : List Entry) (routed_counts
 -- what the record says of each product and each batch
 pub record AreTables (entries : List Entry) (catalogues : List (List ℕ × Catalogue)) (batch_links : List (BatchKey × List BatchKey)) : Type 0 where
   pub are_catalogues : (gtin : List ℕ) → catalogue_in catalogues gtin ≡ catalogue_of entries gtin
-  pub are_links : (batch : BatchKey) → linked_in batch_links batch ≡ distinct is_same_batch (linked_to entries batch)
+  pub are_links : (batch other : BatchKey) → Contains (linked_in batch_links batch) other ↔ Contains (linked_to entries batch) other
 
 -- the parties to which a link of each party is open, party 0 first
 pub record AreOpen (parties : ℕ) (entries : List Entry) (open_links : List PartySet) : Type 0 where

@@ -39,8 +39,3 @@ reach parties entries from message = filter (is_reached parties entries from mes
 abbrev pub is_query : Message → Bool
 is_query (Query key) = true
 is_query message = false
-
--- a party may be a target of a message, whoever sends it: it is a target of it, or would be of a query that another sent
-abbrev pub is_candidate : List (List (List ℕ)) → List Entry → Message → ℕ → Bool
-is_candidate parties entries (Query key) party = serves_product parties entries key.gtin party
-is_candidate parties entries message party = is_target parties entries 0 message party

@@ -2,10 +2,9 @@
 
 ghost use Rattle.std.specs.Prelude.{◌≡◌, ◌↔◌, ◌∷◌, [], ℕ, List, Contains, OnOk, OnErr, IfOk};
 ghost use Rattle.std.specs.Prelude.{if◌then◌else◌};
-ghost use Rattle.std.specs.List.Sorted.{IsStrictlySortedBy};
 ghost use Rattle.mv_pack.specs.declared.key.BatchKey.{BatchKey as ABatch};
 ghost use Rattle.mv_pack.specs.Keys.{is_same_batch};
-ghost use Rattle.mv_hub.specs.BatchLinks.{batch_cmp, IsReachedFrom};
+ghost use Rattle.mv_hub.specs.BatchLinks.{IsReachedFrom, IsAscendingList};
 ghost use Rattle.mv_hub.specs.Tables.{linked_in, with_link, Gathers};
 
 use indexmap::{IndexMap, IndexSet};
@@ -115,9 +114,8 @@ impl BatchLinks {
 
     /// The batches that are linked to a batch, ascending. Refused for want of memory.
     pub(crate) fn linked(&self, batch: &BatchKey) -> Result<Vec<BatchKey>, AllocError>
-        ensures order { IfOk result (λ list. IsStrictlySortedBy batch_cmp list.items) }
-        ensures members { IfOk result (λ list. (other : ABatch)
-            → Contains list.items other ↔ Contains (linked_in self.now batch.now) other) }
+        ensures { IfOk result (λ list.
+            IsAscendingList list.items (Contains (linked_in self.now batch.now))) }
     {
         let list = copies(self.alloc, self.get(batch))?;
         Ok(ascending(list))
@@ -125,9 +123,8 @@ impl BatchLinks {
 
     /// The batches to which a chain of one or more links leads from a batch, ascending. Refused for want of memory.
     pub(crate) fn descendants(&self, batch: &BatchKey) -> Result<Vec<BatchKey>, AllocError>
-        ensures order { IfOk result (λ list. IsStrictlySortedBy batch_cmp list.items) }
-        ensures members { IfOk result (λ list. (other : ABatch)
-            → Contains list.items other ↔ IsReachedFrom (linked_in self.now) batch.now other) }
+        ensures { IfOk result (λ list.
+            IsAscendingList list.items (IsReachedFrom (linked_in self.now) batch.now)) }
     {
         let reached = self.reached(batch)?;
         let list = copies(self.alloc, reached.as_slice())?;
@@ -166,18 +163,12 @@ fn add_all(set: &mut IndexSet<BatchKey>, batches: &[BatchKey]) -> Result<(), All
 fn copies(alloc: Global, batches: &[BatchKey]) -> Result<Vec<BatchKey>, AllocError>
     ensures { IfOk result (λ list. list.items ≡ batches.now) }
 {
-    let mut list = Vec::with_capacity(alloc, batches.len())?;
-    for batch in batches {
-        list.push(batch.copy())?;
-    }
-    Ok(list)
+    batches.iter().map(|batch| batch.copy()).collect(alloc)
 }
 
 /// The batches, ascending and each once.
 fn ascending(mut batches: Vec<BatchKey>) -> Vec<BatchKey>
-    ensures order { IsStrictlySortedBy batch_cmp result.items }
-    ensures members { (batch : ABatch)
-        → Contains result.items batch ↔ Contains batches.items batch }
+    ensures { IsAscendingList result.items (Contains batches.items) }
 {
     batches.sort_unstable();
     batches.dedup();

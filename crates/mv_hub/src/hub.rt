@@ -1,14 +1,12 @@
 //! The hub: its record, a link for each ordered pair of parties, and which links are open.
 
-ghost use Rattle.std.specs.Prelude.{◌≡◌, ◌+◌, ◌<◌, ◌≤◌, length, ◌↔◌, Contains, IfOk, option_map};
+ghost use Rattle.std.specs.Prelude.{◌≡◌, ◌+◌, ◌<◌, ◌≤◌, length, Contains, IfOk, option_map};
 ghost use Rattle.std.specs.Prelude.{true};
 ghost use Rattle.std.specs.Option.{option_copied};
-ghost use Rattle.std.specs.List.Sorted.{IsStrictlySortedBy};
-ghost use Rattle.mv_pack.specs.declared.key.BatchKey.{BatchKey as ABatch};
 ghost use Rattle.mv_pairs.specs.Pairs.{IsSquare};
 ghost use Rattle.mv_hub.specs.Record.{routed_count, last_markets, is_open};
 ghost use Rattle.mv_hub.specs.Catalogue.{catalogue_of};
-ghost use Rattle.mv_hub.specs.BatchLinks.{batch_cmp, linked_to, IsDescendant};
+ghost use Rattle.mv_hub.specs.BatchLinks.{linked_to, IsDescendant, IsAscendingList};
 ghost use Rattle.mv_hub.specs.Kept.{Carries};
 
 use crate::trail::AuditTrail;
@@ -144,7 +142,9 @@ impl Hub {
         ensures { option_map (λ markets. markets.now) result
             ≡ last_markets self.now.entries gtin.now }
     {
-        self.trail.markets(gtin)
+        let catalogue = self.catalogue(gtin)?;
+        let product = catalogue.product.get()?;
+        Some(product.markets.as_slice())
     }
 
     /// What the record says of a product: the product of its last routed master, and the distinct pairs of batch and expiry of
@@ -158,20 +158,18 @@ impl Hub {
     /// The batches that are linked to a batch: the batches after, over all routed repacks whose batch before it is, ascending
     /// and each once. Refused for want of memory.
     pub fn linked(&self, batch: &BatchKey) -> Result<Vec<BatchKey>, AllocError>
-        ensures order { IfOk result (λ list. IsStrictlySortedBy batch_cmp list.items) }
-        ensures members { IfOk result (λ list. (other : ABatch)
-            → Contains list.items other ↔ Contains (linked_to self.now.entries batch.now) other) }
+        ensures { IfOk result (λ list.
+            IsAscendingList list.items (Contains (linked_to self.now.entries batch.now))) }
     {
-        self.trail.linked(batch)
+        self.trail.batch_links().linked(batch)
     }
 
     /// The batches that descend from a batch: those to which a chain of one or more links leads from it, ascending and each
     /// once. The batch itself is among them only where a chain comes back to it. Refused for want of memory.
     pub fn descendants(&self, batch: &BatchKey) -> Result<Vec<BatchKey>, AllocError>
-        ensures order { IfOk result (λ list. IsStrictlySortedBy batch_cmp list.items) }
-        ensures members { IfOk result (λ list. (other : ABatch)
-            → Contains list.items other ↔ IsDescendant self.now.entries batch.now other) }
+        ensures { IfOk result (λ list.
+            IsAscendingList list.items (IsDescendant self.now.entries batch.now)) }
     {
-        self.trail.descendants(batch)
+        self.trail.batch_links().descendants(batch)
     }
 }

@@ -87,6 +87,7 @@ impl Parties {
     }
 
     /// The set of the parties that serve one of these markets.
+    #[tactic(auto, using(crate::proofs::PartiesLemmas::serves_one_none, crate::proofs::PartiesLemmas::serves_more))]
     pub(crate) fn servers(&self, markets: &[Market]) -> PartySet
         ensures parties { (party : ℕ) → has_party result party ≡ (nat_lt party (length self.now)
             && serves_one (served_by self.now party) markets.now) }

@@ -1,22 +1,20 @@
 //! The audit trail: the record of what the hub did, and tables of what it says of products and batches, so that no call
 //! walks the record.
 
-ghost use Rattle.std.specs.Prelude.{◌≡◌, ◌↔◌, ◌++◌, ◌∷◌, [], List, Contains, IfOk, OnOk, OnErr};
-ghost use Rattle.std.specs.Prelude.{option_map};
+ghost use Rattle.std.specs.Prelude.{◌≡◌, ◌↔◌, ◌++◌, ◌∷◌, [], List, Contains, OnOk, OnErr};
 ghost use Rattle.std.specs.Option.{option_copied};
-ghost use Rattle.std.specs.List.Sorted.{IsStrictlySortedBy};
-ghost use Rattle.mv_pack.specs.declared.key.BatchKey.{BatchKey as ABatch};
 ghost use Rattle.mv_hub.specs.declared.entry.Entry.{Entry as AnEntry};
-ghost use Rattle.mv_hub.specs.Record.{last_markets};
 ghost use Rattle.mv_hub.specs.Catalogue.{catalogue_of};
-ghost use Rattle.mv_hub.specs.BatchLinks.{batch_cmp, linked_to, IsDescendant};
+ghost use Rattle.mv_hub.specs.BatchLinks.{linked_to};
+ghost use Rattle.mv_hub.specs.Tables.{linked_in};
+ghost use Rattle.mv_pack.specs.declared.key.BatchKey.{BatchKey as ABatch};
 ghost use Rattle.mv_hub.specs.Kept.{AreTables};
 
 use crate::batch_links::BatchLinks;
 use crate::catalogues::Catalogues;
 use crate::{Catalogue, Entry};
 use mv_message::Message;
-use mv_pack::{BatchKey, Gtin, Market};
+use mv_pack::Gtin;
 use std::alloc::{AllocError, Global};
 use std::marker::Model;
 
@@ -45,6 +43,7 @@ impl Model for AuditTrail {
 
 impl AuditTrail {
     /// An empty record.
+    #[tactic(auto, using(crate::proofs::TrailLemmas::tables_none))]
     pub(crate) fn new(alloc: Global) -> AuditTrail
         ensures { result ≡ [] }
     {
@@ -69,31 +68,12 @@ impl AuditTrail {
         self.catalogues.get(gtin)
     }
 
-    /// The markets that the last routed master of a product names.
-    pub(crate) fn markets(&self, gtin: &Gtin) -> Option<&[Market]>
-        ensures { option_map (λ markets. markets.now) result ≡ last_markets self.now gtin.now }
+    /// What the record says of the batches that were repackaged.
+    pub(crate) fn batch_links(&self) -> &BatchLinks
+        ensures { (batch other : ABatch) → Contains (linked_in result.now batch) other
+            ↔ Contains (linked_to self.now batch) other }
     {
-        let catalogue = self.catalogue(gtin)?;
-        let product = catalogue.product.get()?;
-        Some(product.markets.as_slice())
-    }
-
-    /// The batches that are linked to a batch, ascending. Refused for want of memory.
-    pub(crate) fn linked(&self, batch: &BatchKey) -> Result<Vec<BatchKey>, AllocError>
-        ensures order { IfOk result (λ list. IsStrictlySortedBy batch_cmp list.items) }
-        ensures members { IfOk result (λ list. (other : ABatch)
-            → Contains list.items other ↔ Contains (linked_to self.now batch.now) other) }
-    {
-        self.batch_links.linked(batch)
-    }
-
-    /// The batches that descend from a batch, ascending. Refused for want of memory.
-    pub(crate) fn descendants(&self, batch: &BatchKey) -> Result<Vec<BatchKey>, AllocError>
-        ensures order { IfOk result (λ list. IsStrictlySortedBy batch_cmp list.items) }
-        ensures members { IfOk result (λ list. (other : ABatch)
-            → Contains list.items other ↔ IsDescendant self.now batch.now other) }
-    {
-        self.batch_links.descendants(batch)
+        &self.batch_links
     }
 
     /// Puts an entry at the end of the record. Where memory is refused nothing has changed.

@@ -1,13 +1,17 @@
--- The keys, the version and the form of an object.
+-- The keys, the version and the form of an object, and the fault of its fields.
 use Rattle.std.proofs.Common.{◌≡◌, ◌∙◌, ℕ, true, false, not, cond, List, [], ◌∷◌, ap, sym, subst, refl, arith}
 use Rattle.std.specs.Prelude.{◌==◌, Bool, bytes_eq, Option, Some, None, Result, Ok, Err, find, Contains}
-use Rattle.std.specs.Option.{ok_or, option_map_or}
+use Rattle.std.specs.Option.{ok_or, option_map_or, option_or}
+use Rattle.std.specs.Ordering.{nat_cmp}
+use Rattle.std.specs.Result.{result_err}
 use Rattle.std.specs.List.{AllByRecursion, list_any}
-use Rattle.std.specs.Cmp.Lexicographic.{nat_list_eq_equiv}
+use Rattle.std.specs.List.Sorted.{IsStrictlySortedBy}
+use Rattle.std.specs.Cmp.Lexicographic.{nat_list_eq_equiv, slice_cmp}
 use Rattle.std.proofs.lemmas.Bool.Decides.{nat_tests}
 use Rattle.std.proofs.lemmas.Map.Views.{Contains-from_any, list_any-from_Contains}
 use Rattle.serde_json.specs.Data.{Data, object}
 use Rattle.serde_json.specs.Find.{get, as_object}
+use Rattle.mv_json.specs.declared.field.Field.{Field}
 use Rattle.mv_json.specs.declared.field.Field.TheVariants as fields
 use Rattle.mv_json.specs.declared.fault.MessageFault.{MessageFault}
 use Rattle.mv_json.specs.declared.fault.MessageFault.TheVariants.{Kind, Memory, NotObject, Unknown}
@@ -17,17 +21,16 @@ use Rattle.mv_message.specs.declared.message.Message.{Message}
 use Rattle.mv_json.specs.declared.version.Version.{Version}
 use Rattle.mv_json.specs.declared.version.Version.TheVariants.{One, Two}
 use Rattle.mv_json.specs.Fields.{field_name}
-use Rattle.mv_json.specs.Forms.{form_name, forms_of, form_named, form_at}
+use Rattle.mv_json.specs.Forms.{IsIn, form_name, forms_of, form_named, form_at, version_of, version_at}
+use Rattle.mv_json.specs.Meanings.{Meaning, Making, made_at, first_fault}
 use Rattle.mv_json.specs.Members.{keys_of, first_unknown}
 use Rattle.mv_json.specs.Messages.{read_message}
-use Rattle.mv_json.specs.Shapes.{names_of, message_at}
-use Rattle.mv_json.specs.Reading.{◌and_then◌, text_at, GivesOr}
-use Rattle.mv_json.specs.Numbers.{whole_number}
-use Rattle.mv_json.specs.Versions.{version_of, version_at}
+use Rattle.mv_json.specs.Shapes.{meaning_of, fields_of, making_of, names_of, message_at}
+use Rattle.mv_json.specs.Reading.{◌and_then◌, text_at, GivesOr, whole_number}
 use Rattle.mv_json.specs.Spellings.{HasOnly}
 use Rattle.mv_json.specs.Values.{whole, since_two}
-use Rattle.mv_json.proofs.NumberLemmas.{whole_number_ok}
-use Rattle.mv_json.proofs.ReadingLemmas.{HasText, both_ok, ok_or_some, as_object_ok, text_ok, text_is_read, same_bytes, found_by_name}
+use Rattle.mv_json.proofs.OrderLemmas.{rises, strictly_sorted}
+use Rattle.mv_json.proofs.ReadingLemmas.{whole_number_ok, HasText, both_ok, ok_or_some, as_object_ok, text_ok, same_bytes, found_by_name}
 
 -- whether a key is one of these names
 abbrev is_among : List (List ℕ) → List ℕ → Bool
@@ -106,32 +109,16 @@ unfolding version_at
 version_read d One h = ap version_of h
 version_read d Two h = ap version_of h
 
--- the form came with that version, or before it
-abbrev pub IsIn : Form → Version → Type 0
-IsIn forms.Withdraw One = ⊥
-IsIn form version = Unit {0}
-
-form_has_name : (version : Version) (t : List ℕ) (form : Form) → form_named version t ≡ Some form → (t ≡ form_name form) × IsIn form version
+-- a text that names a form is its name, and the form came with that version, or before it
+pub form_has_name : (version : Version) (t : List ℕ) (form : Form) → form_named version t ≡ Some form → (t ≡ form_name form) × IsIn form version
 form_has_name One t form h = found_by_name form_name (λ f. IsIn f One) t (forms_of One) form (tt, (tt, (tt, (tt, (tt, (tt, (tt, tt))))))) h
 form_has_name Two t form h = found_by_name form_name (λ f. IsIn f Two) t (forms_of Two) form (tt, (tt, (tt, (tt, (tt, (tt, (tt, (tt, tt)))))))) h
 
 form_is_named : (version : Version) (form : Form) → IsIn form version → form_named version (form_name form) ≡ Some form
-form_is_named One forms.Answer h = refl
-form_is_named One forms.Master h = refl
-form_is_named One forms.Query h = refl
-form_is_named One forms.Recall h = refl
-form_is_named One forms.Repack h = refl
-form_is_named One forms.Status h = refl
-form_is_named One forms.Upload h = refl
 form_is_named One forms.Withdraw h = absurd h
-form_is_named Two forms.Answer h = refl
-form_is_named Two forms.Master h = refl
-form_is_named Two forms.Query h = refl
-form_is_named Two forms.Recall h = refl
-form_is_named Two forms.Repack h = refl
-form_is_named Two forms.Status h = refl
-form_is_named Two forms.Upload h = refl
+form_is_named One form h = refl
 form_is_named Two forms.Withdraw h = refl
+form_is_named Two form h = refl
 
 form_ok : (version : Version) (d : Data) (form : Form) → form_at version d ≡ Ok form → HasText d fields.Msg (form_name form) × IsIn form version
 unfolding form_at
@@ -142,9 +129,7 @@ form_ok version d form h =
 
 pub form_read : (version : Version) (d : Data) (form : Form) → HasText d fields.Msg (form_name form) → IsIn form version → form_at version d ≡ Ok form
 unfolding form_at
-form_read version d form h is_in =
-    ap (λ r. r and_then λ t. ok_or (form_named version t) (Kind fields.Msg)) (text_is_read fields.Msg d (form_name form) h)
-    ∙ ap (λ o. ok_or o (Kind fields.Msg)) (form_is_named version form is_in)
+form_read version d form h is_in = rw (h, form_is_named version form is_in) refl
 
 -- a message was read, so the object has a version and a form, and its fields give the message
 pub opened : (d : Data) (m : Message) → read_message d ≡ Ok m → (version : Version) × (form : Form) × IsOfVersion version d × IsOfForm version form d × IsIn form version × (message_at version form d ≡ Ok m)
@@ -168,12 +153,42 @@ opened d m h =
 pub read_by_fields : (d : Data) (version : Version) (form : Form) → version_at d ≡ Ok version → form_at version d ≡ Ok form → HasOnly (names_of version form) d → read_message d ≡ message_at version form d
 unfolding read_message
 read_by_fields d version form of_version of_form (ms, is_object, known) =
-    ap (λ o. ok_or o NotObject and_then λ ms. version_at d and_then λ version. form_at version d and_then λ form. unless_unknown (first_unknown (names_of version form) ms) (message_at version form d)) (ap as_object is_object)
-    ∙ ap (λ r. r and_then λ version. form_at version d and_then λ form. unless_unknown (first_unknown (names_of version form) ms) (message_at version form d)) of_version
-    ∙ ap (λ r. r and_then λ form. unless_unknown (first_unknown (names_of version form) ms) (message_at version form d)) of_form
-    ∙ ap (λ o. unless_unknown o (message_at version form d)) (none_unknown (names_of version form) (keys_of ms) known)
+    rw (ap as_object is_object, of_version, of_form, none_unknown (names_of version form) (keys_of ms) known) refl
 
 -- an object of that version and form is read as what its fields give
 pub reopened : (d : Data) (m : Message) (version : Version) (form : Form) → IsOfVersion version d → IsOfForm version form d → IsIn form version → message_at version form d ≡ Ok m → read_message d ≡ Ok m
 reopened d m version form of_version (known, name) is_in fields_read =
     read_by_fields d version form (version_read d version of_version) (form_read version d form name is_in) known ∙ fields_read
+
+-- ---- the fault of a message is that of its first field that has one
+
+-- the fault of a reading, else that of the next, which is the same whatever the first gave
+behind : {A M : Type 0} (a : Result A MessageFault) (next : A → Result M MessageFault) (rest : Option MessageFault) → ((x : A) → result_err (next x) ≡ rest) → result_err (a and_then next) ≡ option_or (result_err a) rest
+behind (Ok x) next rest h = h x
+behind (Err fault) next rest h = refl
+
+-- the fault of fields is that of the first of them that has one
+made_fault : (A : Type 0) (meaning : Field → Meaning) (listed : List Field) (makes : Making meaning A listed) (d : Data) → result_err (made_at meaning listed makes d) ≡ first_fault meaning listed d
+made_fault A meaning [] made d = refl
+made_fault A meaning (field ∷ rest) makes d =
+    behind ((meaning field).read d) _ _ (λ x. made_fault A meaning rest (makes x) d)
+
+message_fault : (version : Version) (d : Data) (form : Form) → result_err (message_at version form d) ≡ first_fault (meaning_of version form) (fields_of form) d
+unfolding message_at
+message_fault version d form = made_fault Message (meaning_of version form) (fields_of form) (making_of version form) d
+
+-- the fault of an object with a version, a form and the keys of that form is that of the first of its fields that has one
+pub first_fault_is_given : (d : Data) (version : Version) (form : Form) → version_at d ≡ Ok version → form_at version d ≡ Ok form → HasOnly (names_of version form) d → result_err (read_message d) ≡ first_fault (meaning_of version form) (fields_of form) d
+first_fault_is_given d version form of_version of_form known =
+    ap result_err (read_by_fields d version form of_version of_form known) ∙ message_fault version d form
+
+names_rise : (version : Version) (form : Form) → rises (slice_cmp nat_cmp) (names_of version form) ≡ true
+unfolding rises
+names_rise One forms.Answer = refl
+names_rise One form = refl
+names_rise Two forms.Answer = refl
+names_rise Two form = refl
+
+-- the names of the fields of a message are in byte order, each once
+pub fields_are_in_order : (version : Version) (form : Form) → IsStrictlySortedBy (slice_cmp nat_cmp) (names_of version form)
+fields_are_in_order version form = strictly_sorted (slice_cmp nat_cmp) (names_of version form) (names_rise version form)

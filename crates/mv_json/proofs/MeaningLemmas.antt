@@ -1,13 +1,13 @@
 -- What fields mean: their reading and their spellings agree; and what is made of fields that are read one after the other.
-use Rattle.std.proofs.Common.{◌≡◌, ◌∙◌, ℕ, Bool, true, false, not, List, [], ◌∷◌, ap, refl}
-use Rattle.std.specs.Prelude.{Some, None, Ok, Contains}
-use Rattle.std.specs.List.{AllByRecursion, list_all}
-use Rattle.std.specs.Cmp.Lexicographic.{slice_cmp}
+use Rattle.std.proofs.Common.{◌≡◌, ◌∙◌, ℕ, true, false, List, [], ◌∷◌, ap, refl, subst, sym}
+use Rattle.std.specs.Prelude.{◌≢◌, bytes_eq, Some, None, Ok, Contains}
+use Rattle.std.specs.List.{AllByRecursion, list_any}
+use Rattle.std.specs.Cmp.Lexicographic.{nat_list_eq_equiv, slice_cmp}
 use Rattle.std.specs.Ordering.{nat_cmp, is_eq, match_ordering}
 use Rattle.std.specs.declared.cmp.Ordering.{Ordering}
 use Rattle.std.specs.declared.cmp.Ordering.TheVariants.{Less, Equal, Greater}
-use Rattle.std.proofs.lemmas.Bool.{and_parts}
-use Rattle.std.proofs.lemmas.List.Elements.{All-contains, All-from_recursion}
+use Rattle.std.proofs.lemmas.Map.Text.{is_eq-slice_cmp}
+use Rattle.std.proofs.lemmas.Map.Views.{list_any-from_Contains}
 use Rattle.serde_json.specs.Data.{Data, string, Members, no_members, member}
 use Rattle.serde_json.specs.Find.{get, get_member}
 use Rattle.mv_pack.specs.Code.{IsCode, read_code}
@@ -23,19 +23,14 @@ use Rattle.mv_json.specs.declared.version.Version.TheVariants.{One}
 use Rattle.mv_json.specs.FieldMeanings.{IsFreeText, product_code, code, serial_list, pack_standing, part_of}
 use Rattle.mv_json.specs.Fields.{field_name}
 use Rattle.mv_json.specs.Limits.{most_markets, most_serials}
-use Rattle.mv_json.specs.Meanings.{Meaning, exactly, Making, made_at}
+use Rattle.mv_json.specs.Meanings.{Meaning, EachHolds, exactly, Making, Values, made_at}
 use Rattle.mv_json.specs.Members.{keys_of}
 use Rattle.mv_json.specs.Reading.{◌and_then◌, free_text_at}
 use Rattle.mv_json.specs.Spellings.{HasOnly}
-use Rattle.mv_json.proofs.NumberLemmas.{truth_ok, truth_read, withdrawn_ok, withdrawn_read, moment_ok, moment_read, number_ok, number_read, count_ok, count_read}
-use Rattle.mv_json.proofs.ReadingLemmas.{both_ok, taken_ok, taken_read, code_ok, code_read, codes_as_they_are, markets_as_they_are, list_ok, list_read, national_ok, national_read, standing_ok, standing_read, free_text_ok, free_text_is_read}
+use Rattle.mv_json.proofs.MetLemmas.{weaker}
+use Rattle.mv_json.proofs.ReadingLemmas.{same_bytes, truth_ok, truth_read, withdrawn_ok, withdrawn_read, moment_ok, moment_read, number_ok, number_read, count_ok, count_read, both_ok, taken_ok, taken_read, code_ok, code_read, codes_as_they_are, markets_as_they_are, list_ok, list_read, national_ok, national_read, standing_ok, standing_read, free_text_ok, free_text_is_read}
 
 -- ---- what is made of fields
-
--- values of these fields, one for each
-abbrev pub Values : (Field → Meaning) → List Field → Type 0
-Values meaning [] = Unit {0}
-Values meaning (field ∷ rest) = (meaning field).Value × Values meaning rest
 
 -- what such values make
 abbrev pub made : (A : Type 0) (meaning : Field → Meaning) (listed : List Field) → Making meaning A listed → Values meaning listed → A
@@ -44,8 +39,13 @@ made A meaning (field ∷ rest) makes values = made A meaning rest (makes values
 
 -- each field is read as its value
 abbrev pub AreRead : (meaning : Field → Meaning) (listed : List Field) → Data → Values meaning listed → Type 0
-AreRead meaning [] d values = Unit {0}
-AreRead meaning (field ∷ rest) d values = ((meaning field).read d ≡ Ok values.0) × AreRead meaning rest d values.1
+AreRead meaning listed d values = EachHolds meaning (λ field x. (meaning field).read d ≡ Ok x) listed values
+
+-- what follows of the value of each field, follows of all
+pub each : (meaning : Field → Meaning) (P Q : (field : Field) → (meaning field).Value → Type 0) → ((field : Field) (x : (meaning field).Value) → P field x → Q field x)
+    → (listed : List Field) (values : Values meaning listed) → EachHolds meaning P listed values → EachHolds meaning Q listed values
+each meaning P Q follows [] values h = tt
+each meaning P Q follows (field ∷ rest) values h = (follows field values.0 h.0, each meaning P Q follows rest values.1 h.1)
 
 -- something was made, so each field is read as the value that it was made of
 pub made_ok : (A : Type 0) (meaning : Field → Meaning) (listed : List Field) (makes : Making meaning A listed) (d : Data) (it : A) → made_at meaning listed makes d ≡ Ok it → (values : Values meaning listed) × AreRead meaning listed d values × (made A meaning listed makes values ≡ it)
@@ -62,36 +62,26 @@ made_read A meaning (field ∷ rest) makes d values h =
 
 -- ---- fields that are not there
 
--- this name is none of these
-abbrev pub is_apart : List ℕ → List (List ℕ) → Bool
-is_apart name names = list_all (λ other. not (is_eq (slice_cmp nat_cmp name other))) names
-
-is_not_equal : (order : Ordering) → not (is_eq order) ≡ true → is_eq order ≡ false
-is_not_equal Less h = refl
-is_not_equal Equal h = cc
-is_not_equal Greater h = refl
-
-all_apart : (name : List ℕ) (names : List (List ℕ)) → is_apart name names ≡ true → AllByRecursion (λ other. is_eq (slice_cmp nat_cmp name other) ≡ false) names
-all_apart name [] h = tt
-all_apart name (other ∷ names) h =
-    let parts = and_parts (not (is_eq (slice_cmp nat_cmp name other))) (is_apart name names) h in
-    (is_not_equal (slice_cmp nat_cmp name other) parts.0, all_apart name names parts.1)
-
 pub passed_over : {X : Type 0} (order : Ordering) (rest this : X) → is_eq order ≡ false → match_ordering order rest this rest ≡ rest
 passed_over Less rest this h = refl
 passed_over Equal rest this h = cc
 passed_over Greater rest this h = refl
 
-none_of_that_name : (name : List ℕ) (names : List (List ℕ)) (ms : Members) → is_apart name names ≡ true → AllByRecursion (Contains names) (keys_of ms) → get_member name ms ≡ None
-none_of_that_name name names no_members h known = refl
-none_of_that_name name names (member key value ms) h known =
-    let apart = All-contains (λ other. is_eq (slice_cmp nat_cmp name other) ≡ false) names key
-    (All-from_recursion (λ other. is_eq (slice_cmp nat_cmp name other) ≡ false) names (all_apart name names h)) known.0 in
-    passed_over (slice_cmp nat_cmp name key) (get_member name ms) (Some value) apart ∙ none_of_that_name name names ms h known.1
+unequal : (s t : List ℕ) → t ≢ s → bytes_eq s t ≡ false
+unequal s t apart =
+    elim (bytes_eq s t) as (λ b. bytes_eq s t ≡ b → b ≡ false) [ true ↦ λ e. absurd (apart (sym (same_bytes s t e))) | false ↦ λ e. refl ] refl
+
+pub none_named : (name : List ℕ) (ms : Members) → AllByRecursion (λ key. key ≢ name) (keys_of ms) → get_member name ms ≡ None
+none_named name no_members h = refl
+none_named name (member key value ms) h =
+    passed_over (slice_cmp nat_cmp name key) (get_member name ms) (Some value) (is_eq-slice_cmp name key ∙ unequal name key h.0) ∙ none_named name ms h.1
 
 -- an object that has only these keys has none of another name
-pub is_absent : (field : Field) (names : List (List ℕ)) (d : Data) → HasOnly names d → is_apart (field_name field) names ≡ true → get (field_name field) d ≡ None
-is_absent field names d (ms, is_object, known) h = ap (get (field_name field)) is_object ∙ none_of_that_name (field_name field) names ms h known
+pub is_absent : (field : Field) (names : List (List ℕ)) (d : Data) → HasOnly names d → list_any (bytes_eq (field_name field)) names ≡ false → get (field_name field) d ≡ None
+is_absent field names d (ms, is_object, known) h =
+    let apart : (key : List ℕ) → Contains names key → key ≢ field_name field = λ key at same.
+    let among = list_any-from_Contains nat_list_eq_equiv (field_name field) names (subst (Contains names) same at) in cc in
+    ap (get (field_name field)) is_object ∙ none_named (field_name field) ms (weaker (Contains names) (λ key. key ≢ field_name field) apart (keys_of ms) known)
 
 -- in version 1 there is no field that came with the second
 pub record Unsaid (version : Version) (d : Data) : Type 0 where
@@ -126,68 +116,34 @@ free_text_agrees : (version : Version) (f : Field) → Agrees version (exactly f
 free_text_agrees version f =
     record { ok = λ d x unsaid h. free_text_ok f d x h; read = λ d x h. free_text_is_read f d x h; legal = λ d x h. h.1 }
 
-party_agrees : (version : Version) → Agrees version (part_of version fields.Asker)
-party_agrees version =
-    record { ok = λ d x unsaid h. number_ok fields.Asker d x h; read = λ d x h. number_read fields.Asker d x h.0 h.1; legal = λ d x h. h.1 }
-
-moment_agrees : (version : Version) → Agrees version (part_of version fields.At)
-moment_agrees version =
-    record { ok = λ d x unsaid h. moment_ok fields.At d x h; read = λ d x h. moment_read fields.At d x h; legal = λ d x h. h.1 }
-
-expiry_agrees : (version : Version) → Agrees version (part_of version fields.Expiry)
-expiry_agrees version =
-    record { ok = λ d x unsaid h. taken_ok read_expiry fields.Expiry d x h; read = λ d x h. taken_read read_expiry fields.Expiry d x h; legal = λ d x h. read_expiry_is_expiry h.0 x h.2 }
-
-markets_agree : (version : Version) → Agrees version (part_of version fields.Markets)
-markets_agree version =
-    record { ok = λ d x unsaid h. list_ok read_market IsMarket markets_as_they_are most_markets fields.Markets d x h; read = λ d x h. list_read read_market IsMarket markets_as_they_are most_markets fields.Markets d x h; legal = λ d x h. h.1 }
-
-national_agrees : (version : Version) → Agrees version (part_of version fields.National)
-national_agrees version =
-    record { ok = λ d x unsaid h. national_ok version fields.National d x unsaid.national h; read = λ d x h. national_read version fields.National d x h; legal = λ d x h. h.1 }
-
-count_agrees : (version : Version) → Agrees version (part_of version fields.Q)
-count_agrees version =
-    record { ok = λ d x unsaid h. count_ok fields.Q d x h; read = λ d x h. count_read fields.Q d x h; legal = λ d x h. h.1 }
-
-truth_agrees : (version : Version) → Agrees version (part_of version fields.Recalled)
-truth_agrees version =
-    record { ok = λ d x unsaid h. (truth_ok fields.Recalled d x h, tt); read = λ d x h. truth_read fields.Recalled d x h.0; legal = λ d x h. h.1 }
-
-withdrawn_agrees : (version : Version) → Agrees version (part_of version fields.Withdrawn)
-withdrawn_agrees version =
-    record { ok = λ d x unsaid h. withdrawn_ok version fields.Withdrawn d x unsaid.withdrawn h; read = λ d x h. withdrawn_read version fields.Withdrawn d x h; legal = λ d x h. h.1 }
-
 -- of each field that is no object
 pub parts_agree : (version : Version) (field : Field) → Agrees version (part_of version field)
 parts_agree version fields.AfterBatch = code_agrees version fields.AfterBatch
 parts_agree version fields.AfterGtin = product_code_agrees version fields.AfterGtin
 parts_agree version fields.AfterSerials = serials_agree version fields.AfterSerials
-parts_agree version fields.Asker = party_agrees version
-parts_agree version fields.At = moment_agrees version
+parts_agree version fields.Asker =
+    record { ok = λ d x unsaid h. number_ok fields.Asker d x h; read = λ d x h. number_read fields.Asker d x h.0 h.1; legal = λ d x h. h.1 }
+parts_agree version fields.At =
+    record { ok = λ d x unsaid h. moment_ok fields.At d x h; read = λ d x h. moment_read fields.At d x h; legal = λ d x h. h.1 }
 parts_agree version fields.Batch = code_agrees version fields.Batch
 parts_agree version fields.BeforeBatch = code_agrees version fields.BeforeBatch
 parts_agree version fields.BeforeGtin = product_code_agrees version fields.BeforeGtin
 parts_agree version fields.BeforeSerials = serials_agree version fields.BeforeSerials
-parts_agree version fields.Common = free_text_agrees version fields.Common
-parts_agree version fields.Expiry = expiry_agrees version
-parts_agree version fields.Form = free_text_agrees version fields.Form
-parts_agree version fields.Found = free_text_agrees version fields.Found
+parts_agree version fields.Expiry =
+    record { ok = λ d x unsaid h. taken_ok read_expiry fields.Expiry d x h; read = λ d x h. taken_read read_expiry fields.Expiry d x h; legal = λ d x h. read_expiry_is_expiry h.0 x h.2 }
 parts_agree version fields.Gtin = product_code_agrees version fields.Gtin
-parts_agree version fields.Markets = markets_agree version
-parts_agree version fields.Msg = free_text_agrees version fields.Msg
-parts_agree version fields.Name = free_text_agrees version fields.Name
-parts_agree version fields.National = national_agrees version
-parts_agree version fields.PackSize = free_text_agrees version fields.PackSize
-parts_agree version fields.PackType = free_text_agrees version fields.PackType
-parts_agree version fields.Q = count_agrees version
-parts_agree version fields.Recalled = truth_agrees version
-parts_agree version fields.Scheme = free_text_agrees version fields.Scheme
+parts_agree version fields.Markets =
+    record { ok = λ d x unsaid h. list_ok read_market IsMarket markets_as_they_are most_markets fields.Markets d x h; read = λ d x h. list_read read_market IsMarket markets_as_they_are most_markets fields.Markets d x h; legal = λ d x h. h.1 }
+parts_agree version fields.National =
+    record { ok = λ d x unsaid h. national_ok version fields.National d x unsaid.national h; read = λ d x h. national_read version fields.National d x h; legal = λ d x h. h.1 }
+parts_agree version fields.Q =
+    record { ok = λ d x unsaid h. count_ok fields.Q d x h; read = λ d x h. count_read fields.Q d x h; legal = λ d x h. h.1 }
+parts_agree version fields.Recalled =
+    record { ok = λ d x unsaid h. (truth_ok fields.Recalled d x h, tt); read = λ d x h. truth_read fields.Recalled d x h.0; legal = λ d x h. h.1 }
 parts_agree version fields.Serial = code_agrees version fields.Serial
 parts_agree version fields.Serials = serials_agree version fields.Serials
 parts_agree version fields.Standing = standing_agrees version fields.Standing
-parts_agree version fields.Strength = free_text_agrees version fields.Strength
 parts_agree version fields.To = standing_agrees version fields.To
-parts_agree version fields.User = free_text_agrees version fields.User
-parts_agree version fields.V = free_text_agrees version fields.V
-parts_agree version fields.Withdrawn = withdrawn_agrees version
+parts_agree version fields.Withdrawn =
+    record { ok = λ d x unsaid h. withdrawn_ok version fields.Withdrawn d x unsaid.withdrawn h; read = λ d x h. withdrawn_read version fields.Withdrawn d x h; legal = λ d x h. h.1 }
+parts_agree version field = free_text_agrees version field

@@ -1,82 +1,48 @@
--- What stands in the fields of a message: its tokens, and what it is read as.
-use Rattle.std.proofs.Common.{◌≡◌, ◌∙◌, ◌≤◌, ◌<◌, ◌-◌, ℕ, zero, suc, List, [], ◌∷◌, ◌++◌, length, get_or, ap, sym, subst, refl, arith}
-use Rattle.std.proofs.lemmas.List.Elements.{All-head, All-tail}
-use Rattle.std.proofs.lemmas.List.Sorted.{All-permutation, IsPermutation-swap_remove}
-use Rattle.std.specs.Prelude.{Bool, Option, Some, None, Result, Ok, All, find, bytes_eq, ◌≢◌}
-use Rattle.std.specs.List.{AllByRecursion, swap_remove}
+-- What stands in the fields of a message: its tokens, and what is read of it.
+use Rattle.std.proofs.Common.{◌≡◌, ◌∙◌, ◌<◌, ◌-◌, ℕ, Bool, true, false, zero, suc, List, [], ◌∷◌, ◌++◌, length, map, set, ap, sym, subst, refl, arith}
+use Rattle.std.proofs.lemmas.List.Elements.{All-contains, All-cons, All-map, All-nil, All-set, Contains-append_right}
+use Rattle.std.proofs.Math.Seq.{map-set_same}
+use Rattle.std.specs.Prelude.{Option, Some, None, Result, Ok, All, Contains, find, bytes_eq, is_some, IfSome, IsUtf8, ◌≢◌}
+use Rattle.std.specs.List.{AllByRecursion}
 use Rattle.json.specs.Json as json
 use Rattle.json.specs.Json.{value, items, after_end_array}
+use Rattle.json.specs.Lex.{tokens}
 use Rattle.json.specs.Token.{Token, begin_object, end_object, begin_array, end_array, key}
 use Rattle.json.specs.Token as token
 use Rattle.json.proofs.Grammar.{value-begin_array}
-use Rattle.serde_json.specs.Data.{Data, null, boolean, string, array, unsigned}
-use Rattle.serde_json.specs.Find.{get}
-use Rattle.serde_json.specs.Read.{number_of, of_json, of_items, converted}
+use Rattle.serde_json.specs.Data.{Data, null, boolean, string, array}
+use Rattle.serde_json.specs.Find.{get, as_str, as_bool, as_null}
+use Rattle.serde_json.specs.Read.{of_json, of_items, converted}
 use Rattle.mv_pack.specs.Code.{IsCode, read_code}
-use Rattle.mv_pack.specs.Expiry.{read_expiry}
-use Rattle.mv_pack.specs.Gtin.{read_gtin}
 use Rattle.mv_pack.specs.Market.{IsMarket, read_market}
 use Rattle.mv_pack.specs.declared.fault.PackFault.{PackFault}
-use Rattle.mv_pack.proofs.MomentLemmas.{read_moment_is_moment}
-use Rattle.mv_json.specs.declared.fault.MessageFault.{MessageFault}
+use Rattle.mv_message.specs.declared.message.Message.{Message}
 use Rattle.mv_json.specs.declared.field.Field.{Field}
 use Rattle.mv_json.specs.declared.field.Field.TheVariants as fields
+use Rattle.mv_json.specs.declared.object.Place.{Place}
 use Rattle.mv_json.specs.declared.part.Entry.{Entry}
 use Rattle.mv_json.specs.declared.part.Part.{Part}
 use Rattle.mv_json.specs.declared.part.Part.TheVariants as parts
-use Rattle.mv_json.specs.declared.version.Version.{Version}
-use Rattle.mv_json.specs.declared.version.Version.TheVariants.{Two}
 use Rattle.mv_json.specs.Fields.{field_name}
-use Rattle.mv_json.specs.Found.{found_of}
 use Rattle.mv_json.specs.Limits.{most_markets, most_serials}
+use Rattle.mv_json.specs.Members.{keys_of}
+use Rattle.mv_json.specs.Messages.{read_bytes}
 use Rattle.mv_json.specs.Met.{BeginWith}
-use Rattle.mv_json.specs.Reading.{◌and_then◌, member_at}
+use Rattle.mv_json.specs.Reading.{list_at, whole_number}
+use Rattle.mv_json.specs.Spellings.{HasOnly}
 use Rattle.mv_json.specs.Values.{strings, whole}
-use Rattle.mv_json.specs.Parts.{BeginWithPart, BeginWithEntries, BeginWithTexts, entry, entry_name, HasEntries, IsFieldOf, AreFieldsOf, IsOf, IsPart, IsReadIn, IsText}
-use Rattle.mv_json.proofs.MetLemmas.{AreMet, none_met, one_more_met, all_met, begun_shorter, text_begins, null_begins, truth_begins, whole_begins}
-use Rattle.mv_json.proofs.NumberLemmas.{moment_is_itself, truth_read, moment_read, number_read, count_read}
-use Rattle.mv_json.proofs.ReadingLemmas.{TakesAsItself, codes_as_they_are, markets_as_they_are, taken_read, list_read, national_read, standing_read, standing_has_name, free_text_is_read, member_read}
-
--- ---- tokens
-
--- a value that is a text of which this holds
-pub text_says : (Holds : List ℕ → Type 0) (ts rest : List Token) (text : List ℕ) → ts ≡ token.string text ∷ rest → Holds text
-    → (found : Data) × BeginWith 1 ts found rest × IsText found Holds
-text_says Holds ts rest text is holds = (string text, rw is (text_begins 1 text rest), (text, refl, holds))
-
--- a value that is a whole number
-pub whole_is : (ts rest : List Token) (n : ℕ) (text : List ℕ) → ts ≡ token.number text ∷ rest → number_of text ≡ Some (unsigned n)
-    → BeginWith 1 ts (whole n) rest
-whole_is ts rest n text is numbered = rw is (whole_begins 1 n text rest numbered)
-
-pub text_is : (ts rest : List Token) (text : List ℕ) → ts ≡ token.string text ∷ rest → BeginWith 1 ts (string text) rest
-text_is ts rest text is = rw is (text_begins 1 text rest)
-
-pub null_is : (deep : ℕ) (ts rest : List Token) → ts ≡ token.null ∷ rest → BeginWith deep ts null rest
-null_is deep ts rest is = rw is (null_begins deep rest)
-
-pub truth_is : (ts rest : List Token) (truth : Bool) → ts ≡ token.boolean truth ∷ rest → BeginWith 1 ts (boolean truth) rest
-truth_is ts rest truth is = rw is (truth_begins 1 truth rest)
-
--- a part that nests so deep may nest deeper
-pub part_deeper : (ts rest : List Token) (part : Part) → BeginWithPart 1 ts part rest → BeginWithPart 2 ts part rest
-part_deeper ts rest part (found, begins, is) = (found, λ depth h. begins depth (omega arith), is)
+use Rattle.mv_json.specs.Parts.{BeginWithMessage, BeginWithPart, BeginWithEntries, BeginWithTexts, StartWithPart, entry, entry_name, HasEntries, IsPart, IsPlace, IsTaken, IsThere, deep_in, there}
+use Rattle.mv_json.proofs.MeaningLemmas.{none_named}
+use Rattle.mv_json.proofs.MetLemmas.{AreMet, none_met, one_more_met, all_met, begun_shorter, converted_some, weaker, text_begins, null_begins, truth_begins, whole_begins}
+use Rattle.mv_json.proofs.ReadingLemmas.{TakesAsItself, codes_as_they_are, markets_as_they_are, list_read}
+use Rattle.mv_json.proofs.ValueLemmas.{utf8_test}
 
 -- ---- lists of texts
 
 -- the end of a list is a bracket
 pub list_ended : (ts rest : List Token) → after_end_array ts ≡ Some rest → ts ≡ end_array ∷ rest
-list_ended [] rest h = cc
-list_ended (begin_object ∷ ts) rest h = cc
-list_ended (end_object ∷ ts) rest h = cc
-list_ended (begin_array ∷ ts) rest h = cc
 list_ended (end_array ∷ ts) rest h = cc
-list_ended (key s ∷ ts) rest h = cc
-list_ended (token.string s ∷ ts) rest h = cc
-list_ended (token.number s ∷ ts) rest h = cc
-list_ended (token.boolean b ∷ ts) rest h = cc
-list_ended (token.null ∷ ts) rest h = cc
-list_ended (token.bad ∷ ts) rest h = cc
+list_ended ts rest h = cc
 
 text_parsed : (depth : ℕ) (text : List ℕ) (rest : List Token) → value depth (token.string text ∷ rest) ≡ Some (json.string text, rest)
 unfolding value
@@ -119,17 +85,23 @@ listed reader Holds good ts list rest xs opens has =
     let m = texts_parsed reader Holds good list xs rest has in
     (λ depth h. rw opens (ap (converted of_json) (value-begin_array depth list h) ∙ rw (m.parsed (depth - 1), m.is)), m.hold)
 
-pub serials_say : (ts list rest : List Token) (serials : List (List ℕ)) → ts ≡ begin_array ∷ list → BeginWithTexts read_code list serials rest
-    → (1 ≤ length serials) × (length serials ≤ most_serials) → BeginWithPart 1 ts (parts.Serials serials) rest
-serials_say ts list rest serials opens has count =
-    let (begins, hold) = listed read_code IsCode codes_as_they_are ts list rest serials opens has in
-    (array (strings serials), begins, (refl, (count.0, count.1, hold)))
+-- tokens that say a part, which is no object, are a value that says it
+part_starts : (ts rest : List Token) (part : Part) → StartWithPart ts part rest → BeginWithPart 1 ts part rest
+part_starts ts rest (parts.Markets x) (list, opens, has, count) =
+    let (begins, hold) = listed read_market IsMarket markets_as_they_are ts list rest x.items opens has in
+    (array (strings x.items), begins, (refl, (count.0, count.1, hold)))
+part_starts ts rest parts.Null is = (null, rw is (null_begins 1 rest), refl)
+part_starts ts rest (parts.Serials x) (list, opens, has, count) =
+    let (begins, hold) = listed read_code IsCode codes_as_they_are ts list rest x.items opens has in
+    (array (strings x.items), begins, (refl, (count.0, count.1, hold)))
+part_starts ts rest (parts.Text x) is = (string x.now, rw is (text_begins 1 x.now rest), refl)
+part_starts ts rest (parts.Truth x) is = (boolean x, rw is (truth_begins 1 x rest), refl)
+part_starts ts rest (parts.Whole x) (text, is, numbered) = (whole x, rw is (whole_begins 1 x text rest numbered), refl)
+part_starts ts rest part says = absurd says
 
-pub markets_say : (ts list rest : List Token) (markets : List (List ℕ)) → ts ≡ begin_array ∷ list → BeginWithTexts read_market list markets rest
-    → (1 ≤ length markets) × (length markets ≤ most_markets) → BeginWithPart 1 ts (parts.Markets markets) rest
-markets_say ts list rest markets opens has count =
-    let (begins, hold) = listed read_market IsMarket markets_as_they_are ts list rest markets opens has in
-    (array (strings markets), begins, (refl, (count.0, count.1, hold)))
+pub part_begins : (is_inside : Bool) (ts rest : List Token) (part : Part) → StartWithPart ts part rest → BeginWithPart (deep_in is_inside) ts part rest
+part_begins true ts rest part says = part_starts ts rest part says
+part_begins false ts rest part says = let (found, begins, is) = part_starts ts rest part says in (found, λ depth h. begins depth (omega arith), is)
 
 -- ---- names
 
@@ -142,36 +114,7 @@ field_called name = find (λ field. bytes_eq name (field_name field)) all_fields
 
 called : (field : Field) → field_called (field_name field) ≡ Some field
 called fields.AfterBatch = refl
-called fields.AfterGtin = refl
-called fields.AfterSerials = refl
-called fields.Asker = refl
-called fields.At = refl
-called fields.Batch = refl
-called fields.BeforeBatch = refl
-called fields.BeforeGtin = refl
-called fields.BeforeSerials = refl
-called fields.Common = refl
-called fields.Expiry = refl
-called fields.Form = refl
-called fields.Found = refl
-called fields.Gtin = refl
-called fields.Markets = refl
-called fields.Msg = refl
-called fields.Name = refl
-called fields.National = refl
-called fields.PackSize = refl
-called fields.PackType = refl
-called fields.Q = refl
-called fields.Recalled = refl
-called fields.Scheme = refl
-called fields.Serial = refl
-called fields.Serials = refl
-called fields.Standing = refl
-called fields.Strength = refl
-called fields.To = refl
-called fields.User = refl
-called fields.V = refl
-called fields.Withdrawn = refl
+called field = refl
 
 -- two fields have two names
 pub name_apart : (f g : Field) → f ≢ g → field_name f ≡ field_name g → ⊥
@@ -202,51 +145,122 @@ all_entries deep start rest entries are = all_met entry_name (λ part met. IsPar
 pub part_shorter : (deep : ℕ) (ts rest : List Token) (part : Part) → BeginWithPart deep ts part rest → length rest < length ts
 part_shorter deep ts rest part (found, begins, says) = begun_shorter deep ts rest found begins
 
--- ---- what a field is read as
+-- ---- what is read of a part
 
-in_each : {A : Type 0} (version : Option Version) (f g : Version → Result A MessageFault) (x : A) → ((v : Version) → f v ≡ g v) → IsReadIn version f x → IsReadIn version g x
-in_each None f g x same h = λ v. sym (same v) ∙ h v
-in_each (Some version) f g x same h = sym (same version) ∙ h
+-- the text that a part is
+abbrev pub text_in : Part → Option (List ℕ)
+text_in (parts.Text text) = Some text.now
+text_in part = None
 
--- what is read in that version, or in each, is read in it
-pub read_in : {A : Type 0} (version : Version) (meant : Option Version) (f : Version → Result A MessageFault) (x : A) → IsOf version meant → IsReadIn meant f x → f version ≡ Ok x
-read_in version None f x of h = h version
-read_in version (Some other) f x same h = subst (λ v. f v ≡ Ok x) same h
+-- the whole number that a part is
+abbrev pub whole_in : Part → Option ℕ
+whole_in (parts.Whole number) = Some number
+whole_in part = None
 
--- what stands in a field, and says that part, is what the field is read as
-field_read : (field : Field) (part : Part) (there value : Data) → get (field_name field) value ≡ Some there → IsPart there part → IsFieldOf value field part
-field_read field (parts.Batch x) there value at (text, is, read) = taken_read read_code field value x (text, at ∙ ap (λ d. Some d) is, read)
-field_read field (parts.Count x) there value at (is, within) = count_read field value x (at ∙ ap (λ d. Some d) is, within)
-field_read field (parts.Expiry x) there value at (text, is, read) = taken_read read_expiry field value x (text, at ∙ ap (λ d. Some d) is, read)
-field_read field (parts.Form x) there value at is = tt
-field_read field (parts.Found x) there value at is =
-    in_each x.version (λ version. found_of version there) (λ version. member_at field value and_then found_of version) x.found (λ version. sym (ap (λ r. r and_then found_of version) (member_read field value there at))) is
-field_read field (parts.Gtin x) there value at (text, is, read) = taken_read read_gtin field value x (text, at ∙ ap (λ d. Some d) is, read)
-field_read field (parts.Markets x) there value at (is, hold) = list_read read_market IsMarket markets_as_they_are most_markets field value x (at ∙ ap (λ d. Some d) is, hold)
-field_read field (parts.Moment x) there value at (seconds, is, read) =
-    moment_read field value x (at ∙ ap (λ d. Some d) is ∙ ap (λ n. Some (whole n)) (moment_is_itself seconds x read), read_moment_is_moment seconds x read)
-field_read field (parts.National None) there value at is = national_read Two field value None (at ∙ ap (λ d. Some d) is, tt)
-field_read field (parts.National (Some x)) there value at (text, is, read) =
-    national_read Two field value (Some x) (at ∙ ap (λ d. Some d) is ∙ ap (λ t. Some (string t)) (codes_as_they_are.same text x read), codes_as_they_are.holds text x read)
-field_read field (parts.Party x) there value at (is, within) = number_read field value x (at ∙ ap (λ d. Some d) is) within
-field_read field (parts.Serial x) there value at (text, is, read) = taken_read read_code field value x (text, at ∙ ap (λ d. Some d) is, read)
-field_read field (parts.Serials x) there value at (is, hold) = list_read read_code IsCode codes_as_they_are most_serials field value x (at ∙ ap (λ d. Some d) is, hold)
-field_read field (parts.Standing x) there value at (text, is, named) =
-    standing_read field value x (at ∙ ap (λ d. Some d) is ∙ ap (λ t. Some (string t)) (standing_has_name text x named))
-field_read field (parts.Text x) there value at (is, free) = free_text_is_read field value x (at ∙ ap (λ d. Some d) is, free)
-field_read field (parts.Truth x) there value at is = truth_read field value x (at ∙ ap (λ d. Some d) is)
-field_read field parts.Two there value at is = tt
+-- what a part is that is true or false
+abbrev pub truth_in : Part → Option Bool
+truth_in (parts.Truth truth) = Some truth
+truth_in part = None
 
--- the fields that an object has are what it is read as
-pub fields_read : (value : Data) (entries : List Entry) → HasEntries value entries → AreFieldsOf value entries
-fields_read value entries has k d h =
-    let (there, at, is) = has.says k d h in
-    let met = get_or entries k d in field_read met.field met.part there value at is
+-- whether a part is null
+abbrev pub is_null : Part → Bool
+is_null parts.Null = true
+is_null part = false
 
--- what is taken out of a field is what the object is read as there
-pub taken : (value : Data) (old : List Entry) (place : ℕ) (met : Entry) → place < length old → met ≡ get_or old place met → AreFieldsOf value old
-    → IsFieldOf value met.field met.part × AreFieldsOf value (swap_remove old place met)
-taken value old place met within is are =
-    let P : Entry → Type 0 = λ met. IsFieldOf value met.field met.part in
-    let all = All-permutation P old (met ∷ swap_remove old place met) (IsPermutation-swap_remove old place met within is) are in
-    (All-head P met (swap_remove old place met) all, All-tail P met (swap_remove old place met) all)
+-- what stands in a field is what its part is
+pub part_is : (found : Data) (part : Part) → IsPart found part
+    → (as_str found ≡ text_in part) × (whole_number found ≡ whole_in part) × (as_bool found ≡ truth_in part) × (is_some (as_null found) ≡ is_null part)
+part_is found (parts.Found x) (_, is, _) = rw is (refl, refl, refl, refl)
+part_is found (parts.Markets x) (is, _) = rw is (refl, refl, refl, refl)
+part_is found (parts.Serials x) (is, _) = rw is (refl, refl, refl, refl)
+part_is found parts.Taken (_, is) = rw is (refl, refl, refl, refl)
+part_is found parts.Null is = rw is (refl, refl, refl, refl)
+part_is found (parts.Text x) is = rw is (refl, refl, refl, refl)
+part_is found (parts.Truth x) is = rw is (refl, refl, refl, refl)
+part_is found (parts.Whole x) is = rw is (refl, refl, refl, refl)
+
+-- ---- lists that are taken out
+
+-- what was taken out stood there, and the object is what it was
+part_taken : (value : Data) (old new : List Entry) (field : Field) (part : Part) → HasEntries value old → IsTaken old field part new
+    → ((found : Data) → IsPart found part → IsPart found parts.Taken) → ((found : Data) × (get (field_name field) value ≡ Some found) × IsPart found part) × HasEntries value new
+part_taken value old new field part has taken is_list =
+    let Says : Entry → Type 0 = λ met. (found : Data) × (get (entry_name met) value ≡ Some found) × IsPart found met.part in
+    let (found, at, is) = subst Says taken.was (has.says taken.place (entry field part) taken.within) in
+    let without = set old taken.place (entry field parts.Taken) in
+    let names : map entry_name without ≡ map entry_name old =
+    map-set_same entry_name old taken.place (entry field parts.Taken) (entry field part) (ap entry_name (sym taken.was)) in (
+      (found, at, is),
+      subst (HasEntries value) (sym taken.taken) (record {
+        members = has.members;
+        is = has.is;
+        says = All-set Says old taken.place (entry field parts.Taken) (found, at, is_list found is) has.says;
+        only = subst (λ names. AllByRecursion (Contains names) (keys_of has.members)) (sym names) has.only;
+      }),
+    )
+
+pub markets_taken : (value : Data) (old new : List Entry) (field : Field) (x : _) → HasEntries value old → IsTaken old field (parts.Markets x) new
+    → (list_at read_market most_markets field value ≡ Ok x.items) × HasEntries value new
+markets_taken value old new field x has taken =
+    let ((found, at, (is, hold)), left) = part_taken value old new field (parts.Markets x) has taken (λ found is. (strings x.items, is.0)) in
+    (list_read read_market IsMarket markets_as_they_are most_markets field value x.items (at ∙ ap (λ d. Some d) is, hold), left)
+
+pub serials_taken : (value : Data) (old new : List Entry) (field : Field) (x : _) → HasEntries value old → IsTaken old field (parts.Serials x) new
+    → (list_at read_code most_serials field value ≡ Ok x.items) × HasEntries value new
+serials_taken value old new field x has taken =
+    let ((found, at, (is, hold)), left) = part_taken value old new field (parts.Serials x) has taken (λ found is. (strings x.items, is.0)) in
+    (list_read read_code IsCode codes_as_they_are most_serials field value x.items (at ∙ ap (λ d. Some d) is, hold), left)
+
+-- ---- fields that are not there
+
+-- a field that was not met is not there
+pub not_there : (field : Field) (value : Data) (entries : List Entry) → HasEntries value entries → All (λ other. other.field ≢ field) entries
+    → get (field_name field) value ≡ None
+not_there field value entries has apart =
+    let others : All (λ name. name ≢ field_name field) (map entry_name entries) =
+    All-map (λ name. name ≢ field_name field) entry_name entries (λ k d h. name_apart _ field (apart k d h)) in
+    ap (get (field_name field)) has.is
+    ∙ none_named (field_name field) has.members
+    (weaker (Contains (map entry_name entries)) (λ key. key ≢ field_name field) (λ key h. All-contains (λ name. name ≢ field_name field) (map entry_name entries) key others h) (keys_of has.members) has.only)
+
+-- what stands in a field, stands there
+pub is_there : (field : Field) (value found : Data) (place : Place) → get (field_name field) value ≡ Some found → IsPlace found place → IsThere field value place
+unfolding there
+is_there field value found place at is = (rw at refl, rw at is)
+
+-- what was met stands in its field
+pub stands : (value : Data) (entries : List Entry) (field : Field) (part : Part) → HasEntries value entries → Contains entries (entry field part)
+    → (found : Data) × (get (field_name field) value ≡ Some found) × IsPart found part
+stands value entries field part has at =
+    All-contains (λ met. (found : Data) × (get (entry_name met) value ≡ Some found) × IsPart found met.part) entries (entry field part) has.says at
+
+-- ---- objects that have no fields but some
+
+named_each : (listed : List Field) → All (λ field. Contains (map field_name listed) (field_name field)) listed
+named_each [] = All-nil _
+named_each (field ∷ rest) =
+    All-cons (λ f. Contains (map field_name (field ∷ rest)) (field_name f)) field rest (0, omega arith, refl)
+    (λ k d h. Contains-append_right (field_name field ∷ []) (map field_name rest) _ (named_each rest k d h))
+
+-- an object whose fields are all among these has no other key
+pub known_only : (value : Data) (entries : List Entry) (listed : List Field) → HasEntries value entries → All (λ met. Contains listed met.field) entries
+    → HasOnly (map field_name listed) value
+known_only value entries listed has among =
+    let P : List ℕ → Type 0 = Contains (map field_name listed) in
+    let known : All P (map entry_name entries) =
+    All-map P entry_name entries (λ k d h. All-contains (λ field. P (field_name field)) listed _ (named_each listed) (among k d h)) in
+    (has.members, has.is, weaker (Contains (map entry_name entries)) P (λ key h. All-contains P (map entry_name entries) key known h) (keys_of has.members) has.only)
+
+-- ---- whole texts
+
+-- the text whose tokens are a message is read as it
+text_read : (s : List ℕ) (message : Message) → IsUtf8 s → BeginWithMessage (tokens s) message [] → read_bytes s ≡ Ok message
+text_read s message utf8 (found, begins, is) =
+    let parsed = converted_some of_json (value 127 (tokens s)) found [] (begins 127 (omega arith)) in
+    rw (utf8_test s utf8, parsed.1, parsed.2) is
+
+-- the same of a message that there may be
+pub maybe_read : (s : List ℕ) (message : Option Message) → IsUtf8 s → IfSome message (λ m. BeginWithMessage (tokens s) m [])
+    → IfSome message (λ m. read_bytes s ≡ Ok m)
+maybe_read s None utf8 are = tt
+maybe_read s (Some message) utf8 are = text_read s message utf8 are

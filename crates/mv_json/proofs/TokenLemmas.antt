@@ -4,17 +4,19 @@ use Rattle.std.proofs.lemmas.List.{take_all}
 use Rattle.std.specs.Prelude.{Result, Ok}
 use Rattle.std.proofs.lemmas.Result.{on_ok_weaker}
 use Rattle.json.specs.Token as token
-use Rattle.json.specs.Token.{Token, key, begin_array, end_array, begin_object, end_object}
+use Rattle.json.specs.Token.{Token, key, begin_array, end_array, end_object}
 use Rattle.json.specs.Print.{print}
-use Rattle.json.specs.Tree.{items_tokens, members_tokens}
+use Rattle.json.specs.Tree.{items_tokens}
 use Rattle.json.specs.Written.{Written, Writes}
 use Rattle.serde_json.specs.Data.{Data, array, object}
-use Rattle.serde_json.specs.Written.{items_outline, members_outline, compact_text}
+use Rattle.serde_json.specs.Written.{items_outline, compact_text}
 use Rattle.serde_json.proofs.Texts.{print-outline}
-use Rattle.mv_json.specs.Tokens.{Puts, tokens_of, member_tokens}
-use Rattle.mv_json.specs.Objects.{members_of, nested_members}
+use Rattle.mv_json.specs.Fields.{field_name}
+use Rattle.mv_json.specs.Tokens.{Puts, PutsValue, tokens_of, rest_tokens}
+use Rattle.mv_json.specs.Objects.{said_value, members_of}
 use Rattle.mv_json.specs.Values.{strings}
-use Rattle.mv_json.specs.declared.member.Member.{Member}
+use Rattle.mv_json.specs.declared.field.Field.{Field}
+use Rattle.mv_json.specs.declared.member.Said.{Said}
 
 -- a token that was written
 pub one : {E : Type 0} {result : Result (Unit {0}) E} {old new : Written} {token : Token} → Writes result old new token → Puts result old new (token ∷ [])
@@ -33,31 +35,33 @@ module _ {E F : Type 0} {done : Unit {0}} {result : Result (Unit {0}) E} {old no
 pub named : {E : Type 0} {result : Result (Unit {0}) E} {old new : Written} {tokens others : List Token} → Puts result old new tokens → tokens ≡ others → Puts result old new others
 named {E} {result} {old} {new} puts same = subst (Puts result old new) same puts
 
-list_tokens : (texts : List (List ℕ)) → map token.string texts ++ end_array ∷ [] ≡ items_tokens (items_outline (strings texts))
-list_tokens [] = refl
-list_tokens (text ∷ texts) = ap (λ ts. token.string text ∷ ts) (list_tokens texts)
+-- the same value, named otherwise
+pub value_named : {E : Type 0} (result : Result (Unit {0}) E) (old new : Written) (value other : Data) → PutsValue result old new value → value ≡ other → PutsValue result old new other
+value_named result old new value other puts same = subst (PutsValue result old new) same puts
 
--- a list that was put to its end
-pub whole_list : (i : ℕ) (texts : List (List ℕ)) → length texts ≤ i → (begin_array ∷ map token.string (take i texts)) ++ end_array ∷ [] ≡ tokens_of (array (strings texts))
-whole_list i texts end =
-    ap (λ ts. begin_array ∷ ts) (ap (λ some. map token.string some ++ end_array ∷ []) (take_all i texts end) ∙ list_tokens texts)
+module _ {A : Type 0} (text_of : A → List ℕ) where
+  list_tokens : (values : List A) → map (λ value. token.string (text_of value)) values ++ end_array ∷ [] ≡ items_tokens (items_outline (strings (map text_of values)))
+  list_tokens [] = refl
+  list_tokens (value ∷ values) = ap (λ ts. token.string (text_of value) ∷ ts) (list_tokens values)
 
-members_are : (parts : List Member) → flat_map member_tokens parts ++ end_object ∷ [] ≡ members_tokens (members_outline (members_of parts))
+  -- a list that was put to its end
+  pub whole_list : (i : ℕ) (values : List A) → length values ≤ i → (begin_array ∷ map (λ value. token.string (text_of value)) (take i values)) ++ end_array ∷ [] ≡ tokens_of (array (strings (map text_of values)))
+  whole_list i values end =
+      ap (λ ts. begin_array ∷ ts) (ap (λ some. map (λ value. token.string (text_of value)) some ++ end_array ∷ []) (take_all i values end) ∙ list_tokens values)
+
+-- the tokens of a member
+abbrev pub member_tokens : Field × Said → List Token
+member_tokens (field, said) = key (field_name field) ∷ tokens_of (said_value said)
+
+members_are : (members : List (Field × Said)) → flat_map member_tokens members ++ end_object ∷ [] ≡ rest_tokens (object (members_of members))
 members_are [] = refl
-members_are (part ∷ parts) =
-    append_assoc (member_tokens part) (flat_map member_tokens parts) (end_object ∷ [])
-    ∙ ap (λ ts. member_tokens part ++ ts) (members_are parts)
+members_are (member ∷ members) =
+    append_assoc (member_tokens member) (flat_map member_tokens members) (end_object ∷ [])
+    ∙ ap (λ ts. member_tokens member ++ ts) (members_are members)
 
--- an object that was put to its end
-pub whole_object : (parts : List Member) → begin_object ∷ (flat_map member_tokens parts ++ end_object ∷ []) ≡ tokens_of (object (members_of parts))
-whole_object parts = ap (λ ts. begin_object ∷ ts) (members_are parts)
-
--- so is one whose second member is an object
-pub whole_nested_object : (first : Member) (name : List ℕ) (inner rest : List Member)
-    → begin_object ∷ (member_tokens first ++ (key name ∷ (tokens_of (object (members_of inner)) ++ (flat_map member_tokens rest ++ end_object ∷ []))))
-    ≡ tokens_of (object (nested_members first name inner rest))
-whole_nested_object first name inner rest =
-    ap (λ ts. begin_object ∷ (member_tokens first ++ (key name ∷ (tokens_of (object (members_of inner)) ++ ts)))) (members_are rest)
+-- members that were put to their end
+pub whole_rest : (i : ℕ) (members : List (Field × Said)) → length members ≤ i → flat_map member_tokens (take i members) ++ end_object ∷ [] ≡ rest_tokens (object (members_of members))
+whole_rest i members end = ap (λ some. flat_map member_tokens some ++ end_object ∷ []) (take_all i members end) ∙ members_are members
 
 -- the text of a value's tokens, put behind none, is its compact text
 pub printed : (value : Data) (start tokens : List Token) → start ≡ [] → tokens ≡ start ++ tokens_of value → print tokens ≡ compact_text value

@@ -1,35 +1,40 @@
--- The values of messages.
-use Rattle.std.proofs.Common.{◌≡◌, ◌≤◌, ℕ, suc, sym, subst, arith, true, false, List, [], ◌∷◌, ap, refl}
-use Rattle.std.specs.Prelude.{IsUtf8, max, Some, None}
-use Rattle.std.specs.Str.{is_utf8}
-use Rattle.std.proofs.lemmas.Str.{IsUtf8-from_is_utf8, is_utf8-from_IsUtf8}
-use Rattle.serde_json.specs.Data.{Data, depth, items_depth}
-use Rattle.serde_json.specs.Read.{max_depth}
-use Rattle.mv_json.specs.Contents.{contents_of}
-use Rattle.mv_json.specs.Forms.{form_of}
-use Rattle.mv_json.specs.Meanings.{object_of}
-use Rattle.mv_json.specs.Messages.{message_version, value_of}
-use Rattle.mv_json.specs.Objects.{found_version}
-use Rattle.mv_json.specs.Shapes.{meaning_of}
+-- The values of messages: how deep they nest, their keys in byte order, and their canonical text, which is read as them.
+use Rattle.json.proofs.Printed.Decimals.{IsNumber-decimal}
+use Rattle.json.proofs.Printed.Tokens.{tokens-print}
+use Rattle.json.proofs.Printed.Trees.{value-json_tokens, ArePrintable-json_tokens}
+use Rattle.json.specs.Json as json
+use Rattle.json.specs.Lex.{tokens}
+use Rattle.json.specs.Tree as tree
+use Rattle.mv_json.proofs.OrderLemmas.{rises, strictly_sorted}
+use Rattle.mv_json.proofs.ReadsLemmas.{reads_back}
+use Rattle.mv_json.specs.Found.{found_version, found_value}
+use Rattle.mv_json.specs.Keys.{KeysAscend, ItemsKeysAscend}
+use Rattle.mv_json.specs.Shapes.{HasWords, IsLegal}
+use Rattle.mv_json.specs.Messages.{value_of, read_bytes, read_message}
+use Rattle.mv_json.specs.Objects.{value_in}
+use Rattle.mv_json.specs.Reading.{◌and_then◌}
+use Rattle.mv_json.specs.Tokens.{tokens_of}
 use Rattle.mv_json.specs.Values.{strings}
-use Rattle.mv_pack.specs.declared.key.PackKey.{PackKey}
-use Rattle.mv_message.specs.declared.found.Found.{Found}
-use Rattle.mv_message.specs.declared.found.Found.TheVariants.{Absent, Present}
+use Rattle.mv_json.specs.declared.fault.MessageFault.TheVariants.{NotJson}
 use Rattle.mv_json.specs.declared.version.Version.{Version}
 use Rattle.mv_json.specs.declared.version.Version.TheVariants.{One, Two}
+use Rattle.mv_message.specs.declared.found.Found.{Found}
+use Rattle.mv_message.specs.declared.found.Found.TheVariants.{Absent, Present}
 use Rattle.mv_message.specs.declared.message.Message.{Message}
 use Rattle.mv_message.specs.declared.message.Message.TheVariants as messages
-
--- the value of a message in a version
-abbrev pub value_in : Version → Message → Data
-value_in version message = object_of (meaning_of version (form_of message)) (contents_of version message)
-
--- an answer is written in the version that says all of what was found
-pub answer_version : (asker q : ℕ) (key : PackKey) (found : Found) → found_version found ≡ message_version (messages.Answer asker q key found)
-answer_version asker q key Absent = refl
-answer_version asker q key (Present batch expiry None standing recalled true) = refl
-answer_version asker q key (Present batch expiry None standing recalled false) = refl
-answer_version asker q key (Present batch expiry (Some number) standing recalled withdrawn) = refl
+use Rattle.mv_pack.specs.declared.key.PackKey.{PackKey}
+use Rattle.serde_json.proofs.Numbers.{number_of-decimal}
+use Rattle.serde_json.proofs.Texts.{print-outline}
+use Rattle.serde_json.specs.Data.{Data, depth, items_depth, string, array, object, Items, no_items, item, Members, no_members, member, members_depth}
+use Rattle.serde_json.specs.Read.{max_depth, read, of_json, of_items}
+use Rattle.serde_json.specs.Written.{outline, items_outline, members_outline, compact_text}
+use Rattle.std.proofs.Common.{◌≡◌, ◌≤◌, ℕ, suc, sym, subst, arith, true, List, [], ◌∷◌, ap, refl, ◌∙◌, ◌<◌, ◌^◌, max, ap₂, append-nil, option_and_then, option_map, cond}
+use Rattle.std.proofs.lemmas.Str.{IsUtf8-from_is_utf8, is_utf8-from_IsUtf8}
+use Rattle.std.specs.Cmp.Lexicographic.{slice_cmp}
+use Rattle.std.specs.Option.{ok_or}
+use Rattle.std.specs.Ordering.{nat_cmp}
+use Rattle.std.specs.Prelude.{IsUtf8, max, Some, None, Ok}
+use Rattle.std.specs.Str.{is_utf8}
 
 items_flat : (texts : List (List ℕ)) → items_depth (strings texts) ≡ 0
 items_flat [] = refl
@@ -37,28 +42,20 @@ items_flat (text ∷ texts) = ap (λ n. max 0 n) (items_flat texts)
 
 answer_depth : (version : Version) (asker q : ℕ) (key : PackKey) (f : Found) → depth (value_in version (messages.Answer asker q key f)) ≤ max_depth
 answer_depth One asker q key Absent = omega arith
-answer_depth Two asker q key Absent = omega arith
-answer_depth One asker q key (Present batch expiry national standing recalled withdrawn) = omega arith
 answer_depth Two asker q key (Present batch expiry None standing recalled withdrawn) = omega arith
-answer_depth Two asker q key (Present batch expiry (Some number) standing recalled withdrawn) = omega arith
+answer_depth version asker q key found = omega arith
 
 -- the value of a message nests two deep
 pub value_depth : (m : Message) → depth (value_of m) ≤ max_depth
-value_depth (messages.Master gtin product) = subst (λ n. suc (max 0 (max 0 (max 0 (max (suc n) (max 0 (max 0 (max 0 (max 0 (max 0 (max 0 0)))))))))) ≤ max_depth) (sym (items_flat product.markets)) (omega arith)
-value_depth (messages.Upload gtin batch expiry None serials) =
-    subst (λ n. suc (max 0 (max 0 (max 0 (max 0 (max (suc n) 0))))) ≤ max_depth) (sym (items_flat serials)) (omega arith)
-value_depth (messages.Upload gtin batch expiry (Some national) serials) =
-    subst (λ n. suc (max 0 (max 0 (max 0 (max 0 (max 0 (max (suc n) (max 0 0))))))) ≤ max_depth) (sym (items_flat serials)) (omega arith)
+value_depth (messages.Master gtin product) = rw (items_flat product.markets) (omega arith)
+value_depth (messages.Upload gtin batch expiry None serials) = rw (items_flat serials) (omega arith)
+value_depth (messages.Upload gtin batch expiry (Some national) serials) = rw (items_flat serials) (omega arith)
 value_depth (messages.Status key to user at) = omega arith
 value_depth (messages.Recall key at) = omega arith
-value_depth (messages.Repack before before_serials after after_serials at) =
-    subst (λ n. suc (max 0 (max 0 (max (suc n) (max 0 (max 0 (max 0 (max (suc (items_depth (strings before_serials))) (max 0 0)))))))) ≤ max_depth) (sym (items_flat after_serials))
-    (subst (λ n. suc (max 0 (max 0 (max 1 (max 0 (max 0 (max 0 (max (suc n) (max 0 0)))))))) ≤ max_depth) (sym (items_flat before_serials)) (omega arith))
+value_depth (messages.Repack before before_serials after after_serials at) = rw (items_flat after_serials, items_flat before_serials) (omega arith)
 value_depth (messages.Withdraw gtin at) = omega arith
 value_depth (messages.Query key) = omega arith
-value_depth (messages.Answer asker q key found) =
-    subst (λ version. depth (value_in version (messages.Answer asker q key found)) ≤ max_depth) (answer_version asker q key found)
-    (answer_depth (found_version found) asker q key found)
+value_depth (messages.Answer asker q key found) = answer_depth (found_version found) asker q key found
 
 -- bytes that are text pass the test
 pub utf8_test : (bytes : List ℕ) → IsUtf8 bytes → is_utf8 bytes ≡ true
@@ -67,3 +64,108 @@ utf8_test bytes = is_utf8-from_IsUtf8 bytes
 -- bytes that pass the test are text
 pub utf8_fact : (bytes : List ℕ) → is_utf8 bytes ≡ true → IsUtf8 bytes
 utf8_fact bytes = IsUtf8-from_is_utf8 bytes
+
+-- ---- the keys of the values of messages stand in byte order
+
+texts_ascend : (texts : List (List ℕ)) → ItemsKeysAscend (strings texts)
+texts_ascend [] = tt
+texts_ascend (text ∷ texts) = (tt, texts_ascend texts)
+
+found_ascends : (version : Version) (found : Found) → KeysAscend (found_value version found)
+unfolding rises
+found_ascends version Absent = tt
+found_ascends One (Present batch expiry national standing recalled withdrawn) = (strictly_sorted (slice_cmp nat_cmp) _ refl, (tt, (tt, (tt, (tt, tt)))))
+found_ascends Two (Present batch expiry None standing recalled withdrawn) = (strictly_sorted (slice_cmp nat_cmp) _ refl, (tt, (tt, (tt, (tt, (tt, (tt, tt)))))))
+found_ascends Two (Present batch expiry (Some code) standing recalled withdrawn) = (strictly_sorted (slice_cmp nat_cmp) _ refl, (tt, (tt, (tt, (tt, (tt, (tt, tt)))))))
+
+answer_ascends : (version : Version) (asker q : ℕ) (key : PackKey) (found : Found) → KeysAscend (value_in version (messages.Answer asker q key found))
+unfolding rises
+answer_ascends One asker q key found = (strictly_sorted (slice_cmp nat_cmp) _ refl, (tt, (found_ascends One found, (tt, (tt, (tt, (tt, tt)))))))
+answer_ascends Two asker q key found = (strictly_sorted (slice_cmp nat_cmp) _ refl, (tt, (found_ascends Two found, (tt, (tt, (tt, (tt, (tt, tt))))))))
+
+-- the keys of each object in the value of a message ascend
+pub keys_ascend : (m : Message) → KeysAscend (value_of m)
+unfolding rises
+keys_ascend (messages.Master gtin product) = (strictly_sorted (slice_cmp nat_cmp) _ refl, (tt, (tt, (tt, (texts_ascend product.markets, (tt, (tt, (tt, (tt, (tt, (tt, tt)))))))))))
+keys_ascend (messages.Upload gtin batch expiry None serials) = (strictly_sorted (slice_cmp nat_cmp) _ refl, (tt, (tt, (tt, (tt, (texts_ascend serials, tt))))))
+keys_ascend (messages.Upload gtin batch expiry (Some code) serials) = (strictly_sorted (slice_cmp nat_cmp) _ refl, (tt, (tt, (tt, (tt, (tt, (texts_ascend serials, (tt, tt))))))))
+keys_ascend (messages.Status key to user at) = (strictly_sorted (slice_cmp nat_cmp) _ refl, (tt, (tt, (tt, (tt, (tt, (tt, tt)))))))
+keys_ascend (messages.Recall key at) = (strictly_sorted (slice_cmp nat_cmp) _ refl, (tt, (tt, (tt, (tt, tt)))))
+keys_ascend (messages.Repack before before_serials after after_serials at) = (strictly_sorted (slice_cmp nat_cmp) _ refl, (tt, (tt, (texts_ascend after_serials, (tt, (tt, (tt, (texts_ascend before_serials, (tt, tt)))))))))
+keys_ascend (messages.Withdraw gtin at) = (strictly_sorted (slice_cmp nat_cmp) _ refl, (tt, (tt, (tt, (tt, tt)))))
+keys_ascend (messages.Query key) = (strictly_sorted (slice_cmp nat_cmp) _ refl, (tt, (tt, (tt, tt))))
+keys_ascend (messages.Answer asker q key found) = answer_ascends (found_version found) asker q key found
+
+-- ---- the canonical text of a message is read as its value
+
+-- a value nests as deep as its tokens
+mutual
+  outline_depth : (d : Data) → tree.depth (outline d) ≡ depth d
+  outline_depth (array ds) = ap (λ n. suc n) (items_outline_depth ds)
+  outline_depth (object ms) = ap (λ n. suc n) (members_outline_depth ms)
+  outline_depth d = refl
+
+  items_outline_depth : (ds : Items) → tree.items_depth (items_outline ds) ≡ items_depth ds
+  items_outline_depth no_items = refl
+  items_outline_depth (item d ds) = ap₂ max (outline_depth d) (items_outline_depth ds)
+
+  members_outline_depth : (ms : Members) → tree.members_depth (members_outline ms) ≡ members_depth ms
+  members_outline_depth no_members = refl
+  members_outline_depth (member k d ms) = ap₂ max (outline_depth d) (members_outline_depth ms)
+
+-- what reads back: its numbers are numbers of JSON, and it is the value that its outline reads as
+record ReadsBack (d : Data) : Type 0 where
+  numbers : tree.HasNumbers (outline d)
+  same : of_json (outline d) ≡ Some d
+
+-- a value whose outline reads as it is what its text is read as
+text_of_value : (d : Data) → depth d ≤ max_depth → ReadsBack d → read (compact_text d) ≡ Some d
+text_of_value d shallow back =
+    let text = ap tokens (sym (print-outline d)) ∙ tokens-print (tokens_of d) (ArePrintable-json_tokens (outline d) back.numbers) ∙ sym (append-nil (tokens_of d)) in
+    ap (λ o. option_and_then of_json (option_and_then (λ p. json.if_last p.0 p.1) o))
+    (ap (json.value max_depth) text ∙ value-json_tokens (outline d) max_depth [] (subst (λ n. n ≤ max_depth) (sym (outline_depth d)) shallow))
+    ∙ back.same
+
+texts_have_numbers : (texts : List (List ℕ)) → tree.ItemsHaveNumbers (items_outline (strings texts))
+texts_have_numbers [] = tt
+texts_have_numbers (text ∷ texts) = (tt, texts_have_numbers texts)
+
+texts_same : (texts : List (List ℕ)) → of_items (items_outline (strings texts)) ≡ Some (strings texts)
+texts_same [] = refl
+texts_same (text ∷ texts) = ap (λ o. option_map (item (string text)) o) (texts_same texts)
+
+found_back : (version : Version) (found : Found) → ReadsBack (found_value version found)
+found_back version Absent = record { numbers = tt; same = refl }
+found_back One (Present batch expiry national standing recalled withdrawn) = record { numbers = (tt, (tt, (tt, (tt, tt)))); same = refl }
+found_back Two (Present batch expiry None standing recalled withdrawn) = record { numbers = (tt, (tt, (tt, (tt, (tt, (tt, tt)))))); same = refl }
+found_back Two (Present batch expiry (Some code) standing recalled withdrawn) = record { numbers = (tt, (tt, (tt, (tt, (tt, (tt, tt)))))); same = refl }
+
+answer_back : (version : Version) (asker q : ℕ) (key : PackKey) (found : Found) → asker < 2 ^ 64 → q < 2 ^ 64 → ReadsBack (found_value version found) → ReadsBack (value_in version (messages.Answer asker q key found))
+answer_back One asker q key found small less back = record { numbers = (IsNumber-decimal asker (omega arith), (back.numbers, (tt, (tt, (IsNumber-decimal q (omega arith), (tt, tt)))))); same = rw (number_of-decimal asker (omega arith), back.same, number_of-decimal q (omega arith)) refl }
+answer_back Two asker q key found small less back = record { numbers = (IsNumber-decimal asker (omega arith), (back.numbers, (tt, (tt, (IsNumber-decimal q (omega arith), (tt, (IsNumber-decimal 2 (omega arith), tt))))))); same = rw (number_of-decimal asker (omega arith), back.same, number_of-decimal q (omega arith), number_of-decimal 2 (omega arith)) refl }
+
+message_back : (m : Message) → HasWords m → ReadsBack (value_of m)
+message_back (messages.Master gtin product) h = record { numbers = (tt, (tt, (tt, (texts_have_numbers product.markets, (tt, (tt, (tt, (tt, (tt, (tt, tt)))))))))); same = rw (texts_same product.markets) refl }
+message_back (messages.Upload gtin batch expiry None serials) h = record { numbers = (tt, (tt, (tt, (tt, (texts_have_numbers serials, tt))))); same = rw (texts_same serials) refl }
+message_back (messages.Upload gtin batch expiry (Some code) serials) h = record { numbers = (tt, (tt, (tt, (tt, (tt, (texts_have_numbers serials, (IsNumber-decimal 2 (omega arith), tt))))))); same = rw (texts_same serials, number_of-decimal 2 (omega arith)) refl }
+message_back (messages.Status key to user at) h = record { numbers = (IsNumber-decimal at (omega arith), (tt, (tt, (tt, (tt, (tt, tt)))))); same = rw (number_of-decimal at (omega arith)) refl }
+message_back (messages.Recall key at) h = record { numbers = (IsNumber-decimal at (omega arith), (tt, (tt, (tt, tt)))); same = rw (number_of-decimal at (omega arith)) refl }
+message_back (messages.Repack before before_serials after after_serials at) h = record { numbers = (tt, (tt, (texts_have_numbers after_serials, (IsNumber-decimal at (omega arith), (tt, (tt, (texts_have_numbers before_serials, (tt, tt)))))))); same = rw (texts_same after_serials, number_of-decimal at (omega arith), texts_same before_serials) refl }
+message_back (messages.Withdraw gtin at) h = record { numbers = (IsNumber-decimal at (omega arith), (tt, (tt, (IsNumber-decimal 2 (omega arith), tt)))); same = rw (number_of-decimal at (omega arith), number_of-decimal 2 (omega arith)) refl }
+message_back (messages.Query key) h = record { numbers = (tt, (tt, (tt, tt))); same = refl }
+message_back (messages.Answer asker q key found) h = answer_back (found_version found) asker q key found (omega arith) (omega arith) (found_back (found_version found) found)
+
+-- the canonical text of a message is read as its value
+pub text_reads : (m : Message) → HasWords m → read (compact_text (value_of m)) ≡ Some (value_of m)
+text_reads m h = text_of_value (value_of m) (value_depth m) (message_back m h)
+
+-- each legal message is read back from text that is JSON of its value
+pub text_reads_back : (m : Message) (t : List ℕ) → IsUtf8 t → read t ≡ Some (value_of m) → IsLegal m → read_bytes t ≡ Ok m
+text_reads_back m t utf8 json h =
+    ap (λ b. ok_or (cond b (read t) None) NotJson and_then read_message) (utf8_test t utf8)
+    ∙ ap (λ o. ok_or o NotJson and_then read_message) json
+    ∙ reads_back m h
+
+-- the canonical text of a legal message is read back as that message
+pub canonical_reads_back : (m : Message) (t : List ℕ) → IsUtf8 t → t ≡ compact_text (value_of m) → HasWords m → IsLegal m → read_bytes t ≡ Ok m
+canonical_reads_back m t utf8 same words h = text_reads_back m t utf8 (ap read same ∙ text_reads m words) h

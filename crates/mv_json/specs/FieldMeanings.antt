@@ -15,8 +15,7 @@ use Rattle.mv_json.specs.declared.version.Version.{Version}
 use Rattle.mv_json.specs.declared.version.Version.TheVariants.{One, Two}
 use Rattle.mv_json.specs.Limits.{most_markets, most_serials, most_text_bytes}
 use Rattle.mv_json.specs.Meanings.{Meaning, text_of, if_said, exactly}
-use Rattle.mv_json.specs.Numbers.{truth_at, withdrawn_at, moment_at, number_at, count_at}
-use Rattle.mv_json.specs.Reading.{read_at, list_at, standing_at, free_text_at, national_at}
+use Rattle.mv_json.specs.Reading.{truth_at, withdrawn_at, moment_at, number_at, count_at, read_at, list_at, standing_at, free_text_at, national_at}
 use Rattle.mv_json.specs.Values.{strings, whole, since_two}
 
 -- a text of 1 to 200 bytes

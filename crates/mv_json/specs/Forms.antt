@@ -1,17 +1,31 @@
--- The forms of messages, by the version and the text of their field `msg`.
-use Rattle.std.specs.Prelude.{ℕ, List, [], ◌∷◌, codes, bytes_eq, find, Option, Result}
-use Rattle.std.specs.Option.{ok_or}
-use Rattle.serde_json.specs.Data.{Data}
-use Rattle.mv_message.specs.declared.message.Message.{Message}
-use Rattle.mv_message.specs.declared.message.Message.TheVariants as messages
-use Rattle.mv_json.specs.declared.field.Field.TheVariants as fields
+-- The versions of the JSON form, told apart by the field `v`, and the forms of messages, by the text of their field `msg`.
+use Rattle.mv_json.specs.Fields.{field_name}
+use Rattle.mv_json.specs.Reading.{whole_number, ◌and_then◌, text_at}
 use Rattle.mv_json.specs.declared.fault.MessageFault.{MessageFault}
 use Rattle.mv_json.specs.declared.fault.MessageFault.TheVariants.{Kind}
+use Rattle.mv_json.specs.declared.field.Field.TheVariants as fields
 use Rattle.mv_json.specs.declared.form.Form.{Form}
 use Rattle.mv_json.specs.declared.form.Form.TheVariants as forms
 use Rattle.mv_json.specs.declared.version.Version.{Version}
 use Rattle.mv_json.specs.declared.version.Version.TheVariants.{One, Two}
-use Rattle.mv_json.specs.Reading.{◌and_then◌, text_at}
+use Rattle.mv_message.specs.declared.message.Message.{Message}
+use Rattle.mv_message.specs.declared.message.Message.TheVariants as messages
+use Rattle.serde_json.specs.Data.{Data}
+use Rattle.serde_json.specs.Find.{get}
+use Rattle.std.specs.Option.{ok_or}
+use Rattle.std.specs.Prelude.{⊤, ◌==◌, if◌then◌else◌, Option, Some, None, Result, Ok, Err, ℕ, List, [], ◌∷◌, codes, bytes_eq, find}
+
+-- the version, by what stands in `v`: 1 where nothing does; 2 where the whole number 2 does; else M5
+abbrev pub version_of : Option Data → Result Version MessageFault
+version_of None = Ok One
+version_of (Some found) =
+    ok_or (whole_number found) (Kind fields.V) and_then λ number. if number == 2 then Ok Two else Err (Kind fields.V)
+
+-- the version of an object: M5 of `v`
+unfoldable pub version_at : Data → Result Version MessageFault
+version_at value = version_of (get (field_name fields.V) value)
+
+-- ---- the forms of messages, by the version and the text of their field `msg`
 
 -- the text of `msg` in a message of the form
 abbrev pub form_name : Form → List ℕ
@@ -39,6 +53,11 @@ form_of (messages.Answer asker q key found) = forms.Answer
 abbrev pub forms_of : Version → List Form
 forms_of One = forms.Answer ∷ forms.Master ∷ forms.Query ∷ forms.Recall ∷ forms.Repack ∷ forms.Status ∷ forms.Upload ∷ []
 forms_of Two = forms.Answer ∷ forms.Master ∷ forms.Query ∷ forms.Recall ∷ forms.Repack ∷ forms.Status ∷ forms.Upload ∷ forms.Withdraw ∷ []
+
+-- the form came with that version, or before it
+abbrev pub IsIn : Form → Version → Type 0
+IsIn forms.Withdraw One = ⊥
+IsIn form version = ⊤
 
 -- the form of a version that a text of `msg` names
 abbrev pub form_named : Version → List ℕ → Option Form

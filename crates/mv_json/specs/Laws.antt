@@ -8,15 +8,12 @@ use Rattle.serde_json.specs.Data.{Data}
 use Rattle.mv_json.specs.declared.form.Form.{Form}
 use Rattle.mv_message.specs.declared.message.Message.{Message}
 use Rattle.mv_json.specs.declared.version.Version.{Version}
-use Rattle.mv_json.specs.Forms.{form_at}
+use Rattle.mv_json.specs.Forms.{form_at, version_at}
 use Rattle.mv_json.specs.Keys.{KeysAscend}
-use Rattle.mv_json.specs.Legal.{IsLegal}
+use Rattle.mv_json.specs.Shapes.{IsLegal, Reads, meaning_of, fields_of, names_of}
 use Rattle.mv_json.specs.Meanings.{first_fault}
 use Rattle.mv_json.specs.Messages.{read_message, value_of}
-use Rattle.mv_json.specs.Reads.{Reads}
-use Rattle.mv_json.specs.Shapes.{meaning_of, shape_of, names_of}
 use Rattle.mv_json.specs.Spellings.{HasOnly}
-use Rattle.mv_json.specs.Versions.{version_at}
 
 -- each legal message is read back from its value
 abbrev pub ReadsBack : Type 0
@@ -43,7 +40,7 @@ abbrev pub FirstFaultIsGiven : Type 0
 FirstFaultIsGiven =
     (value : Data) (version : Version) (form : Form)
     → version_at value ≡ Ok version → form_at version value ≡ Ok form → HasOnly (names_of version form) value
-    → result_err (read_message value) ≡ first_fault (meaning_of version form) (shape_of version form).listed value
+    → result_err (read_message value) ≡ first_fault (meaning_of version form) (fields_of form) value
 
 -- the fields of a message are in byte order of their names, each once
 abbrev pub FieldsAreInOrder : Type 0

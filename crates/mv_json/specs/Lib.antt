@@ -4,9 +4,6 @@ pub mod Fault
 pub mod Members
 pub mod Keys
 pub mod Reading
-pub mod Lists
-pub mod Numbers
-pub mod Versions
 pub mod Forms
 pub mod Spellings
 pub mod Values
@@ -14,13 +11,9 @@ pub mod Meanings
 pub mod FieldMeanings
 pub mod Found
 pub mod Shapes
-pub mod Memory
-pub mod Contents
 pub mod Messages
 pub mod Met
 pub mod Parts
 pub mod Objects
 pub mod Tokens
-pub mod Legal
-pub mod Reads
 pub mod Laws

@@ -1,9 +1,8 @@
 -- What a field means: how its values are read, written and spelled, and which are legal; and what the fields of an object say.
-use Rattle.std.specs.Prelude.{◌≡◌, ℕ, List, [], ◌∷◌, filter_map, Option, Some, None, option_map, Result, Ok}
-use Rattle.std.specs.List.{AllByRecursion}
-use Rattle.std.specs.Option.{option_or}
+use Rattle.std.specs.Prelude.{⊤, ◌≡◌, ℕ, List, [], ◌∷◌, Option, Some, None, Result, Ok}
+use Rattle.std.specs.Option.{option_or, option_map_or}
 use Rattle.std.specs.Result.{result_err}
-use Rattle.serde_json.specs.Data.{Data, string, object}
+use Rattle.serde_json.specs.Data.{Data, string, object, Members, no_members, member}
 use Rattle.serde_json.specs.Find.{get}
 use Rattle.mv_pack.specs.declared.fault.PackFault.{PackFault}
 use Rattle.mv_json.specs.declared.field.Field.{Field}
@@ -11,7 +10,6 @@ use Rattle.mv_json.specs.declared.fault.MessageFault.{MessageFault}
 use Rattle.mv_json.specs.Fields.{field_name}
 use Rattle.mv_json.specs.Reading.{◌and_then◌, read_at}
 use Rattle.mv_json.specs.Spellings.{Spells}
-use Rattle.mv_json.specs.Values.{members_with}
 
 -- What a field means: the values that it has, how one is read of an object, how it is written, if it is said at all, which
 -- objects spell it, and which values are legal.
@@ -61,19 +59,31 @@ abbrev pub first_fault : (Field → Meaning) → List Field → Data → Option 
 first_fault meaning [] value = None
 first_fault meaning (field ∷ rest) value = option_or (result_err ((meaning field).read value)) (first_fault meaning rest value)
 
--- a field, and the value that it has
-abbrev pub Said : (Field → Meaning) → Type 0
-Said meaning = (field : Field) × (meaning field).Value
+-- values of these fields, one for each
+abbrev pub Values : (Field → Meaning) → List Field → Type 0
+Values meaning [] = ⊤
+Values meaning (field ∷ rest) = (meaning field).Value × Values meaning rest
 
--- the object whose fields say that; where nothing is said there is no member
-abbrev pub object_of : (meaning : Field → Meaning) → List (Said meaning) → Data
-object_of meaning said =
-    object (members_with (filter_map (λ (field, x). option_map (λ value. (field_name field, value)) ((meaning field).written x)) said))
+-- the members of an object whose fields have these values; where nothing is said there is no member
+abbrev pub members_saying : (meaning : Field → Meaning) → (listed : List Field) → Values meaning listed → Members
+members_saying meaning [] values = no_members
+members_saying meaning (field ∷ rest) values =
+    let members = members_saying meaning rest values.1 in
+    option_map_or (λ value. member (field_name field) value members) ((meaning field).written values.0) members
 
--- the fields of the object spell that
-abbrev pub AreSpelled : (meaning : Field → Meaning) → List (Said meaning) → Data → Type 0
-AreSpelled meaning said value = AllByRecursion (λ (field, x). (meaning field).Spells value x) said
+-- the object whose fields have these values
+abbrev pub object_of : (meaning : Field → Meaning) → (listed : List Field) → Values meaning listed → Data
+object_of meaning listed values = object (members_saying meaning listed values)
 
--- what is said is legal
-abbrev pub AreLegal : (meaning : Field → Meaning) → List (Said meaning) → Type 0
-AreLegal meaning said = AllByRecursion (λ (field, x). (meaning field).IsLegal x) said
+-- that holds of the value of each of these fields
+abbrev pub EachHolds : (meaning : Field → Meaning) → ((field : Field) → (meaning field).Value → Type 0) → (listed : List Field) → Values meaning listed → Type 0
+EachHolds meaning Holds [] values = ⊤
+EachHolds meaning Holds (field ∷ rest) values = Holds field values.0 × EachHolds meaning Holds rest values.1
+
+-- the fields of the object spell these values
+abbrev pub AreSpelled : (meaning : Field → Meaning) → (listed : List Field) → Values meaning listed → Data → Type 0
+AreSpelled meaning listed values value = EachHolds meaning (λ field x. (meaning field).Spells value x) listed values
+
+-- these values are legal
+abbrev pub AreLegal : (meaning : Field → Meaning) → (listed : List Field) → Values meaning listed → Type 0
+AreLegal meaning listed values = EachHolds meaning (λ field x. (meaning field).IsLegal x) listed values

@@ -1,24 +1,24 @@
--- Messages: what reading a value or bytes gives, and the JSON value of each.
-use Rattle.std.specs.Prelude.{ℕ, true, List, if◌then◌else◌, Option, Some, None, Result, Err}
-use Rattle.std.specs.Option.{ok_or, option_map_or}
-use Rattle.std.specs.Str.{is_utf8}
+-- Messages: what reading a value or bytes gives, where that takes memory, and the JSON value of each.
+use Rattle.mv_json.specs.Forms.{form_of, form_at, version_at}
+use Rattle.mv_json.specs.Found.{found_version}
+use Rattle.mv_json.specs.Meanings.{object_of}
+use Rattle.mv_json.specs.Members.{first_unknown}
+use Rattle.mv_json.specs.Reading.{◌and_then◌}
+use Rattle.mv_json.specs.Shapes.{contents_of, fields_of, meaning_of, names_of, message_at}
+use Rattle.mv_json.specs.declared.fault.MessageFault.{MessageFault}
+use Rattle.mv_json.specs.declared.fault.MessageFault.TheVariants.{NotJson, NotObject, Unknown}
+use Rattle.mv_json.specs.declared.form.Form.{Form}
+use Rattle.mv_json.specs.declared.form.Form.TheVariants as forms
+use Rattle.mv_json.specs.declared.version.Version.{Version}
+use Rattle.mv_json.specs.declared.version.Version.TheVariants.{One, Two}
+use Rattle.mv_message.specs.declared.message.Message.{Message}
+use Rattle.mv_message.specs.declared.message.Message.TheVariants as messages
 use Rattle.serde_json.specs.Data.{Data}
 use Rattle.serde_json.specs.Find.{as_object}
 use Rattle.serde_json.specs.Read.{read}
-use Rattle.mv_json.specs.declared.fault.MessageFault.{MessageFault}
-use Rattle.mv_json.specs.declared.fault.MessageFault.TheVariants.{NotJson, NotObject, Unknown}
-use Rattle.mv_message.specs.declared.found.Found.TheVariants.{Present}
-use Rattle.mv_message.specs.declared.message.Message.{Message}
-use Rattle.mv_message.specs.declared.message.Message.TheVariants as messages
-use Rattle.mv_json.specs.declared.version.Version.{Version}
-use Rattle.mv_json.specs.declared.version.Version.TheVariants.{One, Two}
-use Rattle.mv_json.specs.Contents.{contents_of}
-use Rattle.mv_json.specs.Reading.{◌and_then◌}
-use Rattle.mv_json.specs.Forms.{form_of, form_at}
-use Rattle.mv_json.specs.Meanings.{object_of}
-use Rattle.mv_json.specs.Members.{first_unknown}
-use Rattle.mv_json.specs.Shapes.{meaning_of, names_of, message_at}
-use Rattle.mv_json.specs.Versions.{version_at}
+use Rattle.std.specs.Option.{ok_or, option_map_or}
+use Rattle.std.specs.Prelude.{ℕ, List, if◌then◌else◌, Option, Some, None, Result, Err, ◌≡◌, Bool, true, false, ◌||◌, is_some, Ok}
+use Rattle.std.specs.Str.{is_utf8}
 
 -- The message that a value is, or the first fault: M2, M5 of `v`, those of `msg`, M4 with the first key that the form does not have,
 -- then those of each field.
@@ -42,11 +42,29 @@ read_bytes bytes = ok_or (json_value bytes) NotJson and_then read_message
 abbrev pub message_version : Message → Version
 message_version (messages.Upload gtin batch expiry (Some national) serials) = Two
 message_version (messages.Withdraw gtin at) = Two
-message_version (messages.Answer asker q key (Present batch expiry (Some national) standing recalled withdrawn)) = Two
-message_version (messages.Answer asker q key (Present batch expiry None standing recalled true)) = Two
+message_version (messages.Answer asker q key found) = found_version found
 message_version message = One
 
 -- the value of a message
 abbrev pub value_of : Message → Data
 value_of message =
-    object_of (meaning_of (message_version message) (form_of message)) (contents_of (message_version message) message)
+    object_of (meaning_of (message_version message) (form_of message)) (fields_of (form_of message)) (contents_of (message_version message) message)
+
+-- ---- where reading a message takes memory: want of it stands in place of no other answer
+
+-- the messages of a form hold free texts, or lists of markets or serial numbers
+abbrev pub holds_texts : Form → Bool
+holds_texts forms.Master = true
+holds_texts forms.Repack = true
+holds_texts forms.Status = true
+holds_texts forms.Upload = true
+holds_texts form = false
+
+-- Reading this value may take memory: it is an object whose version and form are read, and memory is taken to name a key that the
+-- form does not have, or to keep what it holds.
+abbrev pub MayTakeMemory : Data → Type 0
+MayTakeMemory value =
+    (ok_or (as_object value) NotObject and_then λ members.
+    version_at value and_then λ version.
+    form_at version value and_then λ form.
+    Ok (is_some (first_unknown (names_of version form) members) || holds_texts form)) ≡ Ok true

@@ -1,42 +1,48 @@
 -- What stands in the fields of a message, as they are met in its object; and the tokens of JSON that it is read from.
-use Rattle.std.specs.Prelude.{⊤, ◌≡◌, ◌≤◌, ◌<◌, ◌^◌, ℕ, List, [], ◌∷◌, All, Option, Some, None, Result, Ok}
-use Rattle.json.specs.Token.{Token, end_array, string as text_token}
-use Rattle.serde_json.specs.Data.{Data, null, boolean, string, array}
+use Rattle.std.specs.Prelude.{⊤, Bool, true, false, ◌≡◌, ◌≢◌, ◌≤◌, ◌<◌, ℕ, List, [], ◌∷◌, length, get_or, set, IfErr, IfOk, Some, Result, Ok}
+use Rattle.std.specs.Option.{option_map_or}
+use Rattle.json.specs.Token as token
+use Rattle.json.specs.Token.{Token}
+use Rattle.serde_json.specs.Data.{Data, null, boolean, string, array, object, unsigned, Items, Members}
+use Rattle.serde_json.specs.Find.{get}
+use Rattle.serde_json.specs.Read.{number_of}
+use Rattle.serde_json.specs.View.{view}
 use Rattle.mv_pack.specs.Code.{IsCode, read_code}
-use Rattle.mv_pack.specs.Expiry.{read_expiry}
-use Rattle.mv_pack.specs.Gtin.{read_gtin}
 use Rattle.mv_pack.specs.Market.{IsMarket, read_market}
-use Rattle.mv_pack.specs.Moment.{read_moment}
 use Rattle.mv_pack.specs.declared.fault.PackFault.{PackFault}
-use Rattle.mv_message.specs.Standings.{standing_named}
 use Rattle.mv_message.specs.declared.message.Message.{Message}
 use Rattle.mv_json.specs.declared.fault.MessageFault.{MessageFault}
+use Rattle.mv_json.specs.declared.fault.MessageFault.TheVariants.{Memory}
 use Rattle.mv_json.specs.declared.field.Field.{Field}
+use Rattle.mv_json.specs.declared.object.Object.{Object}
+use Rattle.mv_json.specs.declared.object.Object.TheVariants as objects
+use Rattle.mv_json.specs.declared.object.Place.{Place}
+use Rattle.mv_json.specs.declared.object.Place.TheVariants as places
 use Rattle.mv_json.specs.declared.part.Entry.{Entry}
 use Rattle.mv_json.specs.declared.part.Part.{Part}
 use Rattle.mv_json.specs.declared.part.Part.TheVariants as parts
-use Rattle.mv_json.specs.declared.version.Version.{Version}
-use Rattle.mv_json.specs.declared.version.Version.TheVariants.{Two}
-use Rattle.mv_json.specs.FieldMeanings.{IsFreeText, IsListOf}
+use Rattle.mv_json.specs.FieldMeanings.{IsListOf}
 use Rattle.mv_json.specs.Fields.{field_name}
-use Rattle.mv_json.specs.Forms.{form_name}
 use Rattle.mv_json.specs.Found.{found_of}
 use Rattle.mv_json.specs.Limits.{most_markets, most_serials}
 use Rattle.mv_json.specs.Messages.{read_message}
 use Rattle.mv_json.specs.Met.{BeginWith, HasMet}
-use Rattle.mv_json.specs.Numbers.{truth_at, moment_at, number_at, count_at}
-use Rattle.mv_json.specs.Reading.{◌and_then◌, member_at, read_at, standing_at, free_text_at, national_at, list_at}
+use Rattle.mv_json.specs.Reading.{GivesOr}
 use Rattle.mv_json.specs.Values.{strings, whole}
 
 -- the tokens are a text of which this holds, then the rest
 abbrev pub BeginWithText : List Token → (List ℕ → Type 0) → List Token → Type 0
-BeginWithText ts Holds rest = (text : List ℕ) × (ts ≡ text_token text ∷ rest) × Holds text
+BeginWithText ts Holds rest = (text : List ℕ) × (ts ≡ token.string text ∷ rest) × Holds text
 
 -- the tokens are texts that a reader takes for these, up to the end of their list, then the rest
-abbrev pub BeginWithTexts : (List ℕ → Result (List ℕ) PackFault) → List Token → List (List ℕ) → List Token → Type 0
-BeginWithTexts reader ts [] rest = ts ≡ end_array ∷ rest
+abbrev pub BeginWithTexts : {A : Type 0} → (List ℕ → Result A PackFault) → List Token → List A → List Token → Type 0
+BeginWithTexts reader ts [] rest = ts ≡ token.end_array ∷ rest
 BeginWithTexts reader ts (x ∷ xs) rest =
     (more : List Token) × BeginWithText ts (λ text. reader text ≡ Ok x) more × BeginWithTexts reader more xs rest
+
+-- the tokens are this whole number, then the rest
+abbrev pub BeginWithWhole : List Token → ℕ → List Token → Type 0
+BeginWithWhole ts n rest = (text : List ℕ) × (ts ≡ token.number text ∷ rest) × (number_of text ≡ Some (unsigned n))
 
 -- the tokens are a value of JSON that is read as this message, then the rest
 abbrev pub BeginWithMessage : List Token → Message → List Token → Type 0
@@ -46,30 +52,17 @@ BeginWithMessage ts message rest = (found : Data) × BeginWith 3 ts found rest �
 abbrev pub IsText : Data → (List ℕ → Type 0) → Type 0
 IsText found Holds = (text : List ℕ) × (found ≡ string text) × Holds text
 
--- that is read in this version, or in each
-abbrev pub IsReadIn : {A : Type 0} → Option Version → (Version → Result A MessageFault) → A → Type 0
-IsReadIn None reading x = (version : Version) → reading version ≡ Ok x
-IsReadIn (Some version) reading x = reading version ≡ Ok x
-
--- what a value says, read by its kind
+-- what stands in a field says this part
 abbrev pub IsPart : Data → Part → Type 0
-IsPart found (parts.Batch batch) = IsText found (λ text. read_code text ≡ Ok batch)
-IsPart found (parts.Count number) = (found ≡ whole number) × ((1 ≤ number) × (number < 2 ^ 32))
-IsPart found (parts.Expiry expiry) = IsText found (λ text. read_expiry text ≡ Ok expiry)
-IsPart found (parts.Form form) = IsText found (λ text. text ≡ form_name form)
-IsPart found (parts.Found sighting) = IsReadIn sighting.version (λ version. found_of version found) sighting.found
-IsPart found (parts.Gtin gtin) = IsText found (λ text. read_gtin text ≡ Ok gtin)
-IsPart found (parts.Markets markets) = (found ≡ array (strings markets)) × IsListOf IsMarket most_markets markets
-IsPart found (parts.Moment at) = (seconds : ℕ) × (found ≡ whole seconds) × (read_moment seconds ≡ Ok at)
-IsPart found (parts.National None) = found ≡ null
-IsPart found (parts.National (Some national)) = IsText found (λ text. read_code text ≡ Ok national)
-IsPart found (parts.Party party) = (found ≡ whole party) × (party < 2 ^ 32)
-IsPart found (parts.Serial serial) = IsText found (λ text. read_code text ≡ Ok serial)
-IsPart found (parts.Serials serials) = (found ≡ array (strings serials)) × IsListOf IsCode most_serials serials
-IsPart found (parts.Standing standing) = IsText found (λ text. standing_named text ≡ Some standing)
-IsPart found (parts.Text text) = (found ≡ string text) × IsFreeText text
+IsPart found (parts.Found sighting) =
+    (members : Members) × (found ≡ object members) × (found_of sighting.version found ≡ Ok sighting.found)
+IsPart found (parts.Markets markets) = (found ≡ array (strings markets.items)) × IsListOf IsMarket most_markets markets.items
+IsPart found parts.Null = found ≡ null
+IsPart found (parts.Serials serials) = (found ≡ array (strings serials.items)) × IsListOf IsCode most_serials serials.items
+IsPart found parts.Taken = (items : Items) × (found ≡ array items)
+IsPart found (parts.Text text) = found ≡ string text.now
 IsPart found (parts.Truth truth) = found ≡ boolean truth
-IsPart found parts.Two = found ≡ whole 2
+IsPart found (parts.Whole number) = found ≡ whole number
 
 -- a field, and what stands there
 abbrev pub entry : Field → Part → Entry
@@ -91,51 +84,66 @@ BeginWithPart deep ts part rest = (found : Data) × BeginWith deep ts found rest
 abbrev pub BeginWithEntries : ℕ → List Token → List Entry → List Token → Type 0
 BeginWithEntries deep ts entries rest = (found : Data) × BeginWith deep ts found rest × HasEntries found entries
 
--- What an object is read as in the field, by the part's kind. The version and the form are read before.
-abbrev pub IsFieldOf : Data → Field → Part → Type 0
-IsFieldOf value field (parts.Batch batch) = read_at read_code field value ≡ Ok batch
-IsFieldOf value field (parts.Count number) = count_at field value ≡ Ok number
-IsFieldOf value field (parts.Expiry expiry) = read_at read_expiry field value ≡ Ok expiry
-IsFieldOf value field (parts.Form form) = ⊤
-IsFieldOf value field (parts.Found sighting) =
-    IsReadIn sighting.version (λ version. member_at field value and_then found_of version) sighting.found
-IsFieldOf value field (parts.Gtin gtin) = read_at read_gtin field value ≡ Ok gtin
-IsFieldOf value field (parts.Markets markets) = list_at read_market most_markets field value ≡ Ok markets
-IsFieldOf value field (parts.Moment at) = moment_at field value ≡ Ok at
-IsFieldOf value field (parts.National national) = national_at Two field value ≡ Ok national
-IsFieldOf value field (parts.Party party) = number_at field value ≡ Ok party
-IsFieldOf value field (parts.Serial serial) = read_at read_code field value ≡ Ok serial
-IsFieldOf value field (parts.Serials serials) = list_at read_code most_serials field value ≡ Ok serials
-IsFieldOf value field (parts.Standing standing) = standing_at field value ≡ Ok standing
-IsFieldOf value field (parts.Text text) = free_text_at field value ≡ Ok text
-IsFieldOf value field (parts.Truth truth) = truth_at field value ≡ Ok truth
-IsFieldOf value field parts.Two = ⊤
+-- how deep what stands in an object nests at most, by whether the object stands inside another
+abbrev pub deep_in : Bool → ℕ
+deep_in true = 1
+deep_in false = 2
 
--- an object is read as these parts in their fields
-abbrev pub AreFieldsOf : Data → List Entry → Type 0
-AreFieldsOf value entries = All (λ met. IsFieldOf value met.field met.part) entries
+-- the tokens say this part, which is no object, then the rest
+abbrev pub StartWithPart : List Token → Part → List Token → Type 0
+StartWithPart ts (parts.Markets markets) rest =
+    (list : List Token) × (ts ≡ token.begin_array ∷ list) × BeginWithTexts read_market list markets.items rest
+    × ((1 ≤ length markets.items) × (length markets.items ≤ most_markets))
+StartWithPart ts parts.Null rest = ts ≡ token.null ∷ rest
+StartWithPart ts (parts.Serials serials) rest =
+    (list : List Token) × (ts ≡ token.begin_array ∷ list) × BeginWithTexts read_code list serials.items rest
+    × ((1 ≤ length serials.items) × (length serials.items ≤ most_serials))
+StartWithPart ts (parts.Text text) rest = ts ≡ token.string text.now ∷ rest
+StartWithPart ts (parts.Truth truth) rest = ts ≡ token.boolean truth ∷ rest
+StartWithPart ts (parts.Whole number) rest = BeginWithWhole ts number rest
+StartWithPart ts part rest = ⊥
 
--- the part was taken out of the field
-abbrev pub IsTaken : List Entry → Field → Part → List Entry → Type 0
-IsTaken old field part new = (value : Data) → AreFieldsOf value old → IsFieldOf value field part × AreFieldsOf value new
+-- ---- objects of which fields are read: values, and fields that were met
 
--- what a reading of an object gives was taken out of its fields
-abbrev pub Takes : {A : Type 0} → (Data → Result A MessageFault) → List Entry → List Entry → A → Type 0
-Takes reading old new x = (value : Data) → AreFieldsOf value old → (reading value ≡ Ok x) × AreFieldsOf value new
+-- the object is that value
+abbrev pub Stands : Data → Object → Type 0
+Stands value (objects.Met entries) = HasEntries value entries.items
+Stands value (objects.Value said) = value ≡ view said.now
 
--- what a reading of an object gives is told by its fields
-abbrev pub Tells : {A : Type 0} → (Data → Result A MessageFault) → List Entry → A → Type 0
-Tells reading entries x = (value : Data) → AreFieldsOf value entries → reading value ≡ Ok x
+-- what stands in a field is that value
+abbrev pub IsPlace : Data → Place → Type 0
+IsPlace found (places.Part part) = IsPart found part.now
+IsPlace found (places.Value said) = found ≡ view said.now
 
--- what a reading of an object gives is told by all its fields
-abbrev pub TellsWhole : {A : Type 0} → (Data → Result A MessageFault) → List Entry → A → Type 0
-TellsWhole reading entries x = (value : Data) → HasEntries value entries → reading value ≡ Ok x
+-- what stands in a field of a value, or `null` where nothing does
+unfoldable pub there : Field → Data → Data
+there field value = option_map_or (λ found. found) (get (field_name field) value) null
 
--- an object of these fields says that part
-abbrev pub TellsPart : List Entry → Part → Type 0
-TellsPart entries part = (value : Data) → HasEntries value entries → IsPart value part
+-- that stands in a field of a value
+abbrev pub IsThere : Field → Data → Place → Type 0
+IsThere field value place = (get (field_name field) value ≡ Some (there field value)) × IsPlace (there field value) place
 
--- that version is meant, or each
-abbrev pub IsOf : Version → Option Version → Type 0
-IsOf version None = ⊤
-IsOf version (Some other) = other ≡ version
+-- it is no object of fields that were met
+abbrev pub IsValue : Object → Type 0
+IsValue (objects.Met entries) = ⊥
+IsValue (objects.Value said) = ⊤
+
+-- a reading of the object gives this, whatever value it is, and takes no memory
+abbrev pub Gives : {A : Type 0} → (Data → Result A MessageFault) → Object → Result A MessageFault → Type 0
+Gives reading from result =
+    ((value : Data) → Stands value from → result ≡ reading value) × IfErr result (λ fault. fault ≢ Memory)
+
+-- a reading of the object gives this, or want of memory stands in its place
+abbrev pub MayGive : {A : Type 0} → (Data → Result A MessageFault) → Object → Result A MessageFault → Type 0
+MayGive reading from result = (value : Data) → Stands value from → GivesOr result (reading value) Memory
+
+-- the same, after which the object is that value still
+abbrev pub Takes : {A : Type 0} → (Data → Result A MessageFault) → Object → Object → Result A MessageFault → Type 0
+Takes reading old new result = (value : Data) → Stands value old → GivesOr result (reading value) Memory × IfOk result (λ x. Stands value new)
+
+-- that part was taken out of the field
+pub record IsTaken (old : List Entry) (field : Field) (part : Part) (new : List Entry) : Type 0 where
+  pub place : ℕ
+  pub within : place < length old
+  pub was : get_or old place (entry field part) ≡ entry field part
+  pub taken : new ≡ set old place (entry field parts.Taken)

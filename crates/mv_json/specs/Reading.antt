@@ -1,20 +1,22 @@
 -- What reading a part of a JSON value gives: its meaning, or the first fault.
-use Rattle.std.specs.Prelude.{◌≡◌, ◌≢◌, ℕ, ◌==◌, ◌||◌, nat_lt, if◌then◌else◌, List, [], ◌∷◌, length, is_some, Option, Some, None, option_and_then, option_map, Result, Ok, Err}
-use Rattle.std.specs.Option.{ok_or}
-use Rattle.std.specs.Result.{result_map_both}
-use Rattle.serde_json.specs.Data.{Data, Items, no_items, item}
-use Rattle.serde_json.specs.Find.{get, as_null, as_str, as_array}
-use Rattle.mv_pack.specs.Code.{read_code}
-use Rattle.mv_pack.specs.declared.fault.PackFault.{PackFault}
-use Rattle.mv_json.specs.declared.field.Field.{Field}
+use Rattle.mv_json.specs.Fields.{field_name}
+use Rattle.mv_json.specs.Limits.{most_text_bytes}
 use Rattle.mv_json.specs.declared.fault.MessageFault.{MessageFault}
 use Rattle.mv_json.specs.declared.fault.MessageFault.TheVariants.{Missing, Kind, Pack, Count, TextLength}
-use Rattle.mv_message.specs.declared.standing.Standing.{Standing}
+use Rattle.mv_json.specs.declared.field.Field.{Field}
 use Rattle.mv_json.specs.declared.version.Version.{Version}
 use Rattle.mv_json.specs.declared.version.Version.TheVariants.{One, Two}
-use Rattle.mv_json.specs.Fields.{field_name}
 use Rattle.mv_message.specs.Standings.{standing_named}
-use Rattle.mv_json.specs.Limits.{most_text_bytes}
+use Rattle.mv_message.specs.declared.standing.Standing.{Standing}
+use Rattle.mv_pack.specs.Code.{read_code}
+use Rattle.mv_pack.specs.Moment.{read_moment}
+use Rattle.mv_pack.specs.declared.fault.PackFault.{PackFault}
+use Rattle.serde_json.specs.Data.{Data, Items, no_items, item}
+use Rattle.serde_json.specs.Events.{items_len}
+use Rattle.serde_json.specs.Find.{get, as_null, as_str, as_array, as_bool, as_number, as_u64}
+use Rattle.std.specs.Option.{ok_or}
+use Rattle.std.specs.Prelude.{◌≡◌, ◌≢◌, ℕ, ◌==◌, ◌||◌, nat_lt, if◌then◌else◌, List, [], ◌∷◌, length, is_some, Option, Some, None, option_and_then, option_map, Result, Ok, Err, ◌^◌, false, Bool, ◌&&◌, not, true}
+use Rattle.std.specs.Result.{result_map_both}
 
 -- the next step on what was read, or the fault that there was
 infixl 10 ◌and_then◌
@@ -70,20 +72,66 @@ each_of as_one (item value items) =
 abbrev pub as_list : {A : Type 0} → (Data → Option A) → Data → Option (List A)
 as_list as_one value = option_and_then (each_of as_one) (as_array value)
 
--- what a reader takes each of these texts for, or the fault of the first bad one
-abbrev pub read_each : {A : Type 0} → (List ℕ → Result A PackFault) → Field → List (List ℕ) → Result (List A) MessageFault
-read_each reader field [] = Ok []
-read_each reader field (text ∷ texts) =
-    map_err (Pack field) (reader text) and_then λ first. read_each reader field texts and_then λ rest. Ok (first ∷ rest)
+-- whether all members of a list are texts
+abbrev pub are_texts : Items → Bool
+are_texts no_items = true
+are_texts (item value items) = is_some (as_str value) && are_texts items
+
+-- the list of a field, all of whose members are texts, 1 to most of them: M3, M5, M7
+unfoldable pub texts_at : ℕ → Field → Data → Result Items MessageFault
+texts_at most field value =
+    member_at field value and_then λ found.
+    ok_or (as_array found) (Kind field) and_then λ items.
+    if not (are_texts items) then Err (Kind field)
+    else (if (items_len items == 0) || nat_lt most (items_len items) then Err (Count field)
+    else Ok items)
+
+-- what a reader takes a member of a list for
+abbrev pub read_item : {A : Type 0} → (List ℕ → Result A PackFault) → Field → Data → Result A MessageFault
+read_item reader field value = ok_or (as_str value) (Kind field) and_then λ text. map_err (Pack field) (reader text)
+
+-- what a reader takes each member of a list for, or the fault of the first bad one
+abbrev pub read_items : {A : Type 0} → (List ℕ → Result A PackFault) → Field → Items → Result (List A) MessageFault
+read_items reader field no_items = Ok []
+read_items reader field (item value items) =
+    read_item reader field value and_then λ first. read_items reader field items and_then λ rest. Ok (first ∷ rest)
 
 -- what a reader takes the texts of a list for, which are 1 to most: M3, M5, M7, M6
 unfoldable pub list_at : {A : Type 0} → (List ℕ → Result A PackFault) → ℕ → Field → Data → Result (List A) MessageFault
-list_at reader most field value =
-    member_at field value and_then λ found.
-    ok_or (as_list as_str found) (Kind field) and_then λ texts.
-    if (length texts == 0) || nat_lt most (length texts) then Err (Count field) else read_each reader field texts
+list_at reader most field value = texts_at most field value and_then read_items reader field
 
 -- A function returned what reading gives, or that fault in its place.
 abbrev pub GivesOr : {A E : Type 0} → Result A E → Result A E → E → Type 0
 GivesOr (Ok meaning) reading other = reading ≡ Ok meaning
 GivesOr (Err fault) reading other = fault ≢ other → reading ≡ Err fault
+
+-- ---- what reading a field that is a whole number, or `true` or `false`, gives: its meaning, or the first fault
+
+-- whether a field says `true`: M3, M5
+unfoldable pub truth_at : Field → Data → Result Bool MessageFault
+truth_at field value = member_at field value and_then λ found. ok_or (as_bool found) (Kind field)
+
+-- whether a field says that a product is withdrawn, of which version 1 does not speak: M3, M5
+abbrev pub withdrawn_at : Version → Field → Data → Result Bool MessageFault
+withdrawn_at One field value = Ok false
+withdrawn_at Two field value = truth_at field value
+
+-- the whole number that a value is; one with a fraction or an exponent is none
+abbrev pub whole_number : Data → Option ℕ
+whole_number value = option_and_then as_u64 (as_number value)
+
+-- the whole number of a field: M3, M5
+unfoldable pub whole_at : Field → Data → Result ℕ MessageFault
+whole_at field value = member_at field value and_then λ found. ok_or (whole_number found) (Kind field)
+
+-- the moment of a field: M3, M5, M6
+unfoldable pub moment_at : Field → Data → Result ℕ MessageFault
+moment_at field value = whole_at field value and_then λ seconds. map_err (Pack field) (read_moment seconds)
+
+-- the whole number of a field, up to 4,294,967,295: M3, M5
+unfoldable pub number_at : Field → Data → Result ℕ MessageFault
+number_at field value = whole_at field value and_then λ number. if nat_lt number (2 ^ 32) then Ok number else Err (Kind field)
+
+-- the whole number of a field, from 1 to 4,294,967,295: M3, M5
+unfoldable pub count_at : Field → Data → Result ℕ MessageFault
+count_at field value = number_at field value and_then λ number. if number == 0 then Err (Kind field) else Ok number

@@ -2,6 +2,8 @@
 
 ghost use Rattle.std.specs.Prelude.{◌≡◌};
 
+use crate::members::Named;
+
 /// A field of a message, named as in its JSON object.
 #[derive(Clone, Copy, Debug, PartialEq, Eq)]
 pub enum Field {
@@ -67,6 +69,16 @@ pub enum Field {
     V,
     /// `withdrawn`, in `found`: whether the product is withdrawn.
     Withdrawn,
+}
+
+impl Named for Field {
+    ghost use Rattle.mv_json.specs.Fields.{field_name};
+
+    ghost name = { field_name };
+
+    fn name(&self) -> &'static str {
+        self.as_str()
+    }
 }
 
 impl Field {

@@ -1,27 +1,70 @@
 //! Reads the field `found` of an answer: `null`, or an object of its own.
 
-ghost use Rattle.std.specs.Prelude.{◌≡◌, ◌≢◌, map, IfErr};
+ghost use Rattle.std.specs.Prelude.{◌≡◌, ◌≢◌, IfErr, IfSome};
+ghost use Rattle.serde_json.specs.Data.{Data};
 ghost use Rattle.serde_json.specs.View.{view};
-ghost use Rattle.mv_json.specs.Fields.{fields_in, names_in};
+ghost use Rattle.mv_json.specs.Fields.{fields_in};
 ghost use Rattle.mv_json.specs.Found.{present_fields, present_at, present_of, found_of, found_at};
-ghost use Rattle.mv_json.specs.Numbers.{withdrawn_at};
+ghost use Rattle.mv_json.specs.Reading.{withdrawn_at, GivesOr};
+ghost use Rattle.mv_json.specs.Parts.{Gives, MayGive, IsPart, IsValue, Stands};
 
 use crate::members::first_unknown;
 use crate::numbers::truth_at;
-use crate::reading::{batch_at, expiry_at, member_at, national_at, standing_at};
+use crate::object::Object;
+use crate::part::{Part, Sighting, find};
+use crate::reading::{batch_at, expiry_at, national_at, standing_at};
 use crate::version::Version;
 use crate::{Field, MessageFault};
 use mv_message::Found;
 use serde_json::Value;
 
-/// What the field `found` says: M3, M5.
+/// What the field `found` says: M3, M5; M9 where fields were met that say it in another version.
 #[tactic(auto, unfolding(crate::specs::Found::found_at))]
-pub(crate) fn found_at(value: &Value, version: Version) -> Result<Found, MessageFault>
-    ensures gives { result ≡ found_at version (view value.now) }
-    // It takes no memory.
-    ensures no_memory { IfErr result (λ fault. fault ≢ MessageFault.Memory) }
+pub(crate) fn found_at(object: &Object<'_>, version: Version) -> Result<Found, MessageFault>
+    ensures gives { MayGive (found_at version) object.now result }
+    // Of a value it takes no memory.
+    ensures no_memory { IsValue object.now → IfErr result (λ fault. fault ≢ MessageFault.Memory) }
 {
-    found_of(member_at(value, Field::Found)?, version)
+    match object {
+        Object::Met(entries) => match find(entries, Field::Found) {
+            Some(part) => found_in(part, version),
+            None => Err(MessageFault::Memory),
+        },
+        Object::Value(value) => match value.get(Field::Found.as_str()) {
+            Some(found) => found_of(found, version),
+            None => Err(MessageFault::Missing(Field::Found)),
+        },
+    }
+}
+
+/// What was met says was found, where it says so in that version.
+fn found_in(part: &Part<'_>, version: Version) -> Result<Found, MessageFault>
+    ensures { (value : Data) → IsPart value part.now
+        → GivesOr result (found_of version value) MessageFault.Memory }
+{
+    match part {
+        Part::Null => Ok(Found::Absent),
+        Part::Found(sighting) if sighting.get().version == version => {
+            Ok(sighting.get().found.copy())
+        }
+        _ => Err(MessageFault::Memory),
+    }
+}
+
+/// The pack that an object is, and the version that says it so, which is the second where it speaks of withdrawals.
+pub(crate) fn sighting_in(object: &Object<'_>) -> Option<Sighting>
+    ensures { IfSome result (λ sighting.
+        (value : Data) → Stands value object.now → IsPart value (Part.Found sighting)) }
+{
+    let version = match object.get(Field::Withdrawn) {
+        Some(_) => Version::Two,
+        None => Version::One,
+    };
+    if !object.has_met_only(present_fields(version)) {
+        return None;
+    }
+    let found = present_at(object, version).ok()?;
+    Some(Sighting { found, version })
 }
 
 /// What a value says was found: M5 of `found` where it is neither `null` nor a legal pack.
@@ -42,61 +85,33 @@ fn present_of(value: &Value, version: Version) -> Result<Found, MessageFault>
     ensures { result ≡ present_of version (view value.now) }
 {
     let members = value.as_object().ok_or(MessageFault::NotObject)?;
-    if first_unknown(members, present_names(version)).is_some() {
+    if first_unknown(members, present_fields(version)).is_some() {
         return Err(MessageFault::Kind(Field::Found));
     }
-    present_at(value, version)
-}
-
-/// The names of the fields of a pack that was found, in byte order.
-fn present_names(version: Version) -> &'static [&'static str]
-    ensures { map (λ name. name.now) result.now ≡ names_in version present_fields }
-{
-    match version {
-        Version::One => &["batch", "expiry", "recalled", "standing"],
-        Version::Two => &[
-            "batch",
-            "expiry",
-            "national",
-            "recalled",
-            "standing",
-            "withdrawn",
-        ],
-    }
+    present_at(&Object::Value(value), version)
 }
 
 /// The fields of a pack that was found, in byte order of their names.
 pub(crate) fn present_fields(version: Version) -> &'static [Field]
     ensures { result.now ≡ fields_in version present_fields }
 {
+    use Field::*;
     match version {
-        Version::One => &[
-            Field::Batch,
-            Field::Expiry,
-            Field::Recalled,
-            Field::Standing,
-        ],
-        Version::Two => &[
-            Field::Batch,
-            Field::Expiry,
-            Field::National,
-            Field::Recalled,
-            Field::Standing,
-            Field::Withdrawn,
-        ],
+        Version::One => &[Batch, Expiry, Recalled, Standing],
+        Version::Two => &[Batch, Expiry, National, Recalled, Standing, Withdrawn],
     }
 }
 
 /// The pack that the fields of an object give.
-fn present_at(value: &Value, version: Version) -> Result<Found, MessageFault>
-    ensures { result ≡ present_at version (view value.now) }
+pub(crate) fn present_at(object: &Object<'_>, version: Version) -> Result<Found, MessageFault>
+    ensures { Gives (present_at version) object.now result }
 {
-    let batch = batch_at(value, Field::Batch)?;
-    let expiry = expiry_at(value, Field::Expiry)?;
-    let national = national_at(value, Field::National, version)?;
-    let recalled = truth_at(value, Field::Recalled)?;
-    let standing = standing_at(value, Field::Standing)?;
-    let withdrawn = withdrawn_at(value, version)?;
+    let batch = batch_at(object, Field::Batch)?;
+    let expiry = expiry_at(object, Field::Expiry)?;
+    let national = national_at(object, Field::National, version)?;
+    let recalled = truth_at(object, Field::Recalled)?;
+    let standing = standing_at(object, Field::Standing)?;
+    let withdrawn = withdrawn_at(object, version)?;
     Ok(Found::Present {
         batch,
         expiry,
@@ -108,11 +123,11 @@ fn present_at(value: &Value, version: Version) -> Result<Found, MessageFault>
 }
 
 /// Whether the product is withdrawn, of which version 1 does not speak.
-fn withdrawn_at(value: &Value, version: Version) -> Result<bool, MessageFault>
-    ensures { result ≡ withdrawn_at version Field.Withdrawn (view value.now) }
+fn withdrawn_at(object: &Object<'_>, version: Version) -> Result<bool, MessageFault>
+    ensures { Gives (withdrawn_at version Field.Withdrawn) object.now result }
 {
     match version {
         Version::One => Ok(false),
-        Version::Two => truth_at(value, Field::Withdrawn),
+        Version::Two => truth_at(object, Field::Withdrawn),
     }
 }

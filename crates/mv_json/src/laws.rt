@@ -3,7 +3,7 @@
 ghost use Rattle.mv_json.specs.Laws.{ReadsBack, ReadsExactly, ReadIsLegal, ReadsOne, FirstFaultIsGiven, FieldsAreInOrder, KeysOfValuesAscend, ValuesSpell};
 
 /// Each legal message is read back from its value.
-#[tactic(auto, using(crate::proofs::LegalLemmas::reads_back))]
+#[tactic(auto, using(crate::proofs::ReadsLemmas::reads_back))]
 pub fn reads_back()
     ensures { ReadsBack }
 {}
@@ -20,7 +20,7 @@ pub fn reads_exactly()
 {}
 
 /// What is read is legal: its values are those of readers, and its texts and lists keep their limits.
-#[tactic(auto, using(crate::proofs::LegalLemmas::read_is_legal))]
+#[tactic(auto, using(crate::proofs::ReadsLemmas::read_is_legal))]
 pub fn read_is_legal()
     ensures { ReadIsLegal }
 {}
@@ -32,13 +32,12 @@ pub fn reads_one()
 
 /// Of an object that has a version, a form and no key but the fields of that form, the fault is that of the first of
 /// these fields that has one, each looked at by itself; it is read where none has.
-#[tactic(auto, using(crate::proofs::FirstFaultLemmas::first_fault_is_given))]
 pub fn first_fault_is_given()
     ensures { FirstFaultIsGiven }
 {}
 
 /// The fields of a message stand in byte order of their names, each once.
-#[tactic(auto, using(crate::proofs::FirstFaultLemmas::fields_are_in_order))]
+#[tactic(auto, using(crate::proofs::FormLemmas::fields_are_in_order))]
 pub fn fields_are_in_order()
     ensures { FieldsAreInOrder }
 {}

@@ -1,51 +1,87 @@
-//! The members of objects, and what they are put into.
+//! The members of objects, and how each is written.
 
-ghost use Rattle.std.specs.Prelude.{Result};
-ghost use Rattle.std.specs.declared.alloc.AllocError.{AllocError as Refused};
-ghost use Rattle.serde_json.specs.Data.{Data, object};
-ghost use Rattle.mv_json.specs.Objects.{members_of, nested_members};
+ghost use Rattle.std.specs.Prelude.{map};
+ghost use Rattle.serde_json.specs.Data.{array, object};
+ghost use Rattle.mv_json.specs.Objects.{said_value, members_of};
+ghost use Rattle.mv_json.specs.Tokens.{Puts, PutsValue, tokens_of, rest_tokens};
+ghost use Rattle.mv_json.specs.Values.{strings};
 
+use crate::Field;
+use crate::listed::Listed;
+use json::Writer;
 use mv_pack::{Expiry, Market, National, Serial};
 use std::alloc::AllocError;
 
-/// A member of an object: its name, and what stands under it.
+/// What stands under the name of a field.
 #[derive(Clone, Copy, Drop)]
-pub(crate) enum Member<'a> {
+pub(crate) enum Said<'a> {
     /// `null`.
-    Null(&'static str),
+    Null,
     /// A text.
-    Text(&'static str, &'a str),
+    Text(&'a str),
     /// A whole number.
-    Whole(&'static str, u64),
+    Whole(u64),
     /// `true` or `false`.
-    Truth(&'static str, bool),
+    Truth(bool),
     /// A date.
-    Expiry(&'static str, &'a Expiry),
+    Expiry(&'a Expiry),
     /// A national number, or `null`.
-    National(&'static str, &'a Option<National>),
+    National(&'a Option<National>),
     /// A list of serial numbers.
-    Serials(&'static str, &'a [Serial]),
+    Serials(&'a [Serial]),
     /// A list of markets.
-    Markets(&'static str, &'a [Market]),
+    Markets(&'a [Market]),
 }
 
-/// What objects are put into: a text, or a value.
-pub(crate) trait Target {
-    /// What was put, by the result, and by what was there before and after.
-    ghost puts: { Result (Unit {0}) Refused → Self → Self → Data → Type 0 };
+/// Writes the object of these members, which stand in byte order of their names.
+#[tactic(auto, unfolding(crate::specs::Tokens::PutsValue))]
+pub(crate) fn put_object(
+    writer: &mut Writer,
+    members: &[(Field, Said<'_>)],
+) -> Result<(), AllocError>
+    ensures { PutsValue result writer.old writer.new (object (members_of members.now)) }
+{
+    writer.begin_object()?;
+    put_rest(writer, members)
+}
 
-    /// Puts the object of these members, which stand in byte order of their names.
-    fn object(&mut self, members: &[Member<'_>]) -> Result<(), AllocError>
-        ensures { puts result self.old self.new (object (members_of members.now)) };
+/// Writes these members of an object that was begun, and its end.
+#[tactic(auto, unfolding(crate::specs::Tokens::PutsValue))]
+pub(crate) fn put_rest(writer: &mut Writer, members: &[(Field, Said<'_>)]) -> Result<(), AllocError>
+    ensures { Puts result writer.old writer.new (rest_tokens (object (members_of members.now))) }
+{
+    for (field, said) in members {
+        writer.key(field.as_str())?;
+        put_said(writer, *said)?;
+    }
+    writer.end_object()
+}
 
-    /// Puts an object whose second member is an object of its own.
-    fn nested_object(
-        &mut self,
-        first: Member<'_>,
-        name: &str,
-        inner: &[Member<'_>],
-        rest: &[Member<'_>],
-    ) -> Result<(), AllocError>
-        ensures { puts result self.old self.new
-            (object (nested_members first.entry name.now inner.now rest.now)) };
+/// Writes what stands under a name.
+#[tactic(auto, unfolding(crate::specs::Tokens::PutsValue))]
+pub(crate) fn put_said(writer: &mut Writer, said: Said<'_>) -> Result<(), AllocError>
+    ensures { PutsValue result writer.old writer.new (said_value said.entry) }
+{
+    match said {
+        Said::Null => writer.null(),
+        Said::Text(text) => writer.string(text),
+        Said::Whole(number) => writer.u64(number),
+        Said::Truth(truth) => writer.boolean(truth),
+        Said::Expiry(expiry) => writer.string(expiry.text().as_str()),
+        Said::National(None) => writer.null(),
+        Said::National(Some(number)) => writer.string(number.as_str()),
+        Said::Serials(serials) => put_list(writer, serials),
+        Said::Markets(markets) => put_list(writer, markets),
+    }
+}
+
+/// Writes a list of texts.
+fn put_list<T: Listed>(writer: &mut Writer, list: &[T]) -> Result<(), AllocError>
+    ensures { Puts result writer.old writer.new (tokens_of (array (strings (map T.written list.now)))) }
+{
+    writer.begin_array()?;
+    for value in list {
+        writer.string(value.to_text())?;
+    }
+    writer.end_array()
 }

@@ -1,6 +1,6 @@
 //! The keys of JSON objects, for every reader of objects: it knows neither messages nor their fields.
 
-ghost use Rattle.std.specs.Prelude.{◌≡◌, not, find, bytes_eq, map, string_bytes, option_map};
+ghost use Rattle.std.specs.Prelude.{◌≡◌, ℕ, List, not, find, bytes_eq, map, string_bytes, option_map};
 ghost use Rattle.std.specs.Option.{option_copied};
 ghost use Rattle.std.specs.BTreeMap.{keys};
 ghost use Rattle.std.specs.List.{list_any};
@@ -9,39 +9,49 @@ ghost use Rattle.mv_json.specs.Members.{first_unknown};
 
 use serde_json::{Map, Value};
 
-/// The first key of an object, in byte order, that is none of these names.
+/// A field of objects, which has a name.
+pub trait Named {
+    /// The name, as contracts see it.
+    ghost name: { Self → List ℕ };
+
+    /// The name, as it stands in the object.
+    fn name(&self) -> &'static str
+        ensures { result.now ≡ name self.now };
+}
+
+/// The first key of an object, in byte order, that is the name of none of these fields.
 ///
 /// It takes no memory: a caller that keeps the key copies it.
-pub fn first_unknown<'a>(members: &'a Map<String, Value>, names: &[&str]) -> Option<&'a str>
+pub fn first_unknown<'a, N: Named>(members: &'a Map<String, Value>, fields: &[N]) -> Option<&'a str>
     ensures { option_map (λ key. key.now) result
-        ≡ first_unknown (map (λ name. name.now) names.now) (members_view members.now.entries) }
+        ≡ first_unknown (map N.name fields.now) (members_view members.now.entries) }
 {
-    match unknown_key(members, names) {
+    match unknown_key(members, fields) {
         Some(key) => Some(key.as_str()),
         None => None,
     }
 }
 
 /// The first such key, as the object holds it.
-fn unknown_key<'a>(members: &'a Map<String, Value>, names: &[&str]) -> Option<&'a String>
+fn unknown_key<'a, N: Named>(members: &'a Map<String, Value>, fields: &[N]) -> Option<&'a String>
     ensures { option_copied result
-        ≡ find (λ key. not (list_any (bytes_eq (string_bytes key)) (map (λ name. name.now) names.now)))
+        ≡ find (λ key. not (list_any (bytes_eq (string_bytes key)) (map N.name fields.now)))
         (keys members.now) }
 {
-    members.keys().find(|key| !has_name(names, key.as_str()))
+    members.keys().find(|key| !is_named(fields, key.as_str()))
 }
 
-/// Whether a key is one of these names.
+/// Whether a key is the name of one of these fields.
 #[tactic(auto, using(crate::proofs::MembersLemmas::list_any_of_map))]
-fn has_name(names: &[&str], key: &str) -> bool
-    ensures { result ≡ list_any (bytes_eq key.now) (map (λ name. name.now) names.now) }
+fn is_named<N: Named>(fields: &[N], key: &str) -> bool
+    ensures { result ≡ list_any (bytes_eq key.now) (map N.name fields.now) }
 {
-    any_name(names, key)
+    any_named(fields, key)
 }
 
-/// The same, where a clause sees each name behind its reference.
-fn any_name(names: &[&str], key: &str) -> bool
-    ensures { result ≡ list_any (λ name. bytes_eq key.now name.now) names.now }
+/// The same, where a clause sees the test of each field.
+fn any_named<N: Named>(fields: &[N], key: &str) -> bool
+    ensures { result ≡ list_any (λ field. bytes_eq key.now (N.name field)) fields.now }
 {
-    names.iter().any(|name| key == *name)
+    fields.iter().any(|field| key == field.name())
 }

@@ -1,30 +1,35 @@
-//! Puts each message as the object of its members.
+//! Writes each message as the object of its members.
 
 ghost use Rattle.std.specs.Prelude.{◌≡◌};
+ghost use Rattle.mv_json.specs.Found.{found_version, found_value};
 ghost use Rattle.mv_json.specs.Messages.{value_of};
-ghost use Rattle.mv_json.specs.Objects.{found_version};
+ghost use Rattle.mv_json.specs.Objects.{answer_end};
+ghost use Rattle.mv_json.specs.Tokens.{Puts, PutsValue, rest_tokens};
 
-use crate::member::{Member, Target};
+use crate::Field;
+use crate::member::{Said, put_object, put_rest, put_said};
 use crate::version::Version;
+use json::Writer;
 use mv_message::{Found, Message, Party, Product, Serials, Standing, Text};
 use mv_pack::{Batch, BatchKey, Expiry, Gtin, Moment, National, PackKey};
 use std::alloc::AllocError;
 
-/// A message.
-pub(crate) fn put_message<T: Target>(target: &mut T, message: &Message) -> Result<(), AllocError>
-    ensures { T.puts result target.old target.new (value_of message.now) }
+/// Writes a message.
+pub(crate) fn put_message(writer: &mut Writer, message: &Message) -> Result<(), AllocError>
+    ensures { PutsValue result writer.old writer.new
+        (value_of message.now) }
 {
     match message {
-        Message::Master { gtin, product } => put_master(target, gtin, product.get()),
+        Message::Master { gtin, product } => put_master(writer, gtin, product.get()),
         Message::Upload {
             gtin,
             batch,
             expiry,
             national,
             serials,
-        } => put_upload(target, gtin, batch, expiry, national, serials),
-        Message::Status { key, to, user, at } => put_status(target, key, *to, user, *at),
-        Message::Recall { key, at } => put_recall(target, key, *at),
+        } => put_upload(writer, gtin, batch, expiry, national, serials),
+        Message::Status { key, to, user, at } => put_status(writer, key, *to, user, *at),
+        Message::Recall { key, at } => put_recall(writer, key, *at),
         Message::Repack {
             before,
             before_serials,
@@ -32,166 +37,248 @@ pub(crate) fn put_message<T: Target>(target: &mut T, message: &Message) -> Resul
             after_serials,
             at,
         } => put_repack(
-            target,
+            writer,
             before.get(),
             before_serials,
             after.get(),
             after_serials,
             *at,
         ),
-        Message::Withdraw { gtin, at } => put_withdraw(target, gtin, *at),
-        Message::Query { key } => put_query(target, key),
+        Message::Withdraw { gtin, at } => put_withdraw(writer, gtin, *at),
+        Message::Query { key } => put_query(writer, key),
         Message::Answer {
             asker,
             q,
             key,
             found,
-        } => put_answer(target, *asker, *q, key, found),
+        } => put_answer(writer, *asker, *q, key, found),
     }
 }
 
-/// A product master.
-fn put_master<'a, T: Target>(
-    target: &mut T,
+/// Writes a product master.
+fn put_master<'a>(
+    writer: &mut Writer,
     gtin: &'a Gtin,
     product: &'a Product,
 ) -> Result<(), AllocError>
-    ensures { T.puts result target.old target.new (value_of (Message.Master gtin.now product.now)) }
+    ensures { PutsValue result writer.old writer.new
+        (value_of (Message.Master gtin.now product.now)) }
 {
-    target.object(&[
-        Member::Text("common", product.common.as_str()),
-        Member::Text("form", product.form.as_str()),
-        Member::Text("gtin", gtin.as_str()),
-        Member::Markets("markets", product.markets.as_slice()),
-        Member::Text("msg", "master"),
-        Member::Text("name", product.name.as_str()),
-        Member::Text("pack_size", product.pack_size.as_str()),
-        Member::Text("pack_type", product.pack_type.as_str()),
-        Member::Text("scheme", product.scheme.as_str()),
-        Member::Text("strength", product.strength.as_str()),
-    ])
+    put_object(
+        writer,
+        &[
+            (Field::Common, Said::Text(product.common.as_str())),
+            (Field::Form, Said::Text(product.form.as_str())),
+            (Field::Gtin, Said::Text(gtin.as_str())),
+            (Field::Markets, Said::Markets(product.markets.as_slice())),
+            (Field::Msg, Said::Text("master")),
+            (Field::Name, Said::Text(product.name.as_str())),
+            (Field::PackSize, Said::Text(product.pack_size.as_str())),
+            (Field::PackType, Said::Text(product.pack_type.as_str())),
+            (Field::Scheme, Said::Text(product.scheme.as_str())),
+            (Field::Strength, Said::Text(product.strength.as_str())),
+        ],
+    )
 }
 
-/// An upload: of version 2 where it has a national number.
-fn put_upload<'a, T: Target>(
-    target: &mut T,
+/// Writes an upload: of version 2 where it has a national number.
+fn put_upload<'a>(
+    writer: &mut Writer,
     gtin: &'a Gtin,
     batch: &'a Batch,
     expiry: &'a Expiry,
     national: &'a Option<National>,
     serials: &'a Serials,
 ) -> Result<(), AllocError>
-    ensures { T.puts result target.old target.new
+    ensures { PutsValue result writer.old writer.new
         (value_of (Message.Upload gtin.now batch.now expiry.now national.now serials.now)) }
 {
     match national {
-        None => target.object(&[
-            Member::Text("batch", batch.as_str()),
-            Member::Expiry("expiry", expiry),
-            Member::Text("gtin", gtin.as_str()),
-            Member::Text("msg", "upload"),
-            Member::Serials("serials", serials.as_slice()),
-        ]),
-        Some(number) => target.object(&[
-            Member::Text("batch", batch.as_str()),
-            Member::Expiry("expiry", expiry),
-            Member::Text("gtin", gtin.as_str()),
-            Member::Text("msg", "upload"),
-            Member::Text("national", number.as_str()),
-            Member::Serials("serials", serials.as_slice()),
-            Member::Whole("v", 2),
-        ]),
+        None => put_object(
+            writer,
+            &[
+                (Field::Batch, Said::Text(batch.as_str())),
+                (Field::Expiry, Said::Expiry(expiry)),
+                (Field::Gtin, Said::Text(gtin.as_str())),
+                (Field::Msg, Said::Text("upload")),
+                (Field::Serials, Said::Serials(serials.as_slice())),
+            ],
+        ),
+        Some(number) => put_object(
+            writer,
+            &[
+                (Field::Batch, Said::Text(batch.as_str())),
+                (Field::Expiry, Said::Expiry(expiry)),
+                (Field::Gtin, Said::Text(gtin.as_str())),
+                (Field::Msg, Said::Text("upload")),
+                (Field::National, Said::Text(number.as_str())),
+                (Field::Serials, Said::Serials(serials.as_slice())),
+                (Field::V, Said::Whole(2)),
+            ],
+        ),
     }
 }
 
-/// A change of standing.
-fn put_status<'a, T: Target>(
-    target: &mut T,
+/// Writes a change of standing.
+#[tactic(auto, using(crate::proofs::TokenLemmas::value_named))]
+fn put_status<'a>(
+    writer: &mut Writer,
     key: &'a PackKey,
     to: Standing,
     user: &'a Text,
     at: Moment,
 ) -> Result<(), AllocError>
-    ensures { T.puts result target.old target.new (value_of (Message.Status key.now to user.now at)) }
+    ensures { PutsValue result writer.old writer.new
+        (value_of (Message.Status key.now to user.now at)) }
 {
-    target.object(&[
-        Member::Whole("at", at.seconds()),
-        Member::Text("gtin", key.gtin.as_str()),
-        Member::Text("msg", "status"),
-        Member::Text("serial", key.serial.as_str()),
-        Member::Text("to", to.name()),
-        Member::Text("user", user.as_str()),
-    ])
+    put_object(
+        writer,
+        &[
+            (Field::At, Said::Whole(at.seconds())),
+            (Field::Gtin, Said::Text(key.gtin.as_str())),
+            (Field::Msg, Said::Text("status")),
+            (Field::Serial, Said::Text(key.serial.as_str())),
+            (Field::To, Said::Text(to.name())),
+            (Field::User, Said::Text(user.as_str())),
+        ],
+    )
 }
 
-/// A recall.
-fn put_recall<T: Target>(target: &mut T, key: &BatchKey, at: Moment) -> Result<(), AllocError>
-    ensures { T.puts result target.old target.new (value_of (Message.Recall key.now at)) }
+/// Writes a recall.
+fn put_recall(writer: &mut Writer, key: &BatchKey, at: Moment) -> Result<(), AllocError>
+    ensures { PutsValue result writer.old writer.new
+        (value_of (Message.Recall key.now at)) }
 {
-    target.object(&[
-        Member::Whole("at", at.seconds()),
-        Member::Text("batch", key.batch.as_str()),
-        Member::Text("gtin", key.gtin.as_str()),
-        Member::Text("msg", "recall"),
-    ])
+    put_object(
+        writer,
+        &[
+            (Field::At, Said::Whole(at.seconds())),
+            (Field::Batch, Said::Text(key.batch.as_str())),
+            (Field::Gtin, Said::Text(key.gtin.as_str())),
+            (Field::Msg, Said::Text("recall")),
+        ],
+    )
 }
 
-/// A repackaging.
-fn put_repack<'a, T: Target>(
-    target: &mut T,
+/// Writes a repackaging.
+#[tactic(auto, using(crate::proofs::TokenLemmas::value_named))]
+fn put_repack<'a>(
+    writer: &mut Writer,
     before: &'a BatchKey,
     before_serials: &'a Serials,
     after: &'a BatchKey,
     after_serials: &'a Serials,
     at: Moment,
 ) -> Result<(), AllocError>
-    ensures { T.puts result target.old target.new
+    ensures { PutsValue result writer.old writer.new
         (value_of (Message.Repack before.now before_serials.now after.now after_serials.now at)) }
 {
-    target.object(&[
-        Member::Text("after_batch", after.batch.as_str()),
-        Member::Text("after_gtin", after.gtin.as_str()),
-        Member::Serials("after_serials", after_serials.as_slice()),
-        Member::Whole("at", at.seconds()),
-        Member::Text("before_batch", before.batch.as_str()),
-        Member::Text("before_gtin", before.gtin.as_str()),
-        Member::Serials("before_serials", before_serials.as_slice()),
-        Member::Text("msg", "repack"),
-    ])
+    put_object(
+        writer,
+        &[
+            (Field::AfterBatch, Said::Text(after.batch.as_str())),
+            (Field::AfterGtin, Said::Text(after.gtin.as_str())),
+            (Field::AfterSerials, Said::Serials(after_serials.as_slice())),
+            (Field::At, Said::Whole(at.seconds())),
+            (Field::BeforeBatch, Said::Text(before.batch.as_str())),
+            (Field::BeforeGtin, Said::Text(before.gtin.as_str())),
+            (
+                Field::BeforeSerials,
+                Said::Serials(before_serials.as_slice()),
+            ),
+            (Field::Msg, Said::Text("repack")),
+        ],
+    )
 }
 
-/// A withdrawal.
-fn put_withdraw<T: Target>(target: &mut T, gtin: &Gtin, at: Moment) -> Result<(), AllocError>
-    ensures { T.puts result target.old target.new (value_of (Message.Withdraw gtin.now at)) }
+/// Writes a withdrawal.
+fn put_withdraw(writer: &mut Writer, gtin: &Gtin, at: Moment) -> Result<(), AllocError>
+    ensures { PutsValue result writer.old writer.new
+        (value_of (Message.Withdraw gtin.now at)) }
 {
-    target.object(&[
-        Member::Whole("at", at.seconds()),
-        Member::Text("gtin", gtin.as_str()),
-        Member::Text("msg", "withdraw"),
-        Member::Whole("v", 2),
-    ])
+    put_object(
+        writer,
+        &[
+            (Field::At, Said::Whole(at.seconds())),
+            (Field::Gtin, Said::Text(gtin.as_str())),
+            (Field::Msg, Said::Text("withdraw")),
+            (Field::V, Said::Whole(2)),
+        ],
+    )
 }
 
-/// A query.
-fn put_query<T: Target>(target: &mut T, key: &PackKey) -> Result<(), AllocError>
-    ensures { T.puts result target.old target.new (value_of (Message.Query key.now)) }
+/// Writes a query.
+fn put_query(writer: &mut Writer, key: &PackKey) -> Result<(), AllocError>
+    ensures { PutsValue result writer.old writer.new
+        (value_of (Message.Query key.now)) }
 {
-    target.object(&[
-        Member::Text("gtin", key.gtin.as_str()),
-        Member::Text("msg", "query"),
-        Member::Text("serial", key.serial.as_str()),
-    ])
+    put_object(
+        writer,
+        &[
+            (Field::Gtin, Said::Text(key.gtin.as_str())),
+            (Field::Msg, Said::Text("query")),
+            (Field::Serial, Said::Text(key.serial.as_str())),
+        ],
+    )
 }
 
-/// An answer: of the version that says all of what was found.
-fn put_answer<'a, T: Target>(
-    target: &mut T,
+/// Writes an answer: of the version that says all of what was found.
+#[tactic(auto, unfolding(crate::specs::Tokens::PutsValue))]
+fn put_answer(
+    writer: &mut Writer,
     asker: Party,
     q: u32,
-    key: &'a PackKey,
-    found: &'a Found,
+    key: &PackKey,
+    found: &Found,
 ) -> Result<(), AllocError>
-    ensures { T.puts result target.old target.new (value_of (Message.Answer asker q key.now found.now)) }
+    ensures { PutsValue result writer.old writer.new
+        (value_of (Message.Answer asker q key.now found.now)) }
+{
+    let version = found_version(found);
+    writer.begin_object()?;
+    writer.key(Field::Asker.as_str())?;
+    writer.u64(asker as u64)?;
+    writer.key(Field::Found.as_str())?;
+    put_found(writer, version, found)?;
+    put_answer_end(writer, version, q, key)
+}
+
+/// Writes the members of an answer behind what was found, and its end.
+fn put_answer_end(
+    writer: &mut Writer,
+    version: Version,
+    q: u32,
+    key: &PackKey,
+) -> Result<(), AllocError>
+    ensures { Puts result writer.old writer.new (rest_tokens (answer_end version q key.now)) }
+{
+    match version {
+        Version::One => put_rest(
+            writer,
+            &[
+                (Field::Gtin, Said::Text(key.gtin.as_str())),
+                (Field::Msg, Said::Text("answer")),
+                (Field::Q, Said::Whole(q as u64)),
+                (Field::Serial, Said::Text(key.serial.as_str())),
+            ],
+        ),
+        Version::Two => put_rest(
+            writer,
+            &[
+                (Field::Gtin, Said::Text(key.gtin.as_str())),
+                (Field::Msg, Said::Text("answer")),
+                (Field::Q, Said::Whole(q as u64)),
+                (Field::Serial, Said::Text(key.serial.as_str())),
+                (Field::V, Said::Whole(2)),
+            ],
+        ),
+    }
+}
+
+/// Writes what was found in a version.
+fn put_found(writer: &mut Writer, version: Version, found: &Found) -> Result<(), AllocError>
+    ensures { PutsValue result writer.old writer.new
+        (found_value version found.now) }
 {
     let Found::Present {
         batch,
@@ -202,49 +289,27 @@ fn put_answer<'a, T: Target>(
         withdrawn,
     } = found
     else {
-        return target.object(&[
-            Member::Whole("asker", asker as u64),
-            Member::Null("found"),
-            Member::Text("gtin", key.gtin.as_str()),
-            Member::Text("msg", "answer"),
-            Member::Whole("q", q as u64),
-            Member::Text("serial", key.serial.as_str()),
-        ]);
+        return put_said(writer, Said::Null);
     };
-    match found_version(found) {
-        Version::One => target.nested_object(
-            Member::Whole("asker", asker as u64),
-            "found",
+    match version {
+        Version::One => put_object(
+            writer,
             &[
-                Member::Text("batch", batch.as_str()),
-                Member::Expiry("expiry", expiry),
-                Member::Truth("recalled", *recalled),
-                Member::Text("standing", standing.name()),
-            ],
-            &[
-                Member::Text("gtin", key.gtin.as_str()),
-                Member::Text("msg", "answer"),
-                Member::Whole("q", q as u64),
-                Member::Text("serial", key.serial.as_str()),
+                (Field::Batch, Said::Text(batch.as_str())),
+                (Field::Expiry, Said::Expiry(expiry)),
+                (Field::Recalled, Said::Truth(*recalled)),
+                (Field::Standing, Said::Text(standing.name())),
             ],
         ),
-        Version::Two => target.nested_object(
-            Member::Whole("asker", asker as u64),
-            "found",
+        Version::Two => put_object(
+            writer,
             &[
-                Member::Text("batch", batch.as_str()),
-                Member::Expiry("expiry", expiry),
-                Member::National("national", national),
-                Member::Truth("recalled", *recalled),
-                Member::Text("standing", standing.name()),
-                Member::Truth("withdrawn", *withdrawn),
-            ],
-            &[
-                Member::Text("gtin", key.gtin.as_str()),
-                Member::Text("msg", "answer"),
-                Member::Whole("q", q as u64),
-                Member::Text("serial", key.serial.as_str()),
-                Member::Whole("v", 2),
+                (Field::Batch, Said::Text(batch.as_str())),
+                (Field::Expiry, Said::Expiry(expiry)),
+                (Field::National, Said::National(national)),
+                (Field::Recalled, Said::Truth(*recalled)),
+                (Field::Standing, Said::Text(standing.name())),
+                (Field::Withdrawn, Said::Truth(*withdrawn)),
             ],
         ),
     }

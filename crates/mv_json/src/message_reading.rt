@@ -2,12 +2,12 @@
 
 ghost use Rattle.std.specs.Prelude.{◌≡◌, IfErr};
 ghost use Rattle.serde_json.specs.View.{view};
-ghost use Rattle.mv_json.specs.Memory.{MayTakeMemory};
-ghost use Rattle.mv_json.specs.Messages.{read_bytes, read_message};
+ghost use Rattle.mv_json.specs.Messages.{MayTakeMemory, read_bytes, read_message};
 ghost use Rattle.mv_json.specs.Reading.{GivesOr};
 
 use crate::MessageFault;
 use crate::form::{form_at, known_form_at};
+use crate::object::Object;
 use crate::readers::message_at;
 use crate::version::version_at;
 use mv_message::Message;
@@ -45,7 +45,8 @@ pub fn from_value(alloc: Global, value: &Value) -> Result<Message, MessageFault>
         → MayTakeMemory (view value.now)) }
 {
     let members = value.as_object().ok_or(MessageFault::NotObject)?;
-    let version = version_at(value)?;
-    let form = known_form_at(alloc, members, version, form_at(value, version)?)?;
-    message_at(alloc, value, version, form)
+    let mut object = Object::Value(value);
+    let version = version_at(&object)?;
+    let form = known_form_at(alloc, members, version, form_at(&object, version)?)?;
+    message_at(alloc, &mut object, version, form)
 }

@@ -1,101 +1,74 @@
 //! The fields of an object as they are met, in any order, and what stands in each.
 
-ghost use Rattle.std.specs.Prelude.{◌≡◌, ◌≢◌, ◌∷◌, ◌++◌, [], ◌<◌, All, Contains, length, IsTrue, IsFalse, IfSome};
+ghost use Rattle.std.specs.Prelude.{◌≡◌, ◌≢◌, ◌<◌, ◌∷◌, ◌++◌, [], All, Contains, MatchBool, MatchOption, IsTrue, IfSome, get_or, length};
 ghost use Rattle.mv_json.specs.Parts.{entry, IsTaken};
+ghost use Rattle.mv_json.specs.declared.part.Entry.{Entry as AnEntry};
 
 use crate::Field;
-use crate::form::Form;
 use crate::version::Version;
-use mv_message::{Boxed, Found, Markets, Party, Serials, Standing, Text};
-use mv_pack::{Batch, Expiry, Gtin, Moment, National, Serial};
+use mv_message::{Boxed, Found};
+use mv_pack::{Market, Serial};
+use std::mem;
 
-/// What stands in a field, read by the field's kind.
+/// What stands in a field, as its tokens say.
 #[derive(Drop)]
-pub(crate) enum Part {
-    /// A batch number.
-    Batch(Batch),
-    /// A whole number from 1 on.
-    Count(u32),
-    /// An expiry date.
-    Expiry(Expiry),
-    /// The name of a form.
-    Form(Form),
-    /// What was found.
+pub(crate) enum Part<'a> {
+    /// What was found of a pack.
     Found(Boxed<Sighting>),
-    /// A product code.
-    Gtin(Gtin),
     /// Markets.
-    Markets(Markets),
-    /// A moment.
-    Moment(Moment),
-    /// A national number, or none.
-    National(Option<National>),
-    /// A party.
-    Party(Party),
-    /// A serial number.
-    Serial(Serial),
+    Markets(Vec<Market>),
+    /// `null`.
+    Null,
     /// Serial numbers.
-    Serials(Serials),
-    /// A standing.
-    Standing(Standing),
-    /// A free text.
-    Text(Text),
-    /// Whether it is so.
+    Serials(Vec<Serial>),
+    /// A list that was taken out.
+    Taken,
+    /// A text.
+    Text(&'a str),
+    /// `true` or `false`.
     Truth(bool),
-    /// The number of the second version.
-    Two,
+    /// A whole number.
+    Whole(u64),
 }
 
-/// What was found, and the version that says it so, where not each does.
+/// The pack that was found, and the version that says it so.
 #[derive(Drop)]
 pub(crate) struct Sighting {
     /// What was found.
     pub(crate) found: Found,
     /// The version.
-    pub(crate) version: Option<Version>,
+    pub(crate) version: Version,
 }
 
 /// A field that was met, and what stands there.
 #[derive(Drop)]
-pub(crate) struct Entry {
+pub(crate) struct Entry<'a> {
     /// The field.
     pub(crate) field: Field,
     /// What stands there.
-    pub(crate) part: Part,
+    pub(crate) part: Part<'a>,
 }
 
 /// Adds an entry, unless its field was met before or memory is refused, and says whether it did.
 #[inline(always)]
-pub(crate) fn adds(entries: &mut Vec<Entry>, field: Field, part: Part) -> bool
+pub(crate) fn adds<'a>(entries: &mut Vec<Entry<'a>>, field: Field, part: Part<'a>) -> bool
     ensures added { IsTrue result
-        → entries.new.items ≡ entries.old.items ++ entry field part ∷ [] }
+        → entries.new.items ≡ entries.old.items ++ entry field part.entry ∷ [] }
     ensures apart { IsTrue result → All (λ other. other.field ≢ field) entries.old.items }
 {
-    if is_among(entries, field) {
+    if find(entries, field).is_some() {
         return false;
     }
     entries.push(Entry { field, part }).is_ok()
 }
 
-/// Whether a field was met.
-pub(crate) fn is_among(entries: &[Entry], field: Field) -> bool
-    ensures { IsFalse result → All (λ other. other.field ≢ field) entries.now }
-{
-    let number = field as u8;
-    for met in entries {
-        if met.field as u8 == number {
-            return true;
-        }
-    }
-    false
-}
-
 /// What stands in a field.
-pub(crate) fn find(entries: &[Entry], field: Field) -> Option<&Part>
-    ensures { IfSome result (λ part. Contains entries.now (entry field part.now)) }
+pub(crate) fn find<'b, 'a>(entries: &'b [Entry<'a>], field: Field) -> Option<&'b Part<'a>>
+    ensures { MatchOption result (All (λ other. other.field ≢ field) entries.now)
+        (λ part. Contains entries.now (entry field part.now)) }
 {
     for met in entries {
-        if met.field == field {
+        if is_same(met.field, field) {
             return Some(&met.part);
         }
     }
@@ -103,21 +76,30 @@ pub(crate) fn find(entries: &[Entry], field: Field) -> Option<&Part>
 }
 
 /// Takes out what stands in a field.
-#[inline(always)]
-pub(crate) fn take(entries: &mut Vec<Entry>, field: Field) -> Option<Part>
+pub(crate) fn take<'a>(entries: &mut Vec<Entry<'a>>, field: Field) -> Option<Part<'a>>
     ensures { IfSome result (λ part. IsTaken entries.old.items field part entries.new.items) }
 {
     let place = place_of(entries, field)?;
-    let met = entries.swap_remove(place);
-    if met.field != field {
-        return None;
-    }
-    Some(met.part)
+    Some(mem::replace(&mut entries[place].part, Part::Taken))
 }
 
 /// The place of a field among those that were met.
-fn place_of(entries: &[Entry], field: Field) -> Option<usize>
-    ensures { IfSome result (λ place. place < length entries.now) }
+fn place_of(entries: &[Entry<'_>], field: Field) -> Option<usize>
+    ensures { IfSome result (λ place. (place < length entries.now)
+        × ((d : AnEntry) → (get_or entries.now place d).field ≡ field)) }
 {
-    entries.iter().position(|met| met.field == field)
+    for place in 0..entries.len() {
+        if is_same(entries[place].field, field) {
+            return Some(place);
+        }
+    }
+    None
+}
+
+/// Whether two fields are one. Their numbers are faster to compare than they are.
+#[inline(always)]
+pub(crate) fn is_same(left: Field, right: Field) -> bool
+    ensures { MatchBool result (left ≡ right) (left ≢ right) }
+{
+    left as u8 == right as u8 && left == right
 }

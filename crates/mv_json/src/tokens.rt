@@ -2,7 +2,7 @@
 //! that whoever looked for it reads the text anew in another way.
 
 ghost use Rattle.std.specs.Prelude.{◌≡◌, ◌≢◌, ℕ, List, ◌∷◌, IfSome, IfNone, IsTrue, IsFalse, Some};
-ghost use Rattle.json.specs.Token.{Token as AToken, begin_object, key, string, number};
+ghost use Rattle.json.specs.Token.{Token as AToken, begin_object, string, number};
 ghost use Rattle.serde_json.specs.Data.{unsigned};
 ghost use Rattle.serde_json.specs.Read.{number_of};
 
@@ -15,17 +15,6 @@ pub fn takes_opening(reader: &mut Reader<'_>) -> bool
     ensures other { IsFalse result → (rest : List AToken) → reader.old ≢ begin_object ∷ rest }
 {
     matches!(reader.next(), Some(Token::BeginObject))
-}
-
-/// Takes the key that is next, and says whether it has that name.
-pub fn takes_key(reader: &mut Reader<'_>, name: &str) -> bool
-    ensures key { IsTrue result → reader.old ≡ key name.now ∷ reader.new }
-    ensures other { IsFalse result → (rest : List AToken) → reader.old ≢ key name.now ∷ rest }
-{
-    match reader.next() {
-        Some(Token::Key(found)) => found == name,
-        _ => false,
-    }
 }
 
 /// Takes the text that is next.
@@ -53,7 +42,7 @@ pub fn take_whole(reader: &mut Reader<'_>) -> Option<u64>
 
 /// The number that a text is, where it is a whole one of 64 bits and has no sign.
 #[tactic(auto, unfolding(serde_json::specs::Read::number_of))]
-fn whole_of(text: &str) -> Option<u64>
+pub(crate) fn whole_of(text: &str) -> Option<u64>
     ensures { IfSome result (λ n. number_of text.now ≡ Some (unsigned n)) }
 {
     let bytes = text.as_bytes();

@@ -1,11 +1,11 @@
 //! The versions of the JSON form, told apart by the field `v`.
 
 ghost use Rattle.std.specs.Prelude.{◌≡◌, ◌≢◌, IfErr};
-ghost use Rattle.serde_json.specs.View.{view};
-ghost use Rattle.mv_json.specs.Versions.{version_at};
+ghost use Rattle.mv_json.specs.Forms.{version_at};
+ghost use Rattle.mv_json.specs.Parts.{Gives};
 
+use crate::object::Object;
 use crate::{Field, MessageFault};
-use serde_json::Value;
 
 /// A version of the JSON form of messages.
 #[derive(Clone, Copy, Debug, PartialEq, Eq)]
@@ -17,13 +17,11 @@ pub(crate) enum Version {
 }
 
 /// The version of an object: M5 of `v`.
-#[tactic(auto, unfolding(crate::specs::Versions::version_at))]
-pub(crate) fn version_at(value: &Value) -> Result<Version, MessageFault>
-    ensures gives { result ≡ version_at (view value.now) }
-    // It takes no memory.
-    ensures no_memory { IfErr result (λ fault. fault ≢ MessageFault.Memory) }
+#[tactic(auto, unfolding(crate::specs::Forms::version_at))]
+pub(crate) fn version_at(object: &Object<'_>) -> Result<Version, MessageFault>
+    ensures { Gives version_at object.now result }
 {
-    let Some(found) = value.get(Field::V.as_str()) else {
+    let Some(found) = object.get(Field::V) else {
         return Ok(Version::One);
     };
     match found.as_u64() {

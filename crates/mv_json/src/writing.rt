@@ -4,11 +4,10 @@ ghost use Rattle.std.specs.Prelude.{◌≡◌, ◌++◌, IfOk, IfErr, OnOk, OnEr
 ghost use Rattle.serde_json.specs.View.{view};
 ghost use Rattle.serde_json.specs.Written.{compact_text};
 ghost use Rattle.mv_json.specs.Messages.{value_of, read_bytes};
-ghost use Rattle.mv_json.specs.Legal.{IsLegal};
+ghost use Rattle.mv_json.specs.Shapes.{HasWords, IsLegal};
 ghost use Rattle.mv_json.specs.Tokens.{Puts, tokens_of};
 
 use crate::MessageFault;
-use crate::member_values::Making;
 use crate::message_members::put_message;
 use json::Writer;
 use mv_message::Message;
@@ -17,18 +16,6 @@ use std::alloc::{AllocError, Global};
 
 /// How many bytes most messages take; a longer one makes its buffer grow.
 const USUAL_LEN: usize = 512;
-
-/// The JSON value of a message, of version 2 where it could not say all in version 1. The only refusal is M9, for want of
-/// memory.
-#[tactic(auto, using(crate::proofs::KeyLemmas::keys_ascend))]
-pub fn to_value(alloc: Global, message: &Message) -> Result<Value, MessageFault>
-    ensures value { IfOk result (λ value. view value ≡ value_of message.now) }
-    ensures memory { IfErr result (λ fault. fault ≡ MessageFault.Memory) }
-{
-    let mut making = Making::new(alloc);
-    put_message(&mut making, message)?;
-    Ok(making.into_value())
-}
 
 /// Appends the canonical text of a message to a buffer: its value with no blanks, the keys in byte order. The only
 /// refusal is want of memory; then the buffer holds what it held.
@@ -46,6 +33,7 @@ pub fn write_text(alloc: Global, message: &Message, out: &mut Vec<u8>) -> Result
 
 /// Writes the value of a message, with its keys in byte order, as a value of what a writer has begun. The only refusal is want of
 /// memory.
+#[tactic(auto, unfolding(crate::specs::Tokens::PutsValue))]
 pub fn write_message(writer: &mut Writer, message: &Message) -> Result<(), AllocError>
     ensures { Puts result writer.old writer.new (tokens_of (value_of message.now)) }
 {
@@ -61,10 +49,41 @@ pub fn text(alloc: Global, message: &Message) -> Result<String, MessageFault>
         (λ text. IsLegal message.now → read_bytes (string_bytes text) ≡ Ok message.now) }
     ensures memory { IfErr result (λ fault. fault ≡ MessageFault.Memory) }
 {
+    know_words(message);
     let mut bytes = Vec::new(alloc);
     write_text(alloc, message, &mut bytes)?;
     let Ok(text) = String::from_utf8(bytes) else {
         unreachable!();
     };
     Ok(text)
+}
+
+/// The JSON value of a message, of version 2 where it could not say all in version 1: that of its canonical text. The only
+/// refusal is M9, for want of memory.
+#[tactic(auto, using(crate::proofs::ValueLemmas::text_reads))]
+pub fn to_value(alloc: Global, message: &Message) -> Result<Value, MessageFault>
+    ensures value { IfOk result (λ value. view value ≡ value_of message.now) }
+    ensures memory { IfErr result (λ fault. fault ≡ MessageFault.Memory) }
+{
+    know_words(message);
+    let text = text(alloc, message)?;
+    Value::from_str(alloc, text.as_str()).map_err(|_| MessageFault::Memory)
+}
+
+/// Each number that a message holds has 64 bits.
+fn know_words(message: &Message)
+    ensures { HasWords message.now }
+{
+    match message {
+        Message::Answer { asker, q, .. } => {
+            let _numbers = (*asker, *q);
+        }
+        Message::Recall { at, .. }
+        | Message::Repack { at, .. }
+        | Message::Status { at, .. }
+        | Message::Withdraw { at, .. } => {
+            let _seconds = at.seconds();
+        }
+        Message::Master { .. } | Message::Query { .. } | Message::Upload { .. } => {}
+    }
 }

@@ -12,10 +12,9 @@ use Rattle.mv_lines.specs.Served.{Served}
 texts_are : (before : ⊤) (lines : List Line) (texts : List (Option (List ℕ))) (after : ⊤) → AreReplies IsCanon before lines texts after
     → said_texts texts ≡ map canon_text (map (λ line. line.bytes) lines)
 texts_are before [] [] after are = refl
-texts_are before [] (text ∷ texts) after are = absurd are
-texts_are before (line ∷ lines) [] after are = absurd are
 texts_are before (line ∷ lines) (text ∷ texts) after (between, is, are) =
     rw is (ap (λ ts. canon_text line.bytes ∷ ts) (texts_are between lines texts after are))
+texts_are before lines texts after are = absurd are
 
 -- what went out for an input that was answered whole
 served_texts : (bytes : List ℕ) (after : ⊤) (old new : Option (List ℕ)) → Served IsCanon tt bytes after old new → Appends old new (canon_of bytes)

@@ -1,11 +1,11 @@
 -- Lemmas on an input that comes in parts.
-use Rattle.std.proofs.Common.{◌≡◌, ℕ, ◌+◌, ◌<◌, ◌≤◌, List, [], ◌∷◌, ◌++◌, length, refl, sym, ◌∙◌, ap, subst, arith, append_assoc, append-nil, length-append, true, false, rules, inl, inr}
+use Rattle.std.proofs.Common.{◌≡◌, ℕ, ◌+◌, ◌<◌, ◌≤◌, List, [], ◌∷◌, ◌++◌, length, refl, sym, ◌∙◌, ap, subst, arith, append_assoc, append-nil, length-append, rules, inl, inr}
 use Rattle.std.proofs.lemmas.List.{map-append}
 use Rattle.std.proofs.lemmas.List.Elements.{All-append}
-use Rattle.std.specs.Prelude.{cond, ◌==◌, map, Option, Result, Ok, Err, OnOk, IfErr}
+use Rattle.std.specs.Prelude.{map, Option}
 use Rattle.std.specs.Io.BufRead.{strip_last}
 use Rattle.mv_lines.specs.declared.fault.ServeFault.{ServeFault}
-use Rattle.mv_lines.specs.declared.fault.ServeFault.TheVariants.{Read, Write, Memory, TooManyLines, LineTooLong, Start}
+use Rattle.mv_lines.specs.declared.fault.ServeFault.TheVariants.{TooManyLines, LineTooLong}
 use Rattle.mv_lines.specs.Lines.{Line, line_at, line_begun, line_unless_empty, whole_from, rest_from, lines_from, lines_of, line_limit, lines_limit, IsUnended, KeepLimits}
 use Rattle.mv_lines.specs.Replies.{IsReplies, GotNoReply}
 use Rattle.mv_lines.specs.Served.{StopsAt, StopsIn, StoppedAt, LeftBy}
@@ -16,22 +16,12 @@ use Rattle.mv_lines.proofs.RepliesLemmas.{IsReplies-append, IsReplies-nil}
 -- the whole pieces of two parts
 pub whole_from-append : (begun xs ys : List ℕ) → whole_from begun (xs ++ ys) ≡ whole_from begun xs ++ whole_from (rest_from begun xs) ys
 whole_from-append begun [] ys = refl
-whole_from-append begun (x ∷ xs) ys =
-    elim (x == 10) as (λ b. cond b (begun ∷ whole_from [] (xs ++ ys)) (whole_from (begun ++ x ∷ []) (xs ++ ys))
-    ≡ cond b (begun ∷ whole_from [] xs) (whole_from (begun ++ x ∷ []) xs) ++ whole_from (cond b (rest_from [] xs) (rest_from (begun ++ x ∷ []) xs)) ys) [
-      | true ↦ ap (λ l. begun ∷ l) (whole_from-append [] xs ys)
-      | false ↦ whole_from-append (begun ++ x ∷ []) xs ys
-    ]
+whole_from-append begun (x ∷ xs) ys = grind (arith, whole_from-append [] xs ys, whole_from-append (begun ++ x ∷ []) xs ys)
 
 -- what two parts leave begun
 pub rest_from-append : (begun xs ys : List ℕ) → rest_from begun (xs ++ ys) ≡ rest_from (rest_from begun xs) ys
 rest_from-append begun [] ys = refl
-rest_from-append begun (x ∷ xs) ys =
-    elim (x == 10) as (λ b. cond b (rest_from [] (xs ++ ys)) (rest_from (begun ++ x ∷ []) (xs ++ ys))
-    ≡ rest_from (cond b (rest_from [] xs) (rest_from (begun ++ x ∷ []) xs)) ys) [
-      | true ↦ rest_from-append [] xs ys
-      | false ↦ rest_from-append (begun ++ x ∷ []) xs ys
-    ]
+rest_from-append begun (x ∷ xs) ys = grind (arith, rest_from-append [] xs ys, rest_from-append (begun ++ x ∷ []) xs ys)
 
 -- the lines of two lists of pieces
 pub lines_from-append : (count : ℕ) (ps qs : List (List ℕ)) → lines_from count (ps ++ qs) ≡ lines_from count ps ++ lines_from (count + length ps) qs
@@ -79,10 +69,6 @@ KeepLimits-append count ps qs first next = record {
 -- the place where a later part stops is one of the whole
 pub stops_later : (fault : ServeFault) (begun : List ℕ) (count : ℕ) (front good bad tail : List ℕ)
     → StopsAt fault (rest_from begun front) (count + length (whole_from begun front)) good bad → StopsAt fault begun count (front ++ good) (bad ++ tail)
-stops_later Read begun count front good bad tail why = why
-stops_later Write begun count front good bad tail why = why
-stops_later Start begun count front good bad tail why = why
-stops_later Memory begun count front good bad tail why = why
 stops_later TooManyLines begun count front good bad tail why =
     (rw (whole_from-append begun front good, length-append) (omega (arith, why.0)), rw length-append (omega (arith, why.1)))
 stops_later LineTooLong begun count front good bad tail (behind, full, next, more, e, other) = (
@@ -93,6 +79,7 @@ stops_later LineTooLong begun count front good bad tail (behind, full, next, mor
   ap (λ l. l ++ tail) e,
   other,
 )
+stops_later fault begun count front good bad tail why = why
 
 -- the line that is begun behind a later part is that of the whole
 pub begun_later : (begun front begun' good : List ℕ) (count count' : ℕ) → begun' ≡ rest_from begun front → count' ≡ count + length (whole_from begun front)
@@ -108,21 +95,15 @@ none_added kept kept' same = same ∙ sym (append-nil kept)
 module _ {S : Type 0} (Reply : S → Line → Option (List ℕ) → S → Type 0) where
   -- what answers may be as it was, whatever the fault
   left_alone : (fault : ServeFault) (a : S) (next : Line) → LeftBy fault Reply a next a
-  left_alone Read a next = inl refl
-  left_alone Write a next = inl refl
-  left_alone Start a next = inl refl
-  left_alone Memory a next = inl refl
   left_alone TooManyLines a next = refl
   left_alone LineTooLong a next = refl
+  left_alone fault a next = inl refl
 
   -- where it was left by a fault, the next line got no reply
   pub left_without : (fault : ServeFault) (a b : S) (next : Line) → LeftBy fault Reply a next b → GotNoReply Reply a next b
-  left_without Read a b next left = left
-  left_without Write a b next left = left
-  left_without Start a b next left = left
-  left_without Memory a b next left = left
   left_without TooManyLines a b next left = inl left
   left_without LineTooLong a b next left = inl left
+  left_without fault a b next left = left
 
   -- there was a reply to a line, and it was dropped
   pub reply_dropped : (count : ℕ) (piece line : List ℕ) (text : Option (List ℕ)) (a b : S) → line ≡ strip_last 13 piece
@@ -187,27 +168,42 @@ module _ {S : Type 0} (Reply : S → Line → Option (List ℕ) → S → Type 0
     left = left_alone fault a _;
   }
 
-  -- a line feed is taken, and the line that it ends is answered; `kept` are the replies before
-  pub feed_taken : (kept kept' begun begun' : List ℕ) (count count' : ℕ) (a b : S) → count < lines_limit → length begun ≤ line_limit
-      → begun' ≡ [] → count' ≡ count + 1
-      → (out : List ℕ) × (kept' ≡ kept ++ out) × IsReplies Reply a (lines_from count (begun ∷ [])) out b
-      → (out : List ℕ) × (kept' ≡ kept ++ out) × Taken Reply begun count a (10 ∷ []) begun' count' b out
-  feed_taken kept kept' begun begun' count count' a b few short none more (out, grown, replied) = (
-    out,
-    grown,
-    record { rest = none; counted = omega (arith, more); kept = record { few = omega (arith, few); short = search rules }; replied = replied },
-  )
+  -- a line is taken of which `part` was left, and answered as the piece that it is; `kept` are the replies before
+  pub line_taken : (kept kept' begun part piece begun' : List ℕ) (count count' : ℕ) (a b : S) → IsUnended part → piece ≡ begun ++ part → count < lines_limit
+      → length piece ≤ line_limit → begun' ≡ [] → count' ≡ count + 1
+      → (out : List ℕ) × (kept' ≡ kept ++ out) × IsReplies Reply a (lines_from count (piece ∷ [])) out b
+      → (out : List ℕ) × (kept' ≡ kept ++ out) × Taken Reply begun count a (part ++ 10 ∷ []) begun' count' b out
+  line_taken kept kept' begun part piece begun' count count' a b unended whole few short none more (out, grown, replied) =
+      let pieces : whole_from begun (part ++ 10 ∷ []) ≡ piece ∷ [] =
+      rw (whole_from-append begun part (10 ∷ []), unended_whole begun part unended, unended_rest begun part unended, whole) in (
+        out,
+        grown,
+        record {
+          rest = none ∙ sym (rest_from-append begun part (10 ∷ []));
+          counted = rw pieces (omega (arith, more));
+          kept = rw pieces (record { few = omega (arith, few); short = search rules });
+          replied = rw pieces replied;
+        },
+      )
 
-  -- the taking stops before one byte
-  pub stopped_here : (kept begun : List ℕ) (count byte : ℕ) (a b : S) (fault : ServeFault) → count ≤ lines_limit → StopsAt fault begun count [] (byte ∷ [])
-      → LeftBy fault Reply a (line_begun count begun []) b
-      → (out : List ℕ) × (kept ≡ kept ++ out) × StoppedAt Reply fault begun count a (byte ∷ []) b out
-  stopped_here kept begun count byte a b fault few why left = (
+  -- the taking stops before the line feed of a line
+  pub line_stopped : (kept begun part piece : List ℕ) (count : ℕ) (a b : S) (fault : ServeFault) → IsUnended part → piece ≡ begun ++ part → count ≤ lines_limit
+      → StopsAt fault begun count part (10 ∷ []) → LeftBy fault Reply a (line_begun count piece []) b
+      → (out : List ℕ) × (kept ≡ kept ++ out) × StoppedAt Reply fault begun count a (part ++ 10 ∷ []) b out
+  line_stopped kept begun part piece count a b fault unended whole few why left = (
     [],
     sym (append-nil kept),
     record {
-      stopped = record { good = []; bad = byte ∷ []; cut = refl; why = why; kept = KeepLimits-nil count few; after = a; replied = IsReplies-nil Reply a };
-      left = left;
+      stopped = record {
+        good = part;
+        bad = 10 ∷ [];
+        cut = refl;
+        why = why;
+        kept = rw (unended_whole begun part unended) (KeepLimits-nil count few);
+        after = a;
+        replied = rw (unended_whole begun part unended) (IsReplies-nil Reply a);
+      };
+      left = rw (unended_whole begun part unended, unended_rest begun part unended, ← whole) left;
     },
   )
 
@@ -226,23 +222,3 @@ module _ {S : Type 0} (Reply : S → Line → Option (List ℕ) → S → Type 0
       → (whole : List ℕ) × (kept'' ≡ kept ++ whole) × Taken Reply begun count a (xs ++ ys) begun'' count'' c whole
   grown_taken kept kept' kept'' (out, grown, first) (other, more, next) =
       (out ++ other, more ∙ ap (λ l. l ++ other) grown ∙ append_assoc kept out other, taken_more first next)
-
-  -- the rest of the bytes, which ends no line, is taken; `kept` are the replies before
-  pub rest_taken : {A : Type 0} (ended : Result A ServeFault) (kept kept' kept'' begun front begun' rest begun'' all : List ℕ) (count count' count'' : ℕ) (a b : S)
-      → all ≡ front ++ rest → IsUnended rest → count' ≤ lines_limit → kept'' ≡ kept' → count'' ≡ count'
-      → (out : List ℕ) × (kept' ≡ kept ++ out) × Taken Reply begun count a front begun' count' b out
-      → OnOk ended (begun'' ≡ begun' ++ rest)
-      → OnOk ended ((whole : List ℕ) × (kept'' ≡ kept ++ whole) × Taken Reply begun count a all begun'' count'' b whole)
-  rest_taken (Ok u) kept kept' kept'' begun front begun' rest begun'' all count count' count'' a b cut unended few same counted first grown =
-      rw cut (grown_taken kept kept' kept'' first ([], none_added kept' kept'' same, part_taken begun' rest begun'' count' count'' b unended few grown counted))
-  rest_taken (Err e) kept kept' kept'' begun front begun' rest begun'' all count count' count'' a b cut unended few same counted first grown = grown
-
-  -- or stops the taking
-  pub rest_stopped : {A : Type 0} (ended : Result A ServeFault) (kept kept' kept'' begun front begun' rest all : List ℕ) (count count' : ℕ) (a b : S)
-      → all ≡ front ++ rest → IsUnended rest → count' ≤ lines_limit → kept'' ≡ kept'
-      → (out : List ℕ) × (kept' ≡ kept ++ out) × Taken Reply begun count a front begun' count' b out
-      → IfErr ended (λ fault. StopsIn fault begun' count' rest)
-      → IfErr ended (λ fault. (whole : List ℕ) × (kept'' ≡ kept ++ whole) × StoppedAt Reply fault begun count a all b whole)
-  rest_stopped (Ok u) kept kept' kept'' begun front begun' rest all count count' a b cut unended few same first stops = stops
-  rest_stopped (Err fault) kept kept' kept'' begun front begun' rest all count count' a b cut unended few same (out, grown, first) stops =
-      grown_stopped kept kept' kept'' fault [] (simp append-nil cut) grown first ([], none_added kept' kept'' same, part_stopped fault begun' rest [] count' b unended few stops)

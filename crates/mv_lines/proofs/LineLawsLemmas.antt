@@ -1,39 +1,35 @@
 -- The laws of lines: of the pieces of an input, and of the line that asks a request.
-use Rattle.std.proofs.Common.{◌≡◌, ◌∙◌, ◌<◌, ℕ, ◌^◌, suc, List, [], ◌∷◌, ◌++◌, map, refl, sym, ap, subst, arith, append_assoc, append-nil, true, false, true≢false, lt-ltb}
-use Rattle.std.specs.Prelude.{cond, ◌==◌, ◌&&◌, length, nat_lt, ok_or, All, Option, Some, None, option_and_then, Result, Ok, Err, IfOk}
+use Rattle.std.proofs.Common.{◌≡◌, ◌∙◌, ◌<◌, ℕ, ◌^◌, suc, List, [], ◌∷◌, ◌++◌, map, refl, sym, ap, subst, arith, append_assoc, append-nil, true, lt-ltb, inl, inr}
+use Rattle.std.specs.Prelude.{ok_or, All, Option, Some, None, option_and_then, Result, Ok, Err, IfOk}
 use Rattle.std.specs.List.{AllByRecursion, list_all}
 use Rattle.std.specs.Option.{option_map_or}
-use Rattle.std.specs.Result.{is_ok}
-use Rattle.std.proofs.lemmas.Bool.{and_parts, eqb-true, eqb-false, ltb-true}
+use Rattle.std.proofs.lemmas.Bool.{and_parts, cases_eq, eq-eqb, ne_eqb}
+use Rattle.std.proofs.lemmas.Bool.Decides.{nat_tests}
 use Rattle.std.proofs.lemmas.Grind.{common_steps}
 use Rattle.std.proofs.lemmas.List.Elements.{All-nil, All-cons, All-append}
-use Rattle.serde_json.specs.Data.{Data, array, Items}
+use Rattle.serde_json.specs.Data.{Data, array, string}
 use Rattle.serde_json.specs.View.{items_of}
 use Rattle.serde_json.specs.Find.{as_object, as_str, as_number, as_u64}
 use Rattle.mv_pack.specs.Code.{IsCode, read_code}
 use Rattle.mv_pack.specs.Gtin.{IsGtin, read_gtin}
-use Rattle.mv_pack.specs.Market.{IsMarket, is_capital}
-use Rattle.mv_pack.specs.declared.fault.PackFault.TheVariants.{Market}
-use Rattle.mv_pack.specs.declared.key.PackKey.{PackKey}
+use Rattle.mv_pack.specs.Market.{IsMarket}
 use Rattle.mv_pack.proofs.CodeLemmas.{read_code_of, read_code_is_code}
 use Rattle.mv_pack.proofs.GtinLemmas.{read_gtin_of, read_gtin_is_gtin}
 use Rattle.mv_pack.proofs.MarketLemmas.{read_market_of, read_market_is_market}
-use Rattle.mv_message.specs.declared.message.Message.{Message}
-use Rattle.mv_json.specs.Legal.{IsLegal}
+use Rattle.mv_json.specs.Shapes.{IsLegal}
 use Rattle.mv_json.specs.Messages.{read_message}
 use Rattle.mv_json.specs.Values.{strings}
-use Rattle.mv_json.proofs.LegalLemmas.{reads_back, read_is_legal}
-use Rattle.mv_machine.specs.declared.step.Step.{Step as AnyStep}
+use Rattle.mv_json.proofs.ReadsLemmas.{reads_back, read_is_legal}
 use Rattle.mv_machine.specs.declared.step.Step.TheVariants as steps
-use Rattle.mv_lines.specs.Kinds.{names_of, kind_at}
+use Rattle.mv_lines.specs.Kinds.{Asking, shape_of, names_of, kind_at}
 use Rattle.mv_lines.specs.LineLaws.{request_value, IsLegalRequest}
-use Rattle.mv_lines.specs.Meanings.{AreMarketLists}
+use Rattle.mv_lines.specs.Meanings.{AreMarketLists, meaning_of}
 use Rattle.mv_lines.specs.Lines.{whole_from, rest_from, last_piece, pieces, lines_of, IsUnended}
 use Rattle.mv_json.specs.Members.{first_unknown}
 use Rattle.mv_json.specs.Reading.{◌and_then◌, map_err, each_of, as_list, GivesOr}
 use Rattle.mv_lines.specs.Reading.{member_at, text_at, of_32_bits, read_at, number_at, message_at, market_lists_at}
 use Rattle.mv_lines.specs.Replies.{text_lines}
-use Rattle.mv_lines.specs.Requests.{read_request, request_at}
+use Rattle.mv_lines.specs.Requests.{asked_at, read_request, request_at}
 use Rattle.mv_lines.specs.declared.field.LineField.{LineField}
 use Rattle.mv_lines.specs.declared.field.LineField.TheVariants as fields
 use Rattle.mv_lines.specs.declared.kind.LineKind.{LineKind}
@@ -52,14 +48,7 @@ use Rattle.mv_lines.proofs.PartLemmas.{unended_whole, unended_rest}
 -- The bytes behind what had begun are its pieces, each with its line feed, and what stands behind the last one.
 rejoined : (begun xs : List ℕ) → text_lines (whole_from begun xs) ++ rest_from begun xs ≡ begun ++ xs
 rejoined begun [] = sym (append-nil begun)
-rejoined begun (x ∷ xs) =
-    (elim (x == 10) as (λ b. (x == 10) ≡ b → text_lines (cond b (begun ∷ whole_from [] xs) (whole_from (begun ++ x ∷ []) xs))
-    ++ cond b (rest_from [] xs) (rest_from (begun ++ x ∷ []) xs) ≡ begun ++ x ∷ xs) [
-      | true ↦ λ feed. append_assoc (begun ++ 10 ∷ []) (text_lines (whole_from [] xs)) (rest_from [] xs)
-          ∙ ap (λ l. (begun ++ 10 ∷ []) ++ l) (rejoined [] xs) ∙ append_assoc begun (10 ∷ []) xs
-          ∙ ap (λ byte. begun ++ byte ∷ xs) (sym (eqb-true x 10 feed))
-      | false ↦ λ other. rejoined (begun ++ x ∷ []) xs ∙ append_assoc begun (x ∷ []) xs
-    ]) refl
+rejoined begun (x ∷ xs) = grind (arith, nat_tests, rejoined [] xs, rejoined (begun ++ x ∷ []) xs, append_assoc {A = ℕ})
 
 -- so nothing is lost of an input, and nothing put to it
 pub pieces_rejoin : (bytes : List ℕ) → text_lines (whole_from [] bytes) ++ rest_from [] bytes ≡ bytes
@@ -76,20 +65,18 @@ unended_nil k within = absurd (omega arith)
 -- no whole piece has a line feed in it
 whole_unended : (begun xs : List ℕ) → IsUnended begun → All IsUnended (whole_from begun xs)
 whole_unended begun [] unended = All-nil IsUnended
-whole_unended begun (x ∷ xs) unended =
-    (elim (x == 10) as (λ b. (x == 10) ≡ b → All IsUnended (cond b (begun ∷ whole_from [] xs) (whole_from (begun ++ x ∷ []) xs))) [
-      | true ↦ λ feed. All-cons IsUnended begun (whole_from [] xs) unended (whole_unended [] xs unended_nil)
-      | false ↦ λ other. whole_unended (begun ++ x ∷ []) xs (unended_more begun x unended (eqb-false x 10 other))
-    ]) refl
+whole_unended begun (x ∷ xs) unended = elim (cases_eq x 10) [
+  | inl feed ↦ rw (eq-eqb x 10 feed) (All-cons IsUnended begun (whole_from [] xs) unended (whole_unended [] xs unended_nil))
+  | inr other ↦ rw (ne_eqb x 10 other) (whole_unended (begun ++ x ∷ []) xs (unended_more begun x unended other))
+]
 
 -- and none stands behind the last one
 rest_unended : (begun xs : List ℕ) → IsUnended begun → IsUnended (rest_from begun xs)
 rest_unended begun [] unended = unended
-rest_unended begun (x ∷ xs) unended =
-    (elim (x == 10) as (λ b. (x == 10) ≡ b → IsUnended (cond b (rest_from [] xs) (rest_from (begun ++ x ∷ []) xs))) [
-      | true ↦ λ feed. rest_unended [] xs unended_nil
-      | false ↦ λ other. rest_unended (begun ++ x ∷ []) xs (unended_more begun x unended (eqb-false x 10 other))
-    ]) refl
+rest_unended begun (x ∷ xs) unended = elim (cases_eq x 10) [
+  | inl feed ↦ rw (eq-eqb x 10 feed) (rest_unended [] xs unended_nil)
+  | inr other ↦ rw (ne_eqb x 10 other) (rest_unended (begun ++ x ∷ []) xs (unended_more begun x unended other))
+]
 
 last_unended : (rest : List ℕ) → IsUnended rest → All IsUnended (last_piece rest)
 last_unended [] unended = All-nil IsUnended
@@ -143,27 +130,13 @@ lines_compose front back =
 
 -- ---- the line that asks a request
 
-verify_back : (party : ℕ) (key : PackKey) → IsLegalRequest (Step (steps.Verify party key))
-    → read_request (request_value (Step (steps.Verify party key))) ≡ Ok (Step (steps.Verify party key))
-unfolding read_request kind_at request_at read_at number_at
-verify_back party key (gtin, (few, (serial, _))) = rw (read_gtin_of key.gtin gtin, lt-ltb _ _ few, read_code_of key.serial serial)
-
-submit_back : (from : ℕ) (message : Message) → IsLegalRequest (Step (steps.Submit from message))
-    → read_request (request_value (Step (steps.Submit from message))) ≡ Ok (Step (steps.Submit from message))
-unfolding read_request kind_at request_at message_at number_at
-submit_back from message (few, (legal, _)) = rw (lt-ltb _ _ few, reads_back message legal)
-
 -- each list of markets is a list of texts, and these are markets
-texts_back : (texts : List (List ℕ)) → each_of as_str (strings texts) ≡ Some texts
-texts_back [] = refl
-texts_back (text ∷ texts) = rw (texts_back texts) refl
+each_back : {A : Type 0} (as_one : Data → Option A) (value : A → Data) → ((x : A) → as_one (value x) ≡ Some x) → (xs : List A) → each_of as_one (items_of (map value xs)) ≡ Some xs
+each_back as_one value one [] = refl
+each_back as_one value one (x ∷ xs) = rw (one x, each_back as_one value one xs) refl
 
-abbrev lists_value : List (List (List ℕ)) → Items
-lists_value lists = items_of (map (λ markets. array (strings markets)) lists)
-
-lists_back : (lists : List (List (List ℕ))) → each_of (as_list as_str) (lists_value lists) ≡ Some lists
-lists_back [] = refl
-lists_back (texts ∷ lists) = rw (texts_back texts, lists_back lists) refl
+lists_back : (lists : List (List (List ℕ))) → each_of (as_list as_str) (items_of (map (λ markets. array (strings markets)) lists)) ≡ Some lists
+lists_back = each_back (as_list as_str) (λ markets. array (strings markets)) (each_back as_str string (λ text. refl))
 
 are_markets : (markets : List (List ℕ)) → AllByRecursion IsMarket markets → list_all is_market markets ≡ true
 are_markets [] legal = refl
@@ -173,56 +146,20 @@ are_market_lists : (lists : List (List (List ℕ))) → AllByRecursion (AllByRec
 are_market_lists [] legal = refl
 are_market_lists (markets ∷ lists) legal = rw (are_markets markets legal.0) (are_market_lists lists legal.1)
 
-open_back : (parties : List (List (List ℕ))) (submissions uplink window wire : ℕ)
-    → IsLegalRequest (Open parties submissions uplink window wire)
-    → read_request (request_value (Open parties submissions uplink window wire)) ≡ Ok (Open parties submissions uplink window wire)
-unfolding read_request kind_at request_at market_lists_at number_at
-open_back parties submissions uplink window wire (legal, (s, (u, (w, (i, _))))) =
-    rw (lists_back parties, are_market_lists parties legal, lt-ltb _ _ s, lt-ltb _ _ u, lt-ltb _ _ w, lt-ltb _ _ i)
-
--- ---- the same of the steps whose fields are numbers
-
-route_back : (from : ℕ) → IsLegalRequest (Step (steps.Route from)) → read_request (request_value (Step (steps.Route from))) ≡ Ok (Step (steps.Route from))
-unfolding read_request kind_at request_at number_at
-route_back from (few, _) = rw (lt-ltb _ _ few)
-
-relay_back : (from to : ℕ) → IsLegalRequest (Step (steps.Relay from to)) → read_request (request_value (Step (steps.Relay from to))) ≡ Ok (Step (steps.Relay from to))
-unfolding read_request kind_at request_at number_at
-relay_back from to (few, (less, _)) = rw (lt-ltb _ _ few, lt-ltb _ _ less)
-
-apply_back : (from to : ℕ) → IsLegalRequest (Step (steps.Apply from to)) → read_request (request_value (Step (steps.Apply from to))) ≡ Ok (Step (steps.Apply from to))
-unfolding read_request kind_at request_at number_at
-apply_back from to (few, (less, _)) = rw (lt-ltb _ _ few, lt-ltb _ _ less)
-
-repeat_back : (from to number : ℕ) → IsLegalRequest (Step (steps.Repeat from to number))
-    → read_request (request_value (Step (steps.Repeat from to number))) ≡ Ok (Step (steps.Repeat from to number))
-unfolding read_request kind_at request_at number_at
-repeat_back from to number (few, (small, (less, _))) = rw (lt-ltb _ _ few, lt-ltb _ _ small, lt-ltb _ _ less)
-
-close_back : (from to : ℕ) → IsLegalRequest (Step (steps.Close from to)) → read_request (request_value (Step (steps.Close from to))) ≡ Ok (Step (steps.Close from to))
-unfolding read_request kind_at request_at number_at
-close_back from to (few, (less, _)) = rw (lt-ltb _ _ few, lt-ltb _ _ less)
-
-lose_back : (from to : ℕ) → IsLegalRequest (Step (steps.Lose from to)) → read_request (request_value (Step (steps.Lose from to))) ≡ Ok (Step (steps.Lose from to))
-unfolding read_request kind_at request_at number_at
-lose_back from to (few, (less, _)) = rw (lt-ltb _ _ few, lt-ltb _ _ less)
-
-verdict_back : (party q : ℕ) → IsLegalRequest (Step (steps.Verdict party q)) → read_request (request_value (Step (steps.Verdict party q))) ≡ Ok (Step (steps.Verdict party q))
-unfolding read_request kind_at request_at number_at
-verdict_back party q (few, (less, _)) = rw (lt-ltb _ _ few, lt-ltb _ _ less)
-
 -- each request is read back from its line
 pub requests_read_back : (request : Request) → IsLegalRequest request → read_request (request_value request) ≡ Ok request
-requests_read_back (Open parties submissions uplink window wire) legal = open_back parties submissions uplink window wire legal
-requests_read_back (Step (steps.Submit from message)) legal = submit_back from message legal
-requests_read_back (Step (steps.Verify party key)) legal = verify_back party key legal
-requests_read_back (Step (steps.Route from)) legal = route_back from legal
-requests_read_back (Step (steps.Relay from to)) legal = relay_back from to legal
-requests_read_back (Step (steps.Apply from to)) legal = apply_back from to legal
-requests_read_back (Step (steps.Repeat from to number)) legal = repeat_back from to number legal
-requests_read_back (Step (steps.Close from to)) legal = close_back from to legal
-requests_read_back (Step (steps.Lose from to)) legal = lose_back from to legal
-requests_read_back (Step (steps.Verdict party q)) legal = verdict_back party q legal
+unfolding read_request kind_at request_at read_at message_at market_lists_at number_at
+requests_read_back (Open parties submissions uplink window wire) (legal, (s, (u, (w, (i, _))))) =
+    rw (lists_back parties, are_market_lists parties legal, lt-ltb _ _ s, lt-ltb _ _ u, lt-ltb _ _ w, lt-ltb _ _ i)
+requests_read_back (Step (steps.Submit from message)) (few, (legal, _)) = rw (lt-ltb _ _ few, reads_back message legal)
+requests_read_back (Step (steps.Verify party key)) (gtin, (few, (serial, _))) = rw (read_gtin_of key.gtin gtin, lt-ltb _ _ few, read_code_of key.serial serial)
+requests_read_back (Step (steps.Route from)) (few, _) = rw (lt-ltb _ _ few)
+requests_read_back (Step (steps.Relay from to)) (few, (less, _)) = rw (lt-ltb _ _ few, lt-ltb _ _ less)
+requests_read_back (Step (steps.Apply from to)) (few, (less, _)) = rw (lt-ltb _ _ few, lt-ltb _ _ less)
+requests_read_back (Step (steps.Repeat from to number)) (few, (small, (less, _))) = rw (lt-ltb _ _ few, lt-ltb _ _ small, lt-ltb _ _ less)
+requests_read_back (Step (steps.Close from to)) (few, (less, _)) = rw (lt-ltb _ _ few, lt-ltb _ _ less)
+requests_read_back (Step (steps.Lose from to)) (few, (less, _)) = rw (lt-ltb _ _ few, lt-ltb _ _ less)
+requests_read_back (Step (steps.Verdict party q)) (few, (less, _)) = rw (lt-ltb _ _ few, lt-ltb _ _ less)
 
 -- ---- what is read is legal
 
@@ -250,35 +187,10 @@ Has32Bits n = n < 2 ^ 32
 
 small_gave : (fault : LineFault) (n : Option ℕ) → IfOk (ok_or (option_and_then of_32_bits n) fault) Has32Bits
 small_gave fault None = tt
-small_gave fault (Some n) =
-    (elim (nat_lt n (2 ^ 32)) as (λ b. nat_lt n (2 ^ 32) ≡ b → IfOk (ok_or (cond b (Some n) None) fault) Has32Bits) [
-      | true ↦ λ less. ltb-true n (2 ^ 32) less
-      | false ↦ λ _. tt
-    ]) refl
-
-number_gave : (field : LineField) (value : Data) → IfOk (number_at field value) Has32Bits
-unfolding number_at
-number_gave field value = then_any Has32Bits (member_at field value) _ (λ found. small_gave (Kind field) (option_and_then as_u64 (as_number found)))
-
-gtin_gave : (field : LineField) (value : Data) → IfOk (read_at read_gtin field value) IsGtin
-unfolding read_at
-gtin_gave field value = then_any IsGtin (text_at field value) _ (λ text. error_gave IsGtin (Pack field) (read_gtin text) (read_gtin_is_gtin text))
-
-serial_gave : (field : LineField) (value : Data) → IfOk (read_at read_code field value) IsCode
-unfolding read_at
-serial_gave field value = then_any IsCode (text_at field value) _ (λ text. error_gave IsCode (Pack field) (read_code text) (read_code_is_code text))
-
-message_gave : (value : Data) → IfOk (message_at value) IsLegal
-unfolding message_at
-message_gave value = then_any IsLegal (member_at fields.Message value) _ (λ found. error_gave IsLegal InMessage (read_message found) (read_is_legal found))
+small_gave fault (Some n) = grind (arith, nat_tests)
 
 market_gave : (text : List ℕ) → is_market text ≡ true → IsMarket text
-market_gave text is =
-    (elim ((length text == 2) && list_all is_capital text) as (λ b. ((length text == 2) && list_all is_capital text) ≡ b
-    → is_ok (cond b (Ok text) (Err Market)) ≡ true → IsMarket text) [
-      | true ↦ λ good _. read_market_is_market text text (ap (λ b. cond b (Ok text) (Err Market)) good)
-      | false ↦ λ _ none. absurd (true≢false (sym none))
-    ]) refl is
+market_gave text is = grind (arith, read_market_is_market text text)
 
 markets_gave : (markets : List (List ℕ)) → list_all is_market markets ≡ true → AllByRecursion IsMarket markets
 markets_gave [] all = tt
@@ -291,55 +203,47 @@ lists_gave (markets ∷ lists) all =
     let parts = and_parts (list_all is_market markets) (list_all (list_all is_market) lists) all in (markets_gave markets parts.0, lists_gave lists parts.1)
 
 all_gave : (field : LineField) (lists : List (List (List ℕ))) → IfOk (market_lists field lists) AreMarketLists
-all_gave field lists =
-    (elim (list_all (list_all is_market) lists) as (λ b. list_all (list_all is_market) lists ≡ b
-    → IfOk (cond b (Ok lists) (Err (Pack field Market))) AreMarketLists) [
-      | true ↦ lists_gave lists
-      | false ↦ λ _. tt
-    ]) refl
+all_gave field lists = grind (arith, lists_gave lists)
 
-market_lists_gave : (field : LineField) (value : Data) → IfOk (market_lists_at field value) AreMarketLists
-unfolding market_lists_at
-market_lists_gave field value =
-    then_any AreMarketLists (member_at field value) _
-    (λ found. then_any AreMarketLists (ok_or (as_list (as_list as_str) found) (Kind field)) _ (all_gave field))
+-- what a field is read as is legal
+meaning_gave : (field : LineField) (value : Data) → IfOk ((meaning_of field).read value) (meaning_of field).IsLegal
+unfolding read_at message_at market_lists_at number_at
+meaning_gave fields.Gtin value =
+    then_any IsGtin (text_at fields.Gtin value) _ (λ text. error_gave IsGtin (Pack fields.Gtin) (read_gtin text) (read_gtin_is_gtin text))
+meaning_gave fields.Serial value =
+    then_any IsCode (text_at fields.Serial value) _ (λ text. error_gave IsCode (Pack fields.Serial) (read_code text) (read_code_is_code text))
+meaning_gave fields.Message value =
+    then_any IsLegal (member_at fields.Message value) _ (λ found. error_gave IsLegal InMessage (read_message found) (read_is_legal found))
+meaning_gave fields.Parties value =
+    then_any AreMarketLists (member_at fields.Parties value) _
+    (λ found. then_any AreMarketLists (ok_or (as_list (as_list as_str) found) (Kind fields.Parties)) _ (all_gave fields.Parties))
+meaning_gave field value = then_any Has32Bits (member_at field value) _ (λ found. small_gave (Kind field) (option_and_then as_u64 (as_number found)))
 
--- a number of a field, and then the rest
-with_number : {B : Type 0} (Q : B → Type 0) (field : LineField) (value : Data) (next : ℕ → Result B LineFault)
-    → ((n : ℕ) → Has32Bits n → IfOk (next n) Q) → IfOk (number_at field value and_then next) Q
-with_number Q field value next step = then_gave Has32Bits Q (number_at field value) next (number_gave field value) step
+-- what is asked is legal, whatever legal values these fields have
+abbrev AsksLegal : (others : List LineField) → Asking others → Type 0
+AsksLegal [] request = IsLegalRequest request
+AsksLegal (field ∷ rest) asks = (x : (meaning_of field).Value) → (meaning_of field).IsLegal x → AsksLegal rest (asks x)
 
--- a link, and then the step
-with_link : (value : Data) (make : ℕ → ℕ → AnyStep)
-    → ((from to : ℕ) → Has32Bits from → Has32Bits to → IsLegalRequest (Step (make from to)))
-    → IfOk (number_at fields.From value and_then λ from. number_at fields.To value and_then λ to. Ok (Step (make from to))) IsLegalRequest
-with_link value make legal =
-    with_number IsLegalRequest fields.From value _ (λ from small. with_number IsLegalRequest fields.To value _ (λ to less. legal from to small less))
+asked_gave : (others : List LineField) (asks : Asking others) (value : Data) → AsksLegal others asks → IfOk (asked_at others asks value) IsLegalRequest
+asked_gave [] request value legal = legal
+asked_gave (field ∷ rest) asks value legal =
+    then_gave (meaning_of field).IsLegal IsLegalRequest ((meaning_of field).read value) _ (meaning_gave field value) (λ x is. asked_gave rest (asks x) value (legal x is))
+
+kinds_ask : (kind : LineKind) → AsksLegal (shape_of kind).others (shape_of kind).asks
+kinds_ask kinds.Open = λ parties legal submissions s uplink u window w wire i. (legal, (s, (u, (w, (i, tt)))))
+kinds_ask kinds.Submit = λ from small message legal. (small, (legal, tt))
+kinds_ask kinds.Route = λ from small. (small, tt)
+kinds_ask kinds.Relay = λ from small to less. (small, (less, tt))
+kinds_ask kinds.Apply = λ from small to less. (small, (less, tt))
+kinds_ask kinds.Repeat = λ from small number less to few. (small, (less, (few, tt)))
+kinds_ask kinds.Close = λ from small to less. (small, (less, tt))
+kinds_ask kinds.Lose = λ from small to less. (small, (less, tt))
+kinds_ask kinds.Verify = λ gtin legal party small serial coded. (legal, (small, (coded, tt)))
+kinds_ask kinds.Verdict = λ party small q less. (small, (less, tt))
 
 request_gave : (kind : LineKind) (value : Data) → IfOk (request_at kind value) IsLegalRequest
 unfolding request_at
-request_gave kinds.Open value =
-    then_gave AreMarketLists IsLegalRequest (market_lists_at fields.Parties value) _ (market_lists_gave fields.Parties value)
-    (λ parties legal. with_number IsLegalRequest fields.Submissions value _ (λ submissions s. with_number IsLegalRequest fields.Uplink value _
-    (λ uplink u. with_number IsLegalRequest fields.Window value _ (λ window w. with_number IsLegalRequest fields.Wire value _
-    (λ wire i. (legal, (s, (u, (w, (i, tt))))))))))
-request_gave kinds.Submit value =
-    with_number IsLegalRequest fields.From value _ (λ from small. then_gave IsLegal IsLegalRequest (message_at value) _ (message_gave value)
-    (λ message legal. (small, (legal, tt))))
-request_gave kinds.Route value = with_number IsLegalRequest fields.From value _ (λ from small. (small, tt))
-request_gave kinds.Relay value = with_link value (λ from to. steps.Relay from to) (λ from to small less. (small, (less, tt)))
-request_gave kinds.Apply value = with_link value (λ from to. steps.Apply from to) (λ from to small less. (small, (less, tt)))
-request_gave kinds.Repeat value =
-    with_number IsLegalRequest fields.From value _ (λ from small. with_number IsLegalRequest fields.Number value _
-    (λ number less. with_number IsLegalRequest fields.To value _ (λ to few. (small, (less, (few, tt))))))
-request_gave kinds.Close value = with_link value (λ from to. steps.Close from to) (λ from to small less. (small, (less, tt)))
-request_gave kinds.Lose value = with_link value (λ from to. steps.Lose from to) (λ from to small less. (small, (less, tt)))
-request_gave kinds.Verify value =
-    then_gave IsGtin IsLegalRequest (read_at read_gtin fields.Gtin value) _ (gtin_gave fields.Gtin value)
-    (λ gtin legal. with_number IsLegalRequest fields.Party value _ (λ party small. then_gave IsCode IsLegalRequest (read_at read_code fields.Serial value) _
-    (serial_gave fields.Serial value) (λ serial coded. (legal, (small, (coded, tt))))))
-request_gave kinds.Verdict value =
-    with_number IsLegalRequest fields.Party value _ (λ party small. with_number IsLegalRequest fields.Q value _ (λ q less. (small, (less, tt))))
+request_gave kind value = asked_gave (shape_of kind).others (shape_of kind).asks value (kinds_ask kind)
 
 -- what reading gives, where no key is unknown
 abbrev unless_unknown : {A : Type 0} → Option (List ℕ) → Result A LineFault → Result A LineFault

@@ -60,19 +60,7 @@ field_called name = find (λ field. bytes_eq name (field_name field)) all_fields
 
 called : (field : LineField) → field_called (field_name field) ≡ Some field
 called fields.Do = refl
-called fields.From = refl
-called fields.Gtin = refl
-called fields.Message = refl
-called fields.Number = refl
-called fields.Parties = refl
-called fields.Party = refl
-called fields.Q = refl
-called fields.Serial = refl
-called fields.Submissions = refl
-called fields.To = refl
-called fields.Uplink = refl
-called fields.Window = refl
-called fields.Wire = refl
+called field = refl
 
 -- two fields have two names
 name_apart : (f g : LineField) → f ≢ g → field_name f ≡ field_name g → ⊥

@@ -31,10 +31,9 @@ module _ {S : Type 0} (Reply : S → Line → Option (List ℕ) → S → Type 0
   pub AreReplies-append : (a b c : S) (lines more : List Line) (texts others : List (Option (List ℕ))) → AreReplies Reply a lines texts b
       → AreReplies Reply b more others c → AreReplies Reply a (lines ++ more) (texts ++ others) c
   AreReplies-append a b c [] more [] others first next = subst (λ s. AreReplies Reply s more others c) first next
-  AreReplies-append a b c [] more (text ∷ texts) others first next = absurd first
-  AreReplies-append a b c (line ∷ lines) more [] others first next = absurd first
   AreReplies-append a b c (line ∷ lines) more (text ∷ texts) others first next =
       (first.0, first.1, AreReplies-append first.0 b c lines more texts others first.2 next)
+  AreReplies-append a b c lines more texts others first next = absurd first
 
   -- the bytes of the replies follow one another
   pub IsReplies-append : (a b c : S) (lines more : List Line) (out other : List ℕ) → IsReplies Reply a lines out b

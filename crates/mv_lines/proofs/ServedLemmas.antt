@@ -4,7 +4,7 @@ use Rattle.std.specs.Prelude.{Option, Result, Ok, Err, OnOk, IfErr}
 use Rattle.std.specs.Io.KnownBytes.{Appends, Consumes}
 use Rattle.std.proofs.KnownBytes.{Appends-trans, Consumes-trans}
 use Rattle.mv_lines.specs.declared.fault.ServeFault.{ServeFault}
-use Rattle.mv_lines.specs.declared.fault.ServeFault.TheVariants.{Read, Write, Memory, TooManyLines, LineTooLong, Start}
+use Rattle.mv_lines.specs.declared.fault.ServeFault.TheVariants.{Read, Write, Memory, Start}
 use Rattle.mv_lines.specs.Lines.{whole_from, rest_from, pieces, last_piece, Line, line_at, line_begun, lines_from, line_limit, lines_limit, KeepLimits}
 use Rattle.mv_lines.specs.Output.{WrotePart}
 use Rattle.mv_lines.specs.Replies.{IsReplies, GotNoReply}
@@ -36,12 +36,6 @@ module _ {S : Type 0} (Reply : S → Line → Option (List ℕ) → S → Type 0
       → count' ≤ lines_limit → (0 < length begun' → count' < lines_limit) → length begun' ≤ line_limit → EndedAt Reply Read before bytes between old new
   unread_at before between bytes begun' out count' old new written taken few behind short =
       (all_kept taken few behind short, (out, written, taken.replied))
-
-  pub unread : (before between : S) (bytes begun' out : List ℕ) (count' : ℕ) (old new : Option (List ℕ)) → Appends old new out
-      → Taken Reply [] 0 before bytes begun' count' between out
-      → count' ≤ lines_limit → (0 < length begun' → count' < lines_limit) → length begun' ≤ line_limit → Ended Reply Read before bytes old new
-  unread before between bytes begun' out count' old new written taken few behind short =
-      (all_kept taken few behind short, (out, written, (between, taken.replied)))
 
   -- the replies to some first pieces stand ready, and their first bytes went out
   wrote_replies : (count : ℕ) (before behind after : S) (ps answered unanswered : List (List ℕ)) (ready next : List ℕ) (old new : Option (List ℕ))
@@ -120,21 +114,15 @@ module _ {S : Type 0} (Reply : S → Line → Option (List ℕ) → S → Type 0
       → Taken Reply [] 0 before front begun' count' between out → Halted Reply fault begun' count' between back after b c
       → EndedAt Reply fault before (front ++ back) after a c
   halted_later Read before between after front back begun' out count' a b c written taken (other, more, at_end) = absurd at_end.stopped.why
+  halted_later Start before between after front back begun' out count' a b c written taken (other, more, at_end) = absurd at_end.stopped.why
   halted_later Write before between after front back begun' out count' a b c written taken broken =
       rw (whole_from-append [] front back, ← taken.rest) (wrote_later before between after front begun' out count' _ _ a b c written taken broken)
-  halted_later Start before between after front back begun' out count' a b c written taken (other, more, at_end) = absurd at_end.stopped.why
-  halted_later Memory before between after front back begun' out count' a b c written taken h = stop_later Memory before between after front back begun' out count' a b c written taken h
-  halted_later TooManyLines before between after front back begun' out count' a b c written taken h = stop_later TooManyLines before between after front back begun' out count' a b c written taken h
-  halted_later LineTooLong before between after front back begun' out count' a b c written taken h = stop_later LineTooLong before between after front back begun' out count' a b c written taken h
+  halted_later fault before between after front back begun' out count' a b c written taken h = stop_later fault before between after front back begun' out count' a b c written taken h
 
   -- the answering of the last line ended, and so the run
   pub halted_last : (fault : ServeFault) (before between after : S) (bytes begun' out : List ℕ) (count' : ℕ) (a b c : Option (List ℕ)) → Appends a b out
       → Taken Reply [] 0 before bytes begun' count' between out → HaltedLast Reply fault begun' count' between after b c
       → EndedAt Reply fault before bytes after a c
-  halted_last Read before between after bytes begun' out count' a b c written taken h = absurd h
-  halted_last Start before between after bytes begun' out count' a b c written taken h = absurd h
-  halted_last TooManyLines before between after bytes begun' out count' a b c written taken h = absurd h
-  halted_last LineTooLong before between after bytes begun' out count' a b c written taken h = absurd h
   halted_last Memory before between after bytes begun' out count' a b c written taken (none, left) = (
     out,
     subst (λ l. Appends a c l) (append-nil out) (Appends-trans a b c out [] written none),
@@ -145,16 +133,14 @@ module _ {S : Type 0} (Reply : S → Line → Option (List ℕ) → S → Type 0
   )
   halted_last Write before between after bytes begun' out count' a b c written taken broken =
       rw (← taken.rest) (subst (λ ps. WroteAt Reply 0 before ps after a c) (append-nil _) (wrote_later before between after bytes begun' out count' _ [] a b c written taken broken))
+  halted_last fault before between after bytes begun' out count' a b c written taken h = absurd h
 
   -- what was written where a run ended by a fault
   pub ended_by : (fault : ServeFault) (before after : S) (bytes : List ℕ) (old new : Option (List ℕ)) → EndedAt Reply fault before bytes after old new
       → Ended Reply fault before bytes old new
   ended_by Read before after bytes old new (kept, (out, written, replied)) = (kept, (out, written, (after, replied)))
   ended_by Write before after bytes old new at_end = at_end.wrote
-  ended_by Memory before after bytes old new (out, written, at_end) = (out, written, at_end.stopped)
-  ended_by TooManyLines before after bytes old new (out, written, at_end) = (out, written, at_end.stopped)
-  ended_by LineTooLong before after bytes old new (out, written, at_end) = (out, written, at_end.stopped)
-  ended_by Start before after bytes old new (out, written, at_end) = (out, written, at_end.stopped)
+  ended_by fault before after bytes old new h = (h.0, h.1, h.2.stopped)
 
   -- the same of bytes that were read
   pub ended_input : (fault : ServeFault) (before after : S) (input rest old new : Option (List ℕ))

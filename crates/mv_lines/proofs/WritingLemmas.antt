@@ -5,29 +5,20 @@ use Rattle.json.specs.Token.{Token, begin_array, end_array, begin_object, end_ob
 use Rattle.json.specs.Tree.{json_tokens, items_tokens, members_tokens}
 use Rattle.json.specs.Print.{print}
 use Rattle.serde_json.specs.Data.{Data, array, object}
-use Rattle.serde_json.specs.Data as values
 use Rattle.serde_json.specs.View.{items_of}
 use Rattle.serde_json.specs.Written.{outline, items_outline, members_outline, compact_text}
 use Rattle.serde_json.proofs.Texts.{print-outline}
 use Rattle.mv_json.specs.Messages.{value_of}
-use Rattle.mv_json.specs.Values.{strings}
+use Rattle.mv_json.specs.Values.{whole}
 use Rattle.mv_lines.specs.Meanings.{markets_value}
 use Rattle.mv_lines.specs.declared.members.Member.{Member}
 use Rattle.mv_lines.specs.declared.members.Member.TheVariants as members
 use Rattle.mv_lines.specs.ReplyLines.{wholes}
-use Rattle.mv_lines.specs.Writing.{change_object, change_value, national_value, tokens_of, wholes_tokens, member_tokens, members_of}
+use Rattle.mv_lines.specs.Writing.{change_object, change_value, national_value, tokens_of, member_tokens, members_of}
 
 -- the token of a whole number
 abbrev pub whole_token : ℕ → Token
 whole_token n = number (decimal n)
-
-items_are : (ns : List ℕ) → items_tokens (items_outline (wholes ns)) ≡ map whole_token ns ++ end_array ∷ []
-items_are [] = refl
-items_are (n ∷ ns) = ap (λ ts. whole_token n ∷ ts) (items_are ns)
-
-wholes_are : (ns : List ℕ) → wholes_tokens ns ≡ begin_array ∷ (map whole_token ns ++ end_array ∷ [])
-unfolding wholes_tokens
-wholes_are ns = ap (λ ts. begin_array ∷ ts) (items_are ns)
 
 -- the tokens of a member, and of those that come behind it
 behind : (name : List ℕ) (value : Data) (ms : List Member)
@@ -39,7 +30,7 @@ behind name value ms are =
     ap (λ ts. key name ∷ (these ++ ts)) are ∙ ap (λ ts. key name ∷ ts) (sym (append_assoc these (flat_map member_tokens ms) (end_object ∷ [])))
 
 members_are : (ms : List Member) → members_tokens (members_outline (members_of ms)) ≡ flat_map member_tokens ms ++ end_object ∷ []
-unfolding wholes_tokens tokens_of
+unfolding tokens_of
 members_are [] = refl
 members_are (members.Number name n ∷ ms) = ap (λ ts. key name.now ∷ whole_token n ∷ ts) (members_are ms)
 members_are (members.Text name text ∷ ms) = ap (λ ts. key name.now ∷ string text.now ∷ ts) (members_are ms)
@@ -56,31 +47,20 @@ members_are (members.Message name message ∷ ms) = behind name.now (value_of me
 members_are (members.National name national ∷ ms) = behind name.now (national_value national.now) ms (members_are ms)
 members_are (members.Change name change user ∷ ms) = behind name.now (change_value change.now user.now) ms (members_are ms)
 
-object_is : (ms : List Member) → tokens_of (object (members_of ms)) ≡ begin_object ∷ (flat_map member_tokens ms ++ end_object ∷ [])
+pub object_is : (ms : List Member) → tokens_of (object (members_of ms)) ≡ begin_object ∷ (flat_map member_tokens ms ++ end_object ∷ [])
 unfolding tokens_of
 object_is ms = ap (λ ts. begin_object ∷ ts) (members_are ms)
 
--- the tokens of a text
-abbrev pub text_tokens : List ℕ → List Token
-text_tokens text = string text ∷ []
-
--- the tokens of a list of texts
-abbrev pub texts_tokens : List (List ℕ) → List Token
-texts_tokens texts = tokens_of (array (strings texts))
+items_are : {A : Type 0} (value : A → Data) (xs : List A) → items_tokens (items_outline (items_of (map value xs))) ≡ flat_map (λ x. tokens_of (value x)) xs ++ end_array ∷ []
+unfolding tokens_of
+items_are value [] = refl
+items_are value (x ∷ xs) =
+    ap (λ ts. tokens_of (value x) ++ ts) (items_are value xs) ∙ sym (append_assoc (tokens_of (value x)) (flat_map (λ x. tokens_of (value x)) xs) (end_array ∷ []))
 
 -- the tokens of a list are those of its members, in order
-list_is : {A : Type 0} (value : A → Data) (tokens : A → List Token) → ((x : A) → tokens_of (value x) ≡ tokens x)
-    → (xs : List A) → items_tokens (items_outline (items_of (map value xs))) ≡ flat_map tokens xs ++ end_array ∷ []
+pub list_is : {A : Type 0} (value : A → Data) (xs : List A) → tokens_of (array (items_of (map value xs))) ≡ begin_array ∷ (flat_map (λ x. tokens_of (value x)) xs ++ end_array ∷ [])
 unfolding tokens_of
-list_is value tokens each [] = refl
-list_is value tokens each (x ∷ xs) =
-    ap (λ ts. ts ++ items_tokens (items_outline (items_of (map value xs)))) (each x)
-    ∙ ap (λ ts. tokens x ++ ts) (list_is value tokens each xs)
-    ∙ sym (append_assoc (tokens x) (flat_map tokens xs) (end_array ∷ []))
-
-text_is : (text : List ℕ) → tokens_of (values.string text) ≡ text_tokens text
-unfolding tokens_of
-text_is text = refl
+list_is value xs = ap (λ ts. begin_array ∷ ts) (items_are value xs)
 
 -- the text of a value, where its tokens alone were written
 pub text_written : (ts : List Token) (value : Data) → ts ≡ [] ++ tokens_of value → print ts ≡ compact_text value
@@ -100,37 +80,14 @@ module _ {E : Type 0} where
       (e4 ∙ ap (add (key (codes "by"))) (e3 ∙ ap (add (whole_token at)) (e2 ∙ ap (add (key (codes "at"))) e1)))))) ∙ simp append_assoc
   change_written (Err e) at by user old first second third fourth fifth sixth seventh new e1 e2 e3 e4 e5 e6 e7 closed = tt
 
-  -- all numbers are written, and the list ends
-  pub wholes_closed : (r : Result (Unit {0}) E) (ns : List ℕ) (i : ℕ) (old mid new : List Token) → length ns ≤ i
-      → mid ≡ old ++ (begin_array ∷ map whole_token (take i ns)) → OnOk r (new ≡ mid ++ end_array ∷ [])
-      → IfOk r (λ _. new ≡ old ++ wholes_tokens ns)
-  wholes_closed (Ok u) ns i old mid new all before closed =
-      closed ∙ ap (λ l. l ++ end_array ∷ []) before ∙ append_assoc old _ _
-      ∙ ap (λ l. old ++ l) (ap (λ l. begin_array ∷ (map whole_token l ++ end_array ∷ [])) (take_all i ns all) ∙ sym (wholes_are ns))
-  wholes_closed (Err e) ns i old mid new all before closed = tt
-
-  -- all members of a list are written, and the list ends
-  list_closed : {A : Type 0} (value : A → Data) (tokens : A → List Token) → ((x : A) → tokens_of (value x) ≡ tokens x)
-      → (r : Result (Unit {0}) E) (xs : List A) (i : ℕ) (old mid new : List Token) → length xs ≤ i
-      → mid ≡ old ++ (begin_array ∷ flat_map tokens (take i xs)) → OnOk r (new ≡ mid ++ end_array ∷ [])
-      → IfOk r (λ _. new ≡ old ++ tokens_of (array (items_of (map value xs))))
-  unfolding tokens_of
-  list_closed value tokens each (Ok u) xs i old mid new all before closed =
-      closed ∙ ap (λ l. l ++ end_array ∷ []) before ∙ append_assoc old _ _
-      ∙ ap (λ l. old ++ begin_array ∷ l) (ap (λ l. flat_map tokens l ++ end_array ∷ []) (take_all i xs all) ∙ sym (list_is value tokens each xs))
-  list_closed value tokens each (Err e) xs i old mid new all before closed = tt
-
-  -- all texts are written, and the list ends
-  pub texts_closed : (r : Result (Unit {0}) E) (texts : List (List ℕ)) (i : ℕ) (old mid new : List Token) → length texts ≤ i
-      → mid ≡ old ++ (begin_array ∷ flat_map text_tokens (take i texts)) → OnOk r (new ≡ mid ++ end_array ∷ [])
-      → IfOk r (λ _. new ≡ old ++ tokens_of (array (strings texts)))
-  texts_closed = list_closed values.string text_tokens text_is
-
-  -- all lists of texts are written, and the list of them ends
-  pub lists_closed : (r : Result (Unit {0}) E) (lists : List (List (List ℕ))) (i : ℕ) (old mid new : List Token) → length lists ≤ i
-      → mid ≡ old ++ (begin_array ∷ flat_map texts_tokens (take i lists)) → OnOk r (new ≡ mid ++ end_array ∷ [])
-      → IfOk r (λ _. new ≡ old ++ tokens_of (markets_value lists))
-  lists_closed = list_closed (λ texts. array (strings texts)) texts_tokens (λ texts. refl)
+  -- all members are written, between the tokens that begin and end them
+  pub bracketed : {A : Type 0} (tokens : A → List Token) (begins ends : Token) (whole : List Token) (r : Result (Unit {0}) E) (xs : List A) (i : ℕ) (old mid new : List Token)
+      → whole ≡ begins ∷ (flat_map tokens xs ++ ends ∷ []) → length xs ≤ i
+      → mid ≡ old ++ (begins ∷ flat_map tokens (take i xs)) → OnOk r (new ≡ mid ++ ends ∷ []) → IfOk r (λ _. new ≡ old ++ whole)
+  bracketed tokens begins ends whole (Ok u) xs i old mid new is all before closed =
+      closed ∙ ap (λ l. l ++ ends ∷ []) before ∙ append_assoc old _ _
+      ∙ ap (λ l. old ++ l) (ap (λ l. begins ∷ (flat_map tokens l ++ ends ∷ [])) (take_all i xs all) ∙ sym is)
+  bracketed tokens begins ends whole (Err e) xs i old mid new is all before closed = tt
 
   -- a value is written behind its key
   pub member_added : (r : Result (Unit {0}) E) (name : List ℕ) (value : Data) (old mid new : List Token) → mid ≡ old ++ key name ∷ []
@@ -138,12 +95,3 @@ module _ {E : Type 0} where
   member_added (Ok u) name value old mid new before added =
       added ∙ ap (λ l. l ++ tokens_of value) before ∙ append_assoc old (key name ∷ []) (tokens_of value)
   member_added (Err e) name value old mid new before added = tt
-
-  -- all members are written, and the object ends
-  pub object_closed : (r : Result (Unit {0}) E) (ms : List Member) (i : ℕ) (old mid new : List Token) → length ms ≤ i
-      → mid ≡ old ++ (begin_object ∷ flat_map member_tokens (take i ms)) → OnOk r (new ≡ mid ++ end_object ∷ [])
-      → IfOk r (λ _. new ≡ old ++ tokens_of (object (members_of ms)))
-  object_closed (Ok u) ms i old mid new all before closed =
-      closed ∙ ap (λ l. l ++ end_object ∷ []) before ∙ append_assoc old _ _
-      ∙ ap (λ l. old ++ l) (ap (λ l. begin_object ∷ (flat_map member_tokens l ++ end_object ∷ [])) (take_all i ms all) ∙ sym (object_is ms))
-  object_closed (Err e) ms i old mid new all before closed = tt

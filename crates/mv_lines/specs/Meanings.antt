@@ -6,7 +6,7 @@ use Rattle.serde_json.specs.View.{items_of}
 use Rattle.mv_pack.specs.Code.{IsCode, read_code}
 use Rattle.mv_pack.specs.Gtin.{IsGtin, read_gtin}
 use Rattle.mv_pack.specs.Market.{IsMarket}
-use Rattle.mv_json.specs.Legal.{IsLegal}
+use Rattle.mv_json.specs.Shapes.{IsLegal}
 use Rattle.mv_json.specs.Messages.{value_of}
 use Rattle.mv_json.specs.Values.{strings, whole}
 use Rattle.mv_message.specs.declared.message.Message.{Message}

@@ -7,8 +7,7 @@ use Rattle.mv_pack.specs.Market.{read_market}
 use Rattle.mv_pack.specs.declared.fault.PackFault.{PackFault}
 use Rattle.mv_pack.specs.declared.fault.PackFault.TheVariants.{Market}
 use Rattle.mv_json.specs.Messages.{read_message}
-use Rattle.mv_json.specs.Numbers.{whole_number}
-use Rattle.mv_json.specs.Reading.{◌and_then◌, map_err, as_list}
+use Rattle.mv_json.specs.Reading.{whole_number, ◌and_then◌, map_err, as_list}
 use Rattle.mv_message.specs.declared.message.Message.{Message}
 use Rattle.mv_lines.specs.declared.field.LineField.{LineField}
 use Rattle.mv_lines.specs.declared.field.LineField.TheVariants as fields

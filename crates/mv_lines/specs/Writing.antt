@@ -1,11 +1,11 @@
 -- What is written of a reply's object.
 use Rattle.std.specs.Prelude.{◌≡◌, ℕ, List, [], ◌∷◌, ◌++◌, codes, decimal, IfOk, Option, Some, None, option_map, Result, MatchResult}
-use Rattle.json.specs.Token.{Token, begin_array, key}
+use Rattle.json.specs.Token.{Token, key}
 use Rattle.json.specs.Token as tokens
-use Rattle.json.specs.Tree.{json_tokens, items_tokens}
+use Rattle.json.specs.Tree.{json_tokens}
 use Rattle.json.specs.Written.{Written}
 use Rattle.serde_json.specs.Data.{Data, Members, no_members, member, null, string, boolean, array}
-use Rattle.serde_json.specs.Written.{outline, items_outline, compact_text}
+use Rattle.serde_json.specs.Written.{outline, compact_text}
 use Rattle.mv_json.specs.Messages.{value_of}
 use Rattle.mv_json.specs.Values.{whole}
 use Rattle.mv_repository.specs.declared.held.Change.{Change}
@@ -54,10 +54,6 @@ members_of (members.Change name change user ∷ rest) = member name.now (change_
 unfoldable pub tokens_of : Data → List Token
 tokens_of value = json_tokens (outline value)
 
--- the tokens of a list of whole numbers
-unfoldable pub wholes_tokens : List ℕ → List Token
-wholes_tokens ns = begin_array ∷ items_tokens (items_outline (wholes ns))
-
 -- the tokens of a member
 abbrev pub member_tokens : Member → List Token
 member_tokens (members.Number name n) = key name.now ∷ tokens.number (decimal n) ∷ []
@@ -68,8 +64,8 @@ member_tokens (members.NumberOrNone name (Some n)) = key name.now ∷ tokens.num
 member_tokens (members.FlagOrNone name None) = []
 member_tokens (members.FlagOrNone name (Some flag)) = key name.now ∷ tokens.boolean flag ∷ []
 member_tokens (members.Null name) = key name.now ∷ tokens.null ∷ []
-member_tokens (members.Parties name parties) = key name.now ∷ wholes_tokens parties.now
-member_tokens (members.Numbers name numbers) = key name.now ∷ wholes_tokens numbers.now
+member_tokens (members.Parties name parties) = key name.now ∷ tokens_of (array (wholes parties.now))
+member_tokens (members.Numbers name numbers) = key name.now ∷ tokens_of (array (wholes numbers.now))
 member_tokens (members.Markets name lists) = key name.now ∷ tokens_of (markets_value lists.now)
 member_tokens (members.Message name message) = key name.now ∷ tokens_of (value_of message.now)
 member_tokens (members.National name national) = key name.now ∷ tokens_of (national_value national.now)

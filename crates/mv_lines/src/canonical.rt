@@ -90,5 +90,7 @@ pub fn canon<R: Read, W: Write>(
         alloc,
         scratch: Scratch::new(alloc),
     };
-    answer_lines(alloc, &mut canonizer, reader, writer)
+    let ended = answer_lines(alloc, &mut canonizer, reader, writer);
+    drop(canonizer);
+    ended
 }

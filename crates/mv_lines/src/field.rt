@@ -2,6 +2,8 @@
 
 ghost use Rattle.std.specs.Prelude.{◌≡◌};
 
+use mv_json::members::Named;
+
 /// A field of a line, other than those of the message that it holds.
 #[derive(Clone, Copy, Debug, PartialEq, Eq)]
 pub enum LineField {
@@ -33,6 +35,16 @@ pub enum LineField {
     Window,
     /// `wire`: how many frames are under way on each link at most.
     Wire,
+}
+
+impl Named for LineField {
+    ghost use Rattle.mv_lines.specs.Fields.{field_name};
+
+    ghost name = { field_name };
+
+    fn name(&self) -> &'static str {
+        self.as_str()
+    }
 }
 
 impl LineField {

@@ -4,8 +4,7 @@ ghost use Rattle.std.specs.Prelude.{◌≡◌, option_and_then, MatchResult, Ok,
 ghost use Rattle.serde_json.specs.View.{view};
 ghost use Rattle.mv_pack.specs.Code.{read_code};
 ghost use Rattle.mv_pack.specs.Gtin.{read_gtin};
-ghost use Rattle.mv_json.specs.Numbers.{whole_number};
-ghost use Rattle.mv_json.specs.Reading.{GivesOr};
+ghost use Rattle.mv_json.specs.Reading.{whole_number, GivesOr};
 ghost use Rattle.mv_lines.specs.Reading.{member_at, text_at, read_at, of_32_bits, number_at, message_at};
 
 use crate::{LineFault, LineField};

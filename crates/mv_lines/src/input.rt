@@ -96,7 +96,8 @@ impl Input {
             self.take_line(answering, &rest[..end])?;
             rest = &rest[end + 1..];
         }
-        self.take_part(rest)
+        self.take_part(rest)?;
+        Ok(())
     }
 
     /// Takes what is left of a line, but for its line feed, and answers the line.
@@ -114,9 +115,6 @@ impl Input {
             return self.take_whole_line(answering, part);
         }
         self.take_part(part)?;
-        if self.lines == LINES_LIMIT {
-            return Err(ServeFault::TooManyLines);
-        }
         answer_piece(
             answering,
             self.lines,

@@ -1,7 +1,7 @@
-//! The kinds of lines, and the names of the fields of each.
+//! The kinds of lines, and the fields of each.
 
 ghost use Rattle.std.specs.Option.{option_map_or};
-ghost use Rattle.std.specs.Prelude.{◌≡◌, ◌∷◌, map, Ok, Err};
+ghost use Rattle.std.specs.Prelude.{◌≡◌, ◌∷◌, Ok, Err};
 ghost use Rattle.serde_json.specs.View.{view, members_view};
 ghost use Rattle.mv_json.specs.Members.{first_unknown};
 ghost use Rattle.mv_json.specs.Reading.{GivesOr};
@@ -73,24 +73,6 @@ impl LineKind {
             LineKind::Verdict => &[LineField::Do, LineField::Party, LineField::Q],
         }
     }
-
-    /// The names of the fields of such a line, in byte order.
-    fn names(self) -> &'static [&'static str]
-        ensures { map (λ name. name.now) result.now ≡ names_of self }
-    {
-        match self {
-            LineKind::Open => &["do", "parties", "submissions", "uplink", "window", "wire"],
-            LineKind::Submit => &["do", "from", "message"],
-            LineKind::Route => &["do", "from"],
-            LineKind::Relay => &["do", "from", "to"],
-            LineKind::Apply => &["do", "from", "to"],
-            LineKind::Repeat => &["do", "from", "number", "to"],
-            LineKind::Close => &["do", "from", "to"],
-            LineKind::Lose => &["do", "from", "to"],
-            LineKind::Verify => &["do", "gtin", "party", "serial"],
-            LineKind::Verdict => &["do", "party", "q"],
-        }
-    }
 }
 
 /// The kind of that name.
@@ -129,7 +111,7 @@ pub(crate) fn known_kind(
     ensures { GivesOr result (option_map_or (λ key. Err (LineFault.Unknown key))
         (first_unknown (names_of kind) (members_view members.now.entries)) (Ok kind)) LineFault.Memory }
 {
-    match first_unknown(members, kind.names()) {
+    match first_unknown(members, kind.fields()) {
         Some(key) => Err(LineFault::Unknown(Text::new(String::from_str(alloc, key)?))),
         None => Ok(kind),
     }

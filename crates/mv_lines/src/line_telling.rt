@@ -145,13 +145,6 @@ fn message_in(entries: &[LineEntry]) -> Option<Shared<Message>>
     let LinePart::Message(kept) = find(entries, LineField::Message)? else {
         return None;
     };
-    let message = once_more(kept)?;
+    let message = kept.share().ok()?;
     Some(message)
-}
-
-/// The same message once more.
-fn once_more(message: &Shared<Message>) -> Option<Shared<Message>>
-    ensures { IfSome result (λ shared. shared ≡ message.now) }
-{
-    message.share().ok()
 }

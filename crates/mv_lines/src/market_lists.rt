@@ -1,12 +1,11 @@
 //! The markets that each party serves, as a line lists them.
 
-ghost use Rattle.std.specs.Prelude.{◌≡◌, ◌≢◌, IfOk, IfErr, MatchResult, Ok, Err, map, is_some};
+ghost use Rattle.std.specs.Prelude.{◌≡◌, ◌≢◌, IfOk, IfErr, Ok, Err, map, is_some};
 ghost use Rattle.std.specs.List.{list_all};
 ghost use Rattle.serde_json.specs.Find.{as_str};
 ghost use Rattle.serde_json.specs.View.{view, items_view};
-ghost use Rattle.mv_json.specs.Lists.{are_texts};
-ghost use Rattle.mv_lines.specs.MarketLists.{is_text_list, are_text_lists, text_lists, market_item, read_markets, market_list, read_market_lists};
-ghost use Rattle.mv_json.specs.Reading.{GivesOr};
+ghost use Rattle.mv_json.specs.Reading.{as_list, GivesOr};
+ghost use Rattle.mv_lines.specs.MarketLists.{market_item, market_list, read_all};
 ghost use Rattle.mv_lines.specs.Reading.{market_lists_at};
 
 use crate::field_reading::member_of;
@@ -47,7 +46,7 @@ impl MarketLists {
 }
 
 /// The lists of markets of a field: M3; M5 where it is no list of lists of texts; M6 with P8.
-#[tactic(auto, using(crate::proofs::ListLemmas::lists_walked), unfolding(crate::specs::MarketLists::walked_lists_at))]
+#[tactic(auto, using(crate::proofs::ListLemmas::lists_walked, crate::proofs::ListLemmas::all_are_text_lists), unfolding(crate::specs::MarketLists::walked_lists_at))]
 pub(crate) fn market_lists_of(
     alloc: Global,
     value: &Value,
@@ -58,27 +57,16 @@ pub(crate) fn market_lists_of(
     let list = member_of(value, field)?
         .as_array()
         .ok_or(LineFault::Kind(field))?;
-    let list = text_lists_of(list.as_slice(), field)?;
-    Ok(MarketLists::new(market_lists_in(alloc, list, field)?))
-}
-
-/// The values, where all are lists of texts, else M5.
-#[tactic(auto, using(crate::proofs::ListLemmas::all_are_text_lists))]
-fn text_lists_of(list: &[Value], field: LineField) -> Result<&[Value], LineFault>
-    ensures { MatchResult result
-        (λ lists. text_lists field (items_view list.now) ≡ Ok (items_view lists.now))
-        (λ fault. text_lists field (items_view list.now) ≡ Err fault) }
-{
-    if are_text_lists(list) {
-        Ok(list)
-    } else {
-        Err(LineFault::Kind(field))
+    if !are_text_lists(list.as_slice()) {
+        return Err(LineFault::Kind(field));
     }
+    let lists = market_lists_in(alloc, list.as_slice(), field)?;
+    Ok(MarketLists::new(lists))
 }
 
 /// Whether all values are lists of texts.
 fn are_text_lists(list: &[Value]) -> bool
-    ensures { result ≡ list_all (λ value. is_text_list (view value)) list.now }
+    ensures { result ≡ list_all (λ value. is_some (as_list as_str (view value))) list.now }
 {
     list.iter().all(is_text_list)
 }
@@ -86,7 +74,7 @@ fn are_text_lists(list: &[Value]) -> bool
 /// Whether a value is a list of texts.
 #[tactic(auto, using(crate::proofs::ListLemmas::all_are_texts))]
 fn is_text_list(value: &Value) -> bool
-    ensures { result ≡ is_text_list (view value.now) }
+    ensures { result ≡ is_some (as_list as_str (view value.now)) }
 {
     value
         .as_array()
@@ -107,32 +95,23 @@ fn market_lists_in(
     field: LineField,
 ) -> Result<Vec<Vec<Market>>, LineFault>
     ensures ok { IfOk result
-        (λ lists. read_market_lists field (items_view list.now) ≡ Ok (map (λ list. list.items) lists.items)) }
+        (λ lists. read_all (market_list field) (items_view list.now) ≡ Ok (map (λ list. list.items) lists.items)) }
     ensures err { IfErr result (λ fault. fault ≢ LineFault.Memory
-        → read_market_lists field (items_view list.now) ≡ Err fault) }
+        → read_all (market_list field) (items_view list.now) ≡ Err fault) }
 {
     let mut lists = Vec::new(alloc);
     for value in list {
-        lists.push(market_list_in(alloc, value, field)?)?;
+        let list = value.as_array().ok_or(LineFault::Kind(field))?;
+        lists.push(markets_in(alloc, list.as_slice(), field)?)?;
     }
     Ok(lists)
 }
 
-/// The markets of a value that is a list.
-fn market_list_in(alloc: Global, value: &Value, field: LineField) -> Result<Vec<Market>, LineFault>
-    ensures ok { IfOk result (λ markets. market_list field (view value.now) ≡ Ok markets.items) }
-    ensures err { IfErr result (λ fault. fault ≢ LineFault.Memory
-        → market_list field (view value.now) ≡ Err fault) }
-{
-    let list = value.as_array().ok_or(LineFault::Kind(field))?;
-    markets_in(alloc, list.as_slice(), field)
-}
-
 /// The markets of a list, or the fault of the first bad one.
 fn markets_in(alloc: Global, list: &[Value], field: LineField) -> Result<Vec<Market>, LineFault>
-    ensures ok { IfOk result (λ markets. read_markets field (items_view list.now) ≡ Ok markets.items) }
+    ensures ok { IfOk result (λ markets. read_all (market_item field) (items_view list.now) ≡ Ok markets.items) }
     ensures err { IfErr result (λ fault. fault ≢ LineFault.Memory
-        → read_markets field (items_view list.now) ≡ Err fault) }
+        → read_all (market_item field) (items_view list.now) ≡ Err fault) }
 {
     let mut markets = Vec::new(alloc);
     for value in list {

@@ -5,7 +5,8 @@ ghost use Rattle.serde_json.specs.Data.{array, object};
 ghost use Rattle.mv_json.specs.Messages.{value_of};
 ghost use Rattle.mv_json.specs.Values.{strings};
 ghost use Rattle.mv_lines.specs.Meanings.{markets_value};
-ghost use Rattle.mv_lines.specs.Writing.{Adds, Appended, change_object, change_value, national_value, members_of, member_tokens, wholes_tokens};
+ghost use Rattle.mv_lines.specs.Writing.{Adds, Appended, change_object, change_value, national_value, members_of, member_tokens};
+ghost use Rattle.mv_lines.specs.ReplyLines.{wholes};
 
 use crate::reply_line::{ReplyLine, append};
 use json::Writer;
@@ -46,9 +47,9 @@ pub enum Member<'a> {
 
 /// An object of these members.
 #[derive(Clone, Copy, Drop)]
-struct Object<'a> {
+pub(crate) struct Object<'a> {
     /// The members, in byte order of their keys.
-    members: &'a [Member<'a>],
+    pub(crate) members: &'a [Member<'a>],
 }
 
 impl ReplyLine for Object<'_> {
@@ -183,10 +184,10 @@ fn write_fields(writer: &mut Writer, at: u64, by: Party, user: &str) -> Result<(
 }
 
 /// Writes a list of whole numbers.
+#[tactic(auto, unfolding(crate::specs::Writing::tokens_of))]
 fn write_numbers(writer: &mut Writer, numbers: &[u32]) -> Result<(), AllocError>
     ensures before { writer.new.before ≡ writer.old.before }
-    ensures added { IfOk result (λ _.
-        writer.new.tokens ≡ writer.old.tokens ++ wholes_tokens numbers.now) }
+    ensures added { Adds result writer.old writer.new (array (wholes numbers.now)) }
 {
     writer.begin_array()?;
     for number in numbers {
@@ -208,6 +209,7 @@ fn write_market_lists(writer: &mut Writer, lists: &[Markets]) -> Result<(), Allo
 }
 
 /// Writes a list of markets.
+#[tactic(auto, unfolding(crate::specs::Writing::tokens_of))]
 fn write_markets(writer: &mut Writer, markets: &[Market]) -> Result<(), AllocError>
     ensures before { writer.new.before ≡ writer.old.before }
     ensures added { Adds result writer.old writer.new (array (strings markets.now)) }

@@ -4,9 +4,9 @@ ghost use Rattle.std.specs.Prelude.{◌≡◌, IfOk, string_bytes};
 ghost use Rattle.serde_json.specs.Data.{Data};
 ghost use Rattle.serde_json.specs.Written.{compact_text};
 ghost use Rattle.mv_lines.specs.Writing.{Appended, Adds};
-ghost use Rattle.mv_lines.specs.ReplyLines.{answer_value, refused, refused_field, refused_pack, message_fault_value, line_fault_value, refusal_value, verdict_value, reply_value};
+ghost use Rattle.mv_lines.specs.ReplyLines.{answer_value, numbered, refused, refused_field, refused_pack, message_fault_value, line_fault_value, refusal_value, verdict_value, reply_value};
 
-use crate::members::{Member, write_object};
+use crate::members::{Member, Object, write_object};
 use crate::{Answered, LineFault};
 use json::Writer;
 use mv_json::MessageFault;
@@ -61,7 +61,8 @@ pub fn fault_text(alloc: Global, fault: &LineFault) -> Result<String, AllocError
 pub fn refusal_text(alloc: Global, code: &'static str) -> Result<String, AllocError>
     ensures { IfOk result (λ text. string_bytes text ≡ compact_text (refused code.now)) }
 {
-    line_text(alloc, &Refused { code })
+    let members = [Member::Text("refused", code)];
+    line_text(alloc, &Object { members: &members })
 }
 
 /// The text of a reply line.
@@ -84,10 +85,7 @@ impl ReplyLine for Answered {
         match self {
             Answered::Unread(fault) => fault.write(writer),
             Answered::NotTaken(fault) => write_refused(writer, fault.code()),
-            Answered::Opened { parties } => write_object(
-                writer,
-                &[Member::Number("opened", u64::from(*parties))],
-            ),
+            Answered::Opened { parties } => write_numbered(writer, "opened", *parties),
             Answered::Stepped { reply, .. } => reply.write(writer),
         }
     }
@@ -99,10 +97,7 @@ impl ReplyLine for Reply {
 
     fn write(&self, writer: &mut Writer) -> Result<(), AllocError> {
         match self {
-            Reply::Submitted { k } => write_object(
-                writer,
-                &[Member::Number("submitted", u64::from(*k))],
-            ),
+            Reply::Submitted { k } => write_numbered(writer, "submitted", *k),
             Reply::Routed { k, reach } => write_object(
                 writer,
                 &[
@@ -110,26 +105,15 @@ impl ReplyLine for Reply {
                     Member::Number("routed", u64::from(*k)),
                 ],
             ),
-            Reply::Relayed { number } => write_object(
-                writer,
-                &[Member::Number("relayed", u64::from(*number))],
-            ),
+            Reply::Relayed { number } => write_numbered(writer, "relayed", *number),
             Reply::Known(verdict) => write_verdict(writer, *verdict),
-            Reply::Asked { q } => write_object(writer, &[Member::Number("asked", u64::from(*q))]),
+            Reply::Asked { q } => write_numbered(writer, "asked", *q),
             Reply::Applied {
                 number,
                 effect,
-                answer: None,
-            } => write_applied(writer, *number, *effect),
-            Reply::Applied {
-                number,
-                effect,
-                answer: Some(answer),
-            } => write_answered(writer, *number, *effect, *answer),
-            Reply::Old { number } => write_object(
-                writer,
-                &[Member::Number("old", u64::from(*number))],
-            ),
+                answer,
+            } => write_applied(writer, *number, *effect, *answer),
+            Reply::Old { number } => write_numbered(writer, "old", *number),
             Reply::Gap { number, expected } => write_object(
                 writer,
                 &[
@@ -137,15 +121,9 @@ impl ReplyLine for Reply {
                     Member::Number("gap", u64::from(*number)),
                 ],
             ),
-            Reply::Repeated { number } => write_object(
-                writer,
-                &[Member::Number("repeated", u64::from(*number))],
-            ),
+            Reply::Repeated { number } => write_numbered(writer, "repeated", *number),
             Reply::Closed => write_object(writer, &[Member::Flag("closed", true)]),
-            Reply::Lost { number } => write_object(
-                writer,
-                &[Member::Number("lost", u64::from(*number))],
-            ),
+            Reply::Lost { number } => write_numbered(writer, "lost", *number),
             Reply::Joint(verdict) => write_joint(writer, *verdict),
             Reply::Refused(refusal) => write_refusal(writer, *refusal),
         }
@@ -190,79 +168,48 @@ impl ReplyLine for MessageFault {
     }
 }
 
-/// A refusal by its number.
-#[derive(Clone, Copy, Drop)]
-pub(crate) struct Refused {
-    /// The number, as `C1`.
-    pub(crate) code: &'static str,
-}
-
-impl ReplyLine for Refused {
-    ghost value = { λ refusal. refused refusal.code.now };
-
-    fn write(&self, writer: &mut Writer) -> Result<(), AllocError> {
-        write_refused(writer, self.code)
-    }
-}
-
-/// Writes the reply that a frame was applied.
-fn write_applied(writer: &mut Writer, number: u32, effect: Effect) -> Result<(), AllocError>
+/// Writes an object with one whole number.
+fn write_numbered(writer: &mut Writer, key: &'static str, number: u32) -> Result<(), AllocError>
     ensures before { writer.new.before ≡ writer.old.before }
-    ensures added { Adds result writer.old writer.new (reply_value (Reply.Applied number effect None)) }
+    ensures added { Adds result writer.old writer.new (numbered key.now number) }
 {
-    let code = effect.code();
-    match effect {
-        Effect::Uploaded { new, old } => write_object(
-            writer,
-            &[
-                Member::Number("applied", u64::from(number)),
-                Member::Text("effect", code),
-                Member::Number("new", new),
-                Member::Number("old", old),
-            ],
-        ),
-        _ => write_object(
-            writer,
-            &[
-                Member::Number("applied", u64::from(number)),
-                Member::Text("effect", code),
-            ],
-        ),
-    }
+    write_object(writer, &[Member::Number(key, u64::from(number))])
 }
 
-/// Writes the reply that a frame was applied, and called for an answer.
-fn write_answered(
+/// Writes the reply that a frame was applied, and the number of the answer that it called for.
+fn write_applied(
     writer: &mut Writer,
     number: u32,
     effect: Effect,
-    answer: u32,
+    answer: Option<u32>,
 ) -> Result<(), AllocError>
     ensures before { writer.new.before ≡ writer.old.before }
     ensures added { Adds result writer.old writer.new
-        (reply_value (Reply.Applied number effect (Some answer))) }
+        (reply_value (Reply.Applied number effect answer)) }
 {
-    let code = effect.code();
+    let answer = Member::NumberOrNone("answer", wide(answer));
+    let applied = Member::Number("applied", u64::from(number));
+    let effected = Member::Text("effect", effect.code());
     match effect {
         Effect::Uploaded { new, old } => write_object(
             writer,
             &[
-                Member::Number("answer", u64::from(answer)),
-                Member::Number("applied", u64::from(number)),
-                Member::Text("effect", code),
+                answer,
+                applied,
+                effected,
                 Member::Number("new", new),
                 Member::Number("old", old),
             ],
         ),
-        _ => write_object(
-            writer,
-            &[
-                Member::Number("answer", u64::from(answer)),
-                Member::Number("applied", u64::from(number)),
-                Member::Text("effect", code),
-            ],
-        ),
+        _ => write_object(writer, &[answer, applied, effected]),
     }
+}
+
+/// The same number, where there is one.
+fn wide(number: Option<u32>) -> Option<u64>
+    ensures { result ≡ number }
+{
+    number.map(u64::from)
 }
 
 /// Writes a verdict on a pack.

@@ -1,4 +1,5 @@
 //! What a line asks.
+#![tactic(auto, unfolding(crate::specs::Requests::request_at))]
 
 ghost use Rattle.std.specs.Prelude.{◌≡◌};
 ghost use Rattle.serde_json.specs.View.{view};
@@ -79,6 +80,7 @@ impl Request {
     }
 
     /// What the fields of a line of that kind ask.
+    #[tactic(auto)]
     fn of_kind(alloc: Global, kind: LineKind, value: &Value) -> Result<Request, LineFault>
         ensures { GivesOr result (request_at kind (view value.now)) LineFault.Memory }
     {
@@ -97,26 +99,19 @@ impl Request {
     }
 
     /// The opening that the fields of a line ask.
-    #[tactic(auto, unfolding(crate::specs::Requests::request_at))]
     fn open_of(alloc: Global, value: &Value) -> Result<Request, LineFault>
         ensures { GivesOr result (request_at LineKind.Open (view value.now)) LineFault.Memory }
     {
-        let parties = market_lists_of(alloc, value, LineField::Parties)?;
-        let submissions = number_of(value, LineField::Submissions)?;
-        let uplink = number_of(value, LineField::Uplink)?;
-        let window = number_of(value, LineField::Window)?;
-        let wire = number_of(value, LineField::Wire)?;
         Ok(Request::Open {
-            parties,
-            submissions,
-            uplink,
-            window,
-            wire,
+            parties: market_lists_of(alloc, value, LineField::Parties)?,
+            submissions: number_of(value, LineField::Submissions)?,
+            uplink: number_of(value, LineField::Uplink)?,
+            window: number_of(value, LineField::Window)?,
+            wire: number_of(value, LineField::Wire)?,
         })
     }
 
     /// The submission that the fields of a line ask.
-    #[tactic(auto, unfolding(crate::specs::Requests::request_at))]
     fn submit_of(alloc: Global, value: &Value) -> Result<Request, LineFault>
         ensures { GivesOr result (request_at LineKind.Submit (view value.now)) LineFault.Memory }
     {
@@ -129,7 +124,6 @@ impl Request {
     }
 
     /// The routing that the fields of a line ask.
-    #[tactic(auto, unfolding(crate::specs::Requests::request_at))]
     fn route_of(value: &Value) -> Result<Request, LineFault>
         ensures { GivesOr result (request_at LineKind.Route (view value.now)) LineFault.Memory }
     {
@@ -138,7 +132,6 @@ impl Request {
     }
 
     /// The relay that the fields of a line ask.
-    #[tactic(auto, unfolding(crate::specs::Requests::request_at))]
     fn relay_of(value: &Value) -> Result<Request, LineFault>
         ensures { GivesOr result (request_at LineKind.Relay (view value.now)) LineFault.Memory }
     {
@@ -148,7 +141,6 @@ impl Request {
     }
 
     /// The taking of a frame that the fields of a line ask.
-    #[tactic(auto, unfolding(crate::specs::Requests::request_at))]
     fn apply_of(value: &Value) -> Result<Request, LineFault>
         ensures { GivesOr result (request_at LineKind.Apply (view value.now)) LineFault.Memory }
     {
@@ -158,7 +150,6 @@ impl Request {
     }
 
     /// The repetition of a frame that the fields of a line ask.
-    #[tactic(auto, unfolding(crate::specs::Requests::request_at))]
     fn repeat_of(value: &Value) -> Result<Request, LineFault>
         ensures { GivesOr result (request_at LineKind.Repeat (view value.now)) LineFault.Memory }
     {
@@ -169,7 +160,6 @@ impl Request {
     }
 
     /// The closing of a link that the fields of a line ask.
-    #[tactic(auto, unfolding(crate::specs::Requests::request_at))]
     fn close_of(value: &Value) -> Result<Request, LineFault>
         ensures { GivesOr result (request_at LineKind.Close (view value.now)) LineFault.Memory }
     {
@@ -179,7 +169,6 @@ impl Request {
     }
 
     /// The loss of a frame that the fields of a line ask.
-    #[tactic(auto, unfolding(crate::specs::Requests::request_at))]
     fn lose_of(value: &Value) -> Result<Request, LineFault>
         ensures { GivesOr result (request_at LineKind.Lose (view value.now)) LineFault.Memory }
     {
@@ -189,7 +178,6 @@ impl Request {
     }
 
     /// The verifying of a pack that the fields of a line ask.
-    #[tactic(auto, unfolding(crate::specs::Requests::request_at))]
     fn verify_of(value: &Value) -> Result<Request, LineFault>
         ensures { GivesOr result (request_at LineKind.Verify (view value.now)) LineFault.Memory }
     {
@@ -201,7 +189,6 @@ impl Request {
     }
 
     /// The taking of a verdict that the fields of a line ask.
-    #[tactic(auto, unfolding(crate::specs::Requests::request_at))]
     fn verdict_of(value: &Value) -> Result<Request, LineFault>
         ensures { GivesOr result (request_at LineKind.Verdict (view value.now)) LineFault.Memory }
     {

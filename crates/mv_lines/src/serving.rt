@@ -30,7 +30,9 @@ pub fn serve<R: Read, W: Write>(
         × Ended IsReply fault None bytes (W.contents writer.old) (W.contents writer.new)) }
 {
     let mut session = Session::new(alloc);
-    answer_lines(alloc, &mut session, reader, writer)
+    let ended = answer_lines(alloc, &mut session, reader, writer);
+    drop(session);
+    ended
 }
 
 /// Does what `serve` does, as the last thing in a process: what is open at the end is not taken apart, since the process

@@ -1,6 +1,7 @@
 //! What comes of the lines of a run of steps.
 
 ghost use Rattle.std.specs.Prelude.{◌≡◌, None, IfOk, IfErr};
+ghost use Rattle.std.specs.Mem.{manually_drop_value};
 ghost use Rattle.std.specs.Option.{option_copied};
 ghost use Rattle.mv_hub.specs.Parties.{parties_of};
 ghost use Rattle.mv_json.specs.Reading.{map_err};
@@ -15,6 +16,7 @@ use mv_machine::{Limits, Step};
 use mv_system::World;
 use std::alloc::{AllocError, Global};
 use std::marker::Model;
+use std::mem::ManuallyDrop;
 
 /// The system that is open, seen as the state of the list machine; none before an opening has succeeded. The memory in
 /// which lines are read is kept from line to line.
@@ -56,6 +58,14 @@ impl Session {
             scratch: Scratch::new(alloc),
             world: None,
         }
+    }
+
+    /// Nothing is open. What is open at the end is not taken apart: it is for the last thing in a process, which gives all its
+    /// memory back at once.
+    pub fn last(alloc: Global) -> ManuallyDrop<Session>
+        ensures { manually_drop_value result ≡ None }
+    {
+        ManuallyDrop::new(Session::new(alloc))
     }
 
     /// The system that is open.

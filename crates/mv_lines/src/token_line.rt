@@ -1,6 +1,6 @@
 //! Reads lines by their tokens, with no value in between, their keys in any order.
 
-ghost use Rattle.std.specs.Prelude.{◌≡◌, ◌∷◌, [], Ok, IfSome, IsTrue, MatchOption};
+ghost use Rattle.std.specs.Prelude.{◌≡◌, ◌∷◌, [], Ok, IfSome, MatchOption};
 ghost use Rattle.json.specs.Lex.{tokens};
 ghost use Rattle.json.specs.Token.{begin_object, end_object, key};
 ghost use Rattle.mv_lines.specs.Fields.{field_name};
@@ -16,7 +16,7 @@ use json::{Reader, Scratch, Token};
 use mv_json::take_message;
 use mv_json::tokens::{take_text, take_whole, takes_opening};
 use mv_machine::Step;
-use mv_message::{Message, Shared};
+use mv_message::Shared;
 use mv_pack::{Gtin, Serial};
 use std::alloc::Global;
 
@@ -47,7 +47,7 @@ fn take_whole_step(alloc: Global, reader: &mut Reader<'_>) -> Option<Step>
     ensures { IfSome result (λ step. Asks reader.old step []) }
 {
     let step = take_step(alloc, reader)?;
-    if !is_over(reader) {
+    if reader.next().is_some() {
         return None;
     }
     Some(step)
@@ -60,13 +60,6 @@ fn take_step(alloc: Global, reader: &mut Reader<'_>) -> Option<Step>
     let entries = take_entries(alloc, reader)?;
     let step = step_told(&entries)?;
     Some(step)
-}
-
-/// Whether no token is left.
-fn is_over(reader: &mut Reader<'_>) -> bool
-    ensures { IsTrue result → reader.old ≡ [] }
-{
-    reader.next().is_none()
 }
 
 /// Takes an object with its fields in any order, each once.
@@ -172,16 +165,9 @@ fn take_gtin(reader: &mut Reader<'_>) -> Option<LinePart>
 fn take_shared_message(alloc: Global, reader: &mut Reader<'_>) -> Option<LinePart>
     ensures { IfSome result (λ part. BeginWithPart reader.old part reader.new) }
 {
-    let taken = take_message(alloc, reader)?;
-    let message = shared(alloc, taken)?;
+    let message = take_message(alloc, reader)?;
+    let message = Shared::new(alloc, message).ok()?;
     Some(LinePart::Message(message))
-}
-
-/// A message that may be kept in many places.
-fn shared(alloc: Global, message: Message) -> Option<Shared<Message>>
-    ensures { IfSome result (λ shared. shared ≡ message) }
-{
-    Shared::new(alloc, message).ok()
 }
 
 /// Takes a serial number.

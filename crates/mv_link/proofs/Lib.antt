@@ -1,3 +1,4 @@
 pub mod LinkLemmas
 pub mod NumberLemmas
 pub mod PartySetLemmas
+pub mod CallerLemmas

@@ -1,9 +1,10 @@
 -- Lemmas on links.
 use Rattle.std.proofs.Common.{◌≡◌, ℕ, ◌+◌, ◌-◌, List, [], ◌∷◌, ◌++◌, length, take, drop, refl, sym, ◌∙◌, ap, arith, append_assoc, append-nil, length-append, Bool, true, false, cond, suc, add-one, drop-cons}
-use Rattle.std.specs.Prelude.{Some, slice_get, All, ◌==◌, nat_le, nat_lt}
+use Rattle.std.specs.Prelude.{Some, slice_get, All, ◌==◌}
 use Rattle.std.proofs.lemmas.List.{take-append-drop}
 use Rattle.std.proofs.lemmas.List.Elements.{All-tail}
-use Rattle.std.proofs.lemmas.Bool.{eqb-true, eq-eqb, ne_eqb, leb-false, ltb-false}
+use Rattle.std.proofs.lemmas.Bool.{eqb-true, eq-eqb, ne_eqb}
+use Rattle.std.proofs.lemmas.Bool.Decides.{nat_tests}
 use Rattle.std.proofs.lemmas.Option.{slice_get_within, get_or_from_slice_get}
 use Rattle.circular_buffer.proofs.Places.{slice_get-append_left}
 use Rattle.mv_link.specs.declared.item.Item.{Item}
@@ -55,18 +56,7 @@ accepted_front list (frame ∷ frames) count valid = by (frame.number == (count 
 pub accepted-push : (count : ℕ) (frames : List Frame) (frame : Frame)
     → accepted_after count (frames ++ frame ∷ []) ≡ accepted_after count frames ++ cond (frame.number == (count + length (accepted_after count frames) + 1)) (frame.item ∷ []) []
 accepted-push count [] frame = ap (λ n. cond (frame.number == n) (frame.item ∷ []) []) (omega arith)
-accepted-push count (first ∷ frames) frame = by (first.number == (count + 1)) (accepted-push (count + 1) frames frame) (accepted-push count frames frame)
-  where
-    by : (b : Bool)
-        → accepted_after (count + 1) (frames ++ frame ∷ []) ≡ accepted_after (count + 1) frames ++ cond (frame.number == (count + 1 + length (accepted_after (count + 1) frames) + 1)) (frame.item ∷ []) []
-        → accepted_after count (frames ++ frame ∷ []) ≡ accepted_after count frames ++ cond (frame.number == (count + length (accepted_after count frames) + 1)) (frame.item ∷ []) []
-        → cond b (first.item ∷ accepted_after (count + 1) (frames ++ frame ∷ [])) (accepted_after count (frames ++ frame ∷ []))
-        ≡ cond b (first.item ∷ accepted_after (count + 1) frames) (accepted_after count frames)
-        ++ cond (frame.number == (count + length (cond b (first.item ∷ accepted_after (count + 1) frames) (accepted_after count frames)) + 1)) (frame.item ∷ []) []
-    by true later _ =
-        ap (λ l. first.item ∷ l) later
-        ∙ ap (λ n. first.item ∷ (accepted_after (count + 1) frames ++ cond (frame.number == n) (frame.item ∷ []) [])) (omega arith)
-    by false _ later = later
+accepted-push count (first ∷ frames) frame = grind (arith, accepted-push (count + 1) frames frame, accepted-push count frames frame)
 
 -- so a frame of another number changes nothing
 accepted-other : (frames : List Frame) (frame : Frame) → (frame.number == (length (accepted frames) + 1)) ≡ false → accepted (frames ++ frame ∷ []) ≡ accepted frames
@@ -84,13 +74,7 @@ one_more frames frame = record {
 
 -- a number that is the next
 pub next-number : (count number : ℕ) → look_at count number ≡ look.Next → number ≡ count + 1
-next-number count number next = by (nat_le number count) (nat_lt (count + 1) number) refl refl next
-  where
-    by : (below above : Bool) → nat_le number count ≡ below → nat_lt (count + 1) number ≡ above
-        → cond below look.Old (cond above (look.Gap (count + 1)) look.Next) ≡ look.Next → number ≡ count + 1
-    by true above e f next = absurd (cc)
-    by false true e f next = absurd (cc)
-    by false false e f next = omega (arith, leb-false number count e, ltb-false (count + 1) number f)
+next-number count number next = grind (arith, nat_tests)
 
 -- the next frame makes one more
 pub accepts_next : (count more : ℕ) → more ≡ count + 1 → AcceptsNext count more

@@ -1,9 +1,10 @@
 -- Sets of parties, by the bits of their words.
-use Rattle.std.proofs.Common.{◌≡◌, ℕ, zero, suc, ◌-◌, ◌*◌, ◌^◌, ◌%◌, ◌<◌, ◌≤◌, min, max, Bool, true, false, not, ◌&&◌, ◌||◌, [], ◌∷◌, length, w64, bit_and, bit_or, refl, ap, arith, inl, inr}
+use Rattle.std.proofs.Common.{◌≡◌, ℕ, ◌-◌, ◌*◌, ◌^◌, ◌%◌, ◌<◌, ◌≤◌, min, max, Bool, true, false, not, ◌&&◌, ◌||◌, [], ◌∷◌, length, w64, bit_and, bit_or, refl, ap, arith, inl, inr}
 use Rattle.std.specs.Prelude.{◌==◌}
 use Rattle.std.specs.Int.{bit_at, trailing_zeros}
 use Rattle.std.specs.List.{range_with_len}
 use Rattle.std.proofs.lemmas.Bool.{cases_eq, cases_lt, eq-eqb, ne_eqb}
+use Rattle.std.proofs.lemmas.Bool.Decides.{nat_tests}
 use Rattle.std.proofs.lemmas.Nat.{and_le_l}
 use Rattle.std.proofs.lemmas.Nat.Bits.{bit_at-lt, bit_at-zero, bit_at_and, bit_at_or, bit_at_above, bit_at_set_same, bit_at_set_other, bit_at_clear_same, bit_at_clear_other, bit_at-trailing_zeros}
 use Rattle.std.proofs.lemmas.List.Filters.{length-filter_both}
@@ -14,22 +15,10 @@ use Rattle.mv_link.specs.PartySets.{those, has_party, parties_in}
 use Rattle.mv_link.proofs.NumberLemmas.{increasing-those, passing-none, passing-first, those-within}
 
 both-bits : (x y : ℕ) → x < 2 → y < 2 → (min x y == 1) ≡ ((x == 1) && (y == 1))
-both-bits zero zero p q = refl
-both-bits zero (suc zero) p q = refl
-both-bits zero (suc (suc y)) p q = absurd (omega arith)
-both-bits (suc zero) zero p q = refl
-both-bits (suc zero) (suc zero) p q = refl
-both-bits (suc zero) (suc (suc y)) p q = absurd (omega arith)
-both-bits (suc (suc x)) y p q = absurd (omega arith)
+both-bits x y p q = grind (arith, nat_tests)
 
 either-bit : (x y : ℕ) → x < 2 → y < 2 → (max x y == 1) ≡ ((x == 1) || (y == 1))
-either-bit zero zero p q = refl
-either-bit zero (suc zero) p q = refl
-either-bit zero (suc (suc y)) p q = absurd (omega arith)
-either-bit (suc zero) zero p q = refl
-either-bit (suc zero) (suc zero) p q = refl
-either-bit (suc zero) (suc (suc y)) p q = absurd (omega arith)
-either-bit (suc (suc x)) y p q = absurd (omega arith)
+either-bit x y p q = grind (arith, nat_tests)
 
 -- what each change of a word does to the parties of its set
 pub has-and : (a b : PartySet) (party : ℕ)

@@ -1,6 +1,6 @@
 -- How long the record can grow: each sender routes what it submitted, and each link is closed at most once.
 use Rattle.std.proofs.Common.{◌≡◌, ℕ, zero, suc, ◌+◌, ◌*◌, ◌<◌, ◌≤◌, List, [], ◌∷◌, ◌++◌, length, take, length-append, cond, Some, false, refl, ap, subst, append_assoc, append-nil, arith}
-use Rattle.std.specs.Prelude.{◌&&◌, nat_lt, slice_get}
+use Rattle.std.specs.Prelude.{nat_lt, slice_get}
 use Rattle.std.proofs.Math.Nat.{mul-le-mul_left}
 use Rattle.std.proofs.lemmas.Bool.{eq-eqb, cases_eq, le-ltb}
 use Rattle.mv_message.specs.declared.message.Message.{Message}
@@ -9,12 +9,12 @@ use Rattle.mv_hub.specs.declared.entry.Entry.TheVariants.{Routed, Closed}
 use Rattle.mv_hub.specs.Record.{routed_from, routed_count, is_open}
 use Rattle.mv_hub.specs.Links.{gained, link_items, link_items_after}
 use Rattle.mv_hub.specs.Hub.{is_busy, next_items, items_on}
-use Rattle.mv_hub.proofs.RecordLemmas.{gained_other}
+use Rattle.mv_hub.proofs.CallerLemmas.{is_open-append, gained_other}
 use Rattle.mv_link.specs.declared.limits.TheConstants.{PARTIES_LIMIT, NUMBER_LIMIT}
 use Rattle.mv_party.specs.declared.limits.TheConstants.{SUBMISSIONS_LIMIT}
 use Rattle.mv_machine.specs.Limits.{most_entries}
 use Rattle.mv_machine.specs.State.{State, submissions_of, hub_of}
-use Rattle.mv_machine.specs.Laws.{NumbersSuffice}
+use Rattle.mv_machine.specs.Laws.{StampsSuffice, NumbersSuffice}
 use Rattle.mv_machine.specs.Lawful.{Fits, IsLawfulRecord, IsLawful}
 use Rattle.mv_machine.proofs.PutLemmas.{routed_count-push}
 
@@ -44,13 +44,9 @@ sum_below-more (suc n) at f g lt each more =
 open_from : ℕ → List Entry → ℕ → ℕ
 open_from count entries from = sum_below count (λ to. cond (is_open entries from to) 1 0)
 
-is_open-push : (before : List Entry) (entry : Entry) (from to : ℕ) → is_open (before ++ entry ∷ []) from to ≡ (is_open before from to && is_open (entry ∷ []) from to)
-is_open-push [] entry from to = refl
-is_open-push (first ∷ before) entry from to = grind (arith, is_open-push before entry from to)
-
 -- no link is open behind an entry that was not before it
 open-fewer : (before : List Entry) (entry : Entry) (from to : ℕ) → cond (is_open (before ++ entry ∷ []) from to) 1 0 ≤ cond (is_open before from to) 1 0
-open-fewer before entry from to = grind (arith, is_open-push before entry from to)
+open-fewer before entry from to = grind (arith, is_open-append before (entry ∷ []) from to)
 
 open_from-fewer : (count : ℕ) (before : List Entry) (entry : Entry) (from : ℕ) → open_from count (before ++ entry ∷ []) from ≤ open_from count before from
 unfolding open_from
@@ -84,7 +80,7 @@ entries-most count before (Closed sender receiver ∷ entries) fit =
     let rest = rw append_assoc at (entries-most count (before ++ entry ∷ []) entries (rest-fit count before entry entries fit)) in
     let closed = sum_below-more count sender (open_from count (before ++ entry ∷ [])) (open_from count before) here.0 (open_from-fewer count before entry)
     (unfold open_from in sum_below-more count receiver _ _ here.1 (open-fewer before entry sender)
-    (rw (is_open-push before entry sender receiver, here.2, eq-eqb sender sender refl, eq-eqb receiver receiver refl) (omega arith))) in
+    (rw (is_open-append before (entry ∷ []) sender receiver, here.2, eq-eqb sender sender refl, eq-eqb receiver receiver refl) (omega arith))) in
     omega (arith, rest, closed)
 
 -- what was routed from a party is no more than what it submitted
@@ -94,10 +90,9 @@ routed_count-few st party lawful is_party =
     omega (arith, ap length order.1, length-append (routed_from st.entries party) order.0)
 
 -- a record of so many parties, from each of whom so many messages were routed at most, is far from having 2 ^ 32 entries
-pub record-few : (count : ℕ) (entries : List Entry) → IsLawfulRecord count entries → count ≤ PARTIES_LIMIT
-    → ((party : ℕ) → party < count → routed_count entries party ≤ SUBMISSIONS_LIMIT) → length entries ≤ most_entries
+pub stamps_suffice : StampsSuffice
 unfolding open_from
-record-few count entries lawful parties_few short =
+stamps_suffice count entries lawful parties_few short =
     let all = entries-most count [] entries lawful.fits in
     let links = sum_below-most count (count * 1) (open_from count []) (λ from lt. sum_below-most count 1 _ (λ to below. omega arith)) in
     let messages = sum_below-most count SUBMISSIONS_LIMIT (routed_count entries) short in

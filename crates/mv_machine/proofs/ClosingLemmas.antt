@@ -2,7 +2,6 @@
 use Rattle.std.proofs.Common.{◌≡◌, ℕ, zero, suc, ◌+◌, ◌≤◌, Bool, true, false, List, [], ◌∷◌, ◌++◌, length, take, cond, Some, sym, refl, ap, ◌∙◌, append_assoc, append-nil, arith}
 use Rattle.std.specs.Prelude.{slice_get}
 use Rattle.std.specs.List.{prefix_len}
-use Rattle.std.proofs.lemmas.Bool.{eq-eqb}
 use Rattle.std.proofs.lemmas.List.Elements.{All-weaker}
 use Rattle.mv_message.specs.declared.message.Message.{Message}
 use Rattle.mv_link.specs.Frames.{number_of}
@@ -10,20 +9,17 @@ use Rattle.mv_hub.specs.declared.entry.Entry.{Entry}
 use Rattle.mv_hub.specs.declared.entry.Entry.TheVariants.{Routed, Closed}
 use Rattle.mv_hub.specs.Hub.{next_entry}
 use Rattle.mv_hub.specs.Record.{routed_count, is_open}
-use Rattle.mv_repository.specs.declared.entry.LogEntry.{LogEntry}
 use Rattle.mv_repository.specs.Log.{items_from}
 use Rattle.mv_machine.specs.declared.step.Step.{Step}
 use Rattle.mv_machine.specs.declared.reply.Reply.{Reply}
 use Rattle.mv_machine.specs.State.{State, hub_of, submissions_of, log_of}
-use Rattle.mv_machine.specs.Replies.{changes_nothing}
 use Rattle.mv_machine.specs.Runs.{Runs}
-use Rattle.mv_machine.specs.Lawful.{IsLawfulRecord, IsLawfulLink, IsLawful}
+use Rattle.mv_machine.specs.Lawful.{IsLawful}
 use Rattle.mv_machine.specs.Headline.{Follows}
-use Rattle.mv_machine.specs.Laws.{InSteps}
-use Rattle.mv_machine.specs.Closing.{before_closing, AreAboutFirst, NothingRoutedLater, NothingSubmittedLater}
-use Rattle.mv_machine.proofs.PutLemmas.{put-each, applied-put}
+use Rattle.mv_machine.specs.Closing.{before_closing, NothingRoutedLater, NothingSubmittedLater}
+use Rattle.mv_machine.proofs.PutLemmas.{put-each, log-put}
 use Rattle.mv_machine.proofs.BoundLemmas.{routed_count-few}
-use Rattle.mv_machine.proofs.StepLemmas.{Change, routed, closed, step-changes, asked-changes, run-keeps}
+use Rattle.mv_machine.proofs.StepLemmas.{Change, routed, closed, run-keeps}
 
 take-more : {A : Type 0} (more : Bool) (n : ℕ) (x : A) (xs : List A) → take (cond more (1 + n) 0) (x ∷ xs) ≡ cond more (x ∷ take n xs) []
 take-more true n x xs = let one : 1 + n ≡ suc n = omega arith in ap (λ m. take m (x ∷ xs)) one
@@ -38,28 +34,21 @@ before_closing-next entry entries from to = take-more (is_open (entry ∷ []) fr
 open-before : (entries : List Entry) (place from to k : ℕ) (message : Message) → slice_get entries place ≡ Some (Routed from k message) → is_open (take place entries) from to ≡ true
     → routed_count (take place entries) from + 1 ≤ routed_count (before_closing entries from to) from
 open-before [] place from to k message at open_then = absurd (cc)
-open-before (Closed sender receiver ∷ entries) zero from to k message at open_then = absurd (cc)
-open-before (Routed sender number sent ∷ entries) zero from to k message at open_then =
-    let same : sender ≡ from = cc at in rw (before_closing-next (Routed sender number sent) entries from to, eq-eqb sender from same) (omega arith)
-open-before (Routed sender number sent ∷ entries) (suc place) from to k message at open_then = grind (arith, before_closing-next (Routed sender number sent) entries from to, open-before entries place from to k message at open_then)
-open-before (Closed sender receiver ∷ entries) (suc place) from to k message at open_then = grind (arith, before_closing-next (Closed sender receiver) entries from to, open-before entries place from to k message at)
+open-before (entry ∷ entries) zero from to k message at open_then = grind (arith, at, before_closing-next entry entries from to)
+open-before (entry ∷ entries) (suc place) from to k message at open_then =
+    grind (arith, open_then, before_closing-next entry entries from to, open-before entries place from to k message at)
 
 -- what was applied over a link is about messages that were routed before its closing
-pub link_closed : (count : ℕ) (parties : List (List (List ℕ))) (entries : List Entry) (from to : ℕ) (submissions : List Message) (log : List LogEntry)
-    → IsLawfulRecord count entries → IsLawfulLink parties entries from to submissions log
-    → AreAboutFirst (routed_count (before_closing entries from to) from) (items_from log from)
-link_closed count parties entries from to submissions log lawful link =
-    put-each parties entries from to (λ item. number_of item ≤ routed_count (before_closing entries from to) from)
-    (λ place item put. omega (
-      arith,
-      (lawful.fits place (Routed from (number_of item) put.message) put.routed).1,
-      open-before entries place from to (number_of item) put.message put.routed put.still_open,
-    ))
-    0 0 (items_from log from) (applied-put parties entries from to submissions log link)
-
 pub nothing_routed_later : (st : State) → IsLawful st → NothingRoutedLater st
 nothing_routed_later st lawful from to from_is_party to_is_party =
-    link_closed (length st.parties) st.parties st.entries from to (submissions_of st from) (log_of st to) lawful.of_record (lawful.of_link from to from_is_party to_is_party)
+    let count = routed_count (before_closing st.entries from to) from in
+    put-each st.parties st.entries from to (λ item. number_of item ≤ count) 0
+    (λ place item turn put. omega (
+      arith,
+      (lawful.of_record.fits place (Routed from (number_of item) put.message) put.routed).1,
+      open-before st.entries place from to (number_of item) put.message put.routed put.still_open,
+    ))
+    (items_from (log_of st to) from) (log-put st from to lawful from_is_party to_is_party)
 
 -- once a link is closed, what stands before its closing stays
 before_closing-append : (entries more : List Entry) (from to : ℕ) → is_open entries from to ≡ false → before_closing (entries ++ more) from to ≡ before_closing entries from to
@@ -89,12 +78,6 @@ pub change-follows : (old new : State) (quiet : Bool) → Change old quiet new �
 change-follows st _ _ (routed from message is_party next free) = record { parties = refl; limits = refl; entries = (next_entry (hub_of st) from message ∷ [], refl) }
 change-follows st _ _ (closed from to from_is_party to_is_party still_open) = record { parties = refl; limits = refl; entries = (Closed from to ∷ [], refl) }
 change-follows st _ _ _ = record { parties = refl; limits = refl; entries = ([], append-nil st.entries) }
-
-pub steps_follow : InSteps (λ old reply new. Follows old new)
-steps_follow = (
-  λ old step reply new allowed. change-follows old new (changes_nothing reply) (step-changes old step reply new allowed),
-  λ old party key reply new met. change-follows old new (changes_nothing reply) (asked-changes old party key reply new met),
-)
 
 -- and so does each run
 pub run-follows : (old : State) (steps : List Step) (replies : List Reply) (new : State) → Runs old steps replies new → Follows old new

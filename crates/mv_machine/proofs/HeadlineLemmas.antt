@@ -1,12 +1,14 @@
 -- The headline follows from two lawful states of which one follows the other.
+use Rattle.std.specs.Prelude.{Bool}
 use Rattle.mv_machine.specs.State.{State}
 use Rattle.mv_machine.specs.Lawful.{IsLawful, IsWellFormed}
-use Rattle.mv_machine.specs.Laws.{ClosedLinksStayClosed}
+use Rattle.mv_machine.specs.Laws.{ClosedLinksStayClosed, InSteps}
 use Rattle.mv_machine.specs.Headline.{Follows, HeadlineHolds}
-use Rattle.mv_machine.proofs.LawfulLemmas.{opening-sound, run-sound}
-use Rattle.mv_machine.proofs.ClosingLemmas.{nothing_routed_later, nothing_submitted_later, follows-same, follows_further, run-follows}
+use Rattle.mv_machine.proofs.LawfulLemmas.{change-sound, opening-sound, run-sound}
+use Rattle.mv_machine.proofs.ClosingLemmas.{nothing_routed_later, nothing_submitted_later, follows-same, follows_further, change-follows, run-follows}
 use Rattle.mv_machine.proofs.StampLemmas.{repositories_agree}
 use Rattle.mv_machine.proofs.SubmittedLemmas.{applied_submitted, numbers_rise}
+use Rattle.mv_machine.proofs.StepLemmas.{Change, step-changes, asked-changes}
 
 pub headline : (old new : State) → IsLawful old → IsWellFormed new → IsLawful new → Follows old new → HeadlineHolds old new
 headline old new began well_formed lawful follows =
@@ -17,6 +19,18 @@ headline old new began well_formed lawful follows =
       nothing_routed_later new lawful,
       repositories_agree new lawful,
     )
+
+-- over a change, where the state before it is lawful
+change-headline : (old new : State) (quiet : Bool) → Change old quiet new → IsWellFormed old → IsLawful old → HeadlineHolds old new
+change-headline old new quiet change well_formed lawful =
+    let now = change-sound old new quiet change (record { well_formed = well_formed; lawful = lawful }) in
+    headline old new lawful now.well_formed now.lawful (change-follows old new quiet change)
+
+pub steps_keep_headline : InSteps (λ old reply new. IsWellFormed old → IsLawful old → HeadlineHolds old new)
+steps_keep_headline = (
+  λ old step reply new allowed. change-headline old new _ (step-changes old step reply new allowed),
+  λ old party key reply new met. change-headline old new _ (asked-changes old party key reply new met),
+)
 
 -- where nothing happened
 pub headline-same : (st : State) → IsWellFormed st → IsLawful st → HeadlineHolds st st

@@ -8,17 +8,17 @@ use mathlib.Core.List.{IsPrefix}
 use Rattle.mv_message.specs.declared.message.Message.{Message}
 use Rattle.mv_link.specs.declared.item.Item.{Item}
 use Rattle.mv_pairs.specs.Pairs.{IsSquare}
-use Rattle.mv_pairs.proofs.PairsLemmas.{put-each, square-put, square-replicate}
+use Rattle.mv_pairs.proofs.CallerLemmas.{put-each, square-put, square-replicate}
 use Rattle.mv_hub.specs.declared.entry.Entry.{Entry}
 use Rattle.mv_hub.specs.declared.entry.Entry.TheVariants.{Closed}
 use Rattle.mv_hub.specs.Hub.{next_entry, with_routed, with_closed, items_on}
 use Rattle.mv_hub.specs.Record.{routed_from, routed_count, is_open}
-use Rattle.mv_hub.proofs.RecordLemmas.{routed_from-append}
+use Rattle.mv_hub.proofs.CallerLemmas.{routed_from-append}
 use Rattle.mv_repository.specs.declared.entry.LogEntry.{LogEntry}
 use Rattle.mv_repository.specs.Log.{items_from}
 use Rattle.mv_repository.specs.Query.{answer_to}
 use Rattle.mv_party.specs.Site.{SiteState, entry_from, with_submission, with_applied, answers_in, IsLawfulParty}
-use Rattle.mv_party.proofs.SiteLemmas.{party-submitted, party-applied}
+use Rattle.mv_party.proofs.CallerLemmas.{party-submitted, party-applied}
 use Rattle.mv_machine.specs.declared.step.Step.{Step}
 use Rattle.mv_machine.specs.declared.reply.Reply.{Reply}
 use Rattle.mv_machine.specs.Limits.{Bounds}
@@ -175,5 +175,4 @@ pub runs-push : (old : State) (steps : List Step) (replies : List Reply) (betwee
     → Runs old steps replies between → Allows between step reply new → Runs old (steps ++ step ∷ []) (replies ++ reply ∷ []) new
 runs-push old [] [] between step reply new run allowed = (new, subst (λ (st : State). Allows st step reply new) run allowed, refl)
 runs-push old (x ∷ steps) (y ∷ replies) between step reply new run allowed = (run.0, run.1, runs-push run.0 steps replies between step reply new run.2 allowed)
-runs-push old [] (y ∷ replies) between step reply new run allowed = absurd run
-runs-push old (x ∷ steps) [] between step reply new run allowed = absurd run
+runs-push old steps replies between step reply new run allowed = absurd run

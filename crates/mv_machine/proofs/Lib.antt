@@ -9,4 +9,4 @@ pub mod StampLemmas
 pub mod SubmittedLemmas
 pub mod HeadlineLemmas
 pub mod LimitLemmas
-pub mod SameRecordLemmas
+pub mod CallerLemmas

@@ -1,29 +1,30 @@
 -- Each step keeps the limits, and so does each run.
-use Rattle.std.proofs.Common.{◌≡◌, ℕ, ◌+◌, ◌-◌, ◌<◌, ◌≤◌, Bool, false, List, [], ◌∷◌, ◌++◌, length, drop, Some, None, Option, sym, refl, ap, ◌∙◌, subst, arith, length-append, append-nil, length-drop}
+use Rattle.std.proofs.Common.{◌≡◌, ℕ, ◌+◌, ◌-◌, ◌<◌, ◌≤◌, Bool, false, List, [], ◌∷◌, ◌++◌, length, drop, Some, None, Option, ap, ◌∙◌, subst, arith, length-append, append-nil}
 use Rattle.std.specs.Prelude.{All, option_to_list, replicate, find}
 use Rattle.std.specs.List.{range_with_len}
-use Rattle.std.proofs.lemmas.Bool.{eqb-false}
+use Rattle.std.proofs.lemmas.Bool.Decides.{nat_tests}
+use Rattle.std.proofs.lemmas.Grind.{elements}
 use Rattle.std.proofs.lemmas.List.{get_or-replicate}
-use Rattle.std.proofs.lemmas.List.Elements.{All-nil, All-cons, All-tail, All-append, All-weaker}
+use Rattle.std.proofs.lemmas.List.Elements.{All-nil, All-tail, All-push, All-weaker}
 use Rattle.mv_message.specs.declared.message.Message.{Message}
 use Rattle.mv_link.specs.declared.item.Item.{Item}
 use Rattle.mv_link.specs.declared.incoming.Look.TheVariants as look
 use Rattle.mv_pairs.specs.Pairs.{cell, put, IsSquare}
-use Rattle.mv_pairs.proofs.PairsLemmas.{put-each, put-each_pair, cell-put_same}
+use Rattle.mv_pairs.proofs.CallerLemmas.{put-each, put-each_pair, cell-put_same}
 use Rattle.mv_hub.specs.declared.entry.Entry.{Entry}
 use Rattle.mv_hub.specs.declared.entry.Entry.TheVariants.{Closed}
 use Rattle.mv_hub.specs.Hub.{next_entry, is_busy, busy_party, route_fault, items_on, sent_of}
 use Rattle.mv_hub.specs.Record.{routed_count}
 use Rattle.mv_hub.specs.Links.{gained, link_items}
-use Rattle.mv_hub.proofs.RecordLemmas.{link_items-push, gained_other}
-use Rattle.mv_link.proofs.NumberLemmas.{find-none_at}
+use Rattle.mv_hub.proofs.CallerLemmas.{link_items-push, gained_other}
+use Rattle.mv_link.proofs.CallerLemmas.{find-none_at}
 use Rattle.mv_repository.specs.declared.entry.LogEntry.{LogEntry}
 use Rattle.mv_repository.specs.Query.{answer_to}
 use Rattle.mv_party.specs.Site.{SiteState, entry_from, with_submission, with_applied}
 use Rattle.mv_party.specs.Calls.{ask_fault, answer_fault, apply_fault}
-use Rattle.mv_party.proofs.SiteLemmas.{ask-free, answer-free}
+use Rattle.mv_party.proofs.CallerLemmas.{ask-free, answer-free}
 use Rattle.mv_machine.specs.Limits.{Bounds}
-use Rattle.mv_machine.specs.State.{State, is_party, submissions_of, waiting_of, is_uplink_full, hub_of, site_of, with_site, with_wire, wire_of, log_of, opening}
+use Rattle.mv_machine.specs.State.{State, is_party, submissions_of, is_uplink_full, hub_of, site_of, with_site, with_wire, wire_of, log_of, opening}
 use Rattle.mv_machine.specs.Bounded.{KeepsLimits}
 use Rattle.mv_machine.specs.Laws.{InRuns}
 use Rattle.mv_machine.proofs.LawfulLemmas.{IsSound, change-sound, opening-sound}
@@ -46,15 +47,8 @@ submitted-keeps : (st : State) (from : ℕ) (message : Message) (log : List LogE
 submitted-keeps st from message log k free =
     let room = ask-free (is_uplink_full st from) (site_of st from) free in
     site-keeps st (record (with_submission (site_of st from) message) { log = log }) k
-    (λ is_party. omega (arith, k.submitted from is_party, room.1, length-append (submissions_of st from) (message ∷ [])))
-    (λ is_party. omega (
-      arith,
-      k.waiting from is_party,
-      eqb-false (length (waiting_of st from)) st.limits.uplink room.0,
-      length-append (submissions_of st from) (message ∷ []),
-      length-drop (routed_count st.entries from) (submissions_of st from),
-      length-drop (routed_count st.entries from) (submissions_of st from ++ message ∷ []),
-    ))
+    (λ is_party. grind (arith, elements, k.submitted from is_party, room.1))
+    (λ is_party. grind (arith, elements, nat_tests, k.waiting from is_party, room.0))
 
 -- other frames are under way on a link
 wired-keeps : (st : State) (from to : ℕ) (numbers : List ℕ) → KeepsLimits st
@@ -79,8 +73,7 @@ pushed-keeps : (st : State) (from to number : ℕ) → KeepsLimits st → length
 pushed-keeps st from to number k room least most =
     wired-keeps st from to (wire_of st from to ++ number ∷ []) k
     (λ a b. omega (arith, room, length-append (wire_of st from to) (number ∷ [])))
-    (λ a b. All-append (λ n. (1 ≤ n) × (n ≤ sent_of (hub_of st) from to)) (wire_of st from to) (number ∷ []) (k.known from to a b)
-    (All-cons (λ n. (1 ≤ n) × (n ≤ sent_of (hub_of st) from to)) number [] (least, most) (All-nil (λ n. (1 ≤ n) × (n ≤ sent_of (hub_of st) from to)))))
+    (λ a b. All-push (λ n. (1 ≤ n) × (n ≤ sent_of (hub_of st) from to)) (wire_of st from to) number (k.known from to a b) (least, most))
 
 -- the next item of a link counts as relayed
 sent-keeps : (st : State) (from to : ℕ) → KeepsLimits st → (sent_of (hub_of st) from to ≡ length (items_on (hub_of st) from to) → ⊥)
@@ -107,13 +100,7 @@ entered-keeps : (st : State) (entry : Entry) → KeepsLimits st
     → KeepsLimits (record st { entries = st.entries ++ entry ∷ [] })
 entered-keeps st entry k room = record {
   submitted = k.submitted;
-  waiting = λ party is_party. omega (
-    arith,
-    k.waiting party is_party,
-    routed_count-push st.entries (entry ∷ []) party,
-    length-drop (routed_count st.entries party) (submissions_of st party),
-    length-drop (routed_count (st.entries ++ entry ∷ []) party) (submissions_of st party),
-  );
+  waiting = λ party is_party. grind (arith, elements, k.waiting party is_party, routed_count-push st.entries (entry ∷ []) party);
   under_way = k.under_way;
   known = k.known;
   relayed = λ from to a b. omega (arith, k.relayed from to a b, longer from to);
@@ -139,17 +126,12 @@ routed-room st from message k free sender to a b =
 -- an item was applied, and the answer that it calls for submitted
 applied-keeps : (st : State) (from to : ℕ) (item : Item) → KeepsLimits st → apply_fault (is_uplink_full st to) (site_of st to) from item look.Next ≡ None
     → KeepsLimits (with_site st (with_applied (site_of st to) from item))
-applied-keeps st from to item k free = by (answer_to (log_of st to) (entry_from from item)) refl free
+applied-keeps st from to item k free = by (answer_to (log_of st to) (entry_from from item)) free
   where
-    log : List LogEntry
-    log = log_of st to ++ entry_from from item ∷ []
-
-    by : (answer : Option Message) → answer_to (log_of st to) (entry_from from item) ≡ answer → answer_fault (is_uplink_full st to) (site_of st to) answer ≡ None
-        → KeepsLimits (with_site st (record (site_of st to) { submissions = submissions_of st to ++ option_to_list answer; log = log }))
-    by None called free =
-        subst (λ l. KeepsLimits (with_site st (record (site_of st to) { submissions = l; log = log }))) (sym (append-nil (submissions_of st to)))
-        (site-keeps st (record (site_of st to) { log = log }) k (k.submitted to) (k.waiting to))
-    by (Some answer) called free = submitted-keeps st to answer log k (answer-free (is_uplink_full st to) (site_of st to) answer free)
+    by : (answer : Option Message) → answer_fault (is_uplink_full st to) (site_of st to) answer ≡ None
+        → KeepsLimits (with_site st (record (with_applied (site_of st to) from item) { submissions = submissions_of st to ++ option_to_list answer }))
+    by None free = rw append-nil (site-keeps st (record (with_applied (site_of st to) from item) { submissions = submissions_of st to }) k (k.submitted to) (k.waiting to))
+    by (Some answer) free = submitted-keeps st to answer (log_of st to ++ entry_from from item ∷ []) k (answer-free (is_uplink_full st to) (site_of st to) answer free)
 
 -- whatever a step changes
 change-keeps : (old new : State) (quiet : Bool) → Change old quiet new → IsSquare (length old.parties) old.sent → KeepsLimits old → KeepsLimits new

@@ -1,4 +1,4 @@
--- A record and a link stay lawful with one more entry, submission or item.
+-- A record and a link stay lawful with one more entry or item.
 use Rattle.std.proofs.Common.{◌≡◌, ℕ, List, [], ◌∷◌, ◌++◌, length, eqb, eqb-true, Some}
 use Rattle.std.specs.Prelude.{slice_get}
 use mathlib.Core.List.{IsPrefix}
@@ -6,25 +6,17 @@ use Rattle.mv_message.specs.declared.message.Message.{Message}
 use Rattle.mv_hub.specs.declared.entry.Entry.{Entry}
 use Rattle.mv_hub.specs.Record.{routed_from}
 use Rattle.mv_hub.specs.Links.{gained, link_items}
-use Rattle.mv_hub.proofs.RecordLemmas.{link_items-push}
+use Rattle.mv_hub.proofs.CallerLemmas.{link_items-push}
 use Rattle.mv_repository.specs.declared.entry.LogEntry.{LogEntry}
 use Rattle.mv_repository.specs.Log.{items_from}
-use Rattle.mv_party.proofs.SiteLemmas.{items_from-push}
+use Rattle.mv_party.proofs.CallerLemmas.{items_from-push}
 use Rattle.mv_machine.specs.Lawful.{Fits, IsLawfulRecord, IsLawfulLink}
-use Rattle.mv_machine.specs.PartLaws.{LinksStayLawful}
 use Rattle.mv_machine.proofs.PrefixLemmas.{prefix-grows, prefix-maybe, each-push}
 
 -- the record gained an entry
 pub record-entered : (count : ℕ) (entries : List Entry) (entry : Entry) → IsLawfulRecord count entries → Fits count entries entry
     → IsLawfulRecord count (entries ++ entry ∷ [])
 record-entered count entries entry lawful fits = record { fits = each-push (Fits count) entries entry lawful.fits fits }
-
-pub ruleset record_entered = (record-entered)
-
--- the sender of a link submitted more
-pub link-submitted : (parties : List (List (List ℕ))) (entries : List Entry) (from to : ℕ) (submissions more : List Message) (log : List LogEntry)
-    → IsLawfulLink parties entries from to submissions log → IsLawfulLink parties entries from to (submissions ++ more) log
-link-submitted parties entries from to submissions more log lawful = assumption (prefix-grows (routed_from entries from) submissions more lawful.routed)
 
 -- the record gained an entry, and what it routed is still a prefix of what was submitted
 pub link-entered : (parties : List (List (List ℕ))) (entries : List Entry) (entry : Entry) (from to : ℕ) (submissions : List Message) (log : List LogEntry)
@@ -46,10 +38,3 @@ link-applied parties entries from to submissions log entry lawful next = record 
   applied = rw (items_from-push log entry from)
       (prefix-maybe (items_from log from) _ (eqb entry.sender from) entry.item lawful.applied (λ same. next (eqb-true entry.sender from same)));
 }
-
-pub links_stay_lawful : LinksStayLawful
-links_stay_lawful parties entries from to submissions log lawful = (
-  λ more. link-submitted parties entries from to submissions more log lawful,
-  λ entry. link-entered parties entries entry from to submissions log lawful,
-  λ entry. link-applied parties entries from to submissions log entry lawful,
-)

@@ -13,13 +13,13 @@ use Rattle.mv_link.specs.Frames.{number_of}
 use Rattle.mv_hub.specs.declared.entry.Entry.{Entry}
 use Rattle.mv_hub.specs.declared.entry.Entry.TheVariants.{Routed, Closed}
 use Rattle.mv_hub.specs.Record.{routed_from, routed_count, is_open}
-use Rattle.mv_hub.proofs.RecordLemmas.{routed_from-append}
+use Rattle.mv_hub.proofs.CallerLemmas.{routed_from-append}
 use Rattle.mv_hub.specs.Targets.{is_reached, is_target, reach, is_query}
 use Rattle.mv_hub.specs.Links.{gained, link_items_after, link_items}
 use Rattle.mv_repository.specs.declared.entry.LogEntry.{LogEntry}
 use Rattle.mv_repository.specs.Log.{items_from}
 use Rattle.mv_machine.specs.State.{State, log_of}
-use Rattle.mv_machine.specs.Lawful.{IsLawfulLink, IsLawful}
+use Rattle.mv_machine.specs.Lawful.{IsLawful}
 use Rattle.mv_machine.proofs.PrefixLemmas.{slice_get-behind}
 
 -- an item is made of a message that was routed behind these entries, under this stamp
@@ -34,36 +34,40 @@ pub record IsPut (parties : List (List (List ℕ))) (entries : List Entry) (from
   pub still_open : is_open (take place entries) from to ≡ true
   pub made : IsMadeOf parties (take place entries) from to (place + 1) message item
 
--- Items were put on a link in the order of the record: messages by entries from one place on, receipts by entries from another.
-abbrev pub ArePut : List (List (List ℕ)) → List Entry → ℕ → ℕ → ℕ → ℕ → List Item → Type 0
-ArePut parties entries from to carried receipts [] = Unit {0}
-ArePut parties entries from to carried receipts (Carried k stamp message ∷ items) =
-    (place : ℕ) × (carried ≤ place) × IsPut parties entries from to place (Carried k stamp message) × ArePut parties entries from to (place + 1) receipts items
-ArePut parties entries from to carried receipts (Receipt k reached query ∷ items) =
-    (place : ℕ) × (receipts ≤ place) × IsPut parties entries from to place (Receipt k reached query) × ArePut parties entries from to carried (place + 1) items
+-- the turn of an item that the entry at this place puts on a link: an entry puts its receipt first, and then its message
+abbrev pub turn : ℕ → Item → ℕ
+turn place (Receipt k reached query) = place + place
+turn place (Carried k stamp message) = place + place + 1
+
+-- items were put on a link one after another, the first not before this turn
+abbrev pub ArePut : List (List (List ℕ)) → List Entry → ℕ → ℕ → ℕ → List Item → Type 0
+ArePut parties entries from to least [] = Unit {0}
+ArePut parties entries from to least (item ∷ items) =
+    (place : ℕ) × (least ≤ turn place item) × IsPut parties entries from to place item × ArePut parties entries from to (turn place item + 1) items
 
 module _ (parties : List (List (List ℕ))) (entries : List Entry) (from to : ℕ) where
-  pub put-weaker : (carried receipts more others : ℕ) (items : List Item) → carried ≤ more → receipts ≤ others
-      → ArePut parties entries from to more others items → ArePut parties entries from to carried receipts items
-  put-weaker carried receipts more others [] a b put = tt
-  put-weaker carried receipts more others (Carried k stamp message ∷ items) a b put = grind (arith, put-weaker (put.0 + 1) receipts (put.0 + 1) others items)
-  put-weaker carried receipts more others (Receipt k reached query ∷ items) a b put = grind (arith, put-weaker carried (put.0 + 1) more (put.0 + 1) items)
+  put-weaker : (least more : ℕ) (items : List Item) → least ≤ more → ArePut parties entries from to more items → ArePut parties entries from to least items
+  put-weaker least more [] le put = tt
+  put-weaker least more (item ∷ items) le put = (put.0, omega (arith, le, put.1), put.2, put.3)
 
-  put-front : (carried receipts : ℕ) (items more : List Item) → ArePut parties entries from to carried receipts (items ++ more) → ArePut parties entries from to carried receipts items
-  put-front carried receipts [] more put = tt
-  put-front carried receipts (Carried k stamp message ∷ items) more put = (put.0, put.1, put.2, put-front (put.0 + 1) receipts items more put.3)
-  put-front carried receipts (Receipt k reached query ∷ items) more put = (put.0, put.1, put.2, put-front carried (put.0 + 1) items more put.3)
+  put-front : (least : ℕ) (items more : List Item) → ArePut parties entries from to least (items ++ more) → ArePut parties entries from to least items
+  put-front least [] more put = tt
+  put-front least (item ∷ items) more put = (put.0, put.1, put.2, put-front (turn put.0 item + 1) items more put.3)
 
-  pub put-rest : (carried receipts : ℕ) (item : Item) (items : List Item) → ArePut parties entries from to carried receipts (item ∷ items) → ArePut parties entries from to carried receipts items
-  put-rest carried receipts (Carried k stamp message) items put = put-weaker carried receipts (put.0 + 1) receipts items (omega (arith, put.1)) (omega arith) put.3
-  put-rest carried receipts (Receipt k reached query) items put = put-weaker carried receipts carried (put.0 + 1) items (omega arith) (omega (arith, put.1)) put.3
+  pub put-rest : (least : ℕ) (item : Item) (items : List Item) → ArePut parties entries from to least (item ∷ items) → ArePut parties entries from to least items
+  put-rest least item items put = put-weaker least (turn put.0 item + 1) items (omega (arith, put.1)) put.3
+
+  -- one more item in front, where there is one
+  put-maybe : (more : Bool) (least place : ℕ) (item : Item) (items : List Item) → least ≤ turn place item → (more ≡ true → IsPut parties entries from to place item)
+      → ArePut parties entries from to (turn place item + 1) items → ArePut parties entries from to least (cond more (item ∷ []) [] ++ items)
+  put-maybe true least place item items le is later = (place, le, is refl, later)
+  put-maybe false least place item items le is later = put-weaker least (turn place item + 1) items (omega (arith, le)) later
 
   -- what holds of an item that an entry put holds of each
-  pub put-each : (P : Item → Type 0) → ((place : ℕ) (item : Item) → IsPut parties entries from to place item → P item)
-      → (carried receipts : ℕ) (items : List Item) → ArePut parties entries from to carried receipts items → All P items
-  put-each P each carried receipts [] put = All-nil P
-  put-each P each carried receipts (Carried k stamp message ∷ items) put = All-cons P _ items (each put.0 _ put.2) (put-each P each (put.0 + 1) receipts items put.3)
-  put-each P each carried receipts (Receipt k reached query ∷ items) put = All-cons P _ items (each put.0 _ put.2) (put-each P each carried (put.0 + 1) items put.3)
+  pub put-each : (P : Item → Type 0) (least : ℕ) → ((place : ℕ) (item : Item) → least ≤ turn place item → IsPut parties entries from to place item → P item)
+      → (items : List Item) → ArePut parties entries from to least items → All P items
+  put-each P least each [] put = All-nil P
+  put-each P least each (item ∷ items) put = All-cons P item items (each put.0 item put.1 put.2) (put-each P least each items (put-rest least item items put))
 
 reached_open : (parties : List (List (List ℕ))) (before : List Entry) (from : ℕ) (message : Message) (to : ℕ) → is_reached parties before from message to ≡ true → is_open before from to ≡ true
 unfolding is_reached
@@ -71,66 +75,61 @@ reached_open parties before from message to reached = (and_parts (nat_lt to (len
 
 -- what an entry puts on a link, in front of what later ones put on it
 gained-put : (parties : List (List (List ℕ))) (before : List Entry) (entry : Entry) (entries : List Entry) (from to : ℕ) (items : List Item)
-    → ArePut parties (before ++ entry ∷ entries) from to (length before + 1) (length before + 1) items
-    → ArePut parties (before ++ entry ∷ entries) from to (length before) (length before) (gained parties before entry from to ++ items)
+    → ArePut parties (before ++ entry ∷ entries) from to (length before + 1 + (length before + 1)) items
+    → ArePut parties (before ++ entry ∷ entries) from to (length before + length before) (gained parties before entry from to ++ items)
 unfolding gained
-gained-put parties before (Closed sender receiver) entries from to items later = put-weaker parties _ from to _ _ _ _ items (omega arith) (omega arith) later
-gained-put parties before (Routed sender k message) entries from to items later =
-    by (eqb sender from) refl (eqb to from && is_open before from from) refl (is_reached parties before from message to) refl
+gained-put parties before (Closed sender receiver) entries from to items later = put-weaker parties _ from to _ _ items (omega arith) later
+gained-put parties before (Routed sender k message) entries from to items later = by (eqb sender from) refl
   where
     whole : List Entry
     whole = before ++ Routed sender k message ∷ entries
 
-    here : eqb sender from ≡ true → slice_get whole (length before) ≡ Some (Routed from k message)
-    here same = slice_get-behind before (Routed sender k message) entries ∙ ap (λ party. Some (Routed party k message)) (eqb-true sender from same)
+    place : ℕ
+    place = length before
 
-    receipt : eqb sender from ≡ true → (eqb to from && is_open before from from) ≡ true → IsPut parties whole from to (length before) (Receipt k (reach parties before from message) (is_query message))
-    receipt same own =
-        let parts = and_parts _ _ own in
+    receipt : Item
+    receipt = Receipt k (reach parties before from message) (is_query message)
+
+    carried : Item
+    carried = Carried k (place + 1) message
+
+    put : eqb sender from ≡ true → (item : Item) → number_of item ≡ k → is_open before from to ≡ true → IsMadeOf parties before from to (place + 1) message item
+        → IsPut parties whole from to place item
+    put same item number still_open made =
         let front = take-append_seam before (Routed sender k message ∷ entries) in
         record {
           message = message;
-          routed = here same;
-          still_open = rw (front, eqb-true to from parts.0) parts.1;
-          made = rw front (refl, refl);
+          routed = rw number (slice_get-behind before (Routed sender k message) entries ∙ ap (λ party. Some (Routed party k message)) (eqb-true sender from same));
+          still_open = rw front still_open;
+          made = rw front made;
         }
 
-    carried : eqb sender from ≡ true → is_reached parties before from message to ≡ true → IsPut parties whole from to (length before) (Carried k (length before + 1) message)
-    carried same reached =
-        let front = take-append_seam before (Routed sender k message ∷ entries) in
-        record {
-          message = message;
-          routed = here same;
-          still_open = rw front (reached_open parties before from message to reached);
-          made = rw front (refl, refl, reached);
-        }
-
-    by : (a : Bool) → eqb sender from ≡ a → (b : Bool) → (eqb to from && is_open before from from) ≡ b → (c : Bool) → is_reached parties before from message to ≡ c
-        → ArePut parties whole from to (length before) (length before)
-        (cond a (cond b (Receipt k (reach parties before from message) (is_query message) ∷ []) [] ++ cond c (Carried k (length before + 1) message ∷ []) []) [] ++ items)
-    by false same b own c reached = put-weaker parties whole from to _ _ _ _ items (omega arith) (omega arith) later
-    by true same true own true reached = (length before, omega arith, receipt same own, (length before, omega arith, carried same reached, later))
-    by true same true own false reached = (length before, omega arith, receipt same own, put-weaker parties whole from to _ _ _ _ items (omega arith) (omega arith) later)
-    by true same false own true reached = (length before, omega arith, carried same reached, put-weaker parties whole from to _ _ _ _ items (omega arith) (omega arith) later)
-    by true same false own false reached = put-weaker parties whole from to _ _ _ _ items (omega arith) (omega arith) later
+    by : (a : Bool) → eqb sender from ≡ a
+        → ArePut parties whole from to (place + place)
+        (cond a (cond (eqb to from && is_open before from from) (receipt ∷ []) [] ++ cond (is_reached parties before from message to) (carried ∷ []) []) [] ++ items)
+    by false same = put-weaker parties whole from to _ _ items (omega arith) later
+    by true same =
+        let own = λ (e : (eqb to from && is_open before from from) ≡ true).
+        let parts = and_parts _ _ e in put same receipt refl (rw (eqb-true to from parts.0) parts.1) (refl, refl) in
+        let reached = λ (e : is_reached parties before from message to ≡ true). put same carried refl (reached_open parties before from message to e) (refl, refl, e) in
+        rw append_assoc
+        (put-maybe parties whole from to _ _ place receipt _ (omega arith) own
+        (put-maybe parties whole from to _ _ place carried items (omega arith) reached (put-weaker parties whole from to _ _ items (omega arith) later)))
 
 -- what the entries of a record put on a link, where others stand before them
 link-put : (parties : List (List (List ℕ))) (before entries : List Entry) (from to : ℕ)
-    → ArePut parties (before ++ entries) from to (length before) (length before) (link_items_after parties before entries from to)
+    → ArePut parties (before ++ entries) from to (length before + length before) (link_items_after parties before entries from to)
 link-put parties before [] from to = tt
 link-put parties before (entry ∷ entries) from to =
     gained-put parties before entry entries from to _
     (rw (append_assoc before (entry ∷ []) entries, length_push before entry) at (link-put parties (before ++ entry ∷ []) entries from to))
 
 -- so what was applied over a link was put there
-pub applied-put : (parties : List (List (List ℕ))) (entries : List Entry) (from to : ℕ) (submissions : List Message) (log : List LogEntry)
-    → IsLawfulLink parties entries from to submissions log → ArePut parties entries from to 0 0 (items_from log from)
+pub log-put : (st : State) (from to : ℕ) → IsLawful st → from < length st.parties → to < length st.parties → ArePut st.parties st.entries from to 0 (items_from (log_of st to) from)
 unfolding link_items
-applied-put parties entries from to submissions log link =
-    put-front parties entries from to 0 0 (items_from log from) link.applied.0 (rw link.applied.1 (link-put parties [] entries from to))
-
-pub log-put : (st : State) (from to : ℕ) → IsLawful st → from < length st.parties → to < length st.parties → ArePut st.parties st.entries from to 0 0 (items_from (log_of st to) from)
-log-put st from to lawful from_is_party to_is_party = applied-put st.parties st.entries from to _ (log_of st to) (lawful.of_link from to from_is_party to_is_party)
+log-put st from to lawful from_is_party to_is_party =
+    let applied = (lawful.of_link from to from_is_party to_is_party).applied in
+    put-front st.parties st.entries from to 0 (items_from (log_of st to) from) applied.0 (rw applied.1 (link-put st.parties [] st.entries from to))
 
 -- what holds of the items that a log has from each party holds of each entry
 pub each-entry : (P : ℕ → Item → Type 0) (count : ℕ) (log : List LogEntry) → AllByRecursion (λ (entry : LogEntry). entry.sender < count) log → ((sender : ℕ) → sender < count → All (P sender) (items_from log sender))

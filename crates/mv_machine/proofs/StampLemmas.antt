@@ -1,11 +1,10 @@
 -- The stamps of a log name places of the record, each of which has one sender; and the stamps on one link rise. So none stands
 -- twice in a log.
-use Rattle.std.proofs.Common.{◌≡◌, ℕ, zero, suc, ◌+◌, ◌<◌, List, [], ◌∷◌, length, Some, refl, ap, arith, ◌⊎◌, inl, inr}
+use Rattle.std.proofs.Common.{◌≡◌, ℕ, zero, suc, ◌+◌, ◌<◌, ◌≤◌, List, [], ◌∷◌, length, Some, refl, ap, arith, ◌⊎◌, inl, inr}
 use Rattle.std.specs.Prelude.{All, slice_get}
 use Rattle.std.proofs.lemmas.Grind.{common_steps}
 use Rattle.std.proofs.lemmas.Option.{gets}
 use Rattle.std.proofs.lemmas.Bool.{eq-eqb, cases_eq}
-use Rattle.std.proofs.lemmas.List.Elements.{All-nil, All-cons}
 use Rattle.std.specs.List.{AllByRecursion}
 use Rattle.mv_message.specs.declared.message.Message.{Message}
 use Rattle.mv_link.specs.declared.item.Item.{Item}
@@ -19,27 +18,27 @@ use Rattle.mv_repository.proofs.StampsLemmas.{stamp_in, stamp_at, HasNoStampTwic
 use Rattle.mv_machine.specs.State.{State, log_of}
 use Rattle.mv_machine.specs.Lawful.{IsLawful}
 use Rattle.mv_machine.specs.Stamps.{StampsAreDistinct, RepositoriesAgree}
-use Rattle.mv_machine.proofs.PutLemmas.{ArePut, put-rest, log-put, each-entry}
+use Rattle.mv_machine.proofs.PutLemmas.{IsPut, ArePut, turn, put-rest, put-each, log-put, each-entry}
 
 module _ (parties : List (List (List ℕ))) (entries : List Entry) (to : ℕ) where
   -- the items that a log has from each sender are put on their links
   abbrev IsPutLog : ℕ → List LogEntry → Type 0
-  IsPutLog count log = (sender : ℕ) → sender < count → ArePut parties entries sender to 0 0 (items_from log sender)
+  IsPutLog count log = (sender : ℕ) → sender < count → ArePut parties entries sender to 0 (items_from log sender)
 
   -- what a log has from a sender behind its first entry
   log-rest : (count : ℕ) (entry : LogEntry) (log : List LogEntry) → IsPutLog count (entry ∷ log) → IsPutLog count log
-  log-rest count entry log put sender is_party = grind (arith, put-rest parties entries sender to 0 0 entry.item (items_from log sender), put sender is_party)
+  log-rest count entry log put sender is_party = grind (arith, put-rest parties entries sender to 0 entry.item (items_from log sender), put sender is_party)
 
   -- no message that was put on a link has the stamp of another entry, nor of one before those that put them
-  other-stamps : (sender other place k carried receipts : ℕ) (message : Message) (items : List Item) → slice_get entries place ≡ Some (Routed other k message)
-      → (sender ≡ other → place < carried) → ArePut parties entries sender to carried receipts items → All (λ item. stamp_in item ≡ Some (place + 1) → ⊥) items
-  other-stamps sender other place k carried receipts message [] routed later put = All-nil (λ item. stamp_in item ≡ Some (place + 1) → ⊥)
-  other-stamps sender other place k carried receipts message (Receipt l reached query ∷ items) routed later put =
-      All-cons (λ item. stamp_in item ≡ Some (place + 1) → ⊥) _ items (grind arith) (other-stamps sender other place k carried (put.0 + 1) message items routed later put.3)
-  other-stamps sender other place k carried receipts message (Carried l stamp sent ∷ items) routed later put =
-      All-cons (λ item. stamp_in item ≡ Some (place + 1) → ⊥) _ items
-      (grind (arith, put.2.made.0, put.2.routed))
-      (other-stamps sender other place k (put.0 + 1) receipts message items routed (λ same. omega (arith, later same, put.1)) put.3)
+  other-stamps : (sender other place k least : ℕ) (message : Message) (items : List Item) → slice_get entries place ≡ Some (Routed other k message)
+      → (sender ≡ other → turn place (Carried k (place + 1) message) < least) → ArePut parties entries sender to least items
+      → All (λ item. stamp_in item ≡ Some (place + 1) → ⊥) items
+  other-stamps sender other place k least message items routed later =
+      put-each parties entries sender to (λ item. stamp_in item ≡ Some (place + 1) → ⊥) least apart items
+    where
+      apart : (at : ℕ) (item : Item) → least ≤ turn at item → IsPut parties entries sender to at item → stamp_in item ≡ Some (place + 1) → ⊥
+      apart at (Receipt l reached query) le put is = absurd (cc)
+      apart at (Carried l stamp sent) le put is = grind (arith, later, put.made.0, put.routed)
 
   -- the place of a log's first entry in the record, and what comes behind
   stamp-none : (stamp : ℕ) (log : List LogEntry) (place : ℕ) → All (λ entry. stamp_in entry.item ≡ Some stamp → ⊥) log → stamp_at log place ≡ Some stamp → ⊥
@@ -51,7 +50,7 @@ module _ (parties : List (List (List ℕ))) (entries : List Entry) (to : ℕ) wh
   first-alone count entry log place stamp all put is_party first at =
       by entry.item (rw (eq-eqb entry.sender entry.sender refl) at (put entry.sender is_party)) first
     where
-      by : (item : Item) → ArePut parties entries entry.sender to 0 0 (item ∷ items_from log entry.sender) → stamp_in item ≡ Some stamp → ⊥
+      by : (item : Item) → ArePut parties entries entry.sender to 0 (item ∷ items_from log entry.sender) → stamp_in item ≡ Some stamp → ⊥
       by (Receipt k reached query) own is = absurd (cc)
       by (Carried k given message) own is =
           let stamp_is : stamp ≡ own.0 + 1 = cc (is, own.2.made.0) in
@@ -59,11 +58,11 @@ module _ (parties : List (List (List ℕ))) (entries : List Entry) (to : ℕ) wh
           (each-entry (λ sender item. stamp_in item ≡ Some stamp → ⊥) count log all (λ sender lt. rw stamp_is (among sender (cases_eq sender entry.sender) (log-rest count entry log put sender lt))))
           at
         where
-          among : (sender : ℕ) → (sender ≡ entry.sender) ⊎ (sender ≡ entry.sender → ⊥) → ArePut parties entries sender to 0 0 (items_from log sender)
+          among : (sender : ℕ) → (sender ≡ entry.sender) ⊎ (sender ≡ entry.sender → ⊥) → ArePut parties entries sender to 0 (items_from log sender)
               → All (λ item. stamp_in item ≡ Some (own.0 + 1) → ⊥) (items_from log sender)
           among sender (inl same) put =
-              other-stamps sender entry.sender own.0 k (own.0 + 1) 0 own.2.message (items_from log sender) own.2.routed (λ _. omega arith) (rw same own.3)
-          among sender (inr other) put = other-stamps sender entry.sender own.0 k 0 0 own.2.message (items_from log sender) own.2.routed (λ same. absurd (other same)) put
+              other-stamps sender entry.sender own.0 k (own.0 + own.0 + 1 + 1) own.2.message (items_from log sender) own.2.routed (λ _. omega arith) (rw same own.3)
+          among sender (inr other) put = other-stamps sender entry.sender own.0 k 0 own.2.message (items_from log sender) own.2.routed (λ same. absurd (other same)) put
 
   log-distinct : (count : ℕ) (log : List LogEntry) → AllByRecursion (λ (entry : LogEntry). entry.sender < count) log → IsPutLog count log → HasNoStampTwice log
   log-distinct count [] all put first second stamp a b = absurd (cc)

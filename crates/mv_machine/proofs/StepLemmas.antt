@@ -5,13 +5,12 @@ use Rattle.mv_pack.specs.declared.key.PackKey.{PackKey}
 use Rattle.mv_message.specs.declared.message.Message.{Message}
 use Rattle.mv_link.specs.declared.item.Item.{Item}
 use Rattle.mv_link.specs.declared.incoming.Look.TheVariants as look
-use Rattle.mv_link.proofs.LinkLemmas.{next-number}
+use Rattle.mv_link.proofs.CallerLemmas.{next-number}
 use Rattle.mv_hub.specs.Hub.{route_fault, with_routed, with_relayed, with_closed, items_on, sent_of}
 use Rattle.mv_hub.specs.Record.{routed_count, is_open}
 use Rattle.mv_party.specs.Site.{with_submission, with_applied, answers_in}
 use Rattle.mv_party.specs.Calls.{ask_fault, apply_fault}
-use Rattle.mv_party.proofs.AnswerLemmas.{no_answer}
-use Rattle.mv_party.proofs.SiteLemmas.{submit-free}
+use Rattle.mv_party.proofs.CallerLemmas.{no_answer, submit-free}
 use Rattle.mv_machine.specs.declared.step.Step.{Step}
 use Rattle.mv_machine.specs.declared.step.Step.TheVariants.{Submit, Verify, Route, Relay, Apply, Repeat, Close, Lose, Verdict}
 use Rattle.mv_machine.specs.declared.reply.Reply.{Reply}
@@ -93,7 +92,6 @@ refusals_change_nothing =
 pub run-keeps : (P : State → Type 0) → ((old new : State) (quiet : Bool) → Change old quiet new → P old → P new)
     → (old : State) (steps : List Step) (replies : List Reply) (new : State) → Runs old steps replies new → P old → P new
 run-keeps P keeps old [] [] new run here = subst P (sym run) here
-run-keeps P keeps old [] (reply ∷ replies) new run here = absurd run
-run-keeps P keeps old (step ∷ steps) [] new run here = absurd run
 run-keeps P keeps old (step ∷ steps) (reply ∷ replies) new run here =
     run-keeps P keeps run.0 steps replies new run.2 (keeps old run.0 _ (step-changes old step reply run.0 run.1) here)
+run-keeps P keeps old steps replies new run here = absurd run

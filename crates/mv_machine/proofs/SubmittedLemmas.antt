@@ -1,9 +1,9 @@
 -- What a lawful state applied is what was submitted: each item of a link is put there by the routing of one message, whose number
 -- is one more than those before it.
-use Rattle.std.proofs.Common.{◌≡◌, ℕ, zero, suc, ◌+◌, ◌-◌, ◌<◌, ◌≤◌, List, [], ◌∷◌, ◌++◌, length, take, drop, Some, sym, refl, ap, ◌∙◌, arith}
-use Rattle.std.specs.Prelude.{slice_get, filter, map, not}
+use Rattle.std.proofs.Common.{◌≡◌, ℕ, zero, suc, ◌+◌, ◌-◌, ◌<◌, ◌≤◌, List, [], ◌∷◌, ◌++◌, length, take, drop, Some, sym, refl, ap, ◌∙◌, arith, inl, inr}
+use Rattle.std.specs.Prelude.{slice_get, filter, map, not, Bool, true}
 use Rattle.std.specs.List.Sorted.{IsStrictlyIncreasing}
-use Rattle.std.proofs.lemmas.Bool.{eq-eqb}
+use Rattle.std.proofs.lemmas.Bool.{cases_Bool, eq-eqb}
 use Rattle.std.proofs.lemmas.List.{take-append-drop, take-take, take_more}
 use Rattle.std.proofs.lemmas.Option.{slice_get_within, get_or_from_slice_get}
 use Rattle.mv_message.specs.declared.message.Message.{Message}
@@ -17,9 +17,8 @@ use Rattle.mv_repository.specs.Log.{items_from}
 use Rattle.mv_machine.specs.State.{State, log_of}
 use Rattle.mv_machine.specs.Lawful.{IsLawfulRecord, IsLawful}
 use Rattle.mv_machine.specs.Headline.{IsRoutedAt, IsOfSubmission, AppliedIsSubmitted, is_carried, NumbersRise}
-use Rattle.mv_machine.specs.PartLaws.{RecordsAreNumbered}
 use Rattle.mv_machine.proofs.PrefixLemmas.{slice_get-append}
-use Rattle.mv_machine.proofs.PutLemmas.{IsPut, ArePut, put-each, log-put, each-entry, routed_count-push}
+use Rattle.mv_machine.proofs.PutLemmas.{IsPut, ArePut, turn, put-each, log-put, each-entry, routed_count-push}
 
 -- the message of an entry stands among those of its sender where it is routed
 routed-at : (entries : List Entry) (place from k : ℕ) (message : Message) → slice_get entries place ≡ Some (Routed from k message)
@@ -28,20 +27,16 @@ routed-at [] place from k message at = absurd (cc)
 routed-at (entry ∷ entries) zero from k message at = grind arith
 routed-at (entry ∷ entries) (suc place) from k message at = grind (arith, routed-at entries place from k message at)
 
--- so a message is routed under its number among those that were routed from its sender
-pub records_are_numbered : RecordsAreNumbered
-records_are_numbered count entries place from k message lawful at =
-    let own = (lawful.fits place (Routed from k message) at).1 in
-    (omega (arith, own), ap (slice_get (routed_from entries from)) (omega (arith, own)) ∙ routed-at entries place from k message at)
-
+-- so it stands under its number among those that its sender submitted
 routed_as : (st : State) (from k place : ℕ) (message : Message) → IsLawful st → from < length st.parties
     → slice_get st.entries place ≡ Some (Routed from k message) → IsRoutedAt st from k (place + 1) message
 routed_as st from k place message lawful is_party at =
-    let number = records_are_numbered (length st.parties) st.entries place from k message lawful.of_record at in
+    let number = (lawful.of_record.fits place (Routed from k message) at).1 in
+    let before : k - 1 ≡ routed_count (take place st.entries) from = omega (arith, number) in
     let order = (lawful.of_link from from is_party is_party).routed in
     record {
-      numbered = number.0;
-      submitted = ap (λ l. slice_get l (k - 1)) (sym order.1) ∙ slice_get-append (routed_from st.entries from) order.0 (k - 1) message number.1;
+      numbered = omega (arith, number);
+      submitted = rw (before, ← order.1) (slice_get-append (routed_from st.entries from) order.0 _ message (routed-at st.entries place from k message at));
       stamped = omega arith;
       routed = grind (arith, at);
     }
@@ -57,15 +52,8 @@ of_submission st from to place (Receipt k reached query) lawful is_party put =
 pub applied_submitted : (st : State) → IsLawful st → AppliedIsSubmitted st
 applied_submitted st lawful party is_party =
     each-entry (λ sender item. (sender < length st.parties) × IsOfSubmission st sender party item) (length st.parties) (log_of st party) (lawful.of_party party is_party).from_parties (λ sender lt.
-    put-each st.parties st.entries sender party (λ item. (sender < length st.parties) × IsOfSubmission st sender party item) (λ place item put. (lt, of_submission st sender party place item lawful lt put))
-    0 0 (items_from (log_of st party) sender) (log-put st sender party lawful lt is_party))
-
--- the numbers of what came with its message, and of what a receipt came for
-abbrev carried_numbers : List Item → List ℕ
-carried_numbers items = map number_of (filter is_carried items)
-
-abbrev receipt_numbers : List Item → List ℕ
-receipt_numbers items = map number_of (filter (λ item. not (is_carried item)) items)
+    put-each st.parties st.entries sender party (λ item. (sender < length st.parties) × IsOfSubmission st sender party item) 0
+    (λ place item turn put. (lt, of_submission st sender party place item lawful lt put)) (items_from (log_of st party) sender) (log-put st sender party lawful lt is_party))
 
 -- numbers that rise from one on
 abbrev Ascends : ℕ → List ℕ → Type 0
@@ -73,10 +61,9 @@ Ascends least [] = Unit {0}
 Ascends least (x ∷ xs) = (least < x) × Ascends x xs
 
 increasing : (least : ℕ) (xs : List ℕ) → Ascends least xs → IsStrictlyIncreasing xs
-increasing least [] up k within = absurd (omega arith)
-increasing least (x ∷ []) up k within = absurd (omega arith)
 increasing least (x ∷ y ∷ xs) up zero within = up.1.0
 increasing least (x ∷ y ∷ xs) up (suc k) within = grind (arith, increasing x (y ∷ xs) up.1 k)
+increasing least xs up k within = absurd (omega arith)
 
 -- more are routed from a party before a later place
 routed_count-later : (entries : List Entry) (one other from : ℕ) → one ≤ other → routed_count (take one entries) from ≤ routed_count (take other entries) from
@@ -97,24 +84,24 @@ module _ (parties : List (List (List ℕ))) (entries : List Entry) (from to : �
       let one : routed_count (entry ∷ []) from ≡ 1 = rw (eq-eqb from from refl) in
       (omega (arith, own, before), rw more (omega (arith, own, one, routed_count-push (take place entries) (entry ∷ []) from)))
 
-  carried-rise : (carried receipts : ℕ) (items : List Item) → ArePut parties entries from to carried receipts items → Ascends (routed_count (take carried entries) from) (carried_numbers items)
-  carried-rise carried receipts [] put = tt
-  carried-rise carried receipts (Receipt k reached query ∷ items) put = carried-rise carried (put.0 + 1) items put.3
-  carried-rise carried receipts (Carried k stamp message ∷ items) put =
-      let rises = number-rises carried put.0 k put.2.message put.1 put.2.routed in
-      (rises.0, rw rises.1 at (carried-rise (put.0 + 1) receipts items put.3))
-
-  receipts-rise : (carried receipts : ℕ) (items : List Item) → ArePut parties entries from to carried receipts items → Ascends (routed_count (take receipts entries) from) (receipt_numbers items)
-  receipts-rise carried receipts [] put = tt
-  receipts-rise carried receipts (Carried k stamp message ∷ items) put = receipts-rise (put.0 + 1) receipts items put.3
-  receipts-rise carried receipts (Receipt k reached query ∷ items) put =
-      let rises = number-rises receipts put.0 k put.2.message put.1 put.2.routed in
-      (rises.0, rw rises.1 at (receipts-rise carried (put.0 + 1) items put.3))
+  -- the numbers of the items of one kind, which of each entry come at the same turn
+  kind-rises : (P : Item → Bool) (kind : ℕ) → ((item : Item) (place : ℕ) → P item ≡ true → turn place item ≡ place + place + kind)
+      → (place least : ℕ) (items : List Item) → place + place + kind ≤ least + 1 → ArePut parties entries from to least items
+      → Ascends (routed_count (take place entries) from) (map number_of (filter P items))
+  kind-rises P kind turns place least [] le put = tt
+  kind-rises P kind turns place least (item ∷ items) le put = elim (cases_Bool (P item)) [
+    | inl e ↦
+        let here = turns item put.0 e in
+        let rises = number-rises place put.0 (number_of item) put.2.message (omega (arith, le, put.1, here)) put.2.routed in
+        rw e (rises.0, rw rises.1 at (kind-rises P kind turns (put.0 + 1) (turn put.0 item + 1) items (omega (arith, here)) put.3))
+    | inr e ↦ rw e (kind-rises P kind turns place (turn put.0 item + 1) items (omega (arith, le, put.1)) put.3)
+  ]
 
 pub numbers_rise : (st : State) → IsLawful st → NumbersRise st
 numbers_rise st lawful from to from_is_party to_is_party =
+    let put = log-put st from to lawful from_is_party to_is_party in
     let items = items_from (log_of st to) from in
-    let put = log-put st from to lawful from_is_party to_is_party in (
-      increasing _ (carried_numbers items) (carried-rise st.parties st.entries from to lawful.of_record 0 0 items put),
-      increasing _ (receipt_numbers items) (receipts-rise st.parties st.entries from to lawful.of_record 0 0 items put),
+    let rise = kind-rises st.parties st.entries from to lawful.of_record in (
+      increasing _ _ (rise is_carried 1 (λ item place. grind arith) 0 0 items (omega arith) put),
+      increasing _ _ (rise (λ item. not (is_carried item)) 0 (λ item place. grind arith) 0 0 items (omega arith) put),
     )

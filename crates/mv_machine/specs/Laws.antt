@@ -2,16 +2,18 @@
 use Rattle.std.specs.Prelude.{◌≡◌, ◌<◌, ◌≤◌, ◌+◌, ◌-◌, ℕ, List, length, nat_lt}
 use Rattle.mv_pack.specs.declared.key.PackKey.{PackKey}
 use Rattle.mv_message.specs.declared.message.Message.{Message}
+use Rattle.mv_hub.specs.declared.entry.Entry.{Entry}
 use Rattle.mv_hub.specs.Hub.{items_on, sent_of, is_busy, next_items}
-use Rattle.mv_repository.specs.Agreement.{AgreeOn}
+use Rattle.mv_hub.specs.Record.{routed_count}
 use Rattle.mv_machine.specs.declared.step.Step.{Step}
 use Rattle.mv_machine.specs.declared.reply.Reply.{Reply}
+use Rattle.mv_link.specs.declared.limits.TheConstants.{PARTIES_LIMIT}
 use Rattle.mv_party.specs.declared.limits.TheConstants.{SUBMISSIONS_LIMIT}
-use Rattle.mv_machine.specs.Limits.{Bounds}
-use Rattle.mv_machine.specs.State.{State, submissions_of, log_of, applied_count, hub_of, opening}
+use Rattle.mv_machine.specs.Limits.{Bounds, most_entries}
+use Rattle.mv_machine.specs.State.{State, submissions_of, hub_of, opening}
 use Rattle.mv_machine.specs.Steps.{ask}
 use Rattle.mv_machine.specs.Runs.{Meets, Allows, Runs}
-use Rattle.mv_machine.specs.Lawful.{IsLawful, IsWellFormed}
+use Rattle.mv_machine.specs.Lawful.{IsLawful, IsLawfulRecord, IsWellFormed}
 use Rattle.mv_machine.specs.Closing.{NothingRoutedLater, NothingSubmittedLater}
 use Rattle.mv_machine.specs.Headline.{Follows, HeadlineHolds}
 
@@ -35,16 +37,18 @@ abbrev pub ClosedLinksStayClosed : Type 0
 ClosedLinksStayClosed = InRuns (λ between. (steps : List Step) (replies : List Reply) (new : State) → Runs between steps replies new
     → NothingSubmittedLater between new × NothingRoutedLater new)
 
+-- A lawful record of no more parties than there may be, from none of whom more was routed than it may submit, has far fewer than 2 ^ 32
+-- entries: each link is closed once at most.
+abbrev pub StampsSuffice : Type 0
+StampsSuffice = (count : ℕ) (entries : List Entry) → IsLawfulRecord count entries → count ≤ PARTIES_LIMIT
+    → ((party : ℕ) → party < count → routed_count entries party ≤ SUBMISSIONS_LIMIT) → length entries ≤ most_entries
+
 -- In a lawful state a link is busy for a message of a party that submitted no more than it may only where its window has no room: a link
 -- carries two items at most for each message, so that their numbers have far fewer than 32 bits.
 abbrev pub NumbersSuffice : Type 0
 NumbersSuffice = (st : State) (from to : ℕ) (message : Message) → IsLawful st → from < length st.parties
     → length (submissions_of st from) ≤ SUBMISSIONS_LIMIT → let hub = hub_of st in is_busy hub from message to
     ≡ nat_lt hub.window (length (items_on hub from to) - sent_of hub from to + length (next_items hub from message to))
-
--- a state that follows one that follows a third follows that
-abbrev pub FollowsIsTransitive : Type 0
-FollowsIsTransitive = (first second third : State) → Follows first second → Follows second third → Follows first third
 
 -- of two lawful states, of which one follows the other, the headline holds; its clause on closed links too
 abbrev pub LawfulStatesKeepHeadline : Type 0
@@ -53,11 +57,3 @@ LawfulStatesKeepHeadline = (old new : State) → IsLawful old → IsWellFormed n
 -- the headline from a first state to a second, and from that to a third, is the headline from the first to the third
 abbrev pub HeadlinesJoin : Type 0
 HeadlinesJoin = (first second third : State) → HeadlineHolds first second → HeadlineHolds second third → HeadlineHolds first third
-
--- Two lawful states have the same parties and the same record, whatever steps led to each: a party's repository that applied as
--- many items of each sender in both says the same of every pack.
-abbrev pub RecordsDecide : Type 0
-RecordsDecide = (one other : State) → IsLawful one → IsLawful other → other.parties ≡ one.parties → other.entries ≡ one.entries
-    → (party : ℕ) → party < length one.parties
-    → ((from : ℕ) → from < length one.parties → applied_count other from party ≡ applied_count one from party)
-    → (pack : PackKey) → AgreeOn pack (log_of one party) (log_of other party)

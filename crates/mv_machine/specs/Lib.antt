@@ -8,5 +8,4 @@ pub mod Closing
 pub mod Stamps
 pub mod Headline
 pub mod Bounded
-pub mod PartLaws
 pub mod Laws

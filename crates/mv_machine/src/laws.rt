@@ -3,13 +3,12 @@
 ghost use Rattle.std.specs.Prelude.{◌≡◌, IsTrue};
 ghost use Rattle.mv_machine.specs.Replies.{changes_nothing};
 ghost use Rattle.mv_machine.specs.Lawful.{IsLawful, IsWellFormed};
-ghost use Rattle.mv_machine.specs.Closing.{NothingRoutedLater};
-ghost use Rattle.mv_machine.specs.Stamps.{StampsAreDistinct, RepositoriesAgree};
-ghost use Rattle.mv_machine.specs.Headline.{Follows, AppliedIsSubmitted, NumbersRise};
+ghost use Rattle.mv_machine.specs.Stamps.{StampsAreDistinct};
+ghost use Rattle.mv_machine.specs.Headline.{AppliedIsSubmitted, NumbersRise, HeadlineHolds};
 ghost use Rattle.mv_machine.specs.Bounded.{KeepsLimits};
 ghost use Rattle.mv_machine.specs.Laws.{InRuns, InLawfulStates, InSteps, ClosedLinksStayClosed};
-ghost use Rattle.mv_machine.specs.Laws.{NumbersSuffice, FollowsIsTransitive};
-ghost use Rattle.mv_machine.specs.Laws.{LawfulStatesKeepHeadline, HeadlinesJoin, RecordsDecide};
+ghost use Rattle.mv_machine.specs.Laws.{StampsSuffice, NumbersSuffice, LawfulStatesKeepHeadline};
+ghost use Rattle.mv_machine.specs.Laws.{HeadlinesJoin};
 
 /// Whatever the steps and whatever their order: what each repository applied from each sender is a prefix of what the record
 /// put on their link, in order and each once, and what was routed is a prefix of what its sender submitted.
@@ -26,28 +25,18 @@ pub fn closed_links_stay_closed()
     ensures { ClosedLinksStayClosed }
 {}
 
-/// In every lawful state, a link is busy for a message only where its window has no room: the numbers of 32 bits suffice for its items.
-#[tactic(auto, using(crate::proofs::BoundLemmas::numbers_suffice))]
+/// The numbers of 32 bits suffice, where there are at most 64 parties, each of which submitted at most 1,000,000 messages: for the stamps of
+/// every lawful record, and in every lawful state for the items of a link, so that it is busy for a message only where its window has no room.
+#[tactic(auto, using(crate::proofs::BoundLemmas::stamps_suffice, crate::proofs::BoundLemmas::numbers_suffice))]
 pub fn numbers_suffice()
-    ensures { NumbersSuffice }
+    ensures stamps { StampsSuffice }
+    ensures numbers { NumbersSuffice }
 {}
 
 /// In every lawful state, no stamp stands twice in a log.
 #[tactic(auto, using(crate::proofs::StampLemmas::stamps_distinct))]
 pub fn stamps_are_distinct()
     ensures { InLawfulStates StampsAreDistinct }
-{}
-
-/// In every lawful state, two repositories whose logs have the same messages about a pack agree on it, in whatever order these
-/// came: on its state, the recall of its batch, the withdrawal of its product, and the verdict.
-pub fn repositories_agree()
-    ensures { InLawfulStates RepositoriesAgree }
-{}
-
-/// In every lawful state, nothing was applied over a link that was routed after its closing.
-#[tactic(auto, using(crate::proofs::ClosingLemmas::nothing_routed_later))]
-pub fn closings_hold()
-    ensures { InLawfulStates NothingRoutedLater }
 {}
 
 /// In every lawful state, item `k` in the log of a repository from a sender is the `k`-th message that the sender submitted, and its
@@ -57,12 +46,6 @@ pub fn closings_hold()
 pub fn items_are_submitted()
     ensures submitted { InLawfulStates AppliedIsSubmitted }
     ensures rising { InLawfulStates NumbersRise }
-{}
-
-/// A state that follows one that follows a third follows that.
-#[tactic(auto, using(crate::proofs::ClosingLemmas::follows_further))]
-pub fn follows_is_transitive()
-    ensures { FollowsIsTransitive }
 {}
 
 /// Of two lawful states, of which one follows the other, the headline holds: what was applied was submitted, in order and each
@@ -79,10 +62,10 @@ pub fn headlines_join()
     ensures { HeadlinesJoin }
 {}
 
-/// Each step, and each query that is asked, leads to a later state.
-#[tactic(auto, using(crate::proofs::ClosingLemmas::steps_follow))]
-pub fn steps_follow()
-    ensures { InSteps (λ old reply new. Follows old new) }
+/// The headline holds over each step, and over each query that is asked, where the state before it is lawful.
+#[tactic(auto, using(crate::proofs::HeadlineLemmas::steps_keep_headline))]
+pub fn steps_keep_headline()
+    ensures { InSteps (λ old reply new. IsWellFormed old → IsLawful old → HeadlineHolds old new) }
 {}
 
 /// A step or a query that is refused has changed nothing, nor has one that is answered by a verdict.
@@ -96,10 +79,4 @@ pub fn refusals_change_nothing()
 #[tactic(auto, using(crate::proofs::LimitLemmas::limits_kept))]
 pub fn limits_are_kept()
     ensures { InRuns KeepsLimits }
-{}
-
-/// Two runs that come to the same record: a repository that applied as many items of each sender in both says the same of every
-/// pack.
-pub fn records_decide()
-    ensures { RecordsDecide }
 {}

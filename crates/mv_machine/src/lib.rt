@@ -22,20 +22,14 @@
 
 mod laws;
 mod limits;
-mod part_laws;
 mod reply;
 mod step;
 
 pub use laws::{
-    closed_links_stay_closed, closings_hold, follows_is_transitive, headlines_join,
-    items_are_submitted, lawful_states_keep_headline, limits_are_kept, numbers_suffice,
-    records_decide, refusals_change_nothing, repositories_agree, runs_are_lawful,
-    stamps_are_distinct, steps_follow,
+    closed_links_stay_closed, headlines_join, items_are_submitted, lawful_states_keep_headline,
+    limits_are_kept, numbers_suffice, refusals_change_nothing, runs_are_lawful,
+    stamps_are_distinct, steps_keep_headline,
 };
 pub use limits::{Limits, LimitsFault, UPLINK_LIMIT, WIRE_LIMIT};
-pub use part_laws::{
-    links_stay_closed, links_stay_lawful, records_are_numbered, records_are_short,
-    records_stay_lawful,
-};
 pub use reply::{Refusal, Reply};
 pub use step::Step;

@@ -1,1 +1,1 @@
-pub mod PairsLemmas
+pub mod CallerLemmas

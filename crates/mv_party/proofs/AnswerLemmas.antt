@@ -1,36 +1,20 @@
 -- The answers among what a party submits are those that its repository's log calls for.
-use Rattle.std.proofs.Common.{◌≡◌, ℕ, false, List, [], ◌∷◌, ◌++◌, sym, refl, ap, ◌∙◌, append_assoc, append-nil}
+use Rattle.std.proofs.Common.{◌≡◌, ℕ, false, List, [], ◌∷◌, ◌++◌, sym, refl, ap, ◌∙◌, append_assoc, append-nil, arith}
 use Rattle.std.specs.Prelude.{option_to_list}
 use Rattle.mv_message.specs.declared.message.Message.{Message}
-use Rattle.mv_message.specs.declared.message.Message.TheVariants.{Master, Upload, Status, Recall, Repack, Withdraw, Query, Answer}
 use Rattle.mv_message.specs.Kinds.{is_query_or_answer}
 use Rattle.mv_link.specs.declared.item.Item.{Item}
-use Rattle.mv_link.specs.declared.item.Item.TheVariants.{Receipt, Carried}
 use Rattle.mv_repository.specs.declared.entry.LogEntry.{LogEntry}
 use Rattle.mv_repository.specs.Query.{answer_after, answer_to, answers_from, answers_of}
 use Rattle.mv_party.specs.Site.{answers_in}
 
 pub answers_in-append : (xs ys : List Message) → answers_in (xs ++ ys) ≡ answers_in xs ++ answers_in ys
 answers_in-append [] ys = refl
-answers_in-append (Answer asker q key found ∷ xs) ys = ap (λ l. Answer asker q key found ∷ l) (answers_in-append xs ys)
-answers_in-append (Master gtin product ∷ xs) ys = answers_in-append xs ys
-answers_in-append (Upload gtin batch expiry national serials ∷ xs) ys = answers_in-append xs ys
-answers_in-append (Status key to user at ∷ xs) ys = answers_in-append xs ys
-answers_in-append (Recall key at ∷ xs) ys = answers_in-append xs ys
-answers_in-append (Repack before before_serials after after_serials at ∷ xs) ys = answers_in-append xs ys
-answers_in-append (Withdraw gtin at ∷ xs) ys = answers_in-append xs ys
-answers_in-append (Query key ∷ xs) ys = answers_in-append xs ys
+answers_in-append (message ∷ xs) ys = grind (arith, answers_in-append xs ys)
 
 -- what a party may submit is no answer
 pub no_answer : (message : Message) → is_query_or_answer message ≡ false → answers_in (message ∷ []) ≡ []
-no_answer (Answer asker q key found) e = absurd (cc)
-no_answer (Master gtin product) e = refl
-no_answer (Upload gtin batch expiry national serials) e = refl
-no_answer (Status key to user at) e = refl
-no_answer (Recall key at) e = refl
-no_answer (Repack before before_serials after after_serials at) e = refl
-no_answer (Withdraw gtin at) e = refl
-no_answer (Query key) e = refl
+no_answer message e = grind (arith, e)
 
 -- one more message that is no answer
 pub answers_in-more : (messages : List Message) (message : Message) → answers_in (message ∷ []) ≡ [] → answers_in (messages ++ message ∷ []) ≡ answers_in messages
@@ -38,15 +22,7 @@ answers_in-more messages message none = answers_in-append messages (message ∷ 
 
 -- what an item calls for is an answer
 called_for : (log : List LogEntry) (sender : ℕ) (item : Item) → answers_in (option_to_list (answer_after log sender item)) ≡ option_to_list (answer_after log sender item)
-called_for log sender (Receipt k reach query) = refl
-called_for log sender (Carried k stamp (Answer asker q key found)) = refl
-called_for log sender (Carried k stamp (Master gtin product)) = refl
-called_for log sender (Carried k stamp (Upload gtin batch expiry national serials)) = refl
-called_for log sender (Carried k stamp (Status key to user at)) = refl
-called_for log sender (Carried k stamp (Recall key at)) = refl
-called_for log sender (Carried k stamp (Repack before before_serials after after_serials at)) = refl
-called_for log sender (Carried k stamp (Withdraw gtin at)) = refl
-called_for log sender (Carried k stamp (Query key)) = refl
+called_for log sender item = grind arith
 
 answers_from-push : (before log : List LogEntry) (entry : LogEntry) → answers_from before (log ++ entry ∷ []) ≡ answers_from before log ++ option_to_list (answer_to (before ++ log) entry)
 answers_from-push before [] entry = append-nil (option_to_list (answer_to before entry)) ∙ ap (λ b. option_to_list (answer_to b entry)) (sym (append-nil before))

@@ -1,8 +1,9 @@
 -- What a party keeps with one more submission, and with one more item of its repository.
-use Rattle.std.proofs.Common.{◌≡◌, ℕ, ◌+◌, ◌<◌, ◌≤◌, ◌≢◌, Bool, true, false, List, [], ◌∷◌, ◌++◌, length, cond, set, get_or, length-set, eqb, eqb-true, Option, Some, None, Ok, sym, refl, ap, ◌∙◌, subst, arith, add-zero, length-append, get_or-set_same, get_or-set_other}
+use Rattle.std.proofs.Common.{◌≡◌, ℕ, ◌+◌, ◌<◌, ◌≤◌, ◌≢◌, Bool, false, List, [], ◌∷◌, ◌++◌, length, cond, set, get_or, length-set, eqb, Option, Some, None, Ok, refl, ◌∙◌, arith, length-append}
 use Rattle.std.specs.List.{AllByRecursion}
-use Rattle.std.specs.Prelude.{option_to_list, ◌||◌}
-use Rattle.std.proofs.lemmas.Bool.{eqb-false}
+use Rattle.std.specs.Prelude.{option_to_list}
+use Rattle.std.proofs.lemmas.Bool.{cases_eq}
+use Rattle.std.proofs.lemmas.Grind.{elements}
 use Rattle.mv_message.specs.declared.message.Message.{Message}
 use Rattle.mv_message.specs.Kinds.{is_query_or_answer}
 use Rattle.mv_link.specs.declared.item.Item.{Item}
@@ -11,23 +12,15 @@ use Rattle.mv_repository.specs.Log.{items_from}
 use Rattle.mv_repository.specs.Query.{answer_to}
 use Rattle.mv_repository.specs.Repository.{RepositoryState, with_applied as repository_with}
 use Rattle.mv_party.specs.declared.fault.SiteFault.{SiteFault}
-use Rattle.mv_party.specs.declared.fault.SiteFault.TheVariants.{NotYours, UplinkFull, SenderFull, AnswerBusy}
-use Rattle.mv_party.specs.Site.{SiteState, entry_from, count_from, is_full, answers_in, IsLawfulParty}
+use Rattle.mv_party.specs.Site.{SiteState, entry_from, count_from, answers_in, IsLawfulParty}
 use Rattle.mv_party.specs.Calls.{unless_fault, ask_fault, submit_fault, answer_fault}
 use Rattle.mv_party.specs.Kept.{site_of, IsSite}
 use Rattle.mv_party.proofs.AnswerLemmas.{answers_in-more, answers_in-applied}
 
--- a choice of what goes first
-cond-append : {A : Type 0} (b : Bool) (x : A) (xs ys : List A) → cond b (x ∷ xs) xs ++ ys ≡ cond b (x ∷ (xs ++ ys)) (xs ++ ys)
-cond-append true x xs ys = refl
-cond-append false x xs ys = refl
-
 -- the items of a party once an entry is last
 pub items_from-push : (log : List LogEntry) (entry : LogEntry) (party : ℕ) → items_from (log ++ entry ∷ []) party ≡ items_from log party ++ cond (eqb entry.sender party) (entry.item ∷ []) []
 items_from-push [] entry party = refl
-items_from-push (x ∷ log) entry party =
-    ap (λ l. cond (eqb x.sender party) (x.item ∷ l) l) (items_from-push log entry party)
-    ∙ sym (cond-append (eqb x.sender party) x.item (items_from log party) (cond (eqb entry.sender party) (entry.item ∷ []) []))
+items_from-push (x ∷ log) entry party = grind (arith, items_from-push log entry party)
 
 -- a party submitted a message that is no answer
 pub party-submitted : (count : ℕ) (submissions : List Message) (log : List LogEntry) (message : Message) → IsLawfulParty count submissions log
@@ -53,7 +46,7 @@ party-applied count submissions log entry lawful from_party = record {
 -- one more submission that is no answer
 pub submitted-kept : (site : SiteState) (accepted : List ℕ) (messages : List Message) (message : Message) → IsSite site accepted → length site.submissions < site.limit
     → answers_in (message ∷ []) ≡ [] → messages ≡ site.submissions ++ message ∷ [] → IsSite (record site { submissions = messages }) accepted
-submitted-kept site accepted messages message k room none more = subst (λ l. IsSite (record site { submissions = l }) accepted) (sym more) (record {
+submitted-kept site accepted messages message k room none more = rw more (record {
   lawful = party-submitted site.parties site.submissions site.log message k.lawful none;
   few = omega (arith, room, length-append site.submissions (message ∷ []));
   limit = k.limit;
@@ -62,29 +55,15 @@ submitted-kept site accepted messages message k room none more = subst (λ l. Is
 
 -- where a party can submit, its uplink has room, and it may submit more
 pub ask-free : (full : Bool) (site : SiteState) → ask_fault full site ≡ None → (full ≡ false) × (length site.submissions ≢ site.limit)
-ask-free true site free = absurd (cc)
-ask-free false site free = (refl, by (is_full site) refl free)
-  where
-    by : (same : Bool) → is_full site ≡ same → cond same (Some SenderFull) None ≡ None → length site.submissions ≢ site.limit
-    by true e free = absurd (cc)
-    by false e free = eqb-false (length site.submissions) site.limit e
+ask-free full site free = (grind (arith, free), grind (arith, free))
 
 pub submit-free : (full : Bool) (site : SiteState) (message : Message) → submit_fault full site message ≡ None
     → (is_query_or_answer message ≡ false) × (ask_fault full site ≡ None)
-submit-free full site message free = by (is_query_or_answer message) free
-  where
-    by : (taken : Bool) → cond taken (Some NotYours) (ask_fault full site) ≡ None → (taken ≡ false) × (ask_fault full site ≡ None)
-    by true free = absurd (cc)
-    by false free = (refl, free)
+submit-free full site message free = (grind (arith, free), grind (arith, free))
 
 -- where it can submit an answer, it can submit
 pub answer-free : (full : Bool) (site : SiteState) (answer : Message) → answer_fault full site (Some answer) ≡ None → ask_fault full site ≡ None
-answer-free full site answer free = by full (is_full site) free
-  where
-    by : (full same : Bool) → cond (full || same) (Some AnswerBusy) None ≡ None → cond full (Some UplinkFull) (cond same (Some SenderFull) None) ≡ None
-    by true same free = absurd (cc)
-    by false true free = absurd (cc)
-    by false false free = refl
+answer-free full site answer free = grind (arith, free)
 
 -- and then there is room for it
 pub answer-room : (full : Bool) (site : SiteState) (answer : Option Message) → length site.submissions ≤ site.limit → answer_fault full site answer ≡ None
@@ -95,35 +74,18 @@ answer-room full site (Some answer) few free =
 
 -- where a call only tells of a fault, and tells of none, there is none
 no_fault : (fault : Option SiteFault) (done : Unit {0}) → Ok done ≡ unless_fault fault → fault ≡ None
-no_fault None done told = refl
-no_fault (Some fault) done told = absurd (cc)
-
-length-one_if : {A : Type 0} (b : Bool) (x : A) → length (cond b (x ∷ []) []) ≡ cond b 1 0
-length-one_if true x = refl
-length-one_if false x = refl
+no_fault fault done told = grind (arith, told)
 
 -- how many items of each party are in a log, once one more is
 count-push : (log : List LogEntry) (sender : ℕ) (item : Item) (party : ℕ)
     → count_from (log ++ entry_from sender item ∷ []) party ≡ count_from log party + cond (eqb sender party) 1 0
-count-push log sender item party =
-    ap length (items_from-push log (entry_from sender item) party) ∙ length-append (items_from log party) (cond (eqb sender party) (item ∷ []) [])
-    ∙ ap (λ n. count_from log party + n) (length-one_if (eqb sender party) item)
+count-push log sender item party = rw (items_from-push log (entry_from sender item) party, length-append) (grind arith)
 
 -- how many items of each party were accepted, once one more is
 accepted-push : (log : List LogEntry) (accepted : List ℕ) (sender : ℕ) (item : Item) (party : ℕ) → sender < length accepted
     → get_or accepted sender 0 ≡ count_from log sender → get_or accepted party 0 ≡ count_from log party
     → get_or (set accepted sender (get_or accepted sender 0 + 1)) party 0 ≡ count_from (log ++ entry_from sender item ∷ []) party
-accepted-push log accepted sender item party lt own other = by (eqb sender party) refl
-  where
-    by : (same : Bool) → eqb sender party ≡ same
-        → get_or (set accepted sender (get_or accepted sender 0 + 1)) party 0 ≡ count_from (log ++ entry_from sender item ∷ []) party
-    by true e =
-        subst (λ p. eqb sender p ≡ true → get_or (set accepted sender (get_or accepted sender 0 + 1)) p 0 ≡ count_from (log ++ entry_from sender item ∷ []) p) (eqb-true sender party e)
-        (λ e. get_or-set_same accepted sender (get_or accepted sender 0 + 1) 0 lt
-        ∙ omega (arith, own, count-push log sender item sender, ap {B = ℕ} (λ b. cond b 1 0) e)) e
-    by false e =
-        get_or-set_other accepted sender party (get_or accepted sender 0 + 1) 0 (λ same. eqb-false sender party e (sym same)) ∙ other
-        ∙ sym (count-push log sender item party ∙ ap {B = ℕ} (λ b. count_from log party + cond b 1 0) e ∙ add-zero (count_from log party))
+accepted-push log accepted sender item party lt own other = grind (arith, elements, cases_eq party sender, count-push log sender item party)
 
 -- one more item, and the answer that it calls for
 pub applied-kept : (limit : ℕ) (submissions messages : List Message) (old new : RepositoryState) (accepted : List ℕ) (sender : ℕ) (item : Item) (count : ℕ) (full : Bool) (done : Unit {0})
@@ -132,12 +94,9 @@ pub applied-kept : (limit : ℕ) (submissions messages : List Message) (old new 
     → messages ≡ submissions ++ option_to_list (answer_to old.log (entry_from sender item)) → new ≡ repository_with old sender item → count ≡ get_or accepted sender 0 + 1
     → IsSite (site_of limit messages new (length (set accepted sender count))) (set accepted sender count)
 applied-kept limit submissions messages old new accepted sender item count full done k lt told more applied counted =
-    subst (λ n. IsSite (site_of limit messages new n) (set accepted sender count)) (sym (length-set accepted sender count))
-    (subst (λ n. IsSite (site_of limit messages new (length accepted)) (set accepted sender n)) (sym counted)
-    (subst (λ r. IsSite (site_of limit messages r (length accepted)) (set accepted sender (get_or accepted sender 0 + 1))) (sym applied)
-    (subst (λ l. IsSite (site_of limit l (repository_with old sender item) (length accepted)) (set accepted sender (get_or accepted sender 0 + 1))) (sym more) (record {
+    rw (length-set accepted sender count, counted, applied, more) (record {
       lawful = party-applied (length accepted) submissions old.log (entry_from sender item) k.lawful lt;
       few = answer-room full (site_of limit submissions old (length accepted)) (answer_to old.log (entry_from sender item)) k.few (no_fault _ done told);
       limit = k.limit;
       counts = λ party is_party. accepted-push old.log accepted sender item party lt (k.counts sender lt) (k.counts party is_party);
-    }))))
+    })

@@ -1,4 +1,3 @@
 pub mod Site
 pub mod Calls
 pub mod Kept
-pub mod Laws

@@ -21,13 +21,11 @@
 #![tactic(auto)]
 
 mod fault;
-mod laws;
 mod limits;
 mod site;
 mod taken;
 
 pub use fault::SiteFault;
-pub use laws::parties_stay_lawful;
 pub use limits::SUBMISSIONS_LIMIT;
 pub use site::{Site, is_query_or_answer};
 pub use taken::Taken;

@@ -1,6 +1,6 @@
 //! One party of a system.
 
-ghost use Rattle.std.specs.Prelude.{◌≡◌, ◌<◌, ◌≤◌, ◌+◌, ◌∷◌, [], ◌++◌, List, ℕ, length, replicate};
+ghost use Rattle.std.specs.Prelude.{◌≡◌, ◌<◌, ◌≤◌, ◌+◌, ◌∷◌, [], ◌++◌, List, ℕ, length};
 ghost use Rattle.std.specs.Prelude.{slice_get, vec_capacity, option_to_list, IfOk, OnOk, OnErr};
 ghost use Rattle.std.specs.Prelude.{IsErrOf, is_some, false};
 ghost use Rattle.std.specs.Option.{option_copied};
@@ -62,7 +62,7 @@ impl Site {
         requires { limit ≤ SUBMISSIONS_LIMIT }
         ensures { IfOk result (λ site. site ≡ new_site party parties limit) }
     {
-        let accepted = no_frames(alloc, parties)?;
+        let accepted = vec![in alloc; Incoming::new(); parties as usize]?;
         Ok(Site {
             alloc,
             limit,
@@ -266,17 +266,6 @@ fn put_answer(
     let count = submissions.len() as u32;
     submissions.push_reserved(answer);
     Some(count + 1)
-}
-
-/// Receiving ends, so many, that accepted nothing.
-fn no_frames(alloc: Global, parties: u32) -> Result<Vec<Incoming>, AllocError>
-    ensures { IfOk result (λ ends. ends.items ≡ replicate parties 0) }
-{
-    let mut ends = Vec::new(alloc);
-    for _ in 0..parties {
-        ends.push(Incoming::new())?;
-    }
-    Ok(ends)
 }
 
 /// Whether an item carries a query, which alone calls for an answer.

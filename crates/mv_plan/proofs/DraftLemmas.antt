@@ -8,7 +8,7 @@ use Rattle.std.proofs.lemmas.Bool.Decides.{eqb_tells}
 use Rattle.std.proofs.lemmas.List.{length-map, map-set, length-set, get_or-set_same, get_or-set_other, get_or-map}
 use Rattle.mv_message.specs.declared.message.Message.{Message}
 use Rattle.mv_party.specs.Site.{answers_in}
-use Rattle.mv_party.proofs.AnswerLemmas.{answers_in-append}
+use Rattle.mv_party.proofs.CallerLemmas.{answers_in-append}
 use Rattle.mv_machine.specs.Limits.{Bounds}
 use Rattle.mv_plan.specs.Drafts.{Parts, lists_of, parts_in, CanRun, with_message}
 

@@ -4,7 +4,7 @@ use Rattle.std.specs.Prelude.{IfSome, map, Option, Some, None, Ok, true, false, 
 use Rattle.std.specs.List.{fold}
 use Rattle.std.specs.Io.KnownBytes.{Consumes}
 use Rattle.mv_lines.specs.declared.fault.ServeFault.{ServeFault}
-use Rattle.mv_lines.specs.declared.fault.ServeFault.TheVariants.{Read, Write, Memory, TooManyLines, LineTooLong, Start}
+use Rattle.mv_lines.specs.declared.fault.ServeFault.TheVariants.{Read, Write, Memory, Start}
 use Rattle.mv_lines.specs.Replies.{ReplyRule, AreReplies}
 use Rattle.mv_lines.specs.Served.{Served, Ended}
 use Rattle.mv_lines.specs.Lines.{Line, pieces, lines_from, lines_of}
@@ -48,11 +48,7 @@ pub unread : {S : Type 0} (rule : ReplyRule S) (fault : ServeFault) (before : S)
 unread rule Read before input rest old new read (bytes, took, ended) = (bytes, took, ended.0)
 unread rule Write before input rest old new read (bytes, took, ended) = absurd (read refl)
 unread rule Start before input rest old new read (bytes, took, (out, written, stopped)) = absurd stopped.why
-unread rule Memory before input rest old new read (bytes, took, (out, written, stopped)) =
-    (bytes, took, (stopped.good, stopped.bad, stopped.cut, stopped.why, stopped.kept))
-unread rule TooManyLines before input rest old new read (bytes, took, (out, written, stopped)) =
-    (bytes, took, (stopped.good, stopped.bad, stopped.cut, stopped.why, stopped.kept))
-unread rule LineTooLong before input rest old new read (bytes, took, (out, written, stopped)) =
+unread rule fault before input rest old new read (bytes, took, (out, written, stopped)) =
     (bytes, took, (stopped.good, stopped.bad, stopped.cut, stopped.why, stopped.kept))
 
 -- memory may be refused before anything was read

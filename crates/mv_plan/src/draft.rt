@@ -6,8 +6,7 @@ ghost use Rattle.mv_plan.specs.Drafts.{lists_of};
 
 use mv_hub::Parties;
 use mv_machine::Limits;
-use mv_message::{Message, Party, Shared};
-use mv_pack::PackKey;
+use mv_message::{Message, Party};
 use std::alloc::{AllocError, Global};
 use std::marker::Model;
 
@@ -19,7 +18,7 @@ pub struct Draft {
     /// What a link keeps, how much is under way at most, and how many messages each party submits in all.
     limits: Limits,
     /// What each party is to submit, party 0 first.
-    work: Vec<Vec<Shared<Message>>>,
+    work: Vec<Vec<Message>>,
 }
 
 impl Model for Draft {
@@ -55,32 +54,17 @@ impl Draft {
     }
 
     /// Plans one more message of a party.
-    pub(crate) fn add(&mut self, party: Party, message: &Shared<Message>) -> Result<(), AllocError>
+    pub(crate) fn add(&mut self, party: Party, message: Message) -> Result<(), AllocError>
         requires party { party < length self.old.parties }
-        requires own { answers_in (message.now ∷ []) ≡ [] }
-        ensures ok { OnOk result (self.new ≡ with_message self.old party message.now) }
+        requires own { answers_in (message ∷ []) ≡ [] }
+        ensures ok { OnOk result (self.new ≡ with_message self.old party message) }
         ensures err { OnErr result (self.new ≡ self.old) }
     {
         add_to(&mut self.work[party as usize], message)
     }
 
-    /// Plans one more query of a party.
-    pub(crate) fn add_query(
-        &mut self,
-        alloc: Global,
-        party: Party,
-        key: &PackKey,
-    ) -> Result<(), AllocError>
-        requires party { party < length self.old.parties }
-        ensures ok { OnOk result (self.new ≡ with_message self.old party (Message.Query key.now)) }
-        ensures err { OnErr result (self.new ≡ self.old) }
-    {
-        let query = Shared::new(alloc, Message::Query { key: key.copy() })?;
-        self.add(party, &query)
-    }
-
     /// The parties, the limits, and what each party is to submit, party 0 first.
-    pub fn into_parts(self) -> (Parties, Limits, Vec<Vec<Shared<Message>>>)
+    pub fn into_parts(self) -> (Parties, Limits, Vec<Vec<Message>>)
         ensures parts { parts_in result.0 result.1 result.2.items ≡ self }
         ensures sound { CanRun self }
     {
@@ -89,18 +73,17 @@ impl Draft {
 }
 
 /// Adds a message to a list.
-fn add_to(list: &mut Vec<Shared<Message>>, message: &Shared<Message>) -> Result<(), AllocError>
-    ensures ok { OnOk result (list.new.items ≡ list.old.items ++ message.now ∷ []) }
+fn add_to(list: &mut Vec<Message>, message: Message) -> Result<(), AllocError>
+    ensures ok { OnOk result (list.new.items ≡ list.old.items ++ message ∷ []) }
     ensures err { OnErr result (list.new.items ≡ list.old.items) }
 {
-    let message = message.share()?;
     list.reserve(1)?;
     list.push_reserved(message);
     Ok(())
 }
 
 /// So many lists of nothing.
-fn empty_lists(alloc: Global, count: u32) -> Result<Vec<Vec<Shared<Message>>>, AllocError>
+fn empty_lists(alloc: Global, count: u32) -> Result<Vec<Vec<Message>>, AllocError>
     ensures { IfOk result (λ lists. lists_of lists.items ≡ replicate count []) }
 {
     let mut lists = Vec::with_capacity(alloc, count as usize)?;

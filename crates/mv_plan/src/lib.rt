@@ -20,7 +20,6 @@ mod planned;
 mod planner;
 mod planning;
 mod reading;
-mod unwritten;
 
 pub use draft::Draft;
 pub use planned::Planned;

@@ -14,6 +14,7 @@ use mv_lines::{
     reply_text,
 };
 use mv_machine::{Limits, Refusal, Reply, Step};
+use mv_message::Message;
 use mv_party::is_query_or_answer;
 use std::alloc::{AllocError, Global};
 
@@ -107,14 +108,15 @@ fn plan_step(alloc: Global, draft: &mut Draft, step: &Step) -> Result<Option<Str
             if is_query_or_answer(message.get()) {
                 return Ok(Some(refuse_step(alloc, Refusal::NotYours)?));
             }
-            draft.add(*from, message)?;
+            // The plan has a message of its own, which it hands on to the party's end.
+            draft.add(*from, message.get().copy(alloc)?)?;
             Ok(None)
         }
         Step::Verify { party, key } => {
             if !draft.is_party(*party) {
                 return Ok(Some(refuse_step(alloc, Refusal::Party)?));
             }
-            draft.add_query(alloc, *party, key)?;
+            draft.add(*party, Message::Query { key: key.copy() })?;
             Ok(None)
         }
         _ => Ok(Some(refusal_text(alloc, "C3")?)),

@@ -8,7 +8,7 @@ use Rattle.std.proofs.lemmas.Str.{encode_ascii}
 use Rattle.std.proofs.lemmas.List.{flat_map_more}
 use Rattle.mv_hub.specs.declared.entry.Entry.{Entry}
 use Rattle.mv_hub.specs.declared.entry.Entry.TheVariants.{Routed, Closed}
-use Rattle.mv_link.proofs.NumberLemmas.{range-append}
+use Rattle.mv_link.proofs.CallerLemmas.{range-append}
 use Rattle.mv_machine.specs.State.{State, submissions_of, log_of}
 use Rattle.mv_hub.specs.Record.{routed_count}
 use Rattle.mv_repository.specs.declared.counts.Counts.{Counts}

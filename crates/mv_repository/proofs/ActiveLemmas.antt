@@ -1,34 +1,10 @@
 -- What is kept of a pack says what it is, and whether it is active.
-use Rattle.std.proofs.Common.{◌≡◌, ℕ, List, [], ◌∷◌, refl, sym, ◌∙◌, ap, arith, Bool, true, false, cond, ◌==◌, Option, Some, None, IfSome, IsSome, true≢false, filter, fold, find, inl, inr, ◌⊎◌, get_or}
-use Rattle.std.proofs.lemmas.Bool.Decides.{nat_tests}
-use Rattle.std.specs.Option.{option_map, option_map_or, unwrap_or}
-use Rattle.mv_pack.specs.declared.key.PackKey.{PackKey}
-use Rattle.mv_message.specs.declared.message.Message.TheVariants.{Upload}
-use Rattle.mv_link.specs.declared.item.Item.{Item}
-use Rattle.mv_link.specs.declared.item.Item.TheVariants.{Carried}
-use Rattle.mv_repository.specs.declared.entry.LogEntry.{LogEntry}
-use Rattle.std.specs.Set.{distinct_count}
-use Rattle.mv_pack.specs.Keys.{is_same_pack}
-use Rattle.mv_repository.specs.Counts.{is_held_active, uploaded_packs}
-use Rattle.mv_repository.specs.Order.{Placed, ordered}
-use Rattle.mv_repository.specs.Pack.{KnownPack, is_active, is_done}
-use Rattle.mv_repository.specs.PackState.{pack_state, held_of}
-use Rattle.mv_repository.specs.State.{pack_made_by, standing_in, change_in, known_at, effect_on, next_by}
-use Rattle.mv_repository.specs.Stops.{FirstStops, first_stops, entry_at, place_of, no_entry}
-use Rattle.mv_repository.specs.Track.{is_upload_of, is_status_of, first_upload, statuses_of, pack_grown, track_of, state_from, state_by, is_active_kept}
-use Rattle.mv_repository.proofs.OrderLemmas.{Stand, ordered-ascends, ordered-stand}
+use Rattle.mv_repository.proofs.Words.{◌≡◌, ℕ, List, [], ◌∷◌, refl, sym, ◌∙◌, ap, arith, Bool, true, false, cond, cond_both, ◌==◌, Option, Some, None, IfSome, IsSome, true≢false, filter, fold, inl, inr, ◌⊎◌, get_or, nat_tests, eqb-true, option_map, option_map_or, unwrap_or, PackKey, Upload, Item, Carried, LogEntry, distinct_count, is_same_pack, is_held_active, uploaded_packs, Placed, ordered, KnownPack, is_active, is_done, pack_state, held_of, pack_made_by, standing_in, change_in, known_at, effect_on, next_by, FirstStops, first_stops, entry_at, place_of, no_entry, is_upload_of, is_status_of, first_upload, statuses_of, pack_grown, track_of, state_from, state_by, is_active_kept}
+use Rattle.mv_repository.proofs.OrderLemmas.{Stand, find-true, ordered-ascends, ordered-stand}
 use Rattle.mv_repository.proofs.StateLemmas.{known-grown, entry-stands, find-stand, upload-makes}
 use Rattle.mv_repository.proofs.TableLemmas.{filter-stand}
 use Rattle.mv_repository.proofs.NextLemmas.{grown-by}
 use Rattle.mv_repository.proofs.TrackLemmas.{fold-stands}
-
-pub find-true : (f : Placed → Bool) (xs : List Placed) → IfSome (find f xs) (λ x. f x ≡ true)
-find-true f [] = tt
-find-true f (x ∷ xs) = by (f x) refl (find-true f xs)
-  where
-    by : (b : Bool) → f x ≡ b → IfSome (find f xs) (λ x. f x ≡ true) → IfSome (cond b (Some x) (find f xs)) (λ x. f x ≡ true)
-    by true e r = e
-    by false e r = r
 
 -- a pack stands by its upload, or by a status that is no revert
 abbrev Settled : Placed → Placed → Type 0
@@ -37,12 +13,9 @@ Settled birth by = (by ≡ birth) ⊎ (is_active (standing_in by.entry.item) ≡
 fold-settled : (stops : FirstStops) (gtin : List ℕ) (birth by : Placed) (xs : List Placed) → Settled birth by → Settled birth (fold (next_by stops gtin (Some birth)) by xs)
 fold-settled stops gtin birth by [] s = s
 fold-settled stops gtin birth by (x ∷ xs) s =
-    fold-settled stops gtin birth (next_by stops gtin (Some birth) by x) xs (at (is_done (effect_on stops gtin (Some birth) by x)) (is_active (standing_in x.entry.item)) refl)
-  where
-    at : (d a : Bool) → is_active (standing_in x.entry.item) ≡ a → Settled birth (cond d (cond a birth x) by)
-    at true true e = inl refl
-    at true false e = inr e
-    at false a e = s
+    fold-settled stops gtin birth (next_by stops gtin (Some birth) by x) xs
+    (cond_both (is_done (effect_on stops gtin (Some birth) by x)) (cond (is_active (standing_in x.entry.item)) birth x) by (Settled birth)
+    (λ d. cond_both (is_active (standing_in x.entry.item)) birth x (Settled birth) (λ a. inl refl) inr) (λ d. s))
 
 same_n : (a b : ℕ) → a ≡ b → (a == b) ≡ true
 same_n a b e = grind (arith, nat_tests)
@@ -98,12 +71,9 @@ module _ (log : List LogEntry) (pack : PackKey) where
           test : (b : Bool) → (y.place == last.place) ≡ b → b ≡ false
           test false h = refl
           test true h =
-              let place : y.place ≡ last.place = same_place y.place last.place h in
+              let place : y.place ≡ last.place = eqb-true y.place last.place h in
               let entry : y.entry ≡ last.entry = sym s ∙ ap (λ (n : ℕ). get_or log n no_entry) place ∙ t in
               sym (upload-active pack y.entry.item u) ∙ ap (λ (x : LogEntry). is_active (standing_in x.item)) entry ∙ e
-            where
-              same_place : (a b : ℕ) → (a == b) ≡ true → a ≡ b
-              same_place a b e = grind (arith, nat_tests)
 
   -- it is active where it stands by its upload
   pub track-active : is_active_kept (track_of pack log) ≡ is_held_active (pack_state pack log)

@@ -1,24 +1,10 @@
 -- Tracks that are worked out again, also without need.
-use Rattle.std.specs.Prelude.{bytes_eq}
-use Rattle.std.proofs.Common.{◌≡◌, ℕ, ◌+◌, List, [], length, get_or, take, map, refl, sym, ◌∙◌, ap, subst, arith, inl, inr, ◌⊎◌, Bool, true, false, cond, ◌==◌, Option, Some, None}
-use Rattle.std.proofs.lemmas.Bool.Decides.{nat_tests}
-use Rattle.std.specs.Map.{lookup}
-use Rattle.std.specs.Option.{option_map}
-use Rattle.mv_pack.specs.Keys.{pack_key}
-use Rattle.mv_repository.specs.declared.entry.LogEntry.{LogEntry}
-use Rattle.mv_repository.specs.declared.slot.Slot.{Slot}
-use Rattle.mv_repository.specs.declared.slot.Slot.TheVariants.{Made, Own}
-use Rattle.mv_repository.specs.Order.{ordered}
-use Rattle.mv_repository.specs.Shelf.{nothing_kept, kept_by, kept_on, IsAgain, NamesNone}
-use Rattle.mv_repository.specs.Stops.{StopTables, stops_in, place_of, no_entry, AreStopsOf}
-use Rattle.mv_repository.specs.Track.{Kept, first_upload, statuses_of, is_upload_of, is_status_of, life_of, track_of, IsKept, IsTrack}
-use Rattle.mv_repository.proofs.TableLemmas.{find-none, filter-none}
-use Rattle.mv_repository.proofs.TrackLemmas.{log-split, track-is}
+use Rattle.mv_repository.proofs.Words.{bytes_eq, ◌+◌, Bool, None, Option, Some, [], ap, false, get_or, length, map, refl, subst, sym, take, true, true≢false, ℕ, ◌∙◌, ◌≡◌, List, lookup, option_map, pack_key, LogEntry, Slot, Made, Own, ListingTable, no_numbers, ordered, IsAgain, IsRefreshed, IsShelfOf, NamesNone, kept_by, no_shelf, nothing_kept, AreStopsOf, StopTables, no_entry, place_of, stops_in, IsKept, Kept, Life, first_upload, is_status_of, is_upload_of, life_of, statuses_of, track_of}
+use Rattle.mv_repository.proofs.ListedLemmas.{listed-none}
+use Rattle.mv_repository.proofs.TableLemmas.{filter-none, find-none, log-split}
+use Rattle.mv_repository.proofs.TrackLemmas.{track-is}
 
-pub is_number : (a b : ℕ) → (a == b) ≡ true → a ≡ b
-is_number a b e = grind (arith, nat_tests)
-
-module _ (whole : List LogEntry) (place : ℕ) (tables : StopTables) (gtin : List ℕ) (slots : List (List ℕ × Slot)) (l : length whole ≡ place + 1) (stops : AreStopsOf whole tables)
+module _ (whole : List LogEntry) (place : ℕ) (tables : StopTables) (gtin : List ℕ) (l : length whole ≡ place + 1) (stops : AreStopsOf whole tables)
     (names : (serial : List ℕ) → NamesNone (pack_key gtin serial) (get_or whole place no_entry).item) where
   abbrev log : List LogEntry
   log = take place whole
@@ -26,76 +12,40 @@ module _ (whole : List LogEntry) (place : ℕ) (tables : StopTables) (gtin : Lis
   abbrev entry : LogEntry
   entry = get_or whole place no_entry
 
-  -- a pack by one of the two logs, and by the longer
-  birth-is : (serial : List ℕ) (newer : Bool) → (track_of (pack_key gtin serial) (cond newer whole log)).birth ≡ option_map place_of (first_upload (pack_key gtin serial) (ordered whole))
-  birth-is serial true = refl
-  birth-is serial false =
-      sym (ap (λ (w : List LogEntry). option_map place_of (first_upload (pack_key gtin serial) (ordered w))) (log-split whole place l)
-      ∙ ap (option_map place_of) (find-none (λ placed. is_upload_of (pack_key gtin serial) placed.entry.item) log entry (names serial).0))
+  abbrev IsOf : List LogEntry → List ℕ → Kept → Type 0
+  IsOf log serial = IsKept (life_of (pack_key gtin serial) log)
 
-  places-are : (serial : List ℕ) (newer : Bool) → (track_of (pack_key gtin serial) (cond newer whole log)).statuses ≡ map place_of (statuses_of (pack_key gtin serial) (ordered whole))
-  places-are serial true = refl
-  places-are serial false =
-      sym (ap (λ (w : List LogEntry). map place_of (statuses_of (pack_key gtin serial) (ordered w))) (log-split whole place l)
-      ∙ ap (map place_of) (filter-none (λ placed. is_status_of (pack_key gtin serial) placed.entry.item) log entry (names serial).1))
+  is_worked : (serial : List ℕ) (was kept : Kept) → IsOf log serial was → IsAgain whole (stops_in whole tables) gtin was kept → IsOf whole serial kept
+  is_worked serial was kept e a =
+      let pack = pack_key gtin serial in
+      let birth : (track_of pack whole).birth ≡ (track_of pack log).birth = ap (λ (w : List LogEntry). option_map place_of (first_upload pack (ordered w))) (log-split whole place l)
+      ∙ ap (option_map place_of) (find-none (λ placed. is_upload_of pack placed.entry.item) log entry (names serial).0) in
+      let statuses : (track_of pack whole).statuses ≡ (track_of pack log).statuses = ap (λ (w : List LogEntry). map place_of (statuses_of pack (ordered w))) (log-split whole place l)
+      ∙ ap (map place_of) (filter-none (λ placed. is_status_of pack placed.entry.item) log entry (names serial).1) in
+      track-is whole tables pack kept stops (a.birth ∙ ap (λ (k : Kept). k.birth) e.bare ∙ sym birth) (a.statuses ∙ ap (λ (k : Kept). k.statuses) e.bare ∙ sym statuses) a.worked
 
-  is_worked : (serial : List ℕ) (newer : Bool) (was k : Kept) → IsKept (life_of (pack_key gtin serial) (cond newer whole log)) was → IsAgain whole (stops_in whole tables) gtin was k → IsKept (life_of (pack_key gtin serial) whole) k
-  is_worked serial newer was k e a =
-      track-is whole tables (pack_key gtin serial) k stops
-      (a.birth ∙ ap (λ (k : Kept). k.birth) e.bare ∙ birth-is serial newer)
-      (a.statuses ∙ ap (λ (k : Kept). k.statuses) e.bare ∙ places-are serial newer) a.worked
-
-  -- a pack without a track is so by both
-  pub untracked : (tracks : List Kept) (serial : List ℕ) (newer : Bool) → IsKept (life_of (pack_key gtin serial) (cond newer whole log)) (kept_on slots tracks serial)
-      → ((number : ℕ) → lookup (bytes_eq serial) slots ≡ Some (Own number) → IsKept (life_of (pack_key gtin serial) whole) (kept_on slots tracks serial))
-      → IsKept (life_of (pack_key gtin serial) whole) (kept_on slots tracks serial)
-  untracked tracks serial newer kept own = by (lookup (bytes_eq serial) slots) refl
+  -- a shelf, where it was looked at some tracks again, and the entry bears on no pack of another
+  pub shelf-again : (looked : ℕ → Bool) (slots : List (List ℕ × Slot)) (own : ListingTable) (tracks tracks' : List Kept)
+      → ((number : ℕ) → IsRefreshed whole (stops_in whole tables) gtin (looked number) (get_or tracks number nothing_kept) (get_or tracks' number nothing_kept))
+      → ((serial : List ℕ) (number : ℕ) → lookup (bytes_eq serial) slots ≡ Some (Own number) → looked number ≡ false → life_of (pack_key gtin serial) whole ≡ life_of (pack_key gtin serial) log)
+      → IsShelfOf log gtin (record { slots = slots; tracks = tracks; listing = own }) → IsShelfOf whole gtin (record { slots = slots; tracks = tracks'; listing = own })
+  shelf-again looked slots own tracks tracks' again away of = record {
+    kept = λ serial. by serial (lookup (bytes_eq serial) slots) refl (of.kept serial);
+    listed = listed-none whole place l gtin slots own of.listed (λ serial. (names serial).0);
+  }
     where
-      still : (o : Option Slot) (k : Kept) → lookup (bytes_eq serial) slots ≡ o → kept_by tracks o ≡ k → IsTrack whole (stops_in whole tables) gtin k → IsKept (life_of (pack_key gtin serial) whole) (kept_on slots tracks serial)
-      still o k e f w =
-          let is : kept_on slots tracks serial ≡ k = ap (kept_by tracks) e ∙ f in
-          subst (IsKept (life_of (pack_key gtin serial) whole)) (sym is)
-          (is_worked serial newer k k (subst (IsKept (life_of (pack_key gtin serial) (cond newer whole log))) is kept) (record { birth = refl; statuses = refl; worked = w }))
+      by : (serial : List ℕ) (slot : Option Slot) → lookup (bytes_eq serial) slots ≡ slot → IsOf log serial (kept_by tracks slot) → IsOf whole serial (kept_by tracks' slot)
+      by serial None e kept = is_worked serial nothing_kept nothing_kept kept (record { birth = refl; statuses = refl; worked = record { by = refl; blocks = tt } })
+      by serial (Some (Made first)) e kept =
+          let made : Kept = record { birth = Some first; statuses = []; by = first; blocks = [] } in
+          is_worked serial made made kept (record { birth = refl; statuses = refl; worked = record { by = refl; blocks = tt } })
+      by serial (Some (Own n)) e kept = track (looked n) refl (again n)
+        where
+          track : (b : Bool) → looked n ≡ b → IsRefreshed whole (stops_in whole tables) gtin b (get_or tracks n nothing_kept) (get_or tracks' n nothing_kept) → IsOf whole serial (get_or tracks' n nothing_kept)
+          track true h r = is_worked serial (get_or tracks n nothing_kept) (get_or tracks' n nothing_kept) kept r
+          track false h r = subst (IsOf whole serial) (sym r) (subst (λ (life : Life). IsKept life (get_or tracks n nothing_kept)) (sym (away serial n e h)) kept)
 
-      by : (o : Option Slot) → lookup (bytes_eq serial) slots ≡ o → IsKept (life_of (pack_key gtin serial) whole) (kept_on slots tracks serial)
-      by None e = still None nothing_kept e refl (record { by = refl; blocks = tt })
-      by (Some (Made first)) e = still (Some (Made first)) (record { birth = Some first; statuses = []; by = first; blocks = [] }) e refl (record { by = refl; blocks = tt })
-      by (Some (Own n)) e = own n e
-
-  module _ (old new : List Kept) (number : ℕ)
-      (again : IsAgain whole (stops_in whole tables) gtin (get_or old number nothing_kept) (get_or new number nothing_kept))
-      (others : (other : ℕ) → (other == number) ≡ false → get_or new other nothing_kept ≡ get_or old other nothing_kept) where
-    -- what is kept of its pack is by the longer log
-    pub step-own : (serial : List ℕ) (newer : Bool) → IsKept (life_of (pack_key gtin serial) (cond newer whole log)) (kept_on slots old serial) → lookup (bytes_eq serial) slots ≡ Some (Own number)
-        → IsKept (life_of (pack_key gtin serial) whole) (kept_on slots new serial)
-    step-own serial newer kept e =
-        subst (IsKept (life_of (pack_key gtin serial) whole)) (sym (ap (kept_by new) e))
-        (is_worked serial newer (get_or old number nothing_kept) (get_or new number nothing_kept) (subst (IsKept (life_of (pack_key gtin serial) (cond newer whole log))) (ap (kept_by old) e) kept) again)
-
-    -- or it is the pack of no track, or of another
-    step-other : (serial : List ℕ) → (kept_on slots new serial ≡ kept_on slots old serial) ⊎ (lookup (bytes_eq serial) slots ≡ Some (Own number))
-    step-other serial = by (lookup (bytes_eq serial) slots) refl
-      where
-        by : (o : Option Slot) → lookup (bytes_eq serial) slots ≡ o → (kept_on slots new serial ≡ kept_on slots old serial) ⊎ (lookup (bytes_eq serial) slots ≡ Some (Own number))
-        by None e = inl (ap (kept_by new) e ∙ sym (ap (kept_by old) e))
-        by (Some (Made first)) e = inl (ap (kept_by new) e ∙ sym (ap (kept_by old) e))
-        by (Some (Own n)) e = own (n == number) refl
-          where
-            own : (b : Bool) → (n == number) ≡ b → (kept_on slots new serial ≡ kept_on slots old serial) ⊎ (lookup (bytes_eq serial) slots ≡ Some (Own number))
-            own true h = inr (e ∙ ap (λ (m : ℕ). Some (Own m)) (is_number n number h))
-            own false h = inl (ap (kept_by new) e ∙ others n h ∙ sym (ap (kept_by old) e))
-
-    -- which of the two it is now
-    pub either : (serial : List ℕ) → (newer : Bool) × IsKept (life_of (pack_key gtin serial) (cond newer whole log)) (kept_on slots old serial)
-        → (newer : Bool) × IsKept (life_of (pack_key gtin serial) (cond newer whole log)) (kept_on slots new serial)
-    either serial was = elim (step-other serial) [
-      | inl same ↦ (was.0, subst (IsKept (life_of (pack_key gtin serial) (cond was.0 whole log))) (sym same) was.1)
-      | inr own ↦ (true, step-own serial was.0 was.1 own)
-    ]
-
-    -- what was worked out stays
-    pub step-keeps : (serial : List ℕ) → IsKept (life_of (pack_key gtin serial) whole) (kept_on slots old serial) → IsKept (life_of (pack_key gtin serial) whole) (kept_on slots new serial)
-    step-keeps serial was = elim (step-other serial) [
-      | inl same ↦ subst (IsKept (life_of (pack_key gtin serial) whole)) (sym same) was
-      | inr own ↦ step-own serial true was own
-    ]
+  -- a product with no shelf has no pack
+  pub shelf-empty : IsShelfOf log gtin no_shelf → IsShelfOf whole gtin no_shelf
+  shelf-empty =
+      shelf-again (λ number. true) [] no_numbers [] [] (λ number. record { birth = refl; statuses = refl; worked = record { by = refl; blocks = tt } }) (λ serial number e h. absurd (true≢false h))

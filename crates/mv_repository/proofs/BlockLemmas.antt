@@ -1,59 +1,21 @@
 -- Blocks of statuses, over any places and any rule by which a pack goes from one to the next.
-use Rattle.std.proofs.Common.{◌≡◌, ℕ, zero, suc, ◌+◌, ◌<◌, ◌≤◌, List, [], ◌∷◌, ◌++◌, length, get_or, take, drop, fold, insert, set, refl, sym, ◌∙◌, ap, subst, Bool, true, false, ◌||◌, ◌==◌, arith, append_assoc}
-use Rattle.std.proofs.lemmas.List.{get_or_default, take-append-drop, take-append-le, drop-append-le, length-drop, length-append}
-use Rattle.std.proofs.lemmas.List.Sums.{fold-append}
-use Rattle.std.proofs.lemmas.Bool.Decides.{nat_tests}
-use Rattle.std.specs.List.{AllByRecursion}
-use Rattle.mv_link.specs.PartySets.{has_party}
-use Rattle.mv_link.specs.declared.party_set.PartySet.{PartySet}
-use Rattle.mv_repository.specs.declared.blocks.Block.{Block}
-use Rattle.mv_repository.specs.declared.blocks.Cut.{Cut}
-use Rattle.mv_repository.specs.Blocks.{may_have, IsCovered, IsSummary, AreBlocks, IsFront, IsCut, no_block, without}
-use Rattle.mv_repository.specs.Order.{Placed}
+use Rattle.mv_repository.proofs.Words.{◌≡◌, ℕ, zero, suc, ◌+◌, ◌<◌, ◌≤◌, List, [], ◌∷◌, ◌++◌, length, get_or, take, drop, fold, insert, set, refl, sym, ◌∙◌, ap, subst, true, ◌||◌, ◌==◌, arith, append_assoc, nat_tests, take-add, at_drop_more, drop-drop, drop-set-lt, drop_at, get_or_default, length-take-le, take-append-drop, take-append-le, take_at, take_more, take_more_set, drop-append-le, length-drop, length-append, fold-append, AllByRecursion, has_party, PartySet, Block, Cut, may_have, IsCovered, IsSummary, AreBlocks, IsFront, IsCut, no_block, without, Placed}
 
 -- lists that are cut
-pub cut-take : {A : Type 0} (n : ℕ) (xs ys : List A) → n ≤ length xs → take n (take n xs ++ ys) ≡ take n xs
-cut-take zero xs ys l = refl
-cut-take (suc n) [] ys l = absurd (omega arith)
-cut-take (suc n) (x ∷ xs) ys l = ap (λ (t : List _). x ∷ t) (cut-take n xs ys (omega arith))
+cut-take : {A : Type 0} (n : ℕ) (xs ys : List A) → n ≤ length xs → take n (take n xs ++ ys) ≡ take n xs
+cut-take n xs ys l = take_at (take n xs) ys n (length-take-le n xs l)
 
-pub cut-drop : {A : Type 0} (n : ℕ) (xs ys : List A) → n ≤ length xs → drop n (take n xs ++ ys) ≡ ys
-cut-drop zero xs ys l = refl
-cut-drop (suc n) [] ys l = absurd (omega arith)
-cut-drop (suc n) (x ∷ xs) ys l = cut-drop n xs ys (omega arith)
+cut-drop : {A : Type 0} (n : ℕ) (xs ys : List A) → n ≤ length xs → drop n (take n xs ++ ys) ≡ ys
+cut-drop n xs ys l = drop_at (take n xs) ys n (length-take-le n xs l)
 
-pub cut-length : {A : Type 0} (n : ℕ) (xs ys : List A) → n ≤ length xs → n ≤ length (take n xs ++ ys)
-cut-length zero xs ys l = omega arith
-cut-length (suc n) [] ys l = absurd (omega arith)
-cut-length (suc n) (x ∷ xs) ys l = let r = cut-length n xs ys (omega arith) in omega (arith, r)
+cut-length : {A : Type 0} (n : ℕ) (xs ys : List A) → n ≤ length xs → n ≤ length (take n xs ++ ys)
+cut-length n xs ys l = let t = length-take-le n xs l in let k = length-append (take n xs) ys in omega (arith, t, k)
 
-pub drop-drop : {A : Type 0} (n m : ℕ) (xs : List A) → drop m (drop n xs) ≡ drop (n + m) xs
-drop-drop zero m xs = let e : m ≡ 0 + m = omega arith in ap (λ (k : ℕ). drop k xs) e
-drop-drop (suc n) m [] = drop-none m ∙ sym (drop-none (suc n + m))
-  where
-    drop-none : {A : Type 0} (k : ℕ) → drop {A = A} k [] ≡ []
-    drop-none zero = refl
-    drop-none (suc k) = refl
-drop-drop (suc n) m (x ∷ xs) = let e : suc (n + m) ≡ suc n + m = omega arith in drop-drop n m xs ∙ ap (λ (k : ℕ). drop k (x ∷ xs)) e
+got-drop : {A : Type 0} (xs : List A) (i : ℕ) (d : A) → i < length xs → drop i xs ≡ get_or xs i d ∷ drop (i + 1) xs
+got-drop xs i d l = at_drop_more (λ t. t) xs i d l
 
-pub take-more : {A : Type 0} (n m : ℕ) (xs : List A) → take n xs ++ take m (drop n xs) ≡ take (n + m) xs
-take-more zero m xs = let e : m ≡ 0 + m = omega arith in ap (λ (k : ℕ). take k xs) e
-take-more (suc n) m [] = take-none m ∙ sym (take-none (suc n + m))
-  where
-    take-none : {A : Type 0} (k : ℕ) → take {A = A} k [] ≡ []
-    take-none zero = refl
-    take-none (suc k) = refl
-take-more (suc n) m (x ∷ xs) = let e : suc (n + m) ≡ suc n + m = omega arith in ap (λ (t : List _). x ∷ t) (take-more n m xs) ∙ ap (λ (k : ℕ). take k (x ∷ xs)) e
-
-pub got-drop : {A : Type 0} (xs : List A) (i : ℕ) (d : A) → i < length xs → drop i xs ≡ get_or xs i d ∷ drop (i + 1) xs
-got-drop [] i d l = absurd (omega arith)
-got-drop (x ∷ xs) zero d l = refl
-got-drop (x ∷ xs) (suc i) d l = let e : suc (i + 1) ≡ suc i + 1 = omega arith in got-drop xs i d (omega arith) ∙ ap (λ (k : ℕ). get_or xs i d ∷ drop k (x ∷ xs)) e
-
-pub got-take : {A : Type 0} (xs more : List A) (i : ℕ) (d : A) → i < length xs → take (i + 1) xs ++ more ≡ take i xs ++ get_or xs i d ∷ more
-got-take [] more i d l = absurd (omega arith)
-got-take (x ∷ xs) more zero d l = refl
-got-take (x ∷ xs) more (suc i) d l = let e : suc i + 1 ≡ suc (i + 1) = omega arith in ap (λ (k : ℕ). take k (x ∷ xs) ++ more) e ∙ ap (λ (t : List _). x ∷ t) (got-take xs more i d (omega arith))
+got-take : {A : Type 0} (xs more : List A) (i : ℕ) (d : A) → i < length xs → take (i + 1) xs ++ more ≡ take i xs ++ get_or xs i d ∷ more
+got-take xs more i d l = ap (λ (t : List _). t ++ more) (take_more xs i d l) ∙ append_assoc (take i xs) (get_or xs i d ∷ []) more
 
 -- a list but for the one at a place
 without-on : (x : ℕ) (xs : List ℕ) (at : ℕ) → without (x ∷ xs) (suc at) ≡ x ∷ without xs at
@@ -80,42 +42,21 @@ length-without (x ∷ xs) (suc at) l = let r = length-without xs at (omega arith
 
 pub take-insert : (xs : List ℕ) (at p : ℕ) → at ≤ length xs → take (at + 1) (insert xs at p) ≡ take at xs ++ p ∷ []
 take-insert xs at p l =
-    sym (take-more at 1 (take at xs ++ p ∷ drop at xs))
+    take-add at 1 (take at xs ++ p ∷ drop at xs)
     ∙ (λ i. cut-take at xs (p ∷ drop at xs) l i ++ take 1 (cut-drop at xs (p ∷ drop at xs) l i))
 
 pub without-insert : (xs : List ℕ) (at p : ℕ) → at ≤ length xs → without (insert xs at p) at ≡ xs
 without-insert xs at p l =
-    (λ i. cut-take at xs (p ∷ drop at xs) l i ++ (sym (drop-drop at 1 (take at xs ++ p ∷ drop at xs)) ∙ ap (drop 1) (cut-drop at xs (p ∷ drop at xs) l)) i)
+    (λ i. cut-take at xs (p ∷ drop at xs) l i ++ (sym (drop-drop 1 at (take at xs ++ p ∷ drop at xs)) ∙ ap (drop 1) (cut-drop at xs (p ∷ drop at xs) l)) i)
     ∙ take-append-drop at xs
 
 -- one that is written
-pub set-take : {A : Type 0} (xs more : List A) (i : ℕ) (y : A) → i < length xs → take (i + 1) (set xs i y) ++ more ≡ take i xs ++ y ∷ more
-set-take [] more i y l = absurd (omega arith)
-set-take (x ∷ xs) more zero y l = refl
-set-take (x ∷ xs) more (suc i) y l = let e : suc i + 1 ≡ suc (i + 1) = omega arith in ap (λ (k : ℕ). take k (set (x ∷ xs) (suc i) y) ++ more) e ∙ ap (λ (t : List _). x ∷ t) (set-take xs more i y (omega arith))
-
-pub set-drop : {A : Type 0} (xs : List A) (i : ℕ) (y : A) → drop (i + 1) (set xs i y) ≡ drop (i + 1) xs
-set-drop [] i y = refl
-set-drop (x ∷ xs) zero y = refl
-set-drop (x ∷ xs) (suc i) y = let e : suc i + 1 ≡ suc (i + 1) = omega arith in ap (λ (k : ℕ). drop k (set (x ∷ xs) (suc i) y)) e ∙ set-drop xs i y ∙ ap (λ (k : ℕ). drop k (x ∷ xs)) (sym e)
-
-pub on-append : {A : Type 0} (xs : List A) (x : A) (more : List A) → (xs ++ x ∷ []) ++ more ≡ xs ++ x ∷ more
-on-append xs x more = append_assoc xs (x ∷ []) more
-
-pub append-none : {A : Type 0} (xs : List A) → xs ++ [] ≡ xs
-append-none [] = refl
-append-none (x ∷ xs) = ap (λ (t : List _). x ∷ t) (append-none xs)
+set-take : {A : Type 0} (xs more : List A) (i : ℕ) (y : A) → i < length xs → take (i + 1) (set xs i y) ++ more ≡ take i xs ++ y ∷ more
+set-take xs more i y l = ap (λ (t : List _). t ++ more) (take_more_set xs i y l) ∙ append_assoc (take i xs) (y ∷ []) more
 
 -- a set with one sender more
 pub has-added : (set more : PartySet) (party : ℕ) → ((other : ℕ) → has_party more other ≡ (has_party set other || (other == party))) → has_party more party ≡ true
-has-added set more party h = h party ∙ or_same (has_party set party) (party == party) (same party)
-  where
-    same : (n : ℕ) → (n == n) ≡ true
-    same n = grind (arith, nat_tests)
-
-    or_same : (b c : Bool) → c ≡ true → (b || c) ≡ true
-    or_same true c e = refl
-    or_same false c e = e
+has-added set more party h = let e = h party in grind (arith, nat_tests)
 
 -- the senders of reverts, of one status more
 pub covered-more : (entry : ℕ → Placed) (reverters more : PartySet) (own : List ℕ) (i : ℕ) → i < length own → ((other : ℕ) → may_have reverters other ≡ true → may_have more other ≡ true)
@@ -128,14 +69,6 @@ covered-more entry reverters more (x ∷ xs) (suc i) l m new c =
 
 -- over one rule
 module _ (entry : ℕ → Placed) (next : ℕ → ℕ → ℕ) (start : ℕ) (is : (n : ℕ) → (entry n).place ≡ n) where
-  -- one block more in front
-  pub front-push : (bs : List Block) (all : List ℕ) (by : ℕ) (rest : List ℕ) (b : Block) → IsFront entry next start bs all by rest
-      → b.count ≤ length rest → b.after ≡ fold next by (take b.count rest) → IsSummary entry next start b (take b.count rest)
-      → IsFront entry next start (bs ++ b ∷ []) all b.after (drop b.count rest)
-  front-push bs all by rest b front l a s more h =
-      subst (λ (t : List Block). AreBlocks entry next start start t all) (sym (on-append bs b more))
-      (front (b ∷ more) (l, a ∙ sym (is (fold next by (take b.count rest))), s, subst (λ (n : ℕ). AreBlocks entry next start n more (drop b.count rest)) a h))
-
   -- the statuses behind do not matter
   pub blocks-longer : (by : ℕ) (bs : List Block) (xs ys : List ℕ) → AreBlocks entry next start by bs xs → AreBlocks entry next start by bs (xs ++ ys)
   blocks-longer by [] xs ys h = tt
@@ -150,19 +83,16 @@ module _ (entry : ℕ → Placed) (next : ℕ → ℕ → ℕ) (start : ℕ) (is
             (subst (AreBlocks entry next start (fold next by (take b.count xs)) bs) (sym d) (blocks-longer (fold next by (take b.count xs)) bs (drop b.count xs) ys h.3)),
       )
 
-  -- a cut in front of all blocks, and one block further
-  pub cut-first : (bs : List Block) (own : List ℕ) → AreBlocks entry next start start bs own → IsCut entry next start bs own (record { number = 0; start = 0; by = start })
-  cut-first bs own h = record { within = omega arith; by = refl; front = λ rest more m. m; behind = h }
-
+  -- a cut one block further
   pub cut-next : (bs : List Block) (own : List ℕ) (cut : Cut) (b : Block) → cut.number < length bs → b ≡ get_or bs cut.number no_block → IsCut entry next start bs own cut
       → IsCut entry next start bs own (record { number = cut.number + 1; start = cut.start + b.count; by = b.after })
   cut-next bs own cut b l read c =
       record {
         within = let d = length-drop cut.start own in omega (arith, here.0, d, c.within);
-        by = after ∙ (λ i. fold next (c.by i) (take b.count (drop cut.start own))) ∙ sym (fold-append next start (take cut.start own) (take b.count (drop cut.start own))) ∙ ap (fold next start) (take-more cut.start b.count own);
+        by = after ∙ (λ i. fold next (c.by i) (take b.count (drop cut.start own))) ∙ sym (fold-append next start (take cut.start own) (take b.count (drop cut.start own))) ∙ ap (fold next start) (sym (take-add cut.start b.count own));
         front = λ rest more m.
             subst (λ (t : List Block). AreBlocks entry next start start t (take (cut.start + b.count) own ++ rest)) (sym (got-take bs more cut.number no_block l ∙ ap (λ (x : Block). take cut.number bs ++ x ∷ more) (sym read)))
-            (subst (λ (t : List ℕ). AreBlocks entry next start start (take cut.number bs ++ b ∷ more) t) (sym (append_assoc (take cut.start own) (take b.count (drop cut.start own)) rest) ∙ ap (λ (t : List ℕ). t ++ rest) (take-more cut.start b.count own))
+            (subst (λ (t : List ℕ). AreBlocks entry next start start (take cut.number bs ++ b ∷ more) t) (sym (append_assoc (take cut.start own) (take b.count (drop cut.start own)) rest) ∙ ap (λ (t : List ℕ). t ++ rest) (sym (take-add cut.start b.count own)))
             (c.front (take b.count (drop cut.start own) ++ rest) (b ∷ more) (
               cut-length b.count (drop cut.start own) rest here.0,
               here.1 ∙ ap (λ (l : List ℕ). (entry (fold next cut.by l)).place) (sym (cut-take b.count (drop cut.start own) rest here.0)),
@@ -170,7 +100,7 @@ module _ (entry : ℕ → Placed) (next : ℕ → ℕ → ℕ) (start : ℕ) (is
               subst (λ (n : ℕ). AreBlocks entry next start n more (drop b.count (take b.count (drop cut.start own) ++ rest))) (after ∙ ap (fold next cut.by) (sym (cut-take b.count (drop cut.start own) rest here.0)))
                   (subst (AreBlocks entry next start b.after more) (sym (cut-drop b.count (drop cut.start own) rest here.0)) m),
             )));
-        behind = subst (AreBlocks entry next start b.after (drop (cut.number + 1) bs)) (drop-drop cut.start b.count own)
+        behind = subst (AreBlocks entry next start b.after (drop (cut.number + 1) bs)) (drop-drop b.count cut.start own)
             (subst (λ (n : ℕ). AreBlocks entry next start n (drop (cut.number + 1) bs) (drop b.count (drop cut.start own))) (sym after) here.3);
       }
     where
@@ -200,7 +130,7 @@ module _ (entry : ℕ → Placed) (next : ℕ → ℕ → ℕ) (start : ℕ) (is
 
     pub pass-behind : AreBlocks entry next start b.after (drop (number + 1) (set bs number written)) (drop b.count rest)
     pass-behind =
-        subst (λ (t : List Block). AreBlocks entry next start b.after t (drop b.count rest)) (sym (set-drop bs number written))
+        subst (λ (t : List Block). AreBlocks entry next start b.after t (drop b.count rest)) (sym (drop-set-lt (number + 1) bs number written (omega arith)))
         (subst (λ (n : ℕ). AreBlocks entry next start n (drop (number + 1) bs) (drop b.count rest)) (sym pass-after) here.3)
 
     pub pass-front : (all : List ℕ) → IsFront entry next start (take number bs) all last rest → IsFront entry next start (take (number + 1) (set bs number written)) all passed (drop b.count rest)
@@ -231,7 +161,7 @@ module _ (entry : ℕ → Placed) (next : ℕ → ℕ → ℕ) (start : ℕ) (is
       late-rest : drop b.count (drop cut.start (without own at)) ≡ drop (b.count + 1) (drop cut.start own)
       late-rest =
           let e : cut.start + b.count + 1 ≡ cut.start + (b.count + 1) = omega arith in
-          drop-drop cut.start b.count (without own at) ∙ drop-without own at (cut.start + b.count) (omega (arith, inside)) l ∙ ap (λ (k : ℕ). drop k own) e ∙ sym (drop-drop cut.start (b.count + 1) own)
+          drop-drop b.count cut.start (without own at) ∙ drop-without own at (cut.start + b.count) (omega (arith, inside)) l ∙ ap (λ (k : ℕ). drop k own) e ∙ sym (drop-drop (b.count + 1) cut.start own)
 
       late-after : b.after ≡ fold next cut.by (take b.count (drop cut.start (without own at)))
       late-after = late-here.1 ∙ is (fold next cut.by (take b.count (drop cut.start (without own at))))
@@ -245,7 +175,7 @@ module _ (entry : ℕ → Placed) (next : ℕ → ℕ → ℕ) (start : ℕ) (is
 
       late-was : (new : Block) → AreBlocks entry next start b.after (drop (cut.number + 1) (set bs cut.number new)) (drop (b.count + 1) (drop cut.start own))
       late-was new =
-          subst (λ (t : List Block). AreBlocks entry next start b.after t (drop (b.count + 1) (drop cut.start own))) (sym (set-drop bs cut.number new))
+          subst (λ (t : List Block). AreBlocks entry next start b.after t (drop (b.count + 1) (drop cut.start own))) (sym (drop-set-lt (cut.number + 1) bs cut.number new (omega arith)))
           (subst (AreBlocks entry next start b.after (drop (cut.number + 1) bs)) late-rest
           (subst (λ (n : ℕ). AreBlocks entry next start n (drop (cut.number + 1) bs) (drop b.count (drop cut.start (without own at)))) (sym late-after) late-here.3))
 

@@ -1,30 +1,8 @@
 -- How many packs of a table are counted.
-use Rattle.std.specs.Prelude.{bytes_eq, ◌^◌}
-use Rattle.std.proofs.Common.{◌≡◌, ℕ, ◌+◌, ◌-◌, ◌<◌, ◌≤◌, List, [], ◌∷◌, ◌++◌, length, map, filter, min, refl, sym, ◌∙◌, ap, arith, Bool, true, false, cond, ◌&&◌, ◌||◌, Option, Some, None, is_some, true≢false}
-use Rattle.std.specs.Cmp.{IsEquivalence}
-use Rattle.std.specs.Cmp.Lexicographic.{nat_list_eq_equiv, same_text}
-use Rattle.std.specs.List.{AllByRecursion, IsDistinct}
-use Rattle.std.specs.Map.{lookup, keys_of}
-use Rattle.std.specs.Option.{option_map_or, unwrap_or}
-use Rattle.std.specs.Prelude.{◌==◌}
-use Rattle.std.specs.Set.{distinct_count, is_member}
-use Rattle.std.proofs.lemmas.List.{length-append, length-map}
-use Rattle.std.proofs.lemmas.Map.Entries.{length-keys_of, lookup-filter-values, option_filter}
-use Rattle.std.proofs.lemmas.Map.Keys.{IsDistinct-cons, IsDistinct-head, IsDistinct-tail}
-use Rattle.std.proofs.lemmas.Map.Made.{IsDistinct-keys_filter, distinct_count-le, is_member-filter, is_some-lookup, length-from_keys}
-use Rattle.mv_pack.specs.declared.key.PackKey.{PackKey}
-use Rattle.mv_pack.specs.Keys.{is_same_pack, pack_key}
-use Rattle.mv_repository.specs.declared.counted.Counted.{Counted}
-use Rattle.mv_repository.specs.declared.counted.Counted.TheVariants.{Held, Active}
-use Rattle.mv_repository.specs.declared.entry.LogEntry.{LogEntry}
-use Rattle.mv_repository.specs.declared.slot.Slot.{Slot}
-use Rattle.mv_repository.specs.Counted.{is_counted, slots_counted, packs_counted}
-use Rattle.mv_repository.specs.Counts.{uploaded_packs}
-use Rattle.mv_repository.specs.Packs.{PackTables, ArePacksOf}
-use Rattle.mv_repository.specs.Shelf.{ShelfTable, nothing_kept, kept_by, kept_on, no_shelf, shelf_of}
-use Rattle.mv_repository.specs.Track.{Kept, bare, track_of}
+use Rattle.mv_repository.proofs.Words.{nat_tests, bytes_eq, ◌^◌, ◌==◌, ◌≡◌, ℕ, ◌-◌, ◌<◌, List, [], ◌∷◌, ◌++◌, length, map, filter, not, min, refl, sym, ◌∙◌, ap, arith, Bool, true, false, cond, ◌&&◌, ◌||◌, Option, Some, None, is_some, true≢false, or-false, and-false, list_any-append, lookup-filter-values, option_filter, IsDistinct-cons, IsDistinct-head, IsDistinct-tail, IsDistinct-keys_filter, distinct_count-le, is_member-filter, is_some-lookup, length-from_keys, IsEquivalence, nat_list_eq_equiv, same_text, AllByRecursion, IsDistinct, lookup, keys_of, option_map_or, unwrap_or, distinct_count, is_member, is_same_pack, pack_key, PackKey, LogEntry, Slot, is_counted, slots_counted, packs_counted, uploaded_packs, ShelfTable, nothing_kept, kept_by, kept_on, no_shelf, shelf_of, AreTablesOf, Kept, bare, track_of, Counted, Held, Active, Tables}
+use Rattle.std.proofs.lemmas.List.Filters.{length-filter_both}
 use Rattle.mv_repository.proofs.KeptLemmas.{same_pack, pack-self, pack-sym}
-use Rattle.mv_repository.proofs.UploadedLemmas.{any-append, uploaded-found}
+use Rattle.mv_repository.proofs.UploadedLemmas.{uploaded-found}
 
 pack-equiv : IsEquivalence is_same_pack
 pack-equiv = record {
@@ -51,17 +29,8 @@ pub none-counted : (counted : Counted) → is_counted counted nothing_kept ≡ f
 none-counted Held = refl
 none-counted Active = refl
 
-or_none : (b : Bool) → (b || false) ≡ b
-or_none true = refl
-or_none false = refl
-
-and_false : (b : Bool) → (b && false) ≡ false
-and_false true = refl
-and_false false = refl
-
 or_last : (b c : Bool) → c ≡ true → (b || c) ≡ true
-or_last true c e = refl
-or_last false c e = e
+or_last b c e = grind (arith, nat_tests)
 
 -- no key but the first of distinct ones is equal to it
 absent : {X : Type 0} (key : List ℕ) (es : List (List ℕ × X)) → AllByRecursion (λ y. bytes_eq key y ≡ false) (keys_of es) → lookup (bytes_eq key) es ≡ None
@@ -99,17 +68,16 @@ distinct-product gtin (s ∷ rest) d =
   where
     apart_keys : (ys : List (List ℕ)) → AllByRecursion (λ y. bytes_eq s y ≡ false) ys → AllByRecursion (λ p. is_same_pack (pack_key gtin s) p ≡ false) (map (pack_key gtin) ys)
     apart_keys [] h = tt
-    apart_keys (y ∷ ys) h = (ap (λ b. bytes_eq gtin gtin && b) h.0 ∙ and_false (bytes_eq gtin gtin), apart_keys ys h.1)
+    apart_keys (y ∷ ys) h = (ap (λ b. bytes_eq gtin gtin && b) h.0 ∙ and-false (bytes_eq gtin gtin), apart_keys ys h.1)
 
 in-product : (gtin : List ℕ) (serials : List (List ℕ)) (q : PackKey) → is_member is_same_pack (map (pack_key gtin) serials) q ≡ (bytes_eq q.gtin gtin && is_member bytes_eq serials q.serial)
-in-product gtin [] q = sym (and_false (bytes_eq q.gtin gtin))
+in-product gtin [] q = sym (and-false (bytes_eq q.gtin gtin))
 in-product gtin (s ∷ rest) q =
     ap (λ b. (bytes_eq q.gtin gtin && bytes_eq q.serial s) || b) (in-product gtin rest q)
     ∙ spread (bytes_eq q.gtin gtin) (bytes_eq q.serial s) (is_member bytes_eq rest q.serial)
   where
     spread : (a b c : Bool) → ((a && b) || (a && c)) ≡ (a && (b || c))
-    spread true b c = refl
-    spread false b c = refl
+    spread a b c = grind (arith, nat_tests)
 
 -- no serial number stands twice on a shelf
 abbrev pub IsKeyed : ShelfTable → Type 0
@@ -140,7 +108,7 @@ module _ (counted : Counted) where
       → is_member is_same_pack (packs_counted counted shelves) q ≡ is_counted counted (kept_on (shelf_of q.gtin shelves).slots (shelf_of q.gtin shelves).tracks q.serial)
   in-shelves [] d keyed q = sym (none-counted counted)
   in-shelves (s ∷ rest) d keyed q =
-      any-append (is_same_pack q) (map (pack_key s.0) (keys_of (slots_counted counted s.1))) (packs_counted counted rest)
+      list_any-append (is_same_pack q) (map (pack_key s.0) (keys_of (slots_counted counted s.1))) (packs_counted counted rest)
       ∙ (λ i. in-product s.0 (keys_of (slots_counted counted s.1)) q i || in-shelves rest (IsDistinct-tail bytes_eq s.0 (keys_of rest) d) keyed.1 q i)
       ∙ by (bytes_eq q.gtin s.0) refl
     where
@@ -150,7 +118,7 @@ module _ (counted : Counted) where
       by false e = refl
       by true e =
           (λ i. on-shelf s.1 keyed.0 q.serial i || off-shelves q.gtin q.serial rest other i)
-          ∙ or_none (is_counted counted (kept_on s.1.slots s.1.tracks q.serial))
+          ∙ or-false (is_counted counted (kept_on s.1.slots s.1.tracks q.serial))
         where
           other : AllByRecursion (λ y. bytes_eq q.gtin y ≡ false) (keys_of rest)
           other = rw (same_text q.gtin s.0 (sym e)) (IsDistinct-head bytes_eq s.0 (keys_of rest) d)
@@ -172,11 +140,11 @@ module _ (counted : Counted) where
       )
 
   -- the packs that are counted shelf by shelf are those that a log has
-  all-counted : (log : List LogEntry) (packs : PackTables) → ArePacksOf log packs → IsDistinct bytes_eq (keys_of packs.shelves) → AllByRecursion (λ shelf. IsKeyed shelf.1) packs.shelves
-      → length (packs_counted counted packs.shelves) ≡ distinct_count is_same_pack (filter (λ pack. is_counted counted (track_of pack log)) (uploaded_packs log))
-  all-counted log packs are d keyed =
-      length-from_keys pack-equiv (packs_counted counted packs.shelves) (filter test (uploaded_packs log)) (in-distinct packs.shelves d keyed)
-      (λ q. in-shelves packs.shelves d keyed q ∙ counted-bare counted (kept_on (shelf_of q.gtin packs.shelves).slots (shelf_of q.gtin packs.shelves).tracks q.serial)
+  all-counted : (log : List LogEntry) (tables : Tables) → AreTablesOf log tables → IsDistinct bytes_eq (keys_of tables.shelves.entries) → AllByRecursion (λ shelf. IsKeyed shelf.1) tables.shelves.entries
+      → length (packs_counted counted tables.shelves.entries) ≡ distinct_count is_same_pack (filter (λ pack. is_counted counted (track_of pack log)) (uploaded_packs log))
+  all-counted log tables are d keyed =
+      length-from_keys pack-equiv (packs_counted counted tables.shelves.entries) (filter test (uploaded_packs log)) (in-distinct tables.shelves.entries d keyed)
+      (λ q. in-shelves tables.shelves.entries d keyed q ∙ counted-bare counted (kept_on (shelf_of q.gtin tables.shelves.entries).slots (shelf_of q.gtin tables.shelves.entries).tracks q.serial)
       ∙ ap (is_counted counted) ((are.shelves q.gtin).kept q.serial).bare
       ∙ sym (is_member-filter pack-equiv test q (λ y e. ap test (same_pack q y e)) (uploaded_packs log) ∙ ap (λ b. b && test q) (sym (uploaded-found log q)) ∙ there q (test q) refl))
     where
@@ -185,31 +153,18 @@ module _ (counted : Counted) where
 
       there : (q : PackKey) (b : Bool) → test q ≡ b → (is_some (track_of q log).birth && b) ≡ b
       there q true e = ap (λ c. c && true) (born counted (track_of q log) e)
-      there q false e = and_false (is_some (track_of q log).birth)
-
-  -- one shelf more
-  pub counted-more : (shelf : List ℕ × ShelfTable) (rest : List (List ℕ × ShelfTable)) → length (packs_counted counted (shelf ∷ rest)) ≡ length (slots_counted counted shelf.1) + length (packs_counted counted rest)
-  counted-more shelf rest =
-      length-append (map (pack_key shelf.0) (keys_of (slots_counted counted shelf.1))) (packs_counted counted rest)
-      ∙ ap (λ n. n + length (packs_counted counted rest)) (length-map (keys_of (slots_counted counted shelf.1)) (pack_key shelf.0) ∙ length-keys_of (slots_counted counted shelf.1))
+      there q false e = and-false (is_some (track_of q log).birth)
 
   -- and no more than 64 bits hold
-  pub counted-whole : (log : List LogEntry) (packs : PackTables) (count : ℕ) → ArePacksOf log packs → IsDistinct bytes_eq (keys_of packs.shelves) → AllByRecursion (λ shelf. IsKeyed shelf.1) packs.shelves
-      → packs.named < 2 ^ 64 → count ≡ min (length (packs_counted counted packs.shelves)) (2 ^ 64 - 1)
+  pub counted-whole : (log : List LogEntry) (tables : Tables) (count : ℕ) → AreTablesOf log tables → IsDistinct bytes_eq (keys_of tables.shelves.entries) → AllByRecursion (λ shelf. IsKeyed shelf.1) tables.shelves.entries
+      → tables.named < 2 ^ 64 → count ≡ min (length (packs_counted counted tables.shelves.entries)) (2 ^ 64 - 1)
       → count ≡ distinct_count is_same_pack (filter (λ pack. is_counted counted (track_of pack log)) (uploaded_packs log))
-  counted-whole log packs count are d keyed fits e =
-      let same = all-counted log packs are d keyed in
+  counted-whole log tables count are d keyed fits e =
+      let same = all-counted log tables are d keyed in
       let few = distinct_count-le is_same_pack (filter (λ pack. is_counted counted (track_of pack log)) (uploaded_packs log)) in
-      let part = filter-le (λ pack. is_counted counted (track_of pack log)) (uploaded_packs log) in
+      let part = length-filter_both (λ pack. is_counted counted (track_of pack log)) (λ pack. not (is_counted counted (track_of pack log))) (λ pack. refl) (uploaded_packs log) in
       let named = are.named in
       omega (arith, e, same, few, part, named, fits)
-    where
-      filter-le : (f : PackKey → Bool) (xs : List PackKey) → length (filter f xs) ≤ length xs
-      filter-le f [] = omega arith
-      filter-le f (x ∷ xs) = elim (f x) as (λ b. length (cond b (x ∷ filter f xs) (filter f xs)) ≤ length (x ∷ xs)) [
-        | true ↦ let l = filter-le f xs in omega (arith, l)
-        | false ↦ let l = filter-le f xs in omega (arith, l)
-      ]
 
 -- the packs that are held are those that the log names
 pub held-all : (log : List LogEntry) → distinct_count is_same_pack (filter (λ pack. is_some (track_of pack log).birth) (uploaded_packs log)) ≡ distinct_count is_same_pack (uploaded_packs log)

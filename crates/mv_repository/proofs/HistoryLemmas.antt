@@ -1,28 +1,9 @@
 -- Two logs that have the same history of a pack agree on it.
-use Rattle.std.proofs.Common.{◌≡◌, ℕ, List, [], ◌∷◌, refl, sym, ◌∙◌, ap, Bool, true, false, cond, Option, Some, None, IfSome, is_some, true≢false, find, fold, map}
-use Rattle.std.specs.Option.{option_map, option_and_then}
-use Rattle.mv_pack.specs.declared.key.PackKey.{PackKey}
-use Rattle.mv_pack.specs.declared.key.BatchKey.{BatchKey}
-use Rattle.mv_pack.specs.Keys.{batch_key}
-use Rattle.mv_message.specs.declared.message.Message.TheVariants.{Upload, Status}
-use Rattle.mv_link.specs.declared.item.Item.{Item}
-use Rattle.mv_link.specs.declared.item.Item.TheVariants.{Receipt, Carried}
-use Rattle.mv_repository.specs.declared.entry.LogEntry.{LogEntry}
-use Rattle.mv_repository.specs.declared.stops.BatchStanding.{BatchStanding}
-use Rattle.mv_repository.specs.Order.{Placed, stands_before, ordered}
-use Rattle.mv_repository.specs.Pack.{KnownPack, new_pack, pack_after_status}
-use Rattle.mv_repository.specs.PackState.{held_of, is_recall_of, is_withdrawal_of, is_withdrawn}
-use Rattle.mv_repository.specs.Agreement.{Sent, sent_in, batch_in, unplaced, unplaced_state, is_batch_recalled, AgreeOn}
-use Rattle.mv_repository.specs.Listing.{batch_in as item_batch}
-use Rattle.mv_repository.specs.Masters.{entry_of}
-use Rattle.mv_repository.specs.State.{pack_made_by}
-use Rattle.mv_repository.specs.Stops.{FirstStops, first_stops, is_before, standing_at}
-use Rattle.mv_repository.specs.Track.{first_upload, statuses_of, pack_changed, pack_step, pack_grown}
-use Rattle.mv_repository.specs.History.{PackHistory, SentStatus, SentHistory, sent_of, sent_status, history_of, as_sent, HaveSameHistory}
-use Rattle.mv_repository.proofs.OrderLemmas.{ordered-ascends}
+use Rattle.mv_repository.proofs.Words.{◌≡◌, ℕ, List, [], ◌∷◌, refl, sym, ◌∙◌, ap, Bool, true, false, cond, cond_both, Option, Some, None, IfSome, is_some, true≢false, find, fold, map, option_map, option_and_then, PackKey, BatchKey, batch_key, Upload, Status, Item, Receipt, Carried, LogEntry, BatchStanding, Placed, stands_before, ordered, KnownPack, new_pack, pack_after_status, held_of, is_recall_of, is_withdrawal_of, is_withdrawn, Sent, sent_in, unplaced, unplaced_state, is_batch_recalled, AgreeOn, item_batch, entry_of, pack_made_by, FirstStops, first_stops, is_before, standing_at, first_upload, statuses_of, pack_changed, pack_step, pack_grown, PackHistory, SentStatus, SentHistory, sent_of, sent_status, history_of, as_sent, HaveSameHistory}
+use Rattle.mv_repository.specs.Agreement.{batch_in}
+use Rattle.mv_repository.proofs.OrderLemmas.{cond_two, find-true, ordered-ascends}
 use Rattle.mv_repository.proofs.StateLemmas.{known-grown}
 use Rattle.mv_repository.proofs.BeforeLemmas.{any-find}
-use Rattle.mv_repository.proofs.ActiveLemmas.{find-true}
 use Rattle.mv_repository.proofs.AgreementLemmas.{batch-status, status-unplaced, agree-by}
 
 -- no status changes the batch
@@ -34,10 +15,8 @@ changed-batch standing place sender _ pack held = refl
 
 step-batch : (stops : FirstStops) (pack : PackKey) (birth : Placed) (held : KnownPack) (x : Placed) → (pack_step stops pack birth held x).batch ≡ held.batch
 step-batch stops pack birth held x =
-    elim (stands_before birth x) as (λ b. (cond b (pack_changed (standing_at stops x) x.place x.entry.sender x.entry.item pack held) held).batch ≡ held.batch) [
-      | true ↦ changed-batch (standing_at stops x) x.place x.entry.sender x.entry.item pack held
-      | false ↦ refl
-    ]
+    cond_both (stands_before birth x) (pack_changed (standing_at stops x) x.place x.entry.sender x.entry.item pack held) held (λ h. h.batch ≡ held.batch)
+    (λ e. changed-batch (standing_at stops x) x.place x.entry.sender x.entry.item pack held) (λ e. refl)
 
 fold-batch : (stops : FirstStops) (pack : PackKey) (birth : Placed) (held : KnownPack) (xs : List Placed) → (fold (pack_step stops pack birth) held xs).batch ≡ held.batch
 fold-batch stops pack birth held [] = refl
@@ -102,11 +81,9 @@ module _ (stops : FirstStops) (pack : PackKey) where
   fold-sent birth held number (x ∷ xs) e =
       fold-sent birth (pack_step stops pack birth held x) number xs (step-batch stops pack birth held x ∙ e)
       ∙ ap (λ (h : KnownPack). fold (step_of pack) h (map (status (Some birth) (Some number)) xs))
-      (elim (stands_before birth x) as (λ b. unplaced (cond b (pack_changed (standing_at stops x) x.place x.entry.sender x.entry.item pack held) held)
-      ≡ cond b (changed_of pack (standing_at stops x (batch_key pack.gtin number)) (unplaced held) (sent_of x)) (unplaced held)) [
-        | true ↦ changed-sent (standing_at stops x) x.place x.entry.sender x.entry.item pack held number e
-        | false ↦ refl
-      ])
+      (cond_two (stands_before birth x) (pack_changed (standing_at stops x) x.place x.entry.sender x.entry.item pack held) held
+      (changed_of pack (standing_at stops x (batch_key pack.gtin number)) (unplaced held) (sent_of x)) (unplaced held) (λ a b. unplaced a ≡ b)
+      (λ t. changed-sent (standing_at stops x) x.place x.entry.sender x.entry.item pack held number e) (λ t. refl))
 
   grown-sent : (upload : Option Placed) (own : List Placed) → option_map unplaced (pack_grown stops pack upload own)
       ≡ option_map (λ held. fold (step_of pack) held (map (status upload (option_and_then (λ (x : Placed). item_batch x.entry.item) upload)) own)) (made_of (option_and_then sent_of upload))

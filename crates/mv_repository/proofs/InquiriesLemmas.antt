@@ -1,20 +1,5 @@
 -- Lemmas on what a log says of its party's queries.
-use Rattle.std.proofs.Common.{◌≡◌, ℕ, suc, IfSome, List, [], ◌∷◌, ◌++◌, refl, sym, ◌∙◌, ap, Bool, true, false, cond, not, ◌&&◌, ◌||◌, ◌==◌, Option, Some, None, is_some, filter, length, true≢false}
-use Rattle.std.specs.List.{list_any}
-use Rattle.std.specs.Option.{option_or, option_map, option_map_or}
-use Rattle.std.proofs.Math.Bool.{or-false}
-use Rattle.std.proofs.lemmas.List.Folds.{list_any-append}
-use Rattle.mv_message.specs.declared.message.Message.TheVariants.{Answer}
-use Rattle.mv_message.specs.declared.found.Found.{Found}
-use Rattle.mv_link.specs.declared.item.Item.{Item}
-use Rattle.mv_link.specs.declared.item.Item.TheVariants.{Receipt, Carried}
-use Rattle.mv_pack.specs.declared.key.PackKey.{PackKey}
-use Rattle.mv_repository.specs.declared.entry.LogEntry.{LogEntry}
-use Rattle.mv_repository.specs.declared.inquiries.Inquiries.{Inquiries}
-use Rattle.mv_repository.specs.declared.inquiries.Inquiry.{Inquiry}
-use Rattle.mv_repository.specs.declared.verdict.Joint.TheVariants.{Pending, Decided}
-use Rattle.mv_repository.specs.Verdict.{query_reach, asked_parties, finding_in, has_answered, has_finding, found_active, found_explained, joint_verdict_when, joint_verdict, verdict_when}
-use Rattle.mv_repository.specs.Inquiries.{tells_of_query, inquiry_in, with_receipt, with_finding, has_reply, named_parties, parties_at, verdict_once_asked, known_verdict, is_receipt_of, receipt_place, inquiry_of, IsInquiriesOf}
+use Rattle.mv_repository.proofs.Words.{arith, nat_tests, ◌≡◌, ℕ, suc, IfSome, List, [], ◌∷◌, ◌++◌, refl, sym, ◌∙◌, ap, Bool, true, false, cond, not, ◌&&◌, ◌||◌, ◌==◌, Option, Some, None, is_some, filter, length, true≢false, list_any, option_or, option_map, option_map_or, or-false, list_any-append, Answer, Found, Item, Receipt, Carried, PackKey, LogEntry, Inquiries, Inquiry, Pending, Decided, query_reach, asked_parties, finding_in, has_answered, has_finding, found_active, found_explained, joint_verdict_when, joint_verdict, verdict_when, tells_of_query, inquiry_in, with_receipt, with_finding, has_reply, named_parties, parties_at, verdict_once_asked, known_verdict, is_receipt_of, receipt_place, inquiry_of, IsInquiriesOf}
 
 -- there is a finding, and it is so
 abbrev is_found_so : (Found → Bool) → Option Found → Bool
@@ -80,19 +65,16 @@ abbrev pub TellsNothing : ℕ → ℕ → Item → ℕ → Type 0
 TellsNothing party sender item q = (is_receipt_of party q (entry_of sender item) ≡ false) × (finding_in party q item ≡ None)
 
 no_reach : (mine : Bool) → (mine && false) ≡ false
-no_reach true = refl
-no_reach false = refl
+no_reach mine = grind (arith, nat_tests)
 
 no_receipt : (mine is_query same : Bool) (reach : List ℕ) → (is_query && mine) ≡ false
     → (mine && is_some (cond (same && is_query) (Some reach) None)) ≡ false
 no_receipt false b c reach e = refl
-no_receipt true false false reach e = refl
-no_receipt true false true reach e = refl
+no_receipt true false c reach e = grind (arith, nat_tests)
 no_receipt true true c reach e = absurd (true≢false e)
 
 no_finding : (mine same : Bool) (found : Found) → mine ≡ false → cond (mine && same) (Some found) None ≡ None
-no_finding false c found e = refl
-no_finding true c found e = absurd (true≢false e)
+no_finding mine same found e = grind (arith, nat_tests)
 
 pub tells_nothing : (party sender : ℕ) (item : Item) → tells_of_query party sender item ≡ false → (q : ℕ) → TellsNothing party sender item q
 tells_nothing party sender (Receipt k reach query) e q = (no_receipt (sender == party) query (k == q) reach e, refl)
@@ -100,9 +82,7 @@ tells_nothing party sender (Carried k stamp (Answer asker asked key found)) e q 
 tells_nothing party sender (Carried k stamp message) e q = (no_reach (sender == party), refl)
 
 unanswered : (known from : Bool) → (known || (from && false)) ≡ known
-unanswered true from = refl
-unanswered false true = refl
-unanswered false false = refl
+unanswered known from = grind (arith, nat_tests)
 
 -- an entry that tells nothing of any query leaves what is known
 pub known_stays : (party : ℕ) (log : List LogEntry) (sender : ℕ) (item : Item) (known : Inquiries) → ((q : ℕ) → TellsNothing party sender item q)
@@ -165,14 +145,8 @@ finding_step false same from place found inquiry e = absurd (true≢false (sym e
 
 reply_step : (mine same from known : Bool) (found : Found) → mine ≡ true
     → ((same && from) || known) ≡ (known || (from && is_some (cond (mine && same) (Some found) None)))
-reply_step true true true true found e = refl
-reply_step true true true false found e = refl
-reply_step true true false true found e = refl
-reply_step true true false false found e = refl
-reply_step true false true true found e = refl
-reply_step true false true false found e = refl
-reply_step true false false true found e = refl
-reply_step true false false false found e = refl
+reply_step true true from known found e = grind (arith, nat_tests)
+reply_step true false from known found e = grind (arith, nat_tests)
 reply_step false same from known found e = absurd (true≢false (sym e))
 
 pub answer_noted : (party : ℕ) (log : List LogEntry) (sender k stamp asker asked : ℕ) (key : PackKey) (found : Found) (known known' : Inquiries)

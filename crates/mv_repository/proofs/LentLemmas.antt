@@ -1,23 +1,10 @@
 -- The places that the tables keep of a pack are those of its history.
-use Rattle.std.specs.Prelude.{bytes_eq}
-use Rattle.std.proofs.Common.{◌≡◌, ℕ, List, [], ◌∷◌, refl, sym, ◌∙◌, ap, Bool, true, false, cond, Option, Some, None, IfSome, find, filter, map, get_or}
-use Rattle.std.specs.List.{AllByRecursion}
-use Rattle.std.specs.Map.{lookup}
-use Rattle.std.specs.Option.{option_map, option_and_then}
-use Rattle.mv_pack.specs.declared.key.PackKey.{PackKey}
-use Rattle.mv_pack.specs.Keys.{is_same_batch, batch_key}
-use Rattle.mv_repository.specs.declared.entry.LogEntry.{LogEntry}
-use Rattle.mv_repository.specs.Order.{Placed, ordered}
-use Rattle.mv_repository.specs.PackState.{is_recall_of, is_withdrawal_of}
+use Rattle.mv_repository.proofs.Words.{bytes_eq, ◌≡◌, ℕ, List, refl, sym, ◌∙◌, ap, Option, Some, None, IfSome, map, get_or, lookup, option_map, option_and_then, is_same_batch, batch_key, PackKey, LogEntry, IsAt, AreAt, history_of, batch_at, item_batch, Placed, ordered, is_recall_of, is_withdrawal_of, StopTables, AreStopsOf, first_stops, entry_at, place_of, no_entry, is_upload_of, is_status_of, first_upload, statuses_of, track_of}
 use Rattle.mv_repository.specs.Agreement.{batch_in}
-use Rattle.mv_repository.specs.Listing.{batch_at, batch_in as item_batch}
-use Rattle.mv_repository.specs.Stops.{StopTables, AreStopsOf, first_stops, entry_at, place_of, no_entry}
-use Rattle.mv_repository.specs.Track.{is_upload_of, is_status_of, first_upload, statuses_of, track_of}
-use Rattle.mv_repository.specs.History.{IsAt, AreAt, history_of}
-use Rattle.mv_repository.proofs.OrderLemmas.{AreOf, ordered-of, ordered-stand}
+use Rattle.mv_repository.proofs.HistoryLemmas.{batch-upload}
+use Rattle.mv_repository.proofs.OrderLemmas.{ordered-of, ordered-stand, filter-all, find-all}
 use Rattle.mv_repository.proofs.StateLemmas.{find-stand, find-stands, map-stands}
 use Rattle.mv_repository.proofs.TableLemmas.{filter-stand}
-use Rattle.mv_repository.proofs.HistoryLemmas.{batch-upload}
 
 module _ (log : List LogEntry) (pack : PackKey) where
   pub lent-upload : option_map (entry_at log) (track_of pack log).birth ≡ (history_of pack log).upload
@@ -49,33 +36,24 @@ module _ (log : List LogEntry) (pack : PackKey) where
           ≡ option_and_then (λ (number : List ℕ). (first_stops (ordered log)).recall (batch_key pack.gtin number)) b
       by None = refl
       by (Some number) =
-          ap (option_map (entry_at log)) (stops.recalls (batch_key pack.gtin number))
+          ap (option_map (entry_at log)) (stops.recalls.found (batch_key pack.gtin number))
           ∙ find-stands (λ x. is_recall_of (batch_key pack.gtin number) x.entry.item) log (ordered log) (ordered-stand log)
 
   pub lent-withdrawal : (tables : StopTables) → AreStopsOf log tables
       → option_map (entry_at log) (lookup (bytes_eq pack.gtin) tables.withdrawals) ≡ (history_of pack log).withdrawal
   lent-withdrawal tables stops =
-      ap (option_map (entry_at log)) (stops.withdrawals pack.gtin)
+      ap (option_map (entry_at log)) (stops.withdrawals.found pack.gtin)
       ∙ find-stands (λ x. is_withdrawal_of pack.gtin x.entry.item) log (ordered log) (ordered-stand log)
-
-  find-at : (f : Placed → Bool) (xs : List Placed) → AreOf log xs → IfSome (find f xs) (IsAt log)
-  find-at f [] s = tt
-  find-at f (x ∷ xs) s = elim (f x) as (λ b. IfSome (cond b (Some x) (find f xs)) (IsAt log)) [ true ↦ s.0 | false ↦ find-at f xs s.1 ]
-
-  filter-at : (f : Placed → Bool) (xs : List Placed) → AreOf log xs → AllByRecursion (IsAt log) (filter f xs)
-  filter-at f [] s = tt
-  filter-at f (x ∷ xs) s =
-      elim (f x) as (λ b. AllByRecursion (IsAt log) (cond b (x ∷ filter f xs) (filter f xs))) [ true ↦ (s.0, filter-at f xs s.1) | false ↦ filter-at f xs s.1 ]
 
   -- each entry of a history is the one at its place
   pub history-at : AreAt log (history_of pack log)
   history-at = record {
-    upload = find-at (λ x. is_upload_of pack x.entry.item) (ordered log) (ordered-of log);
-    statuses = filter-at (λ x. is_status_of pack x.entry.item) (ordered log) (ordered-of log);
+    upload = find-all (IsAt log) (λ x. is_upload_of pack x.entry.item) (ordered log) (ordered-of log);
+    statuses = filter-all (IsAt log) (λ x. is_status_of pack x.entry.item) (ordered log) (ordered-of log);
     recall = by (batch_in pack log);
-    withdrawal = find-at (λ x. is_withdrawal_of pack.gtin x.entry.item) (ordered log) (ordered-of log);
+    withdrawal = find-all (IsAt log) (λ x. is_withdrawal_of pack.gtin x.entry.item) (ordered log) (ordered-of log);
   }
     where
       by : (b : Option (List ℕ)) → IfSome (option_and_then (λ (number : List ℕ). (first_stops (ordered log)).recall (batch_key pack.gtin number)) b) (IsAt log)
       by None = tt
-      by (Some number) = find-at (λ x. is_recall_of (batch_key pack.gtin number) x.entry.item) (ordered log) (ordered-of log)
+      by (Some number) = find-all (IsAt log) (λ x. is_recall_of (batch_key pack.gtin number) x.entry.item) (ordered log) (ordered-of log)

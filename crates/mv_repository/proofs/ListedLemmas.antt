@@ -1,31 +1,16 @@
 -- Each track stays listed under the batch of its pack.
-use Rattle.std.specs.Prelude.{bytes_eq}
-use Rattle.std.proofs.Common.{◌≡◌, ℕ, ◌+◌, ◌<◌, ◌||◌, List, [], ◌∷◌, length, get_or, take, refl, sym, ◌∙◌, ap, subst, Bool, true, false, cond, Option, Some, None, IfSome, is_some, true≢false, Result, Ok, Err, OnOk, OnErr}
-use Rattle.std.proofs.lemmas.List.Folds.{list_any_more}
-use Rattle.std.specs.HashSet.{HashSet}
-use Rattle.std.specs.Cmp.Lexicographic.{same_text}
-use Rattle.std.specs.Map.{lookup}
-use Rattle.std.specs.Option.{option_map, option_map_or, unwrap_or}
-use Rattle.mv_pack.specs.declared.key.PackKey.{PackKey}
-use Rattle.mv_pack.specs.Keys.{pack_key}
-use Rattle.mv_repository.specs.declared.entry.LogEntry.{LogEntry}
-use Rattle.mv_repository.specs.declared.slot.Slot.{Slot}
-use Rattle.mv_repository.specs.declared.slot.Slot.TheVariants.{Own}
-use Rattle.mv_repository.specs.Order.{Placed, ordered}
-use Rattle.mv_repository.specs.Listing.{numbers_in, numbers_of, has_number, HasAllOf, batch_in, batch_at, AreListed}
-use Rattle.mv_repository.specs.Shelf.{IsUploadOf, has, kept_on, AreMadeListed}
-use Rattle.mv_repository.specs.Stops.{no_entry, place_of, comes_first, earlier_place}
-use Rattle.mv_repository.specs.Track.{Kept, first_upload, is_upload_of, track_of}
-use Rattle.mv_repository.proofs.OrderLemmas.{ordered-stand, still-stand}
+use Rattle.mv_repository.proofs.Words.{bytes_eq, ◌≡◌, ℕ, ◌+◌, ◌<◌, ◌||◌, List, [], ◌∷◌, length, get_or, take, refl, sym, ◌∙◌, ap, subst, Bool, true, false, cond, Option, Some, None, IfSome, is_some, true≢false, Result, Ok, Err, OnOk, OnErr, list_any_more, HashSet, same_text, lookup, option_map, option_map_or, unwrap_or, PackKey, pack_key, LogEntry, Slot, Own, Placed, ordered, ListingTable, numbers_in, numbers_of, has_number, lists, HasAllOf, batch_at, AreListed, IsUploadOf, has, AreMadeListed, HasNoOther, no_entry, place_of, comes_first, earlier_place, first_upload, is_upload_of, track_of}
+use Rattle.mv_repository.specs.Listing.{batch_in}
+use Rattle.mv_repository.proofs.OrderLemmas.{cond_two, ordered-stand, still-stand}
 use Rattle.mv_repository.proofs.StateLemmas.{find-stand}
 use Rattle.mv_repository.proofs.TableLemmas.{longer, find-none, find-some}
-use Rattle.mv_repository.proofs.TrackLemmas.{log-split, log-length}
+use Rattle.mv_repository.proofs.TableLemmas.{log-split, log-length}
 use Rattle.mv_repository.proofs.UploadLemmas.{upload-has}
 
--- what holds holds where a call fails
-pub on_ok : {A E : Type 0} → (r : Result A E) (P : Type 0) → P → OnOk r P
-on_ok (Ok x) P p = p
-on_ok (Err e) P p = tt
+-- what holds where a call ends well, and what holds where it fails
+pub on_map : {A E P Q : Type 0} → (r : Result A E) → OnOk r P → (P → Q) → OnOk r Q
+on_map (Ok x) p f = f p
+on_map (Err e) p f = tt
 
 pub on_err : {A E : Type 0} → (r : Result A E) (P : Type 0) → P → OnErr r P
 on_err (Ok x) P p = tt
@@ -36,11 +21,8 @@ pub numbers-are : {S : Type 0} → (batch : List ℕ) (batches : List (List ℕ 
     → numbers_of (numbers_in batches) batch ≡ option_map_or (λ (set : HashSet ℕ S). set.keys) (lookup (bytes_eq batch) batches) []
 numbers-are batch [] = refl
 numbers-are {S} batch (e ∷ es) =
-    elim (bytes_eq batch e.0) as (λ b. unwrap_or (cond b (Some e.1.keys) (lookup (bytes_eq batch) (numbers_in es))) []
-    ≡ option_map_or (λ (set : HashSet ℕ S). set.keys) (cond b (Some e.1) (lookup (bytes_eq batch) es)) []) [
-      | true ↦ refl
-      | false ↦ numbers-are batch es
-    ]
+    cond_two (bytes_eq batch e.0) (Some e.1.keys) (lookup (bytes_eq batch) (numbers_in es)) (Some e.1) (lookup (bytes_eq batch) es)
+    (λ o p. unwrap_or o [] ≡ option_map_or (λ (set : HashSet ℕ S). set.keys) p []) (λ t. refl) (λ t. numbers-are batch es)
 
 pub numbers-some : {S : Type 0} → (batch : List ℕ) (batches : List (List ℕ × HashSet ℕ S)) (set : HashSet ℕ S) → lookup (bytes_eq batch) batches ≡ Some set
     → numbers_of (numbers_in batches) batch ≡ set.keys
@@ -80,21 +62,11 @@ pub batch-stays : (whole : List LogEntry) (place : ℕ) → length whole ≡ pla
 batch-stays whole place l pack birth e =
     ap (λ (w : List LogEntry). batch_at w birth) (log-split whole place l) ∙ batch-newest (take place whole) (get_or whole place no_entry) pack birth e
 
-pub listed-newest : (log : List LogEntry) (entry : LogEntry) (gtin : List ℕ) (slots : List (List ℕ × Slot)) (own : List (List ℕ × List ℕ))
-    → ((serial : List ℕ) → (track_of (pack_key gtin serial) (longer log entry)).birth ≡ (track_of (pack_key gtin serial) log).birth) → AreListed log gtin slots own → AreListed (longer log entry) gtin slots own
-listed-newest log entry gtin slots own same listed serial number birth batch f b e =
-    let before = sym (same serial) ∙ b in
-    listed serial number birth batch f before (sym (batch-newest log entry (pack_key gtin serial) birth before) ∙ e)
-
--- more is listed
-pub listed-more : (log : List LogEntry) (gtin : List ℕ) (slots : List (List ℕ × Slot)) (own own' : List (List ℕ × List ℕ)) → HasAllOf own own' → AreListed log gtin slots own → AreListed log gtin slots own'
-listed-more log gtin slots own own' more listed serial number birth batch f b e = more batch number (listed serial number birth batch f b e)
-
-module _ (whole : List LogEntry) (place : ℕ) (l : length whole ≡ place + 1) (gtin : List ℕ) (slots : List (List ℕ × Slot)) (own : List (List ℕ × List ℕ)) (listed : AreListed (take place whole) gtin slots own) where
+module _ (whole : List LogEntry) (place : ℕ) (l : length whole ≡ place + 1) (gtin : List ℕ) (slots : List (List ℕ × Slot)) (own : ListingTable) (listed : AreListed (take place whole) gtin slots own) where
   -- a pack whose first upload stays
   pub listed-one : (serial : List ℕ) → (track_of (pack_key gtin serial) whole).birth ≡ (track_of (pack_key gtin serial) (take place whole)).birth
       → (number birth : ℕ) (batch : List ℕ) → lookup (bytes_eq serial) slots ≡ Some (Own number) → (track_of (pack_key gtin serial) whole).birth ≡ Some birth → batch_at whole birth ≡ Some batch
-      → has_number (numbers_of own batch) number ≡ true
+      → lists own batch number ≡ true
   listed-one serial same number birth batch f b e =
       let before = sym same ∙ b in
       listed serial number birth batch f before (sym (batch-stays whole place l (pack_key gtin serial) birth before) ∙ e)
@@ -113,14 +85,14 @@ module _ (whole : List LogEntry) (place : ℕ) (l : length whole ≡ place + 1) 
     listed-none = listed-stay same_birth
 
     -- one pack has a track that it had not
-    pub listed-track : (mine : List ℕ) (slots' : List (List ℕ × Slot)) (own' : List (List ℕ × List ℕ)) → HasAllOf own own'
+    pub listed-track : (mine : List ℕ) (slots' : List (List ℕ × Slot)) (own' : ListingTable) → HasAllOf own own'
         → ((other : List ℕ) → bytes_eq mine other ≡ false → lookup (bytes_eq other) slots' ≡ lookup (bytes_eq other) slots)
         → ((number birth : ℕ) (batch : List ℕ) → lookup (bytes_eq mine) slots' ≡ Some (Own number) → (track_of (pack_key gtin mine) (take place whole)).birth ≡ Some birth → batch_at whole birth ≡ Some batch
-        → has_number (numbers_of own' batch) number ≡ true)
+        → lists own' batch number ≡ true)
         → AreListed whole gtin slots' own'
     listed-track mine slots' own' more others now serial number birth batch f b e = by (bytes_eq mine serial) refl
       where
-        by : (c : Bool) → bytes_eq mine serial ≡ c → has_number (numbers_of own' batch) number ≡ true
+        by : (c : Bool) → bytes_eq mine serial ≡ c → lists own' batch number ≡ true
         by false h = more batch number (listed-one serial (same_birth serial) number birth batch (sym (others serial h) ∙ f) b e)
         by true h =
             let is : serial ≡ mine = sym (same_text mine serial (sym h)) in
@@ -128,10 +100,9 @@ module _ (whole : List LogEntry) (place : ℕ) (l : length whole ≡ place + 1) 
             (ap (λ (s : List ℕ). (track_of (pack_key gtin s) (take place whole)).birth) (sym is) ∙ sym (same_birth serial) ∙ b) e
 
   -- an upload, under whose batch the tracks are listed of the packs that it makes
-  pub listed-upload : (serials : List (List ℕ)) → IsUploadOf (get_or whole place no_entry).item gtin serials → (slots' : List (List ℕ × Slot)) (own' : List (List ℕ × List ℕ)) → HasAllOf own own'
-      → ((serial : List ℕ) (number : ℕ) → lookup (bytes_eq serial) slots' ≡ Some (Own number) → lookup (bytes_eq serial) slots ≡ Some (Own number))
-      → ((serial : List ℕ) (number : ℕ) (batch : List ℕ) → has serials serial ≡ true → lookup (bytes_eq serial) slots ≡ Some (Own number)
-      → comes_first whole place (track_of (pack_key gtin serial) (take place whole)).birth ≡ true → batch_at whole place ≡ Some batch → has_number (numbers_of own' batch) number ≡ true)
+  pub listed-upload : (serials : List (List ℕ)) → IsUploadOf (get_or whole place no_entry).item gtin serials → (slots' : List (List ℕ × Slot)) (own' : ListingTable) → HasAllOf own own'
+      → HasNoOther slots slots'
+      → AreMadeListed whole place serials gtin slots' own'
       → AreListed whole gtin slots' own'
   listed-upload serials upload slots' own' more owns made serial number birth batch f b e = by (has serials serial) refl
     where
@@ -144,7 +115,7 @@ module _ (whole : List LogEntry) (place : ℕ) (l : length whole ≡ place + 1) 
       split : whole ≡ longer (take place whole) entry
       split = log-split whole place l
 
-      by : (c : Bool) → has serials serial ≡ c → has_number (numbers_of own' batch) number ≡ true
+      by : (c : Bool) → has serials serial ≡ c → lists own' batch number ≡ true
       by false h =
           more batch number (listed-one serial
           (ap (λ (w : List LogEntry). (track_of pack w).birth) split
@@ -158,24 +129,25 @@ module _ (whole : List LogEntry) (place : ℕ) (l : length whole ≡ place + 1) 
               ∙ find-some (λ placed. is_upload_of pack placed.entry.item) (take place whole) entry (upload-has entry.item gtin serials upload serial ∙ h)
               ∙ (λ i. earlier_place (sym split i) (sym (log-length whole place l) i) (track_of pack (take place whole)).birth)
 
-          first : (d : Bool) → comes_first whole place (track_of pack (take place whole)).birth ≡ d → has_number (numbers_of own' batch) number ≡ true
+          first : (d : Bool) → comes_first whole place (track_of pack (take place whole)).birth ≡ d → lists own' batch number ≡ true
           first true d =
               let here : place ≡ birth = ap (λ (o : Option ℕ). unwrap_or o 0) (sym (earlier ∙ ap (λ c. cond c (Some place) (track_of pack (take place whole)).birth) d) ∙ b) in
-              made serial number batch h (owns serial number f) d (ap (batch_at whole) here ∙ e)
+              made serial number batch h f d (ap (batch_at whole) here ∙ e)
           first false d =
               more batch number (listed-one serial (earlier ∙ ap (λ c. cond c (Some place) (track_of pack (take place whole)).birth) d) number birth batch (owns serial number f) b e)
 
 -- one serial number more
-pub made-more : (log : List LogEntry) (place : ℕ) (slots : List (List ℕ × Slot)) (tracks : List Kept) (serials : List (List ℕ)) (at : ℕ) (own own' : List (List ℕ × List ℕ))
-    → at < length serials → HasAllOf own own' → AreMadeListed log place (take at serials) slots tracks own
-    → ((number : ℕ) (batch : List ℕ) → lookup (bytes_eq (get_or serials at [])) slots ≡ Some (Own number) → comes_first log place (kept_on slots tracks (get_or serials at [])).birth ≡ true
-    → batch_at log place ≡ Some batch → has_number (numbers_of own' batch) number ≡ true)
-    → AreMadeListed log place (take (at + 1) serials) slots tracks own'
-made-more log place slots tracks serials at own own' l more listed now serial number batch h f first b =
+pub made-more : (log : List LogEntry) (place : ℕ) (gtin : List ℕ) (slots slots' : List (List ℕ × Slot)) (serials : List (List ℕ)) (at : ℕ) (own own' : ListingTable)
+    → at < length serials → HasAllOf own own' → HasNoOther slots slots' → AreMadeListed log place (take at serials) gtin slots own
+    → (has (take at serials) (get_or serials at []) ≡ false → (number : ℕ) (batch : List ℕ) → lookup (bytes_eq (get_or serials at [])) slots' ≡ Some (Own number)
+    → comes_first log place (track_of (pack_key gtin (get_or serials at [])) (take place log)).birth ≡ true → batch_at log place ≡ Some batch → lists own' batch number ≡ true)
+    → AreMadeListed log place (take (at + 1) serials) gtin slots' own'
+made-more log place gtin slots slots' serials at own own' l more owns listed now serial number batch h f first b =
     by (has (take at serials) serial) refl (sym (list_any_more (λ one. bytes_eq one serial) serials at [] l) ∙ h)
   where
-    by : (c : Bool) → has (take at serials) serial ≡ c → (has (take at serials) serial || bytes_eq (get_or serials at []) serial) ≡ true → has_number (numbers_of own' batch) number ≡ true
-    by true e g = more batch number (listed serial number batch e f first b)
+    by : (c : Bool) → has (take at serials) serial ≡ c → (has (take at serials) serial || bytes_eq (get_or serials at []) serial) ≡ true → lists own' batch number ≡ true
+    by true e g = more batch number (listed serial number batch e (owns serial number f) first b)
     by false e g =
         let is : serial ≡ get_or serials at [] = sym (same_text (get_or serials at []) serial (sym (ap (λ c. c || bytes_eq (get_or serials at []) serial) (sym e) ∙ g))) in
-        now number batch (ap (λ (s : List ℕ). lookup (bytes_eq s) slots) (sym is) ∙ f) (ap (λ (s : List ℕ). comes_first log place (kept_on slots tracks s).birth) (sym is) ∙ first) b
+        now (ap (has (take at serials)) (sym is) ∙ e) number batch (ap (λ (s : List ℕ). lookup (bytes_eq s) slots') (sym is) ∙ f)
+        (ap (λ (s : List ℕ). comes_first log place (track_of (pack_key gtin s) (take place log)).birth) (sym is) ∙ first) b

@@ -1,29 +1,8 @@
 -- What `next` gives is one step of the pack's state, so the place of one entry is all that has to be kept of it.
-use Rattle.std.proofs.Common.{◌≡◌, ℕ, List, [], ◌∷◌, refl, sym, ◌∙◌, ap, subst, Bool, true, false, cond, Option, Some, None, IfSome, true≢false, fold, ◌==◌}
-use Rattle.std.proofs.lemmas.Bool.Decides.{nat_tests}
-use Rattle.std.proofs.Common.{arith}
-use Rattle.std.specs.List.{AllByRecursion}
-use Rattle.std.specs.Option.{option_map, option_map_or}
-use Rattle.mv_pack.specs.declared.key.PackKey.{PackKey}
-use Rattle.mv_pack.specs.declared.key.BatchKey.{BatchKey}
-use Rattle.mv_message.specs.declared.standing.Standing.{Standing}
+use Rattle.mv_repository.proofs.Words.{◌≡◌, ℕ, List, [], ◌∷◌, refl, sym, ◌∙◌, ap, subst, Bool, true, false, cond, Option, Some, None, IfSome, true≢false, fold, ◌==◌, eqb-true, AllByRecursion, option_map, option_map_or, PackKey, BatchKey, Standing, Upload, Status, Item, Carried, CivilDate, LogEntry, PartySet, batch_key, Effect, may_have, IsCovered, BatchStanding, Placed, stands_before, KnownPack, is_active, is_final, is_done, change_effect, revert_effect, pack_made_by, standing_in, change_in, known_at, effect_by, next_by, next_place, FirstStops, standing_at, entry_at, pack_changed, pack_step, pack_grown}
+use Rattle.std.proofs.lemmas.Iterator.Adapters.{option_map_id}
 use Rattle.mv_message.specs.declared.standing.Standing.TheVariants as standings
-use Rattle.mv_message.specs.declared.message.Message.TheVariants.{Upload, Status}
-use Rattle.mv_link.specs.declared.item.Item.{Item}
-use Rattle.mv_link.specs.declared.item.Item.TheVariants.{Carried}
-use Rattle.mv_pack.specs.Expiry.{CivilDate}
-use Rattle.mv_repository.specs.declared.entry.LogEntry.{LogEntry}
-use Rattle.mv_link.specs.declared.party_set.PartySet.{PartySet}
-use Rattle.mv_repository.specs.declared.effect.Effect.{Effect}
-use Rattle.mv_repository.specs.Blocks.{may_have, IsCovered}
 use Rattle.mv_repository.specs.declared.effect.Effect.TheVariants as effects
-use Rattle.mv_repository.specs.declared.stops.BatchStanding.{BatchStanding}
-use Rattle.mv_pack.specs.Keys.{batch_key}
-use Rattle.mv_repository.specs.Order.{Placed, stands_before}
-use Rattle.mv_repository.specs.Pack.{KnownPack, is_active, is_final, is_done, change_effect, revert_effect}
-use Rattle.mv_repository.specs.State.{pack_made_by, standing_in, change_in, known_at, effect_by, next_by, next_place}
-use Rattle.mv_repository.specs.Stops.{FirstStops, standing_at, entry_at}
-use Rattle.mv_repository.specs.Track.{pack_changed, pack_step, pack_grown}
 
 active-only : (to : Standing) → is_active to ≡ true → to ≡ standings.Active
 active-only standings.Active e = refl
@@ -93,10 +72,6 @@ next-step stops pack birth by placed = made (pack_made_by birth.entry.item) refl
         let none : (x : Placed) → known_at birth x ≡ None = λ x. ap (λ (o : Option KnownPack). stood o x.place x.entry.sender x.entry.item) e in
         none (next_by stops pack.gtin (Some birth) by placed) ∙ ap (option_map (λ held. pack_step stops pack birth held placed)) (sym (none by))
 
-map_self : (o : Option KnownPack) → option_map (λ one. one) o ≡ o
-map_self None = refl
-map_self (Some one) = refl
-
 map_twice : (f g : KnownPack → KnownPack) (o : Option KnownPack) → option_map (λ held. g (f held)) o ≡ option_map g (option_map f o)
 map_twice f g None = refl
 map_twice f g (Some one) = refl
@@ -104,7 +79,7 @@ map_twice f g (Some one) = refl
 -- and all of them, one after another, are the state
 pub grown-from : (stops : FirstStops) (pack : PackKey) (birth by : Placed) (xs : List Placed)
     → option_map (λ held. fold (pack_step stops pack birth) held xs) (known_at birth by) ≡ known_at birth (fold (next_by stops pack.gtin (Some birth)) by xs)
-grown-from stops pack birth by [] = map_self (known_at birth by)
+grown-from stops pack birth by [] = option_map_id (known_at birth by)
 grown-from stops pack birth by (x ∷ xs) =
     map_twice (λ held. pack_step stops pack birth held x) (λ held. fold (pack_step stops pack birth) held xs) (known_at birth by)
     ∙ ap (option_map (λ held. fold (pack_step stops pack birth) held xs)) (sym (next-step stops pack birth by x))
@@ -166,9 +141,6 @@ own-passed log stops gtin birth by (place ∷ own) reverters changed none covere
     (ap (λ (x : Placed). x.place) (next-passed stops gtin (option_map (entry_at log) birth) (entry_at log by) (entry_at log place) changed (λ r. apart (covered.0 r) ((entry_at log by).entry.sender == (entry_at log place).entry.sender) refl)))
     ∙ own-passed log stops gtin birth by own reverters changed none covered.1
   where
-    is_number : (a b : ℕ) → (a == b) ≡ true → a ≡ b
-    is_number a b e = grind (arith, nat_tests)
-
     apart : may_have reverters (entry_at log place).entry.sender ≡ true → (b : Bool) → ((entry_at log by).entry.sender == (entry_at log place).entry.sender) ≡ b → b ≡ false
     apart h false e = refl
-    apart h true e = absurd (true≢false (sym h ∙ sym (ap (may_have reverters) (is_number (entry_at log by).entry.sender (entry_at log place).entry.sender e)) ∙ none))
+    apart h true e = absurd (true≢false (sym h ∙ sym (ap (may_have reverters) (eqb-true (entry_at log by).entry.sender (entry_at log place).entry.sender e)) ∙ none))

@@ -1,56 +1,45 @@
 -- Two logs with distinct stamps that have the same messages about a pack have them in the same order.
-use Rattle.std.proofs.Common.{◌≡◌, ℕ, zero, suc, ◌<◌, List, [], ◌∷◌, length, get_or, refl, sym, ◌∙◌, ap, subst, arith, Bool, true, false, cond, ◌&&◌, ◌||◌, ◌==◌, nat_lt, Option, Some, filter, true≢false, ◌⊎◌, inl, inr}
-use Rattle.std.specs.Bool.{⊤}
-use Rattle.std.specs.List.{Contains}
-use Rattle.std.specs.Option.{option_and_then}
-use Rattle.std.specs.Prelude.{slice_get}
-use Rattle.std.proofs.lemmas.Bool.{eqb-true, ltb-true}
-use Rattle.mv_pack.specs.declared.key.PackKey.{PackKey}
-use Rattle.mv_message.specs.declared.message.Message.{Message}
-use Rattle.mv_link.specs.declared.item.Item.{Item}
-use Rattle.mv_link.specs.declared.item.Item.TheVariants.{Receipt, Carried}
-use Rattle.mv_repository.specs.declared.entry.LogEntry.{LogEntry}
-use Rattle.std.proofs.lemmas.Option.{slice_get_within, get_or_from_slice_get, slice_get-get_or}
-use Rattle.mv_repository.specs.Order.{Placed, ordered, put_in, passes, stands_before, Ascends}
-use Rattle.mv_repository.specs.Agreement.{Sent, sent_in, sent_by, bears_on, batch_in, about, AgreeOn, HasDistinctStamps, HaveSameAbout, HaveSameEntries}
-use Rattle.mv_repository.proofs.OrderLemmas.{placed_after, StandsBeforeAll, AreOf, ordered-ascends, ordered-of}
-use Rattle.mv_repository.proofs.AgreementLemmas.{agree, first_batch, batch-first}
+use Rattle.mv_repository.proofs.Words.{◌≡◌, ℕ, zero, suc, ◌<◌, List, [], ◌∷◌, length, get_or, refl, sym, ◌∙◌, ap, subst, arith, Bool, true, false, cond, ◌&&◌, ◌||◌, ◌==◌, nat_lt, Option, Some, filter, ◌⊎◌, inl, inr, ⊤, Contains, option_and_then, slice_get, nat_tests, ltb-true, PackKey, Message, Item, Receipt, Carried, LogEntry, slice_get_within, get_or_from_slice_get, slice_get-get_or, AllByRecursion, cons_option, None, Placed, ordered, put_in, stands_before, Ascends, Sent, sent_in, sent_by, bears_on, about, AgreeOn, HasDistinctStamps, HaveSameAbout, HaveSameEntries}
+use Rattle.std.proofs.lemmas.List.Elements.{All-contains, All-from_recursion}
+use Rattle.std.proofs.lemmas.List.Sorted.{Contains-permutation}
+use Rattle.mv_repository.specs.Agreement.{batch_in}
+use Rattle.mv_repository.proofs.OrderLemmas.{placed_after, put_in-permutes, StandsBeforeAll, AreOf, ordered-ascends, ordered-of, filter-all}
+use Rattle.mv_repository.proofs.AboutLemmas.{agree, first_batch, batch-first}
 use Rattle.mv_repository.proofs.StampsLemmas.{stamp_in, stamp_at, HasNoStampTwice, not-twice}
 
 -- each stamp is greater
 abbrev AllAbove : ℕ → List Sent → Type 0
-AllAbove stamp [] = ⊤
-AllAbove stamp (first ∷ rest) = (stamp < first.stamp) × AllAbove stamp rest
+AllAbove stamp sent = AllByRecursion (λ one. stamp < one.stamp) sent
 
 -- each stamp is greater than those before
 abbrev Increases : List Sent → Type 0
 Increases [] = ⊤
 Increases (first ∷ rest) = AllAbove first.stamp rest × Increases rest
 
+-- members of a list
+module _ {A : Type 0} where
+  contains-here : (x : A) (xs : List A) → Contains (x ∷ xs) x
+  contains-here x xs = (0, omega arith, refl)
+
+  contains-there : (x y : A) (ys : List A) → Contains ys x → Contains (y ∷ ys) x
+  contains-there x y ys c = (suc c.0, omega (arith, c.1), c.2)
+
+  contains-either : (x y : A) (ys : List A) → Contains (y ∷ ys) x → (y ≡ x) ⊎ Contains ys x
+  contains-either x y ys c = by c.0 c.1 c.2
+    where
+      by : (k : ℕ) → k < length (y ∷ ys) → get_or (y ∷ ys) k x ≡ x → (y ≡ x) ⊎ Contains ys x
+      by zero l e = inl e
+      by (suc k) l e = inr (k, omega (arith, l), e)
+
+  contains-none : (x : A) → Contains [] x → ⊥
+  contains-none x c = omega (arith, c.1)
+
+  of-all : (P : A → Type 0) (xs : List A) (x : A) → AllByRecursion P xs → Contains xs x → P x
+  of-all P xs x all c = All-contains P xs x (All-from_recursion P xs all) c
+
 -- of two lists with increasing stamps and the same members
-contains-here : (x : Sent) (xs : List Sent) → Contains (x ∷ xs) x
-contains-here x xs = (0, omega arith, refl)
-
-contains-there : (x y : Sent) (ys : List Sent) → Contains ys x → Contains (y ∷ ys) x
-contains-there x y ys c = (suc c.0, omega (arith, c.1), c.2)
-
-contains-either : (x y : Sent) (ys : List Sent) → Contains (y ∷ ys) x → (y ≡ x) ⊎ Contains ys x
-contains-either x y ys c = by c.0 c.1 c.2
-  where
-    by : (k : ℕ) → k < length (y ∷ ys) → get_or (y ∷ ys) k x ≡ x → (y ≡ x) ⊎ Contains ys x
-    by zero l e = inl e
-    by (suc k) l e = inr (k, omega (arith, l), e)
-
-contains-none : (x : Sent) → Contains [] x → ⊥
-contains-none x c = omega (arith, c.1)
-
 above-member : (stamp : ℕ) (x : Sent) (ys : List Sent) → AllAbove stamp ys → Contains ys x → stamp < x.stamp
-above-member stamp x [] above c = absurd (contains-none x c)
-above-member stamp x (y ∷ ys) above c =
-    elim (contains-either x y ys c) as (λ _. stamp < x.stamp) [
-      | inl same ↦ subst (λ (s : Sent). stamp < s.stamp) same above.0
-      | inr later ↦ above-member stamp x ys above.1 later
-    ]
+above-member stamp x ys above c = of-all (λ one. stamp < one.stamp) ys x above c
 
 first-same : (x y : Sent) (xs ys : List Sent) → Increases (x ∷ xs) → Increases (y ∷ ys) → Contains (y ∷ ys) x → Contains (x ∷ xs) y → x ≡ y
 first-same x y xs ys p q a b =
@@ -82,26 +71,20 @@ same-order (x ∷ xs) (y ∷ ys) p q f g =
     λ i. first i ∷ rest i
 
 -- a part of a list with increasing stamps
-above-filter : (f : Sent → Bool) (stamp : ℕ) (xs : List Sent) → AllAbove stamp xs → AllAbove stamp (filter f xs)
-above-filter f stamp [] a = tt
-above-filter f stamp (x ∷ xs) a = elim (f x) as (λ b. AllAbove stamp (cond b (x ∷ filter f xs) (filter f xs))) [ true ↦ (a.0, above-filter f stamp xs a.1) | false ↦ above-filter f stamp xs a.1 ]
-
 increases-filter : (f : Sent → Bool) (xs : List Sent) → Increases xs → Increases (filter f xs)
 increases-filter f [] a = tt
-increases-filter f (x ∷ xs) a = elim (f x) as (λ b. Increases (cond b (x ∷ filter f xs) (filter f xs))) [ true ↦ (above-filter f x.stamp xs a.0, increases-filter f xs a.1) | false ↦ increases-filter f xs a.1 ]
+increases-filter f (x ∷ xs) a = elim (f x) as (λ b. Increases (cond b (x ∷ filter f xs) (filter f xs))) [ true ↦ (filter-all (λ one. x.stamp < one.stamp) f xs a.0, increases-filter f xs a.1) | false ↦ increases-filter f xs a.1 ]
 
 -- of two stamps, where equal ones would stand at one place
 less-stamp : (a b m n : ℕ) → (nat_lt a b || ((a == b) && nat_lt m n)) ≡ true → (a ≡ b → m ≡ n) → a < b
-less-stamp a b m n e same = by (nat_lt a b) refl (a == b) refl (nat_lt m n) refl e
+less-stamp a b m n e same = by (nat_lt a b) refl
   where
-    by : (p : Bool) → nat_lt a b ≡ p → (q : Bool) → (a == b) ≡ q → (r : Bool) → nat_lt m n ≡ r → (p || (q && r)) ≡ true → a < b
-    by true p q _ r _ _ = ltb-true a b p
-    by false p true q true r _ =
-        let less : m < n = ltb-true m n r in
-        let equal : m ≡ n = same (eqb-true a b q) in
-        absurd (omega (arith, less, equal))
-    by false p true q false r e = absurd (true≢false (sym e))
-    by false p false q r _ e = absurd (true≢false (sym e))
+    by : (p : Bool) → nat_lt a b ≡ p → a < b
+    by true p = ltb-true a b p
+    by false p =
+        let equal : a ≡ b = grind (arith, nat_tests) in
+        let less : m < n = grind (arith, nat_tests) in
+        absurd (omega (arith, less, same equal))
 
 stamp-there : (log : List LogEntry) (x : Placed) → slice_get log x.place ≡ Some x.entry → stamp_at log x.place ≡ stamp_in x.entry.item
 stamp-there log x there = ap (option_and_then (λ (entry : LogEntry). stamp_in entry.item)) there
@@ -140,94 +123,58 @@ same_about pack one other distinct apart same =
     (same-order (about pack one) (about pack other) (about-increases pack one distinct) (about-increases pack other apart)
     (λ sent. (same sent).0) (λ sent. (same sent).1))
 
--- the message that a placed entry carries, in front of others
+-- the message that a placed entry carries
 abbrev sent_of : Placed → Option Sent
 sent_of x = sent_in x.entry.sender x.entry.item
 
-sent-first : (x : Placed) (xs : List Placed) (sent : Sent) → sent_of x ≡ Some sent → Contains (sent_by (x ∷ xs)) sent
-sent-first x xs sent e = by x.entry.item e
-  where
-    by : (item : Item) → sent_in x.entry.sender item ≡ Some sent → Contains (sent_by (record { place = x.place; entry = record { sender = x.entry.sender; item = item } } ∷ xs)) sent
-    by (Receipt k reach query) e = absurd (cc)
-    by (Carried k stamp message) e =
-        let same : record { sender = x.entry.sender; stamp = stamp; message = message } ≡ sent = cc e in
-        subst (λ (s : Sent). Contains (s ∷ sent_by xs) sent) (sym same) (contains-here sent (sent_by xs))
-
-sent-later : (x : Placed) (xs : List Placed) (sent : Sent) → Contains (sent_by xs) sent → Contains (sent_by (x ∷ xs)) sent
-sent-later x xs sent c = by x.entry.item
-  where
-    by : (item : Item) → Contains (sent_by (record { place = x.place; entry = record { sender = x.entry.sender; item = item } } ∷ xs)) sent
-    by (Receipt k reach query) = c
-    by (Carried k stamp message) = contains-there sent (record { sender = x.entry.sender; stamp = stamp; message = message }) (sent_by xs) c
-
-sent-either : (x : Placed) (xs : List Placed) (sent : Sent) → Contains (sent_by (x ∷ xs)) sent → (sent_of x ≡ Some sent) ⊎ Contains (sent_by xs) sent
-sent-either x xs sent c = by x.entry.item c
-  where
-    by : (item : Item) → Contains (sent_by (record { place = x.place; entry = record { sender = x.entry.sender; item = item } } ∷ xs)) sent
-        → (sent_in x.entry.sender item ≡ Some sent) ⊎ Contains (sent_by xs) sent
-    by (Receipt k reach query) c = inr c
-    by (Carried k stamp message) c =
-        elim (contains-either sent (record { sender = x.entry.sender; stamp = stamp; message = message }) (sent_by xs) c)
-        as (λ _. (Some (record { sender = x.entry.sender; stamp = stamp; message = message }) ≡ Some sent) ⊎ Contains (sent_by xs) sent) [
-          | inl same ↦ inl (ap Some same)
-          | inr later ↦ inr later
-        ]
-
 -- an entry that is put in is there, and those that were there stay
-sent-put : (x : Placed) (xs : List Placed) (sent : Sent) → sent_of x ≡ Some sent → Contains (sent_by (put_in x xs)) sent
-sent-put x [] sent e = sent-first x [] sent e
-sent-put x (y ∷ ys) sent e = by (passes x y) (sent-put x ys sent e)
-  where
-    by : (b : Bool) → Contains (sent_by (put_in x ys)) sent → Contains (sent_by (cond b (x ∷ y ∷ ys) (y ∷ put_in x ys))) sent
-    by true later = sent-first x (y ∷ ys) sent e
-    by false later = sent-later y (put_in x ys) sent later
-
-sent-kept : (x : Placed) (xs : List Placed) (sent : Sent) → Contains (sent_by xs) sent → Contains (sent_by (put_in x xs)) sent
-sent-kept x [] sent c = absurd (contains-none sent c)
-sent-kept x (y ∷ ys) sent c = by (passes x y) (sent-either y ys sent c) (sent-kept x ys sent)
-  where
-    by : (b : Bool) → (sent_of y ≡ Some sent) ⊎ Contains (sent_by ys) sent → (Contains (sent_by ys) sent → Contains (sent_by (put_in x ys)) sent)
-        → Contains (sent_by (cond b (x ∷ y ∷ ys) (y ∷ put_in x ys))) sent
-    by true either kept = sent-later x (y ∷ ys) sent c
-    by false (inl first) kept = sent-first y (put_in x ys) sent first
-    by false (inr later) kept = sent-later y (put_in x ys) sent (kept later)
-
-sent-stays : (placed : List Placed) (log : List LogEntry) (sent : Sent) → Contains (sent_by placed) sent → Contains (sent_by (placed_after placed log)) sent
-sent-stays placed [] sent c = c
-sent-stays placed (entry ∷ log) sent c =
+stays : (placed : List Placed) (log : List LogEntry) (y : Placed) → Contains placed y → Contains (placed_after placed log) y
+stays placed [] y c = c
+stays placed (entry ∷ log) y c =
     let x : Placed = record { place = length placed; entry = entry } in
-    sent-stays (put_in x placed) log sent (sent-kept x placed sent c)
+    stays (put_in x placed) log y (Contains-permutation (x ∷ placed) (put_in x placed) y (put_in-permutes x placed) (contains-there y x placed c))
 
--- each message of a log stands in its order
-sent-at : (placed : List Placed) (log : List LogEntry) (i : ℕ) (entry : LogEntry) (sent : Sent) → slice_get log i ≡ Some entry
-    → sent_in entry.sender entry.item ≡ Some sent → Contains (sent_by (placed_after placed log)) sent
-sent-at placed [] i entry sent at e = absurd (cc)
-sent-at placed (first ∷ log) zero entry sent at e =
+-- so each entry of a log stands in its order
+came : (placed : List Placed) (log : List LogEntry) (i : ℕ) (entry : LogEntry) → slice_get log i ≡ Some entry → (x : Placed) × (x.entry ≡ entry) × Contains (placed_after placed log) x
+came placed [] i entry at = absurd (cc)
+came placed (first ∷ log) zero entry at =
     let x : Placed = record { place = length placed; entry = first } in
     let same : first ≡ entry = cc at in
-    sent-stays (put_in x placed) log sent
-    (sent-put x placed sent (ap (λ (x : LogEntry). sent_in x.sender x.item) same ∙ e))
-sent-at placed (first ∷ log) (suc i) entry sent at e = sent-at (put_in (record { place = length placed; entry = first }) placed) log i entry sent at e
+    (x, same, stays (put_in x placed) log x (Contains-permutation (x ∷ placed) (put_in x placed) x (put_in-permutes x placed) (contains-here x placed)))
+came placed (first ∷ log) (suc i) entry at = came (put_in (record { place = length placed; entry = first }) placed) log i entry at
 
--- and each message in that order is one of the log
-sent-from : (log : List LogEntry) (xs : List Placed) (sent : Sent) → AreOf log xs → Contains (sent_by xs) sent
-    → (i : ℕ) × (entry : LogEntry) × (slice_get log i ≡ Some entry) × (sent_in entry.sender entry.item ≡ Some sent)
-sent-from log [] sent of c = absurd (contains-none sent c)
-sent-from log (x ∷ xs) sent of c = by (sent-either x xs sent c) (sent-from log xs sent of.1)
+-- the messages that entries carry, one by one
+sent-in : (xs : List Placed) (x : Placed) (sent : Sent) → Contains xs x → sent_of x ≡ Some sent → Contains (sent_by xs) sent
+sent-in [] x sent c e = absurd (contains-none x c)
+sent-in (y ∷ ys) x sent c e =
+    elim (contains-either x y ys c) as (λ _. Contains (sent_by (y ∷ ys)) sent) [
+      | inl same ↦ subst (λ (o : Option Sent). Contains (cons_option o (sent_by ys)) sent) (sym (ap sent_of same ∙ e)) (contains-here sent (sent_by ys))
+      | inr later ↦ behind (sent_of y) (sent-in ys x sent later e)
+    ]
   where
-    by : (sent_of x ≡ Some sent) ⊎ Contains (sent_by xs) sent
-        → (Contains (sent_by xs) sent → (i : ℕ) × (entry : LogEntry) × (slice_get log i ≡ Some entry) × (sent_in entry.sender entry.item ≡ Some sent))
-        → (i : ℕ) × (entry : LogEntry) × (slice_get log i ≡ Some entry) × (sent_in entry.sender entry.item ≡ Some sent)
-    by (inl first) rest = (x.place, x.entry, of.0, first)
-    by (inr later) rest = rest later
+    behind : (o : Option Sent) → Contains (sent_by ys) sent → Contains (cons_option o (sent_by ys)) sent
+    behind None c = c
+    behind (Some first) c = contains-there sent first (sent_by ys) c
+
+sent-out : (xs : List Placed) (sent : Sent) → Contains (sent_by xs) sent → (x : Placed) × Contains xs x × (sent_of x ≡ Some sent)
+sent-out [] sent c = absurd (contains-none sent c)
+sent-out (y ∷ ys) sent c = by (sent_of y) refl (λ d. let r = sent-out ys sent d in (r.0, contains-there r.0 y ys r.1, r.2)) c
+  where
+    by : (o : Option Sent) → sent_of y ≡ o → (Contains (sent_by ys) sent → (x : Placed) × Contains (y ∷ ys) x × (sent_of x ≡ Some sent))
+        → Contains (cons_option o (sent_by ys)) sent → (x : Placed) × Contains (y ∷ ys) x × (sent_of x ≡ Some sent)
+    by None e rest c = rest c
+    by (Some first) e rest c =
+        elim (contains-either sent first (sent_by ys) c) as (λ _. (x : Placed) × Contains (y ∷ ys) x × (sent_of x ≡ Some sent)) [ inl same ↦ (y, contains-here y ys, e ∙ ap Some same) | inr later ↦ rest later ]
 
 -- each entry of one log is in another: so each of its messages stands in the order of that
 sent-also : (one other : List LogEntry) (sent : Sent) → ((entry : LogEntry) → Contains one entry → Contains other entry)
     → Contains (sent_by (ordered one)) sent → Contains (sent_by (ordered other)) sent
 sent-also one other sent also c =
-    let here = sent-from one (ordered one) sent (ordered-of one) c in
-    let there = also here.1 (here.0, slice_get_within one here.0 here.1 here.2, get_or_from_slice_get one here.0 here.1 here.1 here.2) in
-    sent-at [] other there.0 here.1 sent (slice_get-get_or other there.0 here.1 there.1 ∙ ap Some there.2) here.3
+    let x = sent-out (ordered one) sent c in
+    let at = of-all (λ x. slice_get one x.place ≡ Some x.entry) (ordered one) x.0 (ordered-of one) x.1 in
+    let there = also x.0.entry (x.0.place, slice_get_within one x.0.place x.0.entry at, get_or_from_slice_get one x.0.place x.0.entry x.0.entry at) in
+    let y = came [] other there.0 x.0.entry (slice_get-get_or other there.0 x.0.entry there.1 ∙ ap Some there.2) in
+    sent-in (ordered other) y.0 sent y.2 (ap (λ (e : LogEntry). sent_in e.sender e.item) y.1 ∙ x.2)
 
 -- two logs with distinct stamps and the same entries agree on every pack
 pub same_entries : (pack : PackKey) (one other : List LogEntry) → HasDistinctStamps one → HasDistinctStamps other → HaveSameEntries one other → AgreeOn pack one other

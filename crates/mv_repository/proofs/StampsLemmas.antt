@@ -1,13 +1,5 @@
 -- Lemmas on the stamps of a log: they are distinct where none stands at two places.
-use Rattle.std.proofs.Common.{◌≡◌, ℕ, zero, suc, List, [], ◌∷◌, refl, sym, ◌∙◌, ap, arith, Bool, true, false, nat_eq, Option, Some, None}
-use Rattle.std.specs.List.{filter_map, AllByRecursion, IsDistinct}
-use Rattle.std.specs.Option.{option_map, option_and_then}
-use Rattle.std.specs.Prelude.{slice_get}
-use Rattle.std.proofs.lemmas.Bool.Decides.{nat_tests}
-use Rattle.mv_link.specs.declared.item.Item.{Item}
-use Rattle.mv_link.specs.declared.item.Item.TheVariants.{Receipt, Carried}
-use Rattle.mv_repository.specs.declared.entry.LogEntry.{LogEntry}
-use Rattle.mv_repository.specs.Agreement.{Sent, sent_in, HasDistinctStamps}
+use Rattle.mv_repository.proofs.Words.{◌≡◌, ℕ, zero, suc, List, [], ◌∷◌, refl, sym, ◌∙◌, ap, arith, Bool, true, false, nat_eq, Option, Some, None, filter_map, AllByRecursion, IsDistinct, option_map, option_and_then, slice_get, nat_tests, Item, Receipt, Carried, LogEntry, Sent, sent_in, HasDistinctStamps}
 
 -- the stamp of an item that was carried, and of the one at a place of a log
 abbrev pub stamp_in : Item → Option ℕ

@@ -1,30 +1,12 @@
 -- What a pack is depends on its own entries, the first recall of its batch and the first withdrawal of its product.
-use Rattle.std.proofs.Common.{◌≡◌, ℕ, List, [], ◌∷◌, ◌++◌, refl, sym, ◌∙◌, ap, append_assoc, Bool, true, false, cond, ◌||◌, Option, Some, None, IsSome, IfSome, true≢false, find, fold, map, subst, get_or}
-use Rattle.std.specs.List.{list_any}
-use Rattle.std.specs.Option.{option_or, option_map}
-use Rattle.mv_pack.specs.declared.key.PackKey.{PackKey}
-use Rattle.mv_pack.specs.declared.key.BatchKey.{BatchKey}
-use Rattle.mv_message.specs.declared.message.Message.TheVariants.{Upload, Status}
-use Rattle.mv_link.specs.declared.item.Item.{Item}
-use Rattle.mv_link.specs.declared.item.Item.TheVariants.{Carried}
-use Rattle.mv_repository.specs.declared.entry.LogEntry.{LogEntry}
-use Rattle.mv_repository.specs.declared.stops.BatchStanding.{BatchStanding}
-use Rattle.mv_repository.specs.Order.{Placed, stands_before, Ascends}
-use Rattle.mv_repository.specs.Pack.{KnownPack}
-use Rattle.mv_repository.specs.PackState.{is_recall_of, is_withdrawal_of, batch_standing, pack_after_item, known_pack_from, known_pack}
-use Rattle.mv_repository.specs.Stops.{FirstStops, first_stops, is_before, standing_at, entry_at, place_of, no_entry}
-use Rattle.mv_repository.specs.Track.{is_upload_of, is_status_of, first_upload, statuses_of, pack_changed, pack_step, pack_grown}
-use Rattle.mv_repository.specs.State.{pack_made_by}
-use Rattle.mv_repository.proofs.OrderLemmas.{StandsBeforeAll, stands-asym, stands-self, Stand}
+use Rattle.mv_repository.proofs.Words.{◌≡◌, ℕ, List, [], ◌∷◌, ◌++◌, refl, sym, ◌∙◌, ap, append_assoc, Bool, true, false, cond, cond_both, ◌||◌, Option, Some, None, IsSome, IfSome, true≢false, find, fold, map, subst, get_or, list_any, option_or, option_map, Item, Carried, Upload, Status, BatchKey, PackKey, LogEntry, Placed, stands_before, Ascends, KnownPack, is_recall_of, is_withdrawal_of, batch_standing, pack_after_item, known_pack_from, known_pack, pack_made_by, FirstStops, first_stops, is_before, standing_at, entry_at, place_of, no_entry, is_upload_of, is_status_of, first_upload, statuses_of, pack_changed, pack_step, pack_grown, BatchStanding}
+use Rattle.mv_repository.proofs.OrderLemmas.{StandsBeforeAll, stands-asym, stands-self, Stand, find-all}
 
 -- what is found behind y doesn't stand before it
 not_before : (f : Placed → Bool) (y : Placed) (xs : List Placed) → StandsBeforeAll y xs → is_before (find f xs) y ≡ false
 not_before f y [] h = refl
 not_before f y (x ∷ xs) h =
-    elim (f x) as (λ b. is_before (cond b (Some x) (find f xs)) y ≡ false) [
-      | true ↦ stands-asym y x h.0
-      | false ↦ not_before f y xs h.1
-    ]
+    cond_both (f x) (Some x) (find f xs) (λ o. is_before o y ≡ false) (λ e. stands-asym y x h.0) (λ e. not_before f y xs h.1)
 
 at_behind : (z y : Placed) (xs rest : List Placed) → StandsBeforeAll z (xs ++ y ∷ rest) → stands_before z y ≡ true
 at_behind z y [] rest h = h.0
@@ -34,10 +16,7 @@ at_behind z y (x ∷ xs) rest h = at_behind z y xs rest h.1
 pub first-before : (f : Placed → Bool) (before : List Placed) (y : Placed) (rest : List Placed) → Ascends (before ++ y ∷ rest)
     → list_any f before ≡ is_before (find f (before ++ y ∷ rest)) y
 first-before f [] y rest a =
-    elim (f y) as (λ t. false ≡ is_before (cond t (Some y) (find f rest)) y) [
-      | true ↦ sym (stands-self y)
-      | false ↦ sym (not_before f y rest a.0)
-    ]
+    cond_both (f y) (Some y) (find f rest) (λ o. false ≡ is_before o y) (λ e. sym (stands-self y)) (λ e. sym (not_before f y rest a.0))
 first-before f (z ∷ zs) y rest a =
     elim (f z) as (λ t. (t || list_any f zs) ≡ is_before (cond t (Some z) (find f (zs ++ y ∷ rest))) y) [
       | true ↦ sym (at_behind z y zs rest a.0)
@@ -107,20 +86,18 @@ fold-behind : (stops : FirstStops) (pack : PackKey) (birth : Placed) (held : Kno
     → fold (pack_step stops pack birth) held (statuses_of pack xs) ≡ fold (turn stops pack) held (statuses_of pack xs)
 fold-behind stops pack birth held [] h = refl
 fold-behind stops pack birth held (x ∷ xs) h =
-    elim (is_status_of pack x.entry.item) as (λ s. fold (pack_step stops pack birth) held (cond s (x ∷ statuses_of pack xs) (statuses_of pack xs)) ≡ fold (turn stops pack) held (cond s (x ∷ statuses_of pack xs) (statuses_of pack xs))) [
-      | true ↦ ap (λ b. fold (pack_step stops pack birth) (cond b (turn stops pack held x) held) (statuses_of pack xs)) h.0 ∙ fold-behind stops pack birth (turn stops pack held x) xs h.1
-      | false ↦ fold-behind stops pack birth held xs h.1
-    ]
+    cond_both (is_status_of pack x.entry.item) (x ∷ statuses_of pack xs) (statuses_of pack xs) (λ l. fold (pack_step stops pack birth) held l ≡ fold (turn stops pack) held l)
+    (λ s. ap (λ b. fold (pack_step stops pack birth) (cond b (turn stops pack held x) held) (statuses_of pack xs)) h.0 ∙ fold-behind stops pack birth (turn stops pack held x) xs h.1)
+    (λ s. fold-behind stops pack birth held xs h.1)
 
 -- a status in front of the first upload doesn't count
 grown-early : (stops : FirstStops) (pack : PackKey) (f : Placed → Bool) (x : Placed) (own xs : List Placed) → StandsBeforeAll x xs
     → pack_grown stops pack (find f xs) (x ∷ own) ≡ pack_grown stops pack (find f xs) own
 grown-early stops pack f x own [] h = refl
 grown-early stops pack f x own (y ∷ ys) h =
-    elim (f y) as (λ b. pack_grown stops pack (cond b (Some y) (find f ys)) (x ∷ own) ≡ pack_grown stops pack (cond b (Some y) (find f ys)) own) [
-      | true ↦ ap (λ b. option_map (λ held. fold (pack_step stops pack y) (cond b (turn stops pack held x) held) own) (pack_made_by y.entry.item)) (stands-asym x y h.0)
-      | false ↦ grown-early stops pack f x own ys h.1
-    ]
+    cond_both (f y) (Some y) (find f ys) (λ o. pack_grown stops pack o (x ∷ own) ≡ pack_grown stops pack o own)
+    (λ e. ap (λ b. option_map (λ held. fold (pack_step stops pack y) (cond b (turn stops pack held x) held) own) (pack_made_by y.entry.item)) (stands-asym x y h.0))
+    (λ e. grown-early stops pack f x own ys h.1)
 
 fold-grown : (stops : FirstStops) (pack : PackKey) (xs : List Placed) → Ascends xs
     → fold (next stops pack) None xs ≡ pack_grown stops pack (first_upload pack xs) (statuses_of pack xs)
@@ -155,12 +132,7 @@ map-stands log [] s = refl
 map-stands log (x ∷ xs) s = λ i. (entry-stands log x s.0 i ∷ map-stands log xs s.1 i)
 
 pub find-stand : (f : Placed → Bool) (log : List LogEntry) (xs : List Placed) → Stand log xs → IfSome (find f xs) (λ x. get_or log x.place no_entry ≡ x.entry)
-find-stand f log [] s = tt
-find-stand f log (y ∷ ys) s =
-    elim (f y) as (λ b. IfSome (cond b (Some y) (find f ys)) (λ x. get_or log x.place no_entry ≡ x.entry)) [
-      | true ↦ s.0
-      | false ↦ find-stand f log ys s.1
-    ]
+find-stand f log xs s = find-all (λ x. get_or log x.place no_entry ≡ x.entry) f xs s
 
 pub find-stands : (f : Placed → Bool) (log : List LogEntry) (xs : List Placed) → Stand log xs
     → option_map (entry_at log) (option_map place_of (find f xs)) ≡ find f xs

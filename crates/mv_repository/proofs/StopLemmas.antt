@@ -1,56 +1,63 @@
--- What a recall and a withdrawal do: their effects, and the tables that find the first.
-use Rattle.std.specs.Prelude.{bytes_eq}
-use Rattle.std.proofs.Common.{◌≡◌, ℕ, List, length, get_or, refl, sym, ◌∙◌, ap, Bool, true, false, cond, not, Option, Some, None, IfSome, true≢false, find}
-use Rattle.std.specs.Cmp.Lexicographic.{same_text}
-use Rattle.std.specs.Map.{lookup, keys_of}
-use Rattle.std.specs.Option.{option_map}
-use Rattle.indexmap.specs.IndexSet.{insert_key}
-use Rattle.mv_pack.specs.declared.key.BatchKey.{BatchKey}
-use Rattle.mv_message.specs.declared.message.Message.TheVariants.{Recall, Withdraw}
-use Rattle.mv_link.specs.declared.item.Item.{Item}
-use Rattle.mv_link.specs.declared.item.Item.TheVariants.{Carried}
-use Rattle.mv_repository.specs.declared.entry.LogEntry.{LogEntry}
-use Rattle.mv_pack.specs.Keys.{is_same_batch}
-use Rattle.mv_repository.specs.Order.{Placed, passes, ordered}
-use Rattle.mv_repository.specs.PackState.{is_recall_of, is_withdrawal_of, is_recalled_by, is_withdrawn_by}
-use Rattle.mv_repository.specs.Effect.{entries_before, lasting_effect, effect_after, effect_of}
-use Rattle.mv_repository.specs.Counts.{recalled_in}
-use Rattle.mv_repository.specs.Stopped.{withdrawn_in}
-use Rattle.mv_repository.specs.Stops.{StopTables, first_stops, is_before, place_of, no_entry, AreStopsOf, comes_first, earlier_place}
-use Rattle.mv_repository.proofs.OrderLemmas.{still-stand}
-use Rattle.mv_repository.proofs.StateLemmas.{find-stand}
+-- What a recall and a withdrawal do: their effects, the tables that find the first, and the packs on which they bear.
+use Rattle.mv_repository.proofs.Words.{arith, nat_tests, bytes_eq, ◌&&◌, ◌+◌, Bool, IfSome, None, Option, Some, [], ap, cond, false, find, get_or, length, not, refl, sym, take, true, true≢false, ℕ, ◌∙◌, ◌∷◌, ◌≡◌, List, same_text, list_any, keys_of, lookup, option_map, option_map_or, insert_key, Item, Carried, Upload, Status, Recall, Withdraw, batch_key, is_same_batch, pack_key, BatchKey, PackKey, LogEntry, Slot, Own, recalled_in, uploaded_in, effect_after, effect_of, entries_before, lasting_effect, AreListed, ListingTable, batch_at, lists, is_master, Placed, ordered, passes, stands_before, KnownPack, change_effect, is_active, is_done, is_recall_of, is_recalled_by, is_withdrawal_of, is_withdrawn_by, NamesNone, change_in, effect_by, effect_on, next_by, pack_made_by, standing_in, withdrawn_in, AreFirstsOf, AreStopsOf, FirstStops, StopTables, comes_first, earlier_place, first_place, first_stops, is_before, is_stop, no_entry, place_of, standing_at, stopped_product, first_upload, is_status_of, is_upload_of, life_of, statuses_of, track_of, Effect, BatchStanding, Stop}
+use Rattle.mv_repository.specs.Listing.{batch_in}
+use Rattle.mv_repository.proofs.BeforeLemmas.{any-before}
 use Rattle.mv_repository.proofs.KeptLemmas.{same_batch, batch-self, text-self}
-use Rattle.mv_repository.proofs.StoppedLemmas.{once-none, once-one, no-recall, no-withdrawal, one-recall, one-withdrawal}
-use Rattle.mv_repository.proofs.TableLemmas.{longer, newest, newest-stands, earlier, find-more, find-none, find-some}
-use Rattle.mv_repository.proofs.BeforeLemmas.{recalled-before, withdrawn-before}
+use Rattle.mv_repository.proofs.OrderLemmas.{ordered-ascends, ordered-below, ordered-stand, still-stand}
+use Rattle.mv_repository.proofs.StateLemmas.{find-stand}
+use Rattle.mv_repository.proofs.StoppedLemmas.{once-one, one-recall, one-withdrawal}
+use Rattle.mv_repository.proofs.TableLemmas.{at-newest, earlier, filter-none, find-more, find-none, find-some, log-split, longer, newest, newest-stands, recalls-stay, withdrawals-stay, found-more}
 use Rattle.mv_repository.proofs.UploadedLemmas.{first-effect}
+use Rattle.mv_repository.specs.declared.effect.Effect.TheVariants as effects
+use Rattle.mv_repository.specs.declared.stops.Stop.TheVariants as stops
 
-first-lasting : (b : Bool) → lasting_effect (not (not b)) ≡ lasting_effect b
-first-lasting true = refl
-first-lasting false = refl
+-- an item names no pack, and no master
+abbrev pub NoPack : Item → Type 0
+NoPack item = ((pack : PackKey) → NamesNone pack item) × (uploaded_in item ≡ [])
 
-pub recall-effect : (log : List LogEntry) (entry : LogEntry) (tables : StopTables) (key : BatchKey) (first : Bool) → AreStopsOf log tables → is_recall_of key entry.item ≡ true
-    → first ≡ comes_first (longer log entry) (length log) (lookup (is_same_batch key) tables.recalls) → lasting_effect (not first) ≡ effect_of log entry
-recall-effect log entry tables key first stops e h =
-    ap (λ b. lasting_effect (not b)) (h ∙ first-effect (λ placed. is_recall_of key placed.entry.item) log entry (lookup (is_same_batch key) tables.recalls) (stops.recalls key))
-    ∙ first-lasting (is_before ((first_stops (ordered log)).recall key) (newest log entry))
-    ∙ ap lasting_effect (sym (recalled-before key log entry))
-    ∙ by entry.item e
+abbrev pub NoMaster : Item → Type 0
+NoMaster item = (gtin : List ℕ) → is_master gtin item ≡ false
+
+recall-form : (key : BatchKey) (item : Item) → is_recall_of key item ≡ true
+    → ((batch : BatchKey) → is_recall_of batch item ≡ is_same_batch key batch) × ((gtin : List ℕ) → is_withdrawal_of gtin item ≡ false) × NoPack item × NoMaster item
+recall-form key (Carried k stamp (Recall named at)) e =
+    (λ batch. ap (λ (q : BatchKey). is_same_batch q batch) (same_batch named key e), λ gtin. refl, (λ pack. (refl, refl), refl), λ code. refl)
+recall-form key _ e = absurd (true≢false (sym e))
+
+withdrawal-form : (gtin : List ℕ) (item : Item) → is_withdrawal_of gtin item ≡ true
+    → ((code : List ℕ) → is_withdrawal_of code item ≡ bytes_eq gtin code) × ((batch : BatchKey) → is_recall_of batch item ≡ false) × NoPack item × NoMaster item
+withdrawal-form gtin (Carried k stamp (Withdraw named at)) e =
+    (λ code. ap (λ (g : List ℕ). bytes_eq g code) (same_text named gtin (sym e)), λ batch. refl, (λ pack. (refl, refl), refl), λ code. refl)
+withdrawal-form gtin _ e = absurd (true≢false (sym e))
+
+pub stop-form : (stop : Stop) (item : Item) → is_stop stop item ≡ true → NoPack item × NoMaster item
+stop-form (stops.Recall batch) item e = let form = recall-form batch.now item e in (form.2, form.3)
+stop-form (stops.Withdrawal gtin) item e = let form = withdrawal-form gtin.now item e in (form.2, form.3)
+
+-- the effect of what holds for ever is by the first of its kind
+lasting : (f : Placed → Bool) (log : List LogEntry) (entry : LogEntry) (place : Option ℕ) (first : Bool) → place ≡ option_map place_of (find f (ordered log))
+    → first ≡ comes_first (longer log entry) (length log) place → lasting_effect (not first) ≡ lasting_effect (list_any f (entries_before log entry))
+lasting f log entry place first e h =
+    ap (λ b. lasting_effect (not b)) (h ∙ first-effect f log entry place e)
+    ∙ twice (is_before (find f (ordered log)) (newest log entry))
+    ∙ ap lasting_effect (sym (any-before f (newest log entry) (ordered log) (ordered-ascends log) (ordered-below log)))
   where
-    by : (item : Item) → is_recall_of key item ≡ true → lasting_effect (is_recalled_by key (entries_before log entry)) ≡ effect_after (entries_before log entry) entry.sender item
-    by (Carried k stamp (Recall named at)) e = ap (λ (q : BatchKey). lasting_effect (is_recalled_by q (entries_before log entry))) (sym (same_batch named key e))
+    twice : (b : Bool) → lasting_effect (not (not b)) ≡ lasting_effect b
+    twice b = grind (arith, nat_tests)
+
+stop-effect : (log : List LogEntry) (entry : LogEntry) (tables : StopTables) (stop : Stop) (first : Bool) → AreStopsOf log tables → is_stop stop entry.item ≡ true
+    → first ≡ comes_first (longer log entry) (length log) (first_place stop tables) → lasting_effect (not first) ≡ effect_of log entry
+stop-effect log entry tables (stops.Recall batch) first are e h =
+    lasting (λ placed. is_recall_of batch.now placed.entry.item) log entry (lookup (is_same_batch batch.now) tables.recalls) first (are.recalls.found batch.now) h ∙ by entry.item e
+  where
+    by : (item : Item) → is_recall_of batch.now item ≡ true → lasting_effect (is_recalled_by batch.now (entries_before log entry)) ≡ effect_after (entries_before log entry) entry.sender item
+    by (Carried k stamp (Recall named at)) e = ap (λ (q : BatchKey). lasting_effect (is_recalled_by q (entries_before log entry))) (sym (same_batch named batch.now e))
     by _ e = absurd (true≢false (sym e))
-
-pub withdrawal-effect : (log : List LogEntry) (entry : LogEntry) (tables : StopTables) (key : List ℕ) (first : Bool) → AreStopsOf log tables → is_withdrawal_of key entry.item ≡ true
-    → first ≡ comes_first (longer log entry) (length log) (lookup (bytes_eq key) tables.withdrawals) → lasting_effect (not first) ≡ effect_of log entry
-withdrawal-effect log entry tables key first stops e h =
-    ap (λ b. lasting_effect (not b)) (h ∙ first-effect (λ placed. is_withdrawal_of key placed.entry.item) log entry (lookup (bytes_eq key) tables.withdrawals) (stops.withdrawals key))
-    ∙ first-lasting (is_before ((first_stops (ordered log)).withdrawal key) (newest log entry))
-    ∙ ap lasting_effect (sym (withdrawn-before key log entry))
-    ∙ by entry.item e
+stop-effect log entry tables (stops.Withdrawal gtin) first are e h =
+    lasting (λ placed. is_withdrawal_of gtin.now placed.entry.item) log entry (lookup (bytes_eq gtin.now) tables.withdrawals) first (are.withdrawals.found gtin.now) h ∙ by entry.item e
   where
-    by : (item : Item) → is_withdrawal_of key item ≡ true → lasting_effect (is_withdrawn_by key (entries_before log entry)) ≡ effect_after (entries_before log entry) entry.sender item
-    by (Carried k stamp (Withdraw named at)) e = ap (λ (q : List ℕ). lasting_effect (is_withdrawn_by q (entries_before log entry))) (sym (same_text named key (sym e)))
+    by : (item : Item) → is_withdrawal_of gtin.now item ≡ true → lasting_effect (is_withdrawn_by gtin.now (entries_before log entry)) ≡ effect_after (entries_before log entry) entry.sender item
+    by (Carried k stamp (Withdraw named at)) e = ap (λ (q : List ℕ). lasting_effect (is_withdrawn_by q (entries_before log entry))) (sym (same_text named gtin.now (sym e)))
     by _ e = absurd (true≢false (sym e))
 
 -- an entry of a kind that is not the first of the kind leaves the first
@@ -65,78 +72,176 @@ find-later f log entry e = find-more f log entry ∙ by (f (newest log entry)) (
     by true (Some y) s e =
         ap (λ b. cond b (Some (newest log entry)) (Some y)) (sym (λ i. passes (record { place = length log; entry = newest-stands log entry i }) (record y { entry = s i })) ∙ e)
 
--- one under a key leaves the first under each key
-first-later : {K : Type 0} (same : K → K → Bool) (is_of : K → Item → Bool) (log : List LogEntry) (entry : LogEntry) (places : List (K × ℕ)) (key : K)
-    → ((other : K) → same key other ≡ true → key ≡ other)
-    → ((k : K) → lookup (same k) places ≡ option_map place_of (find (λ placed. is_of k placed.entry.item) (ordered log)))
-    → ((k : K) → is_of k entry.item ≡ same key k)
-    → comes_first (longer log entry) (length log) (lookup (same key) places) ≡ false
-    → (k : K) → find (λ placed. is_of k placed.entry.item) (ordered (longer log entry)) ≡ find (λ placed. is_of k placed.entry.item) (ordered log)
-first-later {K = K} same is_of log entry places key one finds names e k = by (same key k) refl
+-- one more of a kind of which each item has one key
+module _ {K : Type 0} (same : K → K → Bool) (is_of : K → Item → Bool) (keys_in : Item → List K) (log : List LogEntry) (entry : LogEntry) (places : List (K × ℕ)) (key : K)
+    (one : (other : K) → same key other ≡ true → key ≡ other) (self : same key key ≡ true) (firsts : AreFirstsOf same is_of keys_in log places) (names : (k : K) → is_of k entry.item ≡ same key k) where
+  -- where it is not the first under its key, it leaves the first under each
+  first-later : comes_first (longer log entry) (length log) (lookup (same key) places) ≡ false
+      → (k : K) → find (λ placed. is_of k placed.entry.item) (ordered (longer log entry)) ≡ find (λ placed. is_of k placed.entry.item) (ordered log)
+  first-later e k = by (same key k) refl
+    where
+      by : (b : Bool) → same key k ≡ b → find (λ placed. is_of k placed.entry.item) (ordered (longer log entry)) ≡ find (λ placed. is_of k placed.entry.item) (ordered log)
+      by true h = find-later (λ placed. is_of k placed.entry.item) log entry
+          (ap (comes_first (longer log entry) (length log)) (sym (firsts.found k) ∙ ap (λ (c : K). lookup (same c) places) (sym (one k h))) ∙ e)
+      by false h = find-none (λ placed. is_of k placed.entry.item) log entry (names k ∙ h)
+
+  -- the table has the earlier of it and the first so far
+  firsts-more : (places' : List (K × ℕ)) → keys_in entry.item ≡ key ∷ []
+      → ((k : K) → lookup (same k) places' ≡ cond (same key k) (earlier_place (longer log entry) (length log) (lookup (same key) places)) (lookup (same k) places))
+      → keys_of places' ≡ insert_key same (keys_of places) key → AreFirstsOf same is_of keys_in (longer log entry) places'
+  firsts-more places' own looks keys = record {
+    found = found-more same is_of log entry (λ test. find test (ordered log)) (λ test. find test (ordered (longer log entry))) key one names (λ test none. find-none test log entry none) places places'
+        (earlier_place (longer log entry) (length log) (lookup (same key) places)) looks
+        (ap (earlier_place (longer log entry) (length log)) (firsts.found key) ∙ sym (find-some (λ placed. is_of key placed.entry.item) log entry (names key ∙ self))) firsts.found;
+    keys = keys ∙ ap (λ (l : List K). insert_key same l key) firsts.keys ∙ sym (once-one same (λ (one : LogEntry). keys_in one.item) log entry key own);
+  }
+
+stop-later : (log : List LogEntry) (entry : LogEntry) (tables : StopTables) (stop : Stop) → AreStopsOf log tables → is_stop stop entry.item ≡ true
+    → comes_first (longer log entry) (length log) (first_place stop tables) ≡ false → first_stops (ordered (longer log entry)) ≡ first_stops (ordered log)
+stop-later log entry tables (stops.Recall batch) are own e =
+    let form = recall-form batch.now entry.item own in
+    λ i. record {
+      recall = λ b. first-later is_same_batch is_recall_of recalled_in log entry tables.recalls batch.now (same_batch batch.now) (batch-self batch.now) are.recalls form.0 e b i;
+      withdrawal = λ gtin. find-none (λ placed. is_withdrawal_of gtin placed.entry.item) log entry (form.1 gtin) i;
+    }
+stop-later log entry tables (stops.Withdrawal gtin) are own e =
+    let form = withdrawal-form gtin.now entry.item own in
+    λ i. record {
+      recall = λ batch. find-none (λ placed. is_recall_of batch placed.entry.item) log entry (form.1 batch) i;
+      withdrawal = λ g. first-later bytes_eq is_withdrawal_of withdrawn_in log entry tables.withdrawals gtin.now (λ other h. same_text gtin.now other (sym h)) (text-self gtin.now) are.withdrawals form.0 e g i;
+    }
+
+-- first stops that stand the same for the batch of a pack
+abbrev IsSameFor : FirstStops → FirstStops → List ℕ → Option Placed → Type 0
+IsSameFor stops stops' gtin birth =
+    IfSome birth (λ (first : Placed). IfSome (pack_made_by first.entry.item) (λ (made : KnownPack). (x : Placed) → standing_at stops' x (batch_key gtin made.batch) ≡ standing_at stops x (batch_key gtin made.batch)))
+
+effect-same : (stops stops' : FirstStops) (gtin : List ℕ) (birth by x : Placed) → IsSameFor stops stops' gtin (Some birth)
+    → effect_on stops' gtin (Some birth) by x ≡ effect_on stops gtin (Some birth) by x
+effect-same stops stops' gtin birth by x same = ap (λ (e : Effect). cond (stands_before birth x) e effects.Unknown) (made (pack_made_by birth.entry.item) same)
   where
-    by : (b : Bool) → same key k ≡ b → find (λ placed. is_of k placed.entry.item) (ordered (longer log entry)) ≡ find (λ placed. is_of k placed.entry.item) (ordered log)
-    by true h = find-later (λ placed. is_of k placed.entry.item) log entry
-        (ap (comes_first (longer log entry) (length log)) (sym (finds k) ∙ ap (λ (c : K). lookup (same c) places) (sym (one k h))) ∙ e)
-    by false h = find-none (λ placed. is_of k placed.entry.item) log entry (names k ∙ h)
+    item : (held : KnownPack) → standing_at stops' x (batch_key gtin held.batch) ≡ standing_at stops x (batch_key gtin held.batch) → (i : Item)
+        → effect_by (standing_at stops' x) x.entry.sender i gtin held ≡ effect_by (standing_at stops x) x.entry.sender i gtin held
+    item held e (Carried k stamp (Status key to user at)) = ap (λ (s : BatchStanding). change_effect held s to x.entry.sender user at) e
+    item held e _ = refl
 
-pub recall-later : (log : List LogEntry) (entry : LogEntry) (tables : StopTables) (key : BatchKey) → AreStopsOf log tables
-    → ((batch : BatchKey) → is_recall_of batch entry.item ≡ is_same_batch key batch) → ((gtin : List ℕ) → is_withdrawal_of gtin entry.item ≡ false)
-    → comes_first (longer log entry) (length log) (lookup (is_same_batch key) tables.recalls) ≡ false
-    → first_stops (ordered (longer log entry)) ≡ first_stops (ordered log)
-recall-later log entry tables key stops names none e = λ i. record {
-  recall = λ batch. first-later is_same_batch is_recall_of log entry tables.recalls key (same_batch key) stops.recalls names e batch i;
-  withdrawal = λ gtin. find-none (λ placed. is_withdrawal_of gtin placed.entry.item) log entry (none gtin) i;
-}
+    made : (o : Option KnownPack) → IfSome o (λ (made : KnownPack). (x : Placed) → standing_at stops' x (batch_key gtin made.batch) ≡ standing_at stops x (batch_key gtin made.batch))
+        → option_map_or (effect_by (standing_at stops' x) x.entry.sender x.entry.item gtin) (option_map (λ (made : KnownPack). record made { standing = standing_in by.entry.item; change = change_in by.place by.entry.sender by.entry.item }) o) effects.Unknown
+        ≡ option_map_or (effect_by (standing_at stops x) x.entry.sender x.entry.item gtin) (option_map (λ (made : KnownPack). record made { standing = standing_in by.entry.item; change = change_in by.place by.entry.sender by.entry.item }) o) effects.Unknown
+    made None s = refl
+    made (Some one) s = item (record one { standing = standing_in by.entry.item; change = change_in by.place by.entry.sender by.entry.item }) (s x) x.entry.item
 
-pub withdrawal-later : (log : List LogEntry) (entry : LogEntry) (tables : StopTables) (key : List ℕ) → AreStopsOf log tables
-    → ((gtin : List ℕ) → is_withdrawal_of gtin entry.item ≡ bytes_eq key gtin) → ((batch : BatchKey) → is_recall_of batch entry.item ≡ false)
-    → comes_first (longer log entry) (length log) (lookup (bytes_eq key) tables.withdrawals) ≡ false
-    → first_stops (ordered (longer log entry)) ≡ first_stops (ordered log)
-withdrawal-later log entry tables key stops names none e = λ i. record {
-  recall = λ batch. find-none (λ placed. is_recall_of batch placed.entry.item) log entry (none batch) i;
-  withdrawal = λ gtin. first-later bytes_eq is_withdrawal_of log entry tables.withdrawals key (λ other h. same_text key other (sym h)) stops.withdrawals names e gtin i;
-}
+next-same : (stops stops' : FirstStops) (gtin : List ℕ) (birth : Option Placed) (by x : Placed) → IsSameFor stops stops' gtin birth → next_by stops' gtin birth by x ≡ next_by stops gtin birth by x
+next-same stops stops' gtin None by x same = refl
+next-same stops stops' gtin (Some birth) by x same =
+    ap (λ (e : Effect). cond (is_done e) (cond (is_active (standing_in x.entry.item)) birth x) by) (effect-same stops stops' gtin birth by x same)
 
--- the table of a kind after one more of the kind
-first-table : {K : Type 0} (same : K → K → Bool) (is_of : K → Item → Bool) (log : List LogEntry) (entry : LogEntry) (places places' : List (K × ℕ)) (key : K)
-    → ((other : K) → same key other ≡ true → key ≡ other)
-    → ((k : K) → lookup (same k) places ≡ option_map place_of (find (λ placed. is_of k placed.entry.item) (ordered log)))
-    → ((k : K) → is_of k entry.item ≡ same key k)
-    → ((k : K) → lookup (same k) places' ≡ cond (same key k) (earlier_place (longer log entry) (length log) (lookup (same key) places)) (lookup (same k) places))
-    → (k : K) → lookup (same k) places' ≡ option_map place_of (find (λ placed. is_of k placed.entry.item) (ordered (longer log entry)))
-first-table {K = K} same is_of log entry places places' key one finds names looks k = looks k ∙ by (same key k) refl
+-- an entry that names no pack, withdraws not the product of a pack, and recalls not its batch
+elsewhere : (log : List LogEntry) (entry : LogEntry) (pack : PackKey) → NamesNone pack entry.item → is_withdrawal_of pack.gtin entry.item ≡ false
+    → ((birth : ℕ) (batch : List ℕ) → (track_of pack log).birth ≡ Some birth → batch_at log birth ≡ Some batch → is_recall_of (batch_key pack.gtin batch) entry.item ≡ false)
+    → life_of pack (longer log entry) ≡ life_of pack log
+elsewhere log entry pack names withdrawal recall =
+    let first : first_upload pack (ordered (longer log entry)) ≡ first_upload pack (ordered log) = find-none (λ placed. is_upload_of pack placed.entry.item) log entry names.0 in
+    let own : statuses_of pack (ordered (longer log entry)) ≡ statuses_of pack (ordered log) = filter-none (λ placed. is_status_of pack placed.entry.item) log entry names.1 in
+    (λ i. record { birth = first i; statuses = own i; next = next_by now pack.gtin (first i) })
+    ∙ (λ i. record {
+      birth = first_upload pack (ordered log);
+      statuses = statuses_of pack (ordered log);
+      next = λ by x. next-same before now pack.gtin (first_upload pack (ordered log)) by x
+          (same (first_upload pack (ordered log)) (find-stand (λ placed. is_upload_of pack placed.entry.item) log (ordered log) (ordered-stand log)) recall) i;
+    })
   where
-    by : (b : Bool) → same key k ≡ b → cond b (earlier_place (longer log entry) (length log) (lookup (same key) places)) (lookup (same k) places)
-        ≡ option_map place_of (find (λ placed. is_of k placed.entry.item) (ordered (longer log entry)))
-    by true h =
-        ap (λ (c : K). earlier_place (longer log entry) (length log) (lookup (same c) places)) (one k h)
-        ∙ ap (earlier_place (longer log entry) (length log)) (finds k)
-        ∙ sym (find-some (λ placed. is_of k placed.entry.item) log entry (names k ∙ h))
-    by false h = finds k ∙ ap (option_map place_of) (sym (find-none (λ placed. is_of k placed.entry.item) log entry (names k ∙ h)))
+    now : FirstStops
+    now = first_stops (ordered (longer log entry))
 
--- the tables of stops after a recall, and after a withdrawal
-pub stops-recall : (log : List LogEntry) (entry : LogEntry) (tables tables' : StopTables) (key : BatchKey) → AreStopsOf log tables
-    → ((batch : BatchKey) → is_recall_of batch entry.item ≡ is_same_batch key batch) → ((gtin : List ℕ) → is_withdrawal_of gtin entry.item ≡ false)
-    → ((batch : BatchKey) → lookup (is_same_batch batch) tables'.recalls ≡ cond (is_same_batch key batch) (earlier_place (longer log entry) (length log) (lookup (is_same_batch key) tables.recalls)) (lookup (is_same_batch batch) tables.recalls))
-    → keys_of tables'.recalls ≡ insert_key is_same_batch (keys_of tables.recalls) key
-    → tables'.withdrawals ≡ tables.withdrawals → AreStopsOf (longer log entry) tables'
-stops-recall log entry tables tables' key stops names none looks keys same = record {
-  recalled = keys ∙ ap (λ (l : List BatchKey). insert_key is_same_batch l key) stops.recalled
-      ∙ sym (once-one is_same_batch (λ (one : LogEntry). recalled_in one.item) log entry key (one-recall key entry.item (names key ∙ batch-self key)));
-  withdrawn = ap keys_of same ∙ stops.withdrawn ∙ sym (once-none bytes_eq (λ (one : LogEntry). withdrawn_in one.item) log entry (no-withdrawal entry.item none));
-  recalls = first-table is_same_batch is_recall_of log entry tables.recalls tables'.recalls key (same_batch key) stops.recalls names looks;
-  withdrawals = λ gtin. ap (lookup (bytes_eq gtin)) same ∙ stops.withdrawals gtin ∙ ap (option_map place_of) (sym (find-none (λ placed. is_withdrawal_of gtin placed.entry.item) log entry (none gtin)));
-}
+    before : FirstStops
+    before = first_stops (ordered log)
 
-pub stops-withdrawal : (log : List LogEntry) (entry : LogEntry) (tables tables' : StopTables) (key : List ℕ) → AreStopsOf log tables
-    → ((gtin : List ℕ) → is_withdrawal_of gtin entry.item ≡ bytes_eq key gtin) → ((batch : BatchKey) → is_recall_of batch entry.item ≡ false)
-    → ((gtin : List ℕ) → lookup (bytes_eq gtin) tables'.withdrawals ≡ cond (bytes_eq key gtin) (earlier_place (longer log entry) (length log) (lookup (bytes_eq key) tables.withdrawals)) (lookup (bytes_eq gtin) tables.withdrawals))
-    → keys_of tables'.withdrawals ≡ insert_key bytes_eq (keys_of tables.withdrawals) key
-    → tables'.recalls ≡ tables.recalls → AreStopsOf (longer log entry) tables'
-stops-withdrawal log entry tables tables' key stops names none looks keys same = record {
-  withdrawn = keys ∙ ap (λ (l : List (List ℕ)). insert_key bytes_eq l key) stops.withdrawn
-      ∙ sym (once-one bytes_eq (λ (one : LogEntry). withdrawn_in one.item) log entry key (one-withdrawal key entry.item (names key ∙ text-self key)));
-  recalled = ap keys_of same ∙ stops.recalled ∙ sym (once-none is_same_batch (λ (one : LogEntry). recalled_in one.item) log entry (no-recall entry.item none));
-  withdrawals = first-table bytes_eq is_withdrawal_of log entry tables.withdrawals tables'.withdrawals key (λ other h. same_text key other (sym h)) stops.withdrawals names looks;
-  recalls = λ batch. ap (lookup (is_same_batch batch)) same ∙ stops.recalls batch ∙ ap (option_map place_of) (sym (find-none (λ placed. is_recall_of batch placed.entry.item) log entry (none batch)));
-}
+    stand : (number : List ℕ) → is_recall_of (batch_key pack.gtin number) entry.item ≡ false → (x : Placed) → standing_at now x (batch_key pack.gtin number) ≡ standing_at before x (batch_key pack.gtin number)
+    stand number e x = λ i. record {
+      recalled = is_before (find-none (λ placed. is_recall_of (batch_key pack.gtin number) placed.entry.item) log entry e i) x;
+      withdrawn = is_before (find-none (λ placed. is_withdrawal_of pack.gtin placed.entry.item) log entry withdrawal i) x;
+    }
+
+    made : (item : Item) → ((batch : List ℕ) → batch_in item ≡ Some batch → is_recall_of (batch_key pack.gtin batch) entry.item ≡ false)
+        → IfSome (pack_made_by item) (λ (made : KnownPack). (x : Placed) → standing_at now x (batch_key pack.gtin made.batch) ≡ standing_at before x (batch_key pack.gtin made.batch))
+    made (Carried k stamp (Upload gtin batch expiry national serials)) e = stand batch (e batch refl)
+    made _ e = tt
+
+    same : (birth : Option Placed) → IfSome birth (λ placed. get_or log placed.place no_entry ≡ placed.entry)
+        → ((b : ℕ) (batch : List ℕ) → option_map place_of birth ≡ Some b → batch_at log b ≡ Some batch → is_recall_of (batch_key pack.gtin batch) entry.item ≡ false) → IsSameFor before now pack.gtin birth
+    same None s h = tt
+    same (Some placed) s h = made placed.entry.item (λ batch e. h placed.place batch refl (ap (λ (e : LogEntry). batch_in e.item) s ∙ e))
+
+-- the newest entry, by its place
+module _ (whole : List LogEntry) (place : ℕ) (l : length whole ≡ place + 1) where
+  abbrev log : List LogEntry
+  log = take place whole
+
+  abbrev entry : LogEntry
+  entry = get_or whole place no_entry
+
+  pub stop-does : (tables : StopTables) (stop : Stop) (first : Bool) → AreStopsOf log tables → is_stop stop entry.item ≡ true
+      → first ≡ comes_first whole place (first_place stop tables) → lasting_effect (not first) ≡ effect_of log entry
+  stop-does tables stop first are own =
+      at-newest whole place l (λ w n. first ≡ comes_first w n (first_place stop tables) → lasting_effect (not first) ≡ effect_of log entry) (stop-effect log entry tables stop first are own)
+
+  pub stop-leaves : (tables : StopTables) (stop : Stop) → AreStopsOf log tables → is_stop stop entry.item ≡ true
+      → comes_first whole place (first_place stop tables) ≡ false → first_stops (ordered whole) ≡ first_stops (ordered log)
+  stop-leaves tables stop are own =
+      at-newest whole place l (λ w n. comes_first w n (first_place stop tables) ≡ false → first_stops (ordered w) ≡ first_stops (ordered log)) (stop-later log entry tables stop are own)
+
+  -- the tables once it is added
+  pub recall-added : (tables : StopTables) (key : BatchKey) (recalls : List (BatchKey × ℕ)) → AreStopsOf log tables → is_recall_of key entry.item ≡ true
+      → ((batch : BatchKey) → lookup (is_same_batch batch) recalls ≡ cond (is_same_batch key batch) (earlier_place whole place (lookup (is_same_batch key) tables.recalls)) (lookup (is_same_batch batch) tables.recalls))
+      → keys_of recalls ≡ insert_key is_same_batch (keys_of tables.recalls) key → AreStopsOf whole (record tables { recalls = recalls })
+  recall-added tables key recalls are own =
+      let form = recall-form key entry.item own in
+      at-newest whole place l (λ w n. ((batch : BatchKey) → lookup (is_same_batch batch) recalls ≡ cond (is_same_batch key batch) (earlier_place w n (lookup (is_same_batch key) tables.recalls)) (lookup (is_same_batch batch) tables.recalls))
+      → keys_of recalls ≡ insert_key is_same_batch (keys_of tables.recalls) key → AreStopsOf w (record tables { recalls = recalls }))
+      (λ looks keys. record {
+        recalls = firsts-more is_same_batch is_recall_of recalled_in log entry tables.recalls key (same_batch key) (batch-self key) are.recalls form.0 recalls (one-recall key entry.item own) looks keys;
+        withdrawals = withdrawals-stay log entry tables.withdrawals form.1 are.withdrawals;
+      })
+
+  pub withdrawal-added : (tables : StopTables) (key : List ℕ) (withdrawals : List (List ℕ × ℕ)) → AreStopsOf log tables → is_withdrawal_of key entry.item ≡ true
+      → ((gtin : List ℕ) → lookup (bytes_eq gtin) withdrawals ≡ cond (bytes_eq key gtin) (earlier_place whole place (lookup (bytes_eq key) tables.withdrawals)) (lookup (bytes_eq gtin) tables.withdrawals))
+      → keys_of withdrawals ≡ insert_key bytes_eq (keys_of tables.withdrawals) key → AreStopsOf whole (record tables { withdrawals = withdrawals })
+  withdrawal-added tables key withdrawals are own =
+      let form = withdrawal-form key entry.item own in
+      at-newest whole place l (λ w n. ((gtin : List ℕ) → lookup (bytes_eq gtin) withdrawals ≡ cond (bytes_eq key gtin) (earlier_place w n (lookup (bytes_eq key) tables.withdrawals)) (lookup (bytes_eq gtin) tables.withdrawals))
+      → keys_of withdrawals ≡ insert_key bytes_eq (keys_of tables.withdrawals) key → AreStopsOf w (record tables { withdrawals = withdrawals }))
+      (λ looks keys. record {
+        withdrawals = firsts-more bytes_eq is_withdrawal_of withdrawn_in log entry tables.withdrawals key (λ other h. same_text key other (sym h)) (text-self key) are.withdrawals form.0 withdrawals (one-withdrawal key entry.item own) looks keys;
+        recalls = recalls-stay log entry tables.recalls form.1 are.recalls;
+      })
+
+  -- it bears on no pack of another product
+  pub stop-away : (stop : Stop) → is_stop stop entry.item ≡ true → (pack : PackKey) → bytes_eq (stopped_product stop) pack.gtin ≡ false → life_of pack whole ≡ life_of pack log
+  stop-away (stops.Recall batch) own pack n =
+      let form = recall-form batch.now entry.item own in
+      ap (life_of pack) (log-split whole place l)
+      ∙ elsewhere log entry pack (form.2.0 pack) (form.1 pack.gtin) (λ birth number b e. form.0 (batch_key pack.gtin number) ∙ ap (λ t. t && bytes_eq batch.now.batch number) n)
+  stop-away (stops.Withdrawal gtin) own pack n =
+      let form = withdrawal-form gtin.now entry.item own in
+      ap (life_of pack) (log-split whole place l)
+      ∙ elsewhere log entry pack (form.2.0 pack) (form.0 pack.gtin ∙ n) (λ birth number b e. form.1 (batch_key pack.gtin number))
+
+  -- a recall bears on no pack whose track is not listed under its batch
+  pub recall-away : (key : BatchKey) (slots : List (List ℕ × Slot)) (own : ListingTable) → is_recall_of key entry.item ≡ true → AreListed log key.gtin slots own
+      → (serial : List ℕ) (number : ℕ) → lookup (bytes_eq serial) slots ≡ Some (Own number) → lists own key.batch number ≡ false
+      → life_of (pack_key key.gtin serial) whole ≡ life_of (pack_key key.gtin serial) log
+  recall-away key slots own recall listed serial number found none =
+      let form = recall-form key entry.item recall in
+      ap (life_of (pack_key key.gtin serial)) (log-split whole place l)
+      ∙ elsewhere log entry (pack_key key.gtin serial) (form.2.0 (pack_key key.gtin serial)) (form.1 key.gtin)
+      (λ birth batch b e. form.0 (batch_key key.gtin batch) ∙ no_other (bytes_eq key.gtin key.gtin) (bytes_eq key.batch batch) (by birth batch b e (bytes_eq key.batch batch) refl))
+    where
+      no_other : (a b : Bool) → b ≡ false → (a && b) ≡ false
+      no_other a b e = grind (arith, nat_tests)
+
+      by : (birth : ℕ) (batch : List ℕ) → (track_of (pack_key key.gtin serial) log).birth ≡ Some birth → batch_at log birth ≡ Some batch
+          → (c : Bool) → bytes_eq key.batch batch ≡ c → c ≡ false
+      by birth batch b e false h = refl
+      by birth batch b e true h =
+          absurd (true≢false (sym (listed serial number birth batch found b e) ∙ ap (λ (x : List ℕ). lists own x number) (sym (same_text key.batch batch (sym h))) ∙ none))

@@ -1,23 +1,5 @@
 -- The batches that are recalled and the products that are withdrawn, after one more entry.
-use Rattle.std.proofs.Common.{◌≡◌, ℕ, List, [], ◌∷◌, ◌++◌, refl, sym, ◌∙◌, ap, Bool, true, false, cond, Option, Some, None, is_some, fold, true≢false}
-use Rattle.std.specs.Cmp.Lexicographic.{same_text}
-use Rattle.std.specs.List.{flat_map}
-use Rattle.std.specs.Map.{lookup, keys_of}
-use Rattle.std.proofs.lemmas.Grind.{flat_map-append}
-use Rattle.std.proofs.lemmas.List.Sums.{fold-append}
-use Rattle.std.proofs.lemmas.Map.Made.{is_some-lookup}
-use Rattle.indexmap.specs.IndexMap.{insert_entry}
-use Rattle.indexmap.specs.IndexSet.{insert_key}
-use Rattle.indexmap.proofs.SetLemmas.{keys_insert_entry}
-use Rattle.mv_pack.specs.declared.key.BatchKey.{BatchKey}
-use Rattle.mv_message.specs.declared.message.Message.TheVariants.{Recall, Withdraw}
-use Rattle.mv_link.specs.declared.item.Item.{Item}
-use Rattle.mv_link.specs.declared.item.Item.TheVariants.{Carried}
-use Rattle.mv_repository.specs.declared.entry.LogEntry.{LogEntry}
-use Rattle.mv_repository.specs.Counts.{recalled_in}
-use Rattle.mv_repository.specs.PackState.{is_recall_of, is_withdrawal_of}
-use Rattle.mv_repository.specs.Stopped.{withdrawn_in, each_once}
-use Rattle.mv_repository.specs.Stops.{comes_first}
+use Rattle.mv_repository.proofs.Words.{◌≡◌, ℕ, List, [], ◌∷◌, ◌++◌, refl, sym, ◌∙◌, ap, Bool, true, false, cond, Option, Some, None, is_some, fold, true≢false, same_text, flat_map, lookup, keys_of, flat_map-append, fold-append, is_some-lookup, insert_entry, insert_key, keys_insert_entry, BatchKey, Recall, Withdraw, Item, Carried, LogEntry, recalled_in, is_recall_of, is_withdrawal_of, withdrawn_in, each_once, comes_first}
 use Rattle.mv_repository.proofs.KeptLemmas.{same_batch, batch-self, text-self}
 
 module _ {K : Type 0} (same : K → K → Bool) (keys_in : LogEntry → List K) (log : List LogEntry) (entry : LogEntry) where

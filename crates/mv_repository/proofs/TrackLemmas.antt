@@ -1,29 +1,7 @@
 -- What is kept of a pack, and worked out by places in a log, is what the log means.
-use Rattle.std.proofs.lemmas.List.{length-map, take-map, drop-map}
-use Rattle.std.specs.List.{AllByRecursion}
-use Rattle.std.proofs.Common.{insert, not, ◌≡◌, ℕ, zero, suc, ◌+◌, ◌<◌, ◌≤◌, List, [], ◌∷◌, length, get_or, take, drop, refl, sym, ◌∙◌, ap, subst, arith, Bool, true, false, cond, Option, Some, None, IfSome, is_some, true≢false, fold, map, filter}
-use Rattle.std.specs.Option.{option_map, option_map_or, unwrap_or}
-use Rattle.mv_pack.specs.declared.key.PackKey.{PackKey}
-use Rattle.mv_pack.specs.declared.key.BatchKey.{BatchKey}
-use Rattle.mv_message.specs.declared.message.Message.TheVariants.{Status}
-use Rattle.mv_link.specs.declared.item.Item.{Item}
-use Rattle.mv_link.specs.declared.item.Item.TheVariants.{Carried}
-use Rattle.mv_repository.specs.declared.entry.LogEntry.{LogEntry}
-use Rattle.mv_repository.specs.declared.effect.Effect.{Effect}
+use Rattle.mv_repository.proofs.Words.{is_same_pack, is_master, uploaded_in, length-map, take-map, drop-map, AllByRecursion, insert, not, ◌≡◌, ℕ, zero, suc, ◌<◌, ◌≤◌, List, [], ◌∷◌, length, get_or, take, drop, refl, sym, ◌∙◌, ap, subst, true, false, cond, cond_both, Option, Some, None, IfSome, is_some, true≢false, fold, map, filter, option_map, option_map_or, unwrap_or, PackKey, BatchKey, Status, Item, Carried, LogEntry, PartySet, Block, batch_key, Effect, BatchStanding, Placed, passes, stands_before, ordered, Ascends, KnownPack, change_effect, is_active, is_done, batch_standing, known_pack, entries_before, effect_after, effect_of, IsCovered, AreBlocks, standing_in, effect_by, effect_on, next_by, next_place, FirstStops, StopTables, first_stops, stops_in, entry_at, place_of, no_entry, standing_at, AreStopsOf, Kept, is_upload_of, is_status_of, first_upload, statuses_of, pack_grown, life_of, start_of, track_of, IsKept, put_place, places_before, IsTrack}
 use Rattle.mv_repository.specs.declared.effect.Effect.TheVariants as effects
-use Rattle.mv_link.specs.declared.party_set.PartySet.{PartySet}
-use Rattle.mv_repository.specs.declared.blocks.Block.{Block}
-use Rattle.mv_repository.specs.declared.stops.BatchStanding.{BatchStanding}
-use Rattle.mv_pack.specs.Keys.{batch_key}
-use Rattle.mv_repository.specs.Order.{Placed, passes, stands_before, ordered, Ascends}
-use Rattle.mv_repository.specs.Pack.{KnownPack, change_effect, is_active, is_done}
-use Rattle.mv_repository.specs.PackState.{batch_standing, known_pack}
-use Rattle.mv_repository.specs.Effect.{entries_before, effect_after, effect_of}
-use Rattle.mv_repository.specs.Blocks.{IsCovered, AreBlocks}
-use Rattle.mv_repository.specs.State.{standing_in, effect_by, effect_on, next_by, next_place}
-use Rattle.mv_repository.specs.Stops.{FirstStops, StopTables, first_stops, stops_in, entry_at, place_of, no_entry, standing_at, AreStopsOf}
-use Rattle.mv_repository.specs.Track.{Kept, is_upload_of, is_status_of, first_upload, statuses_of, pack_grown, life_of, start_of, track_of, IsKept, put_place, places_before, IsTrack}
-use Rattle.mv_repository.proofs.OrderLemmas.{ordered-ascends, ordered-below, ordered-stand, Stand, still-stand}
+use Rattle.mv_repository.proofs.OrderLemmas.{cond_two, ordered-ascends, ordered-below, ordered-stand, Stand, still-stand}
 use Rattle.mv_repository.proofs.StateLemmas.{entry-stands, map-stands, find-stand}
 use Rattle.mv_repository.proofs.BeforeLemmas.{stays_before, counted, counted-before, find-below, known-before, standing-before}
 use Rattle.mv_repository.proofs.KeptLemmas.{same_pack}
@@ -35,12 +13,9 @@ abbrev Stands : List LogEntry → Placed → Type 0
 Stands log x = get_or log x.place no_entry ≡ x.entry
 
 next-stands : (log : List LogEntry) (stops : FirstStops) (gtin : List ℕ) (birth by x : Placed) → Stands log birth → Stands log by → Stands log x → Stands log (next_by stops gtin (Some birth) by x)
-next-stands log stops gtin birth by x b y s = at (is_done (effect_on stops gtin (Some birth) by x)) (is_active (standing_in x.entry.item))
-  where
-    at : (d a : Bool) → Stands log (cond d (cond a birth x) by)
-    at true true = b
-    at true false = s
-    at false a = y
+next-stands log stops gtin birth by x b y s =
+    cond_both (is_done (effect_on stops gtin (Some birth) by x)) (cond (is_active (standing_in x.entry.item)) birth x) by (Stands log)
+    (λ d. cond_both (is_active (standing_in x.entry.item)) birth x (Stands log) (λ a. b) (λ a. s)) (λ d. y)
 
 pub fold-stands : (log : List LogEntry) (stops : FirstStops) (gtin : List ℕ) (birth by : Placed) (xs : List Placed) → Stands log birth → Stands log by → Stand log xs → Stands log (fold (next_by stops gtin (Some birth)) by xs)
 fold-stands log stops gtin first by [] b y s = y
@@ -185,14 +160,11 @@ pub track-is : (log : List LogEntry) (tables : StopTables) (pack : PackKey) (kep
     → IsTrack log (stops_in log tables) pack.gtin kept → IsKept (life_of pack log) kept
 track-is log tables pack kept stops = track-means log log tables pack (ordered-stand log) stops kept
 
--- a status stops nothing
-status-stops : (pack : PackKey) (item : Item) → is_status_of pack item ≡ true → StopsNone item
-status-stops pack (Carried k stamp (Status key to user at)) e = (λ batch. refl, λ gtin. refl)
-status-stops pack _ e = absurd (true≢false (sym e))
-
-status-upload : (pack : PackKey) (item : Item) → is_status_of pack item ≡ true → is_upload_of pack item ≡ false
-status-upload pack (Carried k stamp (Status key to user at)) e = refl
-status-upload pack _ e = absurd (true≢false (sym e))
+-- a status is of one pack, and no other thing
+pub status-form : (pack : PackKey) (item : Item) → is_status_of pack item ≡ true
+    → ((other : PackKey) → (is_upload_of other item ≡ false) × (is_status_of other item ≡ is_same_pack pack other)) × StopsNone item × ((gtin : List ℕ) → is_master gtin item ≡ false) × (uploaded_in item ≡ [])
+status-form pack (Carried k stamp (Status key to user at)) e = (λ other. (refl, ap (λ (q : PackKey). is_same_pack q other) (same_pack key pack e)), (λ batch. refl, λ gtin. refl), λ gtin. refl, refl)
+status-form pack _ e = absurd (true≢false (sym e))
 
 -- what is kept of a pack, once a status of it is put in
 pub track-status : (log : List LogEntry) (entry : LogEntry) (tables : StopTables) (pack : PackKey) (kept : Kept) → AreStopsOf log tables → is_status_of pack entry.item ≡ true
@@ -200,8 +172,8 @@ pub track-status : (log : List LogEntry) (entry : LogEntry) (tables : StopTables
     → IsTrack (longer log entry) (stops_in (longer log entry) tables) pack.gtin kept
     → IsKept (life_of pack (longer log entry)) kept
 track-status log entry tables pack kept stops own b p w =
-    track-is (longer log entry) tables pack kept (stops-stay log entry tables (status-stops pack entry.item own) stops)
-    (b ∙ ap (option_map place_of) (sym (find-none (λ placed. is_upload_of pack placed.entry.item) log entry (status-upload pack entry.item own))))
+    track-is (longer log entry) tables pack kept (stops-stay log entry tables (status-form pack entry.item own).1 stops)
+    (b ∙ ap (option_map place_of) (sym (find-none (λ placed. is_upload_of pack placed.entry.item) log entry ((status-form pack entry.item own).0 pack).0)))
     (p ∙ sym (filter-some (λ placed. is_status_of pack placed.entry.item) log entry own)) w
 
 -- the effect of a status
@@ -211,10 +183,8 @@ front-places : (log : List LogEntry) (x : Placed) (xs : List Placed) → get_or 
 front-places log x [] e s = refl
 front-places log x (y ∷ ys) e s =
     ap (λ b. cond (not b) (y.place ∷ places_before log x.place (map place_of ys)) (places_before log x.place (map place_of ys))) (λ i. passes (record x { entry = e i }) (record y { entry = s.0 i }))
-    ∙ elim (passes x y) as (λ b. cond (not b) (y.place ∷ places_before log x.place (map place_of ys)) (places_before log x.place (map place_of ys)) ≡ map place_of (cond (not b) (y ∷ filter (stays_before x) ys) (filter (stays_before x) ys))) [
-      | true ↦ front-places log x ys e s.1
-      | false ↦ ap (λ (l : List ℕ). y.place ∷ l) (front-places log x ys e s.1)
-    ]
+    ∙ cond_two (not (passes x y)) (y.place ∷ places_before log x.place (map place_of ys)) (places_before log x.place (map place_of ys)) (y ∷ filter (stays_before x) ys) (filter (stays_before x) ys)
+    (λ ps l. ps ≡ map place_of l) (λ t. ap (λ (l : List ℕ). y.place ∷ l) (front-places log x ys e s.1)) (λ t. front-places log x ys e s.1)
 
 -- a pack as it stands behind those that stand before the newest entry
 module _ (log : List LogEntry) (entry : LogEntry) (pack : PackKey) (xs : List Placed) (stand : Stand (longer log entry) xs) where
@@ -276,17 +246,6 @@ status-effect log entry tables pack front stops own p =
     by _ e = absurd (true≢false (sym e))
 
 -- a status that is put in
-
-pub log-split : (log : List LogEntry) (place : ℕ) → length log ≡ place + 1 → log ≡ longer (take place log) (get_or log place no_entry)
-log-split [] place e = absurd (omega (arith, e))
-log-split (first ∷ []) zero e = refl
-log-split (first ∷ second ∷ rest) zero e = absurd (omega (arith, e))
-log-split (first ∷ rest) (suc place) e = ap (λ (l : List LogEntry). first ∷ l) (log-split rest place (omega (arith, e)))
-
-pub log-length : (log : List LogEntry) (place : ℕ) → length log ≡ place + 1 → place ≡ length (take place log)
-log-length [] place e = absurd (omega (arith, e))
-log-length (first ∷ rest) zero e = refl
-log-length (first ∷ rest) (suc place) e = ap suc (log-length rest place (omega (arith, e)))
 
 module _ (log : List LogEntry) (entry : LogEntry) (tables : StopTables) (pack : PackKey) (old : Kept) where
   pub put-ascend : (whole : List LogEntry) → whole ≡ longer log entry → IsKept (life_of pack log) old → Ascends (map (entry_at whole) old.statuses)

@@ -1,77 +1,38 @@
 -- Uploads: which packs a log names, and how many of those that an upload names are new.
-use Rattle.std.specs.Prelude.{bytes_eq}
-use Rattle.std.proofs.Common.{◌≡◌, ℕ, ◌+◌, ◌<◌, List, [], ◌∷◌, ◌++◌, length, take, get_or, refl, sym, ◌∙◌, ap, arith, subst, append-nil, append_assoc, length-append, Bool, true, false, cond, not, ◌&&◌, ◌||◌, Option, Some, None, IfSome, is_some, IsSome, true≢false, find, filter, map, fold}
-use Rattle.std.specs.Cmp.{IsEquivalence}
-use Rattle.std.specs.Cmp.Lexicographic.{same_text, nat_list_eq_equiv}
-use Rattle.std.specs.List.{list_any, flat_map}
-use Rattle.std.specs.Option.{option_map}
-use Rattle.std.specs.Set.{distinct_count, is_member, unique_keys}
-use Rattle.std.proofs.lemmas.List.{length-map, take_more}
-use Rattle.std.proofs.lemmas.List.Elements.{filter-append}
-use Rattle.std.proofs.lemmas.Map.Made.{is_member-filter}
-use Rattle.std.proofs.lemmas.Map.Steps.{list_any_congr}
-use Rattle.mv_pack.specs.declared.key.PackKey.{PackKey}
-use Rattle.mv_message.specs.declared.message.Message.TheVariants.{Upload}
-use Rattle.mv_link.specs.declared.item.Item.{Item}
-use Rattle.mv_link.specs.declared.item.Item.TheVariants.{Carried}
-use Rattle.mv_repository.specs.declared.entry.LogEntry.{LogEntry}
-use Rattle.mv_pack.specs.Keys.{is_same_pack, pack_key}
-use Rattle.mv_repository.specs.Order.{Placed, passes, put_in, ordered}
-use Rattle.mv_repository.specs.Pack.{KnownPack}
-use Rattle.mv_repository.specs.PackState.{has_pack, known_pack}
-use Rattle.mv_repository.specs.Counts.{uploaded_in, uploaded_packs}
-use Rattle.mv_repository.specs.Effect.{entries_before}
-use Rattle.mv_repository.specs.Stops.{first_stops, is_before, place_of, no_entry, comes_first, earlier_place}
-use Rattle.mv_repository.specs.Shelf.{IsUploadOf, has, new_count}
-use Rattle.mv_repository.specs.State.{pack_made_by}
-use Rattle.mv_repository.specs.Track.{is_upload_of, first_upload, statuses_of, pack_step, pack_grown, track_of}
-use Rattle.mv_repository.proofs.OrderLemmas.{placed_after, ordered-below, still-stand}
-use Rattle.mv_repository.proofs.StateLemmas.{find-stand, upload-makes}
+use Rattle.mv_repository.proofs.Words.{nat_tests, bytes_eq, ◌≡◌, ℕ, ◌+◌, ◌<◌, List, [], ◌∷◌, ◌++◌, length, take, get_or, refl, sym, ◌∙◌, ap, arith, subst, append-nil, length-append, Bool, true, false, cond, cond_both, not, ◌&&◌, ◌||◌, Option, Some, None, IfSome, is_some, IsSome, true≢false, find, filter, map, fold, or-false, and-false, flat_map-append, length-map, take_more, filter-append, list_any-append, is_member-filter, list_any_congr, IsEquivalence, same_text, nat_list_eq_equiv, list_any, flat_map, option_map, distinct_count, is_member, unique_keys, Item, Carried, Upload, is_same_pack, pack_key, PackKey, LogEntry, uploaded_in, uploaded_packs, entries_before, Placed, passes, put_in, ordered, KnownPack, has_pack, known_pack, IsUploadOf, has, new_count, pack_made_by, first_stops, is_before, place_of, no_entry, comes_first, earlier_place, is_upload_of, first_upload, statuses_of, pack_step, pack_grown, track_of}
+use Rattle.std.proofs.Math.Bool.{and-true}
+use Rattle.std.proofs.lemmas.List.Sorted.{list_any-IsPermutation}
+use Rattle.mv_repository.proofs.BeforeLemmas.{stays_before, counted, counted-before, find-below, known-before, any-find}
 use Rattle.mv_repository.proofs.KeptLemmas.{text-sym, earlier_first}
+use Rattle.mv_repository.proofs.OrderLemmas.{placed_after, put_in-permutes, find-true, ordered-below, still-stand}
+use Rattle.mv_repository.proofs.StateLemmas.{find-stand, upload-makes}
 use Rattle.mv_repository.proofs.TableLemmas.{longer, newest, newest-stands, find-some}
-use Rattle.mv_repository.proofs.BeforeLemmas.{stays_before, counted, counted-before, find-below, known-before}
 use Rattle.mv_repository.proofs.UploadLemmas.{upload-has, has-own}
 
 -- the order of stamps has one of a kind where the log has
 
 any-put_in : (f : Placed → Bool) (x : Placed) (xs : List Placed) → list_any f (put_in x xs) ≡ (f x || list_any f xs)
-any-put_in f x [] = refl
-any-put_in f x (y ∷ ys) =
-    elim (passes x y) as (λ b. list_any f (cond b (x ∷ y ∷ ys) (y ∷ put_in x ys)) ≡ (f x || (f y || list_any f ys))) [
-      | true ↦ refl
-      | false ↦ ap (λ b. f y || b) (any-put_in f x ys) ∙ swap (f y) (f x) (list_any f ys)
-    ]
-  where
-    swap : (a b c : Bool) → (a || (b || c)) ≡ (b || (a || c))
-    swap true true c = refl
-    swap true false c = refl
-    swap false b c = refl
+any-put_in f x xs = sym (list_any-IsPermutation f (x ∷ xs) (put_in x xs) (put_in-permutes x xs))
 
 any-after : (f : Item → Bool) (xs : List Placed) (log : List LogEntry)
     → list_any (λ placed. f placed.entry.item) (placed_after xs log) ≡ (list_any (λ placed. f placed.entry.item) xs || list_any (λ entry. f entry.item) log)
-any-after f xs [] = elim (list_any (λ placed. f placed.entry.item) xs) as (λ b. b ≡ (b || false)) [ true ↦ refl | false ↦ refl ]
+any-after f xs [] = sym (or-false (list_any (λ placed. f placed.entry.item) xs))
 any-after f xs (entry ∷ log) =
     any-after f (put_in (record { place = length xs; entry = entry }) xs) log
     ∙ ap (λ b. b || list_any (λ entry. f entry.item) log) (any-put_in (λ placed. f placed.entry.item) (record { place = length xs; entry = entry }) xs)
     ∙ shift (f entry.item) (list_any (λ placed. f placed.entry.item) xs) (list_any (λ entry. f entry.item) log)
   where
     shift : (a b c : Bool) → ((a || b) || c) ≡ (b || (a || c))
-    shift true true c = refl
-    shift true false c = refl
-    shift false b c = refl
+    shift a b c = grind (arith, nat_tests)
 
 pub any-ordered : (f : Item → Bool) (log : List LogEntry) → list_any (λ placed. f placed.entry.item) (ordered log) ≡ list_any (λ entry. f entry.item) log
 any-ordered f log = any-after f [] log
-
-pub any-append : {K : Type 0} → (f : K → Bool) (xs ys : List K) → list_any f (xs ++ ys) ≡ (list_any f xs || list_any f ys)
-any-append f [] ys = refl
-any-append f (x ∷ xs) ys = elim (f x) as (λ b. (b || list_any f (xs ++ ys)) ≡ ((b || list_any f xs) || list_any f ys)) [ true ↦ refl | false ↦ any-append f xs ys ]
 
 -- the keys that a log's items name
 pub any-flat : {K : Type 0} → (f : K → Bool) (names : Item → List K) (g : Item → Bool) → ((item : Item) → list_any f (names item) ≡ g item) → (log : List LogEntry)
     → list_any f (flat_map (λ (entry : LogEntry). names entry.item) log) ≡ list_any (λ (entry : LogEntry). g entry.item) log
 any-flat f names g same [] = refl
-any-flat f names g same (entry ∷ log) = any-append f (names entry.item) (flat_map (λ (entry : LogEntry). names entry.item) log) ∙ (λ i. same entry.item i || any-flat f names g same log i)
+any-flat f names g same (entry ∷ log) = list_any-append f (names entry.item) (flat_map (λ (entry : LogEntry). names entry.item) log) ∙ (λ i. same entry.item i || any-flat f names g same log i)
 
 pub uploaded-is : (pack : PackKey) (item : Item) → list_any (is_same_pack pack) (uploaded_in item) ≡ is_upload_of pack item
 uploaded-is pack (Carried k stamp (Upload gtin batch expiry national serials)) = packs serials
@@ -81,17 +42,15 @@ uploaded-is pack (Carried k stamp (Upload gtin batch expiry national serials)) =
     packs (serial ∷ rest) = (λ i. (text-sym pack.gtin gtin i && text-sym pack.serial serial i) || packs rest i) ∙ spread (bytes_eq gtin pack.gtin) (bytes_eq serial pack.serial) (list_any (λ serial. bytes_eq serial pack.serial) rest)
       where
         spread : (a b c : Bool) → ((a && b) || (a && c)) ≡ (a && (b || c))
-        spread true b c = refl
-        spread false b c = refl
+        spread a b c = grind (arith, nat_tests)
 uploaded-is pack _ = refl
 
+pub some-map : {A B : Type 0} → (f : A → B) (o : Option A) → is_some (option_map f o) ≡ is_some o
+some-map f None = refl
+some-map f (Some x) = refl
+
 pub found-any : (f : Placed → Bool) (xs : List Placed) → is_some (option_map place_of (find f xs)) ≡ list_any f xs
-found-any f [] = refl
-found-any f (x ∷ xs) =
-    elim (f x) as (λ b. is_some (option_map place_of (cond b (Some x) (find f xs))) ≡ (b || list_any f xs)) [
-      | true ↦ refl
-      | false ↦ found-any f xs
-    ]
+found-any f xs = some-map place_of (find f xs) ∙ sym (any-find f xs)
 
 pub uploaded-any : (log : List LogEntry) (pack : PackKey) → is_member is_same_pack (uploaded_packs log) pack ≡ list_any (λ (entry : LogEntry). is_upload_of pack entry.item) log
 uploaded-any log pack = any-flat (is_same_pack pack) uploaded_in (is_upload_of pack) (uploaded-is pack) log
@@ -114,7 +73,7 @@ first-effect f log entry first e =
     by None s = refl
     by (Some y) s =
         (λ i. passes (record { place = length log; entry = newest-stands log entry i }) (record y { entry = s i }))
-        ∙ elim (passes (newest log entry) y) as (λ b. b ≡ not (is_some (cond b None (Some y)))) [ true ↦ refl | false ↦ refl ]
+        ∙ cond_both (passes (newest log entry) y) None (Some y) (λ o. passes (newest log entry) y ≡ not (is_some o)) (λ e. e) (λ e. e)
 
 -- a pack is absent before the newest entry where that comes before its first upload
 pub absent-before : (log : List LogEntry) (entry : LogEntry) (pack : PackKey)
@@ -122,20 +81,12 @@ pub absent-before : (log : List LogEntry) (entry : LogEntry) (pack : PackKey)
 absent-before log entry pack =
     first-effect (λ placed. is_upload_of pack placed.entry.item) log entry (track_of pack log).birth refl
     ∙ ap not (sym (counted-before (newest log entry) (first_upload pack (ordered log)) (find-below (λ placed. is_upload_of pack placed.entry.item) (length log) (ordered log) (ordered-below log))))
-    ∙ ap not (made (counted (newest log entry) (first_upload pack (ordered log))) (counted-is (newest log entry) (first_upload pack (ordered log)) (find-is (ordered log))))
+    ∙ ap not (made (counted (newest log entry) (first_upload pack (ordered log))) (counted-is (newest log entry) (first_upload pack (ordered log)) (find-true (λ y. is_upload_of pack y.entry.item) (ordered log))))
     ∙ ap (λ o. not (is_some o)) (sym (known-before log entry pack))
   where
-    find-is : (xs : List Placed) → IfSome (first_upload pack xs) (λ y. is_upload_of pack y.entry.item ≡ true)
-    find-is [] = tt
-    find-is (y ∷ ys) = by (is_upload_of pack y.entry.item) refl (find-is ys)
-      where
-        by : (b : Bool) → is_upload_of pack y.entry.item ≡ b → IfSome (first_upload pack ys) (λ y. is_upload_of pack y.entry.item ≡ true) → IfSome (cond b (Some y) (first_upload pack ys)) (λ y. is_upload_of pack y.entry.item ≡ true)
-        by true e r = e
-        by false e r = r
-
     counted-is : (x : Placed) (o : Option Placed) → IfSome o (λ y. is_upload_of pack y.entry.item ≡ true) → IfSome (counted x o) (λ y. is_upload_of pack y.entry.item ≡ true)
     counted-is x None h = tt
-    counted-is x (Some y) h = elim (passes x y) as (λ b. IfSome (cond b None (Some y)) (λ y. is_upload_of pack y.entry.item ≡ true)) [ true ↦ tt | false ↦ h ]
+    counted-is x (Some y) h = cond_both (passes x y) None (Some y) (λ o. IfSome o (λ y. is_upload_of pack y.entry.item ≡ true)) (λ e. tt) (λ e. h)
 
     made : (o : Option Placed) → IfSome o (λ y. is_upload_of pack y.entry.item ≡ true)
         → is_some o ≡ is_some (pack_grown (first_stops (ordered log)) pack o (filter (stays_before (newest log entry)) (statuses_of pack (ordered log))))
@@ -148,8 +99,7 @@ absent-before log entry pack =
 
 module _ {K : Type 0} (eq : K → K → Bool) (laws : IsEquivalence eq) where
   push_member : (xs : List K) (x y : K) → is_member eq (xs ++ y ∷ []) x ≡ (is_member eq xs x || eq x y)
-  push_member [] x y = elim (eq x y) as (λ b. (b || false) ≡ b) [ true ↦ refl | false ↦ refl ]
-  push_member (z ∷ zs) x y = elim (eq x z) as (λ b. (b || is_member eq (zs ++ y ∷ []) x) ≡ ((b || is_member eq zs x) || eq x y)) [ true ↦ refl | false ↦ push_member zs x y ]
+  push_member xs x y = list_any-append (eq x) xs (y ∷ []) ∙ ap (λ b. is_member eq xs x || b) (or-false (eq x y))
 
   length-cond : (b : Bool) (x : K) (xs : List K) → length (cond b xs (x ∷ xs)) ≡ cond b (length xs) (length xs + 1)
   length-cond true x xs = refl
@@ -157,14 +107,8 @@ module _ {K : Type 0} (eq : K → K → Bool) (laws : IsEquivalence eq) where
 
   -- one more, y, where x of the list is the same as y or not (b), and is in the rest or not (c), and y is in the rest or not (m)
   push_count : (b c m : Bool) (n size : ℕ) → n ≡ size + cond m 0 1 → (b ≡ true → m ≡ c) → cond (c || b) n (n + 1) ≡ cond c size (size + 1) + cond (b || m) 0 1
-  push_count true true true n size e h = omega (arith, e)
-  push_count true true false n size e h = absurd (true≢false (sym (h refl)))
-  push_count true false true n size e h = absurd (true≢false (h refl))
-  push_count true false false n size e h = omega (arith, e)
-  push_count false true true n size e h = omega (arith, e)
-  push_count false true false n size e h = omega (arith, e)
-  push_count false false true n size e h = omega (arith, e)
-  push_count false false false n size e h = omega (arith, e)
+  push_count true c m n size e h = let same = h refl in grind (arith, nat_tests)
+  push_count false c m n size e h = grind (arith, nat_tests)
 
   -- one key more, counted once
   pub distinct_push : (xs : List K) (y : K) → distinct_count eq (xs ++ y ∷ []) ≡ distinct_count eq xs + cond (is_member eq xs y) 0 1
@@ -223,35 +167,24 @@ module _ (log : List LogEntry) (entry : LogEntry) (gtin : List ℕ) (serials : L
 
       by : (b c : Bool) → absent s ≡ c → cond (not (has (take i serials) s) && c) (distinct_count bytes_eq front + 1) (distinct_count bytes_eq front)
           ≡ distinct_count bytes_eq (front ++ cond c (s ∷ []) [])
-      by b false a = elim (not (has (take i serials) s)) as (λ t. cond (t && false) (distinct_count bytes_eq front + 1) (distinct_count bytes_eq front) ≡ distinct_count bytes_eq (front ++ [])) [
-        | true ↦ ap (distinct_count bytes_eq) (sym (append-nil front))
-        | false ↦ ap (distinct_count bytes_eq) (sym (append-nil front))
-      ]
+      by b false a =
+          ap (λ t. cond t (distinct_count bytes_eq front + 1) (distinct_count bytes_eq front)) (and-false (not (has (take i serials) s))) ∙ ap (distinct_count bytes_eq) (sym (append-nil front))
       by b true a =
-          ap (λ t. cond (not t && true) (distinct_count bytes_eq front + 1) (distinct_count bytes_eq front)) (has_is ∙ and_true (is_member bytes_eq (take i serials) s) ∙ ap (λ t. is_member bytes_eq (take i serials) s && t) (sym a) ∙ sym member)
+          ap (λ t. cond (not t && true) (distinct_count bytes_eq front + 1) (distinct_count bytes_eq front)) (has_is ∙ sym (and-true (is_member bytes_eq (take i serials) s)) ∙ ap (λ t. is_member bytes_eq (take i serials) s && t) (sym a) ∙ sym member)
           ∙ count_cases (is_member bytes_eq front s) (distinct_count bytes_eq front)
           ∙ sym (distinct_push bytes_eq nat_list_eq_equiv front s)
         where
-          and_true : (t : Bool) → t ≡ (t && true)
-          and_true true = refl
-          and_true false = refl
-
           count_cases : (t : Bool) (n : ℕ) → cond (not t && true) (n + 1) n ≡ n + cond t 0 1
-          count_cases true n = omega arith
-          count_cases false n = omega arith
+          count_cases t n = grind (arith, nat_tests)
 
   pub new-more : (whole : List LogEntry) (place : ℕ) → whole ≡ longer log entry → place ≡ length log → More whole place
   new-more whole place e n = subst (λ (w : List LogEntry). More w place) (sym e) (subst (λ (m : ℕ). More (longer log entry) m) (sym n) more_newest)
 
--- the keys of one more entry
-pub flat-push : (log : List LogEntry) (entry : LogEntry) → uploaded_packs (longer log entry) ≡ uploaded_packs log ++ uploaded_in entry.item
-flat-push [] entry = append-nil (uploaded_in entry.item)
-flat-push (one ∷ log) entry =
-    ap (λ (l : List PackKey). uploaded_in one.item ++ l) (flat-push log entry) ∙ sym (append_assoc (uploaded_in one.item) (uploaded_packs log) (uploaded_in entry.item))
-
 -- how many packs the uploads name, with one more entry
 pub named-longer : (log : List LogEntry) (entry : LogEntry) (whole : List LogEntry) → whole ≡ longer log entry → length (uploaded_packs whole) ≡ length (uploaded_packs log) + length (uploaded_in entry.item)
-named-longer log entry whole e = ap (λ (w : List LogEntry). length (uploaded_packs w)) e ∙ ap length (flat-push log entry) ∙ length-append (uploaded_packs log) (uploaded_in entry.item)
+named-longer log entry whole e =
+    ap (λ (w : List LogEntry). length (uploaded_packs w)) e ∙ ap length (flat_map-append (λ (entry : LogEntry). uploaded_in entry.item) log (entry ∷ []))
+    ∙ length-append (uploaded_packs log) (uploaded_in entry.item ++ []) ∙ ap (λ (l : List PackKey). length (uploaded_packs log) + length l) (append-nil (uploaded_in entry.item))
 
 pub named-upload : (gtin : List ℕ) (serials : List (List ℕ)) (item : Item) → IsUploadOf item gtin serials → length (uploaded_in item) ≡ length serials
 named-upload gtin serials (Carried k stamp (Upload named batch expiry national packs)) u = length-map packs (pack_key named) ∙ ap length u.1

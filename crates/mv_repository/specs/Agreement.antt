@@ -1,13 +1,7 @@
 -- What of a log bears on one pack, and what two logs agree on that have the same of it.
-use Rattle.std.specs.Prelude.{◌≡◌, ◌↔◌, ℕ, nat_eq, List, Bool, false, filter, Option, Some, None, bytes_eq}
-use Rattle.std.specs.List.{filter_map, Contains, IsDistinct}
-use Rattle.std.specs.Option.{option_map, option_map_or}
-use Rattle.mv_pack.specs.declared.key.PackKey.{PackKey}
-use Rattle.mv_message.specs.declared.message.Message.{Message}
-use Rattle.mv_message.specs.declared.message.Message.TheVariants.{Upload, Status, Recall, Withdraw}
-use Rattle.mv_link.specs.declared.item.Item.{Item}
-use Rattle.mv_link.specs.declared.item.Item.TheVariants.{Receipt, Carried}
-use Rattle.mv_repository.specs.declared.entry.LogEntry.{LogEntry}
+use Rattle.mv_repository.specs.Words.{◌≡◌, ◌↔◌, ℕ, nat_eq, List, Bool, false, filter, Option, Some, None, bytes_eq, filter_map, Contains, option_map, option_map_or, PackKey, Message, Upload, Status, Withdraw, Item, Receipt, Carried, LogEntry}
+use Rattle.std.specs.List.{IsDistinct}
+use Rattle.mv_message.specs.declared.message.Message.TheVariants.{Recall}
 use Rattle.mv_repository.specs.Order.{Placed, ordered}
 use Rattle.mv_pack.specs.Keys.{is_same_pack, is_same_batch, batch_key}
 use Rattle.mv_repository.specs.Pack.{KnownChange, KnownPack}

@@ -1,18 +1,11 @@
 -- What many statuses of a pack do that stand one behind the other.
-use Rattle.std.specs.Bool.{⊤}
-use Rattle.std.specs.Prelude.{◌≡◌, ◌≤◌, ◌+◌, ◌%◌, ◌++◌, ℕ, List, [], ◌∷◌, length, fold, take, drop, Bool, true}
-use Rattle.std.specs.List.{AllByRecursion}
-use Rattle.std.specs.Option.{unwrap_or}
-use Rattle.mv_link.specs.declared.limits.TheConstants.{PARTIES_LIMIT}
-use Rattle.mv_link.specs.declared.party_set.PartySet.{PartySet}
+use Rattle.mv_repository.specs.Words.{⊤, ◌≡◌, ◌≤◌, ◌+◌, ◌%◌, ◌++◌, ℕ, List, [], ◌∷◌, length, fold, take, drop, Bool, true, AllByRecursion, PARTIES_LIMIT, PartySet}
 use Rattle.mv_link.specs.PartySets.{has_party, no_parties}
-use Rattle.mv_repository.specs.declared.blocks.Basis.{Basis}
 use Rattle.mv_repository.specs.declared.blocks.Block.{Block}
 use Rattle.mv_repository.specs.declared.blocks.Cut.{Cut}
 use Rattle.mv_repository.specs.Order.{Placed}
 use Rattle.mv_repository.specs.Pack.{is_active}
-use Rattle.mv_repository.specs.State.{standing_in, next_place}
-use Rattle.mv_repository.specs.Stops.{entry_at, stops_in}
+use Rattle.mv_repository.specs.State.{standing_in}
 
 -- a set may have a sender: it seems to have all whose numbers differ from that of one by the greatest number of parties
 abbrev pub may_have : PartySet → ℕ → Bool
@@ -47,16 +40,6 @@ pub record IsCut (entry : ℕ → Placed) (next : ℕ → ℕ → ℕ) (start : 
   pub by : cut.by ≡ fold next start (take cut.start own)
   pub front : (rest : List ℕ) → IsFront entry next start (take cut.number blocks) (take cut.start own ++ rest) cut.by rest
   pub behind : AreBlocks entry next start cut.by (drop cut.number blocks) (drop cut.start own)
-
--- by what a pack is worked out
-abbrev pub entry_in : Basis → ℕ → Placed
-entry_in basis = entry_at basis.log.now
-
-abbrev pub next_in : Basis → ℕ → ℕ → ℕ
-next_in basis = next_place basis.log.now (stops_in basis.log.now basis.stops.now) basis.gtin.now basis.birth
-
-abbrev pub start_in : Basis → ℕ
-start_in basis = unwrap_or basis.birth 0
 
 -- statuses but for the one at a place
 abbrev pub without : List ℕ → ℕ → List ℕ

@@ -1,10 +1,5 @@
 -- What the change of a pack says of the log.
-use Rattle.std.specs.Prelude.{◌≡◌, ℕ, List, true, Some, IfSome, slice_get}
-use Rattle.mv_pack.specs.declared.key.PackKey.{PackKey}
-use Rattle.mv_message.specs.declared.standing.Standing.{Standing}
-use Rattle.mv_message.specs.declared.message.Message.TheVariants.{Status}
-use Rattle.mv_link.specs.declared.item.Item.TheVariants.{Carried}
-use Rattle.mv_repository.specs.declared.entry.LogEntry.{LogEntry}
+use Rattle.mv_repository.specs.Words.{◌≡◌, ℕ, List, true, Some, IfSome, slice_get, PackKey, Standing, Status, Carried, LogEntry}
 use Rattle.mv_repository.specs.Order.{ordered}
 use Rattle.mv_pack.specs.Keys.{is_same_pack}
 use Rattle.mv_repository.specs.Pack.{KnownChange}

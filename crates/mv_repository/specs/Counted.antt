@@ -1,12 +1,7 @@
 -- Which packs of a table are counted, by what is kept of each.
-use Rattle.std.specs.Prelude.{ℕ, List, map, filter, is_some, Bool, Some}
-use Rattle.std.specs.List.{flat_map}
-use Rattle.std.specs.Map.{keys_of}
-use Rattle.mv_pack.specs.declared.key.PackKey.{PackKey}
+use Rattle.mv_repository.specs.Words.{ℕ, List, map, filter, is_some, Bool, Some, flat_map, keys_of, PackKey, Counted, Active, Slot}
 use Rattle.mv_pack.specs.Keys.{pack_key}
-use Rattle.mv_repository.specs.declared.counted.Counted.{Counted}
-use Rattle.mv_repository.specs.declared.counted.Counted.TheVariants.{Held, Active}
-use Rattle.mv_repository.specs.declared.slot.Slot.{Slot}
+use Rattle.mv_repository.specs.declared.counted.Counted.TheVariants.{Held}
 use Rattle.mv_repository.specs.Shelf.{ShelfTable, kept_by}
 use Rattle.mv_repository.specs.Track.{Kept, is_active_kept}
 

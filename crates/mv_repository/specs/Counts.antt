@@ -1,15 +1,6 @@
 -- How much a repository has: five numbers, each thing counted once.
-use Rattle.std.specs.Prelude.{ℕ, List, [], ◌∷◌, map, filter, length, Bool, false, Option, bytes_eq}
-use Rattle.std.specs.List.{flat_map}
-use Rattle.std.specs.Option.{option_map_or}
-use Rattle.std.specs.Set.{distinct_count}
-use Rattle.mv_pack.specs.declared.key.PackKey.{PackKey}
-use Rattle.mv_pack.specs.declared.key.BatchKey.{BatchKey}
-use Rattle.mv_message.specs.declared.message.Message.TheVariants.{Master, Upload, Recall}
-use Rattle.mv_link.specs.declared.item.Item.{Item}
-use Rattle.mv_link.specs.declared.item.Item.TheVariants.{Carried}
-use Rattle.mv_repository.specs.declared.entry.LogEntry.{LogEntry}
-use Rattle.mv_repository.specs.declared.counts.Counts.{Counts}
+use Rattle.mv_repository.specs.Words.{ℕ, List, [], ◌∷◌, map, filter, length, Bool, false, Option, bytes_eq, flat_map, option_map_or, distinct_count, PackKey, BatchKey, Master, Upload, Item, Carried, LogEntry, Counts}
+use Rattle.mv_message.specs.declared.message.Message.TheVariants.{Recall}
 use Rattle.mv_repository.specs.declared.held.Held.{Held}
 use Rattle.mv_pack.specs.Keys.{is_same_pack, is_same_batch, pack_key}
 use Rattle.mv_repository.specs.Pack.{is_active}

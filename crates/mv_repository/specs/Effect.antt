@@ -1,13 +1,7 @@
 -- What applying an item does, by its number.
-use Rattle.std.specs.Prelude.{ℕ, ◌-◌, List, length, filter, not, Bool, is_some, codes, if◌then◌else◌, bytes_eq}
-use Rattle.std.specs.Option.{option_map_or}
-use Rattle.std.specs.Set.{distinct_count}
-use Rattle.mv_message.specs.declared.message.Message.TheVariants.{Master, Upload, Status, Recall, Withdraw}
-use Rattle.mv_link.specs.declared.item.Item.{Item}
-use Rattle.mv_link.specs.declared.item.Item.TheVariants.{Carried}
-use Rattle.mv_repository.specs.declared.effect.Effect.{Effect}
+use Rattle.mv_repository.specs.Words.{ℕ, ◌-◌, List, length, filter, not, Bool, is_some, codes, if◌then◌else◌, bytes_eq, option_map_or, distinct_count, Master, Upload, Status, Withdraw, Item, Carried, Effect, LogEntry}
+use Rattle.mv_message.specs.declared.message.Message.TheVariants.{Recall}
 use Rattle.mv_repository.specs.declared.effect.Effect.TheVariants as effects
-use Rattle.mv_repository.specs.declared.entry.LogEntry.{LogEntry}
 use Rattle.mv_repository.specs.Order.{Placed, passes, ordered}
 use Rattle.mv_pack.specs.Keys.{pack_key, batch_key}
 use Rattle.mv_repository.specs.Pack.{change_effect}

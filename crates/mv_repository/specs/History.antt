@@ -1,12 +1,7 @@
 -- What decides one pack: as a log has it, and as it was sent.
-use Rattle.std.specs.Prelude.{◌≡◌, List, map, Bool, Option, Some, IfSome, slice_get}
-use Rattle.std.specs.List.{AllByRecursion}
-use Rattle.std.specs.Option.{option_map, option_and_then}
-use Rattle.mv_pack.specs.declared.key.PackKey.{PackKey}
+use Rattle.mv_repository.specs.Words.{◌≡◌, List, map, Bool, Option, Some, IfSome, slice_get, AllByRecursion, option_map, option_and_then, PackKey, LogEntry, BatchStanding}
 use Rattle.mv_pack.specs.Keys.{batch_key}
-use Rattle.mv_repository.specs.declared.entry.LogEntry.{LogEntry}
 use Rattle.mv_repository.specs.declared.history.Places.{Places}
-use Rattle.mv_repository.specs.declared.stops.BatchStanding.{BatchStanding}
 use Rattle.mv_repository.specs.Order.{Placed, ordered}
 use Rattle.mv_repository.specs.Agreement.{Sent, sent_in, batch_in}
 use Rattle.mv_repository.specs.Stops.{first_stops, is_before, entry_at}

@@ -1,17 +1,6 @@
 -- The table of a repository's own queries.
-use Rattle.std.specs.Prelude.{◌≡◌, ◌<◌, ℕ, suc, Bool, true, false, not, ◌&&◌, ◌||◌, ◌==◌, nat_eq, List, [], ◌∷◌, length, filter, slice_get, Option, Some, None, is_some, unwrap_or, if◌then◌else◌}
-use Rattle.std.specs.List.{list_any}
-use Rattle.std.specs.Option.{option_or, option_map, option_and_then}
-use Rattle.std.specs.Map.{lookup}
-use Rattle.indexmap.specs.IndexMap.{spare as map_spare}
-use Rattle.indexmap.specs.IndexSet.{spare as set_spare}
-use Rattle.mv_message.specs.declared.message.Message.TheVariants.{Answer}
-use Rattle.mv_message.specs.declared.found.Found.{Found}
-use Rattle.mv_link.specs.declared.item.Item.{Item}
-use Rattle.mv_link.specs.declared.item.Item.TheVariants.{Receipt, Carried}
-use Rattle.mv_repository.specs.declared.entry.LogEntry.{LogEntry}
-use Rattle.mv_repository.specs.declared.verdict.Joint.{Joint}
-use Rattle.mv_repository.specs.declared.verdict.Joint.TheVariants.{NotAsked, Pending, Decided}
+use Rattle.mv_repository.specs.Words.{◌≡◌, ◌<◌, ℕ, suc, Bool, true, false, not, ◌&&◌, ◌||◌, ◌==◌, nat_eq, List, [], ◌∷◌, length, filter, slice_get, Option, Some, None, is_some, if◌then◌else◌, list_any, option_or, option_map, option_and_then, lookup, map_spare, set_spare, Answer, Found, Item, Receipt, Carried, LogEntry, Joint, NotAsked, Pending, Decided}
+use Rattle.std.specs.Prelude.{unwrap_or}
 use Rattle.mv_repository.specs.declared.inquiries.Inquiries.{Inquiries}
 use Rattle.mv_repository.specs.declared.inquiries.Inquiry.{Inquiry}
 use Rattle.mv_repository.specs.Verdict.{query_reach, has_answered, has_finding, found_active, found_explained, verdict_when}

@@ -1,3 +1,4 @@
+pub mod Words
 pub mod Log
 pub mod Order
 pub mod Product
@@ -19,7 +20,6 @@ pub mod Track
 pub mod Counted
 pub mod Shelf
 pub mod Listing
-pub mod Packs
 pub mod Inquiries
 pub mod Tables
 pub mod History

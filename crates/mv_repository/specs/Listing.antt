@@ -1,17 +1,8 @@
 -- For each batch of a product the numbers of the tracks that may be of it. Too many are right, too few are not.
-use Rattle.std.specs.Prelude.{◌≡◌, ℕ, List, [], map, Bool, true, ◌==◌, Option, Some, None, bytes_eq}
-use Rattle.std.specs.HashSet.{HashSet}
-use Rattle.std.specs.List.{list_any}
-use Rattle.std.specs.Map.{lookup}
+use Rattle.mv_repository.specs.Words.{◌≡◌, ℕ, List, [], map, Bool, true, ◌==◌, Option, Some, None, if◌then◌else◌, bytes_eq, HashSet, list_any, lookup, option_and_then, Message, Upload, Item, LogEntry, Slot, Own}
 use Rattle.std.specs.Option.{unwrap_or}
-use Rattle.mv_message.specs.declared.message.Message.TheVariants.{Upload}
-use Rattle.mv_link.specs.declared.item.Item.{Item}
-use Rattle.mv_link.specs.declared.item.Item.TheVariants.{Carried}
 use Rattle.mv_pack.specs.Keys.{pack_key}
-use Rattle.mv_repository.specs.declared.entry.LogEntry.{LogEntry}
-use Rattle.mv_repository.specs.declared.slot.Slot.{Slot}
-use Rattle.mv_repository.specs.declared.slot.Slot.TheVariants.{Own}
-use Rattle.mv_repository.specs.Stops.{entry_at}
+use Rattle.mv_repository.specs.Stops.{entry_at, message_in}
 use Rattle.mv_repository.specs.Track.{track_of}
 
 -- sets of numbers by batch, each as a list
@@ -26,23 +17,43 @@ numbers_of own batch = unwrap_or (lookup (bytes_eq batch) own) []
 abbrev pub has_number : List ℕ → ℕ → Bool
 has_number numbers number = list_any (λ one. one == number) numbers
 
--- all that one list has the other has too
-abbrev pub HasAllOf : List (List ℕ × List ℕ) → List (List ℕ × List ℕ) → Type 0
-HasAllOf old new =
+-- all numbers that one list has under a batch the other has too
+abbrev pub HasNumbersOf : List (List ℕ × List ℕ) → List (List ℕ × List ℕ) → Type 0
+HasNumbersOf old new =
     (batch : List ℕ) (number : ℕ) → has_number (numbers_of old batch) number ≡ true → has_number (numbers_of new batch) number ≡ true
 
--- the batch of the packs that an item uploads
+-- numbers by batch; where memory was refused for one, they are not all
+pub record ListingTable : Type 0 where
+  pub is_whole : Bool
+  pub numbers : List (List ℕ × List ℕ)
+
+-- no number
+abbrev pub no_numbers : ListingTable
+no_numbers = record { is_whole = true; numbers = [] }
+
+-- a number may be of a batch: any may, where they are not all
+abbrev pub lists : ListingTable → List ℕ → ℕ → Bool
+lists listing batch number = if listing.is_whole then has_number (numbers_of listing.numbers batch) number else true
+
+-- all that may be of a batch by one listing may by the other
+abbrev pub HasAllOf : ListingTable → ListingTable → Type 0
+HasAllOf old new = (batch : List ℕ) (number : ℕ) → lists old batch number ≡ true → lists new batch number ≡ true
+
+-- the batch of the packs that a message uploads
+abbrev pub batch_of : Message → Option (List ℕ)
+batch_of (Upload gtin batch expiry national serials) = Some batch
+batch_of _ = None
+
 abbrev pub batch_in : Item → Option (List ℕ)
-batch_in (Carried k stamp (Upload gtin batch expiry national serials)) = Some batch
-batch_in _ = None
+batch_in item = option_and_then batch_of (message_in item)
 
 -- the same by its place in a log
 abbrev pub batch_at : List LogEntry → ℕ → Option (List ℕ)
 batch_at log place = batch_in (entry_at log place).entry.item
 
 -- each track of a product is listed under the batch of the first upload that names its pack
-abbrev pub AreListed : List LogEntry → List ℕ → List (List ℕ × Slot) → List (List ℕ × List ℕ) → Type 0
-AreListed log gtin slots own =
+abbrev pub AreListed : List LogEntry → List ℕ → List (List ℕ × Slot) → ListingTable → Type 0
+AreListed log gtin slots listing =
     (serial : List ℕ) (number birth : ℕ) (batch : List ℕ) → lookup (bytes_eq serial) slots ≡ Some (Own number)
     → (track_of (pack_key gtin serial) log).birth ≡ Some birth → batch_at log birth ≡ Some batch
-    → has_number (numbers_of own batch) number ≡ true
+    → lists listing batch number ≡ true

@@ -1,12 +1,9 @@
 -- What a repository knows of a pack and of a batch, and what one status does to a pack (Delegated Regulation (EU)
 -- 2016/161, Articles 13, 36 and 40).
-use Rattle.std.specs.Prelude.{ℕ, ◌+◌, ◌*◌, ◌==◌, ◌&&◌, nat_lt, List, not, Bool, true, false, Option, Some, None, if◌then◌else◌, bytes_eq}
+use Rattle.mv_repository.specs.Words.{ℕ, ◌+◌, ◌*◌, ◌==◌, ◌&&◌, nat_lt, List, not, Bool, true, false, Option, Some, None, if◌then◌else◌, bytes_eq, Standing, Effect, BatchStanding}
 use Rattle.mv_pack.specs.Expiry.{CivilDate, seconds_of_day, is_expired_at}
-use Rattle.mv_message.specs.declared.standing.Standing.{Standing}
 use Rattle.mv_message.specs.declared.standing.Standing.TheVariants as standings
-use Rattle.mv_repository.specs.declared.effect.Effect.{Effect}
 use Rattle.mv_repository.specs.declared.effect.Effect.TheVariants as effects
-use Rattle.mv_repository.specs.declared.stops.BatchStanding.{BatchStanding}
 
 -- a change of a pack from active: the party and the user who asked for it, the moment that they gave, and the place of
 -- the status in the log, counted from 0

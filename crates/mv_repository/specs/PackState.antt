@@ -1,17 +1,9 @@
 -- What a log means for one pack, one batch and one product: its entries are read in the order of stamps.
-use Rattle.std.specs.Prelude.{ℕ, List, [], ◌∷◌, ◌++◌, Bool, false, ◌&&◌, Option, Some, None, if◌then◌else◌, bytes_eq}
-use Rattle.std.specs.List.{list_any}
-use Rattle.std.specs.Option.{option_map, option_or}
-use Rattle.mv_pack.specs.declared.key.PackKey.{PackKey}
-use Rattle.mv_pack.specs.declared.key.BatchKey.{BatchKey}
-use Rattle.mv_message.specs.declared.message.Message.TheVariants.{Upload, Status, Recall, Withdraw}
-use Rattle.mv_link.specs.declared.item.Item.{Item}
-use Rattle.mv_link.specs.declared.item.Item.TheVariants.{Carried}
-use Rattle.mv_repository.specs.declared.entry.LogEntry.{LogEntry}
+use Rattle.mv_repository.specs.Words.{ℕ, List, [], ◌∷◌, ◌++◌, Bool, false, ◌&&◌, Option, Some, None, if◌then◌else◌, bytes_eq, list_any, option_map, option_or, PackKey, BatchKey, Upload, Status, Withdraw, Item, Carried, LogEntry, BatchStanding}
+use Rattle.mv_message.specs.declared.message.Message.TheVariants.{Recall}
 use Rattle.mv_repository.specs.declared.held.Held.{Held}
 use Rattle.mv_repository.specs.Order.{Placed, ordered}
 use Rattle.mv_pack.specs.Keys.{is_same_pack, is_same_batch, batch_key}
-use Rattle.mv_repository.specs.declared.stops.BatchStanding.{BatchStanding}
 use Rattle.mv_repository.specs.Pack.{KnownPack, KnownChange, new_pack, pack_after_status}
 
 -- an item is a recall of a batch

@@ -1,9 +1,5 @@
 -- What a repository knows of a product.
-use Rattle.std.specs.Prelude.{ℕ, List, Option, Some, None, if◌then◌else◌, bytes_eq}
-use Rattle.mv_message.specs.declared.message.Message.TheVariants.{Master}
-use Rattle.mv_message.specs.declared.message.Product.{Product}
-use Rattle.mv_link.specs.declared.item.Item.{Item}
-use Rattle.mv_link.specs.declared.item.Item.TheVariants.{Carried}
+use Rattle.mv_repository.specs.Words.{ℕ, List, Option, Some, None, if◌then◌else◌, bytes_eq, Master, Product, Item, Carried}
 
 -- the product that an item gives under a code: that of a master of the code
 abbrev pub product_under : List ℕ → Item → Option Product

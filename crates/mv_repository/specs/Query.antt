@@ -1,14 +1,6 @@
 -- What a query finds, and the answers that a log calls for.
-use Rattle.std.specs.Prelude.{ℕ, List, [], ◌∷◌, ◌++◌, Option, Some, None, option_to_list}
-use Rattle.std.specs.Option.{option_map_or}
-use Rattle.mv_pack.specs.declared.key.PackKey.{PackKey}
-use Rattle.mv_message.specs.declared.message.Message.{Message}
-use Rattle.mv_message.specs.declared.message.Message.TheVariants.{Query, Answer}
-use Rattle.mv_message.specs.declared.found.Found.{Found}
-use Rattle.mv_message.specs.declared.found.Found.TheVariants.{Absent, Present}
-use Rattle.mv_link.specs.declared.item.Item.{Item}
-use Rattle.mv_link.specs.declared.item.Item.TheVariants.{Carried}
-use Rattle.mv_repository.specs.declared.entry.LogEntry.{LogEntry}
+use Rattle.mv_repository.specs.Words.{ℕ, List, [], ◌∷◌, ◌++◌, Option, Some, None, option_to_list, option_map_or, PackKey, Message, Query, Answer, Found, Present, Item, Carried, LogEntry}
+use Rattle.mv_message.specs.declared.found.Found.TheVariants.{Absent}
 use Rattle.mv_pack.specs.Keys.{batch_key}
 use Rattle.mv_repository.specs.PackState.{pack_state, is_recalled, is_withdrawn}
 

@@ -1,9 +1,5 @@
 -- What a repository is seen as. No table is part of it: all that it answers is the meaning of its log by stamp order.
-use Rattle.std.specs.Prelude.{ℕ, List, [], ◌∷◌, ◌++◌, Option, None}
-use Rattle.std.specs.List.{filter_map, last_or}
-use Rattle.mv_message.specs.declared.message.Product.{Product}
-use Rattle.mv_link.specs.declared.item.Item.{Item}
-use Rattle.mv_repository.specs.declared.entry.LogEntry.{LogEntry}
+use Rattle.mv_repository.specs.Words.{ℕ, List, [], ◌∷◌, ◌++◌, Option, None, filter_map, last_or, Product, Item, LogEntry}
 use Rattle.mv_repository.specs.Order.{ordered}
 use Rattle.mv_repository.specs.Product.{product_under}
 

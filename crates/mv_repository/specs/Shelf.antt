@@ -1,22 +1,12 @@
 -- What is kept of each pack of a product: a pack that has no status has a slot alone, and each other a track.
-use Rattle.std.specs.Prelude.{◌≡◌, ◌<◌, ℕ, List, [], length, get_or, filter, not, is_some, Bool, true, false, Option, Some, None, if◌then◌else◌, bytes_eq}
-use Rattle.std.specs.Map.{lookup}
-use Rattle.mv_repository.specs.declared.slot.Slot.{Slot}
-use Rattle.mv_repository.specs.declared.slot.Slot.TheVariants.{Made, Own}
-use Rattle.std.specs.List.{list_any}
-use Rattle.mv_message.specs.declared.message.Message.TheVariants.{Upload}
-use Rattle.mv_link.specs.declared.item.Item.{Item}
-use Rattle.mv_link.specs.declared.item.Item.TheVariants.{Carried}
-use Rattle.mv_pack.specs.declared.key.PackKey.{PackKey}
+use Rattle.mv_repository.specs.Words.{◌≡◌, ◌<◌, ℕ, List, [], length, get_or, take, filter, not, is_some, Bool, true, false, Option, Some, None, if◌then◌else◌, bytes_eq, lookup, Slot, Made, Own, list_any, Upload, Item, Carried, PackKey, LogEntry, distinct_count}
 use Rattle.mv_pack.specs.Keys.{pack_key}
-use Rattle.mv_repository.specs.declared.entry.LogEntry.{LogEntry}
 use Rattle.std.specs.Option.{unwrap_or}
-use Rattle.std.specs.Set.{distinct_count}
 use Rattle.mv_repository.specs.Effect.{entries_before}
 use Rattle.mv_repository.specs.PackState.{known_pack}
-use Rattle.mv_repository.specs.Listing.{numbers_of, has_number, batch_at, AreListed}
+use Rattle.mv_repository.specs.Listing.{ListingTable, no_numbers, lists, batch_at, AreListed}
 use Rattle.mv_repository.specs.Stops.{FirstStops, comes_first}
-use Rattle.mv_repository.specs.Track.{Kept, life_of, IsKept, IsTrack, is_upload_of, is_status_of}
+use Rattle.mv_repository.specs.Track.{Kept, life_of, IsKept, IsTrack, is_upload_of, is_status_of, track_of}
 
 -- nothing is kept
 abbrev pub nothing_kept : Kept
@@ -42,7 +32,7 @@ pub record IsShelf (slots : List (List ℕ × Slot)) (tracks : List Kept) : Type
 pub record ShelfTable : Type 0 where
   pub slots : List (List ℕ × Slot)
   pub tracks : List Kept
-  pub listing : List (List ℕ × List ℕ)
+  pub listing : ListingTable
 
 -- an item is an upload of these packs of a product
 abbrev pub IsUploadOf : Item → List ℕ → List (List ℕ) → Type 0
@@ -63,11 +53,12 @@ abbrev pub AreKept : List LogEntry → List LogEntry → List (List ℕ) → Lis
 AreKept now before done gtin slots tracks =
     (serial : List ℕ) → IsKept (life_of (pack_key gtin serial) (if has done serial then now else before)) (kept_on slots tracks serial)
 
--- of the packs with these serial numbers, those that an upload makes have their tracks listed under its batch
-abbrev pub AreMadeListed : List LogEntry → ℕ → List (List ℕ) → List (List ℕ × Slot) → List Kept → List (List ℕ × List ℕ) → Type 0
-AreMadeListed log place serials slots tracks own =
+-- of the packs with these serial numbers, those that the entry at the last place of a log makes have their tracks listed under its batch
+abbrev pub AreMadeListed : List LogEntry → ℕ → List (List ℕ) → List ℕ → List (List ℕ × Slot) → ListingTable → Type 0
+AreMadeListed log place serials gtin slots listing =
     (serial : List ℕ) (number : ℕ) (batch : List ℕ) → has serials serial ≡ true → lookup (bytes_eq serial) slots ≡ Some (Own number)
-    → comes_first log place (kept_on slots tracks serial).birth ≡ true → batch_at log place ≡ Some batch → has_number (numbers_of own batch) number ≡ true
+    → comes_first log place (track_of (pack_key gtin serial) (take place log)).birth ≡ true → batch_at log place ≡ Some batch
+    → lists listing batch number ≡ true
 
 -- no other track is in these slots than in those before
 abbrev pub HasNoOther : List (List ℕ × Slot) → List (List ℕ × Slot) → Type 0
@@ -81,7 +72,7 @@ pub record IsShelfOf (log : List LogEntry) (gtin : List ℕ) (shelf : ShelfTable
 
 -- a shelf with no pack
 abbrev pub no_shelf : ShelfTable
-no_shelf = record { slots = []; tracks = []; listing = [] }
+no_shelf = record { slots = []; tracks = []; listing = no_numbers }
 
 -- the shelf of a product
 abbrev pub shelf_of : List ℕ → List (List ℕ × ShelfTable) → ShelfTable
@@ -93,10 +84,10 @@ pub record IsAgain (log : List LogEntry) (stops : FirstStops) (gtin : List ℕ) 
   pub statuses : new.statuses ≡ old.statuses
   pub worked : IsTrack log stops gtin new
 
--- each pack on a shelf is kept as one of two logs means it
-abbrev pub IsBetween : List LogEntry → List LogEntry → List ℕ → List (List ℕ × Slot) → List Kept → Type 0
-IsBetween now before gtin slots tracks =
-    (serial : List ℕ) → (newer : Bool) × IsKept (life_of (pack_key gtin serial) (if newer then now else before)) (kept_on slots tracks serial)
+-- a track was worked out again, or it stays
+abbrev pub IsRefreshed : List LogEntry → FirstStops → List ℕ → Bool → Kept → Kept → Type 0
+IsRefreshed log stops gtin true old new = IsAgain log stops gtin old new
+IsRefreshed log stops gtin false old new = new ≡ old
 
 -- an item is no upload and no status of a pack
 abbrev pub NamesNone : PackKey → Item → Type 0

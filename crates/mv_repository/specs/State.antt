@@ -1,40 +1,40 @@
 -- By which entry a pack stands: by the upload that made it, or by the status that changed it last. The place of that entry is
 -- the whole state of a pack whose upload is known.
-use Rattle.std.specs.Prelude.{ℕ, List, [], Option, Some, None, if◌then◌else◌}
-use Rattle.std.specs.Option.{option_map, option_map_or}
-use Rattle.mv_pack.specs.declared.key.BatchKey.{BatchKey}
-use Rattle.mv_message.specs.declared.standing.Standing.{Standing}
+use Rattle.mv_repository.specs.Words.{ℕ, List, [], Option, Some, None, if◌then◌else◌, option_and_then, option_map, option_map_or, BatchKey, Standing, Message, Upload, Status, Item, LogEntry, Change, Effect, BatchStanding}
+use Rattle.std.specs.Option.{unwrap_or}
 use Rattle.mv_message.specs.declared.standing.Standing.TheVariants as standings
-use Rattle.mv_message.specs.declared.message.Message.TheVariants.{Upload, Status}
-use Rattle.mv_link.specs.declared.item.Item.{Item}
-use Rattle.mv_link.specs.declared.item.Item.TheVariants.{Carried}
-use Rattle.mv_repository.specs.declared.entry.LogEntry.{LogEntry}
 use Rattle.mv_repository.specs.declared.held.Held.{Held}
-use Rattle.mv_repository.specs.declared.held.Change.{Change}
-use Rattle.mv_repository.specs.declared.effect.Effect.{Effect}
 use Rattle.mv_repository.specs.declared.effect.Effect.TheVariants as effects
-use Rattle.mv_repository.specs.declared.stops.BatchStanding.{BatchStanding}
+use Rattle.mv_repository.specs.declared.state.Basis.{Basis}
 use Rattle.mv_pack.specs.Keys.{batch_key}
 use Rattle.mv_repository.specs.Order.{Placed, stands_before}
 use Rattle.mv_repository.specs.Pack.{KnownPack, KnownChange, new_pack, is_active, is_done, change_effect}
 use Rattle.mv_repository.specs.PackState.{held_of}
-use Rattle.mv_repository.specs.Stops.{FirstStops, standing_at, entry_at}
+use Rattle.mv_repository.specs.Stops.{FirstStops, standing_at, entry_at, message_in, stops_in}
 
--- the pack that an upload makes; none where an item is no upload
+-- the pack that an upload makes; none where a message is no upload
+abbrev pub pack_of : Message → Option KnownPack
+pack_of (Upload gtin batch expiry national serials) = Some (new_pack batch expiry national)
+pack_of _ = None
+
 abbrev pub pack_made_by : Item → Option KnownPack
-pack_made_by (Carried k stamp (Upload gtin batch expiry national serials)) = Some (new_pack batch expiry national)
-pack_made_by _ = None
+pack_made_by item = option_and_then pack_of (message_in item)
 
 -- how a pack stands that stands by an item: as a status asked, else active
+abbrev pub standing_of : Option Message → Standing
+standing_of (Some (Status key to user at)) = to
+standing_of _ = standings.Active
+
 abbrev pub standing_in : Item → Standing
-standing_in (Carried k stamp (Status key to user at)) = to
-standing_in _ = standings.Active
+standing_in item = standing_of (message_in item)
 
 -- what took it from active, where it stands by a status of a sender at a place of the log
+abbrev pub change_of : ℕ → ℕ → Message → Option KnownChange
+change_of place sender (Status key to user at) = Some (record { by = sender; user = user; at = at; entry = place })
+change_of place sender _ = None
+
 abbrev pub change_in : ℕ → ℕ → Item → Option KnownChange
-change_in place sender (Carried k stamp (Status key to user at)) =
-    Some (record { by = sender; user = user; at = at; entry = place })
-change_in place sender _ = None
+change_in place sender item = option_and_then (change_of place sender) (message_in item)
 
 -- the pack that an upload made, where it stands by an entry
 abbrev pub known_at : Placed → Placed → Option KnownPack
@@ -48,10 +48,13 @@ abbrev pub held_at : List LogEntry → ℕ → ℕ → Option Held
 held_at log birth by = option_map held_of (known_at (entry_at log birth) (entry_at log by))
 
 -- the effect of an item on a pack that is held, where it is a status of it
-abbrev pub effect_by : (BatchKey → BatchStanding) → ℕ → Item → List ℕ → KnownPack → Effect
-effect_by standing sender (Carried k stamp (Status key to user at)) gtin held =
+abbrev pub effect_from : (BatchKey → BatchStanding) → ℕ → Option Message → List ℕ → KnownPack → Effect
+effect_from standing sender (Some (Status key to user at)) gtin held =
     change_effect held (standing (batch_key gtin held.batch)) to sender user at
-effect_by standing sender _ gtin held = effects.Noted
+effect_from standing sender _ gtin held = effects.Noted
+
+abbrev pub effect_by : (BatchKey → BatchStanding) → ℕ → Item → List ℕ → KnownPack → Effect
+effect_by standing sender item gtin held = effect_from standing sender (message_in item) gtin held
 
 -- the effect of a status on a pack of a product, by its first upload and by the entry by which it stands; none stands
 -- before that upload
@@ -75,10 +78,27 @@ abbrev pub next_place : List LogEntry → FirstStops → List ℕ → Option ℕ
 next_place log stops gtin birth by place =
     (next_by stops gtin (option_map (entry_at log) birth) (entry_at log by) (entry_at log place)).place
 
+-- by what a pack is worked out: the first stops, the entry at a place, and by which entry the pack stands in front of its
+-- statuses, and behind one of them
+abbrev pub stops_of : Basis → FirstStops
+stops_of basis = stops_in basis.log.now basis.stops.now
+
+abbrev pub entry_in : Basis → ℕ → Placed
+entry_in basis = entry_at basis.log.now
+
+abbrev pub start_in : Basis → ℕ
+start_in basis = unwrap_or basis.birth 0
+
+abbrev pub next_in : Basis → ℕ → ℕ → ℕ
+next_in basis = next_place basis.log.now (stops_of basis) basis.gtin.now basis.birth
+
 -- what took a pack from active, with the user, who stands in the log
+abbrev pub user_of : Option Message → List ℕ
+user_of (Some (Status key to user at)) = user
+user_of _ = []
+
 abbrev pub user_in : Item → List ℕ
-user_in (Carried k stamp (Status key to user at)) = user
-user_in _ = []
+user_in item = user_of (message_in item)
 
 abbrev pub user_at : List LogEntry → ℕ → List ℕ
 user_at log place = user_in (entry_at log place).entry.item

@@ -1,13 +1,6 @@
 -- Which batches a log recalls, and which products it withdraws: each once, in the order in which the first of each came.
-use Rattle.std.specs.Prelude.{ℕ, List, [], ◌∷◌, fold, Bool, bytes_eq}
-use Rattle.std.specs.List.{flat_map}
-use Rattle.indexmap.specs.IndexSet.{insert_key}
-use Rattle.mv_pack.specs.declared.key.BatchKey.{BatchKey}
+use Rattle.mv_repository.specs.Words.{ℕ, List, [], ◌∷◌, fold, Bool, bytes_eq, flat_map, insert_key, BatchKey, Withdraw, Item, Carried, LogEntry}
 use Rattle.mv_pack.specs.Keys.{is_same_batch}
-use Rattle.mv_message.specs.declared.message.Message.TheVariants.{Withdraw}
-use Rattle.mv_link.specs.declared.item.Item.{Item}
-use Rattle.mv_link.specs.declared.item.Item.TheVariants.{Carried}
-use Rattle.mv_repository.specs.declared.entry.LogEntry.{LogEntry}
 use Rattle.mv_repository.specs.Counts.{recalled_in}
 
 -- the products that an item withdraws

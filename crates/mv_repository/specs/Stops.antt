@@ -1,15 +1,12 @@
 -- What stops a batch for ever: its first recall, and the first withdrawal of its product, by the order of stamps.
-use Rattle.std.specs.Prelude.{◌≡◌, ℕ, List, [], find, get_or, Bool, true, false, Option, Some, None, if◌then◌else◌, bytes_eq}
-use Rattle.std.specs.Map.{lookup, keys_of}
-use Rattle.std.specs.Option.{option_map}
-use Rattle.mv_pack.specs.declared.key.BatchKey.{BatchKey}
-use Rattle.mv_link.specs.declared.item.Item.TheVariants.{Receipt}
-use Rattle.mv_repository.specs.declared.entry.LogEntry.{LogEntry}
-use Rattle.mv_repository.specs.declared.stops.BatchStanding.{BatchStanding}
+use Rattle.mv_repository.specs.Words.{◌≡◌, ℕ, List, [], find, get_or, Bool, true, false, Option, Some, None, if◌then◌else◌, bytes_eq, flat_map, lookup, keys_of, option_map, BatchKey, Item, Receipt, Carried, Message, LogEntry, BatchStanding}
+use Rattle.mv_repository.specs.declared.stops.Stop.{Stop}
+use Rattle.mv_repository.specs.declared.stops.Stop.TheVariants.{Recall, Withdrawal}
 use Rattle.mv_pack.specs.Keys.{is_same_batch}
 use Rattle.mv_repository.specs.Order.{Placed, passes, stands_before, ordered}
 use Rattle.mv_repository.specs.PackState.{is_recall_of, is_withdrawal_of}
-use Rattle.mv_repository.specs.Stopped.{recalled_batches, withdrawn_products}
+use Rattle.mv_repository.specs.Counts.{recalled_in}
+use Rattle.mv_repository.specs.Stopped.{withdrawn_in, each_once}
 
 -- an entry that stands nowhere
 abbrev pub no_entry : LogEntry
@@ -22,6 +19,15 @@ entry_at log place = record { place = place; entry = get_or log place no_entry }
 -- the place in the log of an entry, counted from 0
 abbrev pub place_of : Placed → ℕ
 place_of placed = placed.place
+
+-- the message that an item carries; none of a receipt
+abbrev pub message_in : Item → Option Message
+message_in (Carried k stamp message) = Some message
+message_in _ = None
+
+-- the same by the place of an entry in a log
+abbrev pub message_at : List LogEntry → ℕ → Option Message
+message_at log place = message_in (entry_at log place).entry.item
 
 -- the first recall of each batch, and the first withdrawal of each product
 pub record FirstStops : Type 0 where
@@ -58,12 +64,34 @@ stops_in log tables = record {
   withdrawal = λ gtin. option_map (entry_at log) (lookup (bytes_eq gtin) tables.withdrawals);
 }
 
+-- an item stops packs so
+abbrev pub is_stop : Stop → Item → Bool
+is_stop (Recall batch) item = is_recall_of batch.now item
+is_stop (Withdrawal gtin) item = is_withdrawal_of gtin.now item
+
+-- the product of the packs that are stopped so
+abbrev pub stopped_product : Stop → List ℕ
+stopped_product (Recall batch) = batch.now.gtin
+stopped_product (Withdrawal gtin) = gtin.now
+
+-- the place of the first that stops so, by the tables
+abbrev pub first_place : Stop → StopTables → Option ℕ
+first_place (Recall batch) tables = lookup (is_same_batch batch.now) tables.recalls
+first_place (Withdrawal gtin) tables = lookup (bytes_eq gtin.now) tables.withdrawals
+
+-- a table of keys has the place of what is picked of each kind
+abbrev pub AreFound : {K : Type 0} → (K → K → Bool) → (K → Item → Bool) → ((Placed → Bool) → Option Placed) → List (K × ℕ) → Type 0
+AreFound {K} same is_of pick places = (key : K) → lookup (same key) places ≡ option_map place_of (pick (λ placed. is_of key placed.entry.item))
+
+-- a table of keys has the first of each kind, and the keys in the order in which the first of each came
+pub record AreFirstsOf {K : Type 0} (same : K → K → Bool) (is_of : K → Item → Bool) (keys_in : Item → List K) (log : List LogEntry) (places : List (K × ℕ)) : Type 0 where
+  pub found : AreFound same is_of (λ test. find test (ordered log)) places
+  pub keys : keys_of places ≡ each_once same (flat_map (λ entry. keys_in entry.item) log)
+
 -- the tables are those of a log
 pub record AreStopsOf (log : List LogEntry) (tables : StopTables) : Type 0 where
-  pub recalls : (batch : BatchKey) → lookup (is_same_batch batch) tables.recalls ≡ option_map place_of ((first_stops (ordered log)).recall batch)
-  pub withdrawals : (gtin : List ℕ) → lookup (bytes_eq gtin) tables.withdrawals ≡ option_map place_of ((first_stops (ordered log)).withdrawal gtin)
-  pub recalled : keys_of tables.recalls ≡ recalled_batches log
-  pub withdrawn : keys_of tables.withdrawals ≡ withdrawn_products log
+  pub recalls : AreFirstsOf is_same_batch is_recall_of recalled_in log tables.recalls
+  pub withdrawals : AreFirstsOf bytes_eq is_withdrawal_of withdrawn_in log tables.withdrawals
 
 -- the newest entry comes first: there is none so far, or it stands before the first so far, which is at that place
 abbrev pub comes_first : List LogEntry → ℕ → Option ℕ → Bool

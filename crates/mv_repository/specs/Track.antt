@@ -1,15 +1,8 @@
 -- What is kept of one pack: its first upload, its statuses in the order of stamps, and the entry by which the pack stands
 -- behind them.
-use Rattle.std.specs.Prelude.{◌≡◌, ℕ, List, [], ◌∷◌, map, fold, filter, find, not, ◌==◌, Bool, false, Option, Some, None, if◌then◌else◌}
-use Rattle.std.specs.Option.{option_map, option_map_or, unwrap_or}
-use Rattle.mv_pack.specs.declared.key.PackKey.{PackKey}
-use Rattle.mv_pack.specs.declared.key.BatchKey.{BatchKey}
-use Rattle.mv_message.specs.declared.message.Message.TheVariants.{Upload, Status}
-use Rattle.mv_link.specs.declared.item.Item.{Item}
-use Rattle.mv_link.specs.declared.item.Item.TheVariants.{Carried}
-use Rattle.mv_repository.specs.declared.entry.LogEntry.{LogEntry}
+use Rattle.mv_repository.specs.Words.{◌≡◌, ℕ, List, [], ◌∷◌, map, fold, filter, find, not, ◌==◌, Bool, false, Option, Some, None, if◌then◌else◌, option_map, option_map_or, PackKey, BatchKey, Upload, Status, Item, Carried, LogEntry, BatchStanding}
+use Rattle.std.specs.Option.{unwrap_or}
 use Rattle.mv_repository.specs.declared.blocks.Block.{Block}
-use Rattle.mv_repository.specs.declared.stops.BatchStanding.{BatchStanding}
 use Rattle.mv_pack.specs.Keys.{is_same_pack, batch_key}
 use Rattle.mv_repository.specs.Order.{Placed, passes, stands_before, ordered}
 use Rattle.mv_repository.specs.Pack.{KnownPack, pack_after_status}

@@ -1,23 +1,9 @@
 -- Whether a pack is authentic: by one repository, and by the answers of all that were asked (Delegated Regulation (EU)
 -- 2016/161, Articles 11 and 36).
-use Rattle.std.specs.Prelude.{ℕ, ◌==◌, ◌&&◌, ◌||◌, not, Bool, true, false, List, [], ◌∷◌, length, filter, Option, Some, None, is_some, if◌then◌else◌}
-use Rattle.std.specs.List.{list_any}
-use Rattle.std.specs.Option.{option_or, option_map_or}
-use Rattle.mv_pack.specs.declared.key.PackKey.{PackKey}
-use Rattle.mv_message.specs.declared.standing.Standing.{Standing}
+use Rattle.mv_repository.specs.Words.{ℕ, ◌==◌, ◌&&◌, ◌||◌, not, Bool, true, false, List, [], ◌∷◌, length, filter, Option, Some, None, is_some, if◌then◌else◌, list_any, option_or, option_map_or, PackKey, Standing, Answer, Found, Item, Receipt, Carried, LogEntry, Verdict, Authentic, NotAuthentic, Local, Known, Joint, NotAsked, Pending, Decided}
 use Rattle.mv_message.specs.declared.standing.Standing.TheVariants as standings
-use Rattle.mv_message.specs.declared.message.Message.TheVariants.{Answer}
-use Rattle.mv_message.specs.declared.found.Found.{Found}
 use Rattle.mv_message.specs.declared.found.Found.TheVariants as founds
-use Rattle.mv_link.specs.declared.item.Item.{Item}
-use Rattle.mv_link.specs.declared.item.Item.TheVariants.{Receipt, Carried}
-use Rattle.mv_repository.specs.declared.entry.LogEntry.{LogEntry}
-use Rattle.mv_repository.specs.declared.verdict.Verdict.{Verdict}
-use Rattle.mv_repository.specs.declared.verdict.Verdict.TheVariants.{Authentic, NotAuthentic}
-use Rattle.mv_repository.specs.declared.verdict.Local.{Local}
-use Rattle.mv_repository.specs.declared.verdict.Local.TheVariants.{Known, Absent}
-use Rattle.mv_repository.specs.declared.verdict.Joint.{Joint}
-use Rattle.mv_repository.specs.declared.verdict.Joint.TheVariants.{NotAsked, Pending, Decided}
+use Rattle.mv_repository.specs.declared.verdict.Local.TheVariants.{Absent}
 use Rattle.mv_repository.specs.Pack.{is_active}
 use Rattle.mv_repository.specs.Query.{found_of}
 

@@ -2,61 +2,19 @@
 //! over. It does not go through each of them: of a block of them it is known what it leaves of a pack that comes to it
 //! active, and whose reverts stand in it, since a pack that another changed goes through as it comes.
 
-ghost use Rattle.std.specs.Prelude.{◌≡◌, ◌≤◌, ◌<◌, ◌+◌, ◌%◌, ℕ, List, length, fold, take, drop, get_or, IfSome};
-ghost use Rattle.std.specs.List.{AllByRecursion};
-ghost use Rattle.mv_repository.specs.Blocks.{IsCovered, IsSummary, AreBlocks, IsCut, IsFront, no_block, next_in, start_in, entry_in, without};
+ghost use Rattle.mv_repository.specs.Words.{◌≡◌, ◌≤◌, ◌<◌, ◌+◌, ◌%◌, ℕ, List, length, fold, take, drop, get_or, IfSome, AllByRecursion};
+ghost use Rattle.mv_repository.specs.Blocks.{IsCovered, IsSummary, AreBlocks, IsCut, IsFront, no_block, without};
+ghost use Rattle.mv_repository.specs.State.{entry_in, next_in, start_in};
 ghost use Rattle.mv_repository.specs.Stops.{entry_at};
 
 use crate::LogEntry;
-use crate::state::{is_active, next, sender_at, standing_by};
-use crate::stops::Stops;
+use crate::entry::sender_at;
+use crate::state::{Basis, is_active, standing_by};
 use mv_link::{PARTIES_LIMIT, PartySet};
 use mv_message::Party;
-use mv_pack::Gtin;
 
 /// A block has so many statuses as it is made, and at most twice as many.
-const BLOCK: usize = 128;
-
-/// By what the statuses of a pack are worked out.
-#[derive(Clone, Copy)]
-pub(crate) struct Basis<'a> {
-    /// The log.
-    pub log: &'a [LogEntry],
-    /// Its first recalls and withdrawals.
-    pub stops: &'a Stops,
-    /// The product code of the pack.
-    pub gtin: &'a Gtin,
-    /// The place of the first upload that names the pack.
-    pub birth: Option<u32>,
-}
-
-impl Basis<'_> {
-    /// The place of the entry by which the pack stands in front of all its statuses.
-    pub fn start(&self) -> u32
-        ensures { result ≡ start_in self.now }
-    {
-        self.birth.unwrap_or(0)
-    }
-
-    /// The place of the entry by which the pack stands behind a status, where it stands by one in front of it.
-    fn next(&self, by: u32, place: u32) -> u32
-        ensures { result ≡ next_in self.now by place }
-    {
-        let (_, after) = next(self.log, self.stops, self.gtin, self.birth, by, place);
-        after
-    }
-
-    /// The place of the entry by which the pack stands behind these statuses, where it stands by one in front of them.
-    pub fn after(&self, by: u32, own: &[u32]) -> u32
-        ensures { result ≡ fold (next_in self.now) by own.now }
-    {
-        let mut last = by;
-        for place in own {
-            last = self.next(last, *place);
-        }
-        last
-    }
-}
+const BLOCK: usize = 64;
 
 /// What some statuses of a pack do that stand one behind the other.
 #[derive(Clone, Copy)]
@@ -84,7 +42,7 @@ fn reverters_of(log: &[LogEntry], own: &[u32]) -> PartySet
 {
     let mut reverters = PartySet::none();
     for place in own {
-        if is_active(standing_by(log, *place as usize)) {
+        if is_active(standing_by(log, *place)) {
             reverters = reverters.with(number_of(sender_at(log, *place as usize)));
         }
     }
@@ -98,10 +56,16 @@ impl Block {
         ensures after { result.after ≡ fold (next_in basis.now) by own.now }
         ensures summary { IsSummary (entry_in basis.now) (next_in basis.now) (start_in basis.now) result own.now }
     {
+        let start = basis.start();
+        let of_active = basis.after(start, own);
         Block {
             count: own.len(),
-            of_active: basis.after(basis.start(), own),
-            after: basis.after(by, own),
+            of_active,
+            after: if by == start {
+                of_active
+            } else {
+                basis.after(by, own)
+            },
             reverters: reverters_of(basis.log, own),
         }
     }
@@ -114,7 +78,7 @@ impl Block {
         if by == basis.start() {
             return self.of_active;
         }
-        let is_changed = !is_active(standing_by(basis.log, by as usize));
+        let is_changed = !is_active(standing_by(basis.log, by));
         let sender = number_of(sender_at(basis.log, by as usize));
         if is_changed && !self.reverters.has(sender) {
             return by;
@@ -175,7 +139,7 @@ fn block_size(basis: &Basis<'_>, rest: &[u32]) -> usize
         if by == start || size == BLOCK + BLOCK / 2 {
             return size;
         }
-        by = basis.next(by, *place);
+        by = basis.next(by, *place).1;
         size += 1;
     }
     size

@@ -1,9 +1,6 @@
 //! What decides one pack, lent from a repository, and whether two have the same.
 
-ghost use Rattle.std.specs.Prelude.{◌≡◌, ◌↔◌, map, IsTrue, bytes_eq};
-ghost use Rattle.std.specs.Iterator.{YieldsFirstRef, item_count};
-ghost use Rattle.std.specs.Map.{lookup};
-ghost use Rattle.std.specs.Option.{option_copied, option_map, option_and_then};
+ghost use Rattle.mv_repository.specs.Words.{◌≡◌, ◌↔◌, map, IsTrue, bytes_eq, YieldsFirstRef, item_count, lookup, option_copied, option_map, option_and_then};
 ghost use Rattle.mv_pack.specs.Keys.{is_same_batch, batch_key};
 ghost use Rattle.mv_repository.specs.Agreement.{sent_in};
 ghost use Rattle.mv_repository.specs.History.{history_of, history_at, sent_status, as_sent};
@@ -28,13 +25,13 @@ struct Places<'a> {
     /// The log.
     log: &'a [LogEntry],
     /// The first upload that names the pack.
-    upload: Option<usize>,
+    upload: Option<u32>,
     /// The statuses, in the order of stamps.
     statuses: &'a [u32],
     /// The first recall of the pack's batch.
-    recall: Option<usize>,
+    recall: Option<u32>,
     /// The first withdrawal of the pack's product.
-    withdrawal: Option<usize>,
+    withdrawal: Option<u32>,
 }
 
 /// A message that was carried, with its sender and its stamp.
@@ -77,11 +74,11 @@ fn is_same_sent(one: Option<&LogEntry>, other: Option<&LogEntry>) -> bool
 }
 
 /// Whether two statuses were sent alike, and stand alike behind the upload, the recall and the withdrawal.
-fn is_same_status(one: &Places<'_>, mine: usize, other: &Places<'_>, theirs: usize) -> bool
+fn is_same_status(one: &Places<'_>, mine: u32, other: &Places<'_>, theirs: u32) -> bool
     ensures { IsTrue result ↔ (sent_status (history_at one.now) (entry_at one.now.log.now mine)
         ≡ sent_status (history_at other.now) (entry_at other.now.log.now theirs)) }
 {
-    is_same_sent(one.log.get(mine), other.log.get(theirs))
+    is_same_sent(one.log.get(mine as usize), other.log.get(theirs as usize))
         && is_before(one.log, one.upload, mine) == is_before(other.log, other.upload, theirs)
         && is_before(one.log, one.recall, mine) == is_before(other.log, other.recall, theirs)
         && is_before(one.log, one.withdrawal, mine)
@@ -99,7 +96,7 @@ fn have_same_statuses(one: &Places<'_>, other: &Places<'_>) -> bool
         let Some((second, others)) = theirs.split_first() else {
             return false;
         };
-        if !is_same_status(one, *first as usize, other, *second as usize) {
+        if !is_same_status(one, *first, other, *second) {
             return false;
         }
         mine = rest;
@@ -108,23 +105,8 @@ fn have_same_statuses(one: &Places<'_>, other: &Places<'_>) -> bool
     theirs.is_empty()
 }
 
-/// The same place as a larger number.
-fn widened(place: Option<u32>) -> Option<usize>
-    ensures { result ≡ place }
-{
-    match place {
-        Some(place) => Some(place as usize),
-        None => None,
-    }
-}
-
 /// The place of the first recall of the batch of a pack that the upload at a place made.
-fn batch_recall(
-    log: &[LogEntry],
-    stops: &Stops,
-    pack: &PackKey,
-    upload: Option<u32>,
-) -> Option<usize>
+fn batch_recall(log: &[LogEntry], stops: &Stops, pack: &PackKey, upload: Option<u32>) -> Option<u32>
     ensures { result ≡ option_and_then (λ number. lookup (is_same_batch (batch_key pack.now.gtin number)) stops.now.recalls)
         (option_and_then (batch_at log.now) upload) }
 {
@@ -163,13 +145,12 @@ impl<'a> History<'a> {
         statuses: &'a [u32],
     ) -> History<'a>
         requires stops { AreStopsOf log.now stops.now }
-        requires upload { upload ≡ (track_of pack.now log.now).birth }
-        requires statuses { statuses.now ≡ (track_of pack.now log.now).statuses }
+        requires track { (upload ≡ (track_of pack.now log.now).birth) × (statuses.now ≡ (track_of pack.now log.now).statuses) }
         ensures { result ≡ history_of pack.now log.now }
     {
         let places = Places {
             log,
-            upload: widened(upload),
+            upload,
             statuses,
             recall: batch_recall(log, stops, pack, upload),
             withdrawal: stops.first_withdrawal(&pack.gtin),
@@ -181,7 +162,7 @@ impl<'a> History<'a> {
     pub fn upload(&self) -> Option<&'a LogEntry>
         ensures { option_copied result ≡ option_map entry_of self.now.upload }
     {
-        self.places.log.get(self.places.upload?)
+        self.places.log.get(self.places.upload? as usize)
     }
 
     /// The statuses of the pack, in the order of stamps.
@@ -198,14 +179,14 @@ impl<'a> History<'a> {
     pub fn recall(&self) -> Option<&'a LogEntry>
         ensures { option_copied result ≡ option_map entry_of self.now.recall }
     {
-        self.places.log.get(self.places.recall?)
+        self.places.log.get(self.places.recall? as usize)
     }
 
     /// The first withdrawal of the pack's product.
     pub fn withdrawal(&self) -> Option<&'a LogEntry>
         ensures { option_copied result ≡ option_map entry_of self.now.withdrawal }
     {
-        self.places.log.get(self.places.withdrawal?)
+        self.places.log.get(self.places.withdrawal? as usize)
     }
 
     /// Whether two histories are the same: what decides the packs was sent alike, and each status stands alike behind the

@@ -3,13 +3,8 @@
 //!
 //! It stands apart since no other table bears on it: it changes at receipts of queries and at answers alone.
 
-ghost use Rattle.std.specs.Prelude.{◌≡◌, ◌<◌, ◌≤◌, ◌==◌, ◌&&◌, ◌||◌, not, if◌then◌else◌, OnOk};
-ghost use Rattle.std.specs.Prelude.{ℕ, List, [], ◌∷◌, ◌++◌, length, filter};
-ghost use Rattle.std.specs.Option.{option_copied};
-ghost use Rattle.indexmap.specs.IndexMap.{spare as map_spare};
-ghost use Rattle.indexmap.specs.IndexSet.{spare as set_spare};
-ghost use Rattle.mv_repository.specs.declared.entry.LogEntry.{LogEntry as AnEntry};
-ghost use Rattle.mv_repository.specs.Verdict.{joint_verdict, found_active, found_explained, verdict_when};
+ghost use Rattle.mv_repository.specs.Words.{◌≡◌, ◌<◌, ◌≤◌, ◌==◌, ◌&&◌, ◌||◌, not, if◌then◌else◌, OnOk, ℕ, List, [], ◌∷◌, ◌++◌, length, filter, option_copied, map_spare, set_spare, AnEntry};
+ghost use Rattle.mv_repository.specs.Verdict.{found_active, found_explained, verdict_when};
 ghost use Rattle.mv_repository.specs.Inquiries.{IsInquiriesOf, HasRoomFor, has_reply, inquiry_in, no_inquiry, tells_of_query};
 ghost use Rattle.mv_repository.specs.Inquiries.{with_receipt, with_finding, parties_at, known_verdict, verdict_once_asked};
 
@@ -128,17 +123,9 @@ impl Inquiries {
         };
     }
 
-    /// The verdict on the query that was the `q`-th message of the party, which has this log. It takes no memory, and reads
-    /// the log at one place.
+    /// The verdict on the query that was the `q`-th message of the party, by what is kept of its log. It takes no memory, and
+    /// reads the log at one place.
     pub fn verdict(&self, log: &[LogEntry], q: u32) -> Joint
-        ensures { (party : ℕ) → IsInquiriesOf party log.now self.now
-            → result ≡ joint_verdict party log.now q }
-    {
-        self.known_verdict(log, q)
-    }
-
-    /// The verdict on a query, by what is kept of the log.
-    fn known_verdict(&self, log: &[LogEntry], q: u32) -> Joint
         ensures { result ≡ known_verdict log.now self.now q }
     {
         match self.inquiries.get(&q) {

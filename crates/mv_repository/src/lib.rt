@@ -30,7 +30,6 @@ mod laws;
 mod listing;
 mod masters;
 mod order;
-mod packs;
 mod repository;
 mod sender;
 mod shelf;

@@ -1,16 +1,14 @@
 //! The table of products: for each code with a master, the place in the log of the last one by stamp.
 
-ghost use Rattle.std.specs.Prelude.{◌≡◌, ◌+◌, length, take, true, OnOk, OnErr, slice_get, bytes_eq};
-ghost use Rattle.std.specs.Map.{lookup};
-ghost use Rattle.std.specs.Option.{option_copied, option_and_then};
-ghost use Rattle.mv_repository.specs.Masters.{AreMastersOf, is_master, comes_late, product_in};
+ghost use Rattle.mv_repository.specs.Words.{◌≡◌, ◌+◌, length, take, true, OnOk, OnErr, option_copied};
+ghost use Rattle.mv_repository.specs.Masters.{AreMastersOf, is_master, comes_late, product_at};
 ghost use Rattle.mv_repository.specs.Repository.{product_of};
 ghost use Rattle.mv_repository.specs.Stops.{entry_at};
 
 use crate::LogEntry;
+use crate::entry::message_at;
 use crate::order::passes;
 use indexmap::IndexMap;
-use mv_link::Item;
 use mv_message::{Message, Product};
 use mv_pack::Gtin;
 use std::alloc::AllocError;
@@ -18,10 +16,10 @@ use std::alloc::AllocError;
 /// Adds the newest entry, a master of a code; where it is the last by stamp it is the one that the table finds. Where
 /// memory is refused nothing has changed.
 pub(crate) fn add_master(
-    masters: &mut IndexMap<Gtin, usize>,
+    masters: &mut IndexMap<Gtin, u32>,
     log: &[LogEntry],
     gtin: Gtin,
-    place: usize,
+    place: u32,
 ) -> Result<(), AllocError>
     requires last { length log.now ≡ place + 1 }
     requires master { is_master gtin (entry_at log.now place).entry.item ≡ true }
@@ -38,7 +36,7 @@ pub(crate) fn add_master(
 }
 
 /// Whether the newest entry stands before the last so far.
-fn comes_late(log: &[LogEntry], new: usize, last: Option<usize>) -> bool
+fn comes_late(log: &[LogEntry], new: u32, last: Option<u32>) -> bool
     ensures { result ≡ comes_late log.now new last }
 {
     match last {
@@ -49,38 +47,22 @@ fn comes_late(log: &[LogEntry], new: usize, last: Option<usize>) -> bool
 
 /// The product that is known under a code: that of its master with the greatest stamp.
 pub(crate) fn product<'a>(
-    masters: &IndexMap<Gtin, usize>,
+    masters: &IndexMap<Gtin, u32>,
     log: &'a [LogEntry],
     gtin: &Gtin,
 ) -> Option<&'a Product>
     requires { AreMastersOf log.now masters.now.entries }
     ensures { option_copied result ≡ product_of log.now gtin.now }
 {
-    product_in(&last_master(masters, log, gtin)?.item)
+    product_at(log, *masters.get(gtin)?)
 }
 
-/// The entry of the last master of a code by stamp.
-fn last_master<'a>(
-    masters: &IndexMap<Gtin, usize>,
-    log: &'a [LogEntry],
-    gtin: &Gtin,
-) -> Option<&'a LogEntry>
-    ensures { option_copied result
-        ≡ option_and_then (slice_get log.now) (lookup (bytes_eq gtin.now) masters.now.entries) }
+/// The product that the entry at a place describes.
+fn product_at(log: &[LogEntry], place: u32) -> Option<&Product>
+    ensures { option_copied result ≡ product_at log.now place }
 {
-    let place = *masters.get(gtin)?;
-    log.get(place)
-}
-
-/// The product that an item describes.
-fn product_in(item: &Item) -> Option<&Product>
-    ensures { option_copied result ≡ product_in item.now }
-{
-    match item {
-        Item::Carried { message, .. } => match message.get() {
-            Message::Master { product, .. } => Some(product.get()),
-            _ => None,
-        },
-        Item::Receipt { .. } => None,
+    match message_at(log, place as usize)? {
+        Message::Master { product, .. } => Some(product.get()),
+        _ => None,
     }
 }

@@ -1,7 +1,6 @@
 //! A national repository: its log, the tables of it, and what it knows of its own queries.
 
-ghost use Rattle.std.specs.Prelude.{◌≡◌, OnOk, OnErr, IfOk};
-ghost use Rattle.std.specs.Option.{option_copied};
+ghost use Rattle.mv_repository.specs.Words.{◌≡◌, OnOk, OnErr, IfOk, option_copied};
 
 use crate::counted::Counted;
 use crate::inquiries::Inquiries;
@@ -98,7 +97,8 @@ impl Repository {
     pub fn pack(&self, key: &PackKey) -> Option<Held>
         ensures { result ≡ pack_state key.now self.now.log }
     {
-        self.tables.packs.get(self.log.as_slice(), key)
+        let shelf = self.tables.shelves.get(&key.gtin)?;
+        shelf.state(self.log.as_slice(), &key.serial)
     }
 
     /// What decides a pack: its first upload, its statuses, and the first recall of its batch and withdrawal of its product.
@@ -106,7 +106,10 @@ impl Repository {
         ensures { result ≡ history_of key.now self.now.log }
     {
         let log = self.log.as_slice();
-        let (upload, statuses) = self.tables.packs.parts(log, key);
+        let Some(shelf) = self.tables.shelves.get(&key.gtin) else {
+            return History::new(log, &self.tables.stops, key, None, &[]);
+        };
+        let (upload, statuses) = shelf.parts(&key.serial);
         History::new(log, &self.tables.stops, key, upload, statuses)
     }
 
@@ -114,14 +117,14 @@ impl Repository {
     pub fn recalled(&self, batch: &BatchKey) -> bool
         ensures { result ≡ is_recalled batch.now self.now.log }
     {
-        self.tables.stops.has_recall(batch)
+        self.tables.stops.first_recall(batch).is_some()
     }
 
     /// Whether a product is withdrawn.
     pub fn withdrawn(&self, gtin: &Gtin) -> bool
         ensures { result ≡ is_withdrawn gtin.now self.now.log }
     {
-        self.tables.stops.has_withdrawal(gtin)
+        self.tables.stops.first_withdrawal(gtin).is_some()
     }
 
     /// The batches that are recalled, each once, in the order in which the first recall of each came.
@@ -145,8 +148,8 @@ impl Repository {
         Counts {
             entries: self.log.len(),
             products: self.tables.masters.len(),
-            packs: self.tables.packs.count(Counted::Held),
-            active: self.tables.packs.count(Counted::Active),
+            packs: self.tables.count(Counted::Held),
+            active: self.tables.count(Counted::Active),
             recalled: self.tables.stops.recalled_count(),
         }
     }

@@ -1,47 +1,34 @@
 //! What is kept of each pack of one product, by serial numbers alone. This file knows no other product.
 
-ghost use Rattle.std.specs.Prelude.{◌≡◌, ◌<◌, ◌≤◌, ◌+◌, ◌^◌, ℕ, List, [], length, get_or, take, Some, true, false, ◌==◌, bytes_eq, OnOk, OnErr, IfOk};
+ghost use Rattle.mv_repository.specs.Words.{◌≡◌, ◌<◌, ◌≤◌, ◌+◌, ◌^◌, ℕ, List, [], length, get_or, take, Some, true, false, ◌==◌, bytes_eq, OnOk, OnErr, IfOk, lookup, keys_of, Own, spare};
 ghost use Rattle.std.specs.List.{IsDistinct};
-ghost use Rattle.std.specs.Map.{lookup, keys_of};
-ghost use Rattle.mv_repository.specs.declared.slot.Slot.TheVariants.{Own};
-ghost use Rattle.indexmap.specs.IndexMap.{spare};
-ghost use Rattle.mv_pack.specs.Keys.{pack_key};
 ghost use Rattle.mv_repository.specs.Counted.{is_counted, slots_counted};
-ghost use Rattle.mv_repository.specs.Stops.{AreStopsOf, entry_at, stops_in, comes_first, earlier_place};
-ghost use Rattle.mv_repository.specs.Shelf.{new_count, nothing_kept, kept_by, kept_on, IsShelf, IsShelfOf, IsUploadOf, IsAgain, IsBetween, AreKept, NamesNone, has, AreMadeListed, HasNoOther};
-ghost use Rattle.mv_repository.specs.Listing.{numbers_of, has_number, HasAllOf, batch_at, AreListed};
+ghost use Rattle.mv_repository.specs.Stops.{AreStopsOf, entry_at, is_stop, stopped_product, stops_in, comes_first, earlier_place};
+ghost use Rattle.mv_repository.specs.Shelf.{new_count, nothing_kept, kept_by, kept_on, IsShelf, IsShelfOf, IsUploadOf, IsAgain, IsRefreshed, AreKept, AreMadeListed, HasNoOther};
+ghost use Rattle.mv_repository.specs.Listing.{no_numbers, has_number, lists, HasAllOf, batch_at, AreListed};
 ghost use Rattle.mv_repository.specs.Track.{IsTrack, IsKept, life_of, is_status_of, state_by};
 ghost use Rattle.mv_repository.specs.Effect.{effect_of};
-ghost use Rattle.mv_repository.specs.PackState.{is_recall_of, is_withdrawal_of};
 
 use crate::counted::Counted;
 use crate::listing::Listing;
 use crate::order::passes;
 use crate::slot::Slot;
-use crate::state::held_at;
-use crate::stops::Stops;
+use crate::state::{Newest, held_at};
+use crate::stops::Stop;
 use crate::track::Track;
 use crate::{Effect, Held, LogEntry};
 use indexmap::IndexMap;
+use indexmap::map::Entry;
 use mv_pack::{BatchKey, Gtin, PackKey, Serial};
 use std::alloc::{AllocError, Global};
 use std::marker::Model;
 
-/// The newest entry of a log, and the first recalls and withdrawals by which it is worked out.
-#[derive(Clone, Copy)]
-pub(crate) struct Newest<'a> {
-    /// The log, with the entry.
-    pub log: &'a [LogEntry],
-    /// The first recalls and withdrawals.
-    pub stops: &'a Stops,
-    /// The place of the entry in the log.
-    pub place: u32,
-}
-
-/// Adds the newest entry, an upload, to what is kept of one pack that it names; whether it is the first such by stamp.
+/// Adds the newest entry, an upload, to what is kept of one pack that it names; whether it is the first such by stamp. Where it is, the
+/// pack's track is listed under its batch.
 fn put_upload(
     slots: &mut IndexMap<Serial, Slot>,
     tracks: &mut Vec<Track>,
+    listing: &mut Listing,
     newest: &Newest<'_>,
     gtin: &Gtin,
     serial: &Serial,
@@ -60,204 +47,81 @@ fn put_upload(
     ensures others { (other : List ℕ) → bytes_eq serial.now other ≡ false
         → kept_on slots.new.entries tracks.new.items other ≡ kept_on slots.old.entries tracks.old.items other }
     ensures first { result ≡ comes_first newest.now.log.now newest.now.place (kept_on slots.old.entries tracks.old.items serial.now).birth }
+    ensures listed { HasAllOf listing.old listing.new }
+    ensures made { result ≡ true → (number : ℕ) (batch : List ℕ) → lookup (bytes_eq serial.now) slots.new.entries ≡ Some (Own number)
+        → batch_at newest.now.log.now newest.now.place ≡ Some batch → lists listing.new batch number ≡ true }
 {
-    match slots.get(serial).copied() {
-        Some(Slot::Own(number)) => {
-            let track = &mut tracks[number as usize];
-            return track.add_upload(newest.log, newest.stops, gtin, newest.place);
-        }
-        Some(Slot::Made(first)) => {
-            if !passes(newest.log, newest.place as usize, first as usize) {
-                return false;
-            }
-        }
-        None => {}
-    }
-    let Ok(_) = slots.insert(serial.copy(), Slot::Made(newest.place)) else {
+    let Ok(entry) = slots.entry(serial.copy()) else {
         unreachable!();
     };
-    true
-}
-
-/// Adds the newest entry, an upload, to what is kept of each pack that it names, for which there is room; how many are new.
-fn put_uploads(
-    slots: &mut IndexMap<Serial, Slot>,
-    tracks: &mut Vec<Track>,
-    newest: &Newest<'_>,
-    gtin: &Gtin,
-    serials: &[Serial],
-) -> usize
-    requires room { length serials.now ≤ spare slots.old }
-    requires shelf { IsShelf slots.old.entries tracks.old.items }
-    requires last { length newest.now.log.now ≡ newest.now.place + 1 }
-    requires stops { AreStopsOf (take newest.now.place newest.now.log.now) newest.now.stops.now }
-    requires upload { IsUploadOf (entry_at newest.now.log.now newest.now.place).entry.item gtin.now serials.now }
-    requires kept { AreKept newest.now.log.now (take newest.now.place newest.now.log.now) [] gtin.now slots.old.entries tracks.old.items }
-    ensures shelf { IsShelf slots.new.entries tracks.new.items }
-    ensures no_other { HasNoOther slots.old.entries slots.new.entries }
-    ensures kept { AreKept newest.now.log.now (take newest.now.place newest.now.log.now) serials.now gtin.now slots.new.entries tracks.new.items }
-    ensures new { result ≡ new_count (take newest.now.place newest.now.log.now) (entry_at newest.now.log.now newest.now.place).entry gtin.now serials.now }
-    ensures least { result ≤ length serials.now }
-{
-    let mut count = 0;
-    for serial in serials {
-        let is_first = put_upload(slots, tracks, newest, gtin, serial);
-        count = if is_first { count + 1 } else { count };
-    }
-    count
-}
-
-/// The number of the track of a pack, where it has one and the newest entry, an upload that names it, is the first such by
-/// stamp.
-fn track_made_by(
-    slots: &IndexMap<Serial, Slot>,
-    tracks: &Vec<Track>,
-    log: &[LogEntry],
-    serial: &Serial,
-    place: u32,
-) -> Option<u32>
-    requires shelf { IsShelf slots.now.entries tracks.now.items }
-    ensures { (number : ℕ) → lookup (bytes_eq serial.now) slots.now.entries ≡ Some (Own number)
-        → comes_first log.now place (kept_on slots.now.entries tracks.now.items serial.now).birth ≡ true → result ≡ Some number }
-{
-    match slots.get(serial).copied() {
-        Some(Slot::Own(number)) => {
-            if tracks[number as usize].is_made_by(log, place) {
-                Some(number)
-            } else {
-                None
+    let made = Slot::Made(newest.place);
+    match entry {
+        Entry::Vacant(entry) => {
+            entry.insert(made);
+            true
+        }
+        Entry::Occupied(mut entry) => match *entry.get() {
+            Slot::Own(number) => {
+                let track = &mut tracks[number as usize];
+                let is_first = track.add_upload(newest, gtin);
+                if is_first {
+                    listing.note(newest.log, Some(newest.place), number);
+                }
+                is_first
             }
-        }
-        _ => None,
+            Slot::Made(first) => {
+                let is_first = passes(newest.log, newest.place, first);
+                if is_first {
+                    entry.insert(made);
+                }
+                is_first
+            }
+        },
     }
 }
 
-/// Lists the tracks of those packs that the newest entry, an upload, makes under its batch.
-fn list_made(
-    listing: &mut Listing,
-    slots: &IndexMap<Serial, Slot>,
-    tracks: &Vec<Track>,
-    log: &[LogEntry],
-    serials: &[Serial],
-    place: u32,
-) -> Result<(), AllocError>
-    requires shelf { IsShelf slots.now.entries tracks.now.items }
-    ensures kept { HasAllOf listing.old listing.new }
-    ensures listed { OnOk result (AreMadeListed log.now place serials.now slots.now.entries tracks.now.items listing.new) }
-{
-    if tracks.is_empty() {
-        return Ok(());
-    }
-    for serial in serials {
-        if let Some(number) = track_made_by(slots, tracks, log, serial, place) {
-            listing.add(log, Some(place), number)?;
-        }
-    }
-    Ok(())
-}
-
-/// Adds the newest entry, a status, to what is kept of its pack; its effect where it stands. Where memory is refused nothing
-/// has changed; beyond 2^32 packs with a status there is want of memory.
-fn put_status(
-    alloc: Global,
-    slots: &mut IndexMap<Serial, Slot>,
-    tracks: &mut Vec<Track>,
-    listing: &mut Listing,
-    newest: &Newest<'_>,
-    pack: &PackKey,
-) -> Result<Effect, AllocError>
-    requires shelf { IsShelf slots.old.entries tracks.old.items }
-    requires last { length newest.now.log.now ≡ newest.now.place + 1 }
-    requires stops { AreStopsOf (take newest.now.place newest.now.log.now) newest.now.stops.now }
-    requires own { is_status_of pack.now (entry_at newest.now.log.now newest.now.place).entry.item ≡ true }
-    requires kept { IsKept (life_of pack.now (take newest.now.place newest.now.log.now)) (kept_on slots.old.entries tracks.old.items pack.now.serial) }
-    requires listed { AreListed (take newest.now.place newest.now.log.now) pack.now.gtin slots.old.entries listing.old }
-    ensures shelf { IsShelf slots.new.entries tracks.new.items }
-    ensures kept { OnOk result (IsKept (life_of pack.now newest.now.log.now) (kept_on slots.new.entries tracks.new.items pack.now.serial)) }
-    ensures others { (other : List ℕ) → bytes_eq pack.now.serial other ≡ false
-        → kept_on slots.new.entries tracks.new.items other ≡ kept_on slots.old.entries tracks.old.items other }
-    ensures effect { IfOk result (λ effect. effect ≡ effect_of (take newest.now.place newest.now.log.now) (entry_at newest.now.log.now newest.now.place).entry) }
-    ensures listed { OnOk result (AreListed newest.now.log.now pack.now.gtin slots.new.entries listing.new) }
-    ensures listed_err { OnErr result (AreListed (take newest.now.place newest.now.log.now) pack.now.gtin slots.new.entries listing.new) }
-    ensures slots_err { OnErr result (slots.new.entries ≡ slots.old.entries) }
-    ensures tracks_err { OnErr result (tracks.new.items ≡ tracks.old.items) }
-{
-    let birth = match slots.get(&pack.serial).copied() {
-        Some(Slot::Own(number)) => {
-            let track = &mut tracks[number as usize];
-            return track.add_status(newest.log, newest.stops, pack, newest.place);
-        }
-        Some(Slot::Made(first)) => Some(first),
-        None => None,
-    };
-    let number = tracks.len();
-    if number > u32::MAX as usize {
-        return Err(AllocError);
-    }
-    let mut track = Track::new(alloc, birth);
-    let effect = track.add_status(newest.log, newest.stops, pack, newest.place)?;
-    tracks.reserve(1)?;
-    listing.add(newest.log, birth, number as u32)?;
-    slots.insert(pack.serial.copy(), Slot::Own(number as u32))?;
-    tracks.push_reserved(track);
-    Ok(effect)
-}
-
-/// Works out again the track of a number.
+/// Works out again the track of a number, where there is one.
 fn refresh_track(tracks: &mut Vec<Track>, newest: &Newest<'_>, gtin: &Gtin, number: usize)
-    requires within { number < length tracks.old.items }
     ensures count { length tracks.new.items ≡ length tracks.old.items }
-    ensures again { IsAgain newest.now.log.now (stops_in newest.now.log.now newest.now.stops.now) gtin.now (get_or tracks.old.items number nothing_kept) (get_or tracks.new.items number nothing_kept) }
-    ensures others { (other : ℕ) → (other == number) ≡ false → get_or tracks.new.items other nothing_kept ≡ get_or tracks.old.items other nothing_kept }
+    ensures tracks { (other : ℕ) → IsRefreshed newest.now.log.now (stops_in newest.now.log.now newest.now.stops.now) gtin.now (number == other)
+        (get_or tracks.old.items other nothing_kept) (get_or tracks.new.items other nothing_kept) }
 {
-    tracks[number].refresh(newest.log, newest.stops, gtin);
+    if let Some(track) = tracks.get_mut(number) {
+        track.refresh(newest, gtin);
+    }
 }
 
-/// Works out again all tracks of a product, where the newest entry names no pack.
-fn refresh_tracks(
-    slots: &IndexMap<Serial, Slot>,
-    tracks: &mut Vec<Track>,
-    newest: &Newest<'_>,
-    gtin: &Gtin,
-)
-    requires shelf { IsShelf slots.now.entries tracks.old.items }
-    requires last { length newest.now.log.now ≡ newest.now.place + 1 }
-    requires stops { AreStopsOf newest.now.log.now newest.now.stops.now }
-    requires names { (serial : List ℕ) → NamesNone (pack_key gtin.now serial) (entry_at newest.now.log.now newest.now.place).entry.item }
-    requires between { IsBetween newest.now.log.now (take newest.now.place newest.now.log.now) gtin.now slots.now.entries tracks.old.items }
+/// Works out again all tracks.
+fn refresh_all(tracks: &mut Vec<Track>, newest: &Newest<'_>, gtin: &Gtin)
     ensures count { length tracks.new.items ≡ length tracks.old.items }
-    ensures between { IsBetween newest.now.log.now (take newest.now.place newest.now.log.now) gtin.now slots.now.entries tracks.new.items }
-    ensures worked { (serial : List ℕ) (number : ℕ) → lookup (bytes_eq serial) slots.now.entries ≡ Some (Own number)
-        → IsKept (life_of (pack_key gtin.now serial) newest.now.log.now) (kept_on slots.now.entries tracks.new.items serial) }
+    ensures tracks { (number : ℕ) → IsAgain newest.now.log.now (stops_in newest.now.log.now newest.now.stops.now) gtin.now
+        (get_or tracks.old.items number nothing_kept) (get_or tracks.new.items number nothing_kept) }
 {
     for number in 0..tracks.len() {
         refresh_track(tracks, newest, gtin, number);
     }
 }
 
-/// Works out again the tracks of these numbers, where the newest entry names no pack.
-fn refresh_listed(
-    slots: &IndexMap<Serial, Slot>,
-    tracks: &mut Vec<Track>,
-    numbers: &[u32],
-    newest: &Newest<'_>,
-    gtin: &Gtin,
-)
-    requires shelf { IsShelf slots.now.entries tracks.old.items }
-    requires last { length newest.now.log.now ≡ newest.now.place + 1 }
-    requires stops { AreStopsOf newest.now.log.now newest.now.stops.now }
-    requires names { (serial : List ℕ) → NamesNone (pack_key gtin.now serial) (entry_at newest.now.log.now newest.now.place).entry.item }
-    requires between { IsBetween newest.now.log.now (take newest.now.place newest.now.log.now) gtin.now slots.now.entries tracks.old.items }
+/// Works out again the tracks of these numbers.
+fn refresh_listed(tracks: &mut Vec<Track>, newest: &Newest<'_>, gtin: &Gtin, numbers: &[u32])
     ensures count { length tracks.new.items ≡ length tracks.old.items }
-    ensures between { IsBetween newest.now.log.now (take newest.now.place newest.now.log.now) gtin.now slots.now.entries tracks.new.items }
-    ensures worked { (serial : List ℕ) (number : ℕ) → lookup (bytes_eq serial) slots.now.entries ≡ Some (Own number)
-        → has_number numbers.now number ≡ true → IsKept (life_of (pack_key gtin.now serial) newest.now.log.now) (kept_on slots.now.entries tracks.new.items serial) }
+    ensures tracks { (number : ℕ) → IsRefreshed newest.now.log.now (stops_in newest.now.log.now newest.now.stops.now) gtin.now (has_number numbers.now number)
+        (get_or tracks.old.items number nothing_kept) (get_or tracks.new.items number nothing_kept) }
 {
-    for listed in numbers {
-        let number = *listed as usize;
-        if number < tracks.len() {
-            refresh_track(tracks, newest, gtin, number);
-        }
+    for number in numbers {
+        refresh_track(tracks, newest, gtin, *number as usize);
+    }
+}
+
+/// Works out again the tracks that may be of a batch.
+fn refresh_batch(tracks: &mut Vec<Track>, listing: &Listing, newest: &Newest<'_>, batch: &BatchKey)
+    ensures count { length tracks.new.items ≡ length tracks.old.items }
+    ensures tracks { (number : ℕ) → IsRefreshed newest.now.log.now (stops_in newest.now.log.now newest.now.stops.now) batch.now.gtin (lists listing.now batch.now.batch number)
+        (get_or tracks.old.items number nothing_kept) (get_or tracks.new.items number nothing_kept) }
+{
+    match listing.of(&batch.batch) {
+        Some(numbers) => refresh_listed(tracks, newest, &batch.gtin, numbers),
+        None => refresh_all(tracks, newest, &batch.gtin),
     }
 }
 
@@ -285,7 +149,7 @@ impl Model for Shelf {
 impl Shelf {
     /// No pack.
     pub fn new(alloc: Global) -> Shelf
-        ensures { result ≡ record { slots = []; tracks = []; listing = [] } }
+        ensures { result ≡ record { slots = []; tracks = []; listing = no_numbers } }
     {
         Shelf {
             slots: IndexMap::new(alloc),
@@ -356,22 +220,25 @@ impl Shelf {
         ensures least { IfOk result (λ new. new ≤ length serials.now) }
         ensures err { OnErr result (IsShelfOf (take newest.now.place newest.now.log.now) gtin.now self.new) }
     {
-        list_made(
-            &mut self.listing,
-            &self.slots,
-            &self.tracks,
-            newest.log,
-            serials,
-            newest.place,
-        )?;
         self.slots.reserve(serials.len())?;
-        // All room is got: nothing fails from here on.
-        let new = put_uploads(&mut self.slots, &mut self.tracks, newest, gtin, serials);
-        Ok(new)
+        // All room is got: nothing fails from here on. A track that finds no memory to be listed by makes the listing not whole.
+        let mut count = 0;
+        for serial in serials {
+            let is_first = put_upload(
+                &mut self.slots,
+                &mut self.tracks,
+                &mut self.listing,
+                newest,
+                gtin,
+                serial,
+            );
+            count = if is_first { count + 1 } else { count };
+        }
+        Ok(count)
     }
 
     /// Adds the newest entry, a status of a pack of the product; its effect where it stands. Where memory is refused nothing
-    /// has changed.
+    /// has changed; beyond 2^32 packs with a status there is want of memory.
     pub fn add_status(
         &mut self,
         alloc: Global,
@@ -386,38 +253,39 @@ impl Shelf {
         ensures effect { IfOk result (λ effect. effect ≡ effect_of (take newest.now.place newest.now.log.now) (entry_at newest.now.log.now newest.now.place).entry) }
         ensures err { OnErr result (IsShelfOf (take newest.now.place newest.now.log.now) pack.now.gtin self.new) }
     {
-        let effect = put_status(
-            alloc,
-            &mut self.slots,
-            &mut self.tracks,
-            &mut self.listing,
-            newest,
-            pack,
-        )?;
+        let birth = match self.slots.get(&pack.serial).copied() {
+            Some(Slot::Own(number)) => {
+                let track = &mut self.tracks[number as usize];
+                return track.add_status(newest, pack);
+            }
+            Some(Slot::Made(first)) => Some(first),
+            None => None,
+        };
+        let number = self.tracks.len();
+        if number > u32::MAX as usize {
+            return Err(AllocError);
+        }
+        let mut track = Track::new(alloc, birth);
+        let effect = track.add_status(newest, pack)?;
+        self.tracks.reserve(1)?;
+        self.slots
+            .insert(pack.serial.copy(), Slot::Own(number as u32))?;
+        self.listing.note(newest.log, birth, number as u32);
+        self.tracks.push_reserved(track);
         Ok(effect)
     }
 
-    /// Works out again all packs of the product, of which the newest entry is a withdrawal.
-    pub fn refresh_product(&mut self, newest: &Newest<'_>, gtin: &Gtin)
+    /// Works out again the packs that may be stopped by the newest entry, which stops packs of the product.
+    pub fn refresh(&mut self, newest: &Newest<'_>, stop: &Stop<'_>)
         requires last { length newest.now.log.now ≡ newest.now.place + 1 }
         requires stops { AreStopsOf newest.now.log.now newest.now.stops.now }
-        requires withdrawal { is_withdrawal_of gtin.now (entry_at newest.now.log.now newest.now.place).entry.item ≡ true }
-        requires shelf { IsShelfOf (take newest.now.place newest.now.log.now) gtin.now self.old }
-        ensures { IsShelfOf newest.now.log.now gtin.now self.new }
+        requires stop { is_stop stop.now (entry_at newest.now.log.now newest.now.place).entry.item ≡ true }
+        requires shelf { IsShelfOf (take newest.now.place newest.now.log.now) (stopped_product stop.now) self.old }
+        ensures { IsShelfOf newest.now.log.now (stopped_product stop.now) self.new }
     {
-        refresh_tracks(&self.slots, &mut self.tracks, newest, gtin);
-    }
-
-    /// Works out again the packs that may be of a batch of the product, of which the newest entry is a recall.
-    pub fn refresh_batch(&mut self, newest: &Newest<'_>, batch: &BatchKey)
-        requires last { length newest.now.log.now ≡ newest.now.place + 1 }
-        requires stops { AreStopsOf newest.now.log.now newest.now.stops.now }
-        requires recall { is_recall_of batch.now (entry_at newest.now.log.now newest.now.place).entry.item ≡ true }
-        requires shelf { IsShelfOf (take newest.now.place newest.now.log.now) batch.now.gtin self.old }
-        ensures { IsShelfOf newest.now.log.now batch.now.gtin self.new }
-    {
-        let numbers = self.listing.of(&batch.batch);
-        let gtin = &batch.gtin;
-        refresh_listed(&self.slots, &mut self.tracks, numbers, newest, gtin);
+        match *stop {
+            Stop::Recall(batch) => refresh_batch(&mut self.tracks, &self.listing, newest, batch),
+            Stop::Withdrawal(gtin) => refresh_all(&mut self.tracks, newest, gtin),
+        }
     }
 }

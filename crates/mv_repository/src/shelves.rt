@@ -1,7 +1,6 @@
 //! The shelves of the products.
 
-ghost use Rattle.std.specs.Prelude.{◌≡◌, ℕ, List, true, is_some, bytes_eq, OnOk};
-ghost use Rattle.std.specs.Map.{lookup};
+ghost use Rattle.mv_repository.specs.Words.{◌≡◌, ℕ, List, true, is_some, bytes_eq, OnOk, lookup};
 ghost use Rattle.mv_repository.specs.Shelf.{shelf_of};
 
 use crate::shelf::Shelf;

@@ -1,13 +1,10 @@
 //! What stops a batch for ever: for each batch the place in the log of its first recall by stamp, and for each product
 //! that of its first withdrawal.
 
-ghost use Rattle.std.specs.Prelude.{◌≡◌, ◌+◌, if◌then◌else◌, true, is_some, OnOk, OnErr, IfOk, bytes_eq, [], length, take};
+ghost use Rattle.mv_repository.specs.Words.{◌≡◌, ◌+◌, if◌then◌else◌, true, OnOk, OnErr, IfOk, bytes_eq, [], length, take, lookup, keys_of, insert_key};
 ghost use Rattle.std.specs.List.{IsDistinct};
-ghost use Rattle.std.specs.Map.{lookup, keys_of};
-ghost use Rattle.indexmap.specs.IndexSet.{insert_key};
 ghost use Rattle.mv_pack.specs.Keys.{is_same_batch};
-ghost use Rattle.mv_repository.specs.PackState.{is_recall_of, is_withdrawal_of};
-ghost use Rattle.mv_repository.specs.Stops.{AreStopsOf, stops_in, standing_at, entry_at, earlier_place, comes_first};
+ghost use Rattle.mv_repository.specs.Stops.{AreStopsOf, stops_in, standing_at, entry_at, is_stop, stopped_product, first_place, earlier_place, comes_first};
 
 use crate::LogEntry;
 use crate::order::{comes_first, is_before};
@@ -26,13 +23,34 @@ pub struct BatchStanding {
     pub withdrawn: bool,
 }
 
+/// What stops packs for ever.
+#[derive(Clone, Copy)]
+pub(crate) enum Stop<'a> {
+    /// A recall of a batch.
+    Recall(&'a BatchKey),
+    /// A withdrawal of a product.
+    Withdrawal(&'a Gtin),
+}
+
+impl<'a> Stop<'a> {
+    /// The product of the packs that it stops.
+    pub fn gtin(&self) -> &'a Gtin
+        ensures { result.now ≡ stopped_product self.now }
+    {
+        match *self {
+            Stop::Recall(batch) => &batch.gtin,
+            Stop::Withdrawal(gtin) => gtin,
+        }
+    }
+}
+
 /// The first recall of each batch and the first withdrawal of each product, by their places in the log.
 #[derive(Drop)]
 pub(crate) struct Stops {
     /// The place of the first recall of each batch.
-    recalls: IndexMap<BatchKey, usize>,
+    recalls: IndexMap<BatchKey, u32>,
     /// The place of the first withdrawal of each product.
-    withdrawals: IndexMap<Gtin, usize>,
+    withdrawals: IndexMap<Gtin, u32>,
 }
 
 impl Model for Stops {
@@ -54,29 +72,15 @@ impl Stops {
         }
     }
 
-    /// Whether a batch has a recall.
-    pub fn has_recall(&self, batch: &BatchKey) -> bool
-        ensures { result ≡ is_some (lookup (is_same_batch batch.now) self.now.recalls) }
-    {
-        self.recalls.contains_key(batch)
-    }
-
-    /// Whether a product has a withdrawal.
-    pub fn has_withdrawal(&self, gtin: &Gtin) -> bool
-        ensures { result ≡ is_some (lookup (bytes_eq gtin.now) self.now.withdrawals) }
-    {
-        self.withdrawals.contains_key(gtin)
-    }
-
     /// The place of the first recall of a batch.
-    pub fn first_recall(&self, batch: &BatchKey) -> Option<usize>
+    pub fn first_recall(&self, batch: &BatchKey) -> Option<u32>
         ensures { result ≡ lookup (is_same_batch batch.now) self.now.recalls }
     {
         self.recalls.get(batch).copied()
     }
 
     /// The place of the first withdrawal of a product.
-    pub fn first_withdrawal(&self, gtin: &Gtin) -> Option<usize>
+    pub fn first_withdrawal(&self, gtin: &Gtin) -> Option<u32>
         ensures { result ≡ lookup (bytes_eq gtin.now) self.now.withdrawals }
     {
         self.withdrawals.get(gtin).copied()
@@ -105,7 +109,7 @@ impl Stops {
     }
 
     /// How a batch stands where an entry stands.
-    pub fn standing_at(&self, log: &[LogEntry], batch: &BatchKey, place: usize) -> BatchStanding
+    pub fn standing_at(&self, log: &[LogEntry], batch: &BatchKey, place: u32) -> BatchStanding
         ensures { result
             ≡ standing_at (stops_in log.now self.now) (entry_at log.now place) batch.now }
     {
@@ -115,42 +119,21 @@ impl Stops {
         }
     }
 
-    /// Adds the newest entry, a recall of a batch; whether it is the first of the batch by stamp. Where memory is refused
+    /// Adds the newest entry, which stops packs for ever; whether it is the first such by stamp. Where memory is refused
     /// nothing has changed.
-    pub fn add_recall(
-        &mut self,
-        log: &[LogEntry],
-        batch: BatchKey,
-        place: usize,
-    ) -> Result<bool, AllocError>
+    pub fn add(&mut self, log: &[LogEntry], stop: &Stop<'_>, place: u32) -> Result<bool, AllocError>
         requires last { length log.now ≡ place + 1 }
-        requires recall { is_recall_of batch (entry_at log.now place).entry.item ≡ true }
+        requires stop { is_stop stop.now (entry_at log.now place).entry.item ≡ true }
         requires stops { AreStopsOf (take place log.now) self.old }
         ensures ok { OnOk result (AreStopsOf log.now self.new) }
         ensures first { IfOk result (λ first. first
-            ≡ comes_first log.now place (lookup (is_same_batch batch) self.old.recalls)) }
+            ≡ comes_first log.now place (first_place stop.now self.old)) }
         ensures err { OnErr result (self.new ≡ self.old) }
     {
-        add_first(&mut self.recalls, log, batch, place)
-    }
-
-    /// Adds the newest entry, a withdrawal of a product; whether it is the first of the product by stamp. Where memory is
-    /// refused nothing has changed.
-    pub fn add_withdrawal(
-        &mut self,
-        log: &[LogEntry],
-        gtin: Gtin,
-        place: usize,
-    ) -> Result<bool, AllocError>
-        requires last { length log.now ≡ place + 1 }
-        requires withdrawal { is_withdrawal_of gtin (entry_at log.now place).entry.item ≡ true }
-        requires stops { AreStopsOf (take place log.now) self.old }
-        ensures ok { OnOk result (AreStopsOf log.now self.new) }
-        ensures first { IfOk result (λ first. first
-            ≡ comes_first log.now place (lookup (bytes_eq gtin) self.old.withdrawals)) }
-        ensures err { OnErr result (self.new ≡ self.old) }
-    {
-        add_first(&mut self.withdrawals, log, gtin, place)
+        match *stop {
+            Stop::Recall(batch) => add_first(&mut self.recalls, log, batch.copy(), place),
+            Stop::Withdrawal(gtin) => add_first(&mut self.withdrawals, log, *gtin, place),
+        }
     }
 }
 
@@ -158,10 +141,10 @@ impl Stops {
 /// memory is refused nothing has changed.
 #[tactic(auto, using(crate::proofs::StoppedLemmas::key_stays, crate::proofs::StoppedLemmas::key_added))]
 fn add_first<K: Eq + Hash + Drop>(
-    places: &mut IndexMap<K, usize>,
+    places: &mut IndexMap<K, u32>,
     log: &[LogEntry],
     key: K,
-    place: usize,
+    place: u32,
 ) -> Result<bool, AllocError>
     ensures first { IfOk result (λ first. first
         ≡ comes_first log.now place (lookup (K.eq key) places.old.entries)) }

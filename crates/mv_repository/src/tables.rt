@@ -1,30 +1,42 @@
 //! The tables that a repository keeps of its log, and what one more entry does to them.
 
-ghost use Rattle.std.specs.Prelude.{◌≡◌, ◌+◌, length, take, [], true, OnOk, OnErr, IfOk};
-ghost use Rattle.mv_repository.specs.Effect.{effect_of, lasting_effect};
-ghost use Rattle.mv_repository.specs.PackState.{is_recall_of, is_withdrawal_of};
-ghost use Rattle.mv_repository.specs.Stops.{entry_at};
+ghost use Rattle.mv_repository.specs.Words.{◌≡◌, ◌+◌, List, length, filter, take, [], true, OnOk, OnErr, IfOk, distinct_count, AnEntry};
+ghost use Rattle.mv_pack.specs.Keys.{is_same_pack};
+ghost use Rattle.mv_repository.specs.Counted.{is_counted};
+ghost use Rattle.mv_repository.specs.Counts.{uploaded_packs};
+ghost use Rattle.mv_repository.specs.Effect.{effect_of};
+ghost use Rattle.mv_repository.specs.PackState.{pack_state};
+ghost use Rattle.mv_repository.specs.Shelf.{IsUploadOf};
+ghost use Rattle.mv_repository.specs.Stops.{entry_at, is_stop};
 ghost use Rattle.mv_repository.specs.Tables.{AreTablesOf};
+ghost use Rattle.mv_repository.specs.Track.{is_status_of, track_of};
 
+use crate::counted::Counted;
+use crate::entry::message_at;
 use crate::masters::add_master;
-use crate::packs::Packs;
-use crate::stops::Stops;
-use crate::{Effect, LogEntry};
+use crate::shelf::Shelf;
+use crate::shelves::add_shelf;
+use crate::state::Newest;
+use crate::stops::{Stop, Stops};
+use crate::{Effect, Held, LogEntry};
 use indexmap::IndexMap;
-use mv_link::Item;
 use mv_message::Message;
-use mv_pack::{BatchKey, Gtin};
+use mv_pack::{Gtin, PackKey, Serial};
 use std::alloc::{AllocError, Global};
 
 /// What is found in a log without a search.
 #[derive(Drop)]
 pub struct Tables {
+    /// What memory is got from.
+    alloc: Global,
     /// For each product code with a master, the place in the log of the last one by stamp.
-    pub(crate) masters: IndexMap<Gtin, usize>,
+    pub(crate) masters: IndexMap<Gtin, u32>,
     /// The first recalls and withdrawals.
     pub(crate) stops: Stops,
-    /// What is kept of each pack.
-    pub(crate) packs: Packs,
+    /// What is kept of the packs of each product.
+    pub(crate) shelves: IndexMap<Gtin, Shelf>,
+    /// How many packs all uploads name, each as often as it is named.
+    pub(crate) named: usize,
 }
 
 impl Tables {
@@ -33,10 +45,25 @@ impl Tables {
         ensures { AreTablesOf [] result }
     {
         Tables {
+            alloc,
             masters: IndexMap::new(alloc),
             stops: Stops::new(alloc),
-            packs: Packs::new(alloc),
+            shelves: IndexMap::new(alloc),
+            named: 0,
         }
+    }
+
+    /// How many packs are counted, each once.
+    pub fn count(&self, counted: Counted) -> usize
+        ensures { (log : List AnEntry) → AreTablesOf log self.now
+            → result ≡ distinct_count is_same_pack (filter (λ pack. is_counted counted (track_of pack log)) (uploaded_packs log)) }
+    {
+        prove!(self.named <= usize::MAX);
+        let mut count = 0usize;
+        for (_, shelf) in self.shelves.iter() {
+            count = count.saturating_add(shelf.count(counted));
+        }
+        count
     }
 
     /// Adds the newest entry of a log, and gives its effect where it stands. Where memory is refused the tables are still
@@ -49,80 +76,115 @@ impl Tables {
             ≡ effect_of (take place log.now) (entry_at log.now place).entry) }
         ensures err { OnErr result (AreTablesOf (take place log.now) self.new) }
     {
-        let entry = &log[place as usize];
-        let Item::Carried { message, .. } = &entry.item else {
+        let Some(message) = message_at(log, place as usize) else {
             return Ok(Effect::Noted);
         };
-        match message.get() {
+        match message {
             Message::Master { gtin, .. } => {
-                add_master(&mut self.masters, log, *gtin, place as usize)?;
+                add_master(&mut self.masters, log, *gtin, place)?;
                 Ok(Effect::Done)
             }
             Message::Upload { gtin, serials, .. } => {
-                let serials = serials.as_slice();
-                self.packs
-                    .add_upload(log, &self.stops, gtin, serials, place)
+                self.add_upload(log, gtin, serials.as_slice(), place)
             }
-            Message::Status { key, .. } => self.packs.add_status(log, &self.stops, key, place),
-            Message::Recall { key, .. } => self.add_recall(log, key, place),
-            Message::Withdraw { gtin, .. } => self.add_withdrawal(log, gtin, place),
+            Message::Status { key, .. } => self.add_status(log, key, place),
+            Message::Recall { key, .. } => self.add_stop(log, &Stop::Recall(key), place),
+            Message::Withdraw { gtin, .. } => self.add_stop(log, &Stop::Withdrawal(gtin), place),
             _ => Ok(Effect::Noted),
         }
     }
 
-    /// Adds the newest entry, a recall of a batch. The first by stamp bears on packs of the batch; any other bears on none.
-    fn add_recall(
-        &mut self,
-        log: &[LogEntry],
-        batch: &BatchKey,
-        place: u32,
-    ) -> Result<Effect, AllocError>
-        requires last { length log.now ≡ place + 1 }
-        requires recall { is_recall_of batch.now (entry_at log.now place).entry.item ≡ true }
-        requires tables { AreTablesOf (take place log.now) self.old }
-        ensures ok { OnOk result (AreTablesOf log.now self.new) }
-        ensures effect { IfOk result (λ effect. effect
-            ≡ effect_of (take place log.now) (entry_at log.now place).entry) }
-        ensures err { OnErr result (AreTablesOf (take place log.now) self.new) }
-    {
-        let is_first = self.stops.add_recall(log, batch.copy(), place as usize)?;
-        if is_first {
-            self.packs.refresh_batch(log, &self.stops, batch, place);
-        }
-        Ok(lasting_effect(!is_first))
-    }
-
-    /// Adds the newest entry, a withdrawal of a product. The first by stamp bears on packs of the product; any other bears
-    /// on none.
-    fn add_withdrawal(
+    /// Adds the newest entry, an upload of packs of a product.
+    fn add_upload(
         &mut self,
         log: &[LogEntry],
         gtin: &Gtin,
+        serials: &[Serial],
         place: u32,
     ) -> Result<Effect, AllocError>
         requires last { length log.now ≡ place + 1 }
-        requires withdrawal { is_withdrawal_of gtin.now (entry_at log.now place).entry.item ≡ true }
+        requires upload { IsUploadOf (entry_at log.now place).entry.item gtin.now serials.now }
         requires tables { AreTablesOf (take place log.now) self.old }
         ensures ok { OnOk result (AreTablesOf log.now self.new) }
         ensures effect { IfOk result (λ effect. effect
             ≡ effect_of (take place log.now) (entry_at log.now place).entry) }
         ensures err { OnErr result (AreTablesOf (take place log.now) self.new) }
     {
-        let is_first = self.stops.add_withdrawal(log, *gtin, place as usize)?;
-        if is_first {
-            self.packs.refresh_product(log, &self.stops, gtin, place);
+        if serials.len() > usize::MAX - self.named {
+            return Err(AllocError);
         }
-        Ok(lasting_effect(!is_first))
+        add_shelf(self.alloc, &mut self.shelves, *gtin)?;
+        let Some(shelf) = self.shelves.get_mut(gtin) else {
+            unreachable!();
+        };
+        let newest = Newest {
+            log,
+            stops: &self.stops,
+            place,
+        };
+        let new = shelf.add_upload(&newest, gtin, serials)?;
+        self.named += serials.len();
+        Ok(Effect::Uploaded {
+            new: new as u64,
+            old: (serials.len() - new) as u64,
+        })
     }
-}
 
-/// The effect of a recall or a withdrawal, where one held before or not.
-fn lasting_effect(held_before: bool) -> Effect
-    ensures { result ≡ lasting_effect held_before }
-{
-    if held_before {
-        Effect::Noted
-    } else {
-        Effect::Done
+    /// Adds the newest entry, a status of a pack.
+    fn add_status(
+        &mut self,
+        log: &[LogEntry],
+        pack: &PackKey,
+        place: u32,
+    ) -> Result<Effect, AllocError>
+        requires last { length log.now ≡ place + 1 }
+        requires own { is_status_of pack.now (entry_at log.now place).entry.item ≡ true }
+        requires tables { AreTablesOf (take place log.now) self.old }
+        ensures ok { OnOk result (AreTablesOf log.now self.new) }
+        ensures effect { IfOk result (λ effect. effect
+            ≡ effect_of (take place log.now) (entry_at log.now place).entry) }
+        ensures err { OnErr result (AreTablesOf (take place log.now) self.new) }
+    {
+        add_shelf(self.alloc, &mut self.shelves, pack.gtin)?;
+        let Some(shelf) = self.shelves.get_mut(&pack.gtin) else {
+            unreachable!();
+        };
+        let newest = Newest {
+            log,
+            stops: &self.stops,
+            place,
+        };
+        let effect = shelf.add_status(self.alloc, &newest, pack)?;
+        Ok(effect)
+    }
+
+    /// Adds the newest entry, which stops packs for ever. The first such by stamp bears on packs; any other bears on none.
+    fn add_stop(
+        &mut self,
+        log: &[LogEntry],
+        stop: &Stop<'_>,
+        place: u32,
+    ) -> Result<Effect, AllocError>
+        requires last { length log.now ≡ place + 1 }
+        requires stop { is_stop stop.now (entry_at log.now place).entry.item ≡ true }
+        requires tables { AreTablesOf (take place log.now) self.old }
+        ensures ok { OnOk result (AreTablesOf log.now self.new) }
+        ensures effect { IfOk result (λ effect. effect
+            ≡ effect_of (take place log.now) (entry_at log.now place).entry) }
+        ensures err { OnErr result (AreTablesOf (take place log.now) self.new) }
+    {
+        if !self.stops.add(log, stop, place)? {
+            return Ok(Effect::Noted);
+        }
+        let Some(shelf) = self.shelves.get_mut(stop.gtin()) else {
+            return Ok(Effect::Done);
+        };
+        let newest = Newest {
+            log,
+            stops: &self.stops,
+            place,
+        };
+        shelf.refresh(&newest, stop);
+        Ok(Effect::Done)
     }
 }

@@ -1,21 +1,21 @@
 //! What is kept of one pack: the place in the log of its first upload, its statuses in the order of stamps, and the entry by
 //! which the pack stands behind them. This file knows no other pack.
 
-ghost use Rattle.std.specs.Prelude.{◌≡◌, ◌≤◌, ◌<◌, ◌+◌, ℕ, List, [], length, map, insert, take, fold, true, OnOk, OnErr, IfOk};
+ghost use Rattle.mv_repository.specs.Words.{◌≡◌, ◌≤◌, ◌<◌, ◌+◌, ℕ, List, [], length, map, insert, take, fold, not, true, OnOk, OnErr, IfOk};
 ghost use Rattle.std.specs.Option.{unwrap_or};
-ghost use Rattle.mv_repository.specs.Blocks.{AreBlocks, entry_in, next_in, start_in, without};
+ghost use Rattle.mv_repository.specs.Blocks.{AreBlocks, without};
+ghost use Rattle.mv_repository.specs.State.{entry_in, next_in, start_in};
 ghost use Rattle.mv_repository.specs.Counted.{is_counted};
 ghost use Rattle.mv_repository.specs.Effect.{effect_of};
-ghost use Rattle.mv_repository.specs.Order.{Ascends};
+ghost use Rattle.mv_repository.specs.Order.{Ascends, passes};
 ghost use Rattle.mv_repository.specs.Shelf.{IsAgain};
 ghost use Rattle.mv_repository.specs.Stops.{AreStopsOf, entry_at, stops_in, comes_first, earlier_place};
 ghost use Rattle.mv_repository.specs.Track.{is_status_of, life_of, IsKept, IsTrack, state_by, put_place, places_before};
 
-use crate::blocks::{Basis, Block, cut_at, put_late};
+use crate::blocks::{Block, cut_at, put_late};
 use crate::counted::Counted;
-use crate::order::passes;
-use crate::state::{held_at, next};
-use crate::stops::Stops;
+use crate::order::{comes_first, passes};
+use crate::state::{Basis, Newest, held_at};
 use crate::{Effect, Held, LogEntry};
 use mv_pack::{Gtin, PackKey};
 use std::alloc::{AllocError, Global};
@@ -28,18 +28,11 @@ fn place_for(log: &[LogEntry], statuses: &[u32], new: u32) -> usize
     ensures put { insert statuses.now result new ≡ put_place log.now new statuses.now }
     ensures before { take result statuses.now ≡ places_before log.now new statuses.now }
 {
-    let mut front = 0;
-    let mut back = statuses.len();
-    let mut middle = back.saturating_sub(1);
-    while front < back {
-        if passes(log, new as usize, statuses[middle] as usize) {
-            back = middle;
-        } else {
-            front = middle + 1;
-        }
-        middle = front + (back - front) / 2;
-    }
-    back
+    statuses.partition_point(
+        |place: &u32| -> bool
+            ensures { result ≡ not (passes (entry_at log.entry.now new) (entry_at log.entry.now place.now)) }
+        { !passes(log, new, *place) },
+    )
 }
 
 /// The place of the entry by which a pack stands in front of the status at a place among these, where it is known how it
@@ -144,34 +137,28 @@ impl Track {
 
     /// Adds a status of the pack, which is the newest entry of the log, and gives its effect where it stands. Where memory
     /// is refused nothing has changed.
-    pub fn add_status(
-        &mut self,
-        log: &[LogEntry],
-        stops: &Stops,
-        pack: &PackKey,
-        place: u32,
-    ) -> Result<Effect, AllocError>
-        requires last { length log.now ≡ place + 1 }
-        requires stops { AreStopsOf (take place log.now) stops.now }
-        requires own { is_status_of pack.now (entry_at log.now place).entry.item ≡ true }
-        requires kept { IsKept (life_of pack.now (take place log.now)) self.old }
-        ensures ok { OnOk result (IsKept (life_of pack.now log.now) self.new) }
+    pub fn add_status(&mut self, newest: &Newest<'_>, pack: &PackKey) -> Result<Effect, AllocError>
+        requires last { length newest.now.log.now ≡ newest.now.place + 1 }
+        requires stops { AreStopsOf (take newest.now.place newest.now.log.now) newest.now.stops.now }
+        requires own { is_status_of pack.now (entry_at newest.now.log.now newest.now.place).entry.item ≡ true }
+        requires kept { IsKept (life_of pack.now (take newest.now.place newest.now.log.now)) self.old }
+        ensures ok { OnOk result (IsKept (life_of pack.now newest.now.log.now) self.new) }
         ensures effect { IfOk result (λ effect. effect
-            ≡ effect_of (take place log.now) (entry_at log.now place).entry) }
+            ≡ effect_of (take newest.now.place newest.now.log.now) (entry_at newest.now.log.now newest.now.place).entry) }
         ensures err { OnErr result (self.new ≡ self.old) }
     {
         self.statuses.reserve(1)?;
         // All room is got: nothing fails from here on.
         let basis = Basis {
-            log,
-            stops,
+            log: newest.log,
+            stops: newest.stops,
             gtin: &pack.gtin,
             birth: self.birth,
         };
-        let at = place_for(log, self.statuses.as_slice(), place);
+        let at = place_for(newest.log, self.statuses.as_slice(), newest.place);
         let before = by_before(&basis, self.statuses.as_slice(), &self.blocks, at, self.by);
-        let (effect, by) = next(log, stops, &pack.gtin, self.birth, before, place);
-        let Ok(()) = self.statuses.insert(at, place) else {
+        let (effect, by) = basis.next(before, newest.place);
+        let Ok(()) = self.statuses.insert(at, newest.place) else {
             unreachable!();
         };
         self.by = by_behind(
@@ -185,39 +172,29 @@ impl Track {
         Ok(effect)
     }
 
-    /// Whether the newest entry, an upload that names the pack, is the first such by stamp.
-    pub fn is_made_by(&self, log: &[LogEntry], place: u32) -> bool
-        ensures { result ≡ comes_first log.now place self.now.birth }
-    {
-        match self.birth {
-            Some(first) => passes(log, place as usize, first as usize),
-            None => true,
-        }
-    }
-
     /// Adds the newest entry, an upload that names the pack; whether it is the first such by stamp.
-    pub fn add_upload(&mut self, log: &[LogEntry], stops: &Stops, gtin: &Gtin, place: u32) -> bool
-        requires { IsTrack log.now (stops_in log.now stops.now) gtin.now self.old }
-        ensures birth { self.new.birth ≡ earlier_place log.now place self.old.birth }
+    pub fn add_upload(&mut self, newest: &Newest<'_>, gtin: &Gtin) -> bool
+        requires { IsTrack newest.now.log.now (stops_in newest.now.log.now newest.now.stops.now) gtin.now self.old }
+        ensures birth { self.new.birth ≡ earlier_place newest.now.log.now newest.now.place self.old.birth }
         ensures statuses { self.new.statuses ≡ self.old.statuses }
-        ensures worked { IsTrack log.now (stops_in log.now stops.now) gtin.now self.new }
-        ensures first { result ≡ comes_first log.now place self.old.birth }
+        ensures worked { IsTrack newest.now.log.now (stops_in newest.now.log.now newest.now.stops.now) gtin.now self.new }
+        ensures first { result ≡ comes_first newest.now.log.now newest.now.place self.old.birth }
     {
-        if !self.is_made_by(log, place) {
+        if !comes_first(newest.log, newest.place, self.birth) {
             return false;
         }
-        self.birth = Some(place);
-        self.refresh(log, stops, gtin);
+        self.birth = Some(newest.place);
+        self.refresh(newest, gtin);
         true
     }
 
     /// Works the pack out again.
-    pub fn refresh(&mut self, log: &[LogEntry], stops: &Stops, gtin: &Gtin)
-        ensures { IsAgain log.now (stops_in log.now stops.now) gtin.now self.old self.new }
+    pub fn refresh(&mut self, newest: &Newest<'_>, gtin: &Gtin)
+        ensures { IsAgain newest.now.log.now (stops_in newest.now.log.now newest.now.stops.now) gtin.now self.old self.new }
     {
         let basis = Basis {
-            log,
-            stops,
+            log: newest.log,
+            stops: newest.stops,
             gtin,
             birth: self.birth,
         };

@@ -1,15 +1,15 @@
 -- Lemmas on a text that is written in blocks.
-use Rattle.std.proofs.Common.{◌≡◌, ℕ, ◌+◌, ◌-◌, ◌<◌, suc, List, [], ◌∷◌, ◌++◌, length, take, drop, slice_index_or, map, flat_map, refl, ap, sym, ◌∙◌, subst, append_assoc, append-nil, add-one}
+use Rattle.std.proofs.Common.{◌≡◌, ℕ, ◌+◌, ◌<◌, ◌≤◌, List, [], ◌∷◌, ◌++◌, length, take, drop, slice_index_or, map, flat_map, refl, ap, sym, ◌∙◌, subst, append_assoc, append-nil, take-append-drop, add-one, zero-add, arith}
 use Rattle.std.specs.Prelude.{Option, Result, Ok, Err, IfErr}
 use Rattle.std.specs.List.{range_with_len}
 use Rattle.std.proofs.Math.Seq.{take-suc}
 use Rattle.std.proofs.KnownBytes.{Appends-nil, Appends-trans}
-use Rattle.std.proofs.lemmas.List.{map-append}
+use Rattle.std.proofs.lemmas.List.{map-append, take_all}
+use Rattle.std.proofs.lemmas.List.FromFn.{get_or-range_with_len, length-range_with_len}
 use Rattle.std.proofs.lemmas.Grind.{flat_map-append}
 use Rattle.serde_json.specs.Data.{Data}
 use Rattle.serde_json.specs.Written.{compact_text}
 use Rattle.mv_lines.specs.Output.{WrotePart}
-use Rattle.mv_show.proofs.PlaceLemmas.{range_next, range_whole, list_at}
 use Rattle.mv_show.specs.Blocks.{Passes}
 use Rattle.mv_show.specs.Shown.{lines_text}
 
@@ -49,51 +49,57 @@ part_of_front a b bytes more (out, unwritten, cut, went) =
 pub passed_part : (a b : Option (List ℕ)) (bytes ready : List ℕ) → Passes a b bytes ready → WrotePart bytes a b
 passed_part a b bytes ready (out, went, cut) = (out, ready, cut, went)
 
-module _ {A : Type 0} (values : A → List Data) (front : List A) (one : A) (ready : List ℕ) where
-  -- what stood ready, and the texts of some first members
-  abbrev before : List ℕ
-  before = ready ++ lines_text (flat_map values front)
+-- the texts of what is shown of some members, behind what stood ready
+abbrev pub texts_of : {A : Type 0} → (A → List Data) → List ℕ → List A → List ℕ
+texts_of values ready xs = ready ++ lines_text (flat_map values xs)
 
-  -- the texts of these and of the next
-  next : before ++ lines_text (values one) ≡ ready ++ lines_text (flat_map values (front ++ one ∷ []))
-  next =
-      append_assoc ready (lines_text (flat_map values front)) (lines_text (values one))
-      ∙ ap (λ l. ready ++ l)
-      (sym (lines_text-append (flat_map values front) (values one))
-      ∙ ap lines_text (ap (λ l. flat_map values front ++ l) (sym (append-nil (values one))) ∙ sym (flat_map-append values front (one ∷ []))))
+texts_more : {A : Type 0} (values : A → List Data) (ready : List ℕ) (front behind : List A)
+    → texts_of values ready (front ++ behind) ≡ texts_of values ready front ++ lines_text (flat_map values behind)
+texts_more values ready front behind =
+    ap (λ l. ready ++ lines_text l) (flat_map-append values front behind)
+    ∙ ap (λ l. ready ++ l) (lines_text-append (flat_map values front) (flat_map values behind))
+    ∙ sym (append_assoc ready (lines_text (flat_map values front)) (lines_text (flat_map values behind)))
 
-  -- the next member's text came
-  pub text_next : (out new : List ℕ) → out ≡ before → new ≡ out ++ lines_text (values one) → new ≡ ready ++ lines_text (flat_map values (front ++ one ∷ []))
-  text_next out new was more = more ∙ ap (λ l. l ++ lines_text (values one)) was ∙ next
+module _ {A : Type 0} (values : A → List Data) (ready : List ℕ) (xs : List A) (i : ℕ) where
+  -- what came of the first members is a part of the whole
+  part_of_first : (a b : Option (List ℕ)) → WrotePart (texts_of values ready (take i xs)) a b → WrotePart (texts_of values ready xs) a b
+  part_of_first a b part =
+      subst (λ l. WrotePart l a b) (sym (texts_more values ready (take i xs) (drop i xs)) ∙ ap (texts_of values ready) (take-append-drop i xs))
+      (part_of_front a b (texts_of values ready (take i xs)) (lines_text (flat_map values (drop i xs))) part)
 
-  -- and some of what stood ready went out
-  pub passes_next : (a b c : Option (List ℕ)) (mid rest : List ℕ) → Passes a b before mid → Passes b c (mid ++ lines_text (values one)) rest
-      → Passes a c (ready ++ lines_text (flat_map values (front ++ one ∷ []))) rest
-  passes_next a b c mid rest went goes =
-      subst (λ l. Passes a c l rest) next (passes_more a b c before (lines_text (values one)) mid rest went goes)
+  -- nothing more went out
+  pub member_stop : (a b : Option (List ℕ)) (mid : List ℕ) → Passes a b (texts_of values ready (take i xs)) mid → WrotePart (texts_of values ready xs) a b
+  member_stop a b mid went = part_of_first a b (passed_part a b (texts_of values ready (take i xs)) mid went)
 
-  module _ (behind all : List A) (whole : all ≡ front ++ one ∷ behind) where
-    -- all texts begin by these
-    all_are : ready ++ lines_text (flat_map values all) ≡ before ++ lines_text (values one) ++ lines_text (flat_map values behind)
-    all_are =
-        ap (λ l. ready ++ lines_text (flat_map values l)) (whole ∙ sym (append_assoc front (one ∷ []) behind))
-        ∙ ap (λ l. ready ++ lines_text l) (flat_map-append values (front ++ one ∷ []) behind)
-        ∙ ap (λ l. ready ++ l) (lines_text-append (flat_map values (front ++ one ∷ [])) (flat_map values behind))
-        ∙ sym (append_assoc ready (lines_text (flat_map values (front ++ one ∷ []))) (lines_text (flat_map values behind)))
-        ∙ ap (λ l. l ++ lines_text (flat_map values behind)) (sym next)
+module _ {A : Type 0} (values : A → List Data) (ready : List ℕ) (xs : List A) (i : ℕ) (one : A) (below : i < length xs) (there : one ≡ slice_index_or xs i one) where
+  -- the texts of the first members, and of the next
+  pub next_texts : texts_of values ready (take i xs) ++ lines_text (values one) ≡ texts_of values ready (take (i + 1) xs)
+  next_texts =
+      ap (λ l. texts_of values ready (take i xs) ++ lines_text l) (sym (append-nil (values one)))
+      ∙ sym (texts_more values ready (take i xs) (one ∷ []))
+      ∙ ap (texts_of values ready) (ap (λ x. take i xs ++ x ∷ []) there ∙ sym (take-suc xs i one below) ∙ ap (λ k. take k xs) (sym (add-one i)))
 
-    -- the next member's text came, or some of it, and then a write failed or memory was refused
-    pub part_next : (a b c : Option (List ℕ)) (mid : List ℕ) → Passes a b before mid → WrotePart (mid ++ lines_text (values one)) b c
-        → WrotePart (ready ++ lines_text (flat_map values all)) a c
-    part_next a b c mid went goes =
-        subst (λ l. WrotePart l a c) (sym all_are)
-        (part_of_front a c (before ++ lines_text (values one)) (lines_text (flat_map values behind))
-        (part_more a b c before (lines_text (values one)) mid went goes))
+  -- the next member's text came, and some of what stood ready went out
+  pub member_next : (a b c : Option (List ℕ)) (mid full rest : List ℕ) → Passes a b (texts_of values ready (take i xs)) mid
+      → full ≡ mid ++ lines_text (values one) → Passes b c full rest → Passes a c (texts_of values ready (take (i + 1) xs)) rest
+  member_next a b c mid full rest went more goes =
+      subst (λ l. Passes a c l rest) next_texts
+      (passes_more a b c (texts_of values ready (take i xs)) (lines_text (values one)) mid rest went (subst (λ l. Passes b c l rest) more goes))
 
-    -- nothing more went out
-    pub part_before : (a b : Option (List ℕ)) (mid : List ℕ) → Passes a b before mid → WrotePart (ready ++ lines_text (flat_map values all)) a b
-    part_before a b mid went =
-        part_next a b b mid went (part_of_front b b mid (lines_text (values one)) ([], mid, refl, Appends-nil b))
+  -- or some of it, and then a write failed or memory was refused
+  pub member_part : (a b c : Option (List ℕ)) (mid full : List ℕ) → Passes a b (texts_of values ready (take i xs)) mid
+      → full ≡ mid ++ lines_text (values one) → WrotePart full b c → WrotePart (texts_of values ready xs) a c
+  member_part a b c mid full went more goes =
+      part_of_first values ready xs (i + 1) a c (subst (λ l. WrotePart l a c) next_texts
+      (part_more a b c (texts_of values ready (take i xs)) (lines_text (values one)) mid went (subst (λ l. WrotePart l b c) more goes)))
+
+-- a number below another is among the numbers from 0 on, at its place
+pub number_at : (i n : ℕ) → i < n → (i < length (range_with_len 0 n)) × (i ≡ slice_index_or (range_with_len 0 n) i i)
+number_at i n below = (omega (arith, below, length-range_with_len 0 n), sym (get_or-range_with_len 0 n i i below ∙ zero-add i))
+
+-- and behind all of them no more come
+pub numbers_all : (i n : ℕ) → n ≤ i → take i (range_with_len 0 n) ≡ range_with_len 0 n
+numbers_all i n above = take_all i (range_with_len 0 n) (omega (arith, above, length-range_with_len 0 n))
 
 -- whatever is true is true of an error
 pub err_always : {A E X : Type 0} (r : Result A E) → X → IfErr r (λ (e : E). X)
@@ -106,64 +112,12 @@ err_weaker (Err e) weaker fact = weaker fact
 
 -- the same members have the same texts
 pub part_same : {A : Type 0} (values : A → List Data) (a b : Option (List ℕ)) (ready : List ℕ) (xs ys : List A) → xs ≡ ys
-    → WrotePart (ready ++ lines_text (flat_map values xs)) a b → WrotePart (ready ++ lines_text (flat_map values ys)) a b
-part_same values a b ready xs ys same = subst (λ members. WrotePart (ready ++ lines_text (flat_map values members)) a b) same
+    → WrotePart (texts_of values ready xs) a b → WrotePart (texts_of values ready ys) a b
+part_same values a b ready xs ys same = subst (λ members. WrotePart (texts_of values ready members) a b) same
 
 pub passes_same : {A : Type 0} (values : A → List Data) (a b : Option (List ℕ)) (ready rest : List ℕ) (xs ys : List A) → xs ≡ ys
-    → Passes a b (ready ++ lines_text (flat_map values xs)) rest → Passes a b (ready ++ lines_text (flat_map values ys)) rest
-passes_same values a b ready rest xs ys same = subst (λ members. Passes a b (ready ++ lines_text (flat_map values members)) rest) same
-
--- the texts of the numbers from 0 on, one after another
-module _ (values : ℕ → List Data) (i n : ℕ) (below : i < n) (ready : List ℕ) where
-  abbrev sofar : List ℕ
-  sofar = ready ++ lines_text (flat_map values (range_with_len 0 i))
-
-  abbrev all : List ℕ
-  all = ready ++ lines_text (flat_map values (range_with_len 0 n))
-
-  pub number_next : (a b c : Option (List ℕ)) (mid full rest : List ℕ) → Passes a b sofar mid → full ≡ mid ++ lines_text (values i) → Passes b c full rest
-      → Passes a c (ready ++ lines_text (flat_map values (range_with_len 0 (i + 1)))) rest
-  number_next a b c mid full rest went more goes =
-      subst (λ numbers. Passes a c (ready ++ lines_text (flat_map values numbers)) rest) (sym (range_next i))
-      (passes_next values (range_with_len 0 i) i ready a b c mid rest went (subst (λ l. Passes b c l rest) more goes))
-
-  pub number_part : (a b c : Option (List ℕ)) (mid full : List ℕ) → Passes a b sofar mid → full ≡ mid ++ lines_text (values i) → WrotePart full b c → WrotePart all a c
-  number_part a b c mid full went more goes =
-      part_next values (range_with_len 0 i) i ready (range_with_len (i + 1) (n - (i + 1))) (range_with_len 0 n) (range_whole i n below) a b c mid went
-      (subst (λ l. WrotePart l b c) more goes)
-
-  pub number_stop : (a b : Option (List ℕ)) (mid : List ℕ) → Passes a b sofar mid → WrotePart all a b
-  number_stop a b mid went =
-      part_before values (range_with_len 0 i) i ready (range_with_len (i + 1) (n - (i + 1))) (range_with_len 0 n) (range_whole i n below) a b mid went
-
--- the texts of the members of a list, one after another
-module _ {A : Type 0} (values : A → List Data) (xs : List A) (i : ℕ) (one : A) (below : i < length xs) (there : one ≡ slice_index_or xs i one)
-    (ready : List ℕ) where
-  abbrev sofar_of : List ℕ
-  sofar_of = ready ++ lines_text (flat_map values (take i xs))
-
-  abbrev all_of : List ℕ
-  all_of = ready ++ lines_text (flat_map values xs)
-
-  split : xs ≡ take i xs ++ one ∷ drop (suc i) xs
-  split = list_at xs i one below ∙ ap (λ x. take i xs ++ x ∷ drop (suc i) xs) (sym there)
-
-  longer : take (i + 1) xs ≡ take i xs ++ one ∷ []
-  longer = ap (λ k. take k xs) (add-one i) ∙ take-suc xs i one below ∙ ap (λ x. take i xs ++ x ∷ []) (sym there)
-
-  pub member_next : (a b c : Option (List ℕ)) (mid full rest : List ℕ) → Passes a b sofar_of mid → full ≡ mid ++ lines_text (values one) → Passes b c full rest
-      → Passes a c (ready ++ lines_text (flat_map values (take (i + 1) xs))) rest
-  member_next a b c mid full rest went more goes =
-      subst (λ members. Passes a c (ready ++ lines_text (flat_map values members)) rest) (sym longer)
-      (passes_next values (take i xs) one ready a b c mid rest went (subst (λ l. Passes b c l rest) more goes))
-
-  pub member_part : (a b c : Option (List ℕ)) (mid full : List ℕ) → Passes a b sofar_of mid → full ≡ mid ++ lines_text (values one) → WrotePart full b c
-      → WrotePart all_of a c
-  member_part a b c mid full went more goes =
-      part_next values (take i xs) one ready (drop (suc i) xs) xs split a b c mid went (subst (λ l. WrotePart l b c) more goes)
-
-  pub member_stop : (a b : Option (List ℕ)) (mid : List ℕ) → Passes a b sofar_of mid → WrotePart all_of a b
-  member_stop a b mid went = part_before values (take i xs) one ready (drop (suc i) xs) xs split a b mid went
+    → Passes a b (texts_of values ready xs) rest → Passes a b (texts_of values ready ys) rest
+passes_same values a b ready rest xs ys same = subst (λ members. Passes a b (texts_of values ready members) rest) same
 
 -- a part of two texts, of which the first was written
 pub part_of_two : (a b : Option (List ℕ)) (ready : List ℕ) (front behind : List Data) → WrotePart (ready ++ lines_text front) a b

@@ -9,7 +9,7 @@ use Rattle.mv_pack.specs.declared.key.PackKey.{PackKey}
 use Rattle.mv_pack.specs.Keys.{is_same_pack}
 use Rattle.std.proofs.lemmas.List.Sums.{fold-append}
 use Rattle.indexmap.specs.IndexSet.{insert_key, insert_all}
-use Rattle.mv_hub.proofs.ListingLemmas.{distinct-push, text-same, batch-same, batch_equivalence}
+use Rattle.mv_hub.proofs.CallerLemmas.{distinct-push, text-same, batch-same, batch_equivalence}
 use Rattle.mv_hub.specs.Listing.{distinct}
 use Rattle.mv_repository.specs.declared.entry.LogEntry.{LogEntry}
 use Rattle.mv_show.specs.declared.subject.Kind.TheVariants as kinds

@@ -4,7 +4,7 @@ use Rattle.std.specs.Prelude.{IfSome, Option, Some, None}
 use Rattle.std.specs.Io.KnownBytes.{Consumes}
 use Rattle.std.proofs.KnownBytes.{Appends-nil}
 use Rattle.mv_lines.specs.declared.fault.ServeFault.{ServeFault}
-use Rattle.mv_lines.specs.declared.fault.ServeFault.TheVariants.{Read, Write, Memory, TooManyLines, LineTooLong, Start}
+use Rattle.mv_lines.specs.declared.fault.ServeFault.TheVariants.{Read, Write, Memory}
 use Rattle.mv_lines.specs.Lines.{Line, lines_from, pieces}
 use Rattle.mv_lines.specs.Replies.{AreReplies, said_texts, text_lines}
 use Rattle.mv_lines.specs.Served.{Served, Stopped, Ended}
@@ -50,10 +50,7 @@ untaken : (fault : ServeFault) (before : Open) (bytes : List ℕ) (old new : Opt
     → Untaken fault before bytes
 untaken Read before bytes old new other ended = ended.0
 untaken Write before bytes old new other ended = absurd (other refl)
-untaken Memory before bytes old new other (out, written, stopped) = stopped_in_silence Memory before bytes out stopped
-untaken TooManyLines before bytes old new other (out, written, stopped) = stopped_in_silence TooManyLines before bytes out stopped
-untaken LineTooLong before bytes old new other (out, written, stopped) = stopped_in_silence LineTooLong before bytes out stopped
-untaken Start before bytes old new other (out, written, stopped) = stopped_in_silence Start before bytes out stopped
+untaken fault before bytes old new other (out, written, stopped) = stopped_in_silence fault before bytes out stopped
 
 pub taken_in_part : (fault : ServeFault) (before : Open) (input rest old new : Option (List ℕ)) → fault ≢ Write
     → (bytes : List ℕ) × Consumes input rest bytes × Ended IsPassed fault before bytes old new → (bytes : List ℕ) × Consumes input rest bytes × Untaken fault before bytes
@@ -79,12 +76,9 @@ refused_at_once before input rest bytes took = (
 -- where the input was not taken whole, nothing is shown
 pub not_shown : (fault : ServeFault) (input rest writer : Option (List ℕ)) → (bytes : List ℕ) × Consumes input rest bytes × Untaken fault None bytes
     → Unshown fault input rest writer writer
-not_shown Read input rest writer (bytes, took, why) = (bytes, took, why, Appends-nil writer)
 not_shown Write input rest writer (bytes, took, why) = absurd why
 not_shown Memory input rest writer (bytes, took, why) = inl (bytes, took, why, Appends-nil writer)
-not_shown TooManyLines input rest writer (bytes, took, why) = (bytes, took, why, Appends-nil writer)
-not_shown LineTooLong input rest writer (bytes, took, why) = (bytes, took, why, Appends-nil writer)
-not_shown Start input rest writer (bytes, took, why) = (bytes, took, why, Appends-nil writer)
+not_shown fault input rest writer (bytes, took, why) = (bytes, took, why, Appends-nil writer)
 
 -- where the writing ended, a part is shown
 pub shown_in_part : (fault : ServeFault) (input rest old new : Option (List ℕ)) → EndsWriting fault → ShownInPart input old new → Unshown fault input rest old new

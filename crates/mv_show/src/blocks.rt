@@ -10,7 +10,7 @@ ghost use Rattle.mv_show.specs.Blocks.{Passes, EndsWriting};
 ghost use Rattle.mv_show.specs.Shown.{party_values, links_values, party_numbers, shown_of, shown_text, lines_text};
 
 use crate::line::append_not_open;
-use crate::link_lines::append_links;
+use crate::link_lines::{append_links, party_count};
 use crate::naming::subjects_of;
 use crate::party_lines::append_subject;
 use mv_lines::{ServeFault, put_out};
@@ -76,7 +76,7 @@ fn write_parties<W: Write>(
         (ready.old.items ++ lines_text (flat_map (party_values world.now) (party_numbers world.now)))
         (W.contents writer.old) (W.contents writer.new)) }
 {
-    for party in 0..world.hub().parties().len() {
+    for party in 0..party_count(world) {
         write_party(alloc, world, party, ready, writer)?;
     }
     Ok(())
@@ -121,7 +121,7 @@ fn write_links<W: Write>(
         (ready.old.items ++ lines_text (flat_map (links_values world.now) (party_numbers world.now)))
         (W.contents writer.old) (W.contents writer.new)) }
 {
-    for from in 0..world.hub().parties().len() {
+    for from in 0..party_count(world) {
         append_links(alloc, ready, world, from)?;
         put_full(ready, writer)?;
     }

@@ -23,10 +23,17 @@ pub(crate) fn append_links(
     ensures { OnOk result (out.new.items
         ≡ out.old.items ++ lines_text (links_values world.now from)) }
 {
-    for to in 0..world.hub().parties().len() {
+    for to in 0..party_count(world) {
         append_link(alloc, out, world, from, to)?;
     }
     Ok(())
+}
+
+/// How many parties there are.
+pub(crate) fn party_count(world: &World) -> u32
+    ensures { result ≡ length world.now.parties }
+{
+    world.hub().parties().len()
 }
 
 /// Writes the line of a link, if it has one.

@@ -7,20 +7,22 @@ use mv_lines::{Answering, Session};
 use mv_system::World;
 use std::alloc::{AllocError, Global};
 use std::marker::Model;
+use std::mem::ManuallyDrop;
 
 /// What takes lines as `steps` does and answers none, seen as what is open.
 #[derive(Drop)]
 pub(crate) struct Passing {
-    /// What takes them.
-    session: Session,
+    /// What takes them. What is open at the end is not taken apart.
+    session: ManuallyDrop<Session>,
 }
 
 impl Model for Passing {
+    ghost use Rattle.std.specs.Mem.{manually_drop_value};
     ghost use Rattle.mv_lines.specs.Sessions.{Open};
 
     ghost Value = { Open };
 
-    ghost view = { λ p. p.session };
+    ghost view = { λ p. manually_drop_value p.session };
 }
 
 impl Answering for Passing {
@@ -45,7 +47,7 @@ impl Passing {
         ensures { result ≡ None }
     {
         Passing {
-            session: Session::new(alloc),
+            session: Session::last(alloc),
         }
     }
 

@@ -11,7 +11,6 @@ use crate::passing::Passing;
 use mv_lines::{ServeFault, answer_lines};
 use std::alloc::Global;
 use std::io::{self, Read, Write};
-use std::mem;
 
 /// Does with each line what `steps` does, and writes nothing until the input ends. Then it writes what stands: how much each
 /// party has and what its repository holds, and how far each link is; where no system is open, C1. Whether one is open.
@@ -35,9 +34,7 @@ pub fn show<R: Read, W: Write>(
 {
     let mut passing = Passing::new(alloc);
     take_lines(alloc, &mut passing, reader)?;
-    let shown = write_shown(alloc, passing.world(), writer);
-    mem::forget(passing);
-    shown
+    write_shown(alloc, passing.world(), writer)
 }
 
 /// Does with each line what `steps` does.

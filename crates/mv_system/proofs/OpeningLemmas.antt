@@ -5,12 +5,12 @@ use Rattle.std.specs.List.{range_with_len, All}
 use Rattle.std.proofs.lemmas.List.Elements.{All-nil}
 use Rattle.std.proofs.lemmas.List.FromFn.{get_or-map-range_with_len}
 use Rattle.mv_pairs.specs.Pairs.{IsSquare}
-use Rattle.mv_pairs.proofs.PairsLemmas.{table-all, cell-all, cell-any}
+use Rattle.mv_pairs.proofs.CallerLemmas.{table-all, cell-all, cell-any}
 use Rattle.mv_hub.specs.Hub.{HubState, new_hub, items_on}
 use Rattle.mv_party.specs.Site.{SiteState, new_site}
 use Rattle.mv_machine.specs.Limits.{Bounds, AreBounds}
 use Rattle.mv_machine.specs.State.{opening}
-use Rattle.mv_machine.proofs.LawfulLemmas.{IsSound, opening-sound}
+use Rattle.mv_machine.proofs.CallerLemmas.{IsSound, opening-sound}
 use Rattle.mv_system.specs.Wire.{WireState, new_wire, numbers_of}
 use Rattle.mv_link.specs.declared.limits.TheConstants.{PARTIES_LIMIT}
 use Rattle.mv_link.specs.Frames.{IsFrameOf}

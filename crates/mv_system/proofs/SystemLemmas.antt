@@ -13,13 +13,13 @@ use Rattle.mv_link.specs.declared.incoming.Look.{Look}
 use Rattle.mv_link.specs.declared.incoming.Look.TheVariants as look
 use Rattle.mv_link.specs.Frames.{IsFrameOf}
 use Rattle.mv_pairs.specs.Pairs.{cell, put, IsSquare}
-use Rattle.mv_pairs.proofs.PairsLemmas.{put-each, put-each_pair, square-put, square-map, cell-map, put-map}
+use Rattle.mv_pairs.proofs.CallerLemmas.{put-each, put-each_pair, square-put, square-map, cell-map, put-map}
 use Rattle.mv_hub.specs.declared.entry.Entry.{Entry}
 use Rattle.mv_hub.specs.Hub.{HubState, items_on, are_parties}
 use Rattle.mv_link.specs.declared.limits.TheConstants.{NUMBER_LIMIT}
-use Rattle.mv_link.proofs.LinkLemmas.{of_longer}
+use Rattle.mv_link.proofs.CallerLemmas.{of_longer, next-number}
 use Rattle.mv_hub.specs.Links.{link_items}
-use Rattle.mv_hub.proofs.RecordLemmas.{link_items-push}
+use Rattle.mv_hub.proofs.CallerLemmas.{link_items-push}
 use Rattle.mv_repository.specs.Query.{answer_to}
 use Rattle.mv_party.specs.declared.fault.SiteFault.{SiteFault}
 use Rattle.mv_party.specs.declared.fault.SiteFault.TheVariants.{Memory}
@@ -28,12 +28,10 @@ use Rattle.mv_party.specs.Site.{SiteState, new_site, entry_from, count_from, wit
 use Rattle.mv_link.specs.Fault.{FailsBy}
 use Rattle.mv_link.specs.Receiving.{look_at}
 use Rattle.mv_party.specs.Calls.{ask_fault, apply_fault, taken_by, with_taken}
-use Rattle.mv_link.proofs.LinkLemmas.{next-number}
-use Rattle.mv_party.proofs.SiteLemmas.{ask-free, answer-room}
+use Rattle.mv_party.proofs.CallerLemmas.{ask-free, answer-room}
 use Rattle.mv_machine.specs.State.{State, is_party, submissions_of, is_uplink_full, wire_of, log_of, site_of, with_site, with_wire, hub_of}
 use Rattle.mv_machine.specs.Steps.{next_item}
-use Rattle.mv_machine.proofs.LawfulLemmas.{IsSound, submitted-sound, applied-sound}
-use Rattle.mv_machine.proofs.BoundLemmas.{routed_count-few, record-few}
+use Rattle.mv_machine.proofs.CallerLemmas.{IsSound, submitted-sound, applied-sound, routed_count-few, stamps_suffice}
 use Rattle.mv_system.specs.Wire.{WireState, new_wire, numbers_of}
 use Rattle.mv_system.specs.World.{Parts, wire_at, site_at, state_of, FitsWire, IsSiteAt, IsSystem, Submits, OffersFront}
 use Rattle.mv_system.proofs.WireLemmas.{length-numbers_of, numbers_of-get, numbers_of-push, numbers_of-drop}
@@ -308,5 +306,8 @@ submissions-few p party k lt = omega (arith, ap length (submissions-at p party),
 -- the record is short enough for one more entry
 pub entries-short : {p : Parts} → IsSystem p → length p.hub.entries < NUMBER_LIMIT
 entries-short {p} k =
-    let few = record-few (length p.hub.parties) p.hub.entries k.lawful.of_record k.parties_most
-    (λ party lt. omega (arith, routed_count-few (state_of p) party k.lawful lt, submissions-few p party k lt, k.bounds.submissions_most)) in omega (arith, few)
+    omega (
+      arith,
+      stamps_suffice (length p.hub.parties) p.hub.entries k.lawful.of_record k.parties_most
+          (λ party lt. omega (arith, routed_count-few (state_of p) party k.lawful lt, submissions-few p party k lt, k.bounds.submissions_most)),
+    )

@@ -12,7 +12,7 @@ ghost use Rattle.mv_system.specs.Wire.{new_wire};
 use crate::opening::new_sites;
 use crate::wire::Wire;
 use mv_hub::{Entry, Hub, Parties};
-use mv_machine::{Limits, Reply, Step};
+use mv_machine::{Limits, Reply, Step, refusals_change_nothing, steps_keep_headline};
 use mv_message::{Message, Party, Shared};
 use mv_pack::PackKey;
 use mv_pairs::PairTable;
@@ -136,11 +136,11 @@ impl World {
         ensures unchanged { IsTrue (changes_nothing result) → self.new ≡ self.old }
         ensures headline { HeadlineHolds self.old self.new }
     {
-        // The state was lawful, and is: its record is looked at for that alone.
+        refusals_change_nothing();
+        steps_keep_headline();
+        // The state is lawful: its record is looked at for that alone.
         let _ = self.record();
-        let reply = self.take_step(step);
-        let _ = self.record();
-        reply
+        self.take_step(step)
     }
 
     /// Asks the other repositories about a pack, without a look at the party's own: the query is the last that the party
@@ -153,10 +153,10 @@ impl World {
         ensures unchanged { IsTrue (changes_nothing result) → self.new ≡ self.old }
         ensures headline { HeadlineHolds self.old self.new }
     {
+        refusals_change_nothing();
+        steps_keep_headline();
         let _ = self.record();
-        let reply = self.take_query(party, key);
-        let _ = self.record();
-        reply
+        self.take_query(party, key)
     }
 
     /// Takes steps in order. Refused for want of memory, it has taken none.

@@ -66,14 +66,15 @@ run_reported output plan (Err (faults.Memory outcome)) kept fails is = absurd (c
 run_reported output plan (Err faults.Start) kept fails is = absurd (cc)
 run_reported output plan (Err faults.Plan) kept fails is = absurd (cc)
 
--- why nothing is written of a run
-pub run_fails : (fault : ServeFault) (ran : Result State WorkFault) → (fault ≡ Memory) ⊎ (output_of ran ≡ Err fault) → (fault ≡ Memory) ⊎ (fault ≡ Start)
-run_fails fault ran (inl memory) = inl memory
-run_fails fault (Ok outcome) (inr is) = absurd (cc)
-run_fails fault (Err (faults.Unfinished outcome)) (inr is) = absurd (cc)
-run_fails fault (Err (faults.Memory outcome)) (inr is) = inl (cc)
-run_fails fault (Err faults.Start) (inr is) = inr (cc)
-run_fails fault (Err faults.Plan) (inr is) = inr (cc)
+-- why nothing is written of the run of a plan
+pub run_fails : (fault : ServeFault) (planned : Planned) (plan : Parts) (ran : Result State WorkFault) → planned ≡ Ok (Some plan)
+    → (fault ≡ Memory) ⊎ (output_of ran ≡ Err fault) → (fault ≡ Memory) ⊎ ((fault ≡ Start) × ((parts : Parts) × (planned ≡ Ok (Some parts))))
+run_fails fault planned plan ran plans (inl memory) = inl memory
+run_fails fault planned plan (Ok outcome) plans (inr is) = absurd (cc)
+run_fails fault planned plan (Err (faults.Unfinished outcome)) plans (inr is) = absurd (cc)
+run_fails fault planned plan (Err (faults.Memory outcome)) plans (inr is) = inl (cc)
+run_fails fault planned plan (Err faults.Start) plans (inr is) = inr (cc, (plan, plans))
+run_fails fault planned plan (Err faults.Plan) plans (inr is) = inr (cc, (plan, plans))
 
 -- the output of an input that was read went out
 pub worked_whole : (input : Option (List ℕ)) (planned : Planned) (old new : Option (List ℕ)) (text out : List ℕ) (finished : Bool)

@@ -1,13 +1,10 @@
 //! The command line: which words run what, and the exit status.
 
-ghost use Rattle.std.specs.Prelude.{◌≡◌, ◌≤◌, ℕ, List, None, map, codes, string_bytes, false, true};
+ghost use Rattle.std.specs.Prelude.{◌≡◌, ◌≤◌, map, string_bytes};
 ghost use Rattle.std.specs.Io.KnownBytes.{Keeps};
 ghost use Rattle.clap.specs.Values.{kind_of};
-ghost use Rattle.mv_lines.specs.Canon.{IsCanon};
-ghost use Rattle.mv_trail.specs.Trail.{IsEvent};
-ghost use Rattle.mv_words.specs.Words.{AsksFor, AsksForCanon, AsksForSteps, AsksForWork, AsksToExplain, AreNotTaken, AreMistaken, IsMistake};
-ghost use Rattle.mv_tool.specs.Commands.{RanCheck, RanExplain, RanLines, RanShow, RanStrict, RanWork};
-ghost use Rattle.mv_lines.specs.Sessions.{IsReply};
+ghost use Rattle.mv_words.specs.Words.{Asked, AsksFor, AreNotTaken, AreMistaken, IsMistake};
+ghost use Rattle.mv_tool.specs.Commands.{Ran};
 ghost use Rattle.mv_tool.specs.Statuses.{status_code};
 ghost use Rattle.mv_tool.specs.declared.status.Status.{Status as AStatus};
 
@@ -39,40 +36,11 @@ pub fn command<H: Threads + Wait + Sync, R: Read, W: Write, F: Write>(
     faults: &mut F,
 ) -> u8
     ensures few { result ≤ 2 }
-    ensures steps { AsksForSteps false (map string_bytes words.items) → (status : AStatus)
+    ensures ran { (asked : Asked) → AsksFor asked (map string_bytes words.items) → (status : AStatus)
         × (result ≡ status_code status)
-        × RanLines IsReply None status (R.remaining reader.old) (R.remaining reader.new)
-        (W.contents writer.old) (W.contents writer.new) }
-    ensures strict { AsksForSteps true (map string_bytes words.items) → (status : AStatus)
-        × (result ≡ status_code status)
-        × RanStrict status (R.remaining reader.old) (R.remaining reader.new)
+        × Ran asked status (R.remaining reader.old) (R.remaining reader.new)
         (W.contents writer.old) (W.contents writer.new)
         (F.contents faults.old) (F.contents faults.new) }
-    ensures trail { AsksFor (codes "trail") (map string_bytes words.items) → (status : AStatus)
-        × (result ≡ status_code status)
-        × RanLines IsEvent None status (R.remaining reader.old) (R.remaining reader.new)
-        (W.contents writer.old) (W.contents writer.new) }
-    ensures show { AsksFor (codes "show") (map string_bytes words.items) → (status : AStatus)
-        × (result ≡ status_code status)
-        × RanShow status (R.remaining reader.old) (R.remaining reader.new)
-        (W.contents writer.old) (W.contents writer.new) }
-    ensures canon { AsksForCanon false (map string_bytes words.items) → (status : AStatus)
-        × (result ≡ status_code status)
-        × RanLines IsCanon tt status (R.remaining reader.old) (R.remaining reader.new)
-        (W.contents writer.old) (W.contents writer.new) }
-    ensures check { AsksForCanon true (map string_bytes words.items) → (status : AStatus)
-        × (result ≡ status_code status)
-        × RanCheck status (R.remaining reader.old) (R.remaining reader.new)
-        (W.contents writer.old) (W.contents writer.new)
-        (F.contents faults.old) (F.contents faults.new) }
-    ensures work { (turns : ℕ) → AsksForWork turns (map string_bytes words.items) → (status : AStatus)
-        × (result ≡ status_code status)
-        × RanWork status (R.remaining reader.old) (R.remaining reader.new)
-        (W.contents writer.old) (W.contents writer.new) }
-    ensures explain { (given : List (List ℕ)) → AsksToExplain given (map string_bytes words.items) → (status : AStatus)
-        × (result ≡ status_code status)
-        × RanExplain given status (R.remaining reader.old) (R.remaining reader.new)
-        (W.contents writer.old) (W.contents writer.new) }
     ensures mistaken { AreMistaken (map string_bytes words.items) → result ≡ 2 }
     // Such words are mistaken, or a call for help.
     ensures unread { AreNotTaken (map string_bytes words.items)
@@ -92,32 +60,10 @@ fn run<H: Threads + Wait + Sync, R: Read, W: Write, F: Write>(
     writer: &mut W,
     faults: &mut F,
 ) -> Status
-    ensures steps { AsksForSteps false (map string_bytes words.now)
-        → RanLines IsReply None result (R.remaining reader.old) (R.remaining reader.new)
-        (W.contents writer.old) (W.contents writer.new) }
-    ensures strict { AsksForSteps true (map string_bytes words.now)
-        → RanStrict result (R.remaining reader.old) (R.remaining reader.new)
+    ensures ran { (asked : Asked) → AsksFor asked (map string_bytes words.now)
+        → Ran asked result (R.remaining reader.old) (R.remaining reader.new)
         (W.contents writer.old) (W.contents writer.new)
         (F.contents faults.old) (F.contents faults.new) }
-    ensures trail { AsksFor (codes "trail") (map string_bytes words.now)
-        → RanLines IsEvent None result (R.remaining reader.old) (R.remaining reader.new)
-        (W.contents writer.old) (W.contents writer.new) }
-    ensures show { AsksFor (codes "show") (map string_bytes words.now)
-        → RanShow result (R.remaining reader.old) (R.remaining reader.new)
-        (W.contents writer.old) (W.contents writer.new) }
-    ensures canon { AsksForCanon false (map string_bytes words.now)
-        → RanLines IsCanon tt result (R.remaining reader.old) (R.remaining reader.new)
-        (W.contents writer.old) (W.contents writer.new) }
-    ensures check { AsksForCanon true (map string_bytes words.now)
-        → RanCheck result (R.remaining reader.old) (R.remaining reader.new)
-        (W.contents writer.old) (W.contents writer.new)
-        (F.contents faults.old) (F.contents faults.new) }
-    ensures work { (turns : ℕ) → AsksForWork turns (map string_bytes words.now)
-        → RanWork result (R.remaining reader.old) (R.remaining reader.new)
-        (W.contents writer.old) (W.contents writer.new) }
-    ensures explain { (given : List (List ℕ)) → AsksToExplain given (map string_bytes words.now)
-        → RanExplain given result (R.remaining reader.old) (R.remaining reader.new)
-        (W.contents writer.old) (W.contents writer.new) }
     ensures mistaken { AreMistaken (map string_bytes words.now) → result ≡ Status.Refused }
     ensures unread { AreNotTaken (map string_bytes words.now)
         → Keeps (R.remaining reader.old) (R.remaining reader.new) }

@@ -5,7 +5,7 @@ ghost use Rattle.mv_workers.specs.Plans.{IsSound};
 ghost use Rattle.mv_plan.specs.Planning.{planned_of};
 ghost use Rattle.mv_plan.specs.Drafts.{Parts};
 ghost use Rattle.mv_report.specs.Report.{report_text};
-ghost use Rattle.mv_tool.specs.Working.{end_line, parts_of, output_of, IsReported, IsOutput, Worked, Failed};
+ghost use Rattle.mv_tool.specs.Working.{end_line, parts_of, output_of, IsOutput, Worked, Failed};
 
 use mv_ends::Outcome;
 use mv_lines::{OpenFault, ServeFault, put_out, refusal_text};
@@ -15,7 +15,6 @@ use mv_workers::{Gate, Plan, Work, WorkFault, run_workers};
 use std::alloc::Global;
 use std::io::{Read, Write};
 use std::marker::Sync;
-use std::mem;
 use std::sync::Wait;
 use std::thread::Threads;
 
@@ -70,7 +69,9 @@ fn carry_out<H: Threads + Wait + Sync, G: Gate>(
     match planned {
         Planned::Nothing => refusal(refusal_text(alloc, OpenFault::NotOpen.code())?),
         Planned::Refused(text) => refusal(text),
-        Planned::Plan(draft) => run(rt, alloc, plan_of(draft), turns, gate),
+        Planned::Plan(draft) => {
+            output_of(alloc, run_workers(rt, alloc, plan_of(draft), turns, gate))
+        }
     }
 }
 
@@ -102,22 +103,6 @@ fn refusal(text: String) -> Result<Output, ServeFault>
     })
 }
 
-/// The output of a plan: V3, V6.
-fn run<H: Threads + Wait + Sync, G: Gate>(
-    rt: &H,
-    alloc: Global,
-    plan: Plan,
-    turns: u32,
-    gate: &G,
-) -> Result<Output, ServeFault>
-    requires sound { IsSound plan }
-    ensures ok { IfOk result (λ output. IsReported (parts_of plan)
-        (string_bytes output.text) output.finished) }
-    ensures err { IfErr result (λ fault. (fault ≡ ServeFault.Memory) ⊎ (fault ≡ ServeFault.Start)) }
-{
-    output_of(alloc, run_workers(rt, alloc, plan, turns, gate))
-}
-
 /// The output of what a run came to: the report and `finished` of a complete outcome, the report and `unfinished` of one that is not
 /// complete. Where a worker was refused memory there is none, V3, nor where nothing was started, V6. What was gathered is not taken
 /// apart.
@@ -130,7 +115,7 @@ fn output_of(alloc: Global, run: Result<Outcome, WorkFault>) -> Result<Output, S
         Ok(outcome) => reported(alloc, outcome, true),
         Err(WorkFault::Unfinished(outcome)) => reported(alloc, outcome, false),
         Err(WorkFault::Memory(outcome)) => {
-            mem::forget(outcome);
+            outcome.leave();
             Err(ServeFault::Memory)
         }
         Err(WorkFault::Start | WorkFault::Plan) => Err(ServeFault::Start),
@@ -144,7 +129,7 @@ fn reported(alloc: Global, outcome: Outcome, finished: bool) -> Result<Output, S
     ensures err { IfErr result (λ fault. fault ≡ ServeFault.Memory) }
 {
     let written = report(alloc, &outcome);
-    mem::forget(outcome);
+    outcome.leave();
     let mut text = written?;
     if finished {
         text.push_str("finished\n")?;

@@ -19,7 +19,7 @@ use Rattle.mv_repository.specs.declared.verdict.Local.TheVariants.{Known as Know
 use Rattle.mv_repository.specs.declared.verdict.Verdict.{Verdict as AVerdict}
 use Rattle.mv_party.specs.Calls.{ask_fault, submit_fault, apply_fault}
 use Rattle.mv_party.specs.Site.{entry_from, answer_number, with_submission, with_applied}
-use Rattle.mv_party.proofs.SiteLemmas.{submit-free}
+use Rattle.mv_party.proofs.CallerLemmas.{submit-free}
 use Rattle.mv_machine.specs.declared.step.Step.{Step}
 use Rattle.mv_machine.specs.declared.step.Step.TheVariants.{Submit, Verify, Route, Relay, Apply, Repeat, Close, Lose, Verdict}
 use Rattle.mv_machine.specs.declared.reply.Reply.{Reply}
@@ -39,14 +39,7 @@ told tell event = option_to_list (option_and_then tell event)
 -- a refused step has no event
 refused-silent : (step : Step) (refusal : Refusal) (st : State) → event_of_step step (replies.Refused refusal) st ≡ None
 refused-silent (Submit from message) refusal st = refl
-refused-silent (Verify party key) refusal st = refl
-refused-silent (Route from) refusal st = refl
-refused-silent (Relay from to) refusal st = refl
-refused-silent (Apply from to) refusal st = refl
-refused-silent (Repeat from to number) refusal st = refl
-refused-silent (Close from to) refusal st = refl
-refused-silent (Lose from to) refusal st = refl
-refused-silent (Verdict party q) refusal st = refl
+refused-silent _ refusal st = refl
 
 -- a reply and the state that a step leaves
 abbrev pub done : Reply → State → Answered

@@ -4,10 +4,10 @@ use Rattle.std.proofs.lemmas.Bool.{eqb-false}
 use Rattle.std.proofs.lemmas.List.{length-map, map-append, set-get_or}
 use Rattle.std.specs.Prelude.{option_and_then}
 use Rattle.mv_message.specs.declared.message.Message.{Message}
-use Rattle.mv_message.specs.declared.message.Message.TheVariants.{Master, Upload, Status, Recall, Repack, Withdraw, Query, Answer}
+use Rattle.mv_message.specs.declared.message.Message.TheVariants.{Query, Answer}
 use Rattle.mv_message.specs.Kinds.{is_query_or_answer}
 use Rattle.mv_link.specs.declared.item.Item.{Item}
-use Rattle.mv_link.specs.declared.item.Item.TheVariants.{Receipt, Carried}
+use Rattle.mv_link.specs.declared.item.Item.TheVariants.{Carried}
 use Rattle.mv_hub.specs.declared.entry.Entry.{Entry}
 use Rattle.mv_hub.specs.declared.entry.Entry.TheVariants as entries
 use Rattle.mv_hub.specs.Hub.{are_parties}
@@ -18,7 +18,7 @@ use Rattle.mv_repository.specs.declared.verdict.Joint.{Joint}
 use Rattle.mv_repository.specs.declared.verdict.Joint.TheVariants.{NotAsked, Pending, Decided}
 use Rattle.mv_repository.specs.Query.{answer_to, answer_after}
 use Rattle.mv_party.specs.Site.{entry_from, answer_number, with_applied}
-use Rattle.mv_machine.proofs.PrefixLemmas.{slice_get-behind}
+use Rattle.mv_machine.proofs.CallerLemmas.{slice_get-behind}
 use Rattle.mv_machine.specs.declared.reply.Reply.TheVariants as replies
 use Rattle.mv_machine.specs.declared.step.Step.TheVariants as steps
 use Rattle.mv_machine.specs.State.{State, submissions_of, log_of, hub_of, is_party, site_of, with_site, with_wire}
@@ -158,26 +158,13 @@ module _ (party : ℕ) (st : State) (well_formed : IsWellFormed st) where
 
 -- what a repository answers is an answer
 answers-are : (log : List LogEntry) (sender : ℕ) (item : Item) → option_and_then unless_answer (answer_after log sender item) ≡ None
-answers-are log sender (Receipt k reach query) = refl
-answers-are log sender (Carried k stamp (Master gtin product)) = refl
-answers-are log sender (Carried k stamp (Upload gtin batch expiry national serials)) = refl
-answers-are log sender (Carried k stamp (Status key to user at)) = refl
-answers-are log sender (Carried k stamp (Recall key at)) = refl
-answers-are log sender (Carried k stamp (Repack before before_serials after after_serials at)) = refl
-answers-are log sender (Carried k stamp (Withdraw gtin at)) = refl
 answers-are log sender (Carried k stamp (Query key)) = refl
-answers-are log sender (Carried k stamp (Answer asker q key found)) = refl
+answers-are log sender _ = refl
 
 -- what a party submits itself is none
 own-is_none : (message : Message) → is_query_or_answer message ≡ false → unless_answer message ≡ Some message
 own-is_none (Answer asker q key found) e = absurd (cc)
-own-is_none (Master gtin product) e = refl
-own-is_none (Upload gtin batch expiry national serials) e = refl
-own-is_none (Status key to user at) e = refl
-own-is_none (Recall key at) e = refl
-own-is_none (Repack before before_serials after after_serials at) e = refl
-own-is_none (Withdraw gtin at) e = refl
-own-is_none (Query key) e = refl
+own-is_none _ e = refl
 
 -- what is kept of some submissions
 abbrev kept_submissions : List Message → List (ℕ × Option Message)

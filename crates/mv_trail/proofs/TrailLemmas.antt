@@ -7,8 +7,7 @@ use Rattle.mv_machine.specs.declared.reply.Reply.{Reply}
 use Rattle.mv_machine.specs.Limits.{Bounds, limits_of}
 use Rattle.mv_machine.specs.State.{State, opening, submissions_of, log_of}
 use Rattle.mv_machine.specs.Runs.{Allows}
-use Rattle.mv_machine.proofs.LawfulLemmas.{IsSound, change-sound, opening-sound}
-use Rattle.mv_machine.proofs.StepLemmas.{step-changes}
+use Rattle.mv_machine.proofs.CallerLemmas.{IsSound, change-sound, opening-sound, step-changes}
 use Rattle.mv_hub.specs.Parties.{parties_of}
 use Rattle.mv_json.specs.Reading.{map_err}
 use Rattle.mv_lines.specs.declared.answered.Answered.{Answered}

@@ -11,23 +11,24 @@ use mv_lines::{Answering, ServeFault, Session, answer_lines};
 use std::alloc::{AllocError, Global};
 use std::io::{Read, Write};
 use std::marker::Model;
-use std::mem;
+use std::mem::ManuallyDrop;
 
 /// What answers each line by its event. It is seen as what is open.
 #[derive(Drop)]
 struct Recorder {
     /// What memory is got from.
     alloc: Global,
-    /// What takes the lines.
-    session: Session,
+    /// What takes the lines. What is open at the end is not taken apart.
+    session: ManuallyDrop<Session>,
 }
 
 impl Model for Recorder {
+    ghost use Rattle.std.specs.Mem.{manually_drop_value};
     ghost use Rattle.mv_lines.specs.Sessions.{Open};
 
     ghost Value = { Open };
 
-    ghost view = { λ r. r.session };
+    ghost view = { λ r. manually_drop_value r.session };
 }
 
 impl Answering for Recorder {
@@ -59,9 +60,7 @@ pub fn trail<R: Read, W: Write>(
 {
     let mut recorder = Recorder {
         alloc,
-        session: Session::new(alloc),
+        session: Session::last(alloc),
     };
-    let ended = answer_lines(alloc, &mut recorder, reader, writer);
-    mem::forget(recorder);
-    ended
+    answer_lines(alloc, &mut recorder, reader, writer)
 }

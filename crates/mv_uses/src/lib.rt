@@ -18,4 +18,4 @@ pub use calls::{ask_and_run, run_twice, step_twice};
 pub use ends::{outcome_in_turn, verdicts_in_one_outcome};
 pub use histories::have_same_history;
 pub use refusals::{ask_twice_at_most, step_twice_at_most, submit_twice_at_most};
-pub use verdicts::{verdicts_after_two_runs, verdicts_in_one_system, verdicts_in_two_systems};
+pub use verdicts::{verdicts_in_one_system, verdicts_in_two_systems};

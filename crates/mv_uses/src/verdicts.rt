@@ -1,11 +1,11 @@
 //! The verdicts of two repositories that agree on a pack.
 
-ghost use Rattle.std.specs.Prelude.{◌≡◌, ◌<◌, ℕ, length, IsTrue};
+ghost use Rattle.std.specs.Prelude.{◌≡◌, IsTrue};
 ghost use Rattle.mv_repository.specs.Agreement.{HasDistinctStamps, HaveSameAbout};
 ghost use Rattle.mv_repository.specs.Verdict.{local_verdict};
-ghost use Rattle.mv_machine.specs.State.{is_party, log_of, applied_count};
+ghost use Rattle.mv_machine.specs.State.{is_party, log_of};
 
-use mv_machine::{records_decide, stamps_are_distinct};
+use mv_machine::stamps_are_distinct;
 use mv_message::Party;
 use mv_pack::PackKey;
 use mv_repository::{Local, same_messages_agree};
@@ -56,29 +56,4 @@ pub fn verdicts_in_two_systems(
 {
     same_messages_agree();
     (verdict_of(left, one, pack), verdict_of(right, other, pack))
-}
-
-/// The verdicts of a party's repository on a pack behind two runs, each by steps of its own, from the same parties: where they came to
-/// the same record, and the repository applied as many items of each sender behind both, the verdicts are one.
-pub fn verdicts_after_two_runs(
-    left: &World,
-    right: &World,
-    party: Party,
-    pack: &PackKey,
-) -> (Local, Local)
-    requires here { IsTrue (is_party left.now party) }
-    requires there { IsTrue (is_party right.now party) }
-    requires parties { right.now.parties ≡ left.now.parties }
-    ensures first { result.0 ≡ local_verdict pack.now (log_of left.now party) }
-    ensures agreed { right.now.entries ≡ left.now.entries
-        → ((from : ℕ) → from < length left.now.parties → applied_count right.now from party ≡ applied_count left.now from party)
-        → result.0 ≡ result.1 }
-{
-    records_decide();
-    let _ = left.record();
-    let _ = right.record();
-    (
-        verdict_of(left, party, pack),
-        verdict_of(right, party, pack),
-    )
 }

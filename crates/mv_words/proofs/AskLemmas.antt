@@ -1,5 +1,5 @@
 -- Words that the command line takes, and what they ask for.
-use Rattle.std.proofs.Common.{◌≡◌, ◌<◌, ◌+◌, ◌-◌, ℕ, zero, suc, List, [], ◌∷◌, ◌++◌, codes, true, false, None, Some, refl, ap, sym, ◌==◌, eqb-true, ◌∙◌, option_map, inl, inr, length, arith, rules, subst}
+use Rattle.std.proofs.Common.{◌≡◌, ◌<◌, ◌+◌, ◌-◌, ℕ, zero, suc, List, [], ◌∷◌, ◌++◌, codes, true, false, None, Some, refl, ap, sym, ◌==◌, eqb-true, ◌∙◌, inl, inr, length, arith, rules, subst}
 use Rattle.std.specs.Prelude.{Bool, if◌then◌else◌}
 use Rattle.std.specs.Char.{digit_value}
 use Rattle.std.specs.Str.Parse.{IsNumeral, digits_value, without_leading_plus}
@@ -10,11 +10,11 @@ use Rattle.clap.specs.declared.builder.value_parser.ValueParser.TheVariants.{Uns
 use Rattle.clap.specs.declared.builder.value_parser.Reading.TheVariants.{AsWritten}
 use Rattle.clap.specs.declared.parser.matches.ValueSource.TheVariants.{CommandLine, DefaultValue}
 use Rattle.clap.proofs.ValueTestLemmas.{Accepts-accepts}
-use Rattle.clap.specs.Words.{Row, one_of, subcommand_of, fault_of}
+use Rattle.clap.specs.Words.{Row, subcommand_of, fault_of}
 use Rattle.clap.specs.declared.error.kind.ErrorKind.{ErrorKind}
 use Rattle.clap.specs.declared.error.kind.ErrorKind.TheVariants.{UnknownArgument, ValueValidation}
 use Rattle.clap.proofs.OnLiterals.{clap_on_literals}
-use Rattle.mv_words.specs.Words.{command_line, AreMistaken, AsksFor, AsksForCanon, AsksForSteps, GiveTurns, IsMistake, MinusIsMistaken, OptionAsks, WordsAsk, WritesTurns}
+use Rattle.mv_words.specs.Words.{command_line, AreMistaken, Canon, Check, GiveTurns, IsMistake, MinusIsMistaken, OptionAsks, Show, Steps, Strict, Trail, WordsAsk, WritesTurns}
 
 -- the matches of an option that is given or not
 abbrev flag_rows : List ℕ → Bool → List Row
@@ -27,30 +27,29 @@ flag_rows flag is_given = record {
 } ∷ []
 
 -- the command line takes these words, and the option is given or not
-pub steps_asks : WordsAsk (AsksForSteps false) (codes "steps" ∷ [])
+pub steps_asks : WordsAsk Steps (codes "steps" ∷ [])
 unfolding clap_on_literals
-steps_asks program = (refl, flag_rows (codes "strict") false, refl, refl)
+steps_asks program = (refl, codes "steps", flag_rows (codes "strict") false, refl, (refl, refl))
 
-pub strict_asks : WordsAsk (AsksForSteps true) (codes "steps" ∷ codes "--strict" ∷ [])
+pub strict_asks : WordsAsk Strict (codes "steps" ∷ codes "--strict" ∷ [])
 unfolding clap_on_literals
-strict_asks program = (refl, flag_rows (codes "strict") true, refl, refl)
+strict_asks program = (refl, codes "steps", flag_rows (codes "strict") true, refl, (refl, refl))
 
-pub canon_asks : WordsAsk (AsksForCanon false) (codes "canon" ∷ [])
+pub canon_asks : WordsAsk Canon (codes "canon" ∷ [])
 unfolding clap_on_literals
-canon_asks program = (refl, flag_rows (codes "check") false, refl, refl)
+canon_asks program = (refl, codes "canon", flag_rows (codes "check") false, refl, (refl, refl))
 
-pub check_asks : WordsAsk (AsksForCanon true) (codes "canon" ∷ codes "--check" ∷ [])
+pub check_asks : WordsAsk Check (codes "canon" ∷ codes "--check" ∷ [])
 unfolding clap_on_literals
-check_asks program = (refl, flag_rows (codes "check") true, refl, refl)
+check_asks program = (refl, codes "canon", flag_rows (codes "check") true, refl, (refl, refl))
 
--- the command line takes these words, and this is the subcommand
-pub trail_asks : WordsAsk (AsksFor (codes "trail")) (codes "trail" ∷ [])
+pub trail_asks : WordsAsk Trail (codes "trail" ∷ [])
 unfolding clap_on_literals
-trail_asks program = (refl, refl)
+trail_asks program = (refl, codes "trail", [], refl, refl)
 
-pub show_asks : WordsAsk (AsksFor (codes "show")) (codes "show" ∷ [])
+pub show_asks : WordsAsk Show (codes "show" ∷ [])
 unfolding clap_on_literals
-show_asks program = (refl, refl)
+show_asks program = (refl, codes "show", [], refl, refl)
 
 -- the option takes a number of turns
 turns_pass : (turns : ℕ) (text : List ℕ) → WritesTurns turns text → accepts false (Unsigned 0 4294967295) text ≡ true
@@ -154,17 +153,14 @@ given_met program (d ∷ ds) option turns writes (inl two) =
 given_met program (d ∷ ds) option turns writes (inr one) =
     ap (λ words. subcommand_of command_line (program ∷ codes "work" ∷ words)) one ∙ joined_met program ds d
 
--- the number of turns is read as it is written
-work_turns : (turns : ℕ) (text : List ℕ) → WritesTurns turns text → one_of (codes "turns") (turns_rows text) ≡ Some text
-work_turns turns text writes = refl
-
 -- so these words ask for `work` with this number
 pub option_asks : OptionAsks
 option_asks program text option turns writes gives = (
   given_taken program text option turns writes gives,
+  codes "work",
   turns_rows text,
   given_met program text option turns writes gives,
-  (text, work_turns turns text writes, writes),
+  (refl, text, refl, writes),
 )
 
 -- a number of turns with a minus before it does not pass

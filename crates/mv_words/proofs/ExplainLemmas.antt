@@ -1,6 +1,6 @@
 -- The words of `explain`.
-use Rattle.std.proofs.Common.{◌≡◌, ◌≢◌, ◌<◌, ◌==◌, ◌++◌, ◌∷◌, ◌^◌, ℕ, List, [], codes, true, false, None, Some, refl, ap, ap₂, sym, ◌∙◌, append-nil, append_assoc, length, map, option_map, arith}
-use Rattle.std.specs.Prelude.{Bool, fold, is_some, nat_lt, slice_get}
+use Rattle.std.proofs.Common.{◌≡◌, ◌<◌, ◌==◌, ◌++◌, ◌∷◌, ◌^◌, ℕ, List, [], codes, false, None, Some, refl, ap, ap₂, sym, ◌∙◌, append-nil, append_assoc, length, arith}
+use Rattle.std.specs.Prelude.{fold, is_some, nat_lt}
 use Rattle.std.specs.List.{AllByRecursion}
 use Rattle.std.specs.Str.{bytes_eq}
 use Rattle.clap.specs.Lexer.{strip_byte, usize_max}
@@ -14,7 +14,7 @@ use Rattle.clap.specs.Words.{Row, fault_of, subcommand_of}
 use Rattle.clap.specs.declared.builder.value_parser.Reading.TheVariants.{AsWritten}
 use Rattle.clap.specs.declared.parser.matches.ValueSource.TheVariants.{CommandLine}
 use Rattle.clap.proofs.OnLiterals.{clap_on_literals}
-use Rattle.mv_words.specs.Words.{command_line, explain_app, AsksToExplain, ExplainAsks, HasNoMinus}
+use Rattle.mv_words.specs.Words.{command_line, explain_app, ExplainAsks, HasNoMinus}
 
 -- a walk that stopped at a subcommand
 abbrev stopped_walk : Walk → Text → List Text → Walk
@@ -185,4 +185,4 @@ module _ (word : Text) (words : List Text) (few : length (word ∷ words) < 2 ^ 
 pub explain_asks : ExplainAsks
 explain_asks program [] some few plain = absurd (omega (arith, some))
 explain_asks program (word ∷ words) some few plain =
-    (explain_taken word words few plain program, code_rows (word ∷ words), explain_met word words few plain program, refl)
+    (explain_taken word words few plain program, codes "explain", code_rows (word ∷ words), explain_met word words few plain program, (refl, refl))

@@ -1,5 +1,5 @@
 -- The command line of the program, the words that it takes, and what they ask for.
-use Rattle.std.specs.Prelude.{◌≡◌, ◌≢◌, ◌<◌, ◌^◌, ◌⊎◌, ℕ, Bool, List, [], ◌∷◌, ◌++◌, codes, true, Option, Some, if◌then◌else◌, length, map, option_map, slice_get}
+use Rattle.std.specs.Prelude.{◌≡◌, ◌≢◌, ◌<◌, ◌^◌, ◌⊎◌, ℕ, Bool, List, [], ◌∷◌, ◌++◌, codes, false, true, fold, Some, if◌then◌else◌, length, map, slice_get}
 use Rattle.std.specs.List.{AllByRecursion}
 use Rattle.std.specs.Str.Parse.{IsNumeral, digits_value, without_leading_plus}
 use Rattle.clap.specs.Lexer.{usize_max}
@@ -10,7 +10,7 @@ use Rattle.clap.specs.Simple.{new_shape, on_top}
 use Rattle.clap.specs.declared.error.kind.ErrorKind.{ErrorKind}
 use Rattle.clap.specs.declared.error.kind.ErrorKind.TheVariants.{DisplayHelp, DisplayVersion}
 use Rattle.mv_words.specs.declared.task.Task.{Task}
-use Rattle.mv_words.specs.declared.task.Task.TheVariants.{Explain}
+use Rattle.mv_words.specs.declared.task.Task.TheVariants as tasks
 
 -- `mvhub`, of which a subcommand is required; it tells its version, and without words how it is called
 abbrev pub mvhub : App
@@ -52,70 +52,70 @@ work_app = with_rule (new_app (codes "work")) turns_rule
 abbrev pub explain_app : App
 explain_app = with_rule (new_app (codes "explain")) code_rule
 
--- a command line with `steps`, `trail` and `show`
-abbrev pub with_steps : App → App
-with_steps line =
-    with_subcommand (with_subcommand (with_subcommand line steps_app.top) (new_shape (codes "trail"))) (new_shape (codes "show"))
-
--- a command line with `canon`, `work` and `explain`
-abbrev pub with_others : App → App
-with_others line = with_subcommand (with_subcommand (with_subcommand line canon_app.top) work_app.top) explain_app.top
-
 -- the command line: `mvhub` with these six subcommands
 abbrev pub command_line : App
-command_line = with_others (with_steps mvhub)
+command_line =
+    fold with_subcommand mvhub
+    (steps_app.top ∷ new_shape (codes "trail") ∷ new_shape (codes "show") ∷ canon_app.top ∷ work_app.top ∷ explain_app.top ∷ [])
 
--- the command line takes the words, and this is the name of the subcommand that they name
-abbrev pub AsksFor : List ℕ → List (List ℕ) → Type 0
-AsksFor name words =
-    (fault_of command_line words ≡ []) × (option_map (λ p. p.0) (subcommand_of command_line words) ≡ Some name)
+-- What words may ask for, each by its subcommand, and by its option where it has one: what contracts see of a task.
+pub data Asked : Type 0 where
+  Steps : Asked
+  Strict : Asked
+  Trail : Asked
+  Show : Asked
+  Canon : Asked
+  Check : Asked
+  Work : ℕ → Asked  -- with so many turns
+  Explain : List (List ℕ) → Asked  -- of these words
 
--- the command line takes the words, and this holds of the matches of the subcommand of this name, which they name
-abbrev pub AsksWith : List ℕ → (List Row → Type 0) → List (List ℕ) → Type 0
-AsksWith name Holds words =
-    (fault_of command_line words ≡ []) × (rows : List Row) × (subcommand_of command_line words ≡ Some (name, rows)) × Holds rows
+-- what a task was asked for by
+abbrev pub asked_of : Task → Asked
+asked_of tasks.Steps = Steps
+asked_of tasks.Strict = Strict
+asked_of tasks.Trail = Trail
+asked_of tasks.Show = Show
+asked_of tasks.Canon = Canon
+asked_of tasks.Check = Check
+asked_of (tasks.Work turns) = Work turns
+asked_of (tasks.Explain words) = Explain (map (λ word. word.now) words.items)
 
 -- whether an option was given that has no value
 abbrev pub HasFlag : List ℕ → Bool → List Row → Type 0
 HasFlag flag is_given rows = one_of flag rows ≡ Some (if is_given then codes "true" else codes "false")
 
--- the words ask for `steps`, with `--strict` or without it
-abbrev pub AsksForSteps : Bool → List (List ℕ) → Type 0
-AsksForSteps is_strict = AsksWith (codes "steps") (HasFlag (codes "strict") is_strict)
-
--- the words ask for `canon`, with `--check` or without it
-abbrev pub AsksForCanon : Bool → List (List ℕ) → Type 0
-AsksForCanon is_check = AsksWith (codes "canon") (HasFlag (codes "check") is_check)
-
 -- the text is decimal digits, in front of which one plus may stand and no minus, and they write this number, which is one of 32 bits
 abbrev pub WritesTurns : ℕ → List ℕ → Type 0
 WritesTurns turns text = IsNumeral 10 (without_leading_plus text) × (digits_value 10 (without_leading_plus text) ≡ turns) × (turns < 2 ^ 32)
+
+-- a subcommand of this name, with these matches, is for it
+abbrev pub IsFor : Asked → List ℕ → List Row → Type 0
+IsFor Steps name rows = (name ≡ codes "steps") × HasFlag (codes "strict") false rows
+IsFor Strict name rows = (name ≡ codes "steps") × HasFlag (codes "strict") true rows
+IsFor Trail name rows = name ≡ codes "trail"
+IsFor Show name rows = name ≡ codes "show"
+IsFor Canon name rows = (name ≡ codes "canon") × HasFlag (codes "check") false rows
+IsFor Check name rows = (name ≡ codes "canon") × HasFlag (codes "check") true rows
+IsFor (Work turns) name rows = (name ≡ codes "work") × (text : List ℕ) × (one_of (codes "turns") rows ≡ Some text) × WritesTurns turns text
+IsFor (Explain words) name rows = (name ≡ codes "explain") × (all_of (codes "code") rows ≡ Some words)
+
+-- the words ask for this: the command line takes them, and they name a subcommand that is for it
+abbrev pub AsksFor : Asked → List (List ℕ) → Type 0
+AsksFor asked words = (fault_of command_line words ≡ [])
+    × (name : List ℕ) × (rows : List Row) × (subcommand_of command_line words ≡ Some (name, rows)) × IsFor asked name rows
 
 -- the words are the option of `work` with this text: `--turns` and the text, or both in one word with `=` between them
 abbrev pub GiveTurns : List ℕ → List (List ℕ) → Type 0
 GiveTurns text words = (words ≡ codes "--turns" ∷ text ∷ []) ⊎ (words ≡ (codes "--turns=" ++ text) ∷ [])
 
--- the words ask for `work`, and the text of its option writes this number
-abbrev pub AsksForWork : ℕ → List (List ℕ) → Type 0
-AsksForWork turns = AsksWith (codes "work") (λ rows. (text : List ℕ) × (one_of (codes "turns") rows ≡ Some text) × WritesTurns turns text)
-
--- the words ask for `explain` with these words
-abbrev pub AsksToExplain : List (List ℕ) → List (List ℕ) → Type 0
-AsksToExplain given = AsksWith (codes "explain") (λ rows. all_of (codes "code") rows ≡ Some given)
-
--- the task is to explain these words
-abbrev pub IsToExplain : List (List ℕ) → Option Task → Type 0
-IsToExplain given (Some (Explain words)) = map (λ word. word.now) words.items ≡ given
-IsToExplain given _ = ⊥
-
 -- the program's name and these words ask for this
-abbrev pub WordsAsk : (List (List ℕ) → Type 0) → List (List ℕ) → Type 0
-WordsAsk Asks words = (program : List ℕ) → Asks (program ∷ words)
+abbrev pub WordsAsk : Asked → List (List ℕ) → Type 0
+WordsAsk asked words = (program : List ℕ) → AsksFor asked (program ∷ words)
 
 -- the program's name, `work` and its option ask for `work` with the number that the option gives
 abbrev pub OptionAsks : Type 0
 OptionAsks = (program text : List ℕ) (option : List (List ℕ)) (turns : ℕ) → WritesTurns turns text → GiveTurns text option
-    → AsksForWork turns (program ∷ codes "work" ∷ option)
+    → AsksFor (Work turns) (program ∷ codes "work" ∷ option)
 
 -- the word does not begin with a minus (45)
 abbrev pub HasNoMinus : List ℕ → Type 0
@@ -124,7 +124,7 @@ HasNoMinus word = slice_get word 0 ≢ Some 45
 -- the program's name, `explain` and one word or more, none of which begins with a minus, ask for `explain` with these words
 abbrev pub ExplainAsks : Type 0
 ExplainAsks = (program : List ℕ) (given : List (List ℕ)) → 0 < length given → length given < 2 ^ 64 → AllByRecursion HasNoMinus given
-    → AsksToExplain given (program ∷ codes "explain" ∷ given)
+    → AsksFor (Explain given) (program ∷ codes "explain" ∷ given)
 
 -- the command line does not take the words
 abbrev pub AreNotTaken : List (List ℕ) → Type 0

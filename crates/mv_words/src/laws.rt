@@ -1,36 +1,36 @@
 //! Laws over the definitions alone, of the words of the command line.
 
-ghost use Rattle.std.specs.Prelude.{[], ◌∷◌, codes, false, true};
-ghost use Rattle.mv_words.specs.Words.{AsksFor, AsksForCanon, AsksForSteps, ExplainAsks, MinusIsMistaken, OptionAsks, WordsAsk};
+ghost use Rattle.std.specs.Prelude.{[], ◌∷◌, codes};
+ghost use Rattle.mv_words.specs.Words.{Canon, Check, ExplainAsks, MinusIsMistaken, OptionAsks, Show, Steps, Strict, Trail, WordsAsk};
 
 /// The words `mvhub steps` ask for `steps`, whatever the program's name is.
 pub fn steps_named()
-    ensures { WordsAsk (AsksForSteps false) (codes "steps" ∷ []) }
+    ensures { WordsAsk Steps (codes "steps" ∷ []) }
 {}
 
 /// The words `mvhub steps --strict` ask for `steps` with its option.
 pub fn strict_named()
-    ensures { WordsAsk (AsksForSteps true) (codes "steps" ∷ codes "--strict" ∷ []) }
+    ensures { WordsAsk Strict (codes "steps" ∷ codes "--strict" ∷ []) }
 {}
 
 /// The words `mvhub trail` ask for `trail`.
 pub fn trail_named()
-    ensures { WordsAsk (AsksFor (codes "trail")) (codes "trail" ∷ []) }
+    ensures { WordsAsk Trail (codes "trail" ∷ []) }
 {}
 
 /// The words `mvhub show` ask for `show`.
 pub fn show_named()
-    ensures { WordsAsk (AsksFor (codes "show")) (codes "show" ∷ []) }
+    ensures { WordsAsk Show (codes "show" ∷ []) }
 {}
 
 /// The words `mvhub canon` ask for `canon`.
 pub fn canon_named()
-    ensures { WordsAsk (AsksForCanon false) (codes "canon" ∷ []) }
+    ensures { WordsAsk Canon (codes "canon" ∷ []) }
 {}
 
 /// The words `mvhub canon --check` ask for `canon` with its option.
 pub fn check_named()
-    ensures { WordsAsk (AsksForCanon true) (codes "canon" ∷ codes "--check" ∷ []) }
+    ensures { WordsAsk Check (codes "canon" ∷ codes "--check" ∷ []) }
 {}
 
 /// The words `mvhub work --turns N` and `mvhub work --turns=N` ask for `work` with the number that N writes.

@@ -1,10 +1,10 @@
 //! What the words of the command line ask for.
 
-ghost use Rattle.std.specs.Prelude.{◌≡◌, ℕ, List, MatchResult, IfOk, Some, false, map, codes, string_bytes, true};
-ghost use Rattle.clap.specs.Words.{all_of, fault_of, FailsBy, found_of, one_of, Row, rows_of, subcommand_name_of, subcommand_rows_of};
+ghost use Rattle.std.specs.Prelude.{◌≡◌, ℕ, List, [], false, true, MatchResult, IfOk, Some, map, codes, option_map, string_bytes};
+ghost use Rattle.clap.specs.Words.{all_of, fault_of, FailsBy, found_of, one_of, Row, rows_of, subcommand_of, subcommand_rows_of};
 ghost use Rattle.clap.specs.Values.{kind_of};
 ghost use Rattle.clap.specs.declared.error.kind.ErrorKind.TheVariants.{OutOfMemory};
-ghost use Rattle.mv_words.specs.Words.{command_line, AsksFor, AsksForCanon, AsksForSteps, AsksForWork, AsksToExplain, HasFlag, IsToExplain, WritesTurns};
+ghost use Rattle.mv_words.specs.Words.{command_line, Asked, AsksFor, Explain, HasFlag, IsFor, Work, WritesTurns, asked_of};
 
 use crate::words::command_line;
 use clap::{ArgMatches, Error};
@@ -39,97 +39,71 @@ pub enum Task<'a> {
 
 /// What the words ask for, or why they ask for nothing.
 pub fn task_of<'a>(alloc: Global, words: &'a [String]) -> Result<Option<Task<'a>>, Error>
-    ensures steps { AsksForSteps false (map string_bytes words.now) → MatchResult result
-        (λ task. task ≡ Some Task.Steps) (λ error. kind_of error ≡ OutOfMemory) }
-    ensures strict { AsksForSteps true (map string_bytes words.now) → MatchResult result
-        (λ task. task ≡ Some Task.Strict) (λ error. kind_of error ≡ OutOfMemory) }
-    ensures trail { AsksFor (codes "trail") (map string_bytes words.now) → MatchResult result
-        (λ task. task ≡ Some Task.Trail) (λ error. kind_of error ≡ OutOfMemory) }
-    ensures show { AsksFor (codes "show") (map string_bytes words.now) → MatchResult result
-        (λ task. task ≡ Some Task.Show) (λ error. kind_of error ≡ OutOfMemory) }
-    ensures canon { AsksForCanon false (map string_bytes words.now) → MatchResult result
-        (λ task. task ≡ Some Task.Canon) (λ error. kind_of error ≡ OutOfMemory) }
-    ensures check { AsksForCanon true (map string_bytes words.now) → MatchResult result
-        (λ task. task ≡ Some Task.Check) (λ error. kind_of error ≡ OutOfMemory) }
-    ensures work { (turns : ℕ) → AsksForWork turns (map string_bytes words.now)
-        → MatchResult result
-        (λ task. task ≡ Some (Task.Work turns)) (λ error. kind_of error ≡ OutOfMemory) }
-    ensures explain { (given : List (List ℕ)) → AsksToExplain given (map string_bytes words.now)
-        → MatchResult result
-        (λ task. IsToExplain given task) (λ error. kind_of error ≡ OutOfMemory) }
+    ensures task { (asked : Asked) → AsksFor asked (map string_bytes words.now) → MatchResult result
+        (λ task. option_map asked_of task ≡ Some asked) (λ error. kind_of error ≡ OutOfMemory) }
     ensures taken { FailsBy (fault_of command_line (map string_bytes words.now)) result }
 {
-    let line = command_line(alloc)?;
-    let matches = line.try_get_matches_from(words)?;
+    let matches = matches_of(alloc, words)?;
     Ok(task_named(alloc, &matches)?)
 }
 
-/// The task that the subcommand names.
+/// What the command line finds in the words.
+fn matches_of<'a>(alloc: Global, words: &'a [String]) -> Result<ArgMatches<'a>, Error>
+    ensures named { fault_of command_line (map string_bytes words.now) ≡ [] → MatchResult result
+        (λ matches. subcommand_rows_of matches ≡ subcommand_of command_line (map string_bytes words.now))
+        (λ error. kind_of error ≡ OutOfMemory) }
+    ensures taken { FailsBy (fault_of command_line (map string_bytes words.now)) result }
+{
+    command_line(alloc)?.try_get_matches_from(words)
+}
+
+/// The task of the subcommand that was found.
 fn task_named<'a>(alloc: Global, matches: &ArgMatches<'a>) -> Result<Option<Task<'a>>, AllocError>
-    ensures steps { (rows : List Row) → subcommand_rows_of matches.now ≡ Some (codes "steps", rows)
-        → HasFlag (codes "strict") false rows → IfOk result (λ task. task ≡ Some Task.Steps) }
-    ensures strict { (rows : List Row) → subcommand_rows_of matches.now ≡ Some (codes "steps", rows)
-        → HasFlag (codes "strict") true rows → IfOk result (λ task. task ≡ Some Task.Strict) }
-    ensures trail { subcommand_name_of matches.now ≡ Some (codes "trail")
-        → IfOk result (λ task. task ≡ Some Task.Trail) }
-    ensures show { subcommand_name_of matches.now ≡ Some (codes "show")
-        → IfOk result (λ task. task ≡ Some Task.Show) }
-    ensures canon { (rows : List Row) → subcommand_rows_of matches.now ≡ Some (codes "canon", rows)
-        → HasFlag (codes "check") false rows → IfOk result (λ task. task ≡ Some Task.Canon) }
-    ensures check { (rows : List Row) → subcommand_rows_of matches.now ≡ Some (codes "canon", rows)
-        → HasFlag (codes "check") true rows → IfOk result (λ task. task ≡ Some Task.Check) }
-    ensures work { (rows : List Row) (turns : ℕ) (text : List ℕ)
-        → subcommand_rows_of matches.now ≡ Some (codes "work", rows)
-        → one_of (codes "turns") rows ≡ Some text → WritesTurns turns text
-        → IfOk result (λ task. task ≡ Some (Task.Work turns)) }
-    ensures explain { (rows : List Row) (given : List (List ℕ))
-        → subcommand_rows_of matches.now ≡ Some (codes "explain", rows)
-        → all_of (codes "code") rows ≡ Some given → IfOk result (IsToExplain given) }
+    ensures { (asked : Asked) (name : List ℕ) (rows : List Row)
+        → subcommand_rows_of matches.now ≡ Some (name, rows) → IsFor asked name rows
+        → IfOk result (λ task. option_map asked_of task ≡ Some asked) }
 {
     match matches.subcommand() {
-        Some(("steps", given)) => Ok(Some(steps_task(given))),
-        Some(("trail", _)) => Ok(Some(Task::Trail)),
-        Some(("show", _)) => Ok(Some(Task::Show)),
-        Some(("canon", given)) => Ok(Some(canon_task(given))),
-        Some(("work", given)) => Ok(work_task(given)),
-        Some(("explain", given)) => explain_task(alloc, given),
+        Some((name, given)) => task_by(alloc, name, given),
+        None => Ok(None),
+    }
+}
+
+/// The task of a subcommand of this name with these matches.
+fn task_by<'a>(
+    alloc: Global,
+    name: &str,
+    given: &ArgMatches<'a>,
+) -> Result<Option<Task<'a>>, AllocError>
+    ensures { (asked : Asked) → IsFor asked name.now (rows_of (found_of given.now))
+        → IfOk result (λ task. option_map asked_of task ≡ Some asked) }
+{
+    match name {
+        "steps" if is_given(given, "strict") => Ok(Some(Task::Strict)),
+        "steps" => Ok(Some(Task::Steps)),
+        "trail" => Ok(Some(Task::Trail)),
+        "show" => Ok(Some(Task::Show)),
+        "canon" if is_given(given, "check") => Ok(Some(Task::Check)),
+        "canon" => Ok(Some(Task::Canon)),
+        "work" => Ok(work_task(given)),
+        "explain" => explain_task(alloc, given),
         _ => Ok(None),
     }
 }
 
-/// The task of `steps`.
-fn steps_task<'a>(given: &ArgMatches<'_>) -> Task<'a>
-    ensures plain { HasFlag (codes "strict") false (rows_of (found_of given.now))
-        → result ≡ Task.Steps }
-    ensures strict { HasFlag (codes "strict") true (rows_of (found_of given.now))
-        → result ≡ Task.Strict }
+/// Whether an option was given that has no value.
+fn is_given(given: &ArgMatches<'_>, flag: &str) -> bool
+    ensures given { HasFlag flag.now true (rows_of (found_of given.now)) → result ≡ true }
+    ensures absent { HasFlag flag.now false (rows_of (found_of given.now)) → result ≡ false }
 {
-    if given.get_flag("strict") {
-        Task::Strict
-    } else {
-        Task::Steps
-    }
-}
-
-/// The task of `canon`.
-fn canon_task<'a>(given: &ArgMatches<'_>) -> Task<'a>
-    ensures plain { HasFlag (codes "check") false (rows_of (found_of given.now))
-        → result ≡ Task.Canon }
-    ensures check { HasFlag (codes "check") true (rows_of (found_of given.now))
-        → result ≡ Task.Check }
-{
-    if given.get_flag("check") {
-        Task::Check
-    } else {
-        Task::Canon
-    }
+    given.get_flag(flag)
 }
 
 /// The task of `work`: none without a number of turns.
 fn work_task<'a>(given: &ArgMatches<'_>) -> Option<Task<'a>>
     ensures { (turns : ℕ) (text : List ℕ)
         → one_of (codes "turns") (rows_of (found_of given.now)) ≡ Some text → WritesTurns turns text
-        → result ≡ Some (Task.Work turns) }
+        → option_map asked_of result ≡ Some (Work turns) }
 {
     Some(Task::Work {
         turns: given.get_one("turns")?,
@@ -138,9 +112,8 @@ fn work_task<'a>(given: &ArgMatches<'_>) -> Option<Task<'a>>
 
 /// The task of `explain`: none without a word.
 fn explain_task<'a>(alloc: Global, given: &ArgMatches<'a>) -> Result<Option<Task<'a>>, AllocError>
-    ensures { (words : List (List ℕ))
-        → all_of (codes "code") (rows_of (found_of given.now)) ≡ Some words
-        → IfOk result (IsToExplain words) }
+    ensures { (words : List (List ℕ)) → all_of (codes "code") (rows_of (found_of given.now)) ≡ Some words
+        → IfOk result (λ task. option_map asked_of task ≡ Some (Explain words)) }
 {
     let Some(words) = given.get_strs("code") else {
         return Ok(None);

@@ -1,9 +1,9 @@
 //! The command line in the words of its parser.
 
 ghost use Rattle.std.specs.Prelude.{◌≡◌, IfOk, false};
-ghost use Rattle.clap.specs.Words.{app_of, new_app, rule_of};
+ghost use Rattle.clap.specs.Words.{App, Rule, app_of, new_app, rule_of, with_rule, with_subcommand};
 ghost use Rattle.clap.specs.declared.builder.command.Command.TheViews.{out-Command as fields_of};
-ghost use Rattle.mv_words.specs.Words.{canon_app, code_rule, command_line, explain_app, flag_rule, mvhub, steps_app, turns_rule, with_others, with_steps, work_app};
+ghost use Rattle.mv_words.specs.Words.{code_rule, command_line, flag_rule, mvhub, turns_rule};
 
 use crate::texts::{
     CANON, CANON_EXAMPLE, CHECK, CODES, EXPLAIN, EXPLAIN_EXAMPLE, PROGRAM, SHOW, SHOW_EXAMPLE,
@@ -18,15 +18,37 @@ use std::alloc::{AllocError, Global};
 pub fn command_line<'a>(alloc: Global) -> Result<Command<'a>, AllocError>
     ensures { IfOk result (λ line. app_of line ≡ command_line) }
 {
-    with_others(alloc, with_steps(alloc, program(alloc))?)
-}
-
-/// A command of this name, with what its help says first and last.
-fn told<'a>(alloc: Global, name: &'a str, first: &'a str, last: &'a str) -> Command<'a>
-    ensures app { app_of result ≡ new_app name.entry.now }
-    ensures local { (fields_of result).has_globals ≡ false }
-{
-    Command::new(alloc, name).about(first).after_help(last)
+    let line = program(alloc);
+    let line = with(
+        line,
+        taking(
+            alloc,
+            "steps",
+            STEPS,
+            STEPS_EXAMPLE,
+            flag(alloc, "strict", STRICT),
+        ),
+    )?;
+    let line = with(line, Ok(told(alloc, "trail", TRAIL, TRAIL_EXAMPLE)))?;
+    let line = with(line, Ok(told(alloc, "show", SHOW, SHOW_EXAMPLE)))?;
+    let line = with(
+        line,
+        taking(
+            alloc,
+            "canon",
+            CANON,
+            CANON_EXAMPLE,
+            flag(alloc, "check", CHECK),
+        ),
+    )?;
+    let line = with(
+        line,
+        taking(alloc, "work", WORK, WORK_EXAMPLE, turns(alloc)),
+    )?;
+    with(
+        line,
+        taking(alloc, "explain", EXPLAIN, EXPLAIN_EXAMPLE, codes(alloc)),
+    )
 }
 
 /// The program, with no subcommand yet.
@@ -39,54 +61,40 @@ fn program<'a>(alloc: Global) -> Command<'a>
         .subcommand_required(true)
 }
 
-/// A command line with `steps`, and what takes its lines too: `trail` and `show`.
-fn with_steps<'a>(alloc: Global, line: Command<'a>) -> Result<Command<'a>, AllocError>
-    ensures { IfOk result (λ next. app_of next ≡ with_steps (app_of line.entry)) }
+/// A command of this name, with what its help says first and last.
+fn told<'a>(alloc: Global, name: &'a str, first: &'a str, last: &'a str) -> Command<'a>
+    ensures app { app_of result ≡ new_app name.entry.now }
+    ensures local { (fields_of result).has_globals ≡ false }
 {
-    line.subcommand(steps(alloc)?)?
-        .subcommand(told(alloc, "trail", TRAIL, TRAIL_EXAMPLE))?
-        .subcommand(told(alloc, "show", SHOW, SHOW_EXAMPLE))
+    Command::new(alloc, name).about(first).after_help(last)
 }
 
-/// A command line with `canon`, `work` and `explain`.
-fn with_others<'a>(alloc: Global, line: Command<'a>) -> Result<Command<'a>, AllocError>
-    ensures { IfOk result (λ next. app_of next ≡ with_others (app_of line.entry)) }
+/// A command of this name that takes an argument.
+fn taking<'a>(
+    alloc: Global,
+    name: &'a str,
+    first: &'a str,
+    last: &'a str,
+    arg: Arg<'a>,
+) -> Result<Command<'a>, AllocError>
+    requires { arg.global ≡ false }
+    ensures app { (rule : Rule) → rule_of arg.entry ≡ rule
+        → IfOk result (λ command. app_of command ≡ with_rule (new_app name.entry.now) rule) }
+    ensures local { IfOk result (λ command. (fields_of command).has_globals ≡ false) }
 {
-    line.subcommand(canon(alloc)?)?
-        .subcommand(work(alloc)?)?
-        .subcommand(explain(alloc)?)
+    told(alloc, name, first, last).arg(arg)
 }
 
-/// `steps`, with its option.
-fn steps<'a>(alloc: Global) -> Result<Command<'a>, AllocError>
-    ensures app { IfOk result (λ steps. app_of steps ≡ steps_app) }
-    ensures local { IfOk result (λ steps. (fields_of steps).has_globals ≡ false) }
+/// A command line with one more subcommand, where that could be made.
+fn with<'a>(
+    line: Command<'a>,
+    made: Result<Command<'a>, AllocError>,
+) -> Result<Command<'a>, AllocError>
+    requires { IfOk made (λ command. (fields_of command).has_globals ≡ false) }
+    ensures { (app : App) → IfOk made.entry (λ command. app_of command ≡ app)
+        → IfOk result (λ next. app_of next ≡ with_subcommand (app_of line.entry) app.top) }
 {
-    told(alloc, "steps", STEPS, STEPS_EXAMPLE).arg(flag(alloc, "strict", STRICT))
-}
-
-/// `canon`, with its option.
-fn canon<'a>(alloc: Global) -> Result<Command<'a>, AllocError>
-    ensures app { IfOk result (λ canon. app_of canon ≡ canon_app) }
-    ensures local { IfOk result (λ canon. (fields_of canon).has_globals ≡ false) }
-{
-    told(alloc, "canon", CANON, CANON_EXAMPLE).arg(flag(alloc, "check", CHECK))
-}
-
-/// `work`, with its option.
-fn work<'a>(alloc: Global) -> Result<Command<'a>, AllocError>
-    ensures app { IfOk result (λ work. app_of work ≡ work_app) }
-    ensures local { IfOk result (λ work. (fields_of work).has_globals ≡ false) }
-{
-    told(alloc, "work", WORK, WORK_EXAMPLE).arg(turns(alloc))
-}
-
-/// `explain`, with the codes that it takes.
-fn explain<'a>(alloc: Global) -> Result<Command<'a>, AllocError>
-    ensures app { IfOk result (λ explain. app_of explain ≡ explain_app) }
-    ensures local { IfOk result (λ explain. (fields_of explain).has_globals ≡ false) }
-{
-    told(alloc, "explain", EXPLAIN, EXPLAIN_EXAMPLE).arg(codes(alloc))
+    line.subcommand(made?)
 }
 
 /// An option that is given or not, with no value.

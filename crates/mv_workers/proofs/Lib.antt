@@ -1,6 +1,5 @@
 pub mod WorkLemmas
 pub mod TurnLemmas
 pub mod DoneLemmas
-pub mod PushLemmas
 pub mod CrewLemmas
 pub mod PlanLemmas

@@ -1,13 +1,17 @@
 -- What a party submits of its own, and where one list begins another.
-use Rattle.std.proofs.Common.{◌≡◌, ◌+◌, ◌<◌, get_or, ℕ, List, [], ◌∷◌, ◌++◌, length, take, not, sym, refl, ap, ◌∙◌, zero, suc, arith}
-use Rattle.std.proofs.lemmas.List.{length-map, get_or-map}
+use Rattle.std.proofs.Common.{◌≡◌, ◌+◌, ◌<◌, get_or, ℕ, Bool, List, [], ◌∷◌, ◌++◌, length, length-append, append-nil, take, not, sym, refl, ap, ◌∙◌, arith}
+use Rattle.std.specs.Prelude.{◌==◌}
+use Rattle.std.proofs.Math.Seq.{take-append_seam}
+use Rattle.std.proofs.lemmas.Bool.Decides.{nat_tests}
+use Rattle.std.proofs.lemmas.List.{length-map, get_or-map, nil_from_length}
 use Rattle.std.proofs.lemmas.List.Elements.{filter-append}
 use Rattle.std.specs.declared.alloc.Global.{Global}
 use Rattle.std.specs.declared.vec.Vec.{Vec}
 use Rattle.mv_message.specs.declared.message.Message.{Message}
-use Rattle.mv_message.specs.declared.message.Message.TheVariants.{Master, Upload, Status, Recall, Repack, Withdraw, Query, Answer}
+use Rattle.mv_message.specs.declared.message.Message.TheVariants.{Answer}
 use Rattle.mv_party.specs.Site.{answers_in}
-use Rattle.mv_workers.specs.Work.{lists_of, list_at, own_among, is_answer, Begins}
+use Rattle.mv_workers.specs.Work.{lists_of, list_at, own_among, is_answer}
+use Rattle.mv_workers.specs.Turns.{IsBegun}
 
 pub own_among-append : (xs ys : List Message) → own_among (xs ++ ys) ≡ own_among xs ++ own_among ys
 own_among-append xs ys = filter-append (λ (message : Message). not (is_answer message)) xs ys
@@ -20,13 +24,7 @@ items_of list = list.items
 pub answers_and_own : (messages : List Message) → length (answers_in messages) + length (own_among messages) ≡ length messages
 answers_and_own [] = refl
 answers_and_own (Answer asker q key found ∷ xs) = omega (arith, answers_and_own xs)
-answers_and_own (Master gtin product ∷ xs) = omega (arith, answers_and_own xs)
-answers_and_own (Upload gtin batch expiry national serials ∷ xs) = omega (arith, answers_and_own xs)
-answers_and_own (Status key to user at ∷ xs) = omega (arith, answers_and_own xs)
-answers_and_own (Recall key at ∷ xs) = omega (arith, answers_and_own xs)
-answers_and_own (Repack before before_serials after after_serials at ∷ xs) = omega (arith, answers_and_own xs)
-answers_and_own (Withdraw gtin at ∷ xs) = omega (arith, answers_and_own xs)
-answers_and_own (Query key ∷ xs) = omega (arith, answers_and_own xs)
+answers_and_own (_ ∷ xs) = omega (arith, answers_and_own xs)
 
 -- there are as many lists as are kept
 pub lists_counted : (lists : List (Vec Message Global)) → length (lists_of lists) ≡ length lists
@@ -37,11 +35,16 @@ pub list_found : (lists : List (Vec Message Global)) (place : ℕ) (list : Vec M
     → list_at (lists_of lists) place ≡ list.items
 list_found lists place list below is = get_or-map items_of lists place list [] below ∙ ap items_of (sym is)
 
--- so many of the first of a list are where it begins
-pub take_begins : (front list : List Message) (count : ℕ) → front ≡ take count list → Begins front list
-take_begins front list count front_is = front_is ∙ of count list ∙ ap (λ l. take (length l) list) (sym front_is)
-  where
-    of : (count : ℕ) (list : List Message) → take count list ≡ take (length (take count list)) list
-    of zero list = refl
-    of (suc count) [] = refl
-    of (suc count) (message ∷ list) = ap (λ l. message ∷ l) (of count list)
+-- what was submitted and what is left are the list: so it is begun, and all of it was submitted where nothing is left
+pub begun_of : (own left list was : List Message) (all : Bool) → own ++ left ≡ was ++ list → was ≡ [] → all ≡ (length left == 0) → IsBegun own list all
+begun_of own left list was all kept none over =
+    let whole : own ++ left ≡ list = kept ∙ ap (λ l. l ++ list) none in
+    record {
+      begins = sym (ap (take (length own)) (sym whole) ∙ take-append_seam own left);
+      whole = (
+        λ told. let nothing : length left ≡ 0 = grind (arith, nat_tests, over, told) in
+            sym (append-nil own) ∙ ap (λ l. own ++ l) (sym (nil_from_length left nothing)) ∙ whole,
+        λ same. let nothing : length left ≡ 0 = omega (arith, length-append own left, ap length whole, ap length same) in
+            grind (arith, nat_tests, over, nothing),
+      );
+    }

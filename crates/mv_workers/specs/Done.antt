@@ -7,8 +7,12 @@ use Rattle.mv_repository.specs.Log.{items_from}
 use Rattle.mv_machine.specs.State.{State, submissions_of, log_of, hub_of}
 use Rattle.mv_workers.specs.Work.{own_among}
 
--- A party is done with its list: it submitted just that and answers, all of it was routed, and it applied all that was routed to it.
-pub record IsDone (outcome : State) (party : ℕ) (list : List Message) : Type 0 where
-  pub submitted : own_among (submissions_of outcome party) ≡ list
+-- All that a party submitted was routed, and it applied all that was routed to it.
+pub record IsCarried (outcome : State) (party : ℕ) : Type 0 where
   pub routed : routed_from outcome.entries party ≡ submissions_of outcome party
   pub applied : (from : ℕ) → from < length outcome.parties → items_from (log_of outcome party) from ≡ items_on (hub_of outcome) from party
+
+-- A party is done with its list: it submitted just that and answers, and all was carried.
+pub record IsDone (outcome : State) (party : ℕ) (list : List Message) : Type 0 where
+  pub submitted : own_among (submissions_of outcome party) ≡ list
+  pub carried : IsCarried outcome party

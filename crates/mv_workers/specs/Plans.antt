@@ -34,3 +34,9 @@ Faults plan (fault.Unfinished outcome) = IsSound plan × KeepsPlan plan outcome 
 Faults plan (fault.Memory outcome) = IsSound plan × KeepsPlan plan outcome × (IsComplete plan outcome → ⊥)
 Faults plan fault.Start = IsSound plan
 Faults plan fault.Plan = IsSound plan → ⊥
+
+-- a run that is not complete leaves this outcome
+abbrev pub Leaves : State → WorkFault → Type 0
+Leaves outcome (fault.Unfinished left) = left ≡ outcome
+Leaves outcome (fault.Memory left) = left ≡ outcome
+Leaves outcome fault = ⊥

@@ -1,11 +1,8 @@
 -- What a turn leaves of a repository's end.
-use Rattle.std.specs.Prelude.{◌≡◌, ℕ, List, [], take}
+use Rattle.std.specs.Prelude.{◌≡◌, ◌↔◌, List, [], Bool, IsTrue}
 use Rattle.mv_message.specs.declared.message.Message.{Message}
-use Rattle.mv_message.specs.declared.message.Message.TheVariants.{Query}
 use Rattle.mv_ends.specs.declared.repo_end.RepoEnd.{RepoEnd}
-use Rattle.mv_machine.specs.declared.reply.Reply.{Reply}
-use Rattle.mv_ends.specs.RepoEnd.{Submits, Asks}
-use Rattle.mv_workers.specs.Work.{own_among}
+use Rattle.mv_workers.specs.Work.{own_among, Begins}
 
 -- what was submitted at an end of the party's own
 abbrev pub own_of : RepoEnd → List Message
@@ -15,11 +12,7 @@ own_of end = own_among end.site.submissions
 pub record IsUnused (end : RepoEnd) : Type 0 where
   pub none : end.site.submissions ≡ []
 
--- just the first messages of a list were submitted at an end, so many, but for answers
-abbrev pub HasSubmitted : RepoEnd → ℕ → List Message → Type 0
-HasSubmitted end count list = own_of end ≡ take count list
-
--- what a try to submit a message leaves, by its reply: a query is asked
-abbrev pub Tries : Message → RepoEnd → RepoEnd → Reply → Type 0
-Tries (Query key) old new reply = Asks key old new reply
-Tries message old new reply = Submits message old new reply
+-- what was submitted is where a list begins, and it is told whether that is all of the list
+pub record IsBegun (own list : List Message) (all : Bool) : Type 0 where
+  pub begins : Begins own list
+  pub whole : IsTrue all ↔ (own ≡ list)

@@ -1,4 +1,4 @@
-//! Compares an outcome with what was to be carried out.
+//! Whether all that was submitted was carried to all that it was for.
 //!
 //! An outcome is lawful, so what was routed of a party is where its submissions begin, and what a repository applied of a party is
 //! where its link begins. So lengths decide.
@@ -8,30 +8,11 @@ ghost use Rattle.mv_hub.specs.Record.{routed_from};
 ghost use Rattle.mv_hub.specs.Hub.{items_on};
 ghost use Rattle.mv_repository.specs.Log.{items_from};
 ghost use Rattle.mv_machine.specs.State.{is_party, submissions_of, log_of, hub_of};
-ghost use Rattle.mv_workers.specs.Work.{list_at, own_among, is_answer, Begins};
-ghost use Rattle.mv_workers.specs.Done.{IsDone};
+ghost use Rattle.mv_workers.specs.Done.{IsCarried};
 
-use crate::work::Work;
 use mv_ends::Outcome;
-use mv_message::{Message, Party, Shared};
+use mv_message::Party;
 use mv_repository::LogEntry;
-
-/// Whether a message is the answer to a query.
-fn is_answer(message: &Message) -> bool
-    ensures { result ≡ is_answer message.now }
-{
-    matches!(message, Message::Answer { .. })
-}
-
-/// How many of these messages are no answers.
-pub(crate) fn own_count(messages: &[Shared<Message>]) -> usize
-    ensures { result ≡ length (own_among messages.now) }
-{
-    messages
-        .iter()
-        .filter(|message| !is_answer(message.get()))
-        .count()
-}
 
 /// How many entries of a log came from a party.
 fn entries_from(log: &[LogEntry], party: Party) -> usize
@@ -69,27 +50,20 @@ fn is_routed(outcome: &Outcome, party: Party) -> bool
     outcome.hub().routed_count(party) as usize == outcome.sub(party).len()
 }
 
-/// Whether a party is done with its list.
-fn is_done(outcome: &Outcome, party: Party, list: &[Shared<Message>]) -> bool
-    requires party { IsTrue (is_party outcome.now party) }
-    requires begun { Begins (own_among (submissions_of outcome.now party)) list.now }
-    ensures { IsTrue result ↔ IsDone outcome.now party list.now }
+/// Whether all that a party submitted was routed, and it applied all that was routed to it.
+fn is_done(outcome: &Outcome, party: Party) -> bool
+    requires { IsTrue (is_party outcome.now party) }
+    ensures { IsTrue result ↔ IsCarried outcome.now party }
 {
-    own_count(outcome.sub(party)) == list.len()
-        && is_routed(outcome, party)
-        && has_applied(outcome, party)
+    is_routed(outcome, party) && has_applied(outcome, party)
 }
 
-/// Whether each party is done with its list.
-pub(crate) fn is_complete(outcome: &Outcome, work: &Work) -> bool
-    requires each { length work.now ≡ length outcome.now.parties }
-    requires begun { (party : ℕ) → party < length outcome.now.parties
-        → Begins (own_among (submissions_of outcome.now party)) (list_at work.now party) }
-    ensures { IsTrue result ↔ ((party : ℕ) → party < length outcome.now.parties
-        → IsDone outcome.now party (list_at work.now party)) }
+/// Whether that holds of each party.
+pub(crate) fn is_carried(outcome: &Outcome) -> bool
+    ensures { IsTrue result ↔ ((party : ℕ) → party < length outcome.now.parties → IsCarried outcome.now party) }
 {
     for party in 0..outcome.parties().len() {
-        if !is_done(outcome, party, work.list(party as usize)) {
+        if !is_done(outcome, party) {
             return false;
         }
     }

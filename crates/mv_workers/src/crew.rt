@@ -1,41 +1,49 @@
 //! Starts a worker for each end, and takes the ends back.
 
-ghost use Rattle.std.specs.Prelude.{◌≡◌, ◌≤◌, length, vec_len, vec_capacity, IfSome};
+ghost use Rattle.std.specs.Prelude.{◌≡◌, ◌≤◌, [], vec_len, vec_capacity, IfSome};
 ghost use Rattle.mv_ends.specs.HubEnd.{SameHubEnd};
 ghost use Rattle.mv_ends.specs.RepoEnd.{SameRepoEnd};
 ghost use Rattle.mv_ends.specs.Laws.{AreSameRepos};
-ghost use Rattle.mv_workers.specs.Work.{Begins};
-ghost use Rattle.mv_workers.specs.Turns.{own_of, IsUnused};
-ghost use Rattle.mv_workers.specs.Crews.{AllUnused, AllBegin, IsPromised, AllPromised, AllKept};
+ghost use Rattle.mv_workers.specs.Turns.{own_of, IsUnused, IsBegun};
+ghost use Rattle.mv_workers.specs.Crews.{AllUnused, AreBegun, IsPromised, AllPromised, AllKept};
 
+use crate::agenda::Agenda;
 use crate::course::Course;
 use crate::gate::Gate;
 use crate::turns::{hub_turns, repo_turns};
-use crate::work::Work;
 use mv_ends::{HubEnd, RepoEnd};
-use mv_message::{Message, Shared};
 use std::alloc::Global;
 use std::marker::Sync;
 use std::snapshot::Snapshot;
 use std::sync::Wait;
 use std::thread::{Promise, PromisedHandle, Scope, Threads};
 
-/// What a repository's worker gives back: that end, at which its party's list was begun. The flag says whether it ended for want
-/// of memory.
+/// What a repository's worker gives back.
 #[derive(Drop)]
-pub(crate) struct RepoPromise<'a> {
+pub(crate) struct RepoBack {
+    /// The end behind its turns.
+    end: RepoEnd,
+    /// Whether all that its party was to submit was submitted.
+    all: bool,
+    /// Whether it ended for want of memory.
+    short: bool,
+}
+
+/// What a repository's worker gives back is that end, at which its party's agenda was begun.
+#[derive(Drop)]
+pub(crate) struct RepoPromise {
     /// The end as the worker gets it.
     was: Snapshot<RepoEnd>,
     /// What its party is to submit.
-    list: &'a [Shared<Message>],
+    agenda: Snapshot<Agenda>,
 }
 
-impl<'a> Promise<(RepoEnd, bool)> for RepoPromise<'a> {
-    ghost kept_by = { λ p r. SameRepoEnd p.was.value r.0 × Begins (own_of r.0) p.list.now };
+impl Promise<RepoBack> for RepoPromise {
+    ghost kept_by = { λ p r. SameRepoEnd p.was.value r.end × IsBegun (own_of r.end) p.agenda.value r.all };
 }
 
 /// The handle of a repository's worker.
-type RepoHandle<'a> = PromisedHandle<(RepoEnd, bool), RepoPromise<'a>>;
+type RepoHandle = PromisedHandle<RepoBack, RepoPromise>;
 
 /// What the hub's worker gives back: that end, and whether it ended for want of memory.
 #[derive(Drop)]
@@ -48,38 +56,80 @@ impl Promise<(HubEnd, bool)> for HubPromise {
 /// The handle of the hub's worker.
 type HubHandle = PromisedHandle<(HubEnd, bool), HubPromise>;
 
-/// The ends behind the turns of all workers, and whether one ended for want of memory.
+/// What the workers of a run are given, beside their ends.
+#[derive(Drop)]
+pub(crate) struct Shift<'s, R, G> {
+    /// What they wait by.
+    pub rt: &'s R,
+    /// What a repository's worker passes before it looks for a frame.
+    pub gate: &'s G,
+    /// What they share.
+    pub course: &'s Course,
+}
+
+/// The ends behind the turns of all workers, and how these ended.
 #[derive(Drop)]
 pub(crate) struct CrewEnds {
     /// The hub's end.
     pub hub: HubEnd,
     /// The end of each party's repository, party 0 first.
     pub repos: Vec<RepoEnd>,
+    /// Whether all that the parties were to submit was submitted.
+    pub all: bool,
     /// Whether memory was refused to a worker.
     pub short: bool,
+}
+
+/// The work of a repository's worker.
+fn repo_work<R: Wait, G: Gate>(
+    rt: &R,
+    end: RepoEnd,
+    agenda: Agenda,
+    gate: &G,
+    course: &Course,
+) -> RepoBack
+    requires { IsUnused end }
+    ensures same { SameRepoEnd end result.end }
+    ensures begun { IsBegun (own_of result.end) agenda result.all }
+{
+    let (mut end, mut agenda) = (end, agenda);
+    let short = repo_turns(rt, &mut end, &mut agenda, gate, course);
+    RepoBack {
+        end,
+        all: agenda.is_over(),
+        short,
+    }
 }
 
 /// Starts the worker of a repository. None where it can't be started.
 fn start_repo<'s, E, R: Wait + Sync, G: Gate>(
     scope: &Scope<'s, E>,
-    rt: &'s R,
+    shift: &Shift<'s, R, G>,
     end: RepoEnd,
-    list: &'s [Shared<Message>],
-    gate: &'s G,
-    course: &'s Course,
-) -> Option<RepoHandle<'s>>
+    agenda: Agenda,
+) -> Option<RepoHandle>
     requires { IsUnused end }
-    ensures { IfSome result (λ handle. IsPromised end list.entry.now handle) }
+    ensures { IfSome result (λ handle. IsPromised end agenda handle) }
 {
     let promise = RepoPromise {
         was: Snapshot::of(&end),
-        list,
+        agenda: Snapshot::of(&agenda),
     };
-    let worker = move || -> (RepoEnd, bool)
+    let (rt, gate, course) = (shift.rt, shift.gate, shift.course);
+    let worker = move || -> RepoBack
         requires { IsUnused end }
-        ensures { SameRepoEnd end result.0 × Begins (own_of result.0) list.entry.now }
-    { repo_turns(rt, end, list, gate, course) };
+        ensures { SameRepoEnd end result.end × IsBegun (own_of result.end) agenda result.all }
+    { repo_work(rt, end, agenda, gate, course) };
     scope.spawn_with(promise, worker).ok()
+}
+
+/// The work of the hub's worker. The flag says whether it ended for want of memory.
+fn hub_work<R: Wait>(rt: &R, hub: HubEnd, course: &Course) -> (HubEnd, bool)
+    ensures { SameHubEnd hub result.0 }
+{
+    let mut hub = hub;
+    let short = hub_turns(rt, &mut hub, course);
+    (hub, short)
 }
 
 /// Starts the hub's worker. None where it can't be started.
@@ -94,97 +144,64 @@ fn start_hub<'s, E, R: Wait + Sync>(
     let promise = HubPromise(Snapshot::of(&hub));
     let worker = move || -> (HubEnd, bool)
         ensures { SameHubEnd hub result.0 }
-    { hub_turns(rt, hub, course) };
+    { hub_work(rt, hub, course) };
     scope.spawn_with(promise, worker).ok()
-}
-
-/// Starts a worker for each repository, whose handles go into a list that has room for them. None where one can't be started.
-fn start_repos<'s, E, R: Wait + Sync, G: Gate>(
-    scope: &Scope<'s, E>,
-    rt: &'s R,
-    repos: Vec<RepoEnd>,
-    work: &'s Work,
-    gate: &'s G,
-    course: &'s Course,
-    into: Vec<RepoHandle<'s>>,
-) -> Option<Vec<RepoHandle<'s>>>
-    requires each { vec_len repos ≡ length work.now }
-    requires unused { AllUnused repos.items }
-    requires empty { vec_len into ≡ 0 }
-    requires room { vec_len repos ≤ vec_capacity into }
-    ensures { IfSome result (λ handles. AllPromised repos.items work.entry.now handles.items) }
-{
-    let mut handles = into;
-    for end in repos {
-        let list = work.list(handles.len());
-        let handle = start_repo(scope, rt, end, list, gate, course)?;
-        handles.push_reserved(handle);
-    }
-    Some(handles)
 }
 
 /// Starts a worker for the hub and one for each repository, whose handles go into a list that has room for them. None where one
 /// can't be started.
 fn start_crew<'s, E, R: Wait + Sync, G: Gate>(
     scope: &Scope<'s, E>,
-    rt: &'s R,
-    hub: HubEnd,
-    repos: Vec<RepoEnd>,
-    work: &'s Work,
-    gate: &'s G,
-    course: &'s Course,
-    into: Vec<RepoHandle<'s>>,
-) -> Option<(HubHandle, Vec<RepoHandle<'s>>)>
-    requires each { vec_len repos ≡ length work.now }
-    requires unused { AllUnused repos.items }
-    requires empty { vec_len into ≡ 0 }
-    requires room { vec_len repos ≤ vec_capacity into }
-    ensures { IfSome result (λ handles. (handles.0.promise.0.value ≡ hub)
-        × AllPromised repos.items work.entry.now handles.1.items) }
+    shift: &Shift<'s, R, G>,
+    ends: (HubEnd, Vec<RepoEnd>),
+    agendas: Vec<Agenda>,
+    into: Vec<RepoHandle>,
+) -> Option<(HubHandle, Vec<RepoHandle>)>
+    requires each { vec_len ends.1 ≡ vec_len agendas }
+    requires unused { AllUnused ends.1.items }
+    requires empty { into.items ≡ [] }
+    requires room { vec_len ends.1 ≤ vec_capacity into }
+    ensures hub { IfSome result (λ handles. handles.0.promise.0.value ≡ ends.0) }
+    ensures repos { IfSome result (λ handles. AllPromised ends.1.items agendas.items handles.1.items) }
 {
-    let handle = start_hub(scope, rt, hub, course)?;
-    let handles = start_repos(scope, rt, repos, work, gate, course, into)?;
-    Some((handle, handles))
-}
-
-/// Joins the repositories' workers, in order. The flag says whether one ended for want of memory.
-fn join_repos<'s, R: Threads>(
-    rt: &R,
-    handles: Vec<RepoHandle<'s>>,
-    into: Vec<RepoEnd>,
-) -> (Vec<RepoEnd>, bool)
-    requires empty { vec_len into ≡ 0 }
-    requires room { vec_len handles ≤ vec_capacity into }
-    ensures { AllKept handles.entry.items result.0.items }
-{
-    let mut into = into;
-    let mut short = false;
-    for handle in handles {
-        let (end, ended) = handle.join(rt);
-        into.push_reserved(end);
-        short |= ended;
+    let (hub, repos) = ends;
+    let (mut handles, mut agendas) = (into, agendas.into_iter());
+    let first = start_hub(scope, shift.rt, hub, shift.course)?;
+    for end in repos {
+        let Some(agenda) = agendas.next() else {
+            // There is one for each end.
+            unreachable!()
+        };
+        handles.push_reserved(start_repo(scope, shift, end, agenda)?);
     }
-    (into, short)
+    Some((first, handles))
 }
 
-/// Joins all workers: the repositories' ends come back into a list that has room for them.
-fn join_crew<'s, R: Threads>(
+/// Joins all workers, the repositories' in order: their ends come back into a list that has room for them.
+fn join_crew<R: Threads>(
     rt: &R,
     handle: HubHandle,
-    handles: Vec<RepoHandle<'s>>,
+    handles: Vec<RepoHandle>,
     into: Vec<RepoEnd>,
 ) -> CrewEnds
     requires empty { vec_len into ≡ 0 }
     requires room { vec_len handles ≤ vec_capacity into }
     ensures hub { SameHubEnd handle.promise.0.value result.hub }
-    ensures repos { AllKept handles.entry.items result.repos.items }
+    ensures repos { AllKept handles.items result.repos.items result.all }
 {
-    let (hub, ended) = handle.join(rt);
-    let (repos, short) = join_repos(rt, handles, into);
+    let (hub, short) = handle.join(rt);
+    let (mut repos, mut all, mut short) = (into, true, short);
+    for handle in handles {
+        let back = handle.join(rt);
+        repos.push_reserved(back.end);
+        all &= back.all;
+        short |= back.short;
+    }
     CrewEnds {
         hub,
         repos,
-        short: short || ended,
+        all,
+        short,
     }
 }
 
@@ -192,28 +209,26 @@ fn join_crew<'s, R: Threads>(
 /// turn. All room is got before the first starts.
 pub(crate) fn work_in<'s, E, R: Threads + Wait + Sync, G: Gate>(
     scope: &Scope<'s, E>,
-    rt: &'s R,
+    shift: &Shift<'s, R, G>,
     alloc: Global,
-    hub: HubEnd,
-    repos: Vec<RepoEnd>,
-    work: &'s Work,
-    gate: &'s G,
-    course: &'s Course,
+    ends: (HubEnd, Vec<RepoEnd>),
+    agendas: Vec<Agenda>,
 ) -> Option<CrewEnds>
-    requires each { vec_len repos ≡ length work.now }
-    requires unused { AllUnused repos.items }
-    ensures { IfSome result (λ ends. SameHubEnd hub ends.hub
-        × AreSameRepos repos.items ends.repos.items
-        × AllBegin work.entry.now ends.repos.items) }
+    requires each { vec_len ends.1 ≡ vec_len agendas }
+    requires unused { AllUnused ends.1.items }
+    ensures { IfSome result (λ back. SameHubEnd ends.0 back.hub
+        × AreSameRepos ends.1.items back.repos.items
+        × AreBegun agendas.items back.repos.items back.all) }
 {
+    let count = ends.1.len();
     let (mut back, mut into) = (Vec::new(alloc), Vec::new(alloc));
-    if back.reserve(repos.len()).is_err() || into.reserve(repos.len()).is_err() {
+    if back.reserve(count).is_err() || into.reserve(count).is_err() {
         return None;
     }
-    let Some((handle, handles)) = start_crew(scope, rt, hub, repos, work, gate, course, into) else {
-        course.start.end(rt);
+    let Some((first, handles)) = start_crew(scope, shift, ends, agendas, into) else {
+        shift.course.start.end(shift.rt);
         return None;
     };
-    course.start.go(rt);
-    Some(join_crew(rt, handle, handles, back))
+    shift.course.start.go(shift.rt);
+    Some(join_crew(shift.rt, first, handles, back))
 }

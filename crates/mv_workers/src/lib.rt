@@ -24,6 +24,7 @@
 //! ```
 #![tactic(auto)]
 
+mod agenda;
 mod complete;
 mod course;
 mod crew;

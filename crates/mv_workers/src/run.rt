@@ -1,19 +1,19 @@
 //! A run by a plan.
 
-ghost use Rattle.std.specs.Prelude.{◌≡◌, ◌↔◌, ◌<◌, ℕ, [], length, vec_len, IfOk, IfErr, IfSome, IsTrue};
+ghost use Rattle.std.specs.Prelude.{◌≡◌, ◌↔◌, ◌<◌, ℕ, [], length, vec_len, IfOk, IfErr, IfSome, IsTrue, IsFalse};
 ghost use Rattle.mv_ends.specs.HubEnd.{SameHubEnd};
 ghost use Rattle.mv_ends.specs.Laws.{AreSameRepos};
 ghost use Rattle.mv_party.specs.Site.{answers_in};
 ghost use Rattle.mv_workers.specs.Work.{list_at};
-ghost use Rattle.mv_workers.specs.Crews.{AllUnused, AllBegin};
-ghost use Rattle.mv_workers.specs.Plans.{IsSound, KeepsPlan, IsComplete, Faults};
+ghost use Rattle.mv_workers.specs.Crews.{AllUnused, AreBegun};
+ghost use Rattle.mv_workers.specs.Plans.{IsSound, KeepsPlan, IsComplete, Faults, Leaves};
 
-use crate::complete::{is_complete, own_count};
+use crate::complete::is_carried;
 use crate::course::Course;
-use crate::crew::{CrewEnds, work_in};
+use crate::crew::{CrewEnds, Shift, work_in};
 use crate::gate::Gate;
 use crate::plan::{Plan, WorkFault};
-use crate::work::Work;
+use crate::work::{Work, own_count};
 use mv_ends::{Outcome, ends_stay_ends, gather, open};
 use std::alloc::Global;
 use std::marker::Sync;
@@ -63,30 +63,61 @@ pub fn run_workers<R: Threads + Wait + Sync, G: Gate>(
     if !is_sound(&plan) {
         return Err(WorkFault::Plan);
     }
-    let Ok(course) = Course::new(alloc, plan.parties.len(), turns) else {
+    let Plan {
+        parties,
+        limits,
+        work,
+    } = plan;
+    let Ok(agendas) = work.into_agendas(alloc) else {
         return Err(WorkFault::Start);
     };
-    let Ok((hub, repos)) = open(alloc, plan.parties, plan.limits) else {
+    let Ok(course) = Course::new(alloc, parties.len(), turns) else {
+        return Err(WorkFault::Start);
+    };
+    let Ok(ends) = open(alloc, parties, limits) else {
         return Err(WorkFault::Start);
     };
     let shared = &course;
-    let work = &plan.work;
-    let ends = thread::scope(
+    let back = thread::scope(
         thread::scope_env(),
         rt,
         |scope| -> Option<CrewEnds>
-            requires { (vec_len repos ≡ length work.now) × AllUnused repos.items }
-            ensures { IfSome result (λ ends. SameHubEnd hub ends.hub
-                × AreSameRepos repos.items ends.repos.items
-                × AllBegin work.entry.now ends.repos.items) }
-        { work_in(scope, rt, alloc, hub, repos, work, gate, shared) },
+            requires { (vec_len ends.1 ≡ vec_len agendas) × AllUnused ends.1.items }
+            ensures { IfSome result (λ back. SameHubEnd ends.0 back.hub
+                × AreSameRepos ends.1.items back.repos.items
+                × AreBegun agendas.items back.repos.items back.all) }
+        {
+            let shift = Shift {
+                rt,
+                gate,
+                course: shared,
+            };
+            work_in(scope, &shift, alloc, ends, agendas)
+        },
     );
-    let Some(CrewEnds { hub, repos, short }) = ends else {
+    let Some(
+        CrewEnds {
+            hub,
+            repos,
+            all,
+            short,
+        },
+    ) = back
+    else {
         return Err(WorkFault::Start);
     };
     ends_stay_ends();
     let outcome = gather(hub, repos);
-    if is_complete(&outcome, work) {
+    let complete = all & is_carried(&outcome);
+    judged(outcome, complete, short)
+}
+
+/// What a run came to, by whether its outcome is complete, and whether memory was refused to a worker.
+fn judged(outcome: Outcome, complete: bool, short: bool) -> Result<Outcome, WorkFault>
+    ensures complete { IfOk result (λ it. (it ≡ outcome) × IsTrue complete) }
+    ensures fault { IfErr result (λ fault. Leaves outcome fault × IsFalse complete) }
+{
+    if complete {
         Ok(outcome)
     } else if short {
         Err(WorkFault::Memory(outcome))

@@ -1,61 +1,27 @@
 //! The turns of each worker.
 
-ghost use Rattle.std.specs.Prelude.{◌≡◌};
+ghost use Rattle.std.specs.Prelude.{◌≡◌, ◌++◌};
 ghost use Rattle.mv_ends.specs.HubEnd.{SameHubEnd};
 ghost use Rattle.mv_ends.specs.RepoEnd.{SameRepoEnd};
-ghost use Rattle.mv_workers.specs.Work.{Begins};
-ghost use Rattle.mv_workers.specs.Turns.{own_of, IsUnused, HasSubmitted, Tries};
+ghost use Rattle.mv_workers.specs.Turns.{own_of};
 
+use crate::agenda::Agenda;
 use crate::course::{Course, Turn};
 use crate::gate::Gate;
 use crate::pause::Pause;
 use crate::waiting::Waiting;
 use mv_ends::{HubEnd, RepoEnd, hub_end_stays, repo_end_stays};
 use mv_machine::{Refusal, Reply};
-use mv_message::{Message, Party, Shared};
+use mv_message::Party;
 use std::alloc::AllocError;
 use std::sync::Wait;
 
 /// Whether a call did something, by its reply. Refused where memory was refused to the call.
-fn has_moved(reply: &Reply) -> Result<bool, AllocError> {
+pub(crate) fn has_moved(reply: &Reply) -> Result<bool, AllocError> {
     match reply {
         Reply::Refused(Refusal::Memory) => Err(AllocError),
         Reply::Refused(_) => Ok(false),
         _ => Ok(true),
-    }
-}
-
-/// Tries the next message of a list once, of which so many were submitted: a query is asked. Answers how many were submitted
-/// then, and what the try came to.
-#[tactic(auto, using(crate::proofs::TurnLemmas::more_submitted, crate::proofs::TurnLemmas::more_asked))]
-fn submit_next(
-    end: &mut RepoEnd,
-    list: &[Shared<Message>],
-    count: usize,
-) -> (usize, Result<bool, AllocError>)
-    requires { HasSubmitted end.old count list.now }
-    ensures same { SameRepoEnd end.old end.new }
-    ensures submitted { HasSubmitted end.new result.0 list.now }
-{
-    repo_end_stays();
-    if count >= list.len() {
-        return (count, Ok(false));
-    }
-    let reply = submit_one(end, list[count].get());
-    match &reply {
-        Reply::Submitted { .. } | Reply::Asked { .. } => (count + 1, Ok(true)),
-        refused => (count, has_moved(refused)),
-    }
-}
-
-/// Tries to submit a message once: a query is asked.
-fn submit_one(end: &mut RepoEnd, message: &Message) -> Reply
-    ensures same { SameRepoEnd end.old end.new }
-    ensures reply { Tries message.now end.old end.new result }
-{
-    match message {
-        Message::Query { key } => end.ask(key),
-        own => end.submit(own),
     }
 }
 
@@ -78,58 +44,45 @@ fn apply_each<G: Gate>(end: &mut RepoEnd, parties: u32, gate: &G) -> Result<bool
 /// A turn of a repository's worker: it tries its next message once, and then looks once for a frame from each party.
 fn repo_turn<G: Gate>(
     end: &mut RepoEnd,
-    list: &[Shared<Message>],
-    count: usize,
+    agenda: &mut Agenda,
     parties: u32,
     gate: &G,
-) -> (usize, Result<bool, AllocError>)
-    requires { HasSubmitted end.old count list.now }
+) -> Result<bool, AllocError>
     ensures same { SameRepoEnd end.old end.new }
-    ensures submitted { HasSubmitted end.new result.0 list.now }
+    ensures kept { own_of end.new ++ agenda.new ≡ own_of end.old ++ agenda.old }
 {
     repo_end_stays();
-    let (count, submitted) = submit_next(end, list, count);
-    let Ok(submitted) = submitted else {
-        return (count, Err(AllocError));
-    };
-    match apply_each(end, parties, gate) {
-        Ok(applied) => (count, Ok(submitted || applied)),
-        Err(error) => (count, Err(error)),
-    }
+    let submitted = agenda.submit_next(end)?;
+    let applied = apply_each(end, parties, gate)?;
+    Ok(submitted || applied)
 }
 
-/// The turns of a repository's worker. The flag says whether it ended for want of memory.
-#[tactic(auto, using(crate::proofs::WorkLemmas::take_begins))]
+/// The turns of a repository's worker. It answers whether it ended for want of memory.
 pub(crate) fn repo_turns<R: Wait, G: Gate>(
     rt: &R,
-    end: RepoEnd,
-    list: &[Shared<Message>],
+    end: &mut RepoEnd,
+    agenda: &mut Agenda,
     gate: &G,
     course: &Course,
-) -> (RepoEnd, bool)
-    requires { IsUnused end }
-    ensures same { SameRepoEnd end result.0 }
-    ensures begins { Begins (own_of result.0) list.now }
+) -> bool
+    ensures same { SameRepoEnd end.old end.new }
+    ensures kept { own_of end.new ++ agenda.new ≡ own_of end.old ++ agenda.old }
 {
     repo_end_stays();
-    let mut end = end;
-    let mut count = 0;
     if !course.start.wait(rt) {
-        return (end, false);
+        return false;
     }
     let worker = end.party();
     let mut pause = Pause::new();
     for _turn in 0..course.turns {
         let moves = course.moves_before(&pause);
-        let (after, moved) = repo_turn(&mut end, list, count, course.parties, gate);
-        count = after;
-        let turn = Turn::of(moved);
+        let turn = Turn::of(repo_turn(end, agenda, course.parties, gate));
         if !course.goes_on(rt, worker, moves, turn, &mut pause) {
-            return (end, turn.is_refused());
+            return turn.is_refused();
         }
     }
     course.standstill.gone(worker);
-    (end, false)
+    false
 }
 
 /// Routes once from each party.
@@ -181,25 +134,24 @@ fn hub_turn(hub: &mut HubEnd, waiting: &mut Waiting, parties: u32) -> Result<boo
     Ok(moved)
 }
 
-/// The turns of the hub's worker. The flag says whether it ended for want of memory.
-pub(crate) fn hub_turns<R: Wait>(rt: &R, hub: HubEnd, course: &Course) -> (HubEnd, bool)
-    ensures { SameHubEnd hub result.0 }
+/// The turns of the hub's worker. It answers whether it ended for want of memory.
+pub(crate) fn hub_turns<R: Wait>(rt: &R, hub: &mut HubEnd, course: &Course) -> bool
+    ensures { SameHubEnd hub.old hub.new }
 {
     hub_end_stays();
-    let mut hub = hub;
     if !course.start.wait(rt) {
-        return (hub, false);
+        return false;
     }
     let worker = course.parties;
     let mut waiting = Waiting::new();
     let mut pause = Pause::new();
     for _turn in 0..course.turns {
         let moves = course.moves_before(&pause);
-        let turn = Turn::of(hub_turn(&mut hub, &mut waiting, course.parties));
+        let turn = Turn::of(hub_turn(hub, &mut waiting, course.parties));
         if !course.goes_on(rt, worker, moves, turn, &mut pause) {
-            return (hub, turn.is_refused());
+            return turn.is_refused();
         }
     }
     course.standstill.gone(worker);
-    (hub, false)
+    false
 }

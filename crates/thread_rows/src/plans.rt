@@ -2,7 +2,7 @@
 
 use mv_hub::Parties;
 use mv_machine::Limits;
-use mv_message::{Message, Party, Shared};
+use mv_message::{Message, Party};
 use mv_plan::{Planned, read_plan};
 use mv_tool::work;
 use mv_workers::{Gate, NoGate, Plan, Work, WorkFault, run_workers};
@@ -78,7 +78,7 @@ fn reads_a_plan(rt: HostRuntime) {
 fn empty_plan(alloc: Global, lists: usize) -> Option<Plan> {
     let mut parties = Vec::with_capacity(alloc, 1).ok()?;
     parties.push_reserved(Vec::new(alloc));
-    let mut work: Vec<Vec<Shared<Message>>> = Vec::new(alloc);
+    let mut work: Vec<Vec<Message>> = Vec::new(alloc);
     for _list in 0..lists {
         work.push(Vec::new(alloc)).ok()?;
     }

@@ -10,17 +10,23 @@
 //!
 //! With the word `states` it does so behind each step. For one step, for two and so on it opens the system anew, takes the first steps
 //! as one run, and writes the last reply and what the system shows then.
+//!
+//! With `links SHAPE N` it reads nothing. It routes a repackaging for each link of N batches through a hub, and writes how many batches
+//! descend from the first: `chain` links each to the next, `ring` the last to the first too, and `complete` each to each other.
+//! `bench/run` takes the time.
 #![tactic(auto)]
 
 mod catalogues;
 mod copies;
 mod items;
+mod links;
 mod lists;
 mod named;
 mod page;
 
 use crate::catalogues::write_catalogues;
 use crate::copies::write_copies;
+use crate::links::{Linked, count_descendants};
 use crate::lists::{write_lists, write_wires};
 use crate::named::Named;
 use crate::page::Page;
@@ -33,15 +39,24 @@ use std::env;
 use std::io::{Read, Write};
 use std::process::ExitCode;
 
-/// What is to be written.
+/// What is to be written of a run.
 #[derive(Clone, Copy)]
-enum Task {
+enum Wanted {
     /// The replies alone.
     Replies,
     /// The replies, and what the system shows behind the last.
     State,
     /// Each reply, and what the system shows behind it.
     States,
+}
+
+/// What the words ask for.
+#[derive(Clone, Copy)]
+enum Task {
+    /// To take the lines of the input as one run, and to write this.
+    Run(Wanted),
+    /// To write how many batches descend from the first of some that are linked.
+    Links(Linked),
 }
 
 /// What is written of one run.
@@ -108,16 +123,16 @@ impl<'a> Plan<'a> {
         self.steps.push(step).ok()
     }
 
-    /// Writes what the task asks for.
-    fn answer(&self, task: Task, page: &mut Page) -> Option<()> {
+    /// Writes what is wanted.
+    fn answer(&self, wanted: Wanted, page: &mut Page) -> Option<()> {
         let steps = self.steps.as_slice();
-        match task {
-            Task::Replies => self.write_run(page, steps, Shown::Replies),
-            Task::State => {
+        match wanted {
+            Wanted::Replies => self.write_run(page, steps, Shown::Replies),
+            Wanted::State => {
                 let mut named = Named::new(self.alloc);
                 self.write_state_at_end(page, &mut named)
             }
-            Task::States => {
+            Wanted::States => {
                 let mut named = Named::new(self.alloc);
                 self.write_states(page, &mut named)
             }
@@ -234,26 +249,39 @@ fn parties_with(alloc: Global, lists: MarketLists, limits: Limits) -> Option<(Pa
     }
 }
 
-/// Writes what is written to an input.
-fn answer(alloc: Global, input: &[u8], task: Task, page: &mut Page) -> Option<()> {
+/// Writes what is wanted of an input.
+fn answer(alloc: Global, input: &[u8], wanted: Wanted, page: &mut Page) -> Option<()> {
     let mut plan = Plan::new(alloc);
-    answer_by(&mut plan, input, task, page)
+    answer_by(&mut plan, input, wanted, page)
 }
 
 /// The same, by a plan that is filled with the lines of the input.
-fn answer_by<'a>(plan: &mut Plan<'a>, input: &'a [u8], task: Task, page: &mut Page) -> Option<()> {
+fn answer_by<'a>(
+    plan: &mut Plan<'a>,
+    input: &'a [u8],
+    wanted: Wanted,
+    page: &mut Page,
+) -> Option<()> {
     plan.take_lines(input)?;
-    plan.answer(task, page)
+    plan.answer(wanted, page)
+}
+
+/// Writes how many batches descend from the first of these.
+fn write_descendants(linked: Linked, page: &mut Page) -> Option<()> {
+    let count = count_descendants(page.alloc(), linked)?;
+    let text = format!(in page.alloc(); "{count}").ok()?;
+    page.line(text.as_str())
 }
 
 /// What the words behind the program's name ask for; none where they are mistaken.
 fn task_of(words: &[String]) -> Option<Task> {
     let Some(word) = words.get(1) else {
-        return Some(Task::Replies);
+        return Some(Task::Run(Wanted::Replies));
     };
     match word.as_str() {
-        "state" => Some(Task::State),
-        "states" => Some(Task::States),
+        "state" => Some(Task::Run(Wanted::State)),
+        "states" => Some(Task::Run(Wanted::States)),
+        "links" => Some(Task::Links(Linked::of_words(words)?)),
         _ => None,
     }
 }
@@ -268,13 +296,19 @@ fn main(rt: HostRuntime) -> ExitCode {
     let Some(task) = task_of(&words) else {
         return ExitCode::from(2);
     };
-    let mut input = Vec::new(rt.alloc());
-    let mut reader = rt.stdin();
-    if reader.read_to_end(&mut input).is_err() {
-        return ExitCode::from(1);
-    }
     let mut page = Page::new(rt.alloc());
-    if answer(rt.alloc(), input.as_slice(), task, &mut page).is_none() {
+    let written = match task {
+        Task::Links(linked) => write_descendants(linked, &mut page),
+        Task::Run(wanted) => {
+            let mut input = Vec::new(rt.alloc());
+            let mut reader = rt.stdin();
+            if reader.read_to_end(&mut input).is_err() {
+                return ExitCode::from(1);
+            }
+            answer(rt.alloc(), input.as_slice(), wanted, &mut page)
+        }
+    };
+    if written.is_none() {
         return ExitCode::from(1);
     }
     let mut writer = rt.stdout();

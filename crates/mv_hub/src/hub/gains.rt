@@ -1,17 +1,16 @@
 //! How what a routing puts on the links of its sender is pushed. Nothing of this can fail.
 
-ghost use Rattle.std.specs.Prelude.{◌≡◌, ◌<◌, ◌==◌, ℕ, [], ◌∷◌, length, replicate, true};
-ghost use Rattle.std.specs.Prelude.{if◌then◌else◌};
-ghost use Rattle.std.specs.Option.{option_to_list};
+ghost use Rattle.std.specs.Prelude.{◌≡◌, ◌<◌, ℕ, [], ◌∷◌, length, replicate, true};
 ghost use Rattle.mv_link.specs.Sending.{HasRoom};
 ghost use Rattle.mv_pairs.specs.Pairs.{IsSquare};
 ghost use Rattle.mv_link.specs.PartySets.{has_party, parties_in};
-ghost use Rattle.mv_hub.specs.Gains.{PushesItems, PushesRow, carried_to, gain_of};
+ghost use Rattle.mv_hub.specs.Gains.{PushesItems, PushesRow, receipt_to, carried_to, gain_of};
+ghost use Rattle.mv_hub.specs.Targets.{is_query};
 ghost use Rattle.mv_hub.specs.Kept.{link_at};
 
 use crate::hub::routing::Routing;
-use mv_link::{Item, Outgoing};
-use mv_message::{Message, Party, Shared};
+use mv_link::{Item, Outgoing, Reached};
+use mv_message::{Message, Shared};
 use mv_pairs::PairTable;
 
 /// Pushes an item on a link that has room for it.
@@ -26,17 +25,31 @@ fn put_one(link: &mut Outgoing, item: Item)
     }
 }
 
-/// Pushes a receipt, if there is one, on the link of its sender to itself.
-fn put_receipt(links: &mut PairTable<Outgoing>, from: Party, receipt: Option<Item>)
-    requires square { IsSquare (length links.old) links.old }
-    requires from { from < length links.old }
-    requires room { HasRoom (link_at links.old from from) (length (option_to_list receipt)) }
-    ensures { PushesRow (length links.old) from
-        (λ to. if to == from then option_to_list receipt else []) links.old links.new }
+/// Whether a message asks about a pack.
+fn is_query(message: &Message) -> bool
+    ensures { result ≡ is_query message.now }
 {
-    if let Some(item) = receipt {
-        put_one(links.at_mut(from, from), item);
+    matches!(message, Message::Query { .. })
+}
+
+/// Pushes the receipt on the link of its sender to itself, while that is open.
+fn put_receipt(links: &mut PairTable<Outgoing>, routing: &Routing<'_>)
+    requires square { IsSquare (length links.old) links.old }
+    requires from { routing.now.from < length links.old }
+    requires room { HasRoom (link_at links.old routing.now.from routing.now.from)
+        (length (receipt_to routing.now routing.now.from)) }
+    ensures { PushesRow (length links.old) routing.now.from (receipt_to routing.now)
+        links.old links.new }
+{
+    if !routing.receipted {
+        return;
     }
+    let receipt = Item::Receipt {
+        k: routing.k,
+        reach: Reached::of(routing.reached),
+        query: is_query(routing.message.get()),
+    };
+    put_one(links.at_mut(routing.from, routing.from), receipt);
 }
 
 /// Pushes the message on the link to each party that it reaches.
@@ -72,7 +85,6 @@ fn put_carried(
 pub(super) fn put_gains(
     links: &mut PairTable<Outgoing>,
     routing: &Routing<'_>,
-    receipt: Option<Item>,
     shares: Vec<Shared<Message>>,
 )
     requires square { IsSquare (length links.old) links.old }
@@ -82,10 +94,10 @@ pub(super) fn put_gains(
         ≡ replicate (length (parties_in routing.now.reached)) routing.now.message.now }
     requires room { (to : ℕ) → to < length links.old
         → HasRoom (link_at links.old routing.now.from to)
-        (length (gain_of routing.now (option_to_list receipt) to)) }
-    ensures { PushesRow (length links.old) routing.now.from
-        (gain_of routing.now (option_to_list receipt)) links.old links.new }
+        (length (gain_of routing.now to)) }
+    ensures { PushesRow (length links.old) routing.now.from (gain_of routing.now)
+        links.old links.new }
 {
-    put_receipt(links, routing.from, receipt);
+    put_receipt(links, routing);
     put_carried(links, routing, shares);
 }

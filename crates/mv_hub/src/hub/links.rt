@@ -60,6 +60,7 @@ impl Hub {
     ///
     /// The first of these that holds is the fault: H4, one of the parties is none; H8, every item of the link has been
     /// relayed; H7, memory was refused.
+    #[tactic(auto, using(crate::proofs::HubLemmas::sent_at))]
     pub fn relay(&mut self, from: Party, to: Party) -> Result<Frame, HubFault>
         ensures number { IfOk result (λ frame. frame.number ≡ sent_of self.old from to + 1) }
         ensures frame { IfOk result (λ frame. IsFrameOf (items_on self.old from to) frame) }

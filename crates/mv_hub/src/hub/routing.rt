@@ -3,20 +3,18 @@
 
 ghost use Rattle.std.specs.Prelude.{◌≡◌, ◌+◌, ◌<◌, ℕ, length, replicate, find, true, IfOk};
 ghost use Rattle.std.specs.Prelude.{OnOk, OnErr, None};
-ghost use Rattle.std.specs.Option.{option_to_list};
 ghost use Rattle.mv_hub.specs.Record.{routed_count};
 ghost use Rattle.mv_hub.specs.Targets.{reach};
 ghost use Rattle.mv_link.specs.PartySets.{has_party, parties_in};
 ghost use Rattle.mv_link.specs.Fault.{FailsBy};
 ghost use Rattle.mv_link.specs.declared.limits.TheConstants.{NUMBER_LIMIT};
-ghost use Rattle.mv_hub.specs.Hub.{next_items, is_busy, busy_party, route_fault, with_routed};
-ghost use Rattle.mv_hub.specs.Gains.{IsRouting, receipt_of};
+ghost use Rattle.mv_hub.specs.Hub.{is_busy, busy_party, route_fault, with_routed};
+ghost use Rattle.mv_hub.specs.Gains.{IsRouting};
 
 use crate::hub::Hub;
 use crate::hub::gains::put_gains;
-use crate::hub::targets::is_query;
 use crate::{Entry, RouteFault};
-use mv_link::{Item, PartySet, Reached};
+use mv_link::{PartySet, Reached};
 use mv_message::{Message, Party, Shared};
 use std::alloc::{AllocError, Global};
 
@@ -31,6 +29,8 @@ pub(super) struct Routing<'a> {
     pub(super) k: u32,
     /// Its place in the record, from one.
     pub(super) stamp: u32,
+    /// Whether its sender gets a receipt: its link to itself is open.
+    pub(super) receipted: bool,
     /// The parties that it reaches.
     pub(super) reached: PartySet,
 }
@@ -49,12 +49,14 @@ impl Hub {
             message,
             k: self.routed_count(from) + 1,
             stamp: self.record().len() as u32 + 1,
+            receipted: self.is_open(from, from),
             reached: self.reached(from, message.get()),
         }
     }
 
     /// The parties whose links gain something: those that the message reaches, and its sender, where its link to itself is
     /// open. No other link is busy.
+    #[tactic(auto, using(crate::proofs::HubLemmas::reached_below))]
     fn gaining(&self, routing: &Routing<'_>) -> PartySet
         requires { IsRouting self.now routing.now }
         ensures parties { (to : ℕ) → has_party result to ≡ true → to < length self.now.parties }
@@ -69,27 +71,15 @@ impl Hub {
         routing.reached.with(from)
     }
 
-    /// How many items the routing puts on a link.
-    fn gain_count(&self, routing: &Routing<'_>, to: Party) -> u32
-        requires routing { IsRouting self.now routing.now }
-        requires to { to < length self.now.parties }
-        ensures { result
-            ≡ length (next_items self.now routing.now.from routing.now.message.now to) }
-    {
-        let carried = u32::from(routing.reached.has(to));
-        if to != routing.from {
-            return carried;
-        }
-        u32::from(self.is_open(to, to)) + carried
-    }
-
     /// Whether a link has no room for what the routing puts on it.
+    #[tactic(auto, using(crate::proofs::HubLemmas::length_next_items, crate::proofs::HubLemmas::busy_is))]
     fn is_busy(&self, routing: &Routing<'_>, to: Party) -> bool
         requires routing { IsRouting self.now routing.now }
         requires to { to < length self.now.parties }
         ensures { result ≡ is_busy self.now routing.now.from routing.now.message.now to }
     {
-        let count = self.gain_count(routing, to);
+        let receipted = to == routing.from && routing.receipted;
+        let count = u32::from(receipted) + u32::from(routing.reached.has(to));
         !self.link(routing.from, to).room(count)
     }
 
@@ -107,22 +97,8 @@ impl Hub {
         None
     }
 
-    /// The receipt of the routing, unless the link of its sender to itself is closed.
-    fn receipt(&self, routing: &Routing<'_>) -> Option<Item>
-        requires { IsRouting self.now routing.now }
-        ensures { option_to_list result ≡ receipt_of self.now routing.now }
-    {
-        if !self.is_open(routing.from, routing.from) {
-            return None;
-        }
-        Some(Item::Receipt {
-            k: routing.k,
-            reach: self.reach_of(routing),
-            query: is_query(routing.message.get()),
-        })
-    }
-
     /// The parties that the message reaches.
+    #[tactic(auto, using(crate::proofs::HubLemmas::reach_listed))]
     fn reach_of(&self, routing: &Routing<'_>) -> Reached
         requires { IsRouting self.now routing.now }
         ensures { result ≡ reach self.now.parties self.now.entries
@@ -135,13 +111,11 @@ impl Hub {
     fn put_routed(
         &mut self,
         routing: &Routing<'_>,
-        receipt: Option<Item>,
         shares: Vec<Shared<Message>>,
     ) -> Result<(), AllocError>
         requires routing { IsRouting self.old routing.now }
         requires short_record { length self.old.entries < NUMBER_LIMIT }
         requires room { busy_party self.old routing.now.from routing.now.message.now ≡ None }
-        requires receipt { option_to_list receipt ≡ receipt_of self.old routing.now }
         requires shares { shares.items
             ≡ replicate (length (parties_in routing.now.reached)) routing.now.message.now }
         ensures ok { OnOk result
@@ -152,7 +126,7 @@ impl Hub {
         let message = routing.message.share()?;
         self.trail.push(Entry::Routed { from, k, message })?;
         // Nothing fails from here on.
-        put_gains(&mut self.links, routing, receipt, shares);
+        put_gains(&mut self.links, routing, shares);
         self.routed_counts[from as usize] = k;
         Ok(())
     }
@@ -163,7 +137,7 @@ impl Hub {
     ///
     /// The first of these that holds is the fault: H4, there is no such party; H5, a link has no room for what it would
     /// gain, the least such; H7, memory was refused.
-    #[tactic(auto, using(crate::proofs::HubLemmas::stranger_is_not_routed, crate::proofs::HubLemmas::party_is_routed))]
+    #[tactic(auto, unfolding(crate::specs::Hub::route_fault))]
     pub fn route(
         &mut self,
         from: Party,
@@ -185,9 +159,8 @@ impl Hub {
             return Err(RouteFault::Busy(to));
         }
         let reached = self.reach_of(&routing);
-        let receipt = self.receipt(&routing);
         let shares = shares_of(self.alloc, message, routing.reached)?;
-        self.put_routed(&routing, receipt, shares)?;
+        self.put_routed(&routing, shares)?;
         Ok((routing.k, reached))
     }
 }

@@ -2,7 +2,7 @@
 
 ghost use Rattle.std.specs.Prelude.{◌≡◌, ◌<◌, ◌≤◌, ◌&&◌, ℕ, length, nat_lt};
 ghost use Rattle.mv_hub.specs.Record.{market_table};
-ghost use Rattle.mv_hub.specs.Targets.{serves_product, is_reached, is_candidate, is_query};
+ghost use Rattle.mv_hub.specs.Targets.{serves_product, is_reached, is_target};
 ghost use Rattle.mv_link.specs.PartySets.{has_party};
 
 use crate::hub::Hub;
@@ -15,7 +15,7 @@ impl Hub {
     fn market_table(&self, gtin: &Gtin) -> &[Market]
         ensures { result.now ≡ market_table self.now.entries gtin.now }
     {
-        match self.trail.markets(gtin) {
+        match self.markets(gtin) {
             Some(markets) => markets,
             None => &[],
         }
@@ -29,11 +29,12 @@ impl Hub {
         self.parties().servers(self.market_table(gtin))
     }
 
-    /// The parties that a message may be for, whoever sends it.
+    /// The parties that a message from a party is for.
     #[tactic(auto, unfolding(crate::specs::Targets::is_target))]
-    fn candidates(&self, message: &Message) -> PartySet
+    fn targets(&self, from: Party, message: &Message) -> PartySet
+        requires { from < PARTIES_LIMIT }
         ensures { (to : ℕ) → has_party result to ≡ (nat_lt to (length self.now.parties)
-            && is_candidate self.now.parties self.now.entries message.now to) }
+            && is_target self.now.parties self.now.entries from message.now to) }
     {
         match message {
             Message::Master { gtin, product } => {
@@ -48,30 +49,21 @@ impl Hub {
             Message::Status { key, .. } => self.servers(&key.gtin),
             Message::Recall { key, .. } => self.servers(&key.gtin),
             Message::Withdraw { gtin, .. } => self.servers(gtin),
-            Message::Query { key } => self.servers(&key.gtin),
+            // No party asks itself.
+            Message::Query { key } => self.servers(&key.gtin).without(from),
             Message::Answer { asker, .. } => self.parties().alone(*asker),
         }
     }
 
-    /// The parties that a message from a party reaches: of those that it may be for, those to which the link is open. No
-    /// party asks itself.
+    /// The parties that a message from a party reaches: of those that it is for, those to which the link is open.
+    #[tactic(auto, using(crate::proofs::HubLemmas::open_at, crate::proofs::HubLemmas::reached_of))]
     pub(super) fn reached(&self, from: Party, message: &Message) -> PartySet
         requires { from < length self.now.parties }
         ensures parties { (to : ℕ) → has_party result to
             ≡ is_reached self.now.parties self.now.entries from message.now to }
         ensures few { length self.now.parties ≤ PARTIES_LIMIT }
     {
-        let reached = self.candidates(message).and(self.open_links[from as usize]);
-        if is_query(message) {
-            return reached.without(from);
-        }
-        reached
+        let open = self.open_links[from as usize];
+        self.targets(from, message).and(open)
     }
-}
-
-/// Whether a message asks about a pack.
-pub(super) fn is_query(message: &Message) -> bool
-    ensures { result ≡ is_query message.now }
-{
-    matches!(message, Message::Query { .. })
 }

@@ -113,17 +113,6 @@ impl World {
         Ok(number)
     }
 
-    /// The frame of this number of a link, which was relayed before. Nothing changes.
-    fn frame_again(&self, from: Party, to: Party, number: u32) -> Result<Frame, HubFault>
-        requires { IsTrue (are_parties (hub_of self.now) from to) }
-        ensures number { IfOk result (λ frame. frame.number ≡ number) }
-        ensures frame { IfOk result (λ frame. IsFrameOf (items_on (hub_of self.now) from to) frame) }
-        ensures fault { FailsBy HubFault.Memory
-            (repeat_fault (hub_of self.now) from to number) result }
-    {
-        self.hub.repeat(from, to, number)
-    }
-
     /// Puts a frame of a link on its wire again.
     pub(super) fn put_repeated(
         &mut self,
@@ -139,7 +128,7 @@ impl World {
         ensures fault { FailsBy HubFault.Memory
             (repeat_fault (hub_of self.old) from to number) result }
     {
-        let frame = self.frame_again(from, to, number)?;
+        let frame = self.hub.repeat(from, to, number)?;
         self.push_frame(from, to, frame);
         Ok(())
     }

@@ -2,9 +2,8 @@
 
 ghost use Rattle.std.specs.Prelude.{◌≡◌, length, IsTrue, slice_get};
 ghost use Rattle.mv_machine.specs.Limits.{AreBounds};
-ghost use Rattle.mv_repository.specs.Verdict.{local_verdict, joint_verdict};
 ghost use Rattle.mv_hub.specs.Hub.{are_parties};
-ghost use Rattle.mv_machine.specs.State.{is_uplink_full, log_of, is_party, waiting_of, hub_of};
+ghost use Rattle.mv_machine.specs.State.{is_uplink_full, is_party, waiting_of, hub_of};
 ghost use Rattle.mv_machine.specs.State.{wire_of, is_wire_full};
 ghost use Rattle.mv_system.specs.Wire.{numbers_of};
 
@@ -12,8 +11,6 @@ use crate::wire::Wire;
 use crate::world::World;
 use mv_machine::Limits;
 use mv_message::Party;
-use mv_pack::PackKey;
-use mv_repository::{Joint, Local};
 
 impl World {
     /// The limits of the system.
@@ -48,38 +45,14 @@ impl World {
         self.waiting_count(from) == limits.uplink() as usize
     }
 
-    /// The verdict of a party's own repository on a pack.
-    pub(super) fn local_verdict(&self, party: Party, key: &PackKey) -> Local
-        requires { IsTrue (is_party self.now party) }
-        ensures { result ≡ local_verdict key.now (log_of self.now party) }
-    {
-        self.repository(party).verify(key)
-    }
-
-    /// The verdict of all repositories that were asked, on a query of a party.
-    pub(super) fn joint_verdict(&self, party: Party, q: u32) -> Joint
-        requires { IsTrue (is_party self.now party) }
-        ensures { result ≡ joint_verdict party (log_of self.now party) q }
-    {
-        self.repository(party).verdict(q)
-    }
-
     /// The wire of a link.
     #[tactic(auto, using(crate::proofs::SystemLemmas::wires_at, crate::proofs::SystemLemmas::wires_len_at))]
-    pub(super) fn wire(&self, from: Party, to: Party) -> &Wire
+    fn wire(&self, from: Party, to: Party) -> &Wire
         requires { IsTrue (are_parties (hub_of self.now) from to) }
         ensures numbers { numbers_of result.now.frames ≡ wire_of self.now from to }
         ensures len { length result.now.frames ≡ length (wire_of self.now from to) }
     {
         self.wires.at(from, to)
-    }
-
-    /// How many frames of a link are under way.
-    pub(super) fn wire_len(&self, from: Party, to: Party) -> usize
-        requires { IsTrue (are_parties (hub_of self.now) from to) }
-        ensures { result ≡ length (wire_of self.now from to) }
-    {
-        self.wire(from, to).len()
     }
 
     /// Whether as many frames of a link are under way as its wire takes.
@@ -88,7 +61,7 @@ impl World {
         ensures { result ≡ is_wire_full self.now from to }
     {
         let limits = self.limits();
-        self.wire_len(from, to) >= limits.wire() as usize
+        self.wire(from, to).len() >= limits.wire() as usize
     }
 
     /// The number of the frame at a place of a wire, the front at 0.

@@ -1,4 +1,5 @@
 //! The steps: each asks the readers and makes one change. No step opens a field.
+#![tactic(auto, unfolding(mv_machine::specs::Runs::Allows, mv_machine::specs::Runs::Meets, mv_machine::specs::Steps::submit, mv_machine::specs::Steps::verify, mv_machine::specs::Steps::ask, mv_machine::specs::Steps::route, mv_machine::specs::Steps::relay, mv_machine::specs::Steps::apply, mv_machine::specs::Steps::repeat, mv_machine::specs::Steps::close, mv_machine::specs::Steps::lose, mv_machine::specs::Steps::verdict))]
 
 ghost use Rattle.mv_machine.specs.Runs.{Meets, Allows};
 ghost use Rattle.mv_machine.specs.Steps.{ask};
@@ -12,6 +13,7 @@ use mv_repository::Local;
 
 impl World {
     /// Takes one step.
+    #[tactic(auto)]
     pub(super) fn take_step(&mut self, step: &Step) -> Reply
         ensures { Allows self.old step.now result self.new }
     {
@@ -29,7 +31,6 @@ impl World {
     }
 
     /// A party submits a message, and is told its number.
-    #[tactic(auto, unfolding(mv_machine::specs::Runs::Allows, mv_machine::specs::Runs::Meets, mv_machine::specs::Steps::submit))]
     fn submit(&mut self, from: Party, message: &Shared<Message>) -> Reply
         ensures { Allows self.old (Step.Submit from message.now) result self.new }
     {
@@ -43,21 +44,19 @@ impl World {
     }
 
     /// A party verifies a pack: its own repository gives the verdict where it holds the pack, else the others are asked.
-    #[tactic(auto, unfolding(mv_machine::specs::Runs::Allows, mv_machine::specs::Runs::Meets, mv_machine::specs::Steps::verify))]
     fn verify(&mut self, party: Party, key: &PackKey) -> Reply
         ensures { Allows self.old (Step.Verify party key.now) result self.new }
     {
         if !self.is_party(party) {
             return Reply::Refused(Refusal::Party);
         }
-        match self.local_verdict(party, key) {
+        match self.repository(party).verify(key) {
             Local::Known(verdict) => Reply::Known(verdict),
             Local::Absent => self.take_query(party, key),
         }
     }
 
     /// Submits a query of a pack, without a look at the party's own repository.
-    #[tactic(auto, unfolding(mv_machine::specs::Runs::Meets, mv_machine::specs::Steps::ask))]
     pub(super) fn take_query(&mut self, party: Party, key: &PackKey) -> Reply
         ensures { Meets self.old (ask self.old party key.now) result self.new }
     {
@@ -71,7 +70,6 @@ impl World {
     }
 
     /// The hub routes the message in front of an uplink.
-    #[tactic(auto, unfolding(mv_machine::specs::Runs::Allows, mv_machine::specs::Runs::Meets, mv_machine::specs::Steps::route))]
     fn route(&mut self, from: Party) -> Reply
         ensures { Allows self.old (Step.Route from) result self.new }
     {
@@ -88,7 +86,6 @@ impl World {
     }
 
     /// The next frame of a link goes on its wire.
-    #[tactic(auto, unfolding(mv_machine::specs::Runs::Allows, mv_machine::specs::Runs::Meets, mv_machine::specs::Steps::relay))]
     fn relay(&mut self, from: Party, to: Party) -> Reply
         ensures { Allows self.old (Step.Relay from to) result self.new }
     {
@@ -105,7 +102,6 @@ impl World {
     }
 
     /// A party takes the frame in front of a wire. Where it refuses, the frame stays there.
-    #[tactic(auto, unfolding(mv_machine::specs::Runs::Allows, mv_machine::specs::Runs::Meets, mv_machine::specs::Steps::apply))]
     fn apply(&mut self, from: Party, to: Party) -> Reply
         ensures { Allows self.old (Step.Apply from to) result self.new }
     {
@@ -125,7 +121,6 @@ impl World {
     }
 
     /// A frame of a link that was relayed goes on its wire again.
-    #[tactic(auto, unfolding(mv_machine::specs::Runs::Allows, mv_machine::specs::Runs::Meets, mv_machine::specs::Steps::repeat))]
     fn repeat(&mut self, from: Party, to: Party, number: u32) -> Reply
         ensures { Allows self.old (Step.Repeat from to number) result self.new }
     {
@@ -142,7 +137,6 @@ impl World {
     }
 
     /// A link is closed.
-    #[tactic(auto, unfolding(mv_machine::specs::Runs::Allows, mv_machine::specs::Runs::Meets, mv_machine::specs::Steps::close))]
     fn close(&mut self, from: Party, to: Party) -> Reply
         ensures { Allows self.old (Step.Close from to) result self.new }
     {
@@ -156,7 +150,6 @@ impl World {
     }
 
     /// The frame in front of a wire is lost.
-    #[tactic(auto, unfolding(mv_machine::specs::Runs::Allows, mv_machine::specs::Runs::Meets, mv_machine::specs::Steps::lose))]
     fn lose(&mut self, from: Party, to: Party) -> Reply
         ensures { Allows self.old (Step.Lose from to) result self.new }
     {
@@ -173,13 +166,12 @@ impl World {
     }
 
     /// The verdict of all repositories that were asked, on a query of a party.
-    #[tactic(auto, unfolding(mv_machine::specs::Runs::Allows, mv_machine::specs::Runs::Meets, mv_machine::specs::Steps::verdict))]
     fn verdict(&mut self, party: Party, q: u32) -> Reply
         ensures { Allows self.old (Step.Verdict party q) result self.new }
     {
         if !self.is_party(party) {
             return Reply::Refused(Refusal::Party);
         }
-        Reply::Joint(self.joint_verdict(party, q))
+        Reply::Joint(self.repository(party).verdict(q))
     }
 }

@@ -1,5 +1,5 @@
 use Rattle.std.proofs.lemmas.List.{take_more}
-use Rattle.mv_hub.proofs.SearchLemmas.{gathers-more}
+use Rattle.mv_hub.proofs.SearchLemmas.{gathers_more}
 use Rattle.mv_hub.proofs.batch_links.add_all.Goals as goal
 
 pub loop-batch-preserved : goal.loop-batch-preserved
@@ -7,4 +7,4 @@ loop-batch-preserved c =
     let item = c.batch-item.result in
     let front = take_more c.args.batches.now c.loop-batch.batch-index item c.loop-batch-test.true in
     rw (front, ← c.batch-item.is, c.in_ok-insert.ensures.keys, c.copy.ensures)
-    (gathers-more _ _ _ item c.loop-batch.invariant)
+    (gathers_more _ _ _ item c.loop-batch.invariant)

@@ -1,7 +1,7 @@
 use Rattle.std.proofs.Common.{◌∙◌, refl, sym, ap, arith}
 use Rattle.mv_hub.specs.Record.{product_of}
 use Rattle.mv_hub.proofs.ListingLemmas.{text-same, batch-same}
-use Rattle.mv_hub.proofs.TrailLemmas.{tables-push, tables-other}
+use Rattle.mv_hub.proofs.TrailLemmas.{tables-push}
 use Rattle.mv_hub.proofs.trail.add_to_tables.Goals as goal
 
 pub returns-in_default-clause-ok : goal.returns-in_default-clause-ok
@@ -32,4 +32,5 @@ returns-in_ok-add-in-Repack-clause-ok c = λ entries tables.
 pub returns-in_default-get-clause-ok : goal.returns-in_default-get-clause-ok
 returns-in_default-get-clause-ok c = λ entries tables.
     let m = c.in_default-get in
-    rw (c.in-Routed.is, ← c.get.ensures) (tables-other entries _ _ _ _ _ m.not-Master m.not-Upload m.not-Repack tables)
+    rw (c.in-Routed.is, ← c.get.ensures)
+    (tables-push entries _ _ _ _ _ (λ gtin. grind (arith, m.not-Master, m.not-Upload)) (λ batch. grind (arith, m.not-Repack)) tables)

@@ -1,4 +1,4 @@
-use Rattle.mv_json.proofs.KeyLemmas.{keys_ascend}
+use Rattle.mv_json.proofs.ValueLemmas.{keys_ascend}
 use Rattle.mv_json.proofs.laws.keys_ascend.Goals as goal
 
 -- the law as it stands in the lemmas

@@ -1,4 +1,4 @@
-use Rattle.mv_json.proofs.LegalLemmas.{value_spells}
+use Rattle.mv_json.proofs.ReadsLemmas.{value_spells}
 use Rattle.mv_json.proofs.laws.values_spell.Goals as goal
 
 -- the law as it stands in the lemmas

@@ -1,17 +1,21 @@
-use Rattle.std.proofs.Common.{◌∙◌, sym, subst}
-use Rattle.mv_json.proofs.ValueLemmas.{answer_version}
+use Rattle.std.proofs.Common.{refl, subst}
+use Rattle.mv_json.specs.Objects.{value_in}
+use Rattle.mv_json.specs.Tokens.{PutsValue}
+use Rattle.mv_message.specs.declared.message.Message.TheVariants.{Answer}
+use Rattle.mv_json.proofs.TokenLemmas.{one, ◌then◌, named}
 use Rattle.mv_json.proofs.message_members.put_answer.Goals as goal
 
--- of version 1
-pub returns-in-One : goal.returns-in-One
-returns-in-One g c =
-    let put = c.nested_object in
-    subst (g.T.Target.puts put.result c.args.target.now put.new.self)
-    (rw (sym (answer_version c.args.asker c.args.q c.args.key.now c.args.found.now) ∙ sym c.found_version.ensures ∙ c.in-One.is, c.in-Present.is) (cc)) put.ensures
-
--- of version 2
-pub returns-in-Two : goal.returns-in-Two
-returns-in-Two g c =
-    let put = c.nested_object-in-Two in
-    subst (g.T.Target.puts put.result c.args.target.now put.new.self)
-    (rw (sym (answer_version c.args.asker c.args.q c.args.key.now c.args.found.now) ∙ sym c.found_version.ensures ∙ c.in-Two.is, c.in-Present.is) (cc)) put.ensures
+-- the members, one after the other
+pub returns : goal.returns
+unfolding PutsValue
+returns c =
+    let put = c.put_answer_end in
+    subst (λ version. PutsValue put.result c.args.writer.now put.new.writer (value_in version (Answer c.args.asker c.args.q c.args.key.now c.args.found.now))) c.found_version-version.ensures
+    (named (
+    one c.in_ok-begin_object.ensures
+    then one c.in_ok-key.ensures
+    then one c.in_ok-u64.ensures
+    then one c.in_ok-key-2.ensures
+    then c.in_ok-put_found.ensures
+    then put.ensures
+    ) (rw (c.as_str.ensures, c.as_str-2.ensures) refl))

@@ -1,7 +1,6 @@
-use Rattle.std.proofs.Common.{subst}
+use Rattle.mv_json.proofs.TokenLemmas.{value_named}
 use Rattle.mv_json.proofs.message_members.put_withdraw.Goals as goal
 
 -- the members are those of the value
 pub returns : goal.returns
-returns g c =
-    let put = c.object in subst (g.T.Target.puts put.result c.args.target.now put.new.self) (cc) put.ensures
+returns c = value_named _ _ _ _ _ c.put_object.ensures (cc)

@@ -2,7 +2,7 @@ use Rattle.std.proofs.Common.{◌∙◌, ◌++◌, ap}
 use Rattle.std.proofs.lemmas.Str.{IsUtf8-string_bytes}
 use Rattle.serde_json.specs.Written.{compact_text}
 use Rattle.mv_json.specs.Messages.{value_of}
-use Rattle.mv_json.proofs.CanonLemmas.{canonical_reads_back}
+use Rattle.mv_json.proofs.ValueLemmas.{canonical_reads_back}
 use Rattle.mv_json.proofs.writing.text.Goals as goal
 
 -- the text stands behind nothing
@@ -10,4 +10,4 @@ pub returns-clause-reads_back : goal.returns-clause-reads_back
 returns-clause-reads_back c =
     let message = c.args.message.now in
     let bytes = c.in_ok-write_text.ensures.text ∙ ap (λ front. front ++ compact_text (value_of message)) c.new-bytes.ensures.items in
-    canonical_reads_back message _ (IsUtf8-string_bytes c.in-Ok.text) (ap (λ v. v.items) c.in-Ok.ensures.ok ∙ bytes)
+    canonical_reads_back message _ (IsUtf8-string_bytes c.in-Ok.text) (ap (λ v. v.items) c.in-Ok.ensures.ok ∙ bytes) c.know_words.ensures

@@ -5,4 +5,4 @@ use Rattle.mv_lines.proofs.canonical.canon.Goals as goal
 -- what was served are the canonical texts
 pub returns-clause-texts : goal.returns-clause-texts
 returns-clause-texts g c =
-    MatchResult-weaker c.answer_lines.result c.answer_lines.ensures.ok (λ u served. served_input _ _ _ _ served) (λ e t. t)
+    MatchResult-weaker c.answer_lines-ended.result c.answer_lines-ended.ensures.ok (λ u served. served_input _ _ _ _ served) (λ e t. t)

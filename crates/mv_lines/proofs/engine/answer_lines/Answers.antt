@@ -1,7 +1,8 @@
 use Rattle.std.proofs.KnownBytes.{Consumes-kept, Consumes-whole, Consumes-trans, Appends-trans}
 use Rattle.std.proofs.lemmas.Result.{err_from_is_err_and, IfErr-weaker, MatchResult-weaker}
+use Rattle.mv_lines.specs.declared.fault.ServeFault.TheVariants.{Read}
 use Rattle.mv_lines.proofs.InputLemmas.{taken_more}
-use Rattle.mv_lines.proofs.ServedLemmas.{unread, unread_at, halted_later, halted_last, ended_input, served_whole, read_none}
+use Rattle.mv_lines.proofs.ServedLemmas.{unread_at, halted_later, halted_last, ended_input, served_whole, read_none}
 use Rattle.mv_lines.proofs.engine.answer_lines.Goals as goal
 
 -- the read failed
@@ -62,12 +63,7 @@ returns-clause-ended g c = (
 -- and so it is known what was written
 pub returns-in_err-count-clause-err : goal.returns-in_err-count-clause-err
 returns-in_err-count-clause-err g c =
-    let p = err_from_is_err_and c.from_residual.result c.from_residual.ensures.1 in
-    rw (p.1, p.2, c.in_err-count.ensures.fault) (
-      c.loop.invariant.0,
-      Consumes-kept _ _ _ _ c.loop.invariant.1 c.in_err-count.ensures.err,
-      unread g.S.Answering.replies _ _ _ _ _ _ _ _ c.loop.invariant.3 c.loop.invariant.4 c.loop.input.few c.loop.input.not_behind c.loop.input.short,
-    )
+    IfErr-weaker c.from_residual.result _ _ (λ fault ended. ended_input g.S.Answering.replies fault _ _ _ _ _ _ ended) (returns-in_err-count-clause-ended g c)
 
 pub returns-in_err-answer_block-clause-err : goal.returns-in_err-answer_block-clause-err
 returns-in_err-answer_block-clause-err g c =
@@ -79,8 +75,4 @@ returns-then-count-eq0-clause-err g c =
     IfErr-weaker c.answer_last.result _ _ (λ fault ended. ended_input g.S.Answering.replies fault _ _ _ _ _ _ ended) (returns-then-count-eq0-clause-ended g c)
 
 pub returns-clause-err : goal.returns-clause-err
-returns-clause-err g c = (
-  c.loop.invariant.0,
-  c.loop.invariant.1,
-  unread g.S.Answering.replies _ _ _ _ _ _ _ _ c.loop.invariant.3 c.loop.invariant.4 c.loop.input.few c.loop.input.not_behind c.loop.input.short,
-)
+returns-clause-err g c = ended_input g.S.Answering.replies Read _ _ _ _ _ _ (returns-clause-ended g c)

@@ -1,4 +1,4 @@
-use Rattle.std.proofs.Common.{subst}
+use Rattle.std.proofs.Common.{◌≡◌, rules, subst}
 use Rattle.std.specs.Prelude.{Contains}
 use Rattle.mv_lines.specs.declared.field.LineField.TheVariants as fields
 use Rattle.mv_lines.specs.LineParts.{entry}
@@ -7,4 +7,5 @@ use Rattle.mv_lines.proofs.line_telling.message_in.Goals as goal
 
 pub returns : goal.returns
 returns c =
-    rw c.in_ok-message.ensures (message_told _ _ (subst (λ part. Contains c.args.entries.now (entry fields.Message part)) c.in-Message.is c.in_ok-kept.ensures))
+    let same : c.in_ok-message.message ≡ c.in-Message.kept = search rules in
+    rw same (message_told _ _ (subst (λ part. Contains c.args.entries.now (entry fields.Message part)) c.in-Message.is c.in_ok-kept.ensures))

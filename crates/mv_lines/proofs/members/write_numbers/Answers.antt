@@ -1,5 +1,10 @@
-use Rattle.mv_lines.proofs.WritingLemmas.{wholes_closed}
+use Rattle.json.specs.Token.{begin_array, end_array}
+use Rattle.mv_json.specs.Values.{whole}
+use Rattle.mv_lines.specs.Writing.{tokens_of}
+use Rattle.mv_lines.proofs.WritingLemmas.{bracketed, list_is}
 use Rattle.mv_lines.proofs.members.write_numbers.Goals as goal
 
 pub returns-clause-added : goal.returns-clause-added
-returns-clause-added c = wholes_closed c.end_array.result _ _ _ _ _ c.loop-number-test.false c.loop-number.invariant.1 c.end_array.ensures.ok
+returns-clause-added c =
+    bracketed (λ x. tokens_of (whole x)) begin_array end_array _ c.end_array.result _ _ _ _ _ (list_is whole _)
+    c.loop-number-test.false c.loop-number.invariant.1 c.end_array.ensures.ok

@@ -1,5 +1,4 @@
-use Rattle.std.proofs.Common.{◌≡◌, ◌+◌}
-use Rattle.mv_repository.specs.declared.blocks.TheConstants.{BLOCK}
+use Rattle.mv_repository.proofs.Words.{◌≡◌, ◌+◌, BLOCK}
 use Rattle.mv_repository.proofs.blocks.block_size.Given as goal
 
 -- so many more are counted

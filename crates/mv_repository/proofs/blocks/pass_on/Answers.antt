@@ -1,8 +1,5 @@
 -- One block further; from where the pack stands as it did, all is as it was.
-use Rattle.std.proofs.Common.{rules, ◌≡◌, ◌∙◌, ◌≤◌, ◌<◌, ◌+◌, ℕ, List, ap, sym, subst, arith, length, take, drop, fold, slice_set, refl}
-use Rattle.std.proofs.lemmas.List.{take-append-drop, take_all}
-use Rattle.mv_repository.specs.declared.blocks.Block.{Block}
-use Rattle.mv_repository.specs.Blocks.{AreBlocks, IsFront, entry_in, next_in, start_in}
+use Rattle.mv_repository.proofs.Words.{rules, ◌≡◌, ◌∙◌, ◌≤◌, ◌<◌, ◌+◌, ℕ, List, ap, sym, subst, arith, length, take, drop, fold, slice_set, refl, take-append-drop, take_all, Block, AreBlocks, IsFront, entry_in, next_in, start_in}
 use Rattle.mv_repository.proofs.BlockLemmas.{fold-cut, pass-after, pass-behind, pass-front}
 use Rattle.mv_repository.proofs.blocks.pass_on.Goals as goal
 

@@ -1,23 +1,7 @@
 -- The block in which the status stands is worked out again, and what stands behind it.
-use Rattle.std.proofs.Common.{◌∙◌, ◌<◌, ◌+◌, List, ap, subst, sym, refl, take, fold}
-use Rattle.mv_repository.specs.declared.blocks.Block.{Block}
-use Rattle.mv_repository.specs.Blocks.{IsFront, entry_in, next_in, start_in, without}
-use Rattle.mv_repository.proofs.BlockLemmas.{late-front, late-fold, renewed-was, renewed-standing, renewed-front, renewed-done}
+use Rattle.mv_repository.proofs.Words.{◌∙◌, ◌<◌, ◌+◌, subst, sym, refl, Block, without, entry_in, next_in, start_in}
+use Rattle.mv_repository.proofs.BlockLemmas.{renewed-was, renewed-standing, renewed-front, renewed-done}
 use Rattle.mv_repository.proofs.blocks.put_late.Goals as goal
-
-pub returns-in_default-clause-blocks : goal.returns-in_default-clause-blocks
-returns-in_default-clause-blocks c =
-    c.extend.ensures.blocks c.args.own.now
-    (subst (λ (t : List Block). IsFront (entry_in c.args.basis.now) (next_in c.args.basis.now) (start_in c.args.basis.now) t c.args.own.now c.cut_at-cut.result.by c.split_at.result.1.now) (sym c.truncate.ensures.items)
-    (subst (IsFront (entry_in c.args.basis.now) (next_in c.args.basis.now) (start_in c.args.basis.now) (take c.cut_at-cut.result.number c.args.blocks.now.items) c.args.own.now c.cut_at-cut.result.by) (sym c.split_at.ensures.back)
-    (late-front (entry_in c.args.basis.now) (next_in c.args.basis.now) (start_in c.args.basis.now) (λ n. refl) c.args.blocks.now.items c.args.own.now c.args.at c.cut_at-cut.result
-    c.requires.at c.cut_at-cut.ensures.at (c.cut_at-cut.ensures.cut (without c.args.own.now c.args.at) c.requires.was))))
-
-pub returns-in_default-clause-by : goal.returns-in_default-clause-by
-returns-in_default-clause-by c =
-    c.extend.ensures.by ∙ ap (fold (next_in c.args.basis.now) c.cut_at-cut.result.by) c.split_at.ensures.back
-    ∙ late-fold (entry_in c.args.basis.now) (next_in c.args.basis.now) (start_in c.args.basis.now) (λ n. refl) c.args.blocks.now.items c.args.own.now c.args.at c.cut_at-cut.result
-    c.requires.at c.cut_at-cut.ensures.at (c.cut_at-cut.ensures.cut (without c.args.own.now c.args.at) c.requires.was)
 
 pub pass_on-requires-clause-was : goal.pass_on-requires-clause-was
 pass_on-requires-clause-was c =

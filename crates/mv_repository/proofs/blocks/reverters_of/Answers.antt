@@ -1,13 +1,5 @@
 -- One status more.
-use Rattle.std.proofs.Common.{◌≡◌, ◌+◌, ◌%◌, ◌==◌, ◌||◌, ◌∙◌, ℕ, get_or, ap, subst, sym, take, rules, false, true≢false}
-use Rattle.std.specs.List.{AllByRecursion}
-use Rattle.mv_link.specs.declared.party_set.PartySet.{PartySet}
-use Rattle.mv_link.specs.declared.limits.TheConstants.{PARTIES_LIMIT}
-use Rattle.mv_link.specs.PartySets.{has_party}
-use Rattle.mv_repository.specs.Blocks.{IsCovered}
-use Rattle.mv_repository.specs.Pack.{is_active}
-use Rattle.mv_repository.specs.State.{standing_in}
-use Rattle.mv_repository.specs.Stops.{entry_at}
+use Rattle.mv_repository.proofs.Words.{◌≡◌, ◌+◌, ◌%◌, ◌==◌, ◌||◌, ◌∙◌, ℕ, get_or, ap, subst, sym, take, rules, false, true≢false, AllByRecursion, PartySet, PARTIES_LIMIT, has_party, IsCovered, is_active, standing_in, entry_at}
 use Rattle.mv_repository.proofs.BlockLemmas.{has-added, covered-more}
 use Rattle.mv_repository.proofs.blocks.reverters_of.Goals.{then-is_active, else-is_active}
 use Rattle.mv_repository.proofs.blocks.reverters_of.Goals as goal

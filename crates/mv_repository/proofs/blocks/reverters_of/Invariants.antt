@@ -1,7 +1,4 @@
-use Rattle.std.proofs.Common.{take}
-use Rattle.std.specs.List.{AllByRecursion}
-use Rattle.mv_repository.specs.Blocks.{IsCovered}
-use Rattle.mv_repository.specs.Stops.{entry_at}
+use Rattle.mv_repository.proofs.Words.{take, AllByRecursion, IsCovered, entry_at}
 use Rattle.mv_repository.proofs.blocks.reverters_of.Given as goal
 
 -- those so far are covered

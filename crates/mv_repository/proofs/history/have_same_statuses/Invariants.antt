@@ -1,7 +1,4 @@
-use Rattle.std.proofs.Common.{◌≡◌, ◌↔◌, map, length, ℕ, List}
-use Rattle.mv_repository.specs.declared.history.Places.{Places}
-use Rattle.mv_repository.specs.History.{SentStatus, history_at, sent_status}
-use Rattle.mv_repository.specs.Stops.{entry_at}
+use Rattle.mv_repository.proofs.Words.{◌≡◌, ◌↔◌, map, length, ℕ, List, Places, SentStatus, history_at, sent_status, entry_at}
 use Rattle.mv_repository.proofs.history.have_same_statuses.Given as goal
 
 -- these statuses as they were sent

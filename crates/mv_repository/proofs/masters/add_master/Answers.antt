@@ -1,8 +1,5 @@
 -- A late master leaves the table; any other takes the place of its code.
-use Rattle.std.specs.Prelude.{bytes_eq}
-use Rattle.std.proofs.Common.{◌≡◌, rules, true, false}
-use Rattle.std.specs.Map.{lookup}
-use Rattle.mv_repository.specs.Masters.{comes_late}
+use Rattle.mv_repository.proofs.Words.{bytes_eq, ◌≡◌, rules, true, false, lookup, comes_late}
 use Rattle.mv_repository.proofs.ProductLemmas.{masters-late-at, masters-latest-at}
 use Rattle.mv_repository.proofs.masters.add_master.Goals as goal
 

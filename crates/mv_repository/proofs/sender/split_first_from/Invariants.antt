@@ -1,5 +1,4 @@
-use Rattle.std.proofs.Common.{◌≡◌, length}
-use Rattle.mv_repository.specs.Log.{items_from}
+use Rattle.mv_repository.proofs.Words.{◌≡◌, length, items_from}
 use Rattle.mv_repository.proofs.sender.split_first_from.Given as goal
 
 -- the entries that were passed are of other parties

@@ -1,7 +1,5 @@
 -- A shelf with no pack changes nothing.
-use Rattle.std.specs.Prelude.{bytes_eq}
-use Rattle.std.proofs.Common.{◌≡◌, rules, None}
-use Rattle.std.specs.Map.{lookup}
+use Rattle.mv_repository.proofs.Words.{bytes_eq, ◌≡◌, rules, None, lookup}
 use Rattle.mv_repository.proofs.ShelvesLemmas.{IsShelved, shelf-none}
 use Rattle.mv_repository.proofs.shelves.add_shelf.Goals as goal
 

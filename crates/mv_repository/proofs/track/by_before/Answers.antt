@@ -1,8 +1,5 @@
 -- What stands in front of the cut, and then up to the place.
-use Rattle.std.proofs.Common.{◌≡◌, ◌∙◌, ◌+◌, ◌-◌, ℕ, ap, sym, arith, take, drop, fold}
-use Rattle.std.proofs.lemmas.List.Sums.{fold-append}
-use Rattle.mv_repository.specs.Blocks.{next_in, start_in}
-use Rattle.mv_repository.proofs.BlockLemmas.{take-more}
+use Rattle.mv_repository.proofs.Words.{◌≡◌, ◌∙◌, ◌+◌, ◌-◌, ℕ, ap, sym, arith, take, drop, fold, fold-append, take-add, next_in, start_in}
 use Rattle.mv_repository.proofs.track.by_before.Goals as goal
 
 pub returns : goal.returns
@@ -14,4 +11,4 @@ returns c =
     c.after.ensures
     ∙ ap (λ (n : ℕ). fold next n (take (c.args.at - cut.start) (drop cut.start own))) (c.cut_at-cut.ensures.cut own c.requires.blocks).by
     ∙ sym (fold-append next (start_in c.args.basis.now) (take cut.start own) (take (c.args.at - cut.start) (drop cut.start own)))
-    ∙ ap (fold next (start_in c.args.basis.now)) (take-more cut.start (c.args.at - cut.start) own ∙ ap (λ (n : ℕ). take n own) at)
+    ∙ ap (fold next (start_in c.args.basis.now)) (sym (take-add cut.start (c.args.at - cut.start) own) ∙ ap (λ (n : ℕ). take n own) at)

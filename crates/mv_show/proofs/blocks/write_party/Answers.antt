@@ -13,8 +13,7 @@ returns-in_err-append_subject-clause-err g c =
     let same : subjects ≡ subjects_of (log_of c.args.world.now c.args.party) =
     c.as_slice-subject-items.ensures.keys ∙ c.in_ok-subjects.ensures ∙ ap subjects_of c.log.ensures in
     err_always c.from_residual-in_err-append_subject.result (part_same values _ _ c.args.ready.now.items subjects _ same
-    (member_stop values subjects c.loop-subject.subject-index c.subject-item.result c.loop-subject-test.true c.subject-item.is
-    c.args.ready.now.items _ _ c.loop-subject.ready.items c.loop-subject.invariant))
+    (member_stop values c.args.ready.now.items subjects c.loop-subject.subject-index _ _ c.loop-subject.ready.items c.loop-subject.invariant))
 
 pub returns-in_err-put_full-clause-err : goal.returns-in_err-put_full-clause-err
 returns-in_err-put_full-clause-err g c =
@@ -23,13 +22,13 @@ returns-in_err-put_full-clause-err g c =
     let same : subjects ≡ subjects_of (log_of c.args.world.now c.args.party) =
     c.as_slice-subject-items.ensures.keys ∙ c.in_ok-subjects.ensures ∙ ap subjects_of c.log.ensures in
     err_always c.from_residual-in_err-put_full.result (part_same values _ _ c.args.ready.now.items subjects _ same
-    (member_part values subjects c.loop-subject.subject-index c.subject-item.result c.loop-subject-test.true c.subject-item.is
-    c.args.ready.now.items _ _ _ c.loop-subject.ready.items _ c.loop-subject.invariant c.in_ok-append_subject.ensures c.in_err-put_full.ensures.err))
+    (member_part values c.args.ready.now.items subjects c.loop-subject.subject-index c.subject-item.result c.loop-subject-test.true c.subject-item.is
+    _ _ _ c.loop-subject.ready.items _ c.loop-subject.invariant c.in_ok-append_subject.ensures c.in_err-put_full.ensures.err))
 
 pub loop-subject-preserved : goal.loop-subject-preserved
 loop-subject-preserved g c =
-    member_next (subject_values c.args.world.now c.args.party) c.as_slice-subject-items.result.now c.loop-subject.subject-index c.subject-item.result
-    c.loop-subject-test.true c.subject-item.is c.args.ready.now.items _ _ _ c.loop-subject.ready.items _ _ c.loop-subject.invariant
+    member_next (subject_values c.args.world.now c.args.party) c.args.ready.now.items c.as_slice-subject-items.result.now c.loop-subject.subject-index
+    c.subject-item.result c.loop-subject-test.true c.subject-item.is _ _ _ c.loop-subject.ready.items _ _ c.loop-subject.invariant
     c.in_ok-append_subject.ensures c.in_ok-put_full.ensures.ok
 
 pub returns-clause-ok : goal.returns-clause-ok

@@ -1,11 +1,16 @@
-use Rattle.std.specs.List.{range_with_len}
-use Rattle.mv_show.specs.Shown.{link_values}
-use Rattle.mv_show.proofs.BlockLemmas.{text_next}
-use Rattle.mv_show.proofs.PlaceLemmas.{range_next}
+use Rattle.std.proofs.Common.{◌++◌, ◌∙◌, ap, length, arith}
+use Rattle.mv_show.specs.Shown.{link_values, lines_text, party_numbers}
+use Rattle.mv_show.proofs.BlockLemmas.{next_texts, number_at, numbers_all, texts_of}
 use Rattle.mv_show.proofs.link_lines.append_links.Goals as goal
 
 pub loop-to-preserved : goal.loop-to-preserved
 loop-to-preserved c =
-    rw (range_next c.loop-to.to)
-    (text_next (link_values c.args.world.now c.args.from) (range_with_len 0 c.loop-to.to) c.loop-to.to c.args.out.now.items
-    c.loop-to.out.items c.append_link.new.out.items c.loop-to.invariant c.in_ok-append_link.ensures)
+    let st = c.args.world.now in
+    let at = number_at c.loop-to.to (length st.parties) (omega arith) in
+    c.in_ok-append_link.ensures ∙ ap (λ l. l ++ lines_text (link_values st c.args.from c.loop-to.to)) c.loop-to.invariant
+    ∙ next_texts (link_values st c.args.from) c.args.out.now.items (party_numbers st) c.loop-to.to c.loop-to.to at.0 at.1
+
+pub returns : goal.returns
+returns c =
+    let st = c.args.world.now in
+    c.loop-to.invariant ∙ ap (texts_of (link_values st c.args.from) c.args.out.now.items) (numbers_all c.loop-to.to (length st.parties) (omega arith))

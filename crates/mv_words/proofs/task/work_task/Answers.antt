@@ -1,7 +1,7 @@
 use Rattle.std.proofs.Common.{◌≡◌, ◌∙◌, sym, ap, codes, option_map, Some, None}
 use Rattle.clap.specs.Words.{found_of}
 use Rattle.std.specs.Str.Parse.{ParsesUnsigned, ExplainsUnsignedError, HasUnsignedDigitsIfOk}
-use Rattle.mv_words.specs.declared.task.Task.TheVariants.{Work}
+use Rattle.mv_words.specs.Words.{Work}
 use Rattle.mv_words.proofs.ParseLemmas.{text_given, turns_read}
 use Rattle.mv_words.proofs.task.work_task.Goals as goal
 

@@ -1,18 +1,10 @@
-use Rattle.std.proofs.Common.{subst, rules}
+use Rattle.std.proofs.Common.{subst}
 use Rattle.mv_ends.specs.HubEnd.{SameHubEnd}
-use Rattle.mv_ends.specs.declared.hub_end.HubEnd.{HubEnd}
-use Rattle.mv_workers.proofs.CrewLemmas.{same_back, begun_back}
+use Rattle.mv_workers.proofs.CrewLemmas.{crew_back}
 use Rattle.mv_workers.proofs.crew.work_in.Goals as goal
-
--- there is room for each end that comes back
-pub join_crew-requires-clause-room : goal.join_crew-requires-clause-room
-join_crew-requires-clause-room g c = let each = c.in-Some.ensures.1.0 in search rules
 
 pub returns : goal.returns
 returns g c =
-    let repos = c.args.repos.items in let after = c.join_crew.result.repos.items in let work = c.args.work.now in let handles = c.in-Some.handles.items in
-    let P : HubEnd → Type 0 = λ h. SameHubEnd h c.join_crew.result.hub in (
-      subst P c.in-Some.ensures.0 c.join_crew.ensures.hub,
-      same_back repos after work handles c.in-Some.ensures.1 c.join_crew.ensures.repos,
-      begun_back repos after work handles c.in-Some.ensures.1 c.join_crew.ensures.repos,
-    )
+    let back = crew_back c.args.ends.1.items c.join_crew.result.repos.items c.args.agendas.items c.in-Some.handles.items c.join_crew.result.all
+    c.in-Some.ensures.repos c.join_crew.ensures.repos in
+    (subst (λ hub. SameHubEnd hub c.join_crew.result.hub) c.in-Some.ensures.hub c.join_crew.ensures.hub, back.0, back.1)

@@ -1,3 +1,4 @@
+use Rattle.std.specs.Mem.{manually_drop_value}
 use Rattle.std.proofs.Common.{◌≡◌, rules}
 use Rattle.mv_lines.specs.Sessions.{is_refused, IsTaken}
 use Rattle.mv_checks.specs.Strict.{tallied}
@@ -8,6 +9,6 @@ use Rattle.mv_checks.proofs.strict.CountedAnswering.answer.Goals as goal
 pub returns-in_err-append_answer-clause-left : goal.returns-in_err-append_answer-clause-left
 returns-in_err-append_answer-clause-left c =
     let behind = c.if-is_refused.self-inside in
-    let taken : IsTaken c.args.self.now.world c.args.line.now c.in_ok-answered.answered behind.session = search rules in
+    let taken : IsTaken c.args.self.now.world c.args.line.now c.in_ok-answered.answered (manually_drop_value behind.session) = search rules in
     let counted : behind.untaken ≡ tallied (is_refused c.in_ok-answered.answered) c.args.number c.args.self.now.untaken = search rules in
     counted_unanswered c.from_residual-in_err-append_answer.result c.args.self.now _ _ c.in_ok-answered.answered taken counted

@@ -5,14 +5,14 @@ use mathlib.Core.List.{IsPrefix}
 use Rattle.mv_link.specs.Frames.{IsFrameOf}
 use Rattle.mv_repository.specs.Log.{items_from}
 use Rattle.mv_ends.specs.Outlets.{put_of}
-use Rattle.mv_ends.proofs.LookLemmas.{repo_further, repo_unchanged_further, outlets_further, puts_nothing_further, repo_itself}
+use Rattle.mv_ends.proofs.LookLemmas.{repo_further, repo_unchanged_further, outlets_further, outlets_itself, puts_nothing_further, repo_itself}
 use Rattle.mv_ends.proofs.repo_end.RepoEnd.look_at_links.Goals as goal
 
 pub loop-from-init : goal.loop-from-init
 loop-from-init c = (
   repo_itself c.args.self.now,
   record { site = refl; pushed = refl; taken = λ from absent below. refl },
-  (refl, λ from absent below. ((refl, refl, refl, refl), refl)),
+  outlets_itself c.args.outlets.now,
   λ from absent below. refl,
   c.requires.joined,
   λ from items below valid. absurd (omega arith),

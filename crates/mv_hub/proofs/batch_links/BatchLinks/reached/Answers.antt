@@ -1,19 +1,19 @@
 use Rattle.std.proofs.Common.{arith, sym}
 use Rattle.mv_hub.specs.Tables.{linked_in}
-use Rattle.mv_hub.proofs.SearchLemmas.{searching-start, searching-more, searching-end}
+use Rattle.mv_hub.proofs.SearchLemmas.{searching_start, searching_more, searching_end}
 use Rattle.mv_hub.proofs.batch_links.BatchLinks.reached.Goals as goal
 
 pub loop-next-init : goal.loop-next-init
 loop-next-init c =
-    searching-start (linked_in c.args.self.now) c.args.batch.now _ (rw (c.new-reached.ensures.empty, c.get.ensures) at c.in_ok-add_all.ensures)
+    searching_start (linked_in c.args.self.now) c.args.batch.now _ (rw (c.new-reached.ensures.empty, c.get.ensures) at c.in_ok-add_all.ensures)
 
 pub loop-next-preserved : goal.loop-next-preserved
 loop-next-preserved c =
-    searching-more (linked_in c.args.self.now) c.args.batch.now _ _ _ c.index-as_slice-next.result c.loop-next.invariant
+    searching_more (linked_in c.args.self.now) c.args.batch.now _ _ _ c.index-as_slice-next.result c.loop-next.invariant
     (omega (arith, c.len.ensures.len, c.loop-next-test.true)) (sym (rw c.as_slice.ensures.keys at c.index-as_slice-next.is))
     (rw (c.get-in-loop-next.ensures, c.copy-current.ensures) at c.in_ok-add_all-2.ensures)
 
 pub returns : goal.returns
 returns c =
-    searching-end (linked_in c.args.self.now) c.args.batch.now c.loop-next.next c.loop-next.reached.keys c.loop-next.invariant
+    searching_end (linked_in c.args.self.now) c.args.batch.now c.loop-next.next c.loop-next.reached.keys c.loop-next.invariant
     (omega (arith, c.len.ensures.len, c.loop-next-test.false))

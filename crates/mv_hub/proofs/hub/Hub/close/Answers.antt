@@ -2,7 +2,7 @@ use Rattle.std.proofs.Common.{◌∙◌, ◌&&◌, not, IsTrue, ap, rules, arith
 use Rattle.std.specs.Prelude.{◌==◌}
 use Rattle.std.proofs.lemmas.List.{get_or_default}
 use Rattle.mv_link.specs.PartySets.{has_party, no_parties}
-use Rattle.mv_hub.proofs.HubLemmas.{kept-closed}
+use Rattle.mv_hub.proofs.HubLemmas.{kept_closed}
 use Rattle.mv_hub.proofs.hub.Hub.close.Goals as goal
 
 pub invariant_of-self-2 : goal.invariant_of-self-2
@@ -12,5 +12,5 @@ invariant_of-self-2 c =
     let is_from = rw (← c.self.view_is) at (c.are_parties.ensures.from among) in
     let at = c.index.ensures
     ∙ get_or_default c.self.inside.open_links.items c.args.from c.index.result.now no_parties (omega (arith, is_from, kept.are_open.each)) in
-    rw c.in_ok-push.ensures.ok (kept-closed c.args.from c.args.to c.without.result kept is_from
+    rw c.in_ok-push.ensures.ok (kept_closed c.args.from c.args.to c.without.result kept is_from
     (λ other. c.without.ensures other ∙ ap (λ s. has_party s other && not (other == c.args.to)) at))

@@ -1,4 +1,6 @@
+use Rattle.std.proofs.lemmas.Result.{IfOk-weaker}
+use Rattle.mv_hub.proofs.ListingLemmas.{listed-same}
 use Rattle.mv_hub.proofs.hub.Hub.linked.Goals as goal
 
-pub returns-clause-members : goal.returns-clause-members
-returns-clause-members c = rw (← c.self.view_is) c.linked.ensures.members
+pub returns : goal.returns
+returns c = rw (← c.self.view_is) (IfOk-weaker c.linked.result _ _ (λ list. listed-same (c.batch_links.ensures c.args.batch.now)) c.linked.ensures)

@@ -1,7 +1,7 @@
 use Rattle.std.proofs.Common.{◌∙◌, ap}
 use Rattle.std.proofs.lemmas.Result.{err_from_is_err_and}
 use Rattle.mv_link.specs.Sending.{Sending, new_sending}
-use Rattle.mv_hub.proofs.HubLemmas.{sent-at, view_relayed, view_put_back}
+use Rattle.mv_hub.proofs.HubLemmas.{view_relayed, view_put_back}
 use Rattle.mv_hub.proofs.hub.Hub.relay.Goals as goal
 
 pub returns-in_err-relay-clause-err : goal.returns-in_err-relay-clause-err
@@ -10,10 +10,6 @@ returns-in_err-relay-clause-err c =
     let refused = err_from_is_err_and c.from_residual.result c.from_residual.ensures.1 in
     rw (refused.1) (view_put_back a.parties a.window a.trail a.links c.args.from c.args.to c.relay.new.self c.at_mut-link.result.now
     (c.at_mut-link.ensures.value (new_sending 0)) c.in_err-relay.ensures.err ∙ c.self.view_is)
-
-pub returns-clause-number : goal.returns-clause-number
-returns-clause-number c =
-    rw (← c.self.view_is, sent-at, c.at_mut-link.ensures.value (new_sending 0)) c.in_ok-relay.ensures.number
 
 pub returns-clause-ok : goal.returns-clause-ok
 returns-clause-ok c =

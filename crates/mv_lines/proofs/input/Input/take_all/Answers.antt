@@ -1,7 +1,7 @@
-use Rattle.std.proofs.Common.{refl, append_assoc}
+use Rattle.std.proofs.Common.{refl, [], append_assoc, append-nil}
 use Rattle.std.proofs.lemmas.Result.{err_from_is_err_and}
 use Rattle.mv_lines.proofs.PartLemmas.{cut_line, absent_unended}
-use Rattle.mv_lines.proofs.InputLemmas.{grown_stopped, grown_taken, rest_taken, rest_stopped}
+use Rattle.mv_lines.proofs.InputLemmas.{none_added, part_taken, part_stopped, grown_stopped, grown_taken}
 use Rattle.mv_lines.proofs.input.Input.take_all.Goals as goal
 
 -- this line stopped it
@@ -21,9 +21,14 @@ loop-end-preserved g c =
 -- the rest is taken
 pub returns-clause-ok : goal.returns-clause-ok
 returns-clause-ok g c =
-    rest_taken g.S.Answering.replies c.take_part.result _ _ _ _ _ _ _ _ _ _ _ _ _ _ c.loop-end.invariant.1 (absent_unended _ c.in_default.ensures) c.loop-end.self.few c.take_part.ensures.replies c.take_part.ensures.lines (c.loop-end.invariant.2, c.loop-end.invariant.3, c.loop-end.invariant.4) c.take_part.ensures.ok
+    let part = part_taken g.S.Answering.replies _ _ _ _ _ _ (absent_unended _ c.in_default.ensures) c.loop-end.self.few c.in_ok-take_part.ensures.ok c.in_ok-take_part.ensures.lines in
+    rw c.loop-end.invariant.1
+    (grown_taken g.S.Answering.replies _ _ _ (c.loop-end.invariant.2, c.loop-end.invariant.3, c.loop-end.invariant.4) ([], none_added _ _ c.in_ok-take_part.ensures.replies, part))
 
 -- the rest stopped it
-pub returns-clause-err : goal.returns-clause-err
-returns-clause-err g c =
-    rest_stopped g.S.Answering.replies c.take_part.result _ _ _ _ _ _ _ _ _ _ _ _ c.loop-end.invariant.1 (absent_unended _ c.in_default.ensures) c.loop-end.self.few c.take_part.ensures.replies (c.loop-end.invariant.2, c.loop-end.invariant.3, c.loop-end.invariant.4) c.take_part.ensures.err
+pub returns-in_err-take_part-clause-err : goal.returns-in_err-take_part-clause-err
+returns-in_err-take_part-clause-err g c =
+    let p = err_from_is_err_and c.from_residual-in_err-take_part.result c.from_residual-in_err-take_part.ensures.1 in
+    let part = part_stopped g.S.Answering.replies _ _ _ [] _ _ (absent_unended _ c.in_default.ensures) c.loop-end.self.few c.in_err-take_part.ensures.err in
+    rw (p.1, p.2) (grown_stopped g.S.Answering.replies _ _ _ _ [] (simp append-nil c.loop-end.invariant.1) c.loop-end.invariant.3 c.loop-end.invariant.4
+    ([], none_added _ _ c.in_err-take_part.ensures.replies, part))

@@ -1,7 +1,7 @@
-use Rattle.std.proofs.Common.{refl, arith, [], ◌∷◌}
+use Rattle.std.proofs.Common.{arith, [], ◌∷◌}
 use Rattle.std.proofs.lemmas.Result.{err_from_is_err_and}
-use Rattle.mv_lines.specs.declared.fault.ServeFault.TheVariants.{Memory, TooManyLines}
-use Rattle.mv_lines.proofs.InputLemmas.{none_added, part_taken, part_stopped, feed_taken, stopped_here, grown_stopped, grown_taken}
+use Rattle.mv_lines.specs.declared.fault.ServeFault.TheVariants.{Memory}
+use Rattle.mv_lines.proofs.InputLemmas.{none_added, part_stopped, line_taken, line_stopped}
 use Rattle.mv_lines.proofs.input.Input.take_line.Goals as goal
 
 -- the part stopped it
@@ -14,30 +14,17 @@ returns-in_err-take_part-clause-err g c =
       part_stopped g.S.Answering.replies _ _ _ (10 ∷ []) _ _ c.requires.unended c.args.self.now.few c.in_err-take_part.ensures.err,
     )
 
--- no line may follow
-pub returns-then-self-eq-LINES_LIMIT-clause-err : goal.returns-then-self-eq-LINES_LIMIT-clause-err
-returns-then-self-eq-LINES_LIMIT-clause-err g c =
-    grown_stopped g.S.Answering.replies _ _ _ TooManyLines [] refl
-    (none_added _ _ c.in_ok-take_part.ensures.replies)
-    (part_taken g.S.Answering.replies _ _ _ _ _ _ c.requires.unended c.args.self.now.few c.in_ok-take_part.ensures.ok c.in_ok-take_part.ensures.lines)
-    (stopped_here g.S.Answering.replies _ _ _ 10 _ _ TooManyLines c.take_part.new.self.few (omega (arith, c.if-self-eq-LINES_LIMIT.true), omega arith) refl)
-
 -- the line got no reply
 pub returns-in_err-answer_piece-clause-err : goal.returns-in_err-answer_piece-clause-err
 returns-in_err-answer_piece-clause-err g c =
     let p = err_from_is_err_and c.from_residual-in_err-answer_piece.result c.from_residual-in_err-answer_piece.ensures.1 in
-    rw (p.1, p.2, c.in_err-answer_piece.ensures.fault, c.in_err-answer_piece.ensures.err)
-    (grown_stopped g.S.Answering.replies _ _ _ Memory [] refl
-    (none_added _ _ c.in_ok-take_part.ensures.replies)
-    (part_taken g.S.Answering.replies _ _ _ _ _ _ c.requires.unended c.args.self.now.few c.in_ok-take_part.ensures.ok c.in_ok-take_part.ensures.lines)
-    (stopped_here g.S.Answering.replies _ _ _ 10 _ _ Memory c.take_part.new.self.few tt (rw c.as_slice.ensures.value at c.in_err-answer_piece.ensures.left)))
+    rw (p.1, p.2, c.in_err-answer_piece.ensures.fault, c.in_err-answer_piece.ensures.err, c.in_ok-take_part.ensures.replies)
+    (line_stopped g.S.Answering.replies _ _ _ _ _ _ _ Memory c.requires.unended c.in_ok-take_part.ensures.ok c.args.self.now.few tt
+    (rw (c.as_slice.ensures.value, c.in_ok-take_part.ensures.lines) at c.in_err-answer_piece.ensures.left))
 
--- the part is taken, and the line is answered
+-- the line is answered
 pub returns-clause-ok : goal.returns-clause-ok
 returns-clause-ok g c =
-    grown_taken g.S.Answering.replies _ _ _ (
-      [],
-      none_added _ _ c.in_ok-take_part.ensures.replies,
-      part_taken g.S.Answering.replies _ _ _ _ _ _ c.requires.unended c.args.self.now.few c.in_ok-take_part.ensures.ok c.in_ok-take_part.ensures.lines,
-    )
-    (feed_taken g.S.Answering.replies _ _ _ _ _ _ _ _ (omega (arith, c.if-self-eq-LINES_LIMIT.false, c.take_part.new.self.few)) c.take_part.new.self.short c.clear.ensures.items (omega arith) (rw c.as_slice.ensures.value at c.in_ok-answer_piece.ensures.ok))
+    line_taken g.S.Answering.replies _ _ _ _ _ _ _ _ _ _ c.requires.unended c.in_ok-take_part.ensures.ok
+    (omega (arith, c.args.self.now.not_behind, c.if-is_empty.false)) c.take_part.new.self.short c.clear.ensures.items (omega (arith, c.in_ok-take_part.ensures.lines))
+    (rw (c.as_slice.ensures.value, c.in_ok-take_part.ensures.lines, c.in_ok-take_part.ensures.replies) at c.in_ok-answer_piece.ensures.ok)

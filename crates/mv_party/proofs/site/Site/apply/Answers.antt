@@ -1,7 +1,7 @@
 -- The number of the next frame has 32 bits.
 use Rattle.std.proofs.Common.{arith, sym, ◌∙◌}
 use Rattle.mv_party.specs.Site.{count_from}
-use Rattle.mv_link.proofs.LinkLemmas.{next-number}
+use Rattle.mv_link.proofs.CallerLemmas.{next-number}
 use Rattle.mv_party.proofs.site.Site.apply.Goals as goal
 
 pub apply_next-requires-clause-count : goal.apply_next-requires-clause-count

@@ -9,7 +9,7 @@ invariant_of-self c =
     let d = c.self.inside in
     let same = ap (λ (p : Parts). length p.parties) c.self.view_is in
     let below : c.args.party < length d.work.items = omega (arith, c.requires.party, same, c.self.invariant.each, length-map d.work.items items_of) in
-    grown_can_run d.parties d.limits d.work.items c.args.party c.args.message.now c.index_mut.result.now c.add_to.new.list c.index_mut.ensures.value c.add_to.result
+    grown_can_run d.parties d.limits d.work.items c.args.party c.args.message c.index_mut.result.now c.add_to.new.list c.index_mut.ensures.value c.add_to.result
     c.self.invariant below c.requires.own c.add_to.ensures.ok c.add_to.ensures.err
 
 pub returns-clause-ok : goal.returns-clause-ok
@@ -17,11 +17,11 @@ returns-clause-ok c =
     let d = c.self.inside in
     let same = ap (λ (p : Parts). length p.parties) c.self.view_is in
     let below : c.args.party < length d.work.items = omega (arith, c.requires.party, same, c.self.invariant.each, length-map d.work.items items_of) in
-    grown d.parties d.limits d.work.items c.args.party c.args.message.now c.index_mut.result.now c.add_to.new.list c.index_mut.ensures.value c.add_to.result
+    grown d.parties d.limits d.work.items c.args.party c.args.message c.index_mut.result.now c.add_to.new.list c.index_mut.ensures.value c.add_to.result
     c.args.self.now c.self.view_is below c.add_to.ensures.ok
 
 pub returns-clause-err : goal.returns-clause-err
 returns-clause-err c =
     let d = c.self.inside in
-    not_grown d.parties d.limits d.work.items c.args.party c.args.message.now c.index_mut.result.now c.add_to.new.list c.index_mut.ensures.value c.add_to.result
+    not_grown d.parties d.limits d.work.items c.args.party c.args.message c.index_mut.result.now c.add_to.new.list c.index_mut.ensures.value c.add_to.result
     c.args.self.now c.self.view_is c.add_to.ensures.err

@@ -1,11 +1,5 @@
 -- A pack that was changed goes through as it comes, where no revert in the block is of the sender who changed it.
-use Rattle.std.proofs.Common.{◌≡◌, ◌∙◌, ◌%◌, ℕ, ap, sym, rules, false}
-use Rattle.mv_link.specs.declared.limits.TheConstants.{PARTIES_LIMIT}
-use Rattle.mv_link.specs.PartySets.{has_party}
-use Rattle.mv_repository.specs.Pack.{is_active}
-use Rattle.mv_repository.specs.State.{standing_in}
-use Rattle.mv_repository.specs.Blocks.{may_have}
-use Rattle.mv_repository.specs.Stops.{entry_at, stops_in}
+use Rattle.mv_repository.proofs.Words.{◌≡◌, ◌∙◌, ◌%◌, ℕ, ap, sym, rules, false, PARTIES_LIMIT, has_party, is_active, standing_in, may_have, entry_at, stops_in}
 use Rattle.mv_repository.proofs.NextLemmas.{own-passed}
 use Rattle.mv_repository.proofs.blocks.Block.pass.Goals as goal
 

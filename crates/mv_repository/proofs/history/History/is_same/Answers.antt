@@ -1,11 +1,5 @@
 -- Both are the same where each part is.
-use Rattle.std.proofs.Common.{◌≡◌, ◌∙◌, List, Option, ap, map, sym, true≢false}
-use Rattle.std.specs.Option.{option_map, option_copied, option_and_then}
-use Rattle.mv_repository.specs.declared.entry.LogEntry.{LogEntry}
-use Rattle.mv_repository.specs.Order.{Placed}
-use Rattle.mv_repository.specs.Agreement.{sent_in}
-use Rattle.mv_repository.specs.History.{PackHistory, SentStatus, SentHistory, sent_of, sent_status}
-use Rattle.mv_repository.specs.Masters.{entry_of}
+use Rattle.mv_repository.proofs.Words.{◌≡◌, ◌∙◌, List, Option, ap, map, sym, true≢false, option_map, option_copied, option_and_then, LogEntry, Placed, sent_in, PackHistory, SentStatus, SentHistory, sent_of, sent_status, entry_of}
 use Rattle.mv_repository.proofs.HistoryLemmas.{same-parts, sent-entry}
 use Rattle.mv_repository.proofs.history.History.is_same.Goals.{then-is_same_sent, else-is_same_sent, then-have_same_statuses, else-have_same_statuses}
 use Rattle.mv_repository.proofs.history.History.is_same.Goals as goal

@@ -1,5 +1,4 @@
-use Rattle.std.proofs.Common.{◌≡◌, ◌≤◌, not, filter, length, take}
-use Rattle.mv_repository.specs.Inquiries.{has_reply}
+use Rattle.mv_repository.proofs.Words.{◌≡◌, ◌≤◌, not, filter, length, take, has_reply}
 use Rattle.mv_repository.proofs.inquiries.Inquiries.left_count.Given as goal
 
 abbrev pub invariant-loop-other : goal.invariant-loop-other

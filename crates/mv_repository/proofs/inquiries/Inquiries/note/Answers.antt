@@ -1,7 +1,4 @@
-use Rattle.std.proofs.Common.{◌≡◌, true, sym, ◌∙◌, ap}
-use Rattle.mv_message.specs.declared.message.Message.TheVariants.{Answer}
-use Rattle.mv_link.specs.declared.item.Item.TheVariants.{Carried}
-use Rattle.mv_repository.specs.Inquiries.{tells_of_query}
+use Rattle.mv_repository.proofs.Words.{◌≡◌, true, sym, ◌∙◌, ap, Answer, Carried, tells_of_query}
 use Rattle.mv_repository.proofs.InquiriesLemmas.{known_stays, tells_nothing, receipt_noted, answer_noted}
 use Rattle.mv_repository.proofs.inquiries.Inquiries.note.Goals as goal
 

@@ -1,5 +1,5 @@
 -- Each table has the things of its kind once.
-use Rattle.std.proofs.Common.{◌≡◌, ◌∙◌, rules, length}
+use Rattle.mv_repository.proofs.Words.{◌≡◌, ◌∙◌, rules, length}
 use Rattle.mv_repository.proofs.ActiveLemmas.{active-all}
 use Rattle.mv_repository.proofs.CountedLemmas.{held-all}
 use Rattle.mv_repository.proofs.KeyLemmas.{count-products, count-recalled}
@@ -11,7 +11,7 @@ returns c =
     let tables = c.self.invariant.0 in
     let entries : c.len.result ≡ length log = search rules in
     let products = c.len-2.ensures.len ∙ count-products log c.self.inside.tables.masters.entries c.len-2.ensures.unique tables.masters in
-    let packs = c.count.ensures log tables.packs ∙ held-all log in
-    let active = c.count-2.ensures log tables.packs ∙ active-all log in
+    let packs = c.count.ensures log tables ∙ held-all log in
+    let active = c.count-2.ensures log tables ∙ active-all log in
     let recalled = c.recalled_count.ensures.count ∙ count-recalled log c.self.inside.tables.stops c.recalled_count.ensures.distinct tables.stops in
     rw (← c.self.view_is) (λ i. record { entries = entries i; products = products i; packs = packs i; active = active i; recalled = recalled i })

@@ -1,23 +1,104 @@
--- The pack has the status, and the others are as they were.
-use Rattle.std.proofs.Common.{sym, subst, take, ℕ, List}
-use Rattle.mv_pack.specs.Keys.{pack_key}
-use Rattle.mv_repository.specs.Track.{life_of, IsKept}
-use Rattle.mv_repository.specs.Shelf.{IsShelfOf, kept_on}
+-- The pack has the status, and no other track is touched.
+use Rattle.mv_repository.proofs.Words.{bytes_eq, rules, ◌≡◌, ◌∙◌, ◌++◌, ◌∷◌, [], ℕ, List, length, get_or, take, ap, sym, subst, false, refl, Option, Some, None, lookup, get_or_append_left, get_or_default, get_or_push, Slot, Made, Own, pack_key, lists, IsShelfOf, kept_by, kept_on, nothing_kept, no_entry, IsKept, Kept, life_of}
+use Rattle.mv_repository.proofs.ListedLemmas.{on_map, listed-none, listed-track}
+use Rattle.mv_repository.proofs.TrackLemmas.{status-form}
 use Rattle.mv_repository.proofs.UploadLemmas.{status-others}
+use Rattle.mv_repository.proofs.shelf.Shelf.add_status.Goals.{in-Some-Made, in-None}
 use Rattle.mv_repository.proofs.shelf.Shelf.add_status.Goals as goal
 
-pub put_status-requires-clause-kept : goal.put_status-requires-clause-kept
-put_status-requires-clause-kept c =
-    (subst (IsShelfOf (take c.args.newest.now.place c.args.newest.now.log.now) c.args.pack.now.gtin) (sym c.self.view_is) c.requires.shelf).kept c.args.pack.now.serial
+pub add_status-requires-clause-kept : goal.add_status-requires-clause-kept
+add_status-requires-clause-kept c =
+    let log = take c.args.newest.now.place c.args.newest.now.log.now in
+    let slot : lookup (bytes_eq c.args.pack.now.serial) c.self.inside.slots.entries ≡ Some (Own c.in-Some-Own.number) = search rules in
+    let track = get_or_default c.self.inside.tracks.items c.in-Some-Own.number nothing_kept c.index_mut-track.result.now (c.self.invariant.within c.args.pack.now.serial c.in-Some-Own.number slot) ∙ sym c.index_mut-track.ensures.value in
+    subst (IsKept (life_of c.args.pack.now log)) (ap (kept_by c.self.inside.tracks.items) slot ∙ track)
+    ((subst (IsShelfOf log c.args.pack.now.gtin) (sym c.self.view_is) c.requires.shelf).kept c.args.pack.now.serial)
 
-pub put_status-requires-clause-listed : goal.put_status-requires-clause-listed
-put_status-requires-clause-listed c = (subst (IsShelfOf (take c.args.newest.now.place c.args.newest.now.log.now) c.args.pack.now.gtin) (sym c.self.view_is) c.requires.shelf).listed
+pub returns-in-Some-Own-clause-ok : goal.returns-in-Some-Own-clause-ok
+returns-in-Some-Own-clause-ok c =
+    let whole = c.args.newest.now.log.now in
+    let place = c.args.newest.now.place in
+    let pack = c.args.pack.now in
+    let of = subst (IsShelfOf (take place whole) pack.gtin) (sym c.self.view_is) c.requires.shelf in
+    let own : lookup (bytes_eq pack.serial) c.self.inside.slots.entries ≡ Some (Own c.in-Some-Own.number) = search rules in
+    on_map c.add_status.result c.add_status.ensures.ok (λ now. record {
+      kept = status-others whole place pack c.self.inside.slots.entries c.self.inside.slots.entries c.self.inside.tracks.items _ c.requires.last c.requires.own of.kept
+          (search (rules, now)) (λ other e. search rules);
+      listed = listed-none whole place c.requires.last pack.gtin c.self.inside.slots.entries c.self.inside.listing of.listed
+          (λ serial. ((status-form pack (get_or whole place no_entry).item c.requires.own).0 (pack_key pack.gtin serial)).0);
+    })
+
+made_is : (c : goal.After-track-1) → kept_on c.self.inside.slots.entries c.self.inside.tracks.items c.args.pack.now.serial ≡ c.new-track.result
+made_is c = elim c.match-copied.branch [
+  | in-Some-Made w ↦ (
+      let slot : lookup (bytes_eq c.args.pack.now.serial) c.self.inside.slots.entries ≡ Some (Made w.in-Some-Made.first) = search rules in
+      let is : kept_by c.self.inside.tracks.items (Some (Made w.in-Some-Made.first)) ≡ c.new-track.result = search rules in
+      ap (kept_by c.self.inside.tracks.items) slot ∙ is)
+  | in-None w ↦ (
+      let slot : lookup (bytes_eq c.args.pack.now.serial) c.self.inside.slots.entries ≡ None = search rules in
+      let is : kept_by c.self.inside.tracks.items None ≡ c.new-track.result = search rules in
+      ap (kept_by c.self.inside.tracks.items) slot ∙ is)
+]
+
+pub add_status-requires-2-clause-kept : goal.add_status-requires-2-clause-kept
+add_status-requires-2-clause-kept c =
+    let log = take c.args.newest.now.place c.args.newest.now.log.now in
+    subst (IsKept (life_of c.args.pack.now log)) (made_is c) ((subst (IsShelfOf log c.args.pack.now.gtin) (sym c.self.view_is) c.requires.shelf).kept c.args.pack.now.serial)
+
+abbrev number_in : Option Slot → ℕ
+number_in (Some (Own number)) = number
+number_in _ = 0
+
+module _ (c : goal.After-push_reserved) where
+  items : c.push_reserved.new.self.items ≡ c.self.inside.tracks.items ++ c.add_status-2.new.self ∷ []
+  items = search rules
+
+  mine : lookup (bytes_eq c.args.pack.now.serial) c.insert.new.self.entries ≡ Some (Own c.len-number.result)
+  mine = search rules
+
+  number : c.len-number.result ≡ length c.self.inside.tracks.items
+  number = search rules
+
+  now : kept_on c.insert.new.self.entries c.push_reserved.new.self.items c.args.pack.now.serial ≡ c.add_status-2.new.self
+  now = (λ i. kept_by (items i) (mine i)) ∙ ap (λ (n : ℕ). get_or (c.self.inside.tracks.items ++ c.add_status-2.new.self ∷ []) n nothing_kept) number ∙ get_or_push c.self.inside.tracks.items c.add_status-2.new.self nothing_kept (length c.self.inside.tracks.items) refl
+
+  -- the upload of the pack is the one that was kept
+  birth_is : c.match-copied.birth ≡ (kept_on c.self.inside.slots.entries c.self.inside.tracks.items c.args.pack.now.serial).birth
+  birth_is = elim c.match-copied.branch [
+    | in-Some-Made w ↦ (
+        let slot : lookup (bytes_eq c.args.pack.now.serial) c.self.inside.slots.entries ≡ Some (Made w.in-Some-Made.first) = search rules in
+        w.birth-is ∙ ap (λ (o : Option Slot). (kept_by c.self.inside.tracks.items o).birth) (sym slot))
+    | in-None w ↦ (
+        let slot : lookup (bytes_eq c.args.pack.now.serial) c.self.inside.slots.entries ≡ None = search rules in
+        w.birth-is ∙ ap (λ (o : Option Slot). (kept_by c.self.inside.tracks.items o).birth) (sym slot))
+  ]
+
+  others : (other : List ℕ) → bytes_eq c.args.pack.now.serial other ≡ false
+      → kept_on c.insert.new.self.entries c.push_reserved.new.self.items other ≡ kept_on c.self.inside.slots.entries c.self.inside.tracks.items other
+  others other e =
+      let looks : lookup (bytes_eq other) c.insert.new.self.entries ≡ lookup (bytes_eq other) c.self.inside.slots.entries = search rules in
+      (λ i. kept_by (items i) (looks i)) ∙ by (lookup (bytes_eq other) c.self.inside.slots.entries) refl
+    where
+      by : (o : Option Slot) → lookup (bytes_eq other) c.self.inside.slots.entries ≡ o → kept_by (c.self.inside.tracks.items ++ c.add_status-2.new.self ∷ []) o ≡ kept_by c.self.inside.tracks.items o
+      by None h = refl
+      by (Some (Made place)) h = refl
+      by (Some (Own n)) h = get_or_append_left c.self.inside.tracks.items (c.add_status-2.new.self ∷ []) nothing_kept n (c.self.invariant.within other n h)
 
 pub returns-clause-ok : goal.returns-clause-ok
-returns-clause-ok c = record { kept = kept; listed = c.in_ok-effect.ensures.listed }
-  where
-    kept : (serial : List ℕ) → IsKept (life_of (pack_key c.args.pack.now.gtin serial) c.args.newest.now.log.now) (kept_on c.put_status.new.slots.entries c.put_status.new.tracks.items serial)
-    kept serial =
-        status-others c.args.newest.now.log.now c.args.newest.now.place c.args.pack.now c.self.inside.slots.entries c.put_status.new.slots.entries c.self.inside.tracks.items c.put_status.new.tracks.items
-        c.requires.last c.requires.own (λ one. (subst (IsShelfOf (take c.args.newest.now.place c.args.newest.now.log.now) c.args.pack.now.gtin) (sym c.self.view_is) c.requires.shelf).kept one)
-        c.in_ok-effect.ensures.kept c.put_status.ensures.others serial
+returns-clause-ok c =
+    let whole = c.args.newest.now.log.now in
+    let place = c.args.newest.now.place in
+    let pack = c.args.pack.now in
+    let slots = c.self.inside.slots.entries in
+    let tracks = c.self.inside.tracks.items in
+    let of = subst (IsShelfOf (take place whole) pack.gtin) (sym c.self.view_is) c.requires.shelf in
+    record {
+      kept = status-others whole place pack slots c.insert.new.self.entries tracks c.push_reserved.new.self.items c.requires.last c.requires.own of.kept
+          (subst (IsKept (life_of pack whole)) (sym (now c)) c.in_ok-effect.ensures.ok) (others c);
+      listed = listed-track whole place c.requires.last pack.gtin slots c.self.inside.listing of.listed
+          (λ serial. ((status-form pack (get_or whole place no_entry).item c.requires.own).0 (pack_key pack.gtin serial)).0)
+          pack.serial c.insert.new.self.entries c.note.new.self c.note.ensures.kept (λ other e. search rules)
+          (λ n first batch f b e.
+          ap (lists c.note.new.self batch) (ap number_in (sym f ∙ mine c))
+          ∙ c.note.ensures.added first batch (birth_is c ∙ ap (λ (k : Kept). k.birth) (of.kept pack.serial).bare ∙ b) e);
+    }

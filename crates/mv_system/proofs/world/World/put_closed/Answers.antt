@@ -3,7 +3,7 @@ use Rattle.mv_hub.specs.declared.entry.Entry.TheVariants.{Closed}
 use Rattle.mv_link.specs.Fault.{FailsBy}
 use Rattle.mv_hub.specs.declared.fault.HubFault.TheVariants.{Memory}
 use Rattle.mv_hub.specs.Hub.{close_fault, with_closed}
-use Rattle.mv_machine.proofs.LawfulLemmas.{closed-sound}
+use Rattle.mv_machine.proofs.CallerLemmas.{closed-sound}
 use Rattle.mv_system.proofs.SystemLemmas.{sound_of, parties-places, entered_kept, hub_kept}
 use Rattle.mv_system.proofs.RouteLemmas.{close_told}
 use Rattle.mv_system.proofs.world.World.put_closed.Goals as goal

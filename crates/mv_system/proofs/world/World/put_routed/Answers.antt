@@ -7,7 +7,7 @@ use Rattle.mv_hub.specs.Record.{routed_count}
 use Rattle.mv_hub.specs.Hub.{next_entry, with_routed}
 use Rattle.mv_party.specs.Site.{SiteState}
 use Rattle.mv_machine.specs.State.{submissions_of}
-use Rattle.mv_machine.proofs.LawfulLemmas.{routed-sound}
+use Rattle.mv_machine.proofs.CallerLemmas.{routed-sound}
 use Rattle.mv_system.specs.World.{parts_of, state_of}
 use Rattle.mv_system.proofs.SystemLemmas.{sound_of, party-place, site_facts, entered_kept, entries-short, hub_kept}
 use Rattle.mv_system.proofs.RouteLemmas.{routes, route_refused}

@@ -5,11 +5,11 @@ use Rattle.mv_trail.proofs.trailing.RecorderAnswering.answer.Goals as goal
 pub returns-clause-ok : goal.returns-clause-ok
 returns-clause-ok c =
     rw (← c.self.view_is) (
-    event_answers c.append_event.result _ _ c.args.number _ c.args.line.now c.in_ok-answered.answered _ c.in_ok-answered.ensures.ok
-    (rw c.world.ensures at c.append_event.ensures))
+    event_answers c.append_event.result _ _ c.args.number _ c.args.line.now c.in_ok-answered.answered _ (rw c.deref_mut.ensures.value at c.in_ok-answered.ensures.ok)
+    (rw (c.world.ensures, c.deref.ensures) at c.append_event.ensures))
 
 -- there is no memory for its event
 pub returns-clause-left : goal.returns-clause-left
 returns-clause-left c =
     rw (← c.self.view_is) (
-    event_unanswered c.append_event.result c.args.number _ c.args.line.now c.in_ok-answered.answered _ c.in_ok-answered.ensures.ok)
+    event_unanswered c.append_event.result c.args.number _ c.args.line.now c.in_ok-answered.answered _ (rw c.deref_mut.ensures.value at c.in_ok-answered.ensures.ok))

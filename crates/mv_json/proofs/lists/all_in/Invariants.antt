@@ -1,0 +1,10 @@
+use Rattle.std.proofs.Common.{◌≡◌, drop}
+use Rattle.serde_json.specs.View.{items_view}
+use Rattle.mv_json.specs.Reading.{read_items}
+use Rattle.mv_json.proofs.ReadingLemmas.{with_front}
+use Rattle.mv_json.proofs.lists.all_in.Given as goal
+
+abbrev pub invariant-loop-value : goal.invariant-loop-value
+invariant-loop-value g l =
+    with_front l.all.items (read_items g.T.Listed.reads l.field (items_view (drop l.value-index l.list)))
+    ≡ read_items g.T.Listed.reads l.field (items_view l.list)

@@ -1,0 +1,20 @@
+use Rattle.std.proofs.Common.{◌+◌, ◌*◌, length}
+use Rattle.mv_json.specs.Parts.{deep_in}
+use Rattle.mv_json.proofs.PartLemmas.{AreEntries}
+use Rattle.mv_json.proofs.part_reading.+members.Given as goal
+
+-- the members that were taken have the fields that were met
+abbrev pub invariant-take_members-loop-entries : goal.invariant-take_members-loop-entries
+invariant-take_members-loop-entries l = AreEntries (deep_in l.is_inside) l.initial.reader l.entries.items l.reader
+
+abbrev pub decreases-take_members-loop-entries : goal.decreases-take_members-loop-entries
+decreases-take_members-loop-entries l = length l.reader
+
+abbrev pub decreases-take_members : goal.decreases-take_members
+decreases-take_members l = 3 * deep_in l.is_inside + 1
+
+abbrev pub decreases-take_part : goal.decreases-take_part
+decreases-take_part l = 3 * deep_in l.is_inside
+
+abbrev pub decreases-take_found : goal.decreases-take_found
+decreases-take_found l = 5

@@ -1,0 +1,15 @@
+use Rattle.std.proofs.Common.{◌≤◌, List, ◌++◌, length}
+use Rattle.json.specs.Token.{Token}
+use Rattle.mv_json.specs.Parts.{BeginWithTexts}
+use Rattle.mv_json.proofs.part_reading.take_list.Given as goal
+
+-- whatever values come next stand behind those that were taken
+abbrev pub invariant-loop-list : goal.invariant-loop-list
+invariant-loop-list g l = record {
+  list : (list : List g.row.T.Denot) (rest : List Token) → BeginWithTexts g.T.Listed.reads l.reader list rest
+      → BeginWithTexts g.T.Listed.reads l.initial.reader (l.list.items ++ list) rest;
+  count : length l.list.items ≤ l.most;
+}
+
+abbrev pub decreases-loop-list : goal.decreases-loop-list
+decreases-loop-list g l = length l.reader

@@ -1,0 +1,6 @@
+use Rattle.std.proofs.Common.{◌<◌, ℕ}
+use Rattle.mv_workers.specs.Done.{IsCarried}
+use Rattle.mv_workers.proofs.complete.is_carried.Given as goal
+
+abbrev pub invariant-loop-party : goal.invariant-loop-party
+invariant-loop-party l = (party : ℕ) → party < l.party → IsCarried l.outcome party

@@ -1,5 +1,6 @@
 -- What a log has about a pack gives its history, and so decides what that decides.
-use Rattle.mv_repository.proofs.Words.{◌||◌, ◌++◌, Bool, List, None, Option, Some, [], ap, append_assoc, cond, cond_both, false, filter, find, map, refl, subst, sym, ℕ, ◌∙◌, ◌∷◌, ◌≡◌, or-false, list_any-append, cons_option, list_any, option_and_then, option_map_or, Item, Carried, Receipt, Message, Upload, Status, Recall, Withdraw, batch_key, PackKey, LogEntry, Sent, sent_by, sent_in, bears_on, about, AgreeOn, SentHistory, SentStatus, as_sent, history_of, sent_of, sent_status, item_batch, Ascends, Placed, ordered, is_recall_of, is_withdrawal_of, first_stops, is_before, first_upload, is_status_of, is_upload_of, statuses_of}
+use Rattle.std.specs.Prelude.{◌||◌, ◌++◌, ◌∷◌, ◌≡◌}
+use Rattle.mv_repository.proofs.Words.{Bool, List, None, Option, Some, [], ap, append_assoc, cond, cond_both, false, filter, find, map, refl, subst, sym, ℕ, ◌∙◌, or-false, list_any-append, cons_option, list_any, option_and_then, option_map_or, Item, Carried, Receipt, Message, Upload, Status, Recall, Withdraw, batch_key, PackKey, LogEntry, Sent, sent_by, sent_in, bears_on, about, AgreeOn, SentHistory, SentStatus, as_sent, history_of, sent_of, sent_status, item_batch, Ascends, Placed, ordered, is_recall_of, is_withdrawal_of, first_stops, is_before, first_upload, is_status_of, is_upload_of, statuses_of}
 use Rattle.mv_repository.specs.Agreement.{batch_in}
 use Rattle.mv_repository.proofs.HistoryLemmas.{batch-upload, same_history}
 use Rattle.mv_repository.proofs.OrderLemmas.{cond_two, ordered-ascends}

@@ -1,5 +1,6 @@
 -- What is kept of a pack says what it is, and whether it is active.
-use Rattle.mv_repository.proofs.Words.{◌≡◌, ℕ, List, [], ◌∷◌, refl, sym, ◌∙◌, ap, arith, Bool, true, false, cond, cond_both, ◌==◌, Option, Some, None, IfSome, IsSome, true≢false, filter, fold, inl, inr, ◌⊎◌, get_or, nat_tests, eqb-true, option_map, option_map_or, unwrap_or, PackKey, Upload, Item, Carried, LogEntry, distinct_count, is_same_pack, is_held_active, uploaded_packs, Placed, ordered, KnownPack, is_active, is_done, pack_state, held_of, pack_made_by, standing_in, change_in, known_at, effect_on, next_by, FirstStops, first_stops, entry_at, place_of, no_entry, is_upload_of, is_status_of, first_upload, statuses_of, pack_grown, track_of, state_from, state_by, is_active_kept}
+use Rattle.std.specs.Prelude.{◌≡◌, ◌∷◌, ◌==◌, ◌⊎◌}
+use Rattle.mv_repository.proofs.Words.{ℕ, List, [], refl, sym, ◌∙◌, ap, arith, Bool, true, false, cond, cond_both, Option, Some, None, IfSome, IsSome, true≢false, filter, fold, inl, inr, get_or, nat_tests, eqb-true, option_map, option_map_or, unwrap_or, PackKey, Upload, Item, Carried, LogEntry, distinct_count, is_same_pack, is_held_active, uploaded_packs, Placed, ordered, KnownPack, is_active, is_done, pack_state, held_of, pack_made_by, standing_in, change_in, known_at, effect_on, next_by, FirstStops, first_stops, entry_at, place_of, no_entry, is_upload_of, is_status_of, first_upload, statuses_of, pack_grown, track_of, state_from, state_by, is_active_kept}
 use Rattle.mv_repository.proofs.OrderLemmas.{Stand, find-true, ordered-ascends, ordered-stand}
 use Rattle.mv_repository.proofs.StateLemmas.{known-grown, entry-stands, find-stand, upload-makes}
 use Rattle.mv_repository.proofs.TableLemmas.{filter-stand}

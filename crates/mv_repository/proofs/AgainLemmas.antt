@@ -1,5 +1,6 @@
 -- Tracks that are worked out again, also without need.
-use Rattle.mv_repository.proofs.Words.{bytes_eq, ◌+◌, Bool, None, Option, Some, [], ap, false, get_or, length, map, refl, subst, sym, take, true, true≢false, ℕ, ◌∙◌, ◌≡◌, List, lookup, option_map, pack_key, LogEntry, Slot, Made, Own, ListingTable, no_numbers, ordered, IsAgain, IsRefreshed, IsShelfOf, NamesNone, kept_by, no_shelf, nothing_kept, AreStopsOf, StopTables, no_entry, place_of, stops_in, IsKept, Kept, Life, first_upload, is_status_of, is_upload_of, life_of, statuses_of, track_of}
+use Rattle.std.specs.Prelude.{◌+◌, ◌≡◌}
+use Rattle.mv_repository.proofs.Words.{bytes_eq, Bool, None, Option, Some, [], ap, false, get_or, length, map, refl, subst, sym, take, true, true≢false, ℕ, ◌∙◌, List, lookup, option_map, pack_key, LogEntry, Slot, Made, Own, ListingTable, no_numbers, ordered, IsAgain, IsRefreshed, IsShelfOf, NamesNone, kept_by, no_shelf, nothing_kept, AreStopsOf, StopTables, no_entry, place_of, stops_in, IsKept, Kept, Life, first_upload, is_status_of, is_upload_of, life_of, statuses_of, track_of}
 use Rattle.mv_repository.proofs.ListedLemmas.{listed-none}
 use Rattle.mv_repository.proofs.TableLemmas.{filter-none, find-none, log-split}
 use Rattle.mv_repository.proofs.TrackLemmas.{track-is}

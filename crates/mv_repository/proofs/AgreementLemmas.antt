@@ -1,5 +1,6 @@
 -- Two logs agree on a pack where they give it the same state, and its batch and product the same recall and withdrawal.
-use Rattle.mv_repository.proofs.Words.{◌≡◌, ℕ, List, refl, sym, ◌∙◌, ap, Bool, cond, cond_both, ◌||◌, Option, Some, None, option_map, option_map_or, CivilDate, PackKey, Standing, Found, LogEntry, Local, batch_key, BatchStanding, Effect, Known, Absent, ordered, KnownChange, KnownPack, change_effect, revert_effect, is_final, is_active, is_done, pack_after_status, known_pack, held_of, is_recalled, is_withdrawn, local_verdict, local_verdict_of, verdict_when, is_for_destruction, unplaced, unplaced_state, is_batch_recalled, AgreeOn}
+use Rattle.std.specs.Prelude.{◌≡◌, ◌||◌}
+use Rattle.mv_repository.proofs.Words.{ℕ, List, refl, sym, ◌∙◌, ap, Bool, cond, cond_both, Option, Some, None, option_map, option_map_or, CivilDate, PackKey, Standing, Found, LogEntry, Local, batch_key, BatchStanding, Effect, Known, Absent, ordered, KnownChange, KnownPack, change_effect, revert_effect, is_final, is_active, is_done, pack_after_status, known_pack, held_of, is_recalled, is_withdrawn, local_verdict, local_verdict_of, verdict_when, is_for_destruction, unplaced, unplaced_state, is_batch_recalled, AgreeOn}
 use Rattle.mv_message.specs.declared.found.Found.TheVariants as founds
 use Rattle.mv_repository.specs.declared.effect.Effect.TheVariants as effects
 use Rattle.mv_repository.specs.Agreement.{batch_in}

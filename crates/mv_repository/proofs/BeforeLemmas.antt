@@ -1,5 +1,6 @@
 -- What stands before an entry that comes last.
-use Rattle.mv_repository.proofs.Words.{◌≡◌, ℕ, ◌<◌, List, [], ◌∷◌, refl, sym, ◌∙◌, ap, arith, Bool, true, false, cond, cond_both, not, ◌||◌, Option, Some, None, IfSome, is_some, find, filter, fold, nat_tests, list_any, AllByRecursion, option_map, BatchKey, PackKey, LogEntry, entries_before, Placed, passes, stands_before, ordered, Ascends, KnownPack, is_recall_of, is_withdrawal_of, is_recalled_by, is_withdrawn_by, batch_standing, known_pack, pack_made_by, FirstStops, first_stops, is_before, standing_at, is_upload_of, is_status_of, first_upload, statuses_of, pack_changed, pack_step, pack_grown, BatchStanding}
+use Rattle.std.specs.Prelude.{◌≡◌, ◌<◌, ◌∷◌, ◌||◌}
+use Rattle.mv_repository.proofs.Words.{ℕ, List, [], refl, sym, ◌∙◌, ap, arith, Bool, true, false, cond, cond_both, not, Option, Some, None, IfSome, is_some, find, filter, fold, nat_tests, list_any, AllByRecursion, option_map, BatchKey, PackKey, LogEntry, entries_before, Placed, passes, stands_before, ordered, Ascends, KnownPack, is_recall_of, is_withdrawal_of, is_recalled_by, is_withdrawn_by, batch_standing, known_pack, pack_made_by, FirstStops, first_stops, is_before, standing_at, is_upload_of, is_status_of, first_upload, statuses_of, pack_changed, pack_step, pack_grown, BatchStanding}
 use Rattle.mv_repository.proofs.OrderLemmas.{StandsBeforeAll, passes_behind, AreBelow, ordered-ascends, ordered-below, find-all}
 use Rattle.mv_repository.proofs.StateLemmas.{known-grown}
 use Rattle.mv_repository.proofs.TableLemmas.{first_in, find-first, newest, filter-ascends}

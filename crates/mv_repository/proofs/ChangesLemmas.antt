@@ -1,5 +1,6 @@
 -- The change of a pack names its status.
-use Rattle.mv_repository.proofs.Words.{◌≡◌, ℕ, List, [], ◌∷◌, ◌++◌, true, false, cond, cond_both, Option, Some, None, IfSome, slice_get, PackKey, BatchKey, Standing, Upload, Status, Item, Carried, LogEntry, is_same_pack, batch_key, BatchStanding, Placed, ordered, KnownChange, KnownPack, new_pack, change_effect, is_active, is_done, pack_after_status, has_pack, batch_standing, pack_after_item, known_pack_from, NamesStatus, ChangeNamesStatus}
+use Rattle.std.specs.Prelude.{◌≡◌, ◌∷◌, ◌++◌}
+use Rattle.mv_repository.proofs.Words.{ℕ, List, [], true, false, cond, cond_both, Option, Some, None, IfSome, slice_get, PackKey, BatchKey, Standing, Upload, Status, Item, Carried, LogEntry, is_same_pack, batch_key, BatchStanding, Placed, ordered, KnownChange, KnownPack, new_pack, change_effect, is_active, is_done, pack_after_status, has_pack, batch_standing, pack_after_item, known_pack_from, NamesStatus, ChangeNamesStatus}
 use Rattle.mv_repository.proofs.OrderLemmas.{AreOf, ordered-of}
 
 abbrev NamesIts : List LogEntry → PackKey → Option KnownPack → Type 0

@@ -1,5 +1,6 @@
 -- How many packs of a table are counted.
-use Rattle.mv_repository.proofs.Words.{nat_tests, bytes_eq, ◌^◌, ◌==◌, ◌≡◌, ℕ, ◌-◌, ◌<◌, List, [], ◌∷◌, ◌++◌, length, map, filter, not, min, refl, sym, ◌∙◌, ap, arith, Bool, true, false, cond, ◌&&◌, ◌||◌, Option, Some, None, is_some, true≢false, or-false, and-false, list_any-append, lookup-filter-values, option_filter, IsDistinct-cons, IsDistinct-head, IsDistinct-tail, IsDistinct-keys_filter, distinct_count-le, is_member-filter, is_some-lookup, length-from_keys, IsEquivalence, nat_list_eq_equiv, same_text, AllByRecursion, IsDistinct, lookup, keys_of, option_map_or, unwrap_or, distinct_count, is_member, is_same_pack, pack_key, PackKey, LogEntry, Slot, is_counted, slots_counted, packs_counted, uploaded_packs, ShelfTable, nothing_kept, kept_by, kept_on, no_shelf, shelf_of, AreTablesOf, Kept, bare, track_of, Counted, Held, Active, Tables}
+use Rattle.std.specs.Prelude.{◌^◌, ◌==◌, ◌≡◌, ◌-◌, ◌<◌, ◌∷◌, ◌++◌, ◌&&◌, ◌||◌}
+use Rattle.mv_repository.proofs.Words.{nat_tests, bytes_eq, ℕ, List, [], length, map, filter, not, min, refl, sym, ◌∙◌, ap, arith, Bool, true, false, cond, Option, Some, None, is_some, true≢false, or-false, and-false, list_any-append, lookup-filter-values, option_filter, IsDistinct-cons, IsDistinct-head, IsDistinct-tail, IsDistinct-keys_filter, distinct_count-le, is_member-filter, is_some-lookup, length-from_keys, IsEquivalence, nat_list_eq_equiv, same_text, AllByRecursion, IsDistinct, lookup, keys_of, option_map_or, unwrap_or, distinct_count, is_member, is_same_pack, pack_key, PackKey, LogEntry, Slot, is_counted, slots_counted, packs_counted, uploaded_packs, ShelfTable, nothing_kept, kept_by, kept_on, no_shelf, shelf_of, AreTablesOf, Kept, bare, track_of, Counted, Held, Active, Tables}
 use Rattle.std.proofs.lemmas.List.Filters.{length-filter_both}
 use Rattle.mv_repository.proofs.KeptLemmas.{same_pack, pack-self, pack-sym}
 use Rattle.mv_repository.proofs.UploadedLemmas.{uploaded-found}

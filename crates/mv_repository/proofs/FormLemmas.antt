@@ -1,5 +1,6 @@
 -- What the tables are after one more entry, by its form.
-use Rattle.mv_repository.proofs.Words.{◌≡◌, ℕ, ◌+◌, List, length, get_or, take, refl, sym, ◌∙◌, true, true≢false, Option, None, Some, Result, Ok, Err, OnOk, [], ap, Item, Carried, Receipt, Message, Master, Upload, Status, Recall, Withdraw, Product, Standing, CivilDate, pack_key, BatchKey, PackKey, LogEntry, uploaded_in, uploaded_packs, is_master, AreMastersOf, ordered, IsShelfOf, ShelfTable, shelf_of, StopTables, first_stops, no_entry, message_in, AreStopsOf, AreTablesOf, life_of, Tables}
+use Rattle.std.specs.Prelude.{◌≡◌, ◌+◌}
+use Rattle.mv_repository.proofs.Words.{ℕ, List, length, get_or, take, refl, sym, ◌∙◌, true, true≢false, Option, None, Some, Result, Ok, Err, OnOk, [], ap, Item, Carried, Receipt, Message, Master, Upload, Status, Recall, Withdraw, Product, Standing, CivilDate, pack_key, BatchKey, PackKey, LogEntry, uploaded_in, uploaded_packs, is_master, AreMastersOf, ordered, IsShelfOf, ShelfTable, shelf_of, StopTables, first_stops, no_entry, message_in, AreStopsOf, AreTablesOf, life_of, Tables}
 use Rattle.mv_repository.proofs.PacksLemmas.{none-named, shelf-stays}
 use Rattle.mv_repository.proofs.ProductLemmas.{masters-noted}
 use Rattle.mv_repository.proofs.StopLemmas.{NoMaster, NoPack}

@@ -1,5 +1,6 @@
 -- Two logs that have the same history of a pack agree on it.
-use Rattle.mv_repository.proofs.Words.{◌≡◌, ℕ, List, [], ◌∷◌, refl, sym, ◌∙◌, ap, Bool, true, false, cond, cond_both, Option, Some, None, IfSome, is_some, true≢false, find, fold, map, option_map, option_and_then, PackKey, BatchKey, batch_key, Upload, Status, Item, Receipt, Carried, LogEntry, BatchStanding, Placed, stands_before, ordered, KnownPack, new_pack, pack_after_status, held_of, is_recall_of, is_withdrawal_of, is_withdrawn, Sent, sent_in, unplaced, unplaced_state, is_batch_recalled, AgreeOn, item_batch, entry_of, pack_made_by, FirstStops, first_stops, is_before, standing_at, first_upload, statuses_of, pack_changed, pack_step, pack_grown, PackHistory, SentStatus, SentHistory, sent_of, sent_status, history_of, as_sent, HaveSameHistory}
+use Rattle.std.specs.Prelude.{◌≡◌, ◌∷◌}
+use Rattle.mv_repository.proofs.Words.{ℕ, List, [], refl, sym, ◌∙◌, ap, Bool, true, false, cond, cond_both, Option, Some, None, IfSome, is_some, true≢false, find, fold, map, option_map, option_and_then, PackKey, BatchKey, batch_key, Upload, Status, Item, Receipt, Carried, LogEntry, BatchStanding, Placed, stands_before, ordered, KnownPack, new_pack, pack_after_status, held_of, is_recall_of, is_withdrawal_of, is_withdrawn, Sent, sent_in, unplaced, unplaced_state, is_batch_recalled, AgreeOn, item_batch, entry_of, pack_made_by, FirstStops, first_stops, is_before, standing_at, first_upload, statuses_of, pack_changed, pack_step, pack_grown, PackHistory, SentStatus, SentHistory, sent_of, sent_status, history_of, as_sent, HaveSameHistory}
 use Rattle.mv_repository.specs.Agreement.{batch_in}
 use Rattle.mv_repository.proofs.OrderLemmas.{cond_two, find-true, ordered-ascends}
 use Rattle.mv_repository.proofs.StateLemmas.{known-grown}

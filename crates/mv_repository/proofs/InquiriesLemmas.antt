@@ -1,5 +1,6 @@
 -- Lemmas on what a log says of its party's queries.
-use Rattle.mv_repository.proofs.Words.{arith, nat_tests, ◌≡◌, ℕ, suc, IfSome, List, [], ◌∷◌, ◌++◌, refl, sym, ◌∙◌, ap, Bool, true, false, cond, not, ◌&&◌, ◌||◌, ◌==◌, Option, Some, None, is_some, filter, length, true≢false, list_any, option_or, option_map, option_map_or, or-false, list_any-append, Answer, Found, Item, Receipt, Carried, PackKey, LogEntry, Inquiries, Inquiry, Pending, Decided, query_reach, asked_parties, finding_in, has_answered, has_finding, found_active, found_explained, joint_verdict_when, joint_verdict, verdict_when, tells_of_query, inquiry_in, with_receipt, with_finding, has_reply, named_parties, parties_at, verdict_once_asked, known_verdict, is_receipt_of, receipt_place, inquiry_of, IsInquiriesOf}
+use Rattle.std.specs.Prelude.{◌≡◌, ◌∷◌, ◌++◌, ◌&&◌, ◌||◌, ◌==◌}
+use Rattle.mv_repository.proofs.Words.{arith, nat_tests, ℕ, suc, IfSome, List, [], refl, sym, ◌∙◌, ap, Bool, true, false, cond, not, Option, Some, None, is_some, filter, length, true≢false, list_any, option_or, option_map, option_map_or, or-false, list_any-append, Answer, Found, Item, Receipt, Carried, PackKey, LogEntry, Inquiries, Inquiry, Pending, Decided, query_reach, asked_parties, finding_in, has_answered, has_finding, found_active, found_explained, joint_verdict_when, joint_verdict, verdict_when, tells_of_query, inquiry_in, with_receipt, with_finding, has_reply, named_parties, parties_at, verdict_once_asked, known_verdict, is_receipt_of, receipt_place, inquiry_of, IsInquiriesOf}
 
 -- there is a finding, and it is so
 abbrev is_found_so : (Found → Bool) → Option Found → Bool

@@ -1,6 +1,7 @@
 -- Lemmas on the table of packs.
 use Rattle.std.proofs.lemmas.Bool.{and_parts}
-use Rattle.mv_repository.proofs.Words.{bytes_eq, ◌≡◌, ℕ, List, sym, arith, true, false, cond_both, ◌&&◌, Option, Some, nat_tests, same_text, nat_list_eq_equiv, PackKey, BatchKey, LogEntry, is_same_pack, is_same_batch, pack_key, batch_key, comes_first, earlier_place}
+use Rattle.std.specs.Prelude.{◌≡◌, ◌&&◌}
+use Rattle.mv_repository.proofs.Words.{bytes_eq, ℕ, List, sym, arith, true, false, cond_both, Option, Some, nat_tests, same_text, nat_list_eq_equiv, PackKey, BatchKey, LogEntry, is_same_pack, is_same_batch, pack_key, batch_key, comes_first, earlier_place}
 
 -- keys that pass the test are one
 pub same_pack : (a b : PackKey) → is_same_pack a b ≡ true → a ≡ b

@@ -1,5 +1,6 @@
 -- The counts of a log that its tables of keys give.
-use Rattle.mv_repository.proofs.Words.{bytes_eq, ◌≡◌, ℕ, List, [], ◌∷◌, length, refl, sym, ◌∙◌, ap, Bool, true, false, cond, ◌&&◌, ◌||◌, Option, Some, None, is_some, filter, or-false, length-keys_of, length-from_keys, is_some-lookup, IsEquivalence, nat_list_eq_equiv, list_any, flat_map, IsDistinct, last_or, lookup, keys_of, distinct_count, is_member, Item, Carried, Master, Recall, is_same_batch, BatchKey, LogEntry, mastered_in, recalled_in, is_master, last_in, AreMastersOf, Placed, ordered, is_recall_of, StopTables, AreStopsOf, place_of}
+use Rattle.std.specs.Prelude.{◌≡◌, ◌∷◌, ◌&&◌, ◌||◌}
+use Rattle.mv_repository.proofs.Words.{bytes_eq, ℕ, List, [], length, refl, sym, ◌∙◌, ap, Bool, true, false, cond, Option, Some, None, is_some, filter, or-false, length-keys_of, length-from_keys, is_some-lookup, IsEquivalence, nat_list_eq_equiv, list_any, flat_map, IsDistinct, last_or, lookup, keys_of, distinct_count, is_member, Item, Carried, Master, Recall, is_same_batch, BatchKey, LogEntry, mastered_in, recalled_in, is_master, last_in, AreMastersOf, Placed, ordered, is_recall_of, StopTables, AreStopsOf, place_of}
 use Rattle.mv_repository.proofs.KeptLemmas.{text-sym, text-self, same_batch}
 use Rattle.mv_repository.proofs.UploadedLemmas.{any-ordered, any-flat, found-any, some-map}
 

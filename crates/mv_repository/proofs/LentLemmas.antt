@@ -1,5 +1,6 @@
 -- The places that the tables keep of a pack are those of its history.
-use Rattle.mv_repository.proofs.Words.{bytes_eq, ◌≡◌, ℕ, List, refl, sym, ◌∙◌, ap, Option, Some, None, IfSome, map, get_or, lookup, option_map, option_and_then, is_same_batch, batch_key, PackKey, LogEntry, IsAt, AreAt, history_of, batch_at, item_batch, Placed, ordered, is_recall_of, is_withdrawal_of, StopTables, AreStopsOf, first_stops, entry_at, place_of, no_entry, is_upload_of, is_status_of, first_upload, statuses_of, track_of}
+use Rattle.std.specs.Prelude.{◌≡◌}
+use Rattle.mv_repository.proofs.Words.{bytes_eq, ℕ, List, refl, sym, ◌∙◌, ap, Option, Some, None, IfSome, map, get_or, lookup, option_map, option_and_then, is_same_batch, batch_key, PackKey, LogEntry, IsAt, AreAt, history_of, batch_at, item_batch, Placed, ordered, is_recall_of, is_withdrawal_of, StopTables, AreStopsOf, first_stops, entry_at, place_of, no_entry, is_upload_of, is_status_of, first_upload, statuses_of, track_of}
 use Rattle.mv_repository.specs.Agreement.{batch_in}
 use Rattle.mv_repository.proofs.HistoryLemmas.{batch-upload}
 use Rattle.mv_repository.proofs.OrderLemmas.{ordered-of, ordered-stand, filter-all, find-all}

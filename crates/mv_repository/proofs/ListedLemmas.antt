@@ -1,5 +1,6 @@
 -- Each track stays listed under the batch of its pack.
-use Rattle.mv_repository.proofs.Words.{bytes_eq, ◌≡◌, ℕ, ◌+◌, ◌<◌, ◌||◌, List, [], ◌∷◌, length, get_or, take, refl, sym, ◌∙◌, ap, subst, Bool, true, false, cond, Option, Some, None, IfSome, is_some, true≢false, Result, Ok, Err, OnOk, OnErr, list_any_more, HashSet, same_text, lookup, option_map, option_map_or, unwrap_or, PackKey, pack_key, LogEntry, Slot, Own, Placed, ordered, ListingTable, numbers_in, numbers_of, has_number, lists, HasAllOf, batch_at, AreListed, IsUploadOf, has, AreMadeListed, HasNoOther, no_entry, place_of, comes_first, earlier_place, first_upload, is_upload_of, track_of}
+use Rattle.std.specs.Prelude.{◌≡◌, ◌+◌, ◌<◌, ◌||◌, ◌∷◌}
+use Rattle.mv_repository.proofs.Words.{bytes_eq, ℕ, List, [], length, get_or, take, refl, sym, ◌∙◌, ap, subst, Bool, true, false, cond, Option, Some, None, IfSome, is_some, true≢false, Result, Ok, Err, OnOk, OnErr, list_any_more, HashSet, same_text, lookup, option_map, option_map_or, unwrap_or, PackKey, pack_key, LogEntry, Slot, Own, Placed, ordered, ListingTable, numbers_in, numbers_of, has_number, lists, HasAllOf, batch_at, AreListed, IsUploadOf, has, AreMadeListed, HasNoOther, no_entry, place_of, comes_first, earlier_place, first_upload, is_upload_of, track_of}
 use Rattle.mv_repository.specs.Listing.{batch_in}
 use Rattle.mv_repository.proofs.OrderLemmas.{cond_two, ordered-stand, still-stand}
 use Rattle.mv_repository.proofs.StateLemmas.{find-stand}

@@ -1,5 +1,6 @@
 -- What `next` gives is one step of the pack's state, so the place of one entry is all that has to be kept of it.
-use Rattle.mv_repository.proofs.Words.{◌≡◌, ℕ, List, [], ◌∷◌, refl, sym, ◌∙◌, ap, subst, Bool, true, false, cond, Option, Some, None, IfSome, true≢false, fold, ◌==◌, eqb-true, AllByRecursion, option_map, option_map_or, PackKey, BatchKey, Standing, Upload, Status, Item, Carried, CivilDate, LogEntry, PartySet, batch_key, Effect, may_have, IsCovered, BatchStanding, Placed, stands_before, KnownPack, is_active, is_final, is_done, change_effect, revert_effect, pack_made_by, standing_in, change_in, known_at, effect_by, next_by, next_place, FirstStops, standing_at, entry_at, pack_changed, pack_step, pack_grown}
+use Rattle.std.specs.Prelude.{◌≡◌, ◌∷◌, ◌==◌}
+use Rattle.mv_repository.proofs.Words.{ℕ, List, [], refl, sym, ◌∙◌, ap, subst, Bool, true, false, cond, Option, Some, None, IfSome, true≢false, fold, eqb-true, AllByRecursion, option_map, option_map_or, PackKey, BatchKey, Standing, Upload, Status, Item, Carried, CivilDate, LogEntry, PartySet, batch_key, Effect, may_have, IsCovered, BatchStanding, Placed, stands_before, KnownPack, is_active, is_final, is_done, change_effect, revert_effect, pack_made_by, standing_in, change_in, known_at, effect_by, next_by, next_place, FirstStops, standing_at, entry_at, pack_changed, pack_step, pack_grown}
 use Rattle.std.proofs.lemmas.Iterator.Adapters.{option_map_id}
 use Rattle.mv_message.specs.declared.standing.Standing.TheVariants as standings
 use Rattle.mv_repository.specs.declared.effect.Effect.TheVariants as effects

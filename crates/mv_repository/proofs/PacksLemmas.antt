@@ -1,5 +1,6 @@
 -- What is kept of all packs, by what is kept of those of each product.
-use Rattle.mv_repository.proofs.Words.{bytes_eq, ◌≡◌, ℕ, ◌+◌, List, [], length, get_or, take, refl, sym, ◌∙◌, ap, arith, subst, Bool, true, false, ◌&&◌, Option, Some, None, same_text, list_any, lookup, unwrap_or, Item, Carried, Upload, pack_key, PackKey, LogEntry, uploaded_in, uploaded_packs, has_pack, ShelfTable, kept_on, IsShelfOf, IsUploadOf, no_shelf, shelf_of, no_entry, Life, is_upload_of, is_status_of, life_of, kept_of, track_of, bare, IsKept}
+use Rattle.std.specs.Prelude.{◌≡◌, ◌+◌, ◌&&◌}
+use Rattle.mv_repository.proofs.Words.{bytes_eq, ℕ, List, [], length, get_or, take, refl, sym, ◌∙◌, ap, arith, subst, Bool, true, false, Option, Some, None, same_text, list_any, lookup, unwrap_or, Item, Carried, Upload, pack_key, PackKey, LogEntry, uploaded_in, uploaded_packs, has_pack, ShelfTable, kept_on, IsShelfOf, IsUploadOf, no_shelf, shelf_of, no_entry, Life, is_upload_of, is_status_of, life_of, kept_of, track_of, bare, IsKept}
 use Rattle.mv_repository.proofs.ListedLemmas.{listed-stay}
 use Rattle.mv_repository.proofs.ShelvesLemmas.{IsShelved, shelves-follow}
 use Rattle.mv_repository.proofs.TableLemmas.{longer, log-split}

@@ -1,5 +1,6 @@
 -- Lemmas on places in the log, where the entries are in the order of stamps.
-use Rattle.mv_repository.proofs.Words.{◌≡◌, ℕ, zero, suc, ◌<◌, ◌≤◌, List, [], ◌∷◌, length, map, get_or, insert, take, not, refl, sym, ◌∙◌, ap, arith, nat_tests, Bool, true, false, cond, LogEntry, Placed, passes, stands_before, Ascends, entry_at, put_place, places_before}
+use Rattle.std.specs.Prelude.{◌≡◌, ◌<◌, ◌≤◌, ◌∷◌}
+use Rattle.mv_repository.proofs.Words.{ℕ, zero, suc, List, [], length, map, get_or, insert, take, not, refl, sym, ◌∙◌, ap, arith, nat_tests, Bool, true, false, cond, LogEntry, Placed, passes, stands_before, Ascends, entry_at, put_place, places_before}
 use Rattle.std.specs.List.Sorted.{IsPartitionedBy, IsPartitionPoint}
 use Rattle.mv_repository.proofs.OrderLemmas.{StandsBeforeAll}
 

@@ -1,5 +1,6 @@
 -- Lemmas on the last master of a code, and on the table that finds it.
-use Rattle.mv_repository.proofs.Words.{bytes_eq, ◌≡◌, ℕ, ◌+◌, List, [], ◌∷◌, length, get_or, take, refl, sym, ◌∙◌, ap, Bool, true, false, cond, cond_both, true≢false, Option, Some, None, IsSome, IfSome, filter, is_some, same_text, filter_map, last_or, cons_option, lookup, option_map, option_and_then, Item, Carried, Master, Product, LogEntry, is_master, product_in, product_at, last_in, comes_late, AreMastersOf, Placed, passes, put_in, ordered, Ascends, product_under, product_of, place_of, no_entry}
+use Rattle.std.specs.Prelude.{◌≡◌, ◌+◌, ◌∷◌}
+use Rattle.mv_repository.proofs.Words.{bytes_eq, ℕ, List, [], length, get_or, take, refl, sym, ◌∙◌, ap, Bool, true, false, cond, cond_both, true≢false, Option, Some, None, IsSome, IfSome, filter, is_some, same_text, filter_map, last_or, cons_option, lookup, option_map, option_and_then, Item, Carried, Master, Product, LogEntry, is_master, product_in, product_at, last_in, comes_late, AreMastersOf, Placed, passes, put_in, ordered, Ascends, product_under, product_of, place_of, no_entry}
 use Rattle.mv_repository.proofs.OrderLemmas.{still-stand, passes_behind, ordered-ascends, ordered-stand, last-all}
 use Rattle.mv_repository.proofs.TableLemmas.{longer, newest, newest-stands, at-newest, filter-ascends, filter-more, filter-none, filter-stand, found-more}
 

@@ -1,5 +1,6 @@
 -- Two logs with distinct stamps that have the same messages about a pack have them in the same order.
-use Rattle.mv_repository.proofs.Words.{◌≡◌, ℕ, zero, suc, ◌<◌, List, [], ◌∷◌, length, get_or, refl, sym, ◌∙◌, ap, subst, arith, Bool, true, false, cond, ◌&&◌, ◌||◌, ◌==◌, nat_lt, Option, Some, filter, ◌⊎◌, inl, inr, ⊤, Contains, option_and_then, slice_get, nat_tests, ltb-true, PackKey, Message, Item, Receipt, Carried, LogEntry, slice_get_within, get_or_from_slice_get, slice_get-get_or, AllByRecursion, cons_option, None, Placed, ordered, put_in, stands_before, Ascends, Sent, sent_in, sent_by, bears_on, about, AgreeOn, HasDistinctStamps, HaveSameAbout, HaveSameEntries}
+use Rattle.std.specs.Prelude.{◌≡◌, ◌<◌, ◌∷◌, ◌&&◌, ◌||◌, ◌==◌, ◌⊎◌}
+use Rattle.mv_repository.proofs.Words.{ℕ, zero, suc, List, [], length, get_or, refl, sym, ◌∙◌, ap, subst, arith, Bool, true, false, cond, nat_lt, Option, Some, filter, inl, inr, ⊤, Contains, option_and_then, slice_get, nat_tests, ltb-true, PackKey, Message, Item, Receipt, Carried, LogEntry, slice_get_within, get_or_from_slice_get, slice_get-get_or, AllByRecursion, cons_option, None, Placed, ordered, put_in, stands_before, Ascends, Sent, sent_in, sent_by, bears_on, about, AgreeOn, HasDistinctStamps, HaveSameAbout, HaveSameEntries}
 use Rattle.std.proofs.lemmas.List.Elements.{All-contains, All-from_recursion}
 use Rattle.std.proofs.lemmas.List.Sorted.{Contains-permutation}
 use Rattle.mv_repository.specs.Agreement.{batch_in}

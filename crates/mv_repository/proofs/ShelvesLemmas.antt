@@ -1,5 +1,6 @@
 -- A shelf that is written is that of one product.
-use Rattle.mv_repository.proofs.Words.{bytes_eq, ◌≡◌, ℕ, List, refl, sym, ◌∙◌, ap, subst, false, cond, cond_both, Option, Some, None, same_text, lookup, unwrap_or, LogEntry, ShelfTable, IsShelfOf, no_shelf, shelf_of}
+use Rattle.std.specs.Prelude.{◌≡◌}
+use Rattle.mv_repository.proofs.Words.{bytes_eq, ℕ, List, refl, sym, ◌∙◌, ap, subst, false, cond, cond_both, Option, Some, None, same_text, lookup, unwrap_or, LogEntry, ShelfTable, IsShelfOf, no_shelf, shelf_of}
 
 -- the product has this shelf, and each other product its own
 abbrev pub IsShelved : List (List ℕ × ShelfTable) → List (List ℕ × ShelfTable) → List ℕ → ShelfTable → Type 0

@@ -1,5 +1,6 @@
 -- What a pack is depends on its own entries, the first recall of its batch and the first withdrawal of its product.
-use Rattle.mv_repository.proofs.Words.{◌≡◌, ℕ, List, [], ◌∷◌, ◌++◌, refl, sym, ◌∙◌, ap, append_assoc, Bool, true, false, cond, cond_both, ◌||◌, Option, Some, None, IsSome, IfSome, true≢false, find, fold, map, subst, get_or, list_any, option_or, option_map, Item, Carried, Upload, Status, BatchKey, PackKey, LogEntry, Placed, stands_before, Ascends, KnownPack, is_recall_of, is_withdrawal_of, batch_standing, pack_after_item, known_pack_from, known_pack, pack_made_by, FirstStops, first_stops, is_before, standing_at, entry_at, place_of, no_entry, is_upload_of, is_status_of, first_upload, statuses_of, pack_changed, pack_step, pack_grown, BatchStanding}
+use Rattle.std.specs.Prelude.{◌≡◌, ◌∷◌, ◌++◌, ◌||◌}
+use Rattle.mv_repository.proofs.Words.{ℕ, List, [], refl, sym, ◌∙◌, ap, append_assoc, Bool, true, false, cond, cond_both, Option, Some, None, IsSome, IfSome, true≢false, find, fold, map, subst, get_or, list_any, option_or, option_map, Item, Carried, Upload, Status, BatchKey, PackKey, LogEntry, Placed, stands_before, Ascends, KnownPack, is_recall_of, is_withdrawal_of, batch_standing, pack_after_item, known_pack_from, known_pack, pack_made_by, FirstStops, first_stops, is_before, standing_at, entry_at, place_of, no_entry, is_upload_of, is_status_of, first_upload, statuses_of, pack_changed, pack_step, pack_grown, BatchStanding}
 use Rattle.mv_repository.proofs.OrderLemmas.{StandsBeforeAll, stands-asym, stands-self, Stand, find-all}
 
 -- what is found behind y doesn't stand before it

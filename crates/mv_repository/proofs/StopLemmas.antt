@@ -1,5 +1,6 @@
 -- What a recall and a withdrawal do: their effects, the tables that find the first, and the packs on which they bear.
-use Rattle.mv_repository.proofs.Words.{arith, nat_tests, bytes_eq, ◌&&◌, ◌+◌, Bool, IfSome, None, Option, Some, [], ap, cond, false, find, get_or, length, not, refl, sym, take, true, true≢false, ℕ, ◌∙◌, ◌∷◌, ◌≡◌, List, same_text, list_any, keys_of, lookup, option_map, option_map_or, insert_key, Item, Carried, Upload, Status, Recall, Withdraw, batch_key, is_same_batch, pack_key, BatchKey, PackKey, LogEntry, Slot, Own, recalled_in, uploaded_in, effect_after, effect_of, entries_before, lasting_effect, AreListed, ListingTable, batch_at, lists, is_master, Placed, ordered, passes, stands_before, KnownPack, change_effect, is_active, is_done, is_recall_of, is_recalled_by, is_withdrawal_of, is_withdrawn_by, NamesNone, change_in, effect_by, effect_on, next_by, pack_made_by, standing_in, withdrawn_in, AreFirstsOf, AreStopsOf, FirstStops, StopTables, comes_first, earlier_place, first_place, first_stops, is_before, is_stop, no_entry, place_of, standing_at, stopped_product, first_upload, is_status_of, is_upload_of, life_of, statuses_of, track_of, Effect, BatchStanding, Stop}
+use Rattle.std.specs.Prelude.{◌&&◌, ◌+◌, ◌∷◌, ◌≡◌}
+use Rattle.mv_repository.proofs.Words.{arith, nat_tests, bytes_eq, Bool, IfSome, None, Option, Some, [], ap, cond, false, find, get_or, length, not, refl, sym, take, true, true≢false, ℕ, ◌∙◌, List, same_text, list_any, keys_of, lookup, option_map, option_map_or, insert_key, Item, Carried, Upload, Status, Recall, Withdraw, batch_key, is_same_batch, pack_key, BatchKey, PackKey, LogEntry, Slot, Own, recalled_in, uploaded_in, effect_after, effect_of, entries_before, lasting_effect, AreListed, ListingTable, batch_at, lists, is_master, Placed, ordered, passes, stands_before, KnownPack, change_effect, is_active, is_done, is_recall_of, is_recalled_by, is_withdrawal_of, is_withdrawn_by, NamesNone, change_in, effect_by, effect_on, next_by, pack_made_by, standing_in, withdrawn_in, AreFirstsOf, AreStopsOf, FirstStops, StopTables, comes_first, earlier_place, first_place, first_stops, is_before, is_stop, no_entry, place_of, standing_at, stopped_product, first_upload, is_status_of, is_upload_of, life_of, statuses_of, track_of, Effect, BatchStanding, Stop}
 use Rattle.mv_repository.specs.Listing.{batch_in}
 use Rattle.mv_repository.proofs.BeforeLemmas.{any-before}
 use Rattle.mv_repository.proofs.KeptLemmas.{same_batch, batch-self, text-self}

@@ -1,5 +1,6 @@
 -- The batches that are recalled and the products that are withdrawn, after one more entry.
-use Rattle.mv_repository.proofs.Words.{◌≡◌, ℕ, List, [], ◌∷◌, ◌++◌, refl, sym, ◌∙◌, ap, Bool, true, false, cond, Option, Some, None, is_some, fold, true≢false, same_text, flat_map, lookup, keys_of, flat_map-append, fold-append, is_some-lookup, insert_entry, insert_key, keys_insert_entry, BatchKey, Recall, Withdraw, Item, Carried, LogEntry, recalled_in, is_recall_of, is_withdrawal_of, withdrawn_in, each_once, comes_first}
+use Rattle.std.specs.Prelude.{◌≡◌, ◌∷◌, ◌++◌}
+use Rattle.mv_repository.proofs.Words.{ℕ, List, [], refl, sym, ◌∙◌, ap, Bool, true, false, cond, Option, Some, None, is_some, fold, true≢false, same_text, flat_map, lookup, keys_of, flat_map-append, fold-append, is_some-lookup, insert_entry, insert_key, keys_insert_entry, BatchKey, Recall, Withdraw, Item, Carried, LogEntry, recalled_in, is_recall_of, is_withdrawal_of, withdrawn_in, each_once, comes_first}
 use Rattle.mv_repository.proofs.KeptLemmas.{same_batch, batch-self, text-self}
 
 module _ {K : Type 0} (same : K → K → Bool) (keys_in : LogEntry → List K) (log : List LogEntry) (entry : LogEntry) where

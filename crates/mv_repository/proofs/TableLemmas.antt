@@ -1,5 +1,6 @@
 -- What the tables are after one more entry of the log.
-use Rattle.mv_repository.proofs.Words.{bytes_eq, ◌≡◌, ℕ, ◌+◌, zero, suc, arith, subst, take, List, [], ◌∷◌, ◌++◌, length, get_or, refl, sym, ◌∙◌, ap, Bool, true, false, cond, cond_both, Option, Some, None, IfSome, filter, find, map, get_or_push, length-take-le, lookup, option_map, Item, is_same_batch, BatchKey, LogEntry, recalled_in, Placed, passes, put_in, ordered, Ascends, stands_before, is_recall_of, is_withdrawal_of, withdrawn_in, StopTables, first_stops, stops_in, entry_at, place_of, no_entry, AreFirstsOf, AreStopsOf, earlier_place, AreFound, put_place}
+use Rattle.std.specs.Prelude.{◌≡◌, ◌+◌, ◌∷◌, ◌++◌}
+use Rattle.mv_repository.proofs.Words.{bytes_eq, ℕ, zero, suc, arith, subst, take, List, [], length, get_or, refl, sym, ◌∙◌, ap, Bool, true, false, cond, cond_both, Option, Some, None, IfSome, filter, find, map, get_or_push, length-take-le, lookup, option_map, Item, is_same_batch, BatchKey, LogEntry, recalled_in, Placed, passes, put_in, ordered, Ascends, stands_before, is_recall_of, is_withdrawal_of, withdrawn_in, StopTables, first_stops, stops_in, entry_at, place_of, no_entry, AreFirstsOf, AreStopsOf, earlier_place, AreFound, put_place}
 use Rattle.mv_repository.proofs.OrderLemmas.{cond_two, StandsBeforeAll, placed_at, passes_behind, ordered-ascends, ordered-push, Stand, still-stand, filter-all}
 use Rattle.mv_repository.proofs.StateLemmas.{find-stand, find-stands}
 use Rattle.mv_repository.proofs.StoppedLemmas.{once-none, no-recall, no-withdrawal}

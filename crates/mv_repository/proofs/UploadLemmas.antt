@@ -1,6 +1,7 @@
 -- An upload in what is kept of one pack.
 use Rattle.std.proofs.Math.Bool.{or-true}
-use Rattle.mv_repository.proofs.Words.{is_master, bytes_eq, zero, suc, ◌≡◌, ℕ, ◌+◌, ◌<◌, List, [], ◌∷◌, length, get_or, take, refl, sym, ◌∙◌, ap, subst, arith, Bool, true, false, cond, ◌&&◌, ◌||◌, or-false, Option, Some, map, list_any_more, same_text, Item, Carried, Upload, pack_key, PackKey, LogEntry, Slot, ordered, has_pack, kept_on, IsUploadOf, has, AreKept, next_by, StopTables, first_stops, stops_in, place_of, no_entry, AreStopsOf, earlier_place, Kept, Life, is_upload_of, is_status_of, first_upload, statuses_of, life_of, track_of, IsKept, IsTrack}
+use Rattle.std.specs.Prelude.{◌≡◌, ◌+◌, ◌<◌, ◌∷◌, ◌&&◌, ◌||◌}
+use Rattle.mv_repository.proofs.Words.{is_master, bytes_eq, zero, suc, ℕ, List, [], length, get_or, take, refl, sym, ◌∙◌, ap, subst, arith, Bool, true, false, cond, or-false, Option, Some, map, list_any_more, same_text, Item, Carried, Upload, pack_key, PackKey, LogEntry, Slot, ordered, has_pack, kept_on, IsUploadOf, has, AreKept, next_by, StopTables, first_stops, stops_in, place_of, no_entry, AreStopsOf, earlier_place, Kept, Life, is_upload_of, is_status_of, first_upload, statuses_of, life_of, track_of, IsKept, IsTrack}
 use Rattle.mv_repository.proofs.KeptLemmas.{earlier_first, text-self}
 use Rattle.mv_repository.proofs.OrderLemmas.{ordered-stand, still-stand}
 use Rattle.mv_repository.proofs.TableLemmas.{longer, find-none, find-some, filter-none, stops-stay, StopsNone, log-split, first-same}

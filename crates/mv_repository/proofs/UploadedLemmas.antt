@@ -1,5 +1,6 @@
 -- Uploads: which packs a log names, and how many of those that an upload names are new.
-use Rattle.mv_repository.proofs.Words.{nat_tests, bytes_eq, ◌≡◌, ℕ, ◌+◌, ◌<◌, List, [], ◌∷◌, ◌++◌, length, take, get_or, refl, sym, ◌∙◌, ap, arith, subst, append-nil, length-append, Bool, true, false, cond, cond_both, not, ◌&&◌, ◌||◌, Option, Some, None, IfSome, is_some, IsSome, true≢false, find, filter, map, fold, or-false, and-false, flat_map-append, length-map, take_more, filter-append, list_any-append, is_member-filter, list_any_congr, IsEquivalence, same_text, nat_list_eq_equiv, list_any, flat_map, option_map, distinct_count, is_member, unique_keys, Item, Carried, Upload, is_same_pack, pack_key, PackKey, LogEntry, uploaded_in, uploaded_packs, entries_before, Placed, passes, put_in, ordered, KnownPack, has_pack, known_pack, IsUploadOf, has, new_count, pack_made_by, first_stops, is_before, place_of, no_entry, comes_first, earlier_place, is_upload_of, first_upload, statuses_of, pack_step, pack_grown, track_of}
+use Rattle.std.specs.Prelude.{◌≡◌, ◌+◌, ◌<◌, ◌∷◌, ◌++◌, ◌&&◌, ◌||◌}
+use Rattle.mv_repository.proofs.Words.{nat_tests, bytes_eq, ℕ, List, [], length, take, get_or, refl, sym, ◌∙◌, ap, arith, subst, append-nil, length-append, Bool, true, false, cond, cond_both, not, Option, Some, None, IfSome, is_some, IsSome, true≢false, find, filter, map, fold, or-false, and-false, flat_map-append, length-map, take_more, filter-append, list_any-append, is_member-filter, list_any_congr, IsEquivalence, same_text, nat_list_eq_equiv, list_any, flat_map, option_map, distinct_count, is_member, unique_keys, Item, Carried, Upload, is_same_pack, pack_key, PackKey, LogEntry, uploaded_in, uploaded_packs, entries_before, Placed, passes, put_in, ordered, KnownPack, has_pack, known_pack, IsUploadOf, has, new_count, pack_made_by, first_stops, is_before, place_of, no_entry, comes_first, earlier_place, is_upload_of, first_upload, statuses_of, pack_step, pack_grown, track_of}
 use Rattle.std.proofs.Math.Bool.{and-true}
 use Rattle.std.proofs.lemmas.List.Sorted.{list_any-IsPermutation}
 use Rattle.mv_repository.proofs.BeforeLemmas.{stays_before, counted, counted-before, find-below, known-before, any-find}

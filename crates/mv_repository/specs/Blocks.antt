@@ -1,5 +1,6 @@
 -- What many statuses of a pack do that stand one behind the other.
-use Rattle.mv_repository.specs.Words.{⊤, ◌≡◌, ◌≤◌, ◌+◌, ◌%◌, ◌++◌, ℕ, List, [], ◌∷◌, length, fold, take, drop, Bool, true, AllByRecursion, PARTIES_LIMIT, PartySet}
+use Rattle.std.specs.Prelude.{◌≡◌, ◌≤◌, ◌+◌, ◌%◌, ◌++◌, ◌∷◌}
+use Rattle.mv_repository.specs.Words.{⊤, ℕ, List, [], length, fold, take, drop, Bool, true, AllByRecursion, PARTIES_LIMIT, PartySet}
 use Rattle.mv_link.specs.PartySets.{has_party, no_parties}
 use Rattle.mv_repository.specs.declared.blocks.Block.{Block}
 use Rattle.mv_repository.specs.declared.blocks.Cut.{Cut}

@@ -1,5 +1,6 @@
 -- What applying an item does, by its number.
-use Rattle.mv_repository.specs.Words.{ℕ, ◌-◌, List, length, filter, not, Bool, is_some, codes, if◌then◌else◌, bytes_eq, option_map_or, distinct_count, Master, Upload, Status, Withdraw, Item, Carried, Effect, LogEntry}
+use Rattle.std.specs.Prelude.{◌-◌, if◌then◌else◌}
+use Rattle.mv_repository.specs.Words.{ℕ, List, length, filter, not, Bool, is_some, codes, bytes_eq, option_map_or, distinct_count, Master, Upload, Status, Withdraw, Item, Carried, Effect, LogEntry}
 use Rattle.mv_message.specs.declared.message.Message.TheVariants.{Recall}
 use Rattle.mv_repository.specs.declared.effect.Effect.TheVariants as effects
 use Rattle.mv_repository.specs.Order.{Placed, passes, ordered}

@@ -1,6 +1,6 @@
 -- The table of a repository's own queries.
-use Rattle.mv_repository.specs.Words.{◌≡◌, ◌<◌, ℕ, suc, Bool, true, false, not, ◌&&◌, ◌||◌, ◌==◌, nat_eq, List, [], ◌∷◌, length, filter, slice_get, Option, Some, None, is_some, if◌then◌else◌, list_any, option_or, option_map, option_and_then, lookup, map_spare, set_spare, Answer, Found, Item, Receipt, Carried, LogEntry, Joint, NotAsked, Pending, Decided}
-use Rattle.std.specs.Prelude.{unwrap_or}
+use Rattle.std.specs.Prelude.{◌≡◌, ◌<◌, ◌&&◌, ◌||◌, ◌==◌, ◌∷◌, if◌then◌else◌, unwrap_or}
+use Rattle.mv_repository.specs.Words.{ℕ, suc, Bool, true, false, not, nat_eq, List, [], length, filter, slice_get, Option, Some, None, is_some, list_any, option_or, option_map, option_and_then, lookup, map_spare, set_spare, Answer, Found, Item, Receipt, Carried, LogEntry, Joint, NotAsked, Pending, Decided}
 use Rattle.mv_repository.specs.declared.inquiries.Inquiries.{Inquiries}
 use Rattle.mv_repository.specs.declared.inquiries.Inquiry.{Inquiry}
 use Rattle.mv_repository.specs.Verdict.{query_reach, has_answered, has_finding, found_active, found_explained, verdict_when}

@@ -1,5 +1,6 @@
 -- For each batch of a product the numbers of the tracks that may be of it. Too many are right, too few are not.
-use Rattle.mv_repository.specs.Words.{◌≡◌, ℕ, List, [], map, Bool, true, ◌==◌, Option, Some, None, if◌then◌else◌, bytes_eq, HashSet, list_any, lookup, option_and_then, Message, Upload, Item, LogEntry, Slot, Own}
+use Rattle.std.specs.Prelude.{◌≡◌, ◌==◌, if◌then◌else◌}
+use Rattle.mv_repository.specs.Words.{ℕ, List, [], map, Bool, true, Option, Some, None, bytes_eq, HashSet, list_any, lookup, option_and_then, Message, Upload, Item, LogEntry, Slot, Own}
 use Rattle.std.specs.Option.{unwrap_or}
 use Rattle.mv_pack.specs.Keys.{pack_key}
 use Rattle.mv_repository.specs.Stops.{entry_at, message_in}

@@ -1,6 +1,7 @@
 -- What a repository knows of a pack and of a batch, and what one status does to a pack (Delegated Regulation (EU)
 -- 2016/161, Articles 13, 36 and 40).
-use Rattle.mv_repository.specs.Words.{ℕ, ◌+◌, ◌*◌, ◌==◌, ◌&&◌, nat_lt, List, not, Bool, true, false, Option, Some, None, if◌then◌else◌, bytes_eq, Standing, Effect, BatchStanding}
+use Rattle.std.specs.Prelude.{◌+◌, ◌*◌, ◌==◌, ◌&&◌, if◌then◌else◌}
+use Rattle.mv_repository.specs.Words.{ℕ, nat_lt, List, not, Bool, true, false, Option, Some, None, bytes_eq, Standing, Effect, BatchStanding}
 use Rattle.mv_pack.specs.Expiry.{CivilDate, seconds_of_day, is_expired_at}
 use Rattle.mv_message.specs.declared.standing.Standing.TheVariants as standings
 use Rattle.mv_repository.specs.declared.effect.Effect.TheVariants as effects

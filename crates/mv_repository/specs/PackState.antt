@@ -1,5 +1,6 @@
 -- What a log means for one pack, one batch and one product: its entries are read in the order of stamps.
-use Rattle.mv_repository.specs.Words.{ℕ, List, [], ◌∷◌, ◌++◌, Bool, false, ◌&&◌, Option, Some, None, if◌then◌else◌, bytes_eq, list_any, option_map, option_or, PackKey, BatchKey, Upload, Status, Withdraw, Item, Carried, LogEntry, BatchStanding}
+use Rattle.std.specs.Prelude.{◌∷◌, ◌++◌, ◌&&◌, if◌then◌else◌}
+use Rattle.mv_repository.specs.Words.{ℕ, List, [], Bool, false, Option, Some, None, bytes_eq, list_any, option_map, option_or, PackKey, BatchKey, Upload, Status, Withdraw, Item, Carried, LogEntry, BatchStanding}
 use Rattle.mv_message.specs.declared.message.Message.TheVariants.{Recall}
 use Rattle.mv_repository.specs.declared.held.Held.{Held}
 use Rattle.mv_repository.specs.Order.{Placed, ordered}

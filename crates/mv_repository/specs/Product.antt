@@ -1,5 +1,6 @@
 -- What a repository knows of a product.
-use Rattle.mv_repository.specs.Words.{ℕ, List, Option, Some, None, if◌then◌else◌, bytes_eq, Master, Product, Item, Carried}
+use Rattle.std.specs.Prelude.{if◌then◌else◌}
+use Rattle.mv_repository.specs.Words.{ℕ, List, Option, Some, None, bytes_eq, Master, Product, Item, Carried}
 
 -- the product that an item gives under a code: that of a master of the code
 abbrev pub product_under : List ℕ → Item → Option Product

@@ -1,5 +1,6 @@
 -- What a repository is seen as. No table is part of it: all that it answers is the meaning of its log by stamp order.
-use Rattle.mv_repository.specs.Words.{ℕ, List, [], ◌∷◌, ◌++◌, Option, None, filter_map, last_or, Product, Item, LogEntry}
+use Rattle.std.specs.Prelude.{◌∷◌, ◌++◌}
+use Rattle.mv_repository.specs.Words.{ℕ, List, [], Option, None, filter_map, last_or, Product, Item, LogEntry}
 use Rattle.mv_repository.specs.Order.{ordered}
 use Rattle.mv_repository.specs.Product.{product_under}
 

@@ -1,5 +1,6 @@
 -- What is kept of each pack of a product: a pack that has no status has a slot alone, and each other a track.
-use Rattle.mv_repository.specs.Words.{◌≡◌, ◌<◌, ℕ, List, [], length, get_or, take, filter, not, is_some, Bool, true, false, Option, Some, None, if◌then◌else◌, bytes_eq, lookup, Slot, Made, Own, list_any, Upload, Item, Carried, PackKey, LogEntry, distinct_count}
+use Rattle.std.specs.Prelude.{◌≡◌, ◌<◌, if◌then◌else◌}
+use Rattle.mv_repository.specs.Words.{ℕ, List, [], length, get_or, take, filter, not, is_some, Bool, true, false, Option, Some, None, bytes_eq, lookup, Slot, Made, Own, list_any, Upload, Item, Carried, PackKey, LogEntry, distinct_count}
 use Rattle.mv_pack.specs.Keys.{pack_key}
 use Rattle.std.specs.Option.{unwrap_or}
 use Rattle.mv_repository.specs.Effect.{entries_before}

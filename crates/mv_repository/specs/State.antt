@@ -1,6 +1,7 @@
 -- By which entry a pack stands: by the upload that made it, or by the status that changed it last. The place of that entry is
 -- the whole state of a pack whose upload is known.
-use Rattle.mv_repository.specs.Words.{ℕ, List, [], Option, Some, None, if◌then◌else◌, option_and_then, option_map, option_map_or, BatchKey, Standing, Message, Upload, Status, Item, LogEntry, Change, Effect, BatchStanding}
+use Rattle.std.specs.Prelude.{if◌then◌else◌}
+use Rattle.mv_repository.specs.Words.{ℕ, List, [], Option, Some, None, option_and_then, option_map, option_map_or, BatchKey, Standing, Message, Upload, Status, Item, LogEntry, Change, Effect, BatchStanding}
 use Rattle.std.specs.Option.{unwrap_or}
 use Rattle.mv_message.specs.declared.standing.Standing.TheVariants as standings
 use Rattle.mv_repository.specs.declared.held.Held.{Held}

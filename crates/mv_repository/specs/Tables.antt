@@ -1,5 +1,6 @@
 -- The tables that a repository keeps of its log.
-use Rattle.mv_repository.specs.Words.{◌≡◌, ℕ, List, length, LogEntry}
+use Rattle.std.specs.Prelude.{◌≡◌}
+use Rattle.mv_repository.specs.Words.{ℕ, List, length, LogEntry}
 use Rattle.mv_repository.specs.declared.tables.Tables.{Tables}
 use Rattle.mv_repository.specs.Counts.{uploaded_packs}
 use Rattle.mv_repository.specs.Masters.{AreMastersOf}

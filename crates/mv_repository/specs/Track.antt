@@ -1,6 +1,7 @@
 -- What is kept of one pack: its first upload, its statuses in the order of stamps, and the entry by which the pack stands
 -- behind them.
-use Rattle.mv_repository.specs.Words.{◌≡◌, ℕ, List, [], ◌∷◌, map, fold, filter, find, not, ◌==◌, Bool, false, Option, Some, None, if◌then◌else◌, option_map, option_map_or, PackKey, BatchKey, Upload, Status, Item, Carried, LogEntry, BatchStanding}
+use Rattle.std.specs.Prelude.{◌≡◌, ◌∷◌, ◌==◌, if◌then◌else◌}
+use Rattle.mv_repository.specs.Words.{ℕ, List, [], map, fold, filter, find, not, Bool, false, Option, Some, None, option_map, option_map_or, PackKey, BatchKey, Upload, Status, Item, Carried, LogEntry, BatchStanding}
 use Rattle.std.specs.Option.{unwrap_or}
 use Rattle.mv_repository.specs.declared.blocks.Block.{Block}
 use Rattle.mv_pack.specs.Keys.{is_same_pack, batch_key}

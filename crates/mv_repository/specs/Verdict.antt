@@ -1,6 +1,7 @@
 -- Whether a pack is authentic: by one repository, and by the answers of all that were asked (Delegated Regulation (EU)
 -- 2016/161, Articles 11 and 36).
-use Rattle.mv_repository.specs.Words.{ℕ, ◌==◌, ◌&&◌, ◌||◌, not, Bool, true, false, List, [], ◌∷◌, length, filter, Option, Some, None, is_some, if◌then◌else◌, list_any, option_or, option_map_or, PackKey, Standing, Answer, Found, Item, Receipt, Carried, LogEntry, Verdict, Authentic, NotAuthentic, Local, Known, Joint, NotAsked, Pending, Decided}
+use Rattle.std.specs.Prelude.{◌==◌, ◌&&◌, ◌||◌, ◌∷◌, if◌then◌else◌}
+use Rattle.mv_repository.specs.Words.{ℕ, not, Bool, true, false, List, [], length, filter, Option, Some, None, is_some, list_any, option_or, option_map_or, PackKey, Standing, Answer, Found, Item, Receipt, Carried, LogEntry, Verdict, Authentic, NotAuthentic, Local, Known, Joint, NotAsked, Pending, Decided}
 use Rattle.mv_message.specs.declared.standing.Standing.TheVariants as standings
 use Rattle.mv_message.specs.declared.found.Found.TheVariants as founds
 use Rattle.mv_repository.specs.declared.verdict.Local.TheVariants.{Absent}

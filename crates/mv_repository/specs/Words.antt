@@ -35,5 +35,5 @@ pub use Rattle.std.specs.Iterator.{YieldsFirstRef, item_count}
 pub use Rattle.std.specs.List.{AllByRecursion, Contains, filter_map, flat_map, last_or, list_any}
 pub use Rattle.std.specs.Map.{keys_of, lookup}
 pub use Rattle.std.specs.Option.{option_and_then, option_copied, option_map, option_map_or, option_or}
-pub use Rattle.std.specs.Prelude.{Bool, IfNone, IfOk, IfSome, IsTrue, List, MatchOption, None, OnErr, OnOk, Option, Option as AnOption, Some, [], bytes_eq, codes, drop, false, filter, find, fold, get_or, if◌then◌else◌, insert, is_some, length, map, nat_eq, nat_lt, not, option_to_list, slice_get, suc, take, true, ℕ, ◌%◌, ◌&&◌, ◌*◌, ◌++◌, ◌+◌, ◌-◌, ◌<◌, ◌==◌, ◌^◌, ◌||◌, ◌↔◌, ◌∷◌, ◌≡◌, ◌≤◌}
+pub use Rattle.std.specs.Prelude.{Bool, IfNone, IfOk, IfSome, IsTrue, List, MatchOption, None, OnErr, OnOk, Option, Option as AnOption, Some, [], bytes_eq, codes, drop, false, filter, find, fold, get_or, insert, is_some, length, map, nat_eq, nat_lt, not, option_to_list, slice_get, suc, take, true, ℕ}
 pub use Rattle.std.specs.Set.{distinct_count}

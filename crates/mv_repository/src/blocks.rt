@@ -2,7 +2,8 @@
 //! over. It does not go through each of them: of a block of them it is known what it leaves of a pack that comes to it
 //! active, and whose reverts stand in it, since a pack that another changed goes through as it comes.
 
-ghost use Rattle.mv_repository.specs.Words.{◌≡◌, ◌≤◌, ◌<◌, ◌+◌, ◌%◌, ℕ, List, length, fold, take, drop, get_or, IfSome, AllByRecursion};
+ghost use Rattle.std.specs.Prelude.{◌≡◌, ◌≤◌, ◌<◌, ◌+◌, ◌%◌};
+ghost use Rattle.mv_repository.specs.Words.{ℕ, List, length, fold, take, drop, get_or, IfSome, AllByRecursion};
 ghost use Rattle.mv_repository.specs.Blocks.{IsCovered, IsSummary, AreBlocks, IsCut, IsFront, no_block, without};
 ghost use Rattle.mv_repository.specs.State.{entry_in, next_in, start_in};
 ghost use Rattle.mv_repository.specs.Stops.{entry_at};

@@ -3,7 +3,8 @@
 //!
 //! It stands apart since no other table bears on it: it changes at receipts of queries and at answers alone.
 
-ghost use Rattle.mv_repository.specs.Words.{◌≡◌, ◌<◌, ◌≤◌, ◌==◌, ◌&&◌, ◌||◌, not, if◌then◌else◌, OnOk, ℕ, List, [], ◌∷◌, ◌++◌, length, filter, option_copied, map_spare, set_spare, AnEntry};
+ghost use Rattle.std.specs.Prelude.{◌≡◌, ◌<◌, ◌≤◌, ◌==◌, ◌&&◌, ◌||◌, if◌then◌else◌, ◌∷◌, ◌++◌};
+ghost use Rattle.mv_repository.specs.Words.{not, OnOk, ℕ, List, [], length, filter, option_copied, map_spare, set_spare, AnEntry};
 ghost use Rattle.mv_repository.specs.Verdict.{found_active, found_explained, verdict_when};
 ghost use Rattle.mv_repository.specs.Inquiries.{IsInquiriesOf, HasRoomFor, has_reply, inquiry_in, no_inquiry, tells_of_query};
 ghost use Rattle.mv_repository.specs.Inquiries.{with_receipt, with_finding, parties_at, known_verdict, verdict_once_asked};

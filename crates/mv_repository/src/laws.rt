@@ -1,7 +1,8 @@
 //! Laws over the definitions alone. They hold of every log, also of one in which a stamp has more than 32 bits, as no item that a
 //! repository applies has; only that receipts stand behind all else needs stamps of 32 bits.
 
-ghost use Rattle.mv_repository.specs.Words.{◌≡◌, List, APackKey, AnEntry};
+ghost use Rattle.std.specs.Prelude.{◌≡◌};
+ghost use Rattle.mv_repository.specs.Words.{List, APackKey, AnEntry};
 ghost use Rattle.mv_repository.specs.Agreement.{about, AgreeOn, HasDistinctStamps, HaveSameAbout, HaveSameEntries};
 ghost use Rattle.mv_repository.specs.Changes.{ChangeNamesStatus};
 ghost use Rattle.mv_repository.specs.History.{HaveSameHistory};

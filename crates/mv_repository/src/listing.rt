@@ -1,6 +1,7 @@
 //! For each batch of a product the numbers of the tracks that may be of it: what a recall has to look at.
 
-ghost use Rattle.mv_repository.specs.Words.{◌≡◌, ℕ, List, true, false, OnOk, Some, MatchOption, option_copied};
+ghost use Rattle.std.specs.Prelude.{◌≡◌};
+ghost use Rattle.mv_repository.specs.Words.{ℕ, List, true, false, OnOk, Some, MatchOption, option_copied};
 ghost use Rattle.mv_repository.specs.Listing.{numbers_in, numbers_of, no_numbers, has_number, lists, HasAllOf, HasNumbersOf, batch_at};
 
 use crate::LogEntry;

@@ -1,6 +1,7 @@
 //! The table of products: for each code with a master, the place in the log of the last one by stamp.
 
-ghost use Rattle.mv_repository.specs.Words.{◌≡◌, ◌+◌, length, take, true, OnOk, OnErr, option_copied};
+ghost use Rattle.std.specs.Prelude.{◌≡◌, ◌+◌};
+ghost use Rattle.mv_repository.specs.Words.{length, take, true, OnOk, OnErr, option_copied};
 ghost use Rattle.mv_repository.specs.Masters.{AreMastersOf, is_master, comes_late, product_at};
 ghost use Rattle.mv_repository.specs.Repository.{product_of};
 ghost use Rattle.mv_repository.specs.Stops.{entry_at};

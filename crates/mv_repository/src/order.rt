@@ -1,7 +1,8 @@
 //! The order of stamps, over entries that are named by their places in the log. A place where no entry stands counts as
 //! one behind all stamps, so no function here asks for a place that is there.
 
-ghost use Rattle.mv_repository.specs.Words.{◌≡◌, option_map};
+ghost use Rattle.std.specs.Prelude.{◌≡◌};
+ghost use Rattle.mv_repository.specs.Words.{option_map};
 ghost use Rattle.mv_repository.specs.Order.{rank, passes, stands_before};
 ghost use Rattle.mv_repository.specs.Stops.{entry_at, is_before, comes_first};
 

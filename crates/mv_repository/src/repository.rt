@@ -1,6 +1,7 @@
 //! A national repository: its log, the tables of it, and what it knows of its own queries.
 
-ghost use Rattle.mv_repository.specs.Words.{◌≡◌, OnOk, OnErr, IfOk, option_copied};
+ghost use Rattle.std.specs.Prelude.{◌≡◌};
+ghost use Rattle.mv_repository.specs.Words.{OnOk, OnErr, IfOk, option_copied};
 
 use crate::counted::Counted;
 use crate::inquiries::Inquiries;

@@ -1,6 +1,7 @@
 //! The items of a log that came from one party.
 
-ghost use Rattle.mv_repository.specs.Words.{◌≡◌, [], ◌∷◌, IfSome, IfNone, YieldsFirstRef, item_count};
+ghost use Rattle.std.specs.Prelude.{◌≡◌, ◌∷◌};
+ghost use Rattle.mv_repository.specs.Words.{[], IfSome, IfNone, YieldsFirstRef, item_count};
 ghost use Rattle.mv_repository.specs.Log.{items_from};
 
 use crate::LogEntry;

@@ -1,6 +1,7 @@
 //! What is kept of each pack of one product, by serial numbers alone. This file knows no other product.
 
-ghost use Rattle.mv_repository.specs.Words.{◌≡◌, ◌<◌, ◌≤◌, ◌+◌, ◌^◌, ℕ, List, [], length, get_or, take, Some, true, false, ◌==◌, bytes_eq, OnOk, OnErr, IfOk, lookup, keys_of, Own, spare};
+ghost use Rattle.std.specs.Prelude.{◌≡◌, ◌<◌, ◌≤◌, ◌+◌, ◌^◌, ◌==◌};
+ghost use Rattle.mv_repository.specs.Words.{ℕ, List, [], length, get_or, take, Some, true, false, bytes_eq, OnOk, OnErr, IfOk, lookup, keys_of, Own, spare};
 ghost use Rattle.std.specs.List.{IsDistinct};
 ghost use Rattle.mv_repository.specs.Counted.{is_counted, slots_counted};
 ghost use Rattle.mv_repository.specs.Stops.{AreStopsOf, entry_at, is_stop, stopped_product, stops_in, comes_first, earlier_place};

@@ -1,6 +1,7 @@
 //! The shelves of the products.
 
-ghost use Rattle.mv_repository.specs.Words.{◌≡◌, ℕ, List, true, is_some, bytes_eq, OnOk, lookup};
+ghost use Rattle.std.specs.Prelude.{◌≡◌};
+ghost use Rattle.mv_repository.specs.Words.{ℕ, List, true, is_some, bytes_eq, OnOk, lookup};
 ghost use Rattle.mv_repository.specs.Shelf.{shelf_of};
 
 use crate::shelf::Shelf;

@@ -1,7 +1,8 @@
 //! The one place that decides what a status does: its effect on a pack that stands by an entry of the log, and by which entry
 //! the pack stands then.
 
-ghost use Rattle.mv_repository.specs.Words.{◌≡◌, ℕ, List, fold, AnOption, option_map};
+ghost use Rattle.std.specs.Prelude.{◌≡◌};
+ghost use Rattle.mv_repository.specs.Words.{ℕ, List, fold, AnOption, option_map};
 ghost use Rattle.mv_repository.specs.Pack.{is_active, is_final, revert_effect};
 ghost use Rattle.mv_repository.specs.State.{standing_in, change_in, user_at, known_change, effect_by, effect_on, held_at};
 ghost use Rattle.mv_repository.specs.State.{entry_in, next_in, start_in, stops_of};

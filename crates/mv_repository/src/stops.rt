@@ -1,7 +1,8 @@
 //! What stops a batch for ever: for each batch the place in the log of its first recall by stamp, and for each product
 //! that of its first withdrawal.
 
-ghost use Rattle.mv_repository.specs.Words.{◌≡◌, ◌+◌, if◌then◌else◌, true, OnOk, OnErr, IfOk, bytes_eq, [], length, take, lookup, keys_of, insert_key};
+ghost use Rattle.std.specs.Prelude.{◌≡◌, ◌+◌, if◌then◌else◌};
+ghost use Rattle.mv_repository.specs.Words.{true, OnOk, OnErr, IfOk, bytes_eq, [], length, take, lookup, keys_of, insert_key};
 ghost use Rattle.std.specs.List.{IsDistinct};
 ghost use Rattle.mv_pack.specs.Keys.{is_same_batch};
 ghost use Rattle.mv_repository.specs.Stops.{AreStopsOf, stops_in, standing_at, entry_at, is_stop, stopped_product, first_place, earlier_place, comes_first};

@@ -1,6 +1,7 @@
 //! The tables that a repository keeps of its log, and what one more entry does to them.
 
-ghost use Rattle.mv_repository.specs.Words.{◌≡◌, ◌+◌, List, length, filter, take, [], true, OnOk, OnErr, IfOk, distinct_count, AnEntry};
+ghost use Rattle.std.specs.Prelude.{◌≡◌, ◌+◌};
+ghost use Rattle.mv_repository.specs.Words.{List, length, filter, take, [], true, OnOk, OnErr, IfOk, distinct_count, AnEntry};
 ghost use Rattle.mv_pack.specs.Keys.{is_same_pack};
 ghost use Rattle.mv_repository.specs.Counted.{is_counted};
 ghost use Rattle.mv_repository.specs.Counts.{uploaded_packs};

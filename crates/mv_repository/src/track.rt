@@ -1,7 +1,8 @@
 //! What is kept of one pack: the place in the log of its first upload, its statuses in the order of stamps, and the entry by
 //! which the pack stands behind them. This file knows no other pack.
 
-ghost use Rattle.mv_repository.specs.Words.{◌≡◌, ◌≤◌, ◌<◌, ◌+◌, ℕ, List, [], length, map, insert, take, fold, not, true, OnOk, OnErr, IfOk};
+ghost use Rattle.std.specs.Prelude.{◌≡◌, ◌≤◌, ◌<◌, ◌+◌};
+ghost use Rattle.mv_repository.specs.Words.{ℕ, List, [], length, map, insert, take, fold, not, true, OnOk, OnErr, IfOk};
 ghost use Rattle.std.specs.Option.{unwrap_or};
 ghost use Rattle.mv_repository.specs.Blocks.{AreBlocks, without};
 ghost use Rattle.mv_repository.specs.State.{entry_in, next_in, start_in};

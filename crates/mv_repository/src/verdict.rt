@@ -1,6 +1,6 @@
 //! Verdicts on packs: authentic or not.
 
-ghost use Rattle.mv_repository.specs.Words.{◌≡◌, ◌||◌};
+ghost use Rattle.std.specs.Prelude.{◌≡◌, ◌||◌};
 ghost use Rattle.mv_repository.specs.Verdict.{is_for_destruction, verdict_when};
 
 use mv_message::Standing;

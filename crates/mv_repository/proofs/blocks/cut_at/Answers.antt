@@ -1,5 +1,6 @@
 -- One block further.
-use Rattle.mv_repository.proofs.Words.{◌≡◌, ◌∙◌, ◌<◌, get_or, length, arith, refl, sym, get_or_default, no_block, entry_in, next_in, start_in}
+use Rattle.std.specs.Prelude.{◌≡◌, ◌<◌}
+use Rattle.mv_repository.proofs.Words.{◌∙◌, get_or, length, arith, refl, sym, get_or_default, no_block, entry_in, next_in, start_in}
 use Rattle.mv_repository.proofs.BlockLemmas.{cut-next}
 use Rattle.mv_repository.proofs.blocks.cut_at.Goals as goal
 

@@ -1,5 +1,6 @@
 -- No block stands behind the last.
-use Rattle.mv_repository.proofs.Words.{rules, ◌≡◌, ◌∙◌, [], sym, subst, List, append-nil, Block, AreBlocks, entry_in, next_in, start_in}
+use Rattle.std.specs.Prelude.{◌≡◌}
+use Rattle.mv_repository.proofs.Words.{rules, ◌∙◌, [], sym, subst, List, append-nil, Block, AreBlocks, entry_in, next_in, start_in}
 use Rattle.mv_repository.proofs.blocks.extend.Goals as goal
 
 pub returns-then-is_err-clause-blocks : goal.returns-then-is_err-clause-blocks

@@ -1,5 +1,6 @@
 -- One block further; from where the pack stands as it did, all is as it was.
-use Rattle.mv_repository.proofs.Words.{rules, ◌≡◌, ◌∙◌, ◌≤◌, ◌<◌, ◌+◌, ℕ, List, ap, sym, subst, arith, length, take, drop, fold, slice_set, refl, take-append-drop, take_all, Block, AreBlocks, IsFront, entry_in, next_in, start_in}
+use Rattle.std.specs.Prelude.{◌≡◌, ◌≤◌, ◌<◌, ◌+◌}
+use Rattle.mv_repository.proofs.Words.{rules, ◌∙◌, ℕ, List, ap, sym, subst, arith, length, take, drop, fold, slice_set, refl, take-append-drop, take_all, Block, AreBlocks, IsFront, entry_in, next_in, start_in}
 use Rattle.mv_repository.proofs.BlockLemmas.{fold-cut, pass-after, pass-behind, pass-front}
 use Rattle.mv_repository.proofs.blocks.pass_on.Goals as goal
 

@@ -1,5 +1,6 @@
 -- The block in which the status stands is worked out again, and what stands behind it.
-use Rattle.mv_repository.proofs.Words.{◌∙◌, ◌<◌, ◌+◌, subst, sym, refl, Block, without, entry_in, next_in, start_in}
+use Rattle.std.specs.Prelude.{◌<◌, ◌+◌}
+use Rattle.mv_repository.proofs.Words.{◌∙◌, subst, sym, refl, Block, without, entry_in, next_in, start_in}
 use Rattle.mv_repository.proofs.BlockLemmas.{renewed-was, renewed-standing, renewed-front, renewed-done}
 use Rattle.mv_repository.proofs.blocks.put_late.Goals as goal
 

@@ -1,4 +1,5 @@
-use Rattle.mv_repository.proofs.Words.{◌≡◌, ◌↔◌, map, length, ℕ, List, Places, SentStatus, history_at, sent_status, entry_at}
+use Rattle.std.specs.Prelude.{◌≡◌, ◌↔◌}
+use Rattle.mv_repository.proofs.Words.{map, length, ℕ, List, Places, SentStatus, history_at, sent_status, entry_at}
 use Rattle.mv_repository.proofs.history.have_same_statuses.Given as goal
 
 -- these statuses as they were sent

@@ -1,5 +1,6 @@
 -- The set of the batch has the number, and all that it had.
-use Rattle.mv_repository.proofs.Words.{rules, ◌≡◌, ◌∙◌, ℕ, List, true, sym}
+use Rattle.std.specs.Prelude.{◌≡◌}
+use Rattle.mv_repository.proofs.Words.{rules, ◌∙◌, ℕ, List, true, sym}
 use Rattle.mv_repository.proofs.ListedLemmas.{is_in_sets, sets-are}
 use Rattle.mv_repository.proofs.listing.add_to.Goals as goal
 

@@ -1,5 +1,6 @@
 -- The set of the batch, as a list.
-use Rattle.mv_repository.proofs.Words.{bytes_eq, rules, ◌≡◌, ◌∙◌, sym, Some, None, lookup}
+use Rattle.std.specs.Prelude.{◌≡◌}
+use Rattle.mv_repository.proofs.Words.{bytes_eq, rules, ◌∙◌, sym, Some, None, lookup}
 use Rattle.mv_repository.proofs.ListedLemmas.{numbers-some, numbers-none}
 use Rattle.mv_repository.proofs.listing.numbers_of.Goals as goal
 

@@ -1,5 +1,6 @@
 -- A late master leaves the table; any other takes the place of its code.
-use Rattle.mv_repository.proofs.Words.{bytes_eq, ◌≡◌, rules, true, false, lookup, comes_late}
+use Rattle.std.specs.Prelude.{◌≡◌}
+use Rattle.mv_repository.proofs.Words.{bytes_eq, rules, true, false, lookup, comes_late}
 use Rattle.mv_repository.proofs.ProductLemmas.{masters-late-at, masters-latest-at}
 use Rattle.mv_repository.proofs.masters.add_master.Goals as goal
 

@@ -1,5 +1,6 @@
 -- The product of a code is that of its last master.
-use Rattle.mv_repository.proofs.Words.{bytes_eq, ◌≡◌, ◌∙◌, ap, rules, sym, None, Some, lookup, option_and_then, option_copied, product_at}
+use Rattle.std.specs.Prelude.{◌≡◌}
+use Rattle.mv_repository.proofs.Words.{bytes_eq, ◌∙◌, ap, rules, sym, None, Some, lookup, option_and_then, option_copied, product_at}
 use Rattle.mv_repository.proofs.ProductLemmas.{product_found}
 use Rattle.mv_repository.proofs.masters.product.Goals as goal
 

@@ -1,4 +1,5 @@
-use Rattle.mv_repository.proofs.Words.{◌≡◌, length, items_from}
+use Rattle.std.specs.Prelude.{◌≡◌}
+use Rattle.mv_repository.proofs.Words.{length, items_from}
 use Rattle.mv_repository.proofs.sender.split_first_from.Given as goal
 
 -- the entries that were passed are of other parties

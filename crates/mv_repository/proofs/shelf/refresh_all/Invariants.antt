@@ -1,4 +1,5 @@
-use Rattle.mv_repository.proofs.Words.{◌≡◌, ℕ, length, get_or, nat_lt, IsRefreshed, nothing_kept, stops_in}
+use Rattle.std.specs.Prelude.{◌≡◌}
+use Rattle.mv_repository.proofs.Words.{ℕ, length, get_or, nat_lt, IsRefreshed, nothing_kept, stops_in}
 use Rattle.mv_repository.proofs.shelf.refresh_all.Given as goal
 
 -- those so far are worked out

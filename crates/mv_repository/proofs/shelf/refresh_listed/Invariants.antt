@@ -1,4 +1,5 @@
-use Rattle.mv_repository.proofs.Words.{◌≡◌, ℕ, length, get_or, take, has_number, IsRefreshed, nothing_kept, stops_in}
+use Rattle.std.specs.Prelude.{◌≡◌}
+use Rattle.mv_repository.proofs.Words.{ℕ, length, get_or, take, has_number, IsRefreshed, nothing_kept, stops_in}
 use Rattle.mv_repository.proofs.shelf.refresh_listed.Given as goal
 
 -- those so far are worked out

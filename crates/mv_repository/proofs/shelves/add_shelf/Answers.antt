@@ -1,5 +1,6 @@
 -- A shelf with no pack changes nothing.
-use Rattle.mv_repository.proofs.Words.{bytes_eq, ◌≡◌, rules, None, lookup}
+use Rattle.std.specs.Prelude.{◌≡◌}
+use Rattle.mv_repository.proofs.Words.{bytes_eq, rules, None, lookup}
 use Rattle.mv_repository.proofs.ShelvesLemmas.{IsShelved, shelf-none}
 use Rattle.mv_repository.proofs.shelves.add_shelf.Goals as goal
 

@@ -1,5 +1,6 @@
 -- What stands in front of the cut, and then up to the place.
-use Rattle.mv_repository.proofs.Words.{◌≡◌, ◌∙◌, ◌+◌, ◌-◌, ℕ, ap, sym, arith, take, drop, fold, fold-append, take-add, next_in, start_in}
+use Rattle.std.specs.Prelude.{◌≡◌, ◌+◌, ◌-◌}
+use Rattle.mv_repository.proofs.Words.{◌∙◌, ℕ, ap, sym, arith, take, drop, fold, fold-append, take-add, next_in, start_in}
 use Rattle.mv_repository.proofs.track.by_before.Goals as goal
 
 pub returns : goal.returns

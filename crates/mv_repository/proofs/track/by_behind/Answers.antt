@@ -1,5 +1,6 @@
 -- The status is the last, and stands in no block.
-use Rattle.mv_repository.proofs.Words.{◌≡◌, ◌∙◌, ◌++◌, ℕ, List, ap, subst, arith, take, drop, refl, append-nil, drop_of_length-le, take-append-drop, AreBlocks, without, entry_in, next_in, start_in}
+use Rattle.std.specs.Prelude.{◌≡◌, ◌++◌}
+use Rattle.mv_repository.proofs.Words.{◌∙◌, ℕ, List, ap, subst, arith, take, drop, refl, append-nil, drop_of_length-le, take-append-drop, AreBlocks, without, entry_in, next_in, start_in}
 use Rattle.mv_repository.proofs.BlockLemmas.{blocks-longer}
 use Rattle.mv_repository.proofs.track.by_behind.Goals as goal
 

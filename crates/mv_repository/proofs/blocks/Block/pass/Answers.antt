@@ -1,5 +1,6 @@
 -- A pack that was changed goes through as it comes, where no revert in the block is of the sender who changed it.
-use Rattle.mv_repository.proofs.Words.{◌≡◌, ◌∙◌, ◌%◌, ℕ, ap, sym, rules, false, PARTIES_LIMIT, has_party, is_active, standing_in, may_have, entry_at, stops_in}
+use Rattle.std.specs.Prelude.{◌≡◌, ◌%◌}
+use Rattle.mv_repository.proofs.Words.{◌∙◌, ℕ, ap, sym, rules, false, PARTIES_LIMIT, has_party, is_active, standing_in, may_have, entry_at, stops_in}
 use Rattle.mv_repository.proofs.NextLemmas.{own-passed}
 use Rattle.mv_repository.proofs.blocks.Block.pass.Goals as goal
 

@@ -1,4 +1,5 @@
-use Rattle.mv_repository.proofs.Words.{◌≡◌, ◌≤◌, not, filter, length, take, has_reply}
+use Rattle.std.specs.Prelude.{◌≡◌, ◌≤◌}
+use Rattle.mv_repository.proofs.Words.{not, filter, length, take, has_reply}
 use Rattle.mv_repository.proofs.inquiries.Inquiries.left_count.Given as goal
 
 abbrev pub invariant-loop-other : goal.invariant-loop-other

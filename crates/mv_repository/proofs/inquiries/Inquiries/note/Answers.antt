@@ -1,4 +1,5 @@
-use Rattle.mv_repository.proofs.Words.{◌≡◌, true, sym, ◌∙◌, ap, Answer, Carried, tells_of_query}
+use Rattle.std.specs.Prelude.{◌≡◌}
+use Rattle.mv_repository.proofs.Words.{true, sym, ◌∙◌, ap, Answer, Carried, tells_of_query}
 use Rattle.mv_repository.proofs.InquiriesLemmas.{known_stays, tells_nothing, receipt_noted, answer_noted}
 use Rattle.mv_repository.proofs.inquiries.Inquiries.note.Goals as goal
 

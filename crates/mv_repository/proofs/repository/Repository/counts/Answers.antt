@@ -1,5 +1,6 @@
 -- Each table has the things of its kind once.
-use Rattle.mv_repository.proofs.Words.{◌≡◌, ◌∙◌, rules, length}
+use Rattle.std.specs.Prelude.{◌≡◌}
+use Rattle.mv_repository.proofs.Words.{◌∙◌, rules, length}
 use Rattle.mv_repository.proofs.ActiveLemmas.{active-all}
 use Rattle.mv_repository.proofs.CountedLemmas.{held-all}
 use Rattle.mv_repository.proofs.KeyLemmas.{count-products, count-recalled}

@@ -1,5 +1,6 @@
 -- What is kept of a pack is what the log means.
-use Rattle.mv_repository.proofs.Words.{bytes_eq, ◌≡◌, ◌∙◌, ap, rules, Some, None, lookup, List, LogEntry, kept_on, state_by}
+use Rattle.std.specs.Prelude.{◌≡◌}
+use Rattle.mv_repository.proofs.Words.{bytes_eq, ◌∙◌, ap, rules, Some, None, lookup, List, LogEntry, kept_on, state_by}
 use Rattle.mv_repository.proofs.ActiveLemmas.{track-state}
 use Rattle.mv_repository.proofs.PacksLemmas.{kept-found}
 use Rattle.mv_repository.proofs.repository.Repository.pack.Goals as goal

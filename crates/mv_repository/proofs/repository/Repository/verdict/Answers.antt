@@ -1,5 +1,6 @@
 -- What is kept is what the log says.
-use Rattle.mv_repository.proofs.Words.{◌≡◌, ◌∙◌, rules, known_verdict}
+use Rattle.std.specs.Prelude.{◌≡◌}
+use Rattle.mv_repository.proofs.Words.{◌∙◌, rules, known_verdict}
 use Rattle.mv_repository.proofs.InquiriesLemmas.{verdict-known}
 use Rattle.mv_repository.proofs.repository.Repository.verdict.Goals as goal
 

@@ -1,5 +1,6 @@
 -- The pack has the status, and no other track is touched.
-use Rattle.mv_repository.proofs.Words.{bytes_eq, rules, ◌≡◌, ◌∙◌, ◌++◌, ◌∷◌, [], ℕ, List, length, get_or, take, ap, sym, subst, false, refl, Option, Some, None, lookup, get_or_append_left, get_or_default, get_or_push, Slot, Made, Own, pack_key, lists, IsShelfOf, kept_by, kept_on, nothing_kept, no_entry, IsKept, Kept, life_of}
+use Rattle.std.specs.Prelude.{◌≡◌, ◌++◌, ◌∷◌}
+use Rattle.mv_repository.proofs.Words.{bytes_eq, rules, ◌∙◌, [], ℕ, List, length, get_or, take, ap, sym, subst, false, refl, Option, Some, None, lookup, get_or_append_left, get_or_default, get_or_push, Slot, Made, Own, pack_key, lists, IsShelfOf, kept_by, kept_on, nothing_kept, no_entry, IsKept, Kept, life_of}
 use Rattle.mv_repository.proofs.ListedLemmas.{on_map, listed-none, listed-track}
 use Rattle.mv_repository.proofs.TrackLemmas.{status-form}
 use Rattle.mv_repository.proofs.UploadLemmas.{status-others}

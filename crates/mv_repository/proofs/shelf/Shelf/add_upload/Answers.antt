@@ -1,5 +1,6 @@
 -- One serial number more.
-use Rattle.mv_repository.proofs.Words.{nat_tests, bytes_eq, ◌≡◌, ◌≤◌, ◌+◌, ◌∙◌, rules, [], ℕ, List, ap, sym, subst, get_or, take, arith, cond, refl, Bool, false, lookup, get_or_default, take_all, pack_key, kept_on, has, AreKept, AreMadeListed, no_entry, stops_in, comes_first, earlier_place, Kept, bare, kept_of, life_of, IsTrack}
+use Rattle.std.specs.Prelude.{◌≡◌, ◌≤◌, ◌+◌}
+use Rattle.mv_repository.proofs.Words.{nat_tests, bytes_eq, ◌∙◌, rules, [], ℕ, List, ap, sym, subst, get_or, take, arith, cond, refl, Bool, false, lookup, get_or_default, take_all, pack_key, kept_on, has, AreKept, AreMadeListed, no_entry, stops_in, comes_first, earlier_place, Kept, bare, kept_of, life_of, IsTrack}
 use Rattle.mv_repository.proofs.ListedLemmas.{listed-upload, made-more}
 use Rattle.mv_repository.proofs.TableLemmas.{log-split, log-length}
 use Rattle.mv_repository.proofs.UploadedLemmas.{new-more}

@@ -1,4 +1,5 @@
-use Rattle.mv_repository.proofs.Words.{◌≡◌, ◌≤◌, ◌+◌, length, take, spare, HasAllOf, IsShelf, HasNoOther, AreKept, AreMadeListed, new_count, entry_at}
+use Rattle.std.specs.Prelude.{◌≡◌, ◌≤◌, ◌+◌}
+use Rattle.mv_repository.proofs.Words.{length, take, spare, HasAllOf, IsShelf, HasNoOther, AreKept, AreMadeListed, new_count, entry_at}
 use Rattle.mv_repository.proofs.shelf.Shelf.add_upload.Given as goal
 
 -- the packs so far have the upload

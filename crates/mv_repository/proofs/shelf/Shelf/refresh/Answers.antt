@@ -1,5 +1,6 @@
 -- The tracks that may be stopped are worked out, and the entry bears on no other pack.
-use Rattle.mv_repository.proofs.Words.{◌≡◌, sym, subst, take, get_or, true, true≢false, pack_key, lists, is_recall_of, ShelfTable, IsShelfOf, no_entry, stopped_product, Stop}
+use Rattle.std.specs.Prelude.{◌≡◌}
+use Rattle.mv_repository.proofs.Words.{sym, subst, take, get_or, true, true≢false, pack_key, lists, is_recall_of, ShelfTable, IsShelfOf, no_entry, stopped_product, Stop}
 use Rattle.mv_repository.proofs.AgainLemmas.{shelf-again}
 use Rattle.mv_repository.proofs.StopLemmas.{stop-form, recall-away}
 use Rattle.mv_repository.proofs.shelf.Shelf.refresh.Goals as goal

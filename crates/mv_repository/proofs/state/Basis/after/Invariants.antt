@@ -1,4 +1,5 @@
-use Rattle.mv_repository.proofs.Words.{◌≡◌, fold, take, next_in}
+use Rattle.std.specs.Prelude.{◌≡◌}
+use Rattle.mv_repository.proofs.Words.{fold, take, next_in}
 use Rattle.mv_repository.proofs.state.Basis.after.Given as goal
 
 -- the statuses so far are gone through

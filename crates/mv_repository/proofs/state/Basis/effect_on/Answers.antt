@@ -1,5 +1,6 @@
 -- The pack is the one that the upload made.
-use Rattle.mv_repository.proofs.Words.{◌≡◌, rules, true, Some, Upload, stands_before, entry_in, message_in}
+use Rattle.std.specs.Prelude.{◌≡◌}
+use Rattle.mv_repository.proofs.Words.{rules, true, Some, Upload, stands_before, entry_in, message_in}
 use Rattle.mv_repository.proofs.state.Basis.effect_on.Goals as goal
 
 pub returns-in-Some-Upload : goal.returns-in-Some-Upload

@@ -1,5 +1,6 @@
 -- The tables have the first of each batch, and of each product.
-use Rattle.mv_repository.proofs.Words.{◌≡◌, rules, get_or, true, is_recall_of, is_withdrawal_of, StopTables, no_entry}
+use Rattle.std.specs.Prelude.{◌≡◌}
+use Rattle.mv_repository.proofs.Words.{rules, get_or, true, is_recall_of, is_withdrawal_of, StopTables, no_entry}
 use Rattle.mv_repository.proofs.FormLemmas.{on_both}
 use Rattle.mv_repository.proofs.StopLemmas.{recall-added, withdrawal-added}
 use Rattle.mv_repository.proofs.stops.Stops.add.Goals as goal

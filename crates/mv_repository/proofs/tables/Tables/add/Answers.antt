@@ -1,5 +1,6 @@
 -- Each form of entry bears on one table.
-use Rattle.mv_repository.proofs.Words.{◌≡◌, rules, true, get_or, is_master, no_entry}
+use Rattle.std.specs.Prelude.{◌≡◌}
+use Rattle.mv_repository.proofs.Words.{rules, true, get_or, is_master, no_entry}
 use Rattle.mv_repository.proofs.FormLemmas.{none-noted, other-noted, master-form, stops-at, same-at, shelves-at, named-at, tables-noted}
 use Rattle.mv_repository.proofs.tables.Tables.add.Goals as goal
 

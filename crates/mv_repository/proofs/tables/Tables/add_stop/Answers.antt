@@ -1,5 +1,6 @@
 -- The first works out the packs that it may bear on; any other changes none.
-use Rattle.mv_repository.proofs.Words.{bytes_eq, ◌≡◌, ℕ, List, rules, refl, sym, subst, get_or, take, true, false, Some, None, lookup, pack_key, ShelfTable, IsShelfOf, shelf_of, no_entry, comes_first, first_place, stopped_product}
+use Rattle.std.specs.Prelude.{◌≡◌}
+use Rattle.mv_repository.proofs.Words.{bytes_eq, ℕ, List, rules, refl, sym, subst, get_or, take, true, false, Some, None, lookup, pack_key, ShelfTable, IsShelfOf, shelf_of, no_entry, comes_first, first_place, stopped_product}
 use Rattle.mv_repository.proofs.AgainLemmas.{shelf-empty}
 use Rattle.mv_repository.proofs.FormLemmas.{masters-at, shelves-at, named-at}
 use Rattle.mv_repository.proofs.PacksLemmas.{shelf-found, shelves-on, none-follow}

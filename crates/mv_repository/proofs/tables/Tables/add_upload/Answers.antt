@@ -1,5 +1,6 @@
 -- The shelf of the product has the entry, and no other product is touched.
-use Rattle.mv_repository.proofs.Words.{bytes_eq, ◌≡◌, refl, rules, arith, get_or, take, Some, lookup, no_entry}
+use Rattle.std.specs.Prelude.{◌≡◌}
+use Rattle.mv_repository.proofs.Words.{bytes_eq, refl, rules, arith, get_or, take, Some, lookup, no_entry}
 use Rattle.mv_repository.proofs.FormLemmas.{masters-at, stops-at}
 use Rattle.mv_repository.proofs.ListedLemmas.{on_err}
 use Rattle.mv_repository.proofs.PacksLemmas.{shelves-same, shelf-found, shelves-stay, shelves-on, upload-away}

@@ -1,4 +1,5 @@
-use Rattle.mv_repository.proofs.Words.{◌≡◌, ◌≤◌, ◌+◌, ◌-◌, ◌^◌, length, min, AllByRecursion, packs_counted}
+use Rattle.std.specs.Prelude.{◌≡◌, ◌≤◌, ◌+◌, ◌-◌, ◌^◌}
+use Rattle.mv_repository.proofs.Words.{length, min, AllByRecursion, packs_counted}
 use Rattle.mv_repository.proofs.CountedLemmas.{IsKeyed}
 use Rattle.mv_repository.proofs.tables.Tables.count.Given as goal
 

@@ -1,5 +1,6 @@
 -- The status is put in, and what stands behind it worked out.
-use Rattle.mv_repository.proofs.Words.{◌≡◌, ◌∙◌, ◌≤◌, ◌+◌, ◌∷◌, [], ℕ, List, ap, sym, subst, rules, length, take, insert, get_or, map, fold, refl, option_map, unwrap_or, fold-append, AreBlocks, without, Ascends, next_place, effect_on, entry_at, stops_in, no_entry, Kept, IsKept, life_of, put_place, places_before}
+use Rattle.std.specs.Prelude.{◌≡◌, ◌≤◌, ◌+◌, ◌∷◌}
+use Rattle.mv_repository.proofs.Words.{◌∙◌, [], ℕ, List, ap, sym, subst, rules, length, take, insert, get_or, map, fold, refl, option_map, unwrap_or, fold-append, AreBlocks, without, Ascends, next_place, effect_on, entry_at, stops_in, no_entry, Kept, IsKept, life_of, put_place, places_before}
 use Rattle.mv_repository.proofs.BlockLemmas.{take-insert, without-insert}
 use Rattle.mv_repository.proofs.TableLemmas.{log-split, log-length}
 use Rattle.mv_repository.proofs.TrackLemmas.{put-ascend, put-blocks, put-standing, Done, put-status}

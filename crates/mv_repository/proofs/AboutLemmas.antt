@@ -1,9 +1,9 @@
 -- What a log has about a pack gives its history, and so decides what that decides.
 use Rattle.std.specs.Prelude.{◌||◌, ◌++◌, ◌∷◌, ◌≡◌}
-use Rattle.mv_repository.proofs.Words.{Bool, List, None, Option, Some, [], ap, append_assoc, cond, cond_both, false, filter, find, map, refl, subst, sym, ℕ, ◌∙◌, or-false, list_any-append, cons_option, list_any, option_and_then, option_map_or, Item, Carried, Receipt, Message, Upload, Status, Recall, Withdraw, batch_key, PackKey, LogEntry, Sent, sent_by, sent_in, bears_on, about, AgreeOn, SentHistory, SentStatus, as_sent, history_of, sent_of, sent_status, item_batch, Ascends, Placed, ordered, is_recall_of, is_withdrawal_of, first_stops, is_before, first_upload, is_status_of, is_upload_of, statuses_of}
+use Rattle.mv_repository.proofs.Words.{Bool, List, None, Option, Some, [], ap, append_assoc, cond, cond_both, false, filter, find, map, refl, sym, ℕ, ◌∙◌, or-false, list_any-append, list_any, option_and_then, option_map_or, Item, Carried, Receipt, Message, batch_key, PackKey, LogEntry, Sent, sent_by, bears_on, about, AgreeOn, SentHistory, SentStatus, as_sent, history_of, sent_of, sent_status, item_batch, Ascends, Placed, ordered, is_recall_of, is_withdrawal_of, first_stops, is_before, first_upload, is_status_of, is_upload_of, statuses_of, arith, nat_tests}
 use Rattle.mv_repository.specs.Agreement.{batch_in}
 use Rattle.mv_repository.proofs.HistoryLemmas.{batch-upload, same_history}
-use Rattle.mv_repository.proofs.OrderLemmas.{cond_two, ordered-ascends}
+use Rattle.mv_repository.proofs.OrderLemmas.{ordered-ascends}
 use Rattle.mv_repository.proofs.StateLemmas.{first-before}
 
 -- a message as an item of no number and no stamp
@@ -11,8 +11,7 @@ abbrev bare : Message → Item
 bare message = Carried 0 0 message
 
 never : (o : Option (List ℕ)) → option_map_or (λ (number : List ℕ). false) o false ≡ false
-never None = refl
-never (Some number) = refl
+never o = grind (arith, nat_tests)
 
 find-never : (xs : List Placed) → find (λ x. false) xs ≡ None
 find-never [] = refl
@@ -21,30 +20,17 @@ find-never (x ∷ xs) = find-never xs
 -- the first that passes a test which only what is kept passes
 find-filter : (test kept : Sent → Bool) → ((sent : Sent) → kept sent ≡ false → test sent ≡ false) → (xs : List Sent) → find test (filter kept xs) ≡ find test xs
 find-filter test kept only [] = refl
-find-filter test kept only (s ∷ xs) =
-    let r = find-filter test kept only xs in
-    cond_both (kept s) (s ∷ filter kept xs) (filter kept xs) (λ l. find test l ≡ find test (s ∷ xs)) (λ e. ap (λ (o : Option Sent). cond (test s) (Some s) o) r)
-    (λ e. r ∙ sym (ap (λ b. cond b (Some s) (find test xs)) (only s e)))
+find-filter test kept only (s ∷ xs) = grind (arith, nat_tests, find-filter test kept only xs)
 
 -- the first of a kind that goes by the message, as it was sent
 find-sent : (test : Item → Bool) → ((k : ℕ) (reach : List ℕ) (query : Bool) → test (Receipt k reach query) ≡ false)
     → ((k stamp : ℕ) (message : Message) → test (Carried k stamp message) ≡ test (bare message)) → (xs : List Placed)
     → option_and_then sent_of (find (λ x. test x.entry.item) xs) ≡ find (λ (s : Sent). test (bare s.message)) (sent_by xs)
 find-sent test receipt carried [] = refl
-find-sent test receipt carried (x ∷ xs) =
-    cond_two (test x.entry.item) (Some x) (find (λ x. test x.entry.item) xs) (sent_of x) found (λ o s. option_and_then sent_of o ≡ s) (λ e. refl) (λ e. find-sent test receipt carried xs)
-    ∙ by x.entry.item
-  where
-    found : Option Sent
-    found = find (λ (s : Sent). test (bare s.message)) (sent_by xs)
-
-    by : (item : Item) → cond (test item) (sent_in x.entry.sender item) found ≡ find (λ (s : Sent). test (bare s.message)) (cons_option (sent_in x.entry.sender item) (sent_by xs))
-    by (Receipt k reach query) = ap (λ b. cond b None found) (receipt k reach query)
-    by (Carried k stamp message) = ap (λ b. cond b (Some (record { sender = x.entry.sender; stamp = stamp; message = message })) found) (carried k stamp message)
+find-sent test receipt carried (x ∷ xs) = grind (arith, nat_tests, find-sent test receipt carried xs)
 
 upload-carried : (pack : PackKey) (k stamp : ℕ) (message : Message) → is_upload_of pack (Carried k stamp message) ≡ is_upload_of pack (bare message)
-upload-carried pack k stamp (Upload gtin batch expiry national serials) = refl
-upload-carried pack k stamp message = refl
+upload-carried pack k stamp message = grind (arith, nat_tests)
 
 module _ (pack : PackKey) (batch : Option (List ℕ)) where
   abbrev upload : Item → Bool
@@ -59,26 +45,16 @@ module _ (pack : PackKey) (batch : Option (List ℕ)) where
   abbrev withdrawal : Item → Bool
   withdrawal item = is_withdrawal_of pack.gtin item
 
-  own-carried : (k stamp : ℕ) (message : Message) → own (Carried k stamp message) ≡ own (bare message)
-  own-carried k stamp (Status key to user at) = refl
-  own-carried k stamp message = refl
-
   recall-carried : (k stamp : ℕ) (message : Message) → recall (Carried k stamp message) ≡ recall (bare message)
-  recall-carried k stamp (Recall key at) = refl
-  recall-carried k stamp message = refl
+  recall-carried k stamp message = grind (arith, nat_tests)
 
   withdrawal-carried : (k stamp : ℕ) (message : Message) → withdrawal (Carried k stamp message) ≡ withdrawal (bare message)
-  withdrawal-carried k stamp (Withdraw gtin at) = refl
-  withdrawal-carried k stamp message = refl
+  withdrawal-carried k stamp message = grind (arith, nat_tests)
 
   -- what does not bear on the pack passes none of the tests
   none-passes : (message : Message) → bears_on pack batch message ≡ false
       → (upload (bare message) ≡ false) × (own (bare message) ≡ false) × (recall (bare message) ≡ false) × (withdrawal (bare message) ≡ false)
-  none-passes (Upload gtin named expiry national serials) e = (e, refl, never batch, refl)
-  none-passes (Status key to user at) e = (refl, e, never batch, refl)
-  none-passes (Recall key at) e = (refl, refl, e, refl)
-  none-passes (Withdraw gtin at) e = (refl, refl, never batch, e)
-  none-passes message e = (refl, refl, never batch, refl)
+  none-passes message e = grind (arith, nat_tests)
 
   abbrev bears : Sent → Bool
   bears sent = bears_on pack batch sent.message
@@ -117,28 +93,7 @@ module _ (pack : PackKey) (batch : Option (List ℕ)) where
 
     walked : (before rest : List Placed) → all ≡ before ++ rest → map status (statuses_of pack rest) ≡ walk (stands upload before) (stands recall before) (stands withdrawal before) (sent_by rest)
     walked before [] e = refl
-    walked before (x ∷ xs) e =
-        let here : (test : Item → Bool) → is_before (first test) x ≡ stands test before =
-        λ test. sym (subst (λ (l : List Placed). stands test before ≡ is_before (find (λ x. test x.entry.item) l) x) (sym e) (first-before (λ x. test x.entry.item) before x xs (subst Ascends e ascends))) in
-        let more : (test : Item → Bool) → stands test (before ++ x ∷ []) ≡ (stands test before || test x.entry.item) =
-        λ test. list_any-append (λ x. test x.entry.item) before (x ∷ []) ∙ ap (λ b. stands test before || b) (or-false (test x.entry.item)) in
-        cond_two (own x.entry.item) (x ∷ statuses_of pack xs) (statuses_of pack xs) (status x ∷ later) later (λ l m. map status l ≡ m) (λ e. refl) (λ e. refl)
-        ∙ (λ i. cond (own x.entry.item) (status_of (here upload i) (here recall i) (here withdrawal i) (sent_of x) ∷ map status (statuses_of pack xs)) (map status (statuses_of pack xs)))
-        ∙ by x.entry.item
-        (walked (before ++ x ∷ []) xs (e ∙ sym (append_assoc before (x ∷ []) xs)) ∙ (λ i. walk (more upload i) (more recall i) (more withdrawal i) (sent_by xs)))
-      where
-        later : List SentStatus
-        later = map status (statuses_of pack xs)
-
-        by : (item : Item) → later ≡ walk (stands upload before || upload item) (stands recall before || recall item) (stands withdrawal before || withdrawal item) (sent_by xs)
-            → cond (own item) (status_of (stands upload before) (stands recall before) (stands withdrawal before) (sent_in x.entry.sender item) ∷ later) later
-            ≡ walk (stands upload before) (stands recall before) (stands withdrawal before) (cons_option (sent_in x.entry.sender item) (sent_by xs))
-        by (Receipt k reach query) r =
-            r ∙ (λ i. walk (or-false (stands upload before) i) ((ap (λ b. stands recall before || b) (never batch) ∙ or-false (stands recall before)) i) (or-false (stands withdrawal before) i) (sent_by xs))
-        by (Carried k stamp message) r =
-            let same = r ∙ (λ i. walk (stands upload before || upload-carried pack k stamp message i) (stands recall before || recall-carried k stamp message i) (stands withdrawal before || withdrawal-carried k stamp message i) (sent_by xs)) in
-            λ i. cond (own-carried k stamp message i)
-            (status_of (stands upload before) (stands recall before) (stands withdrawal before) (Some (record { sender = x.entry.sender; stamp = stamp; message = message })) ∷ same i) (same i)
+    walked before (x ∷ xs) e = grind (arith, nat_tests, walked (before ++ x ∷ []) xs (e ∙ sym (append_assoc before (x ∷ []) xs)), first, first-before, list_any-append, never, or-false)
 
   -- the history that messages give
   abbrev history_by : List Sent → SentHistory
@@ -175,18 +130,7 @@ abbrev pub first_batch : PackKey → List Sent → Option (List ℕ)
 first_batch pack sent = option_and_then (λ (s : Sent). item_batch (bare s.message)) (find (λ (s : Sent). is_upload_of pack (bare s.message)) sent)
 
 pub batch-first : (pack : PackKey) (log : List LogEntry) → batch_in pack log ≡ first_batch pack (sent_by (ordered log))
-batch-first pack log =
-    batch-upload pack log ∙ by (first_upload pack (ordered log))
-    ∙ ap (option_and_then (λ (s : Sent). item_batch (bare s.message))) (find-sent (is_upload_of pack) (λ k reach query. refl) (upload-carried pack) (ordered log))
-  where
-    named : (sender : ℕ) (item : Item) → item_batch item ≡ option_and_then (λ (s : Sent). item_batch (bare s.message)) (sent_in sender item)
-    named sender (Carried k stamp (Upload gtin batch expiry national serials)) = refl
-    named sender (Carried k stamp message) = refl
-    named sender (Receipt k reach query) = refl
-
-    by : (o : Option Placed) → option_and_then (λ (x : Placed). item_batch x.entry.item) o ≡ option_and_then (λ (s : Sent). item_batch (bare s.message)) (option_and_then sent_of o)
-    by None = refl
-    by (Some x) = named x.entry.sender x.entry.item
+batch-first pack log = grind (arith, nat_tests, batch-upload, find-sent (is_upload_of pack) (λ k reach query. refl) (upload-carried pack) (ordered log))
 
 pub agree : (pack : PackKey) (one other : List LogEntry) → about pack one ≡ about pack other → AgreeOn pack one other
 agree pack one other same =
@@ -194,8 +138,4 @@ agree pack one other same =
     same_history pack one other (history-about pack one ∙ (λ i. history_by pack (batch i) (same i)) ∙ sym (history-about pack other))
   where
     named : (log : List LogEntry) → batch_in pack log ≡ first_batch pack (about pack log)
-    named log =
-        let batch = batch_in pack log in
-        batch-first pack log
-        ∙ ap (option_and_then (λ (s : Sent). item_batch (bare s.message)))
-        (sym (find-filter (λ (s : Sent). is_upload_of pack (bare s.message)) (λ (s : Sent). bears_on pack batch s.message) (λ s e. (none-passes pack batch s.message e).0) (sent_by (ordered log))))
+    named log = grind (arith, nat_tests, batch-first, find-filter)

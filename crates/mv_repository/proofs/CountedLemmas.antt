@@ -1,6 +1,6 @@
 -- How many packs of a table are counted.
-use Rattle.std.specs.Prelude.{◌^◌, ◌==◌, ◌≡◌, ◌-◌, ◌<◌, ◌∷◌, ◌++◌, ◌&&◌, ◌||◌}
-use Rattle.mv_repository.proofs.Words.{nat_tests, bytes_eq, ℕ, List, [], length, map, filter, not, min, refl, sym, ◌∙◌, ap, arith, Bool, true, false, cond, Option, Some, None, is_some, true≢false, or-false, and-false, list_any-append, lookup-filter-values, option_filter, IsDistinct-cons, IsDistinct-head, IsDistinct-tail, IsDistinct-keys_filter, distinct_count-le, is_member-filter, is_some-lookup, length-from_keys, IsEquivalence, nat_list_eq_equiv, same_text, AllByRecursion, IsDistinct, lookup, keys_of, option_map_or, unwrap_or, distinct_count, is_member, is_same_pack, pack_key, PackKey, LogEntry, Slot, is_counted, slots_counted, packs_counted, uploaded_packs, ShelfTable, nothing_kept, kept_by, kept_on, no_shelf, shelf_of, AreTablesOf, Kept, bare, track_of, Counted, Held, Active, Tables}
+use Rattle.std.specs.Prelude.{◌^◌, ◌≡◌, ◌-◌, ◌<◌, ◌∷◌, ◌++◌, ◌&&◌, ◌||◌}
+use Rattle.mv_repository.proofs.Words.{nat_tests, bytes_eq, ℕ, List, [], length, map, filter, not, min, refl, sym, ◌∙◌, ap, arith, Bool, true, false, cond, Option, Some, None, is_some, or-false, list_any-append, lookup-filter-values, option_filter, IsDistinct-cons, IsDistinct-head, IsDistinct-tail, IsDistinct-keys_filter, distinct_count-le, is_member-filter, is_some-lookup, length-from_keys, IsEquivalence, nat_list_eq_equiv, same_text, AllByRecursion, IsDistinct, lookup, keys_of, unwrap_or, distinct_count, is_member, is_same_pack, pack_key, PackKey, LogEntry, Slot, is_counted, slots_counted, packs_counted, uploaded_packs, ShelfTable, kept_by, kept_on, no_shelf, shelf_of, AreTablesOf, Kept, bare, track_of, Counted, Tables}
 use Rattle.std.proofs.lemmas.List.Filters.{length-filter_both}
 use Rattle.mv_repository.proofs.KeptLemmas.{same_pack, pack-self, pack-sym}
 use Rattle.mv_repository.proofs.UploadedLemmas.{uploaded-found}
@@ -12,23 +12,9 @@ pack-equiv = record {
   congr = λ x y z e. ap (λ (q : PackKey). is_same_pack q z) (same_pack x y e);
 }
 
--- a pack that is counted has an upload
-born : (counted : Counted) (k : Kept) → is_counted counted k ≡ true → is_some k.birth ≡ true
-born Held k t = t
-born Active k t = by k.birth t
-  where
-    by : (o : Option ℕ) → option_map_or (λ birth. birth == k.by) o false ≡ true → is_some o ≡ true
-    by None t = t
-    by (Some x) t = refl
-
 -- the blocks don't matter
 counted-bare : (counted : Counted) (k : Kept) → is_counted counted k ≡ is_counted counted (bare k)
-counted-bare Held k = refl
-counted-bare Active k = refl
-
-pub none-counted : (counted : Counted) → is_counted counted nothing_kept ≡ false
-none-counted Held = refl
-none-counted Active = refl
+counted-bare counted k = grind (arith, nat_tests)
 
 or_last : (b c : Bool) → c ≡ true → (b || c) ≡ true
 or_last b c e = grind (arith, nat_tests)
@@ -45,19 +31,12 @@ all-append P (x ∷ xs) ys h k = (h.0, all-append P xs ys h.1 k)
 -- a key that is in no list is equal to none of it
 apart : (x : PackKey) (ys : List PackKey) → is_member is_same_pack ys x ≡ false → AllByRecursion (λ y. is_same_pack x y ≡ false) ys
 apart x [] m = tt
-apart x (y ∷ ys) m = by (is_same_pack x y) refl m (apart x ys)
-  where
-    by : (b : Bool) → is_same_pack x y ≡ b → (b || is_member is_same_pack ys x) ≡ false → (is_member is_same_pack ys x ≡ false → AllByRecursion (λ y. is_same_pack x y ≡ false) ys)
-        → (is_same_pack x y ≡ false) × AllByRecursion (λ y. is_same_pack x y ≡ false) ys
-    by true t m rest = absurd (true≢false m)
-    by false t m rest = (t, rest m)
+apart x (y ∷ ys) m = grind (arith, nat_tests, apart x ys)
 
 -- keys of two lists of which no two are equal
 distinct-append : (xs ys : List PackKey) → IsDistinct is_same_pack xs → IsDistinct is_same_pack ys → AllByRecursion (λ x. is_member is_same_pack ys x ≡ false) xs → IsDistinct is_same_pack (xs ++ ys)
 distinct-append [] ys d e h = e
-distinct-append (x ∷ xs) ys d e h =
-    IsDistinct-cons is_same_pack x (xs ++ ys) (all-append (λ y. is_same_pack x y ≡ false) xs ys (IsDistinct-head is_same_pack x xs d) (apart x ys h.0))
-    (distinct-append xs ys (IsDistinct-tail is_same_pack x xs d) e h.1)
+distinct-append (x ∷ xs) ys d e h = grind (arith, nat_tests, distinct-append xs ys (IsDistinct-tail is_same_pack x xs d) e h.1, IsDistinct-cons, IsDistinct-head, all-append, apart x ys h.0)
 
 -- the packs of one product with distinct serial numbers
 distinct-product : (gtin : List ℕ) (serials : List (List ℕ)) → IsDistinct bytes_eq serials → IsDistinct is_same_pack (map (pack_key gtin) serials)
@@ -69,16 +48,11 @@ distinct-product gtin (s ∷ rest) d =
   where
     apart_keys : (ys : List (List ℕ)) → AllByRecursion (λ y. bytes_eq s y ≡ false) ys → AllByRecursion (λ p. is_same_pack (pack_key gtin s) p ≡ false) (map (pack_key gtin) ys)
     apart_keys [] h = tt
-    apart_keys (y ∷ ys) h = (ap (λ b. bytes_eq gtin gtin && b) h.0 ∙ and-false (bytes_eq gtin gtin), apart_keys ys h.1)
+    apart_keys (y ∷ ys) h = grind (arith, nat_tests, apart_keys ys h.1)
 
 in-product : (gtin : List ℕ) (serials : List (List ℕ)) (q : PackKey) → is_member is_same_pack (map (pack_key gtin) serials) q ≡ (bytes_eq q.gtin gtin && is_member bytes_eq serials q.serial)
-in-product gtin [] q = sym (and-false (bytes_eq q.gtin gtin))
-in-product gtin (s ∷ rest) q =
-    ap (λ b. (bytes_eq q.gtin gtin && bytes_eq q.serial s) || b) (in-product gtin rest q)
-    ∙ spread (bytes_eq q.gtin gtin) (bytes_eq q.serial s) (is_member bytes_eq rest q.serial)
-  where
-    spread : (a b c : Bool) → ((a && b) || (a && c)) ≡ (a && (b || c))
-    spread a b c = grind (arith, nat_tests)
+in-product gtin [] q = grind (arith, nat_tests)
+in-product gtin (s ∷ rest) q = grind (arith, nat_tests, in-product gtin rest q)
 
 -- no serial number stands twice on a shelf
 abbrev pub IsKeyed : ShelfTable → Type 0
@@ -95,19 +69,16 @@ module _ (counted : Counted) where
       test slot = is_counted counted (kept_by shelf.tracks (Some slot))
 
       by : (o : Option Slot) → is_some (option_filter test o) ≡ is_counted counted (kept_by shelf.tracks o)
-      by None = sym (none-counted counted)
-      by (Some slot) = elim (test slot) as (λ b. is_some (cond b (Some slot) None) ≡ b) [ true ↦ refl | false ↦ refl ]
+      by o = grind (arith, nat_tests)
 
   -- a pack on no shelf is not counted
   off-shelves : (gtin serial : List ℕ) (shelves : List (List ℕ × ShelfTable)) → AllByRecursion (λ y. bytes_eq gtin y ≡ false) (keys_of shelves)
       → is_counted counted (kept_on (shelf_of gtin shelves).slots (shelf_of gtin shelves).tracks serial) ≡ false
-  off-shelves gtin serial shelves h =
-      ap (λ (o : Option ShelfTable). is_counted counted (kept_on (unwrap_or o no_shelf).slots (unwrap_or o no_shelf).tracks serial)) (absent gtin shelves h)
-      ∙ none-counted counted
+  off-shelves gtin serial shelves h = grind (arith, nat_tests, absent)
 
   in-shelves : (shelves : List (List ℕ × ShelfTable)) → IsDistinct bytes_eq (keys_of shelves) → AllByRecursion (λ shelf. IsKeyed shelf.1) shelves → (q : PackKey)
       → is_member is_same_pack (packs_counted counted shelves) q ≡ is_counted counted (kept_on (shelf_of q.gtin shelves).slots (shelf_of q.gtin shelves).tracks q.serial)
-  in-shelves [] d keyed q = sym (none-counted counted)
+  in-shelves [] d keyed q = grind (arith, nat_tests)
   in-shelves (s ∷ rest) d keyed q =
       list_any-append (is_same_pack q) (map (pack_key s.0) (keys_of (slots_counted counted s.1))) (packs_counted counted rest)
       ∙ (λ i. in-product s.0 (keys_of (slots_counted counted s.1)) q i || in-shelves rest (IsDistinct-tail bytes_eq s.0 (keys_of rest) d) keyed.1 q i)
@@ -135,10 +106,7 @@ module _ (counted : Counted) where
     where
       elsewhere : (serials : List (List ℕ)) → AllByRecursion (λ x. is_member is_same_pack (packs_counted counted rest) x ≡ false) (map (pack_key s.0) serials)
       elsewhere [] = tt
-      elsewhere (one ∷ serials) = (
-        in-shelves rest (IsDistinct-tail bytes_eq s.0 (keys_of rest) d) keyed.1 (pack_key s.0 one) ∙ off-shelves s.0 one rest (IsDistinct-head bytes_eq s.0 (keys_of rest) d),
-        elsewhere serials,
-      )
+      elsewhere (one ∷ serials) = grind (arith, nat_tests, elsewhere serials, IsDistinct-tail, in-shelves, off-shelves)
 
   -- the packs that are counted shelf by shelf are those that a log has
   all-counted : (log : List LogEntry) (tables : Tables) → AreTablesOf log tables → IsDistinct bytes_eq (keys_of tables.shelves.entries) → AllByRecursion (λ shelf. IsKeyed shelf.1) tables.shelves.entries
@@ -153,19 +121,13 @@ module _ (counted : Counted) where
       test pack = is_counted counted (track_of pack log)
 
       there : (q : PackKey) (b : Bool) → test q ≡ b → (is_some (track_of q log).birth && b) ≡ b
-      there q true e = ap (λ c. c && true) (born counted (track_of q log) e)
-      there q false e = and-false (is_some (track_of q log).birth)
+      there q b e = grind (arith, nat_tests)
 
   -- and no more than 64 bits hold
   pub counted-whole : (log : List LogEntry) (tables : Tables) (count : ℕ) → AreTablesOf log tables → IsDistinct bytes_eq (keys_of tables.shelves.entries) → AllByRecursion (λ shelf. IsKeyed shelf.1) tables.shelves.entries
       → tables.named < 2 ^ 64 → count ≡ min (length (packs_counted counted tables.shelves.entries)) (2 ^ 64 - 1)
       → count ≡ distinct_count is_same_pack (filter (λ pack. is_counted counted (track_of pack log)) (uploaded_packs log))
-  counted-whole log tables count are d keyed fits e =
-      let same = all-counted log tables are d keyed in
-      let few = distinct_count-le is_same_pack (filter (λ pack. is_counted counted (track_of pack log)) (uploaded_packs log)) in
-      let part = length-filter_both (λ pack. is_counted counted (track_of pack log)) (λ pack. not (is_counted counted (track_of pack log))) (λ pack. refl) (uploaded_packs log) in
-      let named = are.named in
-      omega (arith, e, same, few, part, named, fits)
+  counted-whole log tables count are d keyed fits e = grind (arith, nat_tests, all-counted, distinct_count-le, length-filter_both (λ pack. is_counted counted (track_of pack log)) (λ pack. not (is_counted counted (track_of pack log))) (λ pack. refl) (uploaded_packs log))
 
 -- the packs that are held are those that the log names
 pub held-all : (log : List LogEntry) → distinct_count is_same_pack (filter (λ pack. is_some (track_of pack log).birth) (uploaded_packs log)) ≡ distinct_count is_same_pack (uploaded_packs log)
@@ -173,6 +135,4 @@ held-all log = ap (distinct_count is_same_pack) (all-pass (uploaded_packs log) (
   where
     all-pass : (xs : List PackKey) → ((q : PackKey) → is_member is_same_pack xs q ≡ true → is_some (track_of q log).birth ≡ true) → filter (λ pack. is_some (track_of pack log).birth) xs ≡ xs
     all-pass [] h = refl
-    all-pass (x ∷ xs) h =
-        (λ i. cond (h x (ap (λ b. b || is_member is_same_pack xs x) (pack-self x)) i) (x ∷ filter (λ pack. is_some (track_of pack log).birth) xs) (filter (λ pack. is_some (track_of pack log).birth) xs))
-        ∙ ap (λ (l : List PackKey). x ∷ l) (all-pass xs (λ q m. h q (or_last (is_same_pack q x) (is_member is_same_pack xs q) m)))
+    all-pass (x ∷ xs) h = grind (arith, nat_tests, all-pass xs (λ q m. h q (or_last (is_same_pack q x) (is_member is_same_pack xs q) m)), pack-self)

@@ -1,6 +1,6 @@
 -- What the tables are after one more entry, by its form.
 use Rattle.std.specs.Prelude.{◌≡◌, ◌+◌}
-use Rattle.mv_repository.proofs.Words.{ℕ, List, length, get_or, take, refl, sym, ◌∙◌, true, true≢false, Option, None, Some, Result, Ok, Err, OnOk, [], ap, Item, Carried, Receipt, Message, Master, Upload, Status, Recall, Withdraw, Product, Standing, CivilDate, pack_key, BatchKey, PackKey, LogEntry, uploaded_in, uploaded_packs, is_master, AreMastersOf, ordered, IsShelfOf, ShelfTable, shelf_of, StopTables, first_stops, no_entry, message_in, AreStopsOf, AreTablesOf, life_of, Tables}
+use Rattle.mv_repository.proofs.Words.{ℕ, List, length, get_or, take, sym, ◌∙◌, true, Option, None, Some, Result, OnOk, [], ap, Item, Message, Master, Upload, Status, Recall, Withdraw, Product, Standing, CivilDate, pack_key, BatchKey, PackKey, LogEntry, uploaded_in, uploaded_packs, is_master, AreMastersOf, ordered, IsShelfOf, ShelfTable, shelf_of, StopTables, first_stops, no_entry, message_in, AreStopsOf, AreTablesOf, life_of, Tables, arith, nat_tests}
 use Rattle.mv_repository.proofs.PacksLemmas.{none-named, shelf-stays}
 use Rattle.mv_repository.proofs.ProductLemmas.{masters-noted}
 use Rattle.mv_repository.proofs.StopLemmas.{NoMaster, NoPack}
@@ -8,31 +8,23 @@ use Rattle.mv_repository.proofs.TableLemmas.{StopsNone, at-newest, first-same, l
 use Rattle.mv_repository.proofs.UploadLemmas.{life-same}
 
 pub on_both : {A E P Q R : Type 0} → (r : Result A E) → OnOk r P → OnOk r Q → (P → Q → R) → OnOk r R
-on_both (Ok x) p q f = f p q
-on_both (Err e) p q f = tt
+on_both r p q f = grind (arith, nat_tests)
 
 pub master-form : (gtin : List ℕ) (item : Item) → is_master gtin item ≡ true → NoPack item × StopsNone item
-master-form gtin (Carried k stamp (Master named product)) e = ((λ pack. (refl, refl), refl), (λ batch. refl, λ code. refl))
-master-form gtin _ e = absurd (true≢false (sym e))
+master-form gtin item e = grind (arith, nat_tests)
 
 -- an item that no table has
 abbrev pub IsNoted : Item → Type 0
 IsNoted item = NoPack item × StopsNone item × NoMaster item
 
 pub none-noted : (item : Item) → message_in item ≡ None → IsNoted item
-none-noted (Receipt k reach query) e = ((λ pack. (refl, refl), refl), (λ batch. refl, λ gtin. refl), λ gtin. refl)
-none-noted (Carried k stamp message) e = absurd (cc e)
+none-noted item e = grind (arith, nat_tests)
 
 pub other-noted : (item : Item) (m : Message) → message_in item ≡ Some m → ((gtin : List ℕ) (product : Product) → m ≡ Master gtin product → ⊥)
     → ((gtin batch : List ℕ) (expiry : CivilDate) (national : Option (List ℕ)) (serials : List (List ℕ)) → m ≡ Upload gtin batch expiry national serials → ⊥)
     → ((key : PackKey) (to : Standing) (user : List ℕ) (at : ℕ) → m ≡ Status key to user at → ⊥)
     → ((key : BatchKey) (at : ℕ) → m ≡ Recall key at → ⊥) → ((gtin : List ℕ) (at : ℕ) → m ≡ Withdraw gtin at → ⊥) → IsNoted item
-other-noted (Carried k stamp (Master gtin product)) m is a b c d e = absurd (a gtin product (cc is))
-other-noted (Carried k stamp (Upload gtin batch expiry national serials)) m is a b c d e = absurd (b gtin batch expiry national serials (cc is))
-other-noted (Carried k stamp (Status key to user at)) m is a b c d e = absurd (c key to user at (cc is))
-other-noted (Carried k stamp (Recall key at)) m is a b c d e = absurd (d key at (cc is))
-other-noted (Carried k stamp (Withdraw gtin at)) m is a b c d e = absurd (e gtin at (cc is))
-other-noted _ m is a b c d e = ((λ pack. (refl, refl), refl), (λ batch. refl, λ gtin. refl), λ gtin. refl)
+other-noted item m is a b c d e = grind (arith, nat_tests)
 
 -- the same by the place of the newest entry
 module _ (whole : List LogEntry) (place : ℕ) (l : length whole ≡ place + 1) where
@@ -64,9 +56,4 @@ module _ (whole : List LogEntry) (place : ℕ) (l : length whole ≡ place + 1) 
   named-at named none is = none-named log entry named none is whole (log-split whole place l)
 
   pub tables-noted : (tables : Tables) → IsNoted entry.item → AreTablesOf log tables → AreTablesOf whole tables
-  tables-noted tables noted are = record {
-    masters = masters-at tables.masters.entries noted.2 are.masters;
-    stops = stops-at tables.stops noted.1 are.stops;
-    shelves = shelves-at tables.shelves.entries noted.0 (same-at noted.1) are.shelves;
-    named = named-at tables.named noted.0.1 are.named;
-  }
+  tables-noted tables noted are = grind (arith, nat_tests, masters-at tables.masters.entries noted.2 are.masters, named-at, shelves-at tables.shelves.entries noted.0 (same-at noted.1) are.shelves, stops-at)

@@ -1,23 +1,18 @@
 -- Two logs that have the same history of a pack agree on it.
 use Rattle.std.specs.Prelude.{◌≡◌, ◌∷◌}
-use Rattle.mv_repository.proofs.Words.{ℕ, List, [], refl, sym, ◌∙◌, ap, Bool, true, false, cond, cond_both, Option, Some, None, IfSome, is_some, true≢false, find, fold, map, option_map, option_and_then, PackKey, BatchKey, batch_key, Upload, Status, Item, Receipt, Carried, LogEntry, BatchStanding, Placed, stands_before, ordered, KnownPack, new_pack, pack_after_status, held_of, is_recall_of, is_withdrawal_of, is_withdrawn, Sent, sent_in, unplaced, unplaced_state, is_batch_recalled, AgreeOn, item_batch, entry_of, pack_made_by, FirstStops, first_stops, is_before, standing_at, first_upload, statuses_of, pack_changed, pack_step, pack_grown, PackHistory, SentStatus, SentHistory, sent_of, sent_status, history_of, as_sent, HaveSameHistory}
+use Rattle.mv_repository.proofs.Words.{ℕ, List, [], refl, sym, ◌∙◌, ap, Bool, true, false, cond, Option, Some, None, IfSome, is_some, find, fold, map, option_map, option_and_then, PackKey, BatchKey, batch_key, Upload, Item, Receipt, Carried, LogEntry, BatchStanding, Placed, ordered, KnownPack, new_pack, is_recall_of, is_withdrawal_of, is_withdrawn, Sent, sent_in, unplaced, unplaced_state, is_batch_recalled, AgreeOn, item_batch, entry_of, pack_made_by, FirstStops, first_stops, is_before, first_upload, statuses_of, pack_changed, pack_step, pack_grown, PackHistory, SentStatus, SentHistory, sent_of, sent_status, history_of, as_sent, HaveSameHistory, arith, nat_tests}
 use Rattle.mv_repository.specs.Agreement.{batch_in}
-use Rattle.mv_repository.proofs.OrderLemmas.{cond_two, find-true, ordered-ascends}
+use Rattle.mv_repository.proofs.OrderLemmas.{find-true, ordered-ascends}
 use Rattle.mv_repository.proofs.StateLemmas.{known-grown}
 use Rattle.mv_repository.proofs.BeforeLemmas.{any-find}
-use Rattle.mv_repository.proofs.AgreementLemmas.{batch-status, status-unplaced, agree-by}
 
 -- no status changes the batch
 changed-batch : (standing : BatchKey → BatchStanding) (place sender : ℕ) (item : Item) (pack : PackKey) (held : KnownPack)
     → (pack_changed standing place sender item pack held).batch ≡ held.batch
-changed-batch standing place sender (Carried k stamp (Status key to user at)) pack held =
-    batch-status held (standing (batch_key pack.gtin held.batch)) to sender user at place
-changed-batch standing place sender _ pack held = refl
+changed-batch standing place sender item pack held = grind (arith, nat_tests)
 
 step-batch : (stops : FirstStops) (pack : PackKey) (birth : Placed) (held : KnownPack) (x : Placed) → (pack_step stops pack birth held x).batch ≡ held.batch
-step-batch stops pack birth held x =
-    cond_both (stands_before birth x) (pack_changed (standing_at stops x) x.place x.entry.sender x.entry.item pack held) held (λ h. h.batch ≡ held.batch)
-    (λ e. changed-batch (standing_at stops x) x.place x.entry.sender x.entry.item pack held) (λ e. refl)
+step-batch stops pack birth held x = grind (arith, nat_tests, changed-batch)
 
 fold-batch : (stops : FirstStops) (pack : PackKey) (birth : Placed) (held : KnownPack) (xs : List Placed) → (fold (pack_step stops pack birth) held xs).batch ≡ held.batch
 fold-batch stops pack birth held [] = refl
@@ -25,21 +20,7 @@ fold-batch stops pack birth held (x ∷ xs) = fold-batch stops pack birth (pack_
 
 -- the batch of a pack is that of its upload
 pub batch-upload : (pack : PackKey) (log : List LogEntry) → batch_in pack log ≡ option_and_then (λ (x : Placed). item_batch x.entry.item) (first_upload pack (ordered log))
-batch-upload pack log =
-    ap (λ (known : Option KnownPack). option_map (λ held. held.batch) (option_map held_of known)) (known-grown pack (ordered log) (ordered-ascends log))
-    ∙ by (first_upload pack (ordered log))
-  where
-    made : (x : Placed) (item : Item)
-        → option_map (λ held. held.batch) (option_map held_of (option_map (λ held. fold (pack_step (first_stops (ordered log)) pack x) held (statuses_of pack (ordered log))) (pack_made_by item)))
-        ≡ item_batch item
-    made x (Carried k stamp (Upload gtin batch expiry national serials)) =
-        ap Some (fold-batch (first_stops (ordered log)) pack x (new_pack batch expiry national) (statuses_of pack (ordered log)))
-    made x _ = refl
-
-    by : (o : Option Placed) → option_map (λ held. held.batch) (option_map held_of (pack_grown (first_stops (ordered log)) pack o (statuses_of pack (ordered log))))
-        ≡ option_and_then (λ (x : Placed). item_batch x.entry.item) o
-    by None = refl
-    by (Some x) = made x x.entry.item
+batch-upload pack log = grind (arith, nat_tests, fold-batch, known-grown, ordered-ascends)
 
 -- a pack by what was sent
 abbrev made_of : Option Sent → Option KnownPack
@@ -58,11 +39,7 @@ state_of pack history = option_map (λ held. fold (step_of pack) held history.st
 
 changed-sent : (standing : BatchKey → BatchStanding) (place sender : ℕ) (item : Item) (pack : PackKey) (held : KnownPack) (number : List ℕ) → held.batch ≡ number
     → unplaced (pack_changed standing place sender item pack held) ≡ changed_of pack (standing (batch_key pack.gtin number)) (unplaced held) (sent_in sender item)
-changed-sent standing place sender (Carried k stamp (Status key to user at)) pack held number e =
-    status-unplaced held (standing (batch_key pack.gtin held.batch)) to sender user at place
-    ∙ ap (λ (n : List ℕ). pack_after_status (unplaced held) (standing (batch_key pack.gtin n)) to sender user at 0) e
-changed-sent standing place sender (Receipt k reach query) pack held number e = refl
-changed-sent standing place sender (Carried k stamp message) pack held number e = refl
+changed-sent standing place sender item pack held number e = grind (arith, nat_tests)
 
 module _ (stops : FirstStops) (pack : PackKey) where
   -- a status as it was sent, of a pack of this upload and this batch
@@ -79,12 +56,7 @@ module _ (stops : FirstStops) (pack : PackKey) where
   fold-sent : (birth : Placed) (held : KnownPack) (number : List ℕ) (xs : List Placed) → held.batch ≡ number
       → unplaced (fold (pack_step stops pack birth) held xs) ≡ fold (step_of pack) (unplaced held) (map (status (Some birth) (Some number)) xs)
   fold-sent birth held number [] e = refl
-  fold-sent birth held number (x ∷ xs) e =
-      fold-sent birth (pack_step stops pack birth held x) number xs (step-batch stops pack birth held x ∙ e)
-      ∙ ap (λ (h : KnownPack). fold (step_of pack) h (map (status (Some birth) (Some number)) xs))
-      (cond_two (stands_before birth x) (pack_changed (standing_at stops x) x.place x.entry.sender x.entry.item pack held) held
-      (changed_of pack (standing_at stops x (batch_key pack.gtin number)) (unplaced held) (sent_of x)) (unplaced held) (λ a b. unplaced a ≡ b)
-      (λ t. changed-sent (standing_at stops x) x.place x.entry.sender x.entry.item pack held number e) (λ t. refl))
+  fold-sent birth held number (x ∷ xs) e = grind (arith, nat_tests, fold-sent birth (pack_step stops pack birth held x) number xs (step-batch stops pack birth held x ∙ e), changed-sent)
 
   grown-sent : (upload : Option Placed) (own : List Placed) → option_map unplaced (pack_grown stops pack upload own)
       ≡ option_map (λ held. fold (step_of pack) held (map (status upload (option_and_then (λ (x : Placed). item_batch x.entry.item) upload)) own)) (made_of (option_and_then sent_of upload))
@@ -111,23 +83,16 @@ pub same-parts : (a b : PackHistory) → option_and_then sent_of a.upload ≡ op
     → map (sent_status a) a.statuses ≡ map (sent_status b) b.statuses
     → option_and_then sent_of a.recall ≡ option_and_then sent_of b.recall
     → option_and_then sent_of a.withdrawal ≡ option_and_then sent_of b.withdrawal → as_sent a ≡ as_sent b
-same-parts a b upload statuses recall withdrawal =
-    λ i. record { upload = upload i; statuses = statuses i; recall = recall i; withdrawal = withdrawal i }
+same-parts a b upload statuses recall withdrawal = grind (arith, nat_tests)
 
 -- an entry that is lent is sent as it stands
 pub sent-entry : (o : Option Placed) → option_and_then (λ (entry : LogEntry). sent_in entry.sender entry.item) (option_map entry_of o) ≡ option_and_then sent_of o
-sent-entry None = refl
-sent-entry (Some x) = refl
+sent-entry o = grind (arith, nat_tests)
 
 -- what was found was sent, where no receipt passes the test
 found-sent : (test : Item → Bool) → ((k : ℕ) (reach : List ℕ) (query : Bool) → test (Receipt k reach query) ≡ false)
     → (o : Option Placed) → IfSome o (λ x. test x.entry.item ≡ true) → is_some o ≡ is_some (option_and_then sent_of o)
-found-sent test none None h = refl
-found-sent test none (Some x) h = by x.entry.item h
-  where
-    by : (item : Item) → test item ≡ true → true ≡ is_some (sent_in x.entry.sender item)
-    by (Carried k stamp message) h = refl
-    by (Receipt k reach query) h = absurd (true≢false (sym h ∙ none k reach query))
+found-sent test none o h = grind (arith, nat_tests)
 
 recall-sent : (pack : PackKey) (log : List LogEntry) → is_batch_recalled pack.gtin (batch_in pack log) log ≡ is_some (as_sent (history_of pack log)).recall
 recall-sent pack log = by (batch_in pack log)
@@ -147,8 +112,4 @@ withdrawal-sent pack log =
     ∙ found-sent test (λ k reach query. refl) (find (λ x. test x.entry.item) (ordered log)) (find-true (λ x. test x.entry.item) (ordered log))
 
 pub same_history : (pack : PackKey) (one other : List LogEntry) → HaveSameHistory pack one other → AgreeOn pack one other
-same_history pack one other same =
-    agree-by pack one other
-    (state-sent pack one ∙ ap (state_of pack) same ∙ sym (state-sent pack other))
-    (recall-sent pack one ∙ ap (λ (h : SentHistory). is_some h.recall) same ∙ sym (recall-sent pack other))
-    (withdrawal-sent pack one ∙ ap (λ (h : SentHistory). is_some h.withdrawal) same ∙ sym (withdrawal-sent pack other))
+same_history pack one other same = grind (arith, nat_tests, recall-sent pack one, recall-sent pack other, state-sent pack one, state-sent pack other, withdrawal-sent)

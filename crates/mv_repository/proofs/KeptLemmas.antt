@@ -1,7 +1,7 @@
 -- Lemmas on the table of packs.
 use Rattle.std.proofs.lemmas.Bool.{and_parts}
 use Rattle.std.specs.Prelude.{◌≡◌, ◌&&◌}
-use Rattle.mv_repository.proofs.Words.{bytes_eq, ℕ, List, sym, arith, true, false, cond_both, Option, Some, nat_tests, same_text, nat_list_eq_equiv, PackKey, BatchKey, LogEntry, is_same_pack, is_same_batch, pack_key, batch_key, comes_first, earlier_place}
+use Rattle.mv_repository.proofs.Words.{bytes_eq, ℕ, List, sym, true, same_text, nat_list_eq_equiv, PackKey, BatchKey, is_same_pack, is_same_batch, pack_key, batch_key}
 
 -- keys that pass the test are one
 pub same_pack : (a b : PackKey) → is_same_pack a b ≡ true → a ≡ b
@@ -32,8 +32,3 @@ pack-self a = λ i. text-self a.gtin i && text-self a.serial i
 
 pub batch-self : (a : BatchKey) → is_same_batch a a ≡ true
 batch-self a = λ i. text-self a.gtin i && text-self a.batch i
-
--- once the newest is counted it does not come first again
-pub earlier_first : (log : List LogEntry) (new : ℕ) (o : Option ℕ) → comes_first log new (earlier_place log new o) ≡ false
-earlier_first log new o =
-    cond_both (comes_first log new o) (Some new) o (λ p. comes_first log new p ≡ false) (λ e. grind (arith, nat_tests)) (λ e. e)

@@ -1,30 +1,26 @@
 -- The counts of a log that its tables of keys give.
 use Rattle.std.specs.Prelude.{◌≡◌, ◌∷◌, ◌&&◌, ◌||◌}
-use Rattle.mv_repository.proofs.Words.{bytes_eq, ℕ, List, [], length, refl, sym, ◌∙◌, ap, Bool, true, false, cond, Option, Some, None, is_some, filter, or-false, length-keys_of, length-from_keys, is_some-lookup, IsEquivalence, nat_list_eq_equiv, list_any, flat_map, IsDistinct, last_or, lookup, keys_of, distinct_count, is_member, Item, Carried, Master, Recall, is_same_batch, BatchKey, LogEntry, mastered_in, recalled_in, is_master, last_in, AreMastersOf, Placed, ordered, is_recall_of, StopTables, AreStopsOf, place_of}
+use Rattle.mv_repository.proofs.Words.{bytes_eq, ℕ, List, [], length, sym, ◌∙◌, ap, Bool, cond, Option, None, is_some, filter, length-keys_of, length-from_keys, is_some-lookup, IsEquivalence, nat_list_eq_equiv, list_any, flat_map, IsDistinct, last_or, lookup, keys_of, distinct_count, is_member, Item, is_same_batch, BatchKey, LogEntry, mastered_in, recalled_in, is_master, last_in, AreMastersOf, Placed, ordered, is_recall_of, StopTables, AreStopsOf, place_of, arith, nat_tests}
 use Rattle.mv_repository.proofs.KeptLemmas.{text-sym, text-self, same_batch}
 use Rattle.mv_repository.proofs.UploadedLemmas.{any-ordered, any-flat, found-any, some-map}
 
 mastered-is : (gtin : List ℕ) (item : Item) → list_any (bytes_eq gtin) (mastered_in item) ≡ is_master gtin item
-mastered-is gtin (Carried k stamp (Master named product)) = or-false (bytes_eq gtin named) ∙ text-sym gtin named
-mastered-is gtin _ = refl
+mastered-is gtin item = grind (arith, nat_tests, text-sym)
 
 recalled-is : (batch : BatchKey) (item : Item) → list_any (is_same_batch batch) (recalled_in item) ≡ is_recall_of batch item
-recalled-is batch (Carried k stamp (Recall key at)) = or-false (is_same_batch batch key) ∙ (λ i. text-sym batch.gtin key.gtin i && text-sym batch.batch key.batch i)
-recalled-is batch _ = refl
+recalled-is batch item = grind (arith, nat_tests, text-sym)
 
 -- each key of one kind is in the table once, and in no other case
 counted-once : {K : Type 0} {eq : K → K → Bool} → IsEquivalence eq → {X : Type 0} (es : List (K × X)) (xs : List K) → IsDistinct eq (keys_of es)
     → ((q : K) → is_some (lookup (eq q) es) ≡ is_member eq xs q) → length es ≡ distinct_count eq xs
-counted-once {K} {eq} laws es xs distinct same =
-    sym (length-keys_of es) ∙ length-from_keys laws (keys_of es) xs distinct (λ q. sym (is_some-lookup (eq q) es) ∙ same q)
+counted-once {K} {eq} laws es xs distinct same = grind (arith, nat_tests, is_some-lookup, length-from_keys, length-keys_of)
 
 last-found : (f : Placed → Bool) (last : Option Placed) (xs : List Placed) → is_some (last_or last (filter f xs)) ≡ (is_some last || list_any f xs)
-last-found f last [] = sym (or-false (is_some last))
+last-found f last [] = grind (arith, nat_tests)
 last-found f last (y ∷ ys) = by (f y) (λ o. last-found f o ys)
   where
     by : (b : Bool) → ((o : Option Placed) → is_some (last_or o (filter f ys)) ≡ (is_some o || list_any f ys)) → is_some (last_or last (cond b (y ∷ filter f ys) (filter f ys))) ≡ (is_some last || (b || list_any f ys))
-    by true r = r (Some y) ∙ elim last as (λ o. true ≡ (is_some o || true)) [ None ↦ refl | Some z ↦ refl ]
-    by false r = r last
+    by b r = grind (arith, nat_tests)
 
 pub count-products : (log : List LogEntry) (masters : List (List ℕ × ℕ)) → IsDistinct bytes_eq (keys_of masters) → AreMastersOf log masters → length masters ≡ distinct_count bytes_eq (flat_map (λ entry. mastered_in entry.item) log)
 count-products log masters distinct places =

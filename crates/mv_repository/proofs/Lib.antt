@@ -23,7 +23,6 @@ pub mod KeyLemmas
 pub mod ProductLemmas
 pub mod InquiriesLemmas
 pub mod ChangesLemmas
-pub mod AgreementLemmas
 pub mod HistoryLemmas
 pub mod AboutLemmas
 pub mod LentLemmas

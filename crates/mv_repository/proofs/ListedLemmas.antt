@@ -1,29 +1,24 @@
 -- Each track stays listed under the batch of its pack.
 use Rattle.std.specs.Prelude.{◌≡◌, ◌+◌, ◌<◌, ◌||◌, ◌∷◌}
-use Rattle.mv_repository.proofs.Words.{bytes_eq, ℕ, List, [], length, get_or, take, refl, sym, ◌∙◌, ap, subst, Bool, true, false, cond, Option, Some, None, IfSome, is_some, true≢false, Result, Ok, Err, OnOk, OnErr, list_any_more, HashSet, same_text, lookup, option_map, option_map_or, unwrap_or, PackKey, pack_key, LogEntry, Slot, Own, Placed, ordered, ListingTable, numbers_in, numbers_of, has_number, lists, HasAllOf, batch_at, AreListed, IsUploadOf, has, AreMadeListed, HasNoOther, no_entry, place_of, comes_first, earlier_place, first_upload, is_upload_of, track_of}
-use Rattle.mv_repository.specs.Listing.{batch_in}
-use Rattle.mv_repository.proofs.OrderLemmas.{cond_two, ordered-stand, still-stand}
+use Rattle.std.proofs.lemmas.Grind.{common_steps}
+use Rattle.mv_repository.proofs.Words.{bytes_eq, ℕ, List, [], length, get_or, take, refl, sym, ◌∙◌, ap, Bool, true, false, Option, Some, None, IfSome, Result, OnOk, OnErr, list_any_more, HashSet, same_text, lookup, option_map, option_map_or, PackKey, pack_key, LogEntry, Slot, Own, Placed, ordered, ListingTable, numbers_in, numbers_of, has_number, lists, HasAllOf, batch_at, AreListed, IsUploadOf, has, AreMadeListed, HasNoOther, no_entry, place_of, comes_first, first_upload, is_upload_of, track_of, arith, nat_tests}
+use Rattle.mv_repository.proofs.OrderLemmas.{ordered-stand, still-stand}
 use Rattle.mv_repository.proofs.StateLemmas.{find-stand}
 use Rattle.mv_repository.proofs.TableLemmas.{longer, find-none, find-some}
 use Rattle.mv_repository.proofs.TableLemmas.{log-split, log-length}
-use Rattle.mv_repository.proofs.UploadLemmas.{upload-has}
 
 -- what holds where a call ends well, and what holds where it fails
 pub on_map : {A E P Q : Type 0} → (r : Result A E) → OnOk r P → (P → Q) → OnOk r Q
-on_map (Ok x) p f = f p
-on_map (Err e) p f = tt
+on_map r p f = grind (arith, nat_tests)
 
 pub on_err : {A E : Type 0} → (r : Result A E) (P : Type 0) → P → OnErr r P
-on_err (Ok x) P p = tt
-on_err (Err e) P p = p
+on_err r P p = grind (arith, nat_tests)
 
 -- the numbers of a batch among sets of numbers
 pub numbers-are : {S : Type 0} → (batch : List ℕ) (batches : List (List ℕ × HashSet ℕ S))
     → numbers_of (numbers_in batches) batch ≡ option_map_or (λ (set : HashSet ℕ S). set.keys) (lookup (bytes_eq batch) batches) []
 numbers-are batch [] = refl
-numbers-are {S} batch (e ∷ es) =
-    cond_two (bytes_eq batch e.0) (Some e.1.keys) (lookup (bytes_eq batch) (numbers_in es)) (Some e.1) (lookup (bytes_eq batch) es)
-    (λ o p. unwrap_or o [] ≡ option_map_or (λ (set : HashSet ℕ S). set.keys) p []) (λ t. refl) (λ t. numbers-are batch es)
+numbers-are {S} batch (e ∷ es) = grind (arith, nat_tests, numbers-are batch es)
 
 pub numbers-some : {S : Type 0} → (batch : List ℕ) (batches : List (List ℕ × HashSet ℕ S)) (set : HashSet ℕ S) → lookup (bytes_eq batch) batches ≡ Some set
     → numbers_of (numbers_in batches) batch ≡ set.keys
@@ -38,11 +33,7 @@ is_in_sets {S} batches batch number = option_map_or (λ (set : HashSet ℕ S). h
 
 pub sets-are : {S : Type 0} → (batches : List (List ℕ × HashSet ℕ S)) (batch : List ℕ) (number : ℕ)
     → is_in_sets batches batch number ≡ has_number (numbers_of (numbers_in batches) batch) number
-sets-are {S} batches batch number = by (lookup (bytes_eq batch) batches) ∙ ap (λ (l : List ℕ). has_number l number) (sym (numbers-are batch batches))
-  where
-    by : (o : Option (HashSet ℕ S)) → option_map_or (λ (set : HashSet ℕ S). has_number set.keys number) o false ≡ has_number (option_map_or (λ (set : HashSet ℕ S). set.keys) o []) number
-    by None = refl
-    by (Some set) = refl
+sets-are {S} batches batch number = grind (arith, nat_tests, numbers-are)
 
 -- the upload that makes a pack stays at its place
 batch-newest : (log : List LogEntry) (entry : LogEntry) (pack : PackKey) (birth : ℕ) → (track_of pack log).birth ≡ Some birth
@@ -53,15 +44,11 @@ batch-newest log entry pack birth e =
   where
     by : (o : Option Placed) → IfSome o (λ placed. get_or log placed.place no_entry ≡ placed.entry) → IfSome o (λ placed. get_or (longer log entry) placed.place no_entry ≡ placed.entry)
         → option_map place_of o ≡ Some birth → batch_at (longer log entry) birth ≡ batch_at log birth
-    by None s t h = absurd (true≢false (sym (ap is_some h)))
-    by (Some placed) s t h =
-        let place : placed.place ≡ birth = ap (λ (o : Option ℕ). unwrap_or o 0) h in
-        subst (λ (b : ℕ). batch_at (longer log entry) b ≡ batch_at log b) place (ap (λ (x : LogEntry). batch_in x.item) (t ∙ sym s))
+    by o s t h = grind (arith, nat_tests)
 
 pub batch-stays : (whole : List LogEntry) (place : ℕ) → length whole ≡ place + 1 → (pack : PackKey) (birth : ℕ) → (track_of pack (take place whole)).birth ≡ Some birth
     → batch_at whole birth ≡ batch_at (take place whole) birth
-batch-stays whole place l pack birth e =
-    ap (λ (w : List LogEntry). batch_at w birth) (log-split whole place l) ∙ batch-newest (take place whole) (get_or whole place no_entry) pack birth e
+batch-stays whole place l pack birth e = grind (arith, nat_tests, common_steps, batch-newest)
 
 module _ (whole : List LogEntry) (place : ℕ) (l : length whole ≡ place + 1) (gtin : List ℕ) (slots : List (List ℕ × Slot)) (own : ListingTable) (listed : AreListed (take place whole) gtin slots own) where
   -- a pack whose first upload stays
@@ -78,9 +65,7 @@ module _ (whole : List LogEntry) (place : ℕ) (l : length whole ≡ place + 1) 
   -- an entry that uploads no pack of the product
   module _ (no_upload : (serial : List ℕ) → is_upload_of (pack_key gtin serial) (get_or whole place no_entry).item ≡ false) where
     same_birth : (serial : List ℕ) → (track_of (pack_key gtin serial) whole).birth ≡ (track_of (pack_key gtin serial) (take place whole)).birth
-    same_birth serial =
-        ap (λ (w : List LogEntry). (track_of (pack_key gtin serial) w).birth) (log-split whole place l)
-        ∙ ap (option_map place_of) (find-none (λ placed. is_upload_of (pack_key gtin serial) placed.entry.item) (take place whole) (get_or whole place no_entry) (no_upload serial))
+    same_birth serial = grind (arith, nat_tests, find-none, log-split whole place l)
 
     pub listed-none : AreListed whole gtin slots own
     listed-none = listed-stay same_birth
@@ -95,10 +80,7 @@ module _ (whole : List LogEntry) (place : ℕ) (l : length whole ≡ place + 1) 
       where
         by : (c : Bool) → bytes_eq mine serial ≡ c → lists own' batch number ≡ true
         by false h = more batch number (listed-one serial (same_birth serial) number birth batch (sym (others serial h) ∙ f) b e)
-        by true h =
-            let is : serial ≡ mine = sym (same_text mine serial (sym h)) in
-            now number birth batch (ap (λ (s : List ℕ). lookup (bytes_eq s) slots') (sym is) ∙ f)
-            (ap (λ (s : List ℕ). (track_of (pack_key gtin s) (take place whole)).birth) (sym is) ∙ sym (same_birth serial) ∙ b) e
+        by true h = grind (arith, nat_tests, same_birth, same_text mine serial (sym h))
 
   -- an upload, under whose batch the tracks are listed of the packs that it makes
   pub listed-upload : (serials : List (List ℕ)) → IsUploadOf (get_or whole place no_entry).item gtin serials → (slots' : List (List ℕ × Slot)) (own' : ListingTable) → HasAllOf own own'
@@ -117,25 +99,7 @@ module _ (whole : List LogEntry) (place : ℕ) (l : length whole ≡ place + 1) 
       split = log-split whole place l
 
       by : (c : Bool) → has serials serial ≡ c → lists own' batch number ≡ true
-      by false h =
-          more batch number (listed-one serial
-          (ap (λ (w : List LogEntry). (track_of pack w).birth) split
-          ∙ ap (option_map place_of) (find-none (λ placed. is_upload_of pack placed.entry.item) (take place whole) entry (upload-has entry.item gtin serials upload serial ∙ h)))
-          number birth batch (owns serial number f) b e)
-      by true h = first (comes_first whole place (track_of pack (take place whole)).birth) refl
-        where
-          earlier : (track_of pack whole).birth ≡ earlier_place whole place (track_of pack (take place whole)).birth
-          earlier =
-              ap (λ (w : List LogEntry). (track_of pack w).birth) split
-              ∙ find-some (λ placed. is_upload_of pack placed.entry.item) (take place whole) entry (upload-has entry.item gtin serials upload serial ∙ h)
-              ∙ (λ i. earlier_place (sym split i) (sym (log-length whole place l) i) (track_of pack (take place whole)).birth)
-
-          first : (d : Bool) → comes_first whole place (track_of pack (take place whole)).birth ≡ d → lists own' batch number ≡ true
-          first true d =
-              let here : place ≡ birth = ap (λ (o : Option ℕ). unwrap_or o 0) (sym (earlier ∙ ap (λ c. cond c (Some place) (track_of pack (take place whole)).birth) d) ∙ b) in
-              made serial number batch h f d (ap (batch_at whole) here ∙ e)
-          first false d =
-              more batch number (listed-one serial (earlier ∙ ap (λ c. cond c (Some place) (track_of pack (take place whole)).birth) d) number birth batch (owns serial number f) b e)
+      by c h = grind (arith, nat_tests, entry, find-none, find-some, listed-one, log-length, pack, split)
 
 -- one serial number more
 pub made-more : (log : List LogEntry) (place : ℕ) (gtin : List ℕ) (slots slots' : List (List ℕ × Slot)) (serials : List (List ℕ)) (at : ℕ) (own own' : ListingTable)
@@ -148,7 +112,4 @@ made-more log place gtin slots slots' serials at own own' l more owns listed now
   where
     by : (c : Bool) → has (take at serials) serial ≡ c → (has (take at serials) serial || bytes_eq (get_or serials at []) serial) ≡ true → lists own' batch number ≡ true
     by true e g = more batch number (listed serial number batch e (owns serial number f) first b)
-    by false e g =
-        let is : serial ≡ get_or serials at [] = sym (same_text (get_or serials at []) serial (sym (ap (λ c. c || bytes_eq (get_or serials at []) serial) (sym e) ∙ g))) in
-        now (ap (has (take at serials)) (sym is) ∙ e) number batch (ap (λ (s : List ℕ). lookup (bytes_eq s) slots') (sym is) ∙ f)
-        (ap (λ (s : List ℕ). comes_first log place (track_of (pack_key gtin s) (take place log)).birth) (sym is) ∙ first) b
+    by false e g = grind (arith, nat_tests, same_text (get_or serials at []) serial (sym (ap (λ c. c || bytes_eq (get_or serials at []) serial) (sym e) ∙ g)))

@@ -1,7 +1,7 @@
 -- Lemmas on the order of stamps.
 use Rattle.std.specs.Prelude.{◌≡◌, ◌+◌, ◌<◌, ◌∷◌, ◌++◌}
 use Rattle.mv_repository.proofs.Words.{slice_get, Some, get_or, ℕ, suc, List, [], length, fold, refl, sym, ◌∙◌, ap, subst, arith, Bool, true, false, cond, cond_both, IfSome, Option, filter, find, nat_tests, get_or_append_left, slice_get_within, get_or_from_slice_get, AllByRecursion, last_or, LogEntry, Placed, passes, put_in, ordered, stands_before, Ascends, IsOrderOf, no_entry}
-use Rattle.std.proofs.lemmas.List.Sorted.{IsPermutation-cons, IsPermutation-middle, IsPermutation-refl, IsPermutation-trans}
+use Rattle.std.proofs.lemmas.List.Sorted.{IsPermutation-cons, IsPermutation-middle, IsPermutation-trans}
 use Rattle.std.specs.List.Sorted.{IsPermutation}
 
 -- what holds of each holds of each that passes a test, of the first and of the last of them, and of what is put in too
@@ -11,8 +11,7 @@ map-all P Q f (x ∷ xs) h = (f x h.0, map-all P Q f xs h.1)
 
 pub filter-all : {A : Type 0} (P : A → Type 0) (f : A → Bool) (xs : List A) → AllByRecursion P xs → AllByRecursion P (filter f xs)
 filter-all P f [] h = tt
-filter-all P f (x ∷ xs) h =
-    cond_both (f x) (x ∷ filter f xs) (filter f xs) (AllByRecursion P) (λ e. (h.0, filter-all P f xs h.1)) (λ e. filter-all P f xs h.1)
+filter-all P f (x ∷ xs) h = grind (arith, nat_tests, filter-all P f xs h.1)
 
 pub find-all : {A : Type 0} (P : A → Type 0) (f : A → Bool) (xs : List A) → AllByRecursion P xs → IfSome (find f xs) P
 find-all P f [] h = tt
@@ -29,13 +28,11 @@ last-all P last (x ∷ xs) s h = last-all P (Some x) xs h.0 h.1
 
 put-all : (P : Placed → Type 0) (x : Placed) (xs : List Placed) → P x → AllByRecursion P xs → AllByRecursion P (put_in x xs)
 put-all P x [] e h = (e, tt)
-put-all P x (y ∷ ys) e h =
-    cond_both (passes x y) (x ∷ y ∷ ys) (y ∷ put_in x ys) (AllByRecursion P) (λ t. (e, h)) (λ t. (h.0, put-all P x ys e h.1))
+put-all P x (y ∷ ys) e h = grind (arith, nat_tests, put-all P x ys e h.1)
 
 -- two values that one test gives
 pub cond_two : {A B : Type 0} (b : Bool) (x y : A) (u v : B) → (P : A → B → Type 0) → (b ≡ true → P x u) → (b ≡ false → P y v) → P (cond b x y) (cond b u v)
-cond_two true x y u v P t f = t refl
-cond_two false x y u v P t f = f refl
+cond_two b x y u v P t f = grind (arith, nat_tests)
 
 -- an entry stands before each of these
 abbrev pub StandsBeforeAll : Placed → List Placed → Type 0
@@ -49,9 +46,6 @@ AreOf log entries = AllByRecursion (λ one. slice_get log one.place ≡ Some one
 abbrev pub placed_at : ℕ → LogEntry → Placed
 placed_at place entry = record { place = place; entry = entry }
 
-passed : (x y : Placed) → passes x y ≡ true → stands_before x y ≡ true
-passed x y e = grind (arith, nat_tests)
-
 kept : (x y : Placed) → passes x y ≡ false → y.place < x.place → stands_before y x ≡ true
 kept x y e h = grind (arith, nat_tests)
 
@@ -62,28 +56,18 @@ over x y z e f = grind (arith, nat_tests)
 pub passes_behind : (x y z : Placed) → passes x y ≡ true → stands_before y z ≡ true → passes x z ≡ true
 passes_behind x y z e f = grind (arith, nat_tests)
 
--- of two entries one stands before the other at most
-pub stands-asym : (x y : Placed) → stands_before x y ≡ true → stands_before y x ≡ false
-stands-asym x y e = grind (arith, nat_tests)
-
-pub stands-self : (x : Placed) → stands_before x x ≡ false
-stands-self x = grind (arith, nat_tests)
-
 -- entries are put in behind those that were, one after another
 abbrev pub placed_after : List Placed → List LogEntry → List Placed
 placed_after first log = fold (λ placed entry. put_in (record { place = length placed; entry = entry }) placed) first log
 
 -- one that is put in is there, and those that were there stay
 pub put_in-permutes : (x : Placed) (xs : List Placed) → IsPermutation (x ∷ xs) (put_in x xs)
-put_in-permutes x [] = IsPermutation-refl (x ∷ [])
-put_in-permutes x (y ∷ ys) =
-    cond_both (passes x y) (x ∷ y ∷ ys) (y ∷ put_in x ys) (IsPermutation (x ∷ y ∷ ys)) (λ e. IsPermutation-refl (x ∷ y ∷ ys))
-    (λ e. IsPermutation-trans (x ∷ y ∷ ys) (y ∷ x ∷ ys) (y ∷ put_in x ys) (IsPermutation-middle (x ∷ []) y ys) (IsPermutation-cons y (x ∷ ys) (put_in x ys) (put_in-permutes x ys)))
+put_in-permutes x [] = grind (arith, nat_tests)
+put_in-permutes x (y ∷ ys) = grind (arith, nat_tests, put_in-permutes x ys, IsPermutation-cons, IsPermutation-middle (x ∷ []) y ys, IsPermutation-trans)
 
 length-put_in : (x : Placed) (xs : List Placed) → length (put_in x xs) ≡ length xs + 1
 length-put_in x [] = refl
-length-put_in x (y ∷ ys) =
-    cond_both (passes x y) (x ∷ y ∷ ys) (y ∷ put_in x ys) (λ l. length l ≡ length (y ∷ ys) + 1) (λ t. omega arith) (λ t. omega (arith, length-put_in x ys))
+length-put_in x (y ∷ ys) = grind (arith, nat_tests, length-put_in x ys)
 
 -- all places are below n
 abbrev pub AreBelow : ℕ → List Placed → Type 0
@@ -94,9 +78,7 @@ before_passed x y ys e h = map-all (λ z. stands_before y z ≡ true) (λ z. sta
 
 ascends-put_in : (x : Placed) (xs : List Placed) → Ascends xs → AreBelow x.place xs → Ascends (put_in x xs)
 ascends-put_in x [] a u = (tt, tt)
-ascends-put_in x (y ∷ ys) a u =
-    cond_both (passes x y) (x ∷ y ∷ ys) (y ∷ put_in x ys) Ascends (λ e. ((passed x y e, before_passed x y ys e a.0), a))
-    (λ e. (put-all (λ z. stands_before y z ≡ true) x ys (kept x y e u.0) a.0, ascends-put_in x ys a.1 u.1))
+ascends-put_in x (y ∷ ys) a u = grind (arith, nat_tests, ascends-put_in x ys a.1 u.1, before_passed, kept, put-all)
 
 ascends-after : (xs : List Placed) (log : List LogEntry) → Ascends xs → AreBelow (length xs) xs → Ascends (placed_after xs log)
 ascends-after xs [] a u = a
@@ -119,9 +101,7 @@ after-push xs (first ∷ log) entry =
 
 -- the order with one more entry
 pub ordered-push : (log : List LogEntry) (entry : LogEntry) → ordered (log ++ entry ∷ []) ≡ put_in (placed_at (length log) entry) (ordered log)
-ordered-push log entry =
-    let k : 0 + length log ≡ length log = omega arith in
-    after-push [] log entry ∙ ap (λ m. put_in (placed_at m entry) (ordered log)) k
+ordered-push log entry = grind (arith, nat_tests, after-push)
 
 -- each entry of the order is the one at its place in the log
 of-after : (whole : List LogEntry) (xs : List Placed) (log : List LogEntry)
@@ -139,21 +119,15 @@ of-after whole xs (first ∷ log) at s =
     s)
 
 pub ordered-of : (log : List LogEntry) → AreOf log (ordered log)
-ordered-of log =
-    of-after log [] log (λ k entry h. let m : k ≡ 0 + k = omega arith in subst (λ i. slice_get log i ≡ Some entry) m h) tt
+ordered-of log = grind (arith, nat_tests, of-after)
 
 length-after : (xs : List Placed) (log : List LogEntry) → length (placed_after xs log) ≡ length xs + length log
 length-after xs [] = omega arith
-length-after xs (entry ∷ log) =
-    omega (arith, length-after (put_in (placed_at (length xs) entry) xs) log, length-put_in (placed_at (length xs) entry) xs)
+length-after xs (entry ∷ log) = grind (arith, nat_tests, length-after (put_in (placed_at (length xs) entry) xs) log, length-put_in)
 
 -- the order has each entry of the log once, by stamp and then by place
 pub order_of : (log : List LogEntry) → IsOrderOf log (ordered log)
-order_of log = record {
-  entries = ordered-of log;
-  ascends = ordered-ascends log;
-  count = omega (arith, length-after [] log);
-}
+order_of log = grind (arith, nat_tests, length-after, ordered-ascends, ordered-of)
 
 -- each entry is the one at its place in the log, also where the log is longer
 abbrev pub Stand : List LogEntry → List Placed → Type 0
@@ -163,10 +137,7 @@ pub ordered-below : (log : List LogEntry) → AreBelow (length log) (ordered log
 ordered-below log = map-all (λ one. slice_get log one.place ≡ Some one.entry) (λ one. one.place < length log) (λ one e. slice_get_within log one.place one.entry e) (ordered log) (ordered-of log)
 
 pub ordered-stand : (log : List LogEntry) → Stand log (ordered log)
-ordered-stand log =
-    map-all (λ one. slice_get log one.place ≡ Some one.entry) (λ one. get_or log one.place no_entry ≡ one.entry) (λ one e. get_or_from_slice_get log one.place one.entry no_entry e) (ordered log) (ordered-of log)
+ordered-stand log = grind (arith, nat_tests, get_or_from_slice_get, map-all, ordered-of)
 
 pub still-stand : (log : List LogEntry) (entry : LogEntry) → Stand (log ++ entry ∷ []) (ordered log)
-still-stand log entry =
-    map-all (λ one. slice_get log one.place ≡ Some one.entry) (λ one. get_or (log ++ entry ∷ []) one.place no_entry ≡ one.entry)
-    (λ one e. get_or_append_left log (entry ∷ []) no_entry one.place (slice_get_within log one.place one.entry e) ∙ get_or_from_slice_get log one.place one.entry no_entry e) (ordered log) (ordered-of log)
+still-stand log entry = grind (arith, nat_tests, get_or_append_left, get_or_from_slice_get, map-all, ordered-of, slice_get_within)

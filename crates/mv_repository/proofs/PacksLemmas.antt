@@ -1,12 +1,12 @@
 -- What is kept of all packs, by what is kept of those of each product.
 use Rattle.std.specs.Prelude.{◌≡◌, ◌+◌, ◌&&◌}
-use Rattle.mv_repository.proofs.Words.{bytes_eq, ℕ, List, [], length, get_or, take, refl, sym, ◌∙◌, ap, arith, subst, Bool, true, false, Option, Some, None, same_text, list_any, lookup, unwrap_or, Item, Carried, Upload, pack_key, PackKey, LogEntry, uploaded_in, uploaded_packs, has_pack, ShelfTable, kept_on, IsShelfOf, IsUploadOf, no_shelf, shelf_of, no_entry, Life, is_upload_of, is_status_of, life_of, kept_of, track_of, bare, IsKept}
+use Rattle.std.proofs.lemmas.Grind.{common_steps}
+use Rattle.mv_repository.proofs.Words.{bytes_eq, ℕ, List, [], length, get_or, take, refl, sym, ◌∙◌, ap, arith, subst, Bool, true, false, Option, Some, None, same_text, lookup, unwrap_or, Item, pack_key, PackKey, LogEntry, uploaded_in, uploaded_packs, ShelfTable, kept_on, IsShelfOf, IsUploadOf, no_shelf, shelf_of, no_entry, Life, is_upload_of, is_status_of, life_of, kept_of, track_of, bare, IsKept, nat_tests}
 use Rattle.mv_repository.proofs.ListedLemmas.{listed-stay}
 use Rattle.mv_repository.proofs.ShelvesLemmas.{IsShelved, shelves-follow}
 use Rattle.mv_repository.proofs.TableLemmas.{longer, log-split}
 use Rattle.mv_repository.proofs.TrackLemmas.{status-form}
 use Rattle.mv_repository.proofs.UploadLemmas.{upload-form, untouched}
-use Rattle.mv_repository.proofs.UploadedLemmas.{named-longer}
 
 -- a shelf on whose packs the newest entry does not bear
 pub shelf-stays : (whole : List LogEntry) (place : ℕ) → length whole ≡ place + 1 → (gtin : List ℕ) (shelf : ShelfTable)
@@ -19,8 +19,7 @@ shelf-stays whole place l gtin shelf same of = record {
 -- what is kept of a pack, on the shelf of its product if it has one
 pub kept-found : (log : List LogEntry) (shelves : List (List ℕ × ShelfTable)) (pack : PackKey) (shelf : Option ShelfTable) → lookup (bytes_eq pack.gtin) shelves ≡ shelf
     → IsShelfOf log pack.gtin (shelf_of pack.gtin shelves) → bare (kept_on (unwrap_or shelf no_shelf).slots (unwrap_or shelf no_shelf).tracks pack.serial) ≡ track_of pack log
-kept-found log shelves pack shelf e of =
-    ap (λ (o : Option ShelfTable). let shelf = unwrap_or o no_shelf in bare (kept_on shelf.slots shelf.tracks pack.serial)) (sym e) ∙ (of.kept pack.serial).bare
+kept-found log shelves pack shelf e of = grind (arith, nat_tests)
 
 -- the shelves, where add_shelf kept what is on them
 module _ (before : List LogEntry) (start old : List (List ℕ × ShelfTable)) (same : (other : List ℕ) → shelf_of other old ≡ shelf_of other start)
@@ -56,8 +55,7 @@ upload-away whole place gtin serials l upload other serial e =
     entry = get_or whole place no_entry
 
     is : (item : Item) → IsUploadOf item gtin serials → is_upload_of (pack_key other serial) item ≡ false
-    is (Carried k stamp (Upload named batch expiry national packs)) u = (λ i. has_pack (u.0 i) (u.1 i) (pack_key other serial)) ∙ ap (λ t. t && list_any (λ one. bytes_eq one serial) serials) e
-    is _ u = absurd u
+    is item u = grind (arith, nat_tests)
 
 pub status-away : (whole : List LogEntry) (place : ℕ) (pack : PackKey) → length whole ≡ place + 1 → is_status_of pack (get_or whole place no_entry).item ≡ true
     → (other serial : List ℕ) → bytes_eq pack.gtin other ≡ false → life_of (pack_key other serial) whole ≡ life_of (pack_key other serial) (take place whole)
@@ -70,9 +68,7 @@ status-away whole place pack l own other serial e =
 -- an entry that uploads nothing names no pack more
 pub none-named : (log : List LogEntry) (entry : LogEntry) (named : ℕ) → uploaded_in entry.item ≡ [] → named ≡ length (uploaded_packs log) → (whole : List LogEntry) → whole ≡ longer log entry
     → named ≡ length (uploaded_packs whole)
-none-named log entry named none is whole e =
-    let more = named-longer log entry whole e in
-    let zero : length (uploaded_in entry.item) ≡ 0 = ap length none in omega (arith, more, zero, is)
+none-named log entry named none is whole e = grind (arith, nat_tests, common_steps)
 
 -- where a product has no shelf, an entry that bears on no other product bears on no pack
 pub none-follow : (whole : List LogEntry) (place : ℕ) (gtin : List ℕ) (shelves : List (List ℕ × ShelfTable)) → length whole ≡ place + 1

@@ -1,6 +1,6 @@
 -- Lemmas on places in the log, where the entries are in the order of stamps.
 use Rattle.std.specs.Prelude.{◌≡◌, ◌<◌, ◌≤◌, ◌∷◌}
-use Rattle.mv_repository.proofs.Words.{ℕ, zero, suc, List, [], length, map, get_or, insert, take, not, refl, sym, ◌∙◌, ap, arith, nat_tests, Bool, true, false, cond, LogEntry, Placed, passes, stands_before, Ascends, entry_at, put_place, places_before}
+use Rattle.mv_repository.proofs.Words.{ℕ, zero, suc, List, [], length, map, get_or, insert, take, not, refl, arith, nat_tests, Bool, true, false, LogEntry, Placed, passes, stands_before, Ascends, entry_at, put_place, places_before}
 use Rattle.std.specs.List.Sorted.{IsPartitionedBy, IsPartitionPoint}
 use Rattle.mv_repository.proofs.OrderLemmas.{StandsBeforeAll}
 
@@ -10,8 +10,7 @@ before_get log x (j ∷ js) zero d h l = h.0
 before_get log x (j ∷ js) (suc i) d h l = before_get log x js i d h.1 (omega arith)
 
 not_twice : (b c : Bool) → not b ≡ c → b ≡ not c
-not_twice true c e = ap not e
-not_twice false c e = ap not e
+not_twice b c e = grind (arith, nat_tests)
 
 module _ (log : List LogEntry) (new : ℕ) where
   -- the newest does not pass the entry at a place
@@ -31,15 +30,5 @@ module _ (log : List LogEntry) (new : ℕ) where
       → (insert places k new ≡ put_place log new places) × (take k places ≡ places_before log new places)
   place_cut [] zero l c = (refl, refl)
   place_cut [] (suc k) l c = absurd (omega arith)
-  place_cut (p ∷ ps) zero l c =
-      let e : passes (entry_at log new) (entry_at log p) ≡ true = not_twice _ false (c.1 0 0 (omega arith) (omega arith)) in
-      let rest = place_cut ps zero (omega arith) (λ i d h g. absurd (omega (arith, g)), λ i d h g. c.1 (suc i) d (omega arith) (omega arith)) in (
-        sym (ap (λ b. cond b (new ∷ p ∷ ps) (p ∷ put_place log new ps)) e),
-        rest.1 ∙ sym (ap (λ b. cond (not b) (p ∷ places_before log new ps) (places_before log new ps)) e),
-      )
-  place_cut (p ∷ ps) (suc k) l c =
-      let e : passes (entry_at log new) (entry_at log p) ≡ false = not_twice _ true (c.0 0 0 (omega arith) (omega arith)) in
-      let rest = place_cut ps k (omega arith) (λ i d h g. c.0 (suc i) d (omega arith) (omega arith), λ i d h g. c.1 (suc i) d (omega arith) (omega arith)) in (
-        ap (λ (t : List ℕ). p ∷ t) rest.0 ∙ sym (ap (λ b. cond b (new ∷ p ∷ ps) (p ∷ put_place log new ps)) e),
-        ap (λ (t : List ℕ). p ∷ t) rest.1 ∙ sym (ap (λ b. cond (not b) (p ∷ places_before log new ps) (places_before log new ps)) e),
-      )
+  place_cut (p ∷ ps) zero l c = grind (arith, nat_tests, place_cut ps zero (omega arith) (λ i d h g. absurd (omega (arith, g)), λ i d h g. c.1 (suc i) d (omega arith) (omega arith)), not_twice _ false (c.1 0 0 (omega arith) (omega arith)))
+  place_cut (p ∷ ps) (suc k) l c = grind (arith, nat_tests, place_cut ps k (omega arith) (λ i d h g. c.0 (suc i) d (omega arith) (omega arith), λ i d h g. c.1 (suc i) d (omega arith) (omega arith)), not_twice _ true (c.0 0 0 (omega arith) (omega arith)))

@@ -1,6 +1,6 @@
 -- Lemmas on the last master of a code, and on the table that finds it.
 use Rattle.std.specs.Prelude.{◌≡◌, ◌+◌, ◌∷◌}
-use Rattle.mv_repository.proofs.Words.{bytes_eq, ℕ, List, [], length, get_or, take, refl, sym, ◌∙◌, ap, Bool, true, false, cond, cond_both, true≢false, Option, Some, None, IsSome, IfSome, filter, is_some, same_text, filter_map, last_or, cons_option, lookup, option_map, option_and_then, Item, Carried, Master, Product, LogEntry, is_master, product_in, product_at, last_in, comes_late, AreMastersOf, Placed, passes, put_in, ordered, Ascends, product_under, product_of, place_of, no_entry}
+use Rattle.mv_repository.proofs.Words.{bytes_eq, ℕ, List, [], length, get_or, take, refl, sym, ◌∙◌, ap, Bool, true, false, cond, cond_both, true≢false, Option, Some, None, IfSome, filter, same_text, filter_map, last_or, cons_option, lookup, option_map, option_and_then, Item, Carried, Master, Product, LogEntry, is_master, product_in, product_at, last_in, comes_late, AreMastersOf, Placed, passes, put_in, ordered, Ascends, product_under, product_of, place_of, no_entry, arith, nat_tests}
 use Rattle.mv_repository.proofs.OrderLemmas.{still-stand, passes_behind, ordered-ascends, ordered-stand, last-all}
 use Rattle.mv_repository.proofs.TableLemmas.{longer, newest, newest-stands, at-newest, filter-ascends, filter-more, filter-none, filter-stand, found-more}
 
@@ -12,7 +12,7 @@ later x (Some y) = cond (passes x y) (Some y) (Some x)
 -- what passes an entry passes the last behind it
 passed-last : (x y : Placed) (ys : List Placed) → passes x y ≡ true → Ascends (y ∷ ys) → later x (last_or (Some y) ys) ≡ last_or (Some y) ys
 passed-last x y [] e a = ap (λ b. cond b (Some y) (Some x)) e
-passed-last x y (z ∷ zs) e a = passed-last x z zs (passes_behind x y z e a.0.0) a.1
+passed-last x y (z ∷ zs) e a = grind (arith, nat_tests, passed-last x z zs (passes_behind x y z e a.0.0) a.1)
 
 -- the last once one more entry is put in its place, which does not pass what stands in front
 last-put_in : (x : Placed) (last : Option Placed) (xs : List Placed) → IfSome last (λ y. passes x y ≡ false) → Ascends xs → last_or last (put_in x xs) ≡ later x (last_or last xs)
@@ -25,18 +25,11 @@ last-none : (f : Placed → Bool) (log : List LogEntry) (entry : LogEntry) → f
 last-none f log entry h = ap (last_or None) (filter-none f log entry h)
 
 last-some : (f : Placed → Bool) (log : List LogEntry) (entry : LogEntry) → f (newest log entry) ≡ true → last_in (longer log entry) f ≡ later (newest log entry) (last_in log f)
-last-some f log entry h =
-    ap (last_or None) (filter-more f log entry ∙ ap (λ b. cond b (put_in (newest log entry) (filter f (ordered log))) (filter f (ordered log))) h)
-    ∙ last-put_in (newest log entry) None (filter f (ordered log)) tt (filter-ascends f (ordered log) (ordered-ascends log))
+last-some f log entry h = grind (arith, nat_tests, filter-ascends, filter-more, last-put_in, ordered-ascends)
 
 -- the product under a code is that of the last master
 product_is : (gtin : List ℕ) (item : Item) → product_under gtin item ≡ cond (is_master gtin item) (product_in item) None
-product_is gtin (Carried k stamp (Master named product)) = refl
-product_is gtin _ = refl
-
-product_of_master : (gtin : List ℕ) (item : Item) → is_master gtin item ≡ true → IsSome (product_in item)
-product_of_master gtin (Carried k stamp (Master named product)) e = refl
-product_of_master gtin _ e = absurd (true≢false (sym e))
+product_is gtin item = grind (arith, nat_tests)
 
 product_of_last : (gtin : List ℕ) (last : Option Placed) (xs : List Placed)
     → last_or (option_and_then (λ y. product_in y.entry.item) last) (filter_map (λ placed. product_under gtin placed.entry.item) xs)
@@ -58,28 +51,16 @@ product_of_last gtin last (y ∷ ys) =
         → ((o : Option Placed) → last_or (option_and_then (λ y. product_in y.entry.item) o) rest ≡ option_and_then (λ y. product_in y.entry.item) (last_or o masters))
         → last_or known (cons_option (cond b o None) rest)
         ≡ option_and_then (λ y. product_in y.entry.item) (last_or last (cond b (y ∷ masters) masters))
-    by true h (Some product) e r = ap (λ (o : Option Product). last_or o rest) (sym e) ∙ r (Some y)
-    by true h None e r = absurd (true≢false (sym (product_of_master gtin y.entry.item h) ∙ ap is_some e))
-    by false h o e r = r last
+    by b h o e r = grind (arith, nat_tests)
 
 -- what the table finds is the last master
 pub product_found : (log : List LogEntry) (masters : List (List ℕ × ℕ)) (gtin : List ℕ) → AreMastersOf log masters → option_and_then (product_at log) (lookup (bytes_eq gtin) masters) ≡ product_of log gtin
-product_found log masters gtin places =
-    ap (option_and_then (product_at log)) (places gtin)
-    ∙ by (last_in log (λ placed. is_master gtin placed.entry.item)) (last-all (λ y. get_or log y.place no_entry ≡ y.entry) None (filter (λ placed. is_master gtin placed.entry.item) (ordered log)) tt
-    (filter-stand (λ placed. is_master gtin placed.entry.item) log (ordered log) (ordered-stand log)))
-    ∙ sym (product_of_last gtin None (ordered log))
-  where
-    by : (o : Option Placed) → IfSome o (λ y. get_or log y.place no_entry ≡ y.entry)
-        → option_and_then (product_at log) (option_map place_of o) ≡ option_and_then (λ (y : Placed). product_in y.entry.item) o
-    by None p = refl
-    by (Some z) p = ap (λ (entry : LogEntry). product_in entry.item) p
+product_found log masters gtin places = grind (arith, nat_tests, last-all (λ y. get_or log y.place no_entry ≡ y.entry) None (filter (λ placed. is_master gtin placed.entry.item) (ordered log)) tt (filter-stand (λ placed. is_master gtin placed.entry.item) log (ordered log) (ordered-stand log)), product_of_last gtin None (ordered log))
 
 -- an entry that is no master leaves the table as it should be
 pub masters-noted : (log : List LogEntry) (masters : List (List ℕ × ℕ)) (entry : LogEntry) → AreMastersOf log masters
     → ((gtin : List ℕ) → is_master gtin entry.item ≡ false) → AreMastersOf (longer log entry) masters
-masters-noted log masters entry places none gtin =
-    places gtin ∙ ap (option_map place_of) (sym (last-none (λ placed. is_master gtin placed.entry.item) log entry (none gtin)))
+masters-noted log masters entry places none gtin = grind (arith, nat_tests, last-none)
 
 master_names : (gtin : List ℕ) (item : Item) → is_master gtin item ≡ true → (other : List ℕ) → is_master other item ≡ bytes_eq gtin other
 master_names gtin (Carried k stamp (Master named product)) e other = ap (λ (g : List ℕ). bytes_eq g other) (same_text named gtin (sym e))
@@ -101,10 +82,7 @@ masters-more log entry gtin masters masters' own places now looks is =
 
     by : (o : Option Placed) → IfSome o (λ y. get_or (longer log entry) y.place no_entry ≡ y.entry)
         → cond (comes_late (longer log entry) (length log) (option_map place_of o)) (option_map place_of o) (Some (length log)) ≡ option_map place_of (later (newest log entry) o)
-    by None s = refl
-    by (Some y) s =
-        (λ i. cond (passes (record { place = length log; entry = newest-stands log entry i }) (record y { entry = s i })) (Some y.place) (Some (length log)))
-        ∙ elim (passes (newest log entry) y) as (λ b. cond b (Some y.place) (Some (length log)) ≡ option_map place_of (cond b (Some y) (Some (newest log entry)))) [ true ↦ refl | false ↦ refl ]
+    by o s = grind (arith, nat_tests, newest-stands)
 
 -- the same by the place of the newest entry
 module _ (whole : List LogEntry) (place : ℕ) (masters : List (List ℕ × ℕ)) (gtin : List ℕ) (l : length whole ≡ place + 1)

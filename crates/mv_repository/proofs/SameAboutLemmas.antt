@@ -1,6 +1,7 @@
 -- Two logs with distinct stamps that have the same messages about a pack have them in the same order.
-use Rattle.std.specs.Prelude.{◌≡◌, ◌<◌, ◌∷◌, ◌&&◌, ◌||◌, ◌==◌, ◌⊎◌}
-use Rattle.mv_repository.proofs.Words.{ℕ, zero, suc, List, [], length, get_or, refl, sym, ◌∙◌, ap, subst, arith, Bool, true, false, cond, nat_lt, Option, Some, filter, inl, inr, ⊤, Contains, option_and_then, slice_get, nat_tests, ltb-true, PackKey, Message, Item, Receipt, Carried, LogEntry, slice_get_within, get_or_from_slice_get, slice_get-get_or, AllByRecursion, cons_option, None, Placed, ordered, put_in, stands_before, Ascends, Sent, sent_in, sent_by, bears_on, about, AgreeOn, HasDistinctStamps, HaveSameAbout, HaveSameEntries}
+use Rattle.std.specs.Prelude.{◌≡◌, ◌<◌, ◌∷◌, ◌⊎◌}
+use Rattle.std.proofs.lemmas.Grind.{common_steps}
+use Rattle.mv_repository.proofs.Words.{ℕ, zero, suc, List, [], length, refl, sym, ◌∙◌, ap, subst, arith, Bool, true, false, cond, Option, Some, filter, inl, inr, ⊤, Contains, slice_get, nat_tests, PackKey, Message, Item, Carried, LogEntry, slice_get_within, get_or_from_slice_get, slice_get-get_or, AllByRecursion, cons_option, None, Placed, ordered, put_in, stands_before, Ascends, Sent, sent_in, sent_by, bears_on, about, AgreeOn, HasDistinctStamps, HaveSameAbout, HaveSameEntries}
 use Rattle.std.proofs.lemmas.List.Elements.{All-contains, All-from_recursion}
 use Rattle.std.proofs.lemmas.List.Sorted.{Contains-permutation}
 use Rattle.mv_repository.specs.Agreement.{batch_in}
@@ -26,11 +27,7 @@ module _ {A : Type 0} where
   contains-there x y ys c = (suc c.0, omega (arith, c.1), c.2)
 
   contains-either : (x y : A) (ys : List A) → Contains (y ∷ ys) x → (y ≡ x) ⊎ Contains ys x
-  contains-either x y ys c = by c.0 c.1 c.2
-    where
-      by : (k : ℕ) → k < length (y ∷ ys) → get_or (y ∷ ys) k x ≡ x → (y ≡ x) ⊎ Contains ys x
-      by zero l e = inl e
-      by (suc k) l e = inr (k, omega (arith, l), e)
+  contains-either x y ys c = grind (arith, nat_tests)
 
   contains-none : (x : A) → Contains [] x → ⊥
   contains-none x c = omega (arith, c.1)
@@ -43,22 +40,11 @@ above-member : (stamp : ℕ) (x : Sent) (ys : List Sent) → AllAbove stamp ys �
 above-member stamp x ys above c = of-all (λ one. stamp < one.stamp) ys x above c
 
 first-same : (x y : Sent) (xs ys : List Sent) → Increases (x ∷ xs) → Increases (y ∷ ys) → Contains (y ∷ ys) x → Contains (x ∷ xs) y → x ≡ y
-first-same x y xs ys p q a b =
-    elim (contains-either x y ys a) as (λ _. x ≡ y) [
-      | inl same ↦ sym same
-      | inr later ↦ elim (contains-either y x xs b) as (λ _. x ≡ y) [
-        | inl same ↦ same
-        | inr after ↦ absurd (omega (arith, above-member y.stamp x ys q.0 later, above-member x.stamp y xs p.0 after))
-      ]
-    ]
+first-same x y xs ys p q a b = grind (arith, nat_tests, common_steps)
 
 -- a member behind the first is one behind the first of the other
 rest-member : (x y z : Sent) (xs ys : List Sent) → x ≡ y → AllAbove x.stamp xs → Contains xs z → Contains (y ∷ ys) z → Contains ys z
-rest-member x y z xs ys same above c d =
-    elim (contains-either z y ys d) as (λ _. Contains ys z) [
-      | inl first ↦ absurd (let less : x.stamp < z.stamp = above-member x.stamp z xs above c in let equal : x.stamp ≡ z.stamp = ap (λ (s : Sent). s.stamp) (same ∙ first) in omega (arith, less, equal))
-      | inr later ↦ later
-    ]
+rest-member x y z xs ys same above c d = grind (arith, nat_tests, above-member x.stamp z xs above c)
 
 same-order : (xs ys : List Sent) → Increases xs → Increases ys → ((x : Sent) → Contains xs x → Contains ys x) → ((x : Sent) → Contains ys x → Contains xs x) → xs ≡ ys
 same-order [] [] p q f g = refl
@@ -76,19 +62,8 @@ increases-filter : (f : Sent → Bool) (xs : List Sent) → Increases xs → Inc
 increases-filter f [] a = tt
 increases-filter f (x ∷ xs) a = elim (f x) as (λ b. Increases (cond b (x ∷ filter f xs) (filter f xs))) [ true ↦ (filter-all (λ one. x.stamp < one.stamp) f xs a.0, increases-filter f xs a.1) | false ↦ increases-filter f xs a.1 ]
 
--- of two stamps, where equal ones would stand at one place
-less-stamp : (a b m n : ℕ) → (nat_lt a b || ((a == b) && nat_lt m n)) ≡ true → (a ≡ b → m ≡ n) → a < b
-less-stamp a b m n e same = by (nat_lt a b) refl
-  where
-    by : (p : Bool) → nat_lt a b ≡ p → a < b
-    by true p = ltb-true a b p
-    by false p =
-        let equal : a ≡ b = grind (arith, nat_tests) in
-        let less : m < n = grind (arith, nat_tests) in
-        absurd (omega (arith, less, same equal))
-
 stamp-there : (log : List LogEntry) (x : Placed) → slice_get log x.place ≡ Some x.entry → stamp_at log x.place ≡ stamp_in x.entry.item
-stamp-there log x there = ap (option_and_then (λ (entry : LogEntry). stamp_in entry.item)) there
+stamp-there log x there = grind (arith, nat_tests)
 
 above-behind : (log : List LogEntry) (place sender k stamp : ℕ) (message : Message) (xs : List Placed) → HasNoStampTwice log → stamp_at log place ≡ Some stamp
     → StandsBeforeAll (record { place = place; entry = record { sender = sender; item = Carried k stamp message } }) xs → AreOf log xs → AllAbove stamp (sent_by xs)
@@ -99,9 +74,7 @@ above-behind log place sender k stamp message (x ∷ xs) distinct there before o
     by : (item : Item) → stands_before (record { place = place; entry = record { sender = sender; item = Carried k stamp message } }) (record { place = x.place; entry = record { sender = x.entry.sender; item = item } }) ≡ true
         → stamp_at log x.place ≡ stamp_in item → AllAbove stamp (sent_by xs)
         → AllAbove stamp (sent_by (record { place = x.place; entry = record { sender = x.entry.sender; item = item } } ∷ xs))
-    by (Receipt l reach query) less at rest = rest
-    by (Carried l later sent) less at rest =
-        (less-stamp stamp later place x.place less (λ same. distinct place x.place stamp there (at ∙ ap Some (sym same))), rest)
+    by item less at rest = grind (arith, nat_tests)
 
 increases-by : (log : List LogEntry) (xs : List Placed) → HasNoStampTwice log → Ascends xs → AreOf log xs → Increases (sent_by xs)
 increases-by log [] distinct ascends of = tt
@@ -110,19 +83,13 @@ increases-by log (x ∷ xs) distinct ascends of = by x.entry.item ascends.0 (sta
     by : (item : Item) → StandsBeforeAll (record { place = x.place; entry = record { sender = x.entry.sender; item = item } }) xs
         → stamp_at log x.place ≡ stamp_in item → Increases (sent_by xs)
         → Increases (sent_by (record { place = x.place; entry = record { sender = x.entry.sender; item = item } } ∷ xs))
-    by (Receipt k reach query) before at rest = rest
-    by (Carried k stamp message) before at rest = (above-behind log x.place x.entry.sender k stamp message xs distinct at before of.1, rest)
+    by item before at rest = grind (arith, nat_tests, above-behind)
 
 about-increases : (pack : PackKey) (log : List LogEntry) → HasDistinctStamps log → Increases (about pack log)
-about-increases pack log distinct =
-    increases-filter (λ sent. bears_on pack (batch_in pack log) sent.message) (sent_by (ordered log))
-    (increases-by log (ordered log) (not-twice log distinct) (ordered-ascends log) (ordered-of log))
+about-increases pack log distinct = grind (arith, nat_tests, increases-by, increases-filter, not-twice, ordered-ascends, ordered-of)
 
 pub same_about : (pack : PackKey) (one other : List LogEntry) → HasDistinctStamps one → HasDistinctStamps other → HaveSameAbout pack one other → AgreeOn pack one other
-same_about pack one other distinct apart same =
-    agree pack one other
-    (same-order (about pack one) (about pack other) (about-increases pack one distinct) (about-increases pack other apart)
-    (λ sent. (same sent).0) (λ sent. (same sent).1))
+same_about pack one other distinct apart same = grind (arith, nat_tests, agree pack one other (same-order (about pack one) (about pack other) (about-increases pack one distinct) (about-increases pack other apart) (λ sent. (same sent).0) (λ sent. (same sent).1)))
 
 -- the message that a placed entry carries
 abbrev sent_of : Placed → Option Sent
@@ -146,7 +113,7 @@ came placed (first ∷ log) (suc i) entry at = came (put_in (record { place = le
 
 -- the messages that entries carry, one by one
 sent-in : (xs : List Placed) (x : Placed) (sent : Sent) → Contains xs x → sent_of x ≡ Some sent → Contains (sent_by xs) sent
-sent-in [] x sent c e = absurd (contains-none x c)
+sent-in [] x sent c e = grind (arith, nat_tests)
 sent-in (y ∷ ys) x sent c e =
     elim (contains-either x y ys c) as (λ _. Contains (sent_by (y ∷ ys)) sent) [
       | inl same ↦ subst (λ (o : Option Sent). Contains (cons_option o (sent_by ys)) sent) (sym (ap sent_of same ∙ e)) (contains-here sent (sent_by ys))
@@ -158,14 +125,12 @@ sent-in (y ∷ ys) x sent c e =
     behind (Some first) c = contains-there sent first (sent_by ys) c
 
 sent-out : (xs : List Placed) (sent : Sent) → Contains (sent_by xs) sent → (x : Placed) × Contains xs x × (sent_of x ≡ Some sent)
-sent-out [] sent c = absurd (contains-none sent c)
+sent-out [] sent c = grind (arith, nat_tests)
 sent-out (y ∷ ys) sent c = by (sent_of y) refl (λ d. let r = sent-out ys sent d in (r.0, contains-there r.0 y ys r.1, r.2)) c
   where
     by : (o : Option Sent) → sent_of y ≡ o → (Contains (sent_by ys) sent → (x : Placed) × Contains (y ∷ ys) x × (sent_of x ≡ Some sent))
         → Contains (cons_option o (sent_by ys)) sent → (x : Placed) × Contains (y ∷ ys) x × (sent_of x ≡ Some sent)
-    by None e rest c = rest c
-    by (Some first) e rest c =
-        elim (contains-either sent first (sent_by ys) c) as (λ _. (x : Placed) × Contains (y ∷ ys) x × (sent_of x ≡ Some sent)) [ inl same ↦ (y, contains-here y ys, e ∙ ap Some same) | inr later ↦ rest later ]
+    by o e rest c = grind (arith, nat_tests)
 
 -- each entry of one log is in another: so each of its messages stands in the order of that
 sent-also : (one other : List LogEntry) (sent : Sent) → ((entry : LogEntry) → Contains one entry → Contains other entry)

@@ -1,6 +1,6 @@
 -- Lemmas on the stamps of a log: they are distinct where none stands at two places.
 use Rattle.std.specs.Prelude.{◌≡◌, ◌∷◌}
-use Rattle.mv_repository.proofs.Words.{ℕ, zero, suc, List, [], refl, sym, ◌∙◌, ap, arith, Bool, true, false, nat_eq, Option, Some, None, filter_map, AllByRecursion, IsDistinct, option_map, option_and_then, slice_get, nat_tests, Item, Receipt, Carried, LogEntry, Sent, sent_in, HasDistinctStamps}
+use Rattle.mv_repository.proofs.Words.{ℕ, suc, List, [], refl, ap, arith, true, false, nat_eq, Option, Some, None, filter_map, AllByRecursion, IsDistinct, option_map, option_and_then, slice_get, nat_tests, Item, Receipt, Carried, LogEntry, Sent, sent_in, HasDistinctStamps}
 
 -- the stamp of an item that was carried, and of the one at a place of a log
 abbrev pub stamp_in : Item → Option ℕ
@@ -20,15 +20,8 @@ stamps_of log = filter_map (λ entry. option_map (λ (sent : Sent). sent.stamp) 
 same : (a b : ℕ) → nat_eq a b ≡ true → a ≡ b
 same a b e = grind (arith, nat_tests)
 
-not-same : (a b : ℕ) → nat_eq a b ≡ false → b ≡ a → ⊥
-not-same a b e h = grind (arith, nat_tests)
-
 apart : (a b : ℕ) → (b ≡ a → ⊥) → nat_eq a b ≡ false
-apart a b other = by (nat_eq a b) refl
-  where
-    by : (c : Bool) → nat_eq a b ≡ c → c ≡ false
-    by true e = absurd (other (sym (same a b e)))
-    by false e = refl
+apart a b other = grind (arith, nat_tests)
 
 -- an entry with its item
 abbrev with : LogEntry → Item → LogEntry
@@ -37,14 +30,7 @@ with entry item = record { sender = entry.sender; item = item }
 -- a stamp that is none of a log's stands at no place of it
 nowhere : (stamp : ℕ) (log : List LogEntry) → AllByRecursion (λ other. nat_eq stamp other ≡ false) (stamps_of log) → (place : ℕ) → stamp_at log place ≡ Some stamp → ⊥
 nowhere stamp [] all place at = absurd (cc)
-nowhere stamp (entry ∷ log) all place at = by entry.item (nowhere stamp log) all place at
-  where
-    by : (item : Item) → (AllByRecursion (λ other. nat_eq stamp other ≡ false) (stamps_of log) → (place : ℕ) → stamp_at log place ≡ Some stamp → ⊥)
-        → AllByRecursion (λ other. nat_eq stamp other ≡ false) (stamps_of (with entry item ∷ log)) → (place : ℕ) → stamp_at (with entry item ∷ log) place ≡ Some stamp → ⊥
-    by (Receipt k reach query) later all zero at = absurd (cc)
-    by (Receipt k reach query) later all (suc place) at = later all place at
-    by (Carried k other message) later all zero at = not-same stamp other all.0 (cc at)
-    by (Carried k other message) later all (suc place) at = later all.1 place at
+nowhere stamp (entry ∷ log) all place at = grind (arith, nat_tests, nowhere stamp log)
 
 none : (stamp : ℕ) (log : List LogEntry) → ((place : ℕ) → stamp_at log place ≡ Some stamp → ⊥) → AllByRecursion (λ other. nat_eq stamp other ≡ false) (stamps_of log)
 none stamp [] h = tt
@@ -64,13 +50,7 @@ not-twice (entry ∷ log) distinct first second stamp a b = by entry.item (λ ap
     by : (item : Item) → (IsDistinct nat_eq (stamps_of log) → (i j : ℕ) → stamp_at log i ≡ Some stamp → stamp_at log j ≡ Some stamp → i ≡ j)
         → IsDistinct nat_eq (stamps_of (with entry item ∷ log)) → (first second : ℕ)
         → stamp_at (with entry item ∷ log) first ≡ Some stamp → stamp_at (with entry item ∷ log) second ≡ Some stamp → first ≡ second
-    by (Receipt k reach query) later distinct zero second a b = absurd (cc)
-    by (Receipt k reach query) later distinct (suc first) zero a b = absurd (cc)
-    by (Receipt k reach query) later distinct (suc first) (suc second) a b = ap suc (later distinct first second a b)
-    by (Carried k own message) later distinct zero zero a b = refl
-    by (Carried k own message) later distinct zero (suc second) a b = absurd (nowhere own log distinct.0 second (b ∙ sym a))
-    by (Carried k own message) later distinct (suc first) zero a b = absurd (nowhere own log distinct.0 first (a ∙ sym b))
-    by (Carried k own message) later distinct (suc first) (suc second) a b = ap suc (later distinct.1 first second a b)
+    by item later distinct first second a b = grind (arith, nat_tests, nowhere)
 
 -- and where none does they are distinct
 pub distinct-stamps : (log : List LogEntry) → HasNoStampTwice log → HasDistinctStamps log

@@ -1,15 +1,15 @@
 -- What a recall and a withdrawal do: their effects, the tables that find the first, and the packs on which they bear.
 use Rattle.std.specs.Prelude.{◌&&◌, ◌+◌, ◌∷◌, ◌≡◌}
-use Rattle.mv_repository.proofs.Words.{arith, nat_tests, bytes_eq, Bool, IfSome, None, Option, Some, [], ap, cond, false, find, get_or, length, not, refl, sym, take, true, true≢false, ℕ, ◌∙◌, List, same_text, list_any, keys_of, lookup, option_map, option_map_or, insert_key, Item, Carried, Upload, Status, Recall, Withdraw, batch_key, is_same_batch, pack_key, BatchKey, PackKey, LogEntry, Slot, Own, recalled_in, uploaded_in, effect_after, effect_of, entries_before, lasting_effect, AreListed, ListingTable, batch_at, lists, is_master, Placed, ordered, passes, stands_before, KnownPack, change_effect, is_active, is_done, is_recall_of, is_recalled_by, is_withdrawal_of, is_withdrawn_by, NamesNone, change_in, effect_by, effect_on, next_by, pack_made_by, standing_in, withdrawn_in, AreFirstsOf, AreStopsOf, FirstStops, StopTables, comes_first, earlier_place, first_place, first_stops, is_before, is_stop, no_entry, place_of, standing_at, stopped_product, first_upload, is_status_of, is_upload_of, life_of, statuses_of, track_of, Effect, BatchStanding, Stop}
+use Rattle.std.proofs.lemmas.Grind.{common_steps}
+use Rattle.mv_repository.proofs.Words.{arith, nat_tests, bytes_eq, Bool, IfSome, Option, Some, [], ap, cond, false, find, get_or, length, not, refl, sym, take, true, true≢false, ℕ, ◌∙◌, List, same_text, list_any, keys_of, lookup, option_map, insert_key, Item, Carried, Recall, Withdraw, batch_key, is_same_batch, pack_key, BatchKey, PackKey, LogEntry, Slot, Own, recalled_in, uploaded_in, effect_after, effect_of, entries_before, lasting_effect, AreListed, ListingTable, batch_at, lists, is_master, Placed, ordered, KnownPack, is_recall_of, is_recalled_by, is_withdrawal_of, is_withdrawn_by, NamesNone, next_by, pack_made_by, withdrawn_in, AreFirstsOf, AreStopsOf, FirstStops, StopTables, comes_first, earlier_place, first_place, first_stops, is_stop, no_entry, place_of, standing_at, stopped_product, first_upload, is_status_of, is_upload_of, life_of, statuses_of, track_of, Stop}
 use Rattle.mv_repository.specs.Listing.{batch_in}
 use Rattle.mv_repository.proofs.BeforeLemmas.{any-before}
 use Rattle.mv_repository.proofs.KeptLemmas.{same_batch, batch-self, text-self}
 use Rattle.mv_repository.proofs.OrderLemmas.{ordered-ascends, ordered-below, ordered-stand, still-stand}
 use Rattle.mv_repository.proofs.StateLemmas.{find-stand}
 use Rattle.mv_repository.proofs.StoppedLemmas.{once-one, one-recall, one-withdrawal}
-use Rattle.mv_repository.proofs.TableLemmas.{at-newest, earlier, filter-none, find-more, find-none, find-some, log-split, longer, newest, newest-stands, recalls-stay, withdrawals-stay, found-more}
+use Rattle.mv_repository.proofs.TableLemmas.{at-newest, earlier, filter-none, find-more, find-none, find-some, log-split, longer, newest, newest-stands, recalls-stay, withdrawals-stay}
 use Rattle.mv_repository.proofs.UploadedLemmas.{first-effect}
-use Rattle.mv_repository.specs.declared.effect.Effect.TheVariants as effects
 use Rattle.mv_repository.specs.declared.stops.Stop.TheVariants as stops
 
 -- an item names no pack, and no master
@@ -21,30 +21,21 @@ NoMaster item = (gtin : List ℕ) → is_master gtin item ≡ false
 
 recall-form : (key : BatchKey) (item : Item) → is_recall_of key item ≡ true
     → ((batch : BatchKey) → is_recall_of batch item ≡ is_same_batch key batch) × ((gtin : List ℕ) → is_withdrawal_of gtin item ≡ false) × NoPack item × NoMaster item
-recall-form key (Carried k stamp (Recall named at)) e =
-    (λ batch. ap (λ (q : BatchKey). is_same_batch q batch) (same_batch named key e), λ gtin. refl, (λ pack. (refl, refl), refl), λ code. refl)
+recall-form key (Carried k stamp (Recall named at)) e = grind (arith, nat_tests, same_batch named key e)
 recall-form key _ e = absurd (true≢false (sym e))
 
 withdrawal-form : (gtin : List ℕ) (item : Item) → is_withdrawal_of gtin item ≡ true
     → ((code : List ℕ) → is_withdrawal_of code item ≡ bytes_eq gtin code) × ((batch : BatchKey) → is_recall_of batch item ≡ false) × NoPack item × NoMaster item
-withdrawal-form gtin (Carried k stamp (Withdraw named at)) e =
-    (λ code. ap (λ (g : List ℕ). bytes_eq g code) (same_text named gtin (sym e)), λ batch. refl, (λ pack. (refl, refl), refl), λ code. refl)
+withdrawal-form gtin (Carried k stamp (Withdraw named at)) e = grind (arith, nat_tests, same_text named gtin (sym e))
 withdrawal-form gtin _ e = absurd (true≢false (sym e))
 
 pub stop-form : (stop : Stop) (item : Item) → is_stop stop item ≡ true → NoPack item × NoMaster item
-stop-form (stops.Recall batch) item e = let form = recall-form batch.now item e in (form.2, form.3)
-stop-form (stops.Withdrawal gtin) item e = let form = withdrawal-form gtin.now item e in (form.2, form.3)
+stop-form stop item e = grind (arith, nat_tests)
 
 -- the effect of what holds for ever is by the first of its kind
 lasting : (f : Placed → Bool) (log : List LogEntry) (entry : LogEntry) (place : Option ℕ) (first : Bool) → place ≡ option_map place_of (find f (ordered log))
     → first ≡ comes_first (longer log entry) (length log) place → lasting_effect (not first) ≡ lasting_effect (list_any f (entries_before log entry))
-lasting f log entry place first e h =
-    ap (λ b. lasting_effect (not b)) (h ∙ first-effect f log entry place e)
-    ∙ twice (is_before (find f (ordered log)) (newest log entry))
-    ∙ ap lasting_effect (sym (any-before f (newest log entry) (ordered log) (ordered-ascends log) (ordered-below log)))
-  where
-    twice : (b : Bool) → lasting_effect (not (not b)) ≡ lasting_effect b
-    twice b = grind (arith, nat_tests)
+lasting f log entry place first e h = grind (arith, nat_tests, any-before f (newest log entry) (ordered log) (ordered-ascends log) (ordered-below log), first-effect)
 
 stop-effect : (log : List LogEntry) (entry : LogEntry) (tables : StopTables) (stop : Stop) (first : Bool) → AreStopsOf log tables → is_stop stop entry.item ≡ true
     → first ≡ comes_first (longer log entry) (length log) (first_place stop tables) → lasting_effect (not first) ≡ effect_of log entry
@@ -68,10 +59,7 @@ find-later f log entry e = find-more f log entry ∙ by (f (newest log entry)) (
   where
     by : (b : Bool) (o : Option Placed) → IfSome o (λ y. get_or (longer log entry) y.place no_entry ≡ y.entry) → comes_first (longer log entry) (length log) (option_map place_of o) ≡ false
         → cond b (earlier (newest log entry) o) o ≡ o
-    by false o s e = refl
-    by true None s e = absurd (true≢false e)
-    by true (Some y) s e =
-        ap (λ b. cond b (Some (newest log entry)) (Some y)) (sym (λ i. passes (record { place = length log; entry = newest-stands log entry i }) (record y { entry = s i })) ∙ e)
+    by b o s e = grind (arith, nat_tests, newest-stands)
 
 -- one more of a kind of which each item has one key
 module _ {K : Type 0} (same : K → K → Bool) (is_of : K → Item → Bool) (keys_in : Item → List K) (log : List LogEntry) (entry : LogEntry) (places : List (K × ℕ)) (key : K)
@@ -79,23 +67,13 @@ module _ {K : Type 0} (same : K → K → Bool) (is_of : K → Item → Bool) (k
   -- where it is not the first under its key, it leaves the first under each
   first-later : comes_first (longer log entry) (length log) (lookup (same key) places) ≡ false
       → (k : K) → find (λ placed. is_of k placed.entry.item) (ordered (longer log entry)) ≡ find (λ placed. is_of k placed.entry.item) (ordered log)
-  first-later e k = by (same key k) refl
-    where
-      by : (b : Bool) → same key k ≡ b → find (λ placed. is_of k placed.entry.item) (ordered (longer log entry)) ≡ find (λ placed. is_of k placed.entry.item) (ordered log)
-      by true h = find-later (λ placed. is_of k placed.entry.item) log entry
-          (ap (comes_first (longer log entry) (length log)) (sym (firsts.found k) ∙ ap (λ (c : K). lookup (same c) places) (sym (one k h))) ∙ e)
-      by false h = find-none (λ placed. is_of k placed.entry.item) log entry (names k ∙ h)
+  first-later e k = grind (arith, nat_tests, find-later, find-none, same)
 
   -- the table has the earlier of it and the first so far
   firsts-more : (places' : List (K × ℕ)) → keys_in entry.item ≡ key ∷ []
       → ((k : K) → lookup (same k) places' ≡ cond (same key k) (earlier_place (longer log entry) (length log) (lookup (same key) places)) (lookup (same k) places))
       → keys_of places' ≡ insert_key same (keys_of places) key → AreFirstsOf same is_of keys_in (longer log entry) places'
-  firsts-more places' own looks keys = record {
-    found = found-more same is_of log entry (λ test. find test (ordered log)) (λ test. find test (ordered (longer log entry))) key one names (λ test none. find-none test log entry none) places places'
-        (earlier_place (longer log entry) (length log) (lookup (same key) places)) looks
-        (ap (earlier_place (longer log entry) (length log)) (firsts.found key) ∙ sym (find-some (λ placed. is_of key placed.entry.item) log entry (names key ∙ self))) firsts.found;
-    keys = keys ∙ ap (λ (l : List K). insert_key same l key) firsts.keys ∙ sym (once-one same (λ (one : LogEntry). keys_in one.item) log entry key own);
-  }
+  firsts-more places' own looks keys = grind (arith, nat_tests, find-none, find-some, longer, once-one, same)
 
 stop-later : (log : List LogEntry) (entry : LogEntry) (tables : StopTables) (stop : Stop) → AreStopsOf log tables → is_stop stop entry.item ≡ true
     → comes_first (longer log entry) (length log) (first_place stop tables) ≡ false → first_stops (ordered (longer log entry)) ≡ first_stops (ordered log)
@@ -117,25 +95,8 @@ abbrev IsSameFor : FirstStops → FirstStops → List ℕ → Option Placed → 
 IsSameFor stops stops' gtin birth =
     IfSome birth (λ (first : Placed). IfSome (pack_made_by first.entry.item) (λ (made : KnownPack). (x : Placed) → standing_at stops' x (batch_key gtin made.batch) ≡ standing_at stops x (batch_key gtin made.batch)))
 
-effect-same : (stops stops' : FirstStops) (gtin : List ℕ) (birth by x : Placed) → IsSameFor stops stops' gtin (Some birth)
-    → effect_on stops' gtin (Some birth) by x ≡ effect_on stops gtin (Some birth) by x
-effect-same stops stops' gtin birth by x same = ap (λ (e : Effect). cond (stands_before birth x) e effects.Unknown) (made (pack_made_by birth.entry.item) same)
-  where
-    item : (held : KnownPack) → standing_at stops' x (batch_key gtin held.batch) ≡ standing_at stops x (batch_key gtin held.batch) → (i : Item)
-        → effect_by (standing_at stops' x) x.entry.sender i gtin held ≡ effect_by (standing_at stops x) x.entry.sender i gtin held
-    item held e (Carried k stamp (Status key to user at)) = ap (λ (s : BatchStanding). change_effect held s to x.entry.sender user at) e
-    item held e _ = refl
-
-    made : (o : Option KnownPack) → IfSome o (λ (made : KnownPack). (x : Placed) → standing_at stops' x (batch_key gtin made.batch) ≡ standing_at stops x (batch_key gtin made.batch))
-        → option_map_or (effect_by (standing_at stops' x) x.entry.sender x.entry.item gtin) (option_map (λ (made : KnownPack). record made { standing = standing_in by.entry.item; change = change_in by.place by.entry.sender by.entry.item }) o) effects.Unknown
-        ≡ option_map_or (effect_by (standing_at stops x) x.entry.sender x.entry.item gtin) (option_map (λ (made : KnownPack). record made { standing = standing_in by.entry.item; change = change_in by.place by.entry.sender by.entry.item }) o) effects.Unknown
-    made None s = refl
-    made (Some one) s = item (record one { standing = standing_in by.entry.item; change = change_in by.place by.entry.sender by.entry.item }) (s x) x.entry.item
-
 next-same : (stops stops' : FirstStops) (gtin : List ℕ) (birth : Option Placed) (by x : Placed) → IsSameFor stops stops' gtin birth → next_by stops' gtin birth by x ≡ next_by stops gtin birth by x
-next-same stops stops' gtin None by x same = refl
-next-same stops stops' gtin (Some birth) by x same =
-    ap (λ (e : Effect). cond (is_done e) (cond (is_active (standing_in x.entry.item)) birth x) by) (effect-same stops stops' gtin birth by x same)
+next-same stops stops' gtin birth by x same = grind (arith, nat_tests)
 
 -- an entry that names no pack, withdraws not the product of a pack, and recalls not its batch
 elsewhere : (log : List LogEntry) (entry : LogEntry) (pack : PackKey) → NamesNone pack entry.item → is_withdrawal_of pack.gtin entry.item ≡ false
@@ -159,20 +120,15 @@ elsewhere log entry pack names withdrawal recall =
     before = first_stops (ordered log)
 
     stand : (number : List ℕ) → is_recall_of (batch_key pack.gtin number) entry.item ≡ false → (x : Placed) → standing_at now x (batch_key pack.gtin number) ≡ standing_at before x (batch_key pack.gtin number)
-    stand number e x = λ i. record {
-      recalled = is_before (find-none (λ placed. is_recall_of (batch_key pack.gtin number) placed.entry.item) log entry e i) x;
-      withdrawn = is_before (find-none (λ placed. is_withdrawal_of pack.gtin placed.entry.item) log entry withdrawal i) x;
-    }
+    stand number e x = grind (arith, nat_tests, find-none)
 
     made : (item : Item) → ((batch : List ℕ) → batch_in item ≡ Some batch → is_recall_of (batch_key pack.gtin batch) entry.item ≡ false)
         → IfSome (pack_made_by item) (λ (made : KnownPack). (x : Placed) → standing_at now x (batch_key pack.gtin made.batch) ≡ standing_at before x (batch_key pack.gtin made.batch))
-    made (Carried k stamp (Upload gtin batch expiry national serials)) e = stand batch (e batch refl)
-    made _ e = tt
+    made item e = grind (arith, nat_tests, stand)
 
     same : (birth : Option Placed) → IfSome birth (λ placed. get_or log placed.place no_entry ≡ placed.entry)
         → ((b : ℕ) (batch : List ℕ) → option_map place_of birth ≡ Some b → batch_at log b ≡ Some batch → is_recall_of (batch_key pack.gtin batch) entry.item ≡ false) → IsSameFor before now pack.gtin birth
-    same None s h = tt
-    same (Some placed) s h = made placed.entry.item (λ batch e. h placed.place batch refl (ap (λ (e : LogEntry). batch_in e.item) s ∙ e))
+    same birth s h = grind (arith, nat_tests, made)
 
 -- the newest entry, by its place
 module _ (whole : List LogEntry) (place : ℕ) (l : length whole ≡ place + 1) where
@@ -184,13 +140,11 @@ module _ (whole : List LogEntry) (place : ℕ) (l : length whole ≡ place + 1) 
 
   pub stop-does : (tables : StopTables) (stop : Stop) (first : Bool) → AreStopsOf log tables → is_stop stop entry.item ≡ true
       → first ≡ comes_first whole place (first_place stop tables) → lasting_effect (not first) ≡ effect_of log entry
-  stop-does tables stop first are own =
-      at-newest whole place l (λ w n. first ≡ comes_first w n (first_place stop tables) → lasting_effect (not first) ≡ effect_of log entry) (stop-effect log entry tables stop first are own)
+  stop-does tables stop first are own = grind (arith, nat_tests, common_steps, stop-effect)
 
   pub stop-leaves : (tables : StopTables) (stop : Stop) → AreStopsOf log tables → is_stop stop entry.item ≡ true
       → comes_first whole place (first_place stop tables) ≡ false → first_stops (ordered whole) ≡ first_stops (ordered log)
-  stop-leaves tables stop are own =
-      at-newest whole place l (λ w n. comes_first w n (first_place stop tables) ≡ false → first_stops (ordered w) ≡ first_stops (ordered log)) (stop-later log entry tables stop are own)
+  stop-leaves tables stop are own = grind (arith, nat_tests, common_steps, stop-later)
 
   -- the tables once it is added
   pub recall-added : (tables : StopTables) (key : BatchKey) (recalls : List (BatchKey × ℕ)) → AreStopsOf log tables → is_recall_of key entry.item ≡ true
@@ -244,5 +198,4 @@ module _ (whole : List LogEntry) (place : ℕ) (l : length whole ≡ place + 1) 
       by : (birth : ℕ) (batch : List ℕ) → (track_of (pack_key key.gtin serial) log).birth ≡ Some birth → batch_at log birth ≡ Some batch
           → (c : Bool) → bytes_eq key.batch batch ≡ c → c ≡ false
       by birth batch b e false h = refl
-      by birth batch b e true h =
-          absurd (true≢false (sym (listed serial number birth batch found b e) ∙ ap (λ (x : List ℕ). lists own x number) (sym (same_text key.batch batch (sym h))) ∙ none))
+      by birth batch b e true h = grind (arith, nat_tests, same_text key.batch batch (sym h))

@@ -1,6 +1,6 @@
 -- The batches that are recalled and the products that are withdrawn, after one more entry.
 use Rattle.std.specs.Prelude.{◌≡◌, ◌∷◌, ◌++◌}
-use Rattle.mv_repository.proofs.Words.{ℕ, List, [], refl, sym, ◌∙◌, ap, Bool, true, false, cond, Option, Some, None, is_some, fold, true≢false, same_text, flat_map, lookup, keys_of, flat_map-append, fold-append, is_some-lookup, insert_entry, insert_key, keys_insert_entry, BatchKey, Recall, Withdraw, Item, Carried, LogEntry, recalled_in, is_recall_of, is_withdrawal_of, withdrawn_in, each_once, comes_first}
+use Rattle.mv_repository.proofs.Words.{ℕ, List, [], refl, sym, ◌∙◌, ap, Bool, true, false, fold, true≢false, same_text, flat_map, lookup, keys_of, flat_map-append, fold-append, is_some-lookup, insert_entry, insert_key, keys_insert_entry, BatchKey, Recall, Withdraw, Item, Carried, LogEntry, recalled_in, is_recall_of, is_withdrawal_of, withdrawn_in, each_once, comes_first, arith, nat_tests}
 use Rattle.mv_repository.proofs.KeptLemmas.{same_batch, batch-self, text-self}
 
 module _ {K : Type 0} (same : K → K → Bool) (keys_in : LogEntry → List K) (log : List LogEntry) (entry : LogEntry) where
@@ -35,12 +35,7 @@ one-withdrawal key _ e = absurd (true≢false (sym e))
 -- a key under which the newest entry is not the first is there
 pub key_stays : {K : Type 0} (same : K → K → Bool) (log : List LogEntry) (new : ℕ) (places : List (K × ℕ)) (key : K)
     → comes_first log new (lookup (same key) places) ≡ false → keys_of places ≡ insert_key same (keys_of places) key
-key_stays same log new places key e =
-    sym (ap (λ b. cond b (keys_of places) (keys_of places ++ key ∷ [])) (sym (is_some-lookup (same key) places) ∙ some (lookup (same key) places) e))
-  where
-    some : (o : Option ℕ) → comes_first log new o ≡ false → is_some o ≡ true
-    some None e = absurd (true≢false e)
-    some (Some first) e = refl
+key_stays same log new places key e = grind (arith, nat_tests, is_some-lookup (same key) places)
 
 -- where it is the first, the key is there behind it
 pub key_added : {K : Type 0} (same : K → K → Bool) (places : List (K × ℕ)) (key : K) (place : ℕ)

@@ -1,8 +1,8 @@
 -- What is kept of a pack, and worked out by places in a log, is what the log means.
 use Rattle.std.specs.Prelude.{◌≡◌, ◌<◌, ◌≤◌, ◌∷◌}
-use Rattle.mv_repository.proofs.Words.{is_same_pack, is_master, uploaded_in, length-map, take-map, drop-map, AllByRecursion, insert, not, ℕ, zero, suc, List, [], length, get_or, take, drop, refl, sym, ◌∙◌, ap, subst, true, false, cond, cond_both, Option, Some, None, IfSome, is_some, true≢false, fold, map, filter, option_map, option_map_or, unwrap_or, PackKey, BatchKey, Status, Item, Carried, LogEntry, PartySet, Block, batch_key, Effect, BatchStanding, Placed, passes, stands_before, ordered, Ascends, KnownPack, change_effect, is_active, is_done, batch_standing, known_pack, entries_before, effect_after, effect_of, IsCovered, AreBlocks, standing_in, effect_by, effect_on, next_by, next_place, FirstStops, StopTables, first_stops, stops_in, entry_at, place_of, no_entry, standing_at, AreStopsOf, Kept, is_upload_of, is_status_of, first_upload, statuses_of, pack_grown, life_of, start_of, track_of, IsKept, put_place, places_before, IsTrack}
+use Rattle.mv_repository.proofs.Words.{is_same_pack, is_master, uploaded_in, length-map, take-map, drop-map, AllByRecursion, insert, ℕ, zero, suc, List, [], length, get_or, take, drop, refl, sym, ◌∙◌, ap, subst, true, false, cond, cond_both, Option, Some, None, IfSome, is_some, true≢false, fold, map, filter, option_map, option_map_or, unwrap_or, PackKey, BatchKey, Status, Item, Carried, LogEntry, PartySet, Block, batch_key, Effect, BatchStanding, Placed, passes, stands_before, ordered, Ascends, KnownPack, change_effect, is_active, is_done, batch_standing, known_pack, entries_before, effect_after, effect_of, IsCovered, AreBlocks, standing_in, effect_by, effect_on, next_by, next_place, FirstStops, StopTables, first_stops, stops_in, entry_at, place_of, no_entry, standing_at, AreStopsOf, Kept, is_upload_of, is_status_of, first_upload, statuses_of, pack_grown, life_of, start_of, track_of, IsKept, put_place, places_before, IsTrack, arith, nat_tests}
 use Rattle.mv_repository.specs.declared.effect.Effect.TheVariants as effects
-use Rattle.mv_repository.proofs.OrderLemmas.{cond_two, ordered-ascends, ordered-below, ordered-stand, Stand, still-stand}
+use Rattle.mv_repository.proofs.OrderLemmas.{ordered-ascends, ordered-below, ordered-stand, Stand, still-stand}
 use Rattle.mv_repository.proofs.StateLemmas.{entry-stands, map-stands, find-stand}
 use Rattle.mv_repository.proofs.BeforeLemmas.{stays_before, counted, counted-before, find-below, known-before, standing-before}
 use Rattle.mv_repository.proofs.KeptLemmas.{same_pack}
@@ -20,7 +20,7 @@ next-stands log stops gtin birth by x b y s =
 
 pub fold-stands : (log : List LogEntry) (stops : FirstStops) (gtin : List ℕ) (birth by : Placed) (xs : List Placed) → Stands log birth → Stands log by → Stand log xs → Stands log (fold (next_by stops gtin (Some birth)) by xs)
 fold-stands log stops gtin first by [] b y s = y
-fold-stands log stops gtin first by (x ∷ xs) b y s = fold-stands log stops gtin first (next_by stops gtin (Some first) by x) xs b (next-stands log stops gtin first by x b y s.0) s.1
+fold-stands log stops gtin first by (x ∷ xs) b y s = grind (arith, nat_tests, fold-stands log stops gtin first (next_by stops gtin (Some first) by x) xs b (next-stands log stops gtin first by x b y s.0) s.1)
 
 -- a pack that an upload made stands by an entry of the log; the others stand by none
 abbrev pub StandsBy : List LogEntry → Option Placed → Placed → Type 0
@@ -32,7 +32,7 @@ stands-on log stops gtin (Some birth) by x b s = (b.0, next-stands log stops gti
 
 pub stands-all : (log : List LogEntry) (stops : FirstStops) (gtin : List ℕ) (birth : Option Placed) (by : Placed) (xs : List Placed) → StandsBy log birth by → Stand log xs → StandsBy log birth (fold (next_by stops gtin birth) by xs)
 stands-all log stops gtin birth by [] b s = b
-stands-all log stops gtin birth by (x ∷ xs) b s = stands-all log stops gtin birth (next_by stops gtin birth by x) xs (stands-on log stops gtin birth by x b s.0) s.1
+stands-all log stops gtin birth by (x ∷ xs) b s = grind (arith, nat_tests, stands-all log stops gtin birth (next_by stops gtin birth by x) xs (stands-on log stops gtin birth by x b s.0) s.1)
 
 next-place : (log : List LogEntry) (stops : FirstStops) (gtin : List ℕ) (birth : Option Placed) (by x : Placed) → StandsBy log birth by → Stands log x
     → next_place log stops gtin (option_map place_of birth) by.place x.place ≡ (next_by stops gtin birth by x).place
@@ -43,9 +43,7 @@ next-place log stops gtin (Some birth) by x b s = λ i. (next_by stops gtin (Som
 pub fold-places : (log : List LogEntry) (stops : FirstStops) (gtin : List ℕ) (birth : Option Placed) (by : Placed) (xs : List Placed) → StandsBy log birth by → Stand log xs
     → fold (next_place log stops gtin (option_map place_of birth)) by.place (map place_of xs) ≡ (fold (next_by stops gtin birth) by xs).place
 fold-places log stops gtin birth by [] b s = refl
-fold-places log stops gtin birth by (x ∷ xs) b s =
-    ap (λ (n : ℕ). fold (next_place log stops gtin (option_map place_of birth)) n (map place_of xs)) (next-place log stops gtin birth by x b s.0)
-    ∙ fold-places log stops gtin birth (next_by stops gtin birth by x) xs (stands-on log stops gtin birth by x b s.0) s.1
+fold-places log stops gtin birth by (x ∷ xs) b s = grind (arith, nat_tests, fold-places log stops gtin birth (next_by stops gtin birth by x) xs (stands-on log stops gtin birth by x b s.0) s.1, next-place)
 
 covered-places : (log : List LogEntry) (reverters : PartySet) (xs : List Placed) → Stand log xs
     → AllByRecursion (λ place. IsCovered reverters (entry_at log place)) (map place_of xs) ≡ AllByRecursion (λ placed. IsCovered reverters placed) xs
@@ -92,8 +90,7 @@ blocks-places log stops gtin birth start by (one ∷ bs) xs f b s =
     rest others = (λ i. AreBlocks (entry_at log) N start.place (behind by b i) bs (drop-map place_of one.count xs i)) ∙ others
 
 start-place : (birth : Option Placed) → unwrap_or (option_map place_of birth) 0 ≡ (unwrap_or birth (entry_at [] 0)).place
-start-place None = refl
-start-place (Some y) = refl
+start-place birth = grind (arith, nat_tests)
 
 -- what is kept of a pack is worked out, also by a log that begins with its own
 module _ (whole log : List LogEntry) (tables : StopTables) (pack : PackKey) (stand : Stand whole (ordered log)) (stops : AreStopsOf log tables) where
@@ -116,19 +113,13 @@ module _ (whole log : List LogEntry) (tables : StopTables) (pack : PackKey) (sta
   N stops b = next_place whole stops pack.gtin b
 
   start-stands : StandsBy whole first start
-  start-stands = by first (find-stand (λ placed. is_upload_of pack placed.entry.item) whole (ordered log) stand)
-    where
-      by : (o : Option Placed) → IfSome o (λ x. get_or whole x.place no_entry ≡ x.entry) → StandsBy whole o (unwrap_or o (entry_at [] 0))
-      by None h = tt
-      by (Some y) h = (h, h)
+  start-stands = grind (arith, nat_tests, find-stand (λ placed. is_upload_of pack placed.entry.item) whole (ordered log) stand)
 
   found : stops_in whole tables ≡ first_stops (ordered log)
   found = stops-found whole log tables stand stops
 
   by-same : fold (N (stops_in whole tables) birth) (unwrap_or birth 0) (map place_of own) ≡ (track_of pack log).by
-  by-same =
-      (λ i. fold (N (found i) birth) (start-place first i) (map place_of own))
-      ∙ fold-places whole (first_stops (ordered log)) pack.gtin first start own start-stands own-stand
+  by-same = grind (arith, nat_tests, N, fold-places, found, own-stand, start-place, start-stands)
 
   abbrev At : Option ℕ → List ℕ → List Block → Type 0
   At b own blocks = AreBlocks (entry_at whole) (N (stops_in whole tables) b) (unwrap_or b 0) (unwrap_or b 0) blocks own
@@ -172,20 +163,14 @@ pub track-status : (log : List LogEntry) (entry : LogEntry) (tables : StopTables
     → kept.birth ≡ (track_of pack log).birth → kept.statuses ≡ put_place (longer log entry) (length log) (track_of pack log).statuses
     → IsTrack (longer log entry) (stops_in (longer log entry) tables) pack.gtin kept
     → IsKept (life_of pack (longer log entry)) kept
-track-status log entry tables pack kept stops own b p w =
-    track-is (longer log entry) tables pack kept (stops-stay log entry tables (status-form pack entry.item own).1 stops)
-    (b ∙ ap (option_map place_of) (sym (find-none (λ placed. is_upload_of pack placed.entry.item) log entry ((status-form pack entry.item own).0 pack).0)))
-    (p ∙ sym (filter-some (λ placed. is_status_of pack placed.entry.item) log entry own)) w
+track-status log entry tables pack kept stops own b p w = grind (arith, nat_tests, filter-some, find-none, stops-stay, track-is)
 
 -- the effect of a status
 
 front-places : (log : List LogEntry) (x : Placed) (xs : List Placed) → get_or log x.place no_entry ≡ x.entry → Stand log xs
     → places_before log x.place (map place_of xs) ≡ map place_of (filter (stays_before x) xs)
 front-places log x [] e s = refl
-front-places log x (y ∷ ys) e s =
-    ap (λ b. cond (not b) (y.place ∷ places_before log x.place (map place_of ys)) (places_before log x.place (map place_of ys))) (λ i. passes (record x { entry = e i }) (record y { entry = s.0 i }))
-    ∙ cond_two (not (passes x y)) (y.place ∷ places_before log x.place (map place_of ys)) (places_before log x.place (map place_of ys)) (y ∷ filter (stays_before x) ys) (filter (stays_before x) ys)
-    (λ ps l. ps ≡ map place_of l) (λ t. ap (λ (l : List ℕ). y.place ∷ l) (front-places log x ys e s.1)) (λ t. front-places log x ys e s.1)
+front-places log x (y ∷ ys) e s = grind (arith, nat_tests, front-places log x ys e s.1)
 
 -- a pack as it stands behind those that stand before the newest entry
 module _ (log : List LogEntry) (entry : LogEntry) (pack : PackKey) (xs : List Placed) (stand : Stand (longer log entry) xs) where
@@ -250,11 +235,7 @@ status-effect log entry tables pack front stops own p =
 
 module _ (log : List LogEntry) (entry : LogEntry) (tables : StopTables) (pack : PackKey) (old : Kept) where
   pub put-ascend : (whole : List LogEntry) → whole ≡ longer log entry → IsKept (life_of pack log) old → Ascends (map (entry_at whole) old.statuses)
-  put-ascend whole e kept =
-      subst (λ (w : List LogEntry). Ascends (map (entry_at w) old.statuses)) (sym e)
-      (subst Ascends (sym (ap (λ (k : Kept). map (entry_at (longer log entry)) k.statuses) kept.bare
-      ∙ map-stands (longer log entry) (statuses_of pack (ordered log)) (filter-stand (λ placed. is_status_of pack placed.entry.item) (longer log entry) (ordered log) (still-stand log entry))))
-      (filter-ascends (λ placed. is_status_of pack placed.entry.item) (ordered log) (ordered-ascends log)))
+  put-ascend whole e kept = grind (arith, nat_tests, filter-ascends, filter-stand, map-stands, ordered-ascends, still-stand log entry)
 
   -- what is kept is worked out by the longer log too
   module _ (whole : List LogEntry) (e : whole ≡ longer log entry) (stops : AreStopsOf log tables) (kept : IsKept (life_of pack log) old) (own : List ℕ) (is : own ≡ old.statuses) where
@@ -283,16 +264,7 @@ module _ (log : List LogEntry) (entry : LogEntry) (tables : StopTables) (pack : 
 
     module _ (stops : AreStopsOf log tables) (own : is_status_of pack entry.item ≡ true) (kept : IsKept (life_of pack log) old) where
       put_newest : IsPut (longer log entry) (length log) → Done (longer log entry) (length log)
-      put_newest p =
-          let whole = longer log entry in
-          let b : old.birth ≡ (track_of pack log).birth = ap (λ (k : Kept). k.birth) kept.bare in
-          let s : old.statuses ≡ (track_of pack log).statuses = ap (λ (k : Kept). k.statuses) kept.bare in (
-            track-status log entry tables pack now stops own (p.birth ∙ b) (p.statuses ∙ p.put ∙ ap (put_place whole (length log)) s) p.worked,
-            p.done
-                ∙ (λ i. effect_on (stops_in whole tables) pack.gtin (option_map (entry_at whole) (b i))
-                (entry_at whole (fold (next_place whole (stops_in whole tables) pack.gtin (b i)) (unwrap_or (b i) 0) (take at old.statuses))) (entry_at whole (length log)))
-                ∙ status-effect log entry tables pack (take at old.statuses) stops own (p.before ∙ ap (places_before whole (length log)) s),
-          )
+      put_newest p = grind (arith, nat_tests, status-effect, track-status)
 
       pub put-status : (whole : List LogEntry) (place : ℕ) → whole ≡ longer log entry → place ≡ length log → IsPut whole place → Done whole place
       put-status whole place e n =

@@ -1,20 +1,17 @@
 -- An upload in what is kept of one pack.
 use Rattle.std.proofs.Math.Bool.{or-true}
 use Rattle.std.specs.Prelude.{◌≡◌, ◌+◌, ◌<◌, ◌∷◌, ◌&&◌, ◌||◌}
-use Rattle.mv_repository.proofs.Words.{is_master, bytes_eq, zero, suc, ℕ, List, [], length, get_or, take, refl, sym, ◌∙◌, ap, subst, arith, Bool, true, false, cond, or-false, Option, Some, map, list_any_more, same_text, Item, Carried, Upload, pack_key, PackKey, LogEntry, Slot, ordered, has_pack, kept_on, IsUploadOf, has, AreKept, next_by, StopTables, first_stops, stops_in, place_of, no_entry, AreStopsOf, earlier_place, Kept, Life, is_upload_of, is_status_of, first_upload, statuses_of, life_of, track_of, IsKept, IsTrack}
-use Rattle.mv_repository.proofs.KeptLemmas.{earlier_first, text-self}
+use Rattle.mv_repository.proofs.Words.{is_master, bytes_eq, zero, suc, ℕ, List, [], length, get_or, take, refl, sym, ◌∙◌, ap, subst, arith, Bool, true, false, cond, or-false, map, list_any_more, same_text, Item, pack_key, PackKey, LogEntry, Slot, ordered, kept_on, IsUploadOf, has, AreKept, StopTables, first_stops, stops_in, place_of, no_entry, AreStopsOf, earlier_place, Kept, Life, is_upload_of, is_status_of, statuses_of, life_of, track_of, IsKept, IsTrack, nat_tests}
+use Rattle.mv_repository.proofs.KeptLemmas.{text-self}
 use Rattle.mv_repository.proofs.OrderLemmas.{ordered-stand, still-stand}
 use Rattle.mv_repository.proofs.TableLemmas.{longer, find-none, find-some, filter-none, stops-stay, StopsNone, log-split, first-same}
 use Rattle.mv_repository.proofs.TrackLemmas.{status-form, track-worked, track-is}
 
 pub upload-form : (item : Item) (gtin : List ℕ) (serials : List (List ℕ)) → IsUploadOf item gtin serials → ((pack : PackKey) → is_status_of pack item ≡ false) × StopsNone item × ((code : List ℕ) → is_master code item ≡ false)
-upload-form (Carried k stamp (Upload named batch expiry national packs)) gtin serials u = (λ pack. refl, (λ batch. refl, λ gtin. refl), λ code. refl)
-upload-form _ gtin serials u = absurd u
+upload-form item gtin serials u = grind (arith, nat_tests)
 
 pub upload-has : (item : Item) (gtin : List ℕ) (serials : List (List ℕ)) → IsUploadOf item gtin serials → (serial : List ℕ) → is_upload_of (pack_key gtin serial) item ≡ has serials serial
-upload-has (Carried k stamp (Upload named batch expiry national packs)) gtin serials u serial =
-    (λ i. has_pack (u.0 i) (u.1 i) (pack_key gtin serial)) ∙ ap (λ b. b && has serials serial) (text-self gtin)
-upload-has _ gtin serials u serial = absurd u
+upload-has item gtin serials u serial = grind (arith, nat_tests, text-self)
 
 -- a serial number is among those it is taken from
 pub has-own : (xs : List (List ℕ)) (i : ℕ) → i < length xs → has xs (get_or xs i []) ≡ true
@@ -25,17 +22,11 @@ has-own (x ∷ xs) (suc i) l = elim (bytes_eq x (get_or xs i [])) as (λ b. (b |
 -- what is kept of a pack whose entries and first stops are as they were
 pub life-same : (log : List LogEntry) (entry : LogEntry) (pack : PackKey) → is_upload_of pack entry.item ≡ false → is_status_of pack entry.item ≡ false
     → first_stops (ordered (longer log entry)) ≡ first_stops (ordered log) → life_of pack (longer log entry) ≡ life_of pack log
-life-same log entry pack n s same =
-    let first : first_upload pack (ordered (longer log entry)) ≡ first_upload pack (ordered log) = find-none (λ placed. is_upload_of pack placed.entry.item) log entry n in
-    let own : statuses_of pack (ordered (longer log entry)) ≡ statuses_of pack (ordered log) = filter-none (λ placed. is_status_of pack placed.entry.item) log entry s in
-    λ i. record { birth = first i; statuses = own i; next = next_by (same i) pack.gtin (first i) }
+life-same log entry pack n s same = grind (arith, nat_tests, filter-none, find-none)
 
 pub untouched : (log : List LogEntry) (entry : LogEntry) (pack : PackKey) → is_upload_of pack entry.item ≡ false → is_status_of pack entry.item ≡ false → StopsNone entry.item
     → life_of pack (longer log entry) ≡ life_of pack log
 untouched log entry pack n s none = life-same log entry pack n s (first-same log entry none)
-
-earlier_again : (log : List LogEntry) (new : ℕ) (o : Option ℕ) → earlier_place log new (earlier_place log new o) ≡ earlier_place log new o
-earlier_again log new o = ap (λ b. cond b (Some new) (earlier_place log new o)) (earlier_first log new o)
 
 module _ (log : List LogEntry) (entry : LogEntry) (tables : StopTables) (gtin : List ℕ) (serials : List (List ℕ))
     (stops : AreStopsOf log tables) (upload : IsUploadOf entry.item gtin serials) where
@@ -55,15 +46,10 @@ module _ (log : List LogEntry) (entry : LogEntry) (tables : StopTables) (gtin : 
     new-birth h = sym (find-some (λ placed. is_upload_of pack placed.entry.item) log entry (upload-has entry.item gtin serials upload serial ∙ h))
 
     has-birth : has serials serial ≡ true → (done : Bool) → earlier_place (longer log entry) (length log) (track_of pack (cond done (longer log entry) log)).birth ≡ (track_of pack (longer log entry)).birth
-    has-birth h false = new-birth h
-    has-birth h true =
-        ap (earlier_place (longer log entry) (length log)) (sym (new-birth h))
-        ∙ earlier_again (longer log entry) (length log) (track_of pack log).birth
-        ∙ new-birth h
+    has-birth h done = grind (arith, nat_tests, new-birth)
 
     own-places : (done : Bool) → (track_of pack (cond done (longer log entry) log)).statuses ≡ map place_of (statuses_of pack (ordered (longer log entry)))
-    own-places true = refl
-    own-places false = ap (map place_of) (sym (filter-none (λ placed. is_status_of pack placed.entry.item) log entry ((upload-form entry.item gtin serials upload).0 pack)))
+    own-places done = grind (arith, nat_tests, filter-none)
 
     is_uploaded : has serials serial ≡ true → (done : Bool) (was kept : Kept) → IsKept (life_of pack (cond done (longer log entry) log)) was
         → kept.birth ≡ earlier_place (longer log entry) (length log) was.birth → kept.statuses ≡ was.statuses

@@ -1,12 +1,12 @@
 -- Uploads: which packs a log names, and how many of those that an upload names are new.
 use Rattle.std.specs.Prelude.{◌≡◌, ◌+◌, ◌<◌, ◌∷◌, ◌++◌, ◌&&◌, ◌||◌}
-use Rattle.mv_repository.proofs.Words.{nat_tests, bytes_eq, ℕ, List, [], length, take, get_or, refl, sym, ◌∙◌, ap, arith, subst, append-nil, length-append, Bool, true, false, cond, cond_both, not, Option, Some, None, IfSome, is_some, IsSome, true≢false, find, filter, map, fold, or-false, and-false, flat_map-append, length-map, take_more, filter-append, list_any-append, is_member-filter, list_any_congr, IsEquivalence, same_text, nat_list_eq_equiv, list_any, flat_map, option_map, distinct_count, is_member, unique_keys, Item, Carried, Upload, is_same_pack, pack_key, PackKey, LogEntry, uploaded_in, uploaded_packs, entries_before, Placed, passes, put_in, ordered, KnownPack, has_pack, known_pack, IsUploadOf, has, new_count, pack_made_by, first_stops, is_before, place_of, no_entry, comes_first, earlier_place, is_upload_of, first_upload, statuses_of, pack_step, pack_grown, track_of}
+use Rattle.mv_repository.proofs.Words.{nat_tests, bytes_eq, ℕ, List, [], length, take, get_or, refl, sym, ◌∙◌, ap, arith, subst, append-nil, length-append, Bool, true, false, cond, not, Option, IfSome, is_some, find, filter, map, or-false, flat_map-append, length-map, take_more, filter-append, list_any-append, is_member-filter, IsEquivalence, same_text, nat_list_eq_equiv, list_any, flat_map, option_map, distinct_count, is_member, Item, Carried, Upload, is_same_pack, pack_key, PackKey, LogEntry, uploaded_in, uploaded_packs, entries_before, Placed, put_in, ordered, has_pack, known_pack, IsUploadOf, has, new_count, first_stops, is_before, place_of, no_entry, comes_first, earlier_place, is_upload_of, first_upload, statuses_of, pack_grown, track_of}
 use Rattle.std.proofs.Math.Bool.{and-true}
 use Rattle.std.proofs.lemmas.List.Sorted.{list_any-IsPermutation}
 use Rattle.mv_repository.proofs.BeforeLemmas.{stays_before, counted, counted-before, find-below, known-before, any-find}
-use Rattle.mv_repository.proofs.KeptLemmas.{text-sym, earlier_first}
+use Rattle.mv_repository.proofs.KeptLemmas.{text-sym}
 use Rattle.mv_repository.proofs.OrderLemmas.{placed_after, put_in-permutes, find-true, ordered-below, still-stand}
-use Rattle.mv_repository.proofs.StateLemmas.{find-stand, upload-makes}
+use Rattle.mv_repository.proofs.StateLemmas.{find-stand}
 use Rattle.mv_repository.proofs.TableLemmas.{longer, newest, newest-stands, find-some}
 use Rattle.mv_repository.proofs.UploadLemmas.{upload-has, has-own}
 
@@ -17,14 +17,8 @@ any-put_in f x xs = sym (list_any-IsPermutation f (x ∷ xs) (put_in x xs) (put_
 
 any-after : (f : Item → Bool) (xs : List Placed) (log : List LogEntry)
     → list_any (λ placed. f placed.entry.item) (placed_after xs log) ≡ (list_any (λ placed. f placed.entry.item) xs || list_any (λ entry. f entry.item) log)
-any-after f xs [] = sym (or-false (list_any (λ placed. f placed.entry.item) xs))
-any-after f xs (entry ∷ log) =
-    any-after f (put_in (record { place = length xs; entry = entry }) xs) log
-    ∙ ap (λ b. b || list_any (λ entry. f entry.item) log) (any-put_in (λ placed. f placed.entry.item) (record { place = length xs; entry = entry }) xs)
-    ∙ shift (f entry.item) (list_any (λ placed. f placed.entry.item) xs) (list_any (λ entry. f entry.item) log)
-  where
-    shift : (a b c : Bool) → ((a || b) || c) ≡ (b || (a || c))
-    shift a b c = grind (arith, nat_tests)
+any-after f xs [] = grind (arith, nat_tests)
+any-after f xs (entry ∷ log) = grind (arith, nat_tests, any-after f (put_in (record { place = length xs; entry = entry }) xs) log, any-put_in)
 
 pub any-ordered : (f : Item → Bool) (log : List LogEntry) → list_any (λ placed. f placed.entry.item) (ordered log) ≡ list_any (λ entry. f entry.item) log
 any-ordered f log = any-after f [] log
@@ -40,15 +34,11 @@ uploaded-is pack (Carried k stamp (Upload gtin batch expiry national serials)) =
   where
     packs : (serials : List (List ℕ)) → list_any (is_same_pack pack) (map (pack_key gtin) serials) ≡ has_pack gtin serials pack
     packs [] = elim (bytes_eq gtin pack.gtin) as (λ b. false ≡ (b && false)) [ true ↦ refl | false ↦ refl ]
-    packs (serial ∷ rest) = (λ i. (text-sym pack.gtin gtin i && text-sym pack.serial serial i) || packs rest i) ∙ spread (bytes_eq gtin pack.gtin) (bytes_eq serial pack.serial) (list_any (λ serial. bytes_eq serial pack.serial) rest)
-      where
-        spread : (a b c : Bool) → ((a && b) || (a && c)) ≡ (a && (b || c))
-        spread a b c = grind (arith, nat_tests)
+    packs (serial ∷ rest) = grind (arith, nat_tests, packs rest, text-sym)
 uploaded-is pack _ = refl
 
 pub some-map : {A B : Type 0} → (f : A → B) (o : Option A) → is_some (option_map f o) ≡ is_some o
-some-map f None = refl
-some-map f (Some x) = refl
+some-map f o = grind (arith, nat_tests)
 
 pub found-any : (f : Placed → Bool) (xs : List Placed) → is_some (option_map place_of (find f xs)) ≡ list_any f xs
 found-any f xs = some-map place_of (find f xs) ∙ sym (any-find f xs)
@@ -58,9 +48,7 @@ uploaded-any log pack = any-flat (is_same_pack pack) uploaded_in (is_upload_of p
 
 -- a pack has a first upload where a log names it
 pub uploaded-found : (log : List LogEntry) (pack : PackKey) → is_some (track_of pack log).birth ≡ is_member is_same_pack (uploaded_packs log) pack
-uploaded-found log pack =
-    found-any (λ placed. is_upload_of pack placed.entry.item) (ordered log) ∙ any-ordered (is_upload_of pack) log
-    ∙ sym (uploaded-any log pack)
+uploaded-found log pack = grind (arith, nat_tests, any-ordered (is_upload_of pack) log, found-any, uploaded-any)
 
 -- the newest entry comes first of its kind where none of the kind stands before it
 pub first-effect : (f : Placed → Bool) (log : List LogEntry) (entry : LogEntry) (first : Option ℕ) → first ≡ option_map place_of (find f (ordered log))
@@ -71,10 +59,7 @@ first-effect f log entry first e =
     ∙ ap not (counted-before (newest log entry) (find f (ordered log)) (find-below f (length log) (ordered log) (ordered-below log)))
   where
     by : (o : Option Placed) → IfSome o (λ y. get_or (longer log entry) y.place no_entry ≡ y.entry) → comes_first (longer log entry) (length log) (option_map place_of o) ≡ not (is_some (counted (newest log entry) o))
-    by None s = refl
-    by (Some y) s =
-        (λ i. passes (record { place = length log; entry = newest-stands log entry i }) (record y { entry = s i }))
-        ∙ cond_both (passes (newest log entry) y) None (Some y) (λ o. passes (newest log entry) y ≡ not (is_some o)) (λ e. e) (λ e. e)
+    by o s = grind (arith, nat_tests, newest-stands)
 
 -- a pack is absent before the newest entry where that comes before its first upload
 pub absent-before : (log : List LogEntry) (entry : LogEntry) (pack : PackKey)
@@ -86,39 +71,20 @@ absent-before log entry pack =
     ∙ ap (λ o. not (is_some o)) (sym (known-before log entry pack))
   where
     counted-is : (x : Placed) (o : Option Placed) → IfSome o (λ y. is_upload_of pack y.entry.item ≡ true) → IfSome (counted x o) (λ y. is_upload_of pack y.entry.item ≡ true)
-    counted-is x None h = tt
-    counted-is x (Some y) h = cond_both (passes x y) None (Some y) (λ o. IfSome o (λ y. is_upload_of pack y.entry.item ≡ true)) (λ e. tt) (λ e. h)
+    counted-is x o h = grind (arith, nat_tests)
 
     made : (o : Option Placed) → IfSome o (λ y. is_upload_of pack y.entry.item ≡ true)
         → is_some o ≡ is_some (pack_grown (first_stops (ordered log)) pack o (filter (stays_before (newest log entry)) (statuses_of pack (ordered log))))
-    made None h = refl
-    made (Some y) h = sym (is_some-map (pack_made_by y.entry.item) (upload-makes pack y.entry.item h))
-      where
-        is_some-map : (o : Option KnownPack) → IsSome o → is_some (option_map (λ held. fold (pack_step (first_stops (ordered log)) pack y) held (filter (stays_before (newest log entry)) (statuses_of pack (ordered log)))) o) ≡ true
-        is_some-map (Some held) h = refl
-        is_some-map None h = absurd (true≢false (sym h))
+    made o h = grind (arith, nat_tests)
 
 module _ {K : Type 0} (eq : K → K → Bool) (laws : IsEquivalence eq) where
   push_member : (xs : List K) (x y : K) → is_member eq (xs ++ y ∷ []) x ≡ (is_member eq xs x || eq x y)
   push_member xs x y = list_any-append (eq x) xs (y ∷ []) ∙ ap (λ b. is_member eq xs x || b) (or-false (eq x y))
 
-  length-cond : (b : Bool) (x : K) (xs : List K) → length (cond b xs (x ∷ xs)) ≡ cond b (length xs) (length xs + 1)
-  length-cond true x xs = refl
-  length-cond false x xs = omega arith
-
-  -- one more, y, where x of the list is the same as y or not (b), and is in the rest or not (c), and y is in the rest or not (m)
-  push_count : (b c m : Bool) (n size : ℕ) → n ≡ size + cond m 0 1 → (b ≡ true → m ≡ c) → cond (c || b) n (n + 1) ≡ cond c size (size + 1) + cond (b || m) 0 1
-  push_count true c m n size e h = let same = h refl in grind (arith, nat_tests)
-  push_count false c m n size e h = grind (arith, nat_tests)
-
   -- one key more, counted once
   pub distinct_push : (xs : List K) (y : K) → distinct_count eq (xs ++ y ∷ []) ≡ distinct_count eq xs + cond (is_member eq xs y) 0 1
   distinct_push [] y = refl
-  distinct_push (x ∷ xs) y =
-      length-cond (is_member eq (xs ++ y ∷ []) x) x (unique_keys eq (xs ++ y ∷ []))
-      ∙ ap (λ b. cond b (distinct_count eq (xs ++ y ∷ [])) (distinct_count eq (xs ++ y ∷ []) + 1)) (push_member xs x y ∙ ap (λ b. is_member eq xs x || b) (laws.symm x y))
-      ∙ push_count (eq y x) (is_member eq xs x) (is_member eq xs y) (distinct_count eq (xs ++ y ∷ [])) (distinct_count eq xs) (distinct_push xs y) (λ e. list_any_congr laws y x xs e)
-      ∙ ap (λ n. n + cond (eq y x || is_member eq xs y) 0 1) (sym (length-cond (is_member eq xs x) x (unique_keys eq xs)))
+  distinct_push (x ∷ xs) y = grind (arith, nat_tests, distinct_push xs y, push_member)
 
 -- one serial number more
 module _ (log : List LogEntry) (entry : LogEntry) (gtin : List ℕ) (serials : List (List ℕ)) (upload : IsUploadOf entry.item gtin serials) where
@@ -150,11 +116,7 @@ module _ (log : List LogEntry) (entry : LogEntry) (gtin : List ℕ) (serials : L
       birth = find-some (λ placed. is_upload_of key placed.entry.item) log entry (upload-has entry.item gtin serials upload s ∙ has-own serials i l)
 
       seen : comes_first (longer log entry) (length log) (track_of key (cond (has (take i serials) s) (longer log entry) log)).birth ≡ (not (has (take i serials) s) && absent s)
-      seen = cases (has (take i serials) s)
-        where
-          cases : (b : Bool) → comes_first (longer log entry) (length log) (track_of key (cond b (longer log entry) log)).birth ≡ (not b && absent s)
-          cases true = ap (comes_first (longer log entry) (length log)) birth ∙ earlier_first (longer log entry) (length log) (track_of key log).birth
-          cases false = absent-before log entry key
+      seen = grind (arith, nat_tests, absent, absent-before, birth, key, longer, s)
 
       among : (xs : List (List ℕ)) → has xs s ≡ is_member bytes_eq xs s
       among [] = refl
@@ -168,8 +130,7 @@ module _ (log : List LogEntry) (entry : LogEntry) (gtin : List ℕ) (serials : L
 
       by : (b c : Bool) → absent s ≡ c → cond (not (has (take i serials) s) && c) (distinct_count bytes_eq front + 1) (distinct_count bytes_eq front)
           ≡ distinct_count bytes_eq (front ++ cond c (s ∷ []) [])
-      by b false a =
-          ap (λ t. cond t (distinct_count bytes_eq front + 1) (distinct_count bytes_eq front)) (and-false (not (has (take i serials) s))) ∙ ap (distinct_count bytes_eq) (sym (append-nil front))
+      by b false a = grind (arith, nat_tests, append-nil)
       by b true a =
           ap (λ t. cond (not t && true) (distinct_count bytes_eq front + 1) (distinct_count bytes_eq front)) (has_is ∙ sym (and-true (is_member bytes_eq (take i serials) s)) ∙ ap (λ t. is_member bytes_eq (take i serials) s && t) (sym a) ∙ sym member)
           ∙ count_cases (is_member bytes_eq front s) (distinct_count bytes_eq front)
@@ -183,9 +144,7 @@ module _ (log : List LogEntry) (entry : LogEntry) (gtin : List ℕ) (serials : L
 
 -- how many packs the uploads name, with one more entry
 pub named-longer : (log : List LogEntry) (entry : LogEntry) (whole : List LogEntry) → whole ≡ longer log entry → length (uploaded_packs whole) ≡ length (uploaded_packs log) + length (uploaded_in entry.item)
-named-longer log entry whole e =
-    ap (λ (w : List LogEntry). length (uploaded_packs w)) e ∙ ap length (flat_map-append (λ (entry : LogEntry). uploaded_in entry.item) log (entry ∷ []))
-    ∙ length-append (uploaded_packs log) (uploaded_in entry.item ++ []) ∙ ap (λ (l : List PackKey). length (uploaded_packs log) + length l) (append-nil (uploaded_in entry.item))
+named-longer log entry whole e = grind (arith, nat_tests, flat_map-append, length-append)
 
 pub named-upload : (gtin : List ℕ) (serials : List (List ℕ)) (item : Item) → IsUploadOf item gtin serials → length (uploaded_in item) ≡ length serials
 named-upload gtin serials (Carried k stamp (Upload named batch expiry national packs)) u = length-map packs (pack_key named) ∙ ap length u.1

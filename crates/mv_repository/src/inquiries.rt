@@ -5,13 +5,13 @@
 
 ghost use Rattle.std.specs.Prelude.{◌≡◌, ◌<◌, ◌≤◌, ◌==◌, ◌&&◌, ◌||◌, if◌then◌else◌, ◌∷◌, ◌++◌};
 ghost use Rattle.mv_repository.specs.Words.{not, OnOk, ℕ, List, [], length, filter, option_copied, map_spare, set_spare, AnEntry};
-ghost use Rattle.mv_repository.specs.Verdict.{found_active, found_explained, verdict_when};
+ghost use Rattle.mv_repository.specs.Verdict.{found_active, found_explained};
 ghost use Rattle.mv_repository.specs.Inquiries.{IsInquiriesOf, HasRoomFor, has_reply, inquiry_in, no_inquiry, tells_of_query};
 ghost use Rattle.mv_repository.specs.Inquiries.{with_receipt, with_finding, parties_at, known_verdict, verdict_once_asked};
 
 use crate::state::is_active;
 use crate::verdict::{is_explained, verdict_when};
-use crate::{Joint, LogEntry, Verdict};
+use crate::{Joint, LogEntry};
 use indexmap::{IndexMap, IndexSet};
 use mv_link::{Item, Reached};
 use mv_message::{Found, Message, Party};
@@ -145,7 +145,7 @@ impl Inquiries {
         };
         let left = self.left_count(q, asked.to_reach().as_slice());
         if left == 0 {
-            Joint::Decided(inquiry.verdict())
+            Joint::Decided(verdict_when(inquiry.active, inquiry.explained))
         } else {
             Joint::Pending { left }
         }
@@ -158,18 +158,11 @@ impl Inquiries {
     {
         let mut left = 0;
         for other in asked {
-            if !self.has_answered(q, *other) {
+            if !self.replies.contains(&Reply { q, from: *other }) {
                 left += 1;
             }
         }
         left
-    }
-
-    /// Whether a party has answered a query.
-    fn has_answered(&self, q: u32, from: Party) -> bool
-        ensures { result ≡ has_reply self.now q from }
-    {
-        self.replies.contains(&Reply { q, from })
     }
 }
 
@@ -198,13 +191,6 @@ impl Inquiry {
     {
         self.active = self.active || found_active(found);
         self.explained = self.explained || found_explained(found);
-    }
-
-    /// What all answers to the query say.
-    fn verdict(&self) -> Verdict
-        ensures { result ≡ verdict_when self.now.active self.now.explained }
-    {
-        verdict_when(self.active, self.explained)
     }
 }
 

@@ -20,20 +20,17 @@ use mv_pack::{Batch, BatchKey, Expiry, Gtin, Moment};
 pub(crate) fn is_active(standing: Standing) -> bool
     ensures { result ≡ is_active standing }
 {
-    match standing {
-        Standing::Active => true,
-        _ => false,
-    }
+    matches!(standing, Standing::Active)
 }
 
 /// Whether a standing is never reverted.
 fn is_final(standing: Standing) -> bool
     ensures { result ≡ is_final standing }
 {
-    match standing {
-        Standing::Destruction | Standing::Stolen | Standing::Repackaged => true,
-        _ => false,
-    }
+    matches!(
+        standing,
+        Standing::Destruction | Standing::Stolen | Standing::Repackaged
+    )
 }
 
 /// The user of the status at a place of a log.

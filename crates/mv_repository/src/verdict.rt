@@ -38,10 +38,7 @@ pub enum Joint {
 fn is_for_destruction(standing: Standing) -> bool
     ensures { result ≡ is_for_destruction standing }
 {
-    match standing {
-        Standing::Destruction => true,
-        _ => false,
-    }
+    matches!(standing, Standing::Destruction)
 }
 
 /// Whether something other than a falsification explains a pack: it is recalled, withdrawn, or to be destroyed.

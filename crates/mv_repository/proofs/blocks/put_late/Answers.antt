@@ -1,6 +1,6 @@
 -- The block in which the status stands is worked out again, and what stands behind it.
 use Rattle.std.specs.Prelude.{◌<◌, ◌+◌}
-use Rattle.mv_repository.proofs.Words.{◌∙◌, subst, sym, refl, Block, without, entry_in, next_in, start_in}
+use Rattle.mv_repository.proofs.Words.{◌∙◌, subst, sym, refl, Block, without, entry_in, next_in, start_in, rules}
 use Rattle.mv_repository.proofs.BlockLemmas.{renewed-was, renewed-standing, renewed-front, renewed-done}
 use Rattle.mv_repository.proofs.blocks.put_late.Goals as goal
 
@@ -29,9 +29,4 @@ returns-clause-blocks c =
     (c.of-block.ensures.count ∙ c.split_at-2.ensures.front_len) c.of-block.ensures.summary)
 
 pub returns-clause-by : goal.returns-clause-by
-returns-clause-by c =
-    c.pass_on.ensures.by
-    ∙ renewed-done (entry_in c.args.basis.now) (next_in c.args.basis.now) (start_in c.args.basis.now) (λ n. refl) c.args.blocks.now.items c.args.own.now c.args.at c.cut_at-cut.result
-    c.requires.at c.cut_at-cut.ensures.at (c.cut_at-cut.ensures.cut (without c.args.own.now c.args.at) c.requires.was)
-    c.in-Some.old c.in-Some.ensures.0 c.in-Some.ensures.1 (subst (λ (b : Block). c.args.at < c.cut_at-cut.result.start + b.count) (sym c.in-Some.ensures.1) (c.cut_at-cut.ensures.inside c.in-Some.ensures.0))
-    c.of-block.result c.split_at.result.1.now c.split_at-2.result.0.now c.split_at-2.result.1.now c.split_at.ensures.back c.split_at-2.ensures.front c.split_at-2.ensures.back c.of-block.ensures.after
+returns-clause-by c = search (rules, renewed-done)

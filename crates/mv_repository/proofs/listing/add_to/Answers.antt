@@ -12,10 +12,7 @@ returns-in_err-insert-2-clause-kept c batch number h =
     ∙ more batch number (sets-are c.args.batches.now.entries batch number ∙ h)
 
 pub returns-clause-added : goal.returns-clause-added
-returns-clause-added c =
-    let new = (c.get_mut.follows.lender c.insert-2.new.self).entries in
-    let added : is_in_sets new c.args.batch.now c.args.number ≡ true = search rules in
-    sym (sets-are new c.args.batch.now c.args.number) ∙ added
+returns-clause-added c = search (rules, is_in_sets ((c.get_mut.follows.lender c.insert-2.new.self).entries) c.args.batch.now c.args.number, sets-are ((c.get_mut.follows.lender c.insert-2.new.self).entries) c.args.batch.now c.args.number)
 
 pub returns-clause-kept : goal.returns-clause-kept
 returns-clause-kept c batch number h =

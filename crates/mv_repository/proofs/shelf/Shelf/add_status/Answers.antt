@@ -30,16 +30,7 @@ returns-in-Some-Own-clause-ok c =
     })
 
 made_is : (c : goal.After-track-1) → kept_on c.self.inside.slots.entries c.self.inside.tracks.items c.args.pack.now.serial ≡ c.new-track.result
-made_is c = elim c.match-copied.branch [
-  | in-Some-Made w ↦ (
-      let slot : lookup (bytes_eq c.args.pack.now.serial) c.self.inside.slots.entries ≡ Some (Made w.in-Some-Made.first) = search rules in
-      let is : kept_by c.self.inside.tracks.items (Some (Made w.in-Some-Made.first)) ≡ c.new-track.result = search rules in
-      ap (kept_by c.self.inside.tracks.items) slot ∙ is)
-  | in-None w ↦ (
-      let slot : lookup (bytes_eq c.args.pack.now.serial) c.self.inside.slots.entries ≡ None = search rules in
-      let is : kept_by c.self.inside.tracks.items None ≡ c.new-track.result = search rules in
-      ap (kept_by c.self.inside.tracks.items) slot ∙ is)
-]
+made_is c = search rules
 
 pub add_status-requires-2-clause-kept : goal.add_status-requires-2-clause-kept
 add_status-requires-2-clause-kept c =

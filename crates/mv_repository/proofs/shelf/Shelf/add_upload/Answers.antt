@@ -8,12 +8,7 @@ use Rattle.mv_repository.proofs.UploadLemmas.{upload-worked, upload-adds, upload
 use Rattle.mv_repository.proofs.shelf.Shelf.add_upload.Goals as goal
 
 pub put_upload-is_first-requires-clause-worked : goal.put_upload-is_first-requires-clause-worked
-put_upload-is_first-requires-clause-worked c =
-    let whole = c.args.newest.now.log.now in
-    let place = c.args.newest.now.place in
-    upload-worked (take place whole) (get_or whole place no_entry) c.args.newest.now.stops.now c.args.gtin.now c.args.serials.now c.requires.stops c.requires.upload
-    c.loop-serial.self-inside.slots.entries c.loop-serial.self-inside.tracks.items whole place (log-split whole place c.requires.last) (log-length whole place c.requires.last)
-    (take c.loop-serial.serial-index c.args.serials.now) c.loop-serial.invariant.kept c.serial-item.result
+put_upload-is_first-requires-clause-worked c = search (rules, log-length, log-split, upload-worked)
 
 pub loop-serial-preserved : goal.loop-serial-preserved
 loop-serial-preserved c =

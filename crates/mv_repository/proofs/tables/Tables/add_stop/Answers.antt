@@ -1,6 +1,6 @@
 -- The first works out the packs that it may bear on; any other changes none.
 use Rattle.std.specs.Prelude.{◌≡◌}
-use Rattle.mv_repository.proofs.Words.{bytes_eq, ℕ, List, rules, refl, sym, subst, get_or, take, true, false, Some, None, lookup, pack_key, ShelfTable, IsShelfOf, shelf_of, no_entry, comes_first, first_place, stopped_product}
+use Rattle.mv_repository.proofs.Words.{bytes_eq, ℕ, List, rules, refl, sym, subst, get_or, take, true, false, Some, None, lookup, pack_key, ShelfTable, IsShelfOf, shelf_of, no_entry, stopped_product}
 use Rattle.mv_repository.proofs.AgainLemmas.{shelf-empty}
 use Rattle.mv_repository.proofs.FormLemmas.{masters-at, shelves-at, named-at}
 use Rattle.mv_repository.proofs.PacksLemmas.{shelf-found, shelves-on, none-follow}
@@ -9,21 +9,10 @@ use Rattle.mv_repository.proofs.StopLemmas.{stop-form, stop-does, stop-leaves, s
 use Rattle.mv_repository.proofs.tables.Tables.add_stop.Goals as goal
 
 pub returns-then-not-branch-clause-ok : goal.returns-then-not-branch-clause-ok
-returns-then-not-branch-clause-ok c =
-    let form = stop-form c.args.stop.now (get_or c.args.log.now c.args.place no_entry).item c.requires.stop in
-    let later : comes_first c.args.log.now c.args.place (first_place c.args.stop.now c.args.self.now.stops) ≡ false = search rules in
-    record {
-      masters = masters-at c.args.log.now c.args.place c.requires.last c.args.self.now.masters.entries form.1 c.requires.tables.masters;
-      stops = c.in_ok-add.ensures.ok;
-      shelves = shelves-at c.args.log.now c.args.place c.requires.last c.args.self.now.shelves.entries form.0
-          (stop-leaves c.args.log.now c.args.place c.requires.last c.args.self.now.stops c.args.stop.now c.requires.tables.stops c.requires.stop later) c.requires.tables.shelves;
-      named = named-at c.args.log.now c.args.place c.requires.last c.args.self.now.named form.0.1 c.requires.tables.named;
-    }
+returns-then-not-branch-clause-ok c = search (rules, masters-at c.args.log.now c.args.place c.requires.last c.args.self.now.masters.entries (stop-form c.args.stop.now (get_or c.args.log.now c.args.place no_entry).item c.requires.stop).1 c.requires.tables.masters, named-at c.args.log.now c.args.place c.requires.last c.args.self.now.named (stop-form c.args.stop.now (get_or c.args.log.now c.args.place no_entry).item c.requires.stop).0.1 c.requires.tables.named, shelves-at c.args.log.now c.args.place c.requires.last c.args.self.now.shelves.entries (stop-form c.args.stop.now (get_or c.args.log.now c.args.place no_entry).item c.requires.stop).0 (stop-leaves c.args.log.now c.args.place c.requires.last c.args.self.now.stops c.args.stop.now c.requires.tables.stops c.requires.stop (search rules)) c.requires.tables.shelves, stop-form c.args.stop.now (get_or c.args.log.now c.args.place no_entry).item c.requires.stop, stop-leaves c.args.log.now c.args.place c.requires.last c.args.self.now.stops c.args.stop.now c.requires.tables.stops c.requires.stop (search rules))
 
 pub returns-then-not-branch-clause-effect : goal.returns-then-not-branch-clause-effect
-returns-then-not-branch-clause-effect c =
-    let later : false ≡ comes_first c.args.log.now c.args.place (first_place c.args.stop.now c.args.self.now.stops) = search rules in
-    stop-does c.args.log.now c.args.place c.requires.last c.args.self.now.stops c.args.stop.now false c.requires.tables.stops c.requires.stop later
+returns-then-not-branch-clause-effect c = search (rules, stop-does c.args.log.now c.args.place c.requires.last c.args.self.now.stops c.args.stop.now false c.requires.tables.stops c.requires.stop (search rules))
 
 pub returns-in_default-clause-ok : goal.returns-in_default-clause-ok
 returns-in_default-clause-ok c =
@@ -43,9 +32,7 @@ returns-in_default-clause-ok c =
     }
 
 pub returns-in_default-clause-effect : goal.returns-in_default-clause-effect
-returns-in_default-clause-effect c =
-    let first : true ≡ comes_first c.args.log.now c.args.place (first_place c.args.stop.now c.args.self.now.stops) = search rules in
-    stop-does c.args.log.now c.args.place c.requires.last c.args.self.now.stops c.args.stop.now true c.requires.tables.stops c.requires.stop first
+returns-in_default-clause-effect c = search (rules, stop-does c.args.log.now c.args.place c.requires.last c.args.self.now.stops c.args.stop.now true c.requires.tables.stops c.requires.stop (search rules))
 
 pub refresh-requires-clause-shelf : goal.refresh-requires-clause-shelf
 refresh-requires-clause-shelf c =
@@ -67,6 +54,4 @@ returns-clause-ok c =
     }
 
 pub returns-clause-effect : goal.returns-clause-effect
-returns-clause-effect c =
-    let first : true ≡ comes_first c.args.log.now c.args.place (first_place c.args.stop.now c.args.self.now.stops) = search rules in
-    stop-does c.args.log.now c.args.place c.requires.last c.args.self.now.stops c.args.stop.now true c.requires.tables.stops c.requires.stop first
+returns-clause-effect c = search (rules, stop-does c.args.log.now c.args.place c.requires.last c.args.self.now.stops c.args.stop.now true c.requires.tables.stops c.requires.stop (search rules))

@@ -1,6 +1,5 @@
 -- The shelf of the product has the entry, and no other product is touched.
-use Rattle.std.specs.Prelude.{◌≡◌}
-use Rattle.mv_repository.proofs.Words.{bytes_eq, refl, rules, arith, get_or, take, Some, lookup, no_entry}
+use Rattle.mv_repository.proofs.Words.{refl, rules, arith, get_or, take, no_entry}
 use Rattle.mv_repository.proofs.FormLemmas.{masters-at, stops-at}
 use Rattle.mv_repository.proofs.ListedLemmas.{on_err}
 use Rattle.mv_repository.proofs.PacksLemmas.{shelves-same, shelf-found, shelves-stay, shelves-on, upload-away}
@@ -21,9 +20,7 @@ returns-in_err-add_shelf-clause-err c =
     })
 
 pub add_upload-requires-clause-shelf : goal.add_upload-requires-clause-shelf
-add_upload-requires-clause-shelf c =
-    let found : lookup (bytes_eq c.args.gtin.now) c.add_shelf.new.shelves.entries ≡ Some c.in-Some.shelf.now = search rules in
-    shelf-found (take c.args.place c.args.log.now) c.args.self.now.shelves.entries c.add_shelf.new.shelves.entries c.add_shelf.ensures.same c.requires.tables.shelves c.args.gtin.now c.in-Some.shelf.now found
+add_upload-requires-clause-shelf c = search (rules, shelf-found (take c.args.place c.args.log.now) c.args.self.now.shelves.entries c.add_shelf.new.shelves.entries c.add_shelf.ensures.same c.requires.tables.shelves c.args.gtin.now c.in-Some.shelf.now (search rules))
 
 pub returns-in_err-new-clause-err : goal.returns-in_err-new-clause-err
 returns-in_err-new-clause-err c =

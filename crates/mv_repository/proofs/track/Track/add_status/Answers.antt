@@ -1,35 +1,17 @@
 -- The status is put in, and what stands behind it worked out.
+use Rattle.std.proofs.lemmas.Grind.{common_steps}
 use Rattle.std.specs.Prelude.{◌≡◌, ◌≤◌, ◌+◌, ◌∷◌}
-use Rattle.mv_repository.proofs.Words.{◌∙◌, [], ℕ, List, ap, sym, subst, rules, length, take, insert, get_or, map, fold, refl, option_map, unwrap_or, fold-append, AreBlocks, without, Ascends, next_place, effect_on, entry_at, stops_in, no_entry, Kept, IsKept, life_of, put_place, places_before}
+use Rattle.mv_repository.proofs.Words.{◌∙◌, [], ℕ, List, ap, sym, subst, rules, length, take, insert, get_or, fold, refl, option_map, unwrap_or, fold-append, AreBlocks, without, next_place, effect_on, entry_at, stops_in, no_entry, Kept, IsKept, life_of, put_place, places_before, arith}
 use Rattle.mv_repository.proofs.BlockLemmas.{take-insert, without-insert}
 use Rattle.mv_repository.proofs.TableLemmas.{log-split, log-length}
 use Rattle.mv_repository.proofs.TrackLemmas.{put-ascend, put-blocks, put-standing, Done, put-status}
 use Rattle.mv_repository.proofs.track.Track.add_status.Goals as goal
 
 pub place_for-at-requires : goal.place_for-at-requires
-place_for-at-requires c =
-    let slice : c.as_slice.result.now ≡ c.self.inside.statuses.items = search rules in
-    record {
-      ascend = subst (λ (l : List ℕ). Ascends (map (entry_at c.args.newest.now.log.now) l)) (sym slice)
-          (put-ascend (take c.args.newest.now.place c.args.newest.now.log.now) (get_or c.args.newest.now.log.now c.args.newest.now.place no_entry) c.args.newest.now.stops.now c.args.pack.now
-          (record { birth = c.self.inside.birth; statuses = c.self.inside.statuses.items; by = c.self.inside.by; blocks = c.self.inside.blocks.items })
-          c.args.newest.now.log.now (log-split c.args.newest.now.log.now c.args.newest.now.place c.requires.last) (subst (IsKept (life_of c.args.pack.now (take c.args.newest.now.place c.args.newest.now.log.now))) (sym c.self.view_is) c.requires.kept));
-    }
+place_for-at-requires c = grind (arith, common_steps, log-split, put-ascend)
 
 pub by_before-before-requires : goal.by_before-before-requires
-by_before-before-requires c =
-    let log = take c.args.newest.now.place c.args.newest.now.log.now in
-    let entry = get_or c.args.newest.now.log.now c.args.newest.now.place no_entry in
-    let old : Kept = record { birth = c.self.inside.birth; statuses = c.self.inside.statuses.items; by = c.self.inside.by; blocks = c.self.inside.blocks.items } in
-    let kept = subst (IsKept (life_of c.args.pack.now log)) (sym c.self.view_is) c.requires.kept in
-    let split = log-split c.args.newest.now.log.now c.args.newest.now.place c.requires.last in
-    let own = c.as_slice-2.result.now in
-    let slice : own ≡ old.statuses = search rules in
-    record {
-      within = search rules;
-      blocks = put-blocks log entry c.args.newest.now.stops.now c.args.pack.now old c.args.newest.now.log.now split c.requires.stops kept own slice;
-      standing = put-standing log entry c.args.newest.now.stops.now c.args.pack.now old c.args.newest.now.log.now split c.requires.stops kept own slice;
-    }
+by_before-before-requires c = grind (arith, common_steps, log-split, put-blocks, put-standing)
 
 pub by_behind-self-inside-requires : goal.by_behind-self-inside-requires
 by_behind-self-inside-requires c =

@@ -2,8 +2,6 @@ pub mod MembersLemmas
 pub mod ValueLemmas
 pub mod TokenLemmas
 pub mod ReadingLemmas
-pub mod FormLemmas
-pub mod MeaningLemmas
 pub mod ReadsLemmas
 pub mod OrderLemmas
 pub mod MetLemmas

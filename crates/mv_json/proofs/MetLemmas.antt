@@ -18,7 +18,7 @@ use Rattle.serde_json.specs.Data.{Data, null, boolean, string, number, object, u
 use Rattle.serde_json.specs.Find.{get_member}
 use Rattle.serde_json.specs.Read.{number_of, of_json, of_members, converted}
 use Rattle.mv_json.specs.Members.{keys_of}
-use Rattle.mv_json.specs.Met.{BeginWith, HasMet, IsMore}
+use Rattle.mv_json.specs.Met.{BeginWith, HasMet}
 
 -- ---- the grammar, a turn at a time, under the conversion to values
 
@@ -174,7 +174,7 @@ only_more name old met found ms only =
 
 -- a field more was met
 pub one_more_met : {Met : Type 0} (name : Met → List ℕ) (Says : Data → Met → Type 0) (deep : ℕ) (start more rest : List Token) (old new : List Met) (met : Met) (found : Data)
-    → AreMet name Says deep start old (key (name met) ∷ more) → BeginWith deep more found rest → Says found met → IsMore name old met new
+    → AreMet name Says deep start old (key (name met) ∷ more) → BeginWith deep more found rest → Says found met → (new ≡ old ++ met ∷ []) × All (λ other. name other ≢ name met) old
     → AreMet name Says deep start new rest
 one_more_met name Says deep start more rest old new met found are begins is added = subst (λ all. AreMet name Says deep start all rest) (sym added.0) (record {
   members = put (name met) found are.members;

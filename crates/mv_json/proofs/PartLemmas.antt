@@ -1,41 +1,39 @@
 -- What stands in the fields of a message: its tokens, and what is read of it.
-use Rattle.std.proofs.Common.{◌≡◌, ◌∙◌, ◌<◌, ◌-◌, ℕ, Bool, true, false, zero, suc, List, [], ◌∷◌, ◌++◌, length, map, set, ap, sym, subst, refl, arith}
-use Rattle.std.proofs.lemmas.List.Elements.{All-contains, All-cons, All-map, All-nil, All-set, Contains-append_right}
-use Rattle.std.proofs.Math.Seq.{map-set_same}
-use Rattle.std.specs.Prelude.{Option, Some, None, Result, Ok, All, Contains, find, bytes_eq, is_some, IfSome, IsUtf8, ◌≢◌}
-use Rattle.std.specs.List.{AllByRecursion}
-use Rattle.json.specs.Json as json
+use Rattle.json.proofs.Grammar.{value-begin_array}
 use Rattle.json.specs.Json.{value, items, after_end_array}
+use Rattle.json.specs.Json as json
 use Rattle.json.specs.Lex.{tokens}
 use Rattle.json.specs.Token.{Token, begin_object, end_object, begin_array, end_array, key}
 use Rattle.json.specs.Token as token
-use Rattle.json.proofs.Grammar.{value-begin_array}
-use Rattle.serde_json.specs.Data.{Data, null, boolean, string, array}
-use Rattle.serde_json.specs.Find.{get, as_str, as_bool, as_null}
-use Rattle.serde_json.specs.Read.{of_json, of_items, converted}
-use Rattle.mv_pack.specs.Code.{IsCode, read_code}
-use Rattle.mv_pack.specs.Market.{IsMarket, read_market}
-use Rattle.mv_pack.specs.declared.fault.PackFault.{PackFault}
-use Rattle.mv_message.specs.declared.message.Message.{Message}
+use Rattle.mv_json.proofs.MetLemmas.{AreMet, none_met, one_more_met, all_met, begun_shorter, converted_some, weaker, text_begins, null_begins, truth_begins, whole_begins}
+use Rattle.mv_json.proofs.ReadingLemmas.{none_named, Inverts, codes_inverted, markets_inverted, list_tells}
+use Rattle.mv_json.proofs.ValueLemmas.{utf8_test}
+use Rattle.mv_json.specs.Fields.{field_name}
+use Rattle.mv_json.specs.Limits.{most_markets, most_serials}
+use Rattle.mv_json.specs.Members.{keys_of, HasOnly}
+use Rattle.mv_json.specs.Messages.{read_bytes}
+use Rattle.mv_json.specs.Met.{BeginWith}
+use Rattle.mv_json.specs.Parts.{BeginWithMessage, BeginWithPart, BeginWithEntries, BeginWithTexts, StartWithPart, entry, entry_name, HasEntries, IsPart, IsPlace, IsTaken, IsThere, deep_in, there}
+use Rattle.mv_json.specs.Reading.{list_at, whole_number}
+use Rattle.mv_json.specs.Values.{strings, whole}
 use Rattle.mv_json.specs.declared.field.Field.{Field}
 use Rattle.mv_json.specs.declared.field.Field.TheVariants as fields
 use Rattle.mv_json.specs.declared.object.Place.{Place}
 use Rattle.mv_json.specs.declared.part.Entry.{Entry}
 use Rattle.mv_json.specs.declared.part.Part.{Part}
 use Rattle.mv_json.specs.declared.part.Part.TheVariants as parts
-use Rattle.mv_json.specs.Fields.{field_name}
-use Rattle.mv_json.specs.Limits.{most_markets, most_serials}
-use Rattle.mv_json.specs.Members.{keys_of}
-use Rattle.mv_json.specs.Messages.{read_bytes}
-use Rattle.mv_json.specs.Met.{BeginWith}
-use Rattle.mv_json.specs.Reading.{list_at, whole_number}
-use Rattle.mv_json.specs.Spellings.{HasOnly}
-use Rattle.mv_json.specs.Values.{strings, whole}
-use Rattle.mv_json.specs.Parts.{BeginWithMessage, BeginWithPart, BeginWithEntries, BeginWithTexts, StartWithPart, entry, entry_name, HasEntries, IsPart, IsPlace, IsTaken, IsThere, deep_in, there}
-use Rattle.mv_json.proofs.MeaningLemmas.{none_named}
-use Rattle.mv_json.proofs.MetLemmas.{AreMet, none_met, one_more_met, all_met, begun_shorter, converted_some, weaker, text_begins, null_begins, truth_begins, whole_begins}
-use Rattle.mv_json.proofs.ReadingLemmas.{TakesAsItself, codes_as_they_are, markets_as_they_are, list_read}
-use Rattle.mv_json.proofs.ValueLemmas.{utf8_test}
+use Rattle.mv_message.specs.declared.message.Message.{Message}
+use Rattle.mv_pack.specs.Code.{IsCode, read_code}
+use Rattle.mv_pack.specs.Market.{IsMarket, read_market}
+use Rattle.mv_pack.specs.declared.fault.PackFault.{PackFault}
+use Rattle.serde_json.specs.Data.{Data, null, boolean, string, array}
+use Rattle.serde_json.specs.Find.{get, as_str, as_bool, as_null}
+use Rattle.serde_json.specs.Read.{of_json, of_items, converted}
+use Rattle.std.proofs.Common.{◌≡◌, ◌∙◌, ◌<◌, ◌-◌, ℕ, Bool, true, false, zero, suc, List, [], ◌∷◌, ◌++◌, length, map, set, ap, sym, subst, refl, arith}
+use Rattle.std.proofs.Math.Seq.{map-set_same}
+use Rattle.std.proofs.lemmas.List.Elements.{All-contains, All-cons, All-map, All-nil, All-set, Contains-append_right}
+use Rattle.std.specs.List.{AllByRecursion}
+use Rattle.std.specs.Prelude.{Option, Some, None, Result, Ok, All, Contains, find, bytes_eq, is_some, IfSome, IsUtf8, ◌≢◌}
 
 -- ---- lists of texts
 
@@ -65,7 +63,7 @@ record TextsParsed (Holds : List ℕ → Type 0) (ts : List Token) (xs : List (L
   is : of_items texts ≡ Some (strings xs)
   hold : AllByRecursion Holds xs
 
-texts_parsed : (reader : List ℕ → Result (List ℕ) PackFault) (Holds : List ℕ → Type 0) → TakesAsItself reader Holds → (ts : List Token) (xs : List (List ℕ)) (rest : List Token)
+texts_parsed : (reader : List ℕ → Result (List ℕ) PackFault) (Holds : List ℕ → Type 0) → Inverts reader (λ t. t) Holds → (ts : List Token) (xs : List (List ℕ)) (rest : List Token)
     → BeginWithTexts reader ts xs rest → TextsParsed Holds ts xs rest
 texts_parsed reader Holds good ts [] rest h =
     record { texts = json.no_items; parsed = λ depth. rw h (no_item depth rest); is = refl; hold = tt }
@@ -74,12 +72,12 @@ texts_parsed reader Holds good ts (x ∷ xs) rest (more, (text, is, read), then)
     record {
       texts = json.item (json.string text) others.texts;
       parsed = λ depth. rw is (one_item depth text more rest others.texts (others.parsed depth));
-      is = rw (others.is, good.same text x read);
-      hold = (good.holds text x read, others.hold);
+      is = rw (others.is, (good.ok text x read).0);
+      hold = ((good.ok text x read).1, others.hold);
     }
 
 -- a list of texts, behind the bracket that opens it
-listed : (reader : List ℕ → Result (List ℕ) PackFault) (Holds : List ℕ → Type 0) → TakesAsItself reader Holds → (ts list rest : List Token) (xs : List (List ℕ)) → ts ≡ begin_array ∷ list
+listed : (reader : List ℕ → Result (List ℕ) PackFault) (Holds : List ℕ → Type 0) → Inverts reader (λ t. t) Holds → (ts list rest : List Token) (xs : List (List ℕ)) → ts ≡ begin_array ∷ list
     → BeginWithTexts reader list xs rest → BeginWith 1 ts (array (strings xs)) rest × AllByRecursion Holds xs
 listed reader Holds good ts list rest xs opens has =
     let m = texts_parsed reader Holds good list xs rest has in
@@ -88,11 +86,11 @@ listed reader Holds good ts list rest xs opens has =
 -- tokens that say a part, which is no object, are a value that says it
 part_starts : (ts rest : List Token) (part : Part) → StartWithPart ts part rest → BeginWithPart 1 ts part rest
 part_starts ts rest (parts.Markets x) (list, opens, has, count) =
-    let (begins, hold) = listed read_market IsMarket markets_as_they_are ts list rest x.items opens has in
+    let (begins, hold) = listed read_market IsMarket markets_inverted ts list rest x.items opens has in
     (array (strings x.items), begins, (refl, (count.0, count.1, hold)))
 part_starts ts rest parts.Null is = (null, rw is (null_begins 1 rest), refl)
 part_starts ts rest (parts.Serials x) (list, opens, has, count) =
-    let (begins, hold) = listed read_code IsCode codes_as_they_are ts list rest x.items opens has in
+    let (begins, hold) = listed read_code IsCode codes_inverted ts list rest x.items opens has in
     (array (strings x.items), begins, (refl, (count.0, count.1, hold)))
 part_starts ts rest (parts.Text x) is = (string x.now, rw is (text_begins 1 x.now rest), refl)
 part_starts ts rest (parts.Truth x) is = (boolean x, rw is (truth_begins 1 x rest), refl)
@@ -203,13 +201,13 @@ pub markets_taken : (value : Data) (old new : List Entry) (field : Field) (x : _
     → (list_at read_market most_markets field value ≡ Ok x.items) × HasEntries value new
 markets_taken value old new field x has taken =
     let ((found, at, (is, hold)), left) = part_taken value old new field (parts.Markets x) has taken (λ found is. (strings x.items, is.0)) in
-    (list_read read_market IsMarket markets_as_they_are most_markets field value x.items (at ∙ ap (λ d. Some d) is, hold), left)
+    ((list_tells read_market IsMarket markets_inverted most_markets field).read value x.items (at ∙ ap (λ d. Some d) is, hold), left)
 
 pub serials_taken : (value : Data) (old new : List Entry) (field : Field) (x : _) → HasEntries value old → IsTaken old field (parts.Serials x) new
     → (list_at read_code most_serials field value ≡ Ok x.items) × HasEntries value new
 serials_taken value old new field x has taken =
     let ((found, at, (is, hold)), left) = part_taken value old new field (parts.Serials x) has taken (λ found is. (strings x.items, is.0)) in
-    (list_read read_code IsCode codes_as_they_are most_serials field value x.items (at ∙ ap (λ d. Some d) is, hold), left)
+    ((list_tells read_code IsCode codes_inverted most_serials field).read value x.items (at ∙ ap (λ d. Some d) is, hold), left)
 
 -- ---- fields that are not there
 

@@ -1,42 +1,193 @@
 -- A value is read as a message exactly where it is a spelling of it; what is read is legal, and the value of what is legal spells it.
-use Rattle.mv_json.proofs.FormLemmas.{IsOfForm, IsOfVersion, opened, reopened, all_known, none_unknown}
-use Rattle.mv_json.proofs.MeaningLemmas.{AreRead, each, made, made_ok, Unsaid, is_absent, parts_agree, made_read}
-use Rattle.mv_json.specs.Shapes.{contents_of, IsLegal, Reads, meaning_of, fields_of, making_of, names_of, message_at}
-use Rattle.mv_json.specs.FieldMeanings.{IsNational, part_of}
+use Rattle.mv_json.proofs.OrderLemmas.{rises, strictly_sorted}
+use Rattle.mv_json.proofs.ReadingLemmas.{each, made, made_ok, parts_agree, made_read, both_ok, given, ok_or_some, as_object_ok, text_tells, same_bytes, found_by_name, unrefused, member_tells}
 use Rattle.mv_json.specs.Fields.{field_name, names_in}
-use Rattle.mv_json.specs.Forms.{IsIn, form_of}
-use Rattle.mv_json.specs.Found.{present_fields, found_version, found_value, SpellsFound, IsLegalFound, present_at, present_of, found_of, found_at}
-use Rattle.mv_json.specs.Meanings.{AreLegal, AreSpelled, Values}
-use Rattle.mv_json.specs.Members.{keys_of, first_unknown}
-use Rattle.mv_json.specs.Messages.{read_message, value_of}
-use Rattle.mv_json.specs.Objects.{value_in}
-use Rattle.mv_json.specs.Spellings.{HasOnly, Has}
+use Rattle.mv_json.specs.Meanings.{part_of, Meaning, Making, made_at, first_fault, Has, AreLegal, AreSpelled}
+use Rattle.mv_json.specs.Members.{keys_of, first_unknown, HasOnly}
+use Rattle.mv_json.specs.Messages.{read_message, value_of, value_in}
+use Rattle.mv_json.specs.Reading.{◌and_then◌, text_at, GivesOr, member_at}
+use Rattle.mv_json.specs.Shapes.{IsIn, form_name, forms_of, form_named, form_at, version_of, version_at, form_of, present_fields, found_version, found_value, SpellsFound, IsLegalFound, present_at, present_of, found_of, found_at, meaning_of, fields_of, making_of, names_of, message_at, contents_of, IsLegal, Reads}
+use Rattle.mv_json.specs.Values.{whole, since_two}
 use Rattle.mv_json.specs.declared.fault.MessageFault.{MessageFault}
+use Rattle.mv_json.specs.declared.fault.MessageFault.TheVariants.{Kind, Memory, NotObject, Unknown}
 use Rattle.mv_json.specs.declared.field.Field.{Field}
 use Rattle.mv_json.specs.declared.field.Field.TheVariants as fields
 use Rattle.mv_json.specs.declared.form.Form.{Form}
 use Rattle.mv_json.specs.declared.form.Form.TheVariants as forms
-use Rattle.mv_json.specs.declared.version.Version.{Version}
-use Rattle.mv_json.specs.declared.version.Version.TheVariants.{One, Two}
+use Rattle.mv_json.specs.declared.form.Version.{Version}
+use Rattle.mv_json.specs.declared.form.Version.TheVariants.{One, Two}
 use Rattle.mv_message.specs.declared.found.Found.{Found}
 use Rattle.mv_message.specs.declared.found.Found.TheVariants.{Absent, Present}
 use Rattle.mv_message.specs.declared.message.Message.{Message}
 use Rattle.mv_message.specs.declared.message.Message.TheVariants as messages
+use Rattle.mv_message.specs.declared.standing.Standing.{Standing}
 use Rattle.mv_pack.proofs.ExpiryLemmas.{read_expiry_text}
 use Rattle.mv_pack.proofs.GtinLemmas.{read_gtin_of}
 use Rattle.mv_pack.specs.Expiry.{expiry_text, CivilDate}
 use Rattle.mv_pack.specs.declared.key.PackKey.{PackKey}
-use Rattle.serde_json.specs.Data.{Data, object, Members, null}
-use Rattle.std.proofs.Common.{◌≡◌, ◌∙◌, ap, refl, true, subst, ◌↔◌, ℕ, List, false, Bool, cond, sym}
-use Rattle.std.specs.List.{list_any}
-use Rattle.std.specs.Prelude.{bytes_eq, Ok, Option, Result, Some, None, Err, is_some}
-use Rattle.std.specs.Option.{ok_or}
-use Rattle.std.specs.Result.{result_ok}
-use Rattle.serde_json.specs.Find.{as_object}
-use Rattle.mv_json.specs.declared.fault.MessageFault.TheVariants.{Kind, NotObject}
-use Rattle.mv_message.specs.declared.standing.Standing.{Standing}
-use Rattle.mv_json.specs.Reading.{◌and_then◌, member_at}
-use Rattle.mv_json.proofs.ReadingLemmas.{both_ok, ok_or_some, unrefused, as_object_ok, member_ok, member_read}
+use Rattle.serde_json.specs.Data.{Data, number, object, string, unsigned, Members, null}
+use Rattle.serde_json.specs.Find.{get, as_object}
+use Rattle.std.proofs.Common.{◌≡◌, ◌∙◌, ℕ, true, false, not, cond, List, [], ◌∷◌, ap, subst, refl, arith, ◌↔◌, Bool}
+use Rattle.std.proofs.lemmas.Bool.Decides.{nat_tests}
+use Rattle.std.proofs.lemmas.Map.Views.{Contains-from_any, list_any-from_Contains}
+use Rattle.std.specs.Cmp.Lexicographic.{nat_list_eq_equiv, slice_cmp}
+use Rattle.std.specs.List.{AllByRecursion, list_any}
+use Rattle.std.specs.List.Sorted.{IsStrictlySortedBy}
+use Rattle.std.specs.Option.{ok_or, option_map_or, option_or}
+use Rattle.std.specs.Ordering.{nat_cmp}
+use Rattle.std.specs.Prelude.{◌==◌, Bool, bytes_eq, Option, Some, None, Result, Ok, Err, find, Contains, is_some}
+use Rattle.std.specs.Result.{result_err, result_ok}
+
+-- ---- the keys, the version and the form of an object, and the fault of its fields
+
+-- whether a key is one of these names
+abbrev is_among : List (List ℕ) → List ℕ → Bool
+is_among names key = list_any (bytes_eq key) names
+
+-- no key is unknown, so each is one of the names
+pub all_known : (names keys : List (List ℕ)) → find (λ key. not (is_among names key)) keys ≡ None → AllByRecursion (Contains names) keys
+all_known names [] h = tt
+all_known names (k ∷ ks) h = elim (is_among names k) as (λ b. is_among names k ≡ b → cond (not b) (Some k) (find (λ key. not (is_among names key)) ks) ≡ None → Contains names k × AllByRecursion (Contains names) ks) [
+  | true ↦ λ known e. (Contains-from_any same_bytes k names known, all_known names ks e)
+  | false ↦ λ known e. cc
+] refl h
+
+pub none_unknown : (names keys : List (List ℕ)) → AllByRecursion (Contains names) keys → find (λ key. not (is_among names key)) keys ≡ None
+none_unknown names [] h = refl
+none_unknown names (k ∷ ks) h =
+    ap (λ b. cond (not b) (Some k) (find (λ key. not (is_among names key)) ks)) (list_any-from_Contains nat_list_eq_equiv k names h.0)
+    ∙ none_unknown names ks h.1
+
+-- what reading gives, where no key is unknown
+abbrev unless_unknown : {A : Type 0} → Option (List ℕ) → Result A MessageFault → Result A MessageFault
+unless_unknown o reading = option_map_or (λ key. Err (Unknown key)) o reading
+
+unless_ok : {A : Type 0} (o : Option (List ℕ)) (reading : Result A MessageFault) (x : A) → unless_unknown o reading ≡ Ok x → (o ≡ None) × (reading ≡ Ok x)
+unless_ok None reading x h = (refl, h)
+unless_ok (Some key) reading x h = cc
+
+-- whoever takes the form, where no key is unknown, and then reads the fields by it, reads them where no key is unknown
+pub known_gives : (result : Result Message MessageFault) (o : Option (List ℕ)) (version : Version) (form known : Form) (d : Data)
+    → unless_unknown o (Ok form) ≡ Ok known → GivesOr result (message_at version known d) Memory
+    → GivesOr result (unless_unknown o (message_at version form d)) Memory
+known_gives result None version form known d taken gives =
+    let same : known ≡ form = cc in subst (λ f. GivesOr result (message_at version f d) Memory) same gives
+known_gives result (Some key) version form known d taken gives = cc
+
+is_two : (n : ℕ) → (n == 2) ≡ true → n ≡ 2
+is_two n h = grind (arith, nat_tests)
+
+-- what `v` is where it gives that version
+abbrev IsVersion : Version → Option Data → Type 0
+IsVersion version o = o ≡ since_two version None (Some (whole 2))
+
+-- an object of that version
+abbrev pub IsOfVersion : Version → Data → Type 0
+IsOfVersion version d = IsVersion version (get (field_name fields.V) d)
+
+-- an object that has the name of the form, and no other key than its fields
+abbrev pub IsOfForm : Version → Form → Data → Type 0
+IsOfForm version form d = HasOnly (names_of version form) d × Has d fields.Msg (string (form_name form))
+
+version_of_ok : (o : Option Data) (version : Version) → version_of o ≡ Ok version → IsVersion version o
+version_of_ok None One h = refl
+version_of_ok (Some (number (unsigned n))) version h =
+    let g = given (n == 2) Two (Kind fields.V) version h in subst (λ v. IsVersion v (Some (whole n))) g.1 (ap (λ n. Some (whole n)) (is_two n g.0))
+version_of_ok o version h = cc
+
+-- an object whose version is read is of that version
+pub version_ok : (d : Data) (version : Version) → version_at d ≡ Ok version → IsOfVersion version d
+unfolding version_at
+version_ok d version h = version_of_ok (get (field_name fields.V) d) version h
+
+pub version_read : (d : Data) (version : Version) → IsOfVersion version d → version_at d ≡ Ok version
+unfolding version_at
+version_read d One h = ap version_of h
+version_read d Two h = ap version_of h
+
+-- a text that names a form is its name, and the form came with that version, or before it
+pub form_has_name : (version : Version) (t : List ℕ) (form : Form) → form_named version t ≡ Some form → (t ≡ form_name form) × IsIn form version
+form_has_name One t form h = found_by_name form_name (λ f. IsIn f One) t (forms_of One) form (tt, (tt, (tt, (tt, (tt, (tt, (tt, tt))))))) h
+form_has_name Two t form h = found_by_name form_name (λ f. IsIn f Two) t (forms_of Two) form (tt, (tt, (tt, (tt, (tt, (tt, (tt, (tt, tt)))))))) h
+
+form_is_named : (version : Version) (form : Form) → IsIn form version → form_named version (form_name form) ≡ Some form
+form_is_named One forms.Withdraw h = absurd h
+form_is_named One form h = refl
+form_is_named Two forms.Withdraw h = refl
+form_is_named Two form h = refl
+
+form_ok : (version : Version) (d : Data) (form : Form) → form_at version d ≡ Ok form → Has d fields.Msg (string (form_name form)) × IsIn form version
+unfolding form_at
+form_ok version d form h =
+    let b = both_ok (text_at fields.Msg d) (λ t. ok_or (form_named version t) (Kind fields.Msg)) form h in
+    let named = form_has_name version b.0 form (ok_or_some (Kind fields.Msg) (form_named version b.0) form b.2) in
+    (subst (λ t. Has d fields.Msg (string t)) named.0 ((text_tells fields.Msg).ok d b.0 b.1), named.1)
+
+pub form_read : (version : Version) (d : Data) (form : Form) → Has d fields.Msg (string (form_name form)) → IsIn form version → form_at version d ≡ Ok form
+unfolding form_at
+form_read version d form h is_in = rw (h, form_is_named version form is_in) refl
+
+-- a message was read, so the object has a version and a form, and its fields give the message
+pub opened : (d : Data) (m : Message) → read_message d ≡ Ok m → (version : Version) × (form : Form) × IsOfVersion version d × IsOfForm version form d × IsIn form version × (message_at version form d ≡ Ok m)
+unfolding read_message
+opened d m h =
+    let a = both_ok (ok_or (as_object d) NotObject) (λ ms. version_at d and_then λ version. form_at version d and_then λ form. unless_unknown (first_unknown (names_of version form) ms) (message_at version form d)) m h in
+    let v = both_ok (version_at d) (λ version. form_at version d and_then λ form. unless_unknown (first_unknown (names_of version form) a.0) (message_at version form d)) m a.2 in
+    let b = both_ok (form_at v.0 d) (λ form. unless_unknown (first_unknown (names_of v.0 form) a.0) (message_at v.0 form d)) m v.2 in
+    let u = unless_ok (first_unknown (names_of v.0 b.0) a.0) (message_at v.0 b.0 d) m b.2 in
+    let is_object : d ≡ object a.0 = as_object_ok d a.0 (ok_or_some NotObject (as_object d) a.0 a.1) in
+    let named = form_ok v.0 d b.0 b.1 in (
+      v.0,
+      b.0,
+      version_ok d v.0 v.1,
+      ((a.0, is_object, all_known (names_of v.0 b.0) (keys_of a.0) u.0), named.0),
+      named.1,
+      u.1,
+    )
+
+-- an object of that version and form, with no other key, is read by its fields
+pub read_by_fields : (d : Data) (version : Version) (form : Form) → version_at d ≡ Ok version → form_at version d ≡ Ok form → HasOnly (names_of version form) d → read_message d ≡ message_at version form d
+unfolding read_message
+read_by_fields d version form of_version of_form (ms, is_object, known) =
+    rw (ap as_object is_object, of_version, of_form, none_unknown (names_of version form) (keys_of ms) known) refl
+
+-- an object of that version and form is read as what its fields give
+pub reopened : (d : Data) (m : Message) (version : Version) (form : Form) → IsOfVersion version d → IsOfForm version form d → IsIn form version → message_at version form d ≡ Ok m → read_message d ≡ Ok m
+reopened d m version form of_version (known, name) is_in fields_read =
+    read_by_fields d version form (version_read d version of_version) (form_read version d form name is_in) known ∙ fields_read
+
+-- ---- the fault of a message is that of its first field that has one
+
+-- the fault of a reading, else that of the next, which is the same whatever the first gave
+behind : {A M : Type 0} (a : Result A MessageFault) (next : A → Result M MessageFault) (rest : Option MessageFault) → ((x : A) → result_err (next x) ≡ rest) → result_err (a and_then next) ≡ option_or (result_err a) rest
+behind (Ok x) next rest h = h x
+behind (Err fault) next rest h = refl
+
+-- the fault of fields is that of the first of them that has one
+made_fault : (A : Type 0) (meaning : Field → Meaning) (listed : List Field) (makes : Making meaning A listed) (d : Data) → result_err (made_at meaning listed makes d) ≡ first_fault meaning listed d
+made_fault A meaning [] made d = refl
+made_fault A meaning (field ∷ rest) makes d =
+    behind ((meaning field).read d) _ _ (λ x. made_fault A meaning rest (makes x) d)
+
+message_fault : (version : Version) (d : Data) (form : Form) → result_err (message_at version form d) ≡ first_fault (meaning_of version form) (fields_of form) d
+unfolding message_at
+message_fault version d form = made_fault Message (meaning_of version form) (fields_of form) (making_of version form) d
+
+-- the fault of an object with a version, a form and the keys of that form is that of the first of its fields that has one
+pub first_fault_is_given : (d : Data) (version : Version) (form : Form) → version_at d ≡ Ok version → form_at version d ≡ Ok form → HasOnly (names_of version form) d → result_err (read_message d) ≡ first_fault (meaning_of version form) (fields_of form) d
+first_fault_is_given d version form of_version of_form known =
+    ap result_err (read_by_fields d version form of_version of_form known) ∙ message_fault version d form
+
+names_rise : (version : Version) (form : Form) → rises (slice_cmp nat_cmp) (names_of version form) ≡ true
+unfolding rises
+names_rise One forms.Answer = refl
+names_rise One form = refl
+names_rise Two forms.Answer = refl
+names_rise Two form = refl
+
+-- the names of the fields of a message are in byte order, each once
+pub fields_are_in_order : (version : Version) (form : Form) → IsStrictlySortedBy (slice_cmp nat_cmp) (names_of version form)
+fields_are_in_order version form = strictly_sorted (slice_cmp nat_cmp) (names_of version form) (names_rise version form)
 
 -- ---- what was found of a pack
 
@@ -44,18 +195,11 @@ use Rattle.mv_json.proofs.ReadingLemmas.{both_ok, ok_or_some, unrefused, as_obje
 abbrev pack_of : List ℕ → CivilDate → Option (List ℕ) → Bool → Standing → Bool → Found
 pack_of batch expiry national recalled standing withdrawn = Present batch expiry national standing recalled withdrawn
 
--- the names of the fields of a pack leave out what came with the second version
-unsaid_of_pack : (version : Version) (part : Data) → HasOnly (names_in version present_fields) part → Unsaid version part
-unsaid_of_pack One part only =
-    record { national = λ _. is_absent fields.National (names_in One present_fields) part only refl; withdrawn = λ _. is_absent fields.Withdrawn (names_in One present_fields) part only refl }
-unsaid_of_pack Two part only = record { national = λ h. cc; withdrawn = λ h. cc }
-
 -- the fields of an object gave a pack, so they spell it
 fields_spelled : (version : Version) (part : Data) (found : Found) → HasOnly (names_in version present_fields) part → present_at version part ≡ Ok found → SpellsFound version part found
 fields_spelled version part found only h =
     let p = made_ok Found (part_of version) present_fields pack_of part found h in
-    let unsaid = unsaid_of_pack version part only in
-    subst (SpellsFound version part) p.2 (only, each (part_of version) _ _ (λ field x h. (parts_agree version field).ok part x unsaid h) present_fields p.0 p.1)
+    subst (SpellsFound version part) p.2 (only, each (part_of version) _ _ (λ field x h. (parts_agree version field).tells.ok part x h) present_fields p.0 p.1)
 
 none_found : {A : Type 0} (o : Option A) → is_some o ≡ false → o ≡ None
 none_found None h = refl
@@ -74,12 +218,9 @@ present_ok : (r : Result Found MessageFault) (found : Found) → ok_or (result_o
 present_ok (Ok x) found h = cc
 present_ok (Err e) found h = cc
 
-null_spelled : (version : Version) (found : Found) → found_of version null ≡ Ok found → SpellsFound version null found
-null_spelled version Absent h = refl
-null_spelled version (Present batch expiry national standing recalled withdrawn) h = cc
-
 part_spelled : (version : Version) (part : Data) (found : Found) → found_of version part ≡ Ok found → SpellsFound version part found
-part_spelled version null found h = null_spelled version found h
+part_spelled version null Absent h = refl
+part_spelled version null (Present batch expiry national standing recalled withdrawn) h = cc
 part_spelled version part found h = object_spelled version part found (present_ok (present_of version part) found h)
 
 -- the field `found` says what was found
@@ -91,29 +232,25 @@ pub found_ok : (version : Version) (d : Data) (found : Found) → found_at versi
 unfolding found_at
 found_ok version d found h =
     let p = both_ok (member_at fields.Found d) (found_of version) found h in
-    (p.0, member_ok fields.Found d p.0 p.1, part_spelled version p.0 found p.2)
+    (p.0, (member_tells fields.Found).ok d p.0 p.1, part_spelled version p.0 found p.2)
 
 -- an object that has no other key than the fields of a pack is read as the pack that they give
 pub pack_read : (version : Version) (part : Data) (found : Found) → HasOnly (names_in version present_fields) part → present_at version part ≡ Ok found → found_of version part ≡ Ok found
 unfolding present_of
 pack_read version part found (ms, is_object, known) given =
-    let read : present_of version (object ms) ≡ Ok found =
-    ap (λ o. cond (is_some o) (Err (Kind fields.Found)) (present_at version (object ms))) (none_unknown (names_in version present_fields) (keys_of ms) known)
-    ∙ ap (present_at version) (sym is_object)
-    ∙ given in
-    ap (found_of version) is_object ∙ ap (λ r. ok_or (result_ok r) (Kind fields.Found)) read
+    rw (is_object, none_unknown (names_in version present_fields) (keys_of ms) known, rw is_object at given) refl
 
 part_read : (version : Version) (part : Data) (found : Found) → SpellsFound version part found → found_of version part ≡ Ok found
 part_read version part Absent h = ap (found_of version) h
 part_read version part (Present batch expiry national standing recalled withdrawn) (only, spelled) =
     pack_read version part _ only (made_read Found (part_of version) present_fields pack_of part _
-    (each (part_of version) _ _ (λ field x h. (parts_agree version field).read part x h) present_fields _ spelled))
+    (each (part_of version) _ _ (λ field x h. (parts_agree version field).tells.read part x h) present_fields _ spelled))
 
 -- a field that spells what was found is read as it
 pub found_read : (version : Version) (d : Data) (found : Found) → HasFound version d found → found_at version d ≡ Ok found
 unfolding found_at
 found_read version d found (part, has, spells) =
-    ap (λ r. r and_then found_of version) (member_read fields.Found d part has) ∙ part_read version part found spells
+    ap (λ r. r and_then found_of version) ((member_tells fields.Found).read d part has) ∙ part_read version part found spells
 
 -- ---- messages
 
@@ -121,49 +258,22 @@ found_read version d found (part, has, spells) =
 abbrev pub ReadsIn : Version → Data → Message → Type 0
 ReadsIn version d m = HasOnly (names_of version (form_of m)) d × AreSpelled (meaning_of version (form_of m)) (fields_of (form_of m)) (contents_of version m) d
 
--- the names of the fields of a form leave out what came with the second version
-no_national : (form : Form) → list_any (bytes_eq (field_name fields.National)) (names_of One form) ≡ false
-no_national forms.Answer = refl
-no_national form = refl
-
-no_withdrawn : (form : Form) → list_any (bytes_eq (field_name fields.Withdrawn)) (names_of One form) ≡ false
-no_withdrawn forms.Answer = refl
-no_withdrawn form = refl
-
-unsaid_of : (version : Version) (form : Form) (d : Data) → HasOnly (names_of version form) d → Unsaid version d
-unsaid_of One form d only = record {
-  national = λ _. is_absent fields.National (names_of One form) d only (no_national form);
-  withdrawn = λ _. is_absent fields.Withdrawn (names_of One form) d only (no_withdrawn form);
-}
-unsaid_of Two form d only = record { national = λ h. cc; withdrawn = λ h. cc }
-
--- values that the fields of an object are read as
-record Given (version : Version) (form : Form) (d : Data) (m : Message) : Type 0 where
-  values : Values (meaning_of version form) (fields_of form)
-  read : AreRead (meaning_of version form) (fields_of form) d values
-  makes : made Message (meaning_of version form) (fields_of form) (making_of version form) values ≡ m
-
-given : (version : Version) (form : Form) (d : Data) (m : Message) → message_at version form d ≡ Ok m → Given version form d m
-unfolding message_at
-given version form d m h =
-    let p = made_ok Message (meaning_of version form) (fields_of form) (making_of version form) d m h in
-    record { values = p.0; read = p.1; makes = p.2 }
-
 -- a field spells what it is read as
 field_spelled : (version : Version) (form : Form) (d : Data) → IsOfVersion version d → IsOfForm version form d → IsIn form version
     → (field : Field) (x : (meaning_of version form field).Value) → (meaning_of version form field).read d ≡ Ok x → (meaning_of version form field).Spells d x
 field_spelled version form d of_version of_form is_in fields.Found x h = found_ok version d x h
 field_spelled version form d of_version of_form is_in fields.Msg x h = (of_form.1, is_in)
-field_spelled version form d of_version of_form is_in fields.V x h = (of_version, tt)
-field_spelled version form d of_version of_form is_in field x h = (parts_agree version field).ok d x (unsaid_of version form d of_form.0) h
+field_spelled version form d of_version of_form is_in fields.V x h = of_version
+field_spelled version form d of_version of_form is_in field x h = (parts_agree version field).tells.ok d x h
 
 message_spelled : (version : Version) (d : Data) (m : Message) (form : Form) → IsOfVersion version d → IsOfForm version form d → IsIn form version → message_at version form d ≡ Ok m → ReadsIn version d m
+unfolding message_at
 message_spelled version d m forms.Answer of_version of_form is_in h =
-    let g = given version forms.Answer d m h in
-    subst (ReadsIn version d) g.makes (of_form.0, each (meaning_of version forms.Answer) _ _ (field_spelled version forms.Answer d of_version of_form is_in) (fields_of forms.Answer) g.values g.read)
+    let p = made_ok Message (meaning_of version forms.Answer) (fields_of forms.Answer) (making_of version forms.Answer) d m h in
+    subst (ReadsIn version d) p.2 (of_form.0, each (meaning_of version forms.Answer) _ _ (field_spelled version forms.Answer d of_version of_form is_in) (fields_of forms.Answer) p.0 p.1)
 message_spelled version d m form of_version of_form is_in h =
-    let g = given version form d m h in
-    subst (ReadsIn version d) g.makes (of_form.0, each (meaning_of version form) _ _ (field_spelled version form d of_version of_form is_in) (fields_of form) g.values g.read)
+    let p = made_ok Message (meaning_of version form) (fields_of form) (making_of version form) d m h in
+    subst (ReadsIn version d) p.2 (of_form.0, each (meaning_of version form) _ _ (field_spelled version form d of_version of_form is_in) (fields_of form) p.0 p.1)
 
 -- what is read as a message spells it
 pub read_is_spelled : (d : Data) (m : Message) → read_message d ≡ Ok m → Reads d m
@@ -171,28 +281,23 @@ read_is_spelled d m h = let o = opened d m h in (o.0, message_spelled o.0 d m o.
 
 -- ---- a value is read as a message exactly where it is a spelling of it
 
--- the fields of an object are read as values that make a message
-pub given_read : (version : Version) (form : Form) (d : Data) (values : Values (meaning_of version form) (fields_of form)) → AreRead (meaning_of version form) (fields_of form) d values → message_at version form d ≡ Ok (made Message (meaning_of version form) (fields_of form) (making_of version form) values)
-unfolding message_at
-given_read version form d values h = made_read Message (meaning_of version form) (fields_of form) (making_of version form) d values h
-
 -- a field is read as what it spells
 field_is_read : (version : Version) (form : Form) (d : Data) (field : Field) (x : (meaning_of version form field).Value) → (meaning_of version form field).Spells d x → (meaning_of version form field).read d ≡ Ok x
 field_is_read version form d fields.Found x h = found_read version d x h
 field_is_read version form d fields.Msg x h = refl
 field_is_read version form d fields.V x h = refl
-field_is_read version form d field x h = (parts_agree version field).read d x h
+field_is_read version form d field x h = (parts_agree version field).tells.read d x h
 
 -- what spells a message has its version and its form
 opened_by : (version : Version) (d : Data) (m : Message) → ReadsIn version d m → IsOfVersion version d × IsOfForm version (form_of m) d × IsIn (form_of m) version
-opened_by version d (messages.Master gtin product) h = (h.1.1.1.1.1.1.1.1.1.1.1.0.0, (h.0, h.1.1.1.1.1.0.0), h.1.1.1.1.1.0.1)
-opened_by version d (messages.Upload gtin batch expiry national serials) h = (h.1.1.1.1.1.1.1.0.0, (h.0, h.1.1.1.1.0.0), h.1.1.1.1.0.1)
-opened_by version d (messages.Status key to user at) h = (h.1.1.1.1.1.1.1.0.0, (h.0, h.1.1.1.0.0), h.1.1.1.0.1)
-opened_by version d (messages.Recall key at) h = (h.1.1.1.1.1.0.0, (h.0, h.1.1.1.1.0.0), h.1.1.1.1.0.1)
-opened_by version d (messages.Repack before before_serials after after_serials at) h = (h.1.1.1.1.1.1.1.1.1.0.0, (h.0, h.1.1.1.1.1.1.1.1.0.0), h.1.1.1.1.1.1.1.1.0.1)
-opened_by version d (messages.Withdraw gtin at) h = (h.1.1.1.1.0.0, (h.0, h.1.1.1.0.0), h.1.1.1.0.1)
-opened_by version d (messages.Query key) h = (h.1.1.1.1.0.0, (h.0, h.1.1.0.0), h.1.1.0.1)
-opened_by version d (messages.Answer asker q key found) h = (h.1.1.1.1.1.1.1.0.0, (h.0, h.1.1.1.1.0.0), h.1.1.1.1.0.1)
+opened_by version d (messages.Master gtin product) h = (h.1.1.1.1.1.1.1.1.1.1.1.0, (h.0, h.1.1.1.1.1.0.0), h.1.1.1.1.1.0.1)
+opened_by version d (messages.Upload gtin batch expiry national serials) h = (h.1.1.1.1.1.1.1.0, (h.0, h.1.1.1.1.0.0), h.1.1.1.1.0.1)
+opened_by version d (messages.Status key to user at) h = (h.1.1.1.1.1.1.1.0, (h.0, h.1.1.1.0.0), h.1.1.1.0.1)
+opened_by version d (messages.Recall key at) h = (h.1.1.1.1.1.0, (h.0, h.1.1.1.1.0.0), h.1.1.1.1.0.1)
+opened_by version d (messages.Repack before before_serials after after_serials at) h = (h.1.1.1.1.1.1.1.1.1.0, (h.0, h.1.1.1.1.1.1.1.1.0.0), h.1.1.1.1.1.1.1.1.0.1)
+opened_by version d (messages.Withdraw gtin at) h = (h.1.1.1.1.0, (h.0, h.1.1.1.0.0), h.1.1.1.0.1)
+opened_by version d (messages.Query key) h = (h.1.1.1.1.0, (h.0, h.1.1.0.0), h.1.1.0.1)
+opened_by version d (messages.Answer asker q key found) h = (h.1.1.1.1.1.1.1.0, (h.0, h.1.1.1.1.0.0), h.1.1.1.1.0.1)
 
 -- what a message says makes that message
 made_again : (version : Version) (m : Message) → made Message (meaning_of version (form_of m)) (fields_of (form_of m)) (making_of version (form_of m)) (contents_of version m) ≡ m
@@ -201,40 +306,33 @@ made_again version m = refl
 
 -- what spells a message is read as it
 pub spelled_is_read : (d : Data) (m : Message) → Reads d m → read_message d ≡ Ok m
+unfolding message_at
 spelled_is_read d m (version, h) =
     let (of_version, of_form, is_in) = opened_by version d m h in
     let read = each (meaning_of version (form_of m)) _ _ (field_is_read version (form_of m) d) (fields_of (form_of m)) (contents_of version m) h.1 in
     reopened d m version (form_of m) of_version of_form is_in
-    (given_read version (form_of m) d (contents_of version m) read ∙ ap (λ x. Ok x) (made_again version m))
+    (made_read Message (meaning_of version (form_of m)) (fields_of (form_of m)) (making_of version (form_of m)) d (contents_of version m) read ∙ ap (λ x. Ok x) (made_again version m))
 
 -- a value is read as a message exactly where it is a spelling of it
 pub reads_exactly : (d : Data) (m : Message) → (read_message d ≡ Ok m) ↔ Reads d m
 reads_exactly d m = (read_is_spelled d m, spelled_is_read d m)
 
-one_meaning : (r : Result Message MessageFault) (m n : Message) → r ≡ Ok m → r ≡ Ok n → m ≡ n
-one_meaning r m n h k = cc
-
 -- no value is a spelling of two messages
 pub reads_one : (d : Data) (m n : Message) → Reads d m → Reads d n → m ≡ n
-reads_one d m n h k = one_meaning (read_message d) m n (spelled_is_read d m h) (spelled_is_read d n k)
+reads_one d m n h k = let one = spelled_is_read d m h in let other = spelled_is_read d n k in cc
 
 -- ---- what is read is legal, and the value of what is legal spells it
-
-national_legal : (version : Version) (o : Option (List ℕ)) → IsNational version o → IsNational Two o
-national_legal version None h = tt
-national_legal One (Some number) h = absurd h
-national_legal Two (Some number) h = h
 
 found_in_two : (version : Version) (found : Found) → IsLegalFound version found → IsLegalFound Two found
 found_in_two version Absent h = tt
 found_in_two version (Present batch expiry national standing recalled withdrawn) h =
-    (h.0, (h.1.0, (national_legal version national h.1.1.0, (tt, (tt, (tt, tt))))))
+    (h.0, (h.1.0, ((λ e. cc, h.1.1.0.1), (tt, (tt, ((λ e. cc, tt), tt))))))
 
 -- what is legal in a version is legal
 in_two : (version : Version) (m : Message) → AreLegal (meaning_of version (form_of m)) (fields_of (form_of m)) (contents_of version m) → IsLegal m
 in_two version (messages.Answer asker q key found) h = (h.0, (found_in_two version found h.1.0, h.1.1))
 in_two version (messages.Upload gtin batch expiry national serials) h =
-    (h.0, (h.1.0, (h.1.1.0, (tt, (national_legal version national h.1.1.1.1.0, h.1.1.1.1.1)))))
+    (h.0, (h.1.0, (h.1.1.0, (tt, ((λ e. cc, h.1.1.1.1.0.1), h.1.1.1.1.1)))))
 in_two version (messages.Withdraw gtin at) h = (h.0, (h.1.0, (tt, h.1.1.1)))
 in_two version m h = h
 
@@ -267,36 +365,36 @@ only names ms h = (ms, refl, all_known names (keys_of ms) h)
 found_spelled : (found : Found) → IsLegalFound Two found → SpellsFound (found_version found) (found_value (found_version found) found) found
 found_spelled Absent h = refl
 found_spelled (Present batch expiry None standing recalled false) (of_batch, (of_expiry, (of_national, rest))) =
-    (only (names_in One present_fields) _ refl, ((refl, of_batch), ((expiry_text expiry, refl, read_expiry_text expiry of_expiry), ((refl, of_national), ((refl, tt), ((refl, tt), ((refl, refl), tt)))))))
+    (only (names_in One present_fields) _ refl, ((refl, of_batch), ((expiry_text expiry, refl, read_expiry_text expiry of_expiry), ((λ e. cc, λ e. refl, of_national.1), ((refl, tt), ((refl, tt), ((λ e. cc, λ e. refl, tt), tt)))))))
 found_spelled (Present batch expiry None standing recalled true) (of_batch, (of_expiry, (of_national, rest))) =
-    (only (names_in Two present_fields) _ refl, ((refl, of_batch), ((expiry_text expiry, refl, read_expiry_text expiry of_expiry), ((refl, of_national), ((refl, tt), ((refl, tt), ((refl, tt), tt)))))))
-found_spelled (Present batch expiry (Some number) standing recalled withdrawn) (of_batch, (of_expiry, (of_national, rest))) =
-    (only (names_in Two present_fields) _ refl, ((refl, of_batch), ((expiry_text expiry, refl, read_expiry_text expiry of_expiry), ((refl, of_national), ((refl, tt), ((refl, tt), ((refl, tt), tt)))))))
+    (only (names_in Two present_fields) _ refl, ((refl, of_batch), ((expiry_text expiry, refl, read_expiry_text expiry of_expiry), ((λ e. refl, λ e. cc, of_national.1), ((refl, tt), ((refl, tt), ((λ e. refl, λ e. cc, tt), tt)))))))
+found_spelled (Present batch expiry (Some national) standing recalled withdrawn) (of_batch, (of_expiry, (of_national, rest))) =
+    (only (names_in Two present_fields) _ refl, ((refl, of_batch), ((expiry_text expiry, refl, read_expiry_text expiry of_expiry), ((λ e. refl, λ e. cc, of_national.1), ((refl, tt), ((refl, tt), ((λ e. refl, λ e. cc, tt), tt)))))))
 
 answer_spells : (version : Version) (asker q : ℕ) (key : PackKey) (found : Found) → IsLegal (messages.Answer asker q key found) → SpellsFound version (found_value version found) found → Reads (value_in version (messages.Answer asker q key found)) (messages.Answer asker q key found)
 answer_spells One asker q key found (of_asker, (of_found, (of_gtin, (of_msg, (of_q, (of_serial, (of_v, rest))))))) spells =
-    (One, (only (names_of One forms.Answer) _ refl, ((refl, of_asker), ((_, refl, spells), ((key.gtin, refl, read_gtin_of key.gtin of_gtin), ((refl, tt), ((refl, of_q), ((refl, of_serial), ((refl, tt), tt)))))))))
+    (One, (only (names_of One forms.Answer) _ refl, ((refl, of_asker), ((_, refl, spells), ((key.gtin, refl, read_gtin_of key.gtin of_gtin), ((refl, tt), ((refl, of_q), ((refl, of_serial), (refl, tt)))))))))
 answer_spells Two asker q key found (of_asker, (of_found, (of_gtin, (of_msg, (of_q, (of_serial, (of_v, rest))))))) spells =
-    (Two, (only (names_of Two forms.Answer) _ refl, ((refl, of_asker), ((_, refl, spells), ((key.gtin, refl, read_gtin_of key.gtin of_gtin), ((refl, tt), ((refl, of_q), ((refl, of_serial), ((refl, tt), tt)))))))))
+    (Two, (only (names_of Two forms.Answer) _ refl, ((refl, of_asker), ((_, refl, spells), ((key.gtin, refl, read_gtin_of key.gtin of_gtin), ((refl, tt), ((refl, of_q), ((refl, of_serial), (refl, tt)))))))))
 
 -- the value of a legal message is a spelling of it
 pub value_spells : (m : Message) → IsLegal m → Reads (value_of m) m
 value_spells (messages.Master gtin product) (of_common, (of_form, (of_gtin, (of_markets, (of_msg, (of_name, (of_pack_size, (of_pack_type, (of_scheme, (of_strength, (of_v, rest))))))))))) =
-    (One, (only (names_of One forms.Master) _ refl, ((refl, of_common), ((refl, of_form), ((gtin, refl, read_gtin_of gtin of_gtin), ((refl, of_markets), ((refl, tt), ((refl, of_name), ((refl, of_pack_size), ((refl, of_pack_type), ((refl, of_scheme), ((refl, of_strength), ((refl, tt), tt)))))))))))))
+    (One, (only (names_of One forms.Master) _ refl, ((refl, of_common), ((refl, of_form), ((gtin, refl, read_gtin_of gtin of_gtin), ((refl, of_markets), ((refl, tt), ((refl, of_name), ((refl, of_pack_size), ((refl, of_pack_type), ((refl, of_scheme), ((refl, of_strength), (refl, tt)))))))))))))
 value_spells (messages.Upload gtin batch expiry None serials) (of_batch, (of_expiry, (of_gtin, (of_msg, (of_national, (of_serials, (of_v, rest))))))) =
-    (One, (only (names_of One forms.Upload) _ refl, ((refl, of_batch), ((expiry_text expiry, refl, read_expiry_text expiry of_expiry), ((gtin, refl, read_gtin_of gtin of_gtin), ((refl, tt), ((refl, of_national), ((refl, of_serials), ((refl, tt), tt)))))))))
-value_spells (messages.Upload gtin batch expiry (Some number) serials) (of_batch, (of_expiry, (of_gtin, (of_msg, (of_national, (of_serials, (of_v, rest))))))) =
-    (Two, (only (names_of Two forms.Upload) _ refl, ((refl, of_batch), ((expiry_text expiry, refl, read_expiry_text expiry of_expiry), ((gtin, refl, read_gtin_of gtin of_gtin), ((refl, tt), ((refl, of_national), ((refl, of_serials), ((refl, tt), tt)))))))))
+    (One, (only (names_of One forms.Upload) _ refl, ((refl, of_batch), ((expiry_text expiry, refl, read_expiry_text expiry of_expiry), ((gtin, refl, read_gtin_of gtin of_gtin), ((refl, tt), ((λ e. cc, λ e. refl, of_national.1), ((refl, of_serials), (refl, tt)))))))))
+value_spells (messages.Upload gtin batch expiry (Some national) serials) (of_batch, (of_expiry, (of_gtin, (of_msg, (of_national, (of_serials, (of_v, rest))))))) =
+    (Two, (only (names_of Two forms.Upload) _ refl, ((refl, of_batch), ((expiry_text expiry, refl, read_expiry_text expiry of_expiry), ((gtin, refl, read_gtin_of gtin of_gtin), ((refl, tt), ((λ e. refl, λ e. cc, of_national.1), ((refl, of_serials), (refl, tt)))))))))
 value_spells (messages.Status key to user at) (of_at, (of_gtin, (of_msg, (of_serial, (of_to, (of_user, (of_v, rest))))))) =
-    (One, (only (names_of One forms.Status) _ refl, ((refl, of_at), ((key.gtin, refl, read_gtin_of key.gtin of_gtin), ((refl, tt), ((refl, of_serial), ((refl, of_to), ((refl, of_user), ((refl, tt), tt)))))))))
+    (One, (only (names_of One forms.Status) _ refl, ((refl, of_at), ((key.gtin, refl, read_gtin_of key.gtin of_gtin), ((refl, tt), ((refl, of_serial), ((refl, of_to), ((refl, of_user), (refl, tt)))))))))
 value_spells (messages.Recall key at) (of_at, (of_batch, (of_gtin, (of_msg, (of_v, rest))))) =
-    (One, (only (names_of One forms.Recall) _ refl, ((refl, of_at), ((refl, of_batch), ((key.gtin, refl, read_gtin_of key.gtin of_gtin), ((refl, tt), ((refl, tt), tt)))))))
+    (One, (only (names_of One forms.Recall) _ refl, ((refl, of_at), ((refl, of_batch), ((key.gtin, refl, read_gtin_of key.gtin of_gtin), ((refl, tt), (refl, tt)))))))
 value_spells (messages.Repack before before_serials after after_serials at) (of_after_batch, (of_after_gtin, (of_after_serials, (of_at, (of_before_batch, (of_before_gtin, (of_before_serials, (of_msg, (of_v, rest))))))))) =
-    (One, (only (names_of One forms.Repack) _ refl, ((refl, of_after_batch), ((after.gtin, refl, read_gtin_of after.gtin of_after_gtin), ((refl, of_after_serials), ((refl, of_at), ((refl, of_before_batch), ((before.gtin, refl, read_gtin_of before.gtin of_before_gtin), ((refl, of_before_serials), ((refl, tt), ((refl, tt), tt)))))))))))
+    (One, (only (names_of One forms.Repack) _ refl, ((refl, of_after_batch), ((after.gtin, refl, read_gtin_of after.gtin of_after_gtin), ((refl, of_after_serials), ((refl, of_at), ((refl, of_before_batch), ((before.gtin, refl, read_gtin_of before.gtin of_before_gtin), ((refl, of_before_serials), ((refl, tt), (refl, tt)))))))))))
 value_spells (messages.Withdraw gtin at) (of_at, (of_gtin, (of_msg, (of_v, rest)))) =
-    (Two, (only (names_of Two forms.Withdraw) _ refl, ((refl, of_at), ((gtin, refl, read_gtin_of gtin of_gtin), ((refl, tt), ((refl, tt), tt))))))
+    (Two, (only (names_of Two forms.Withdraw) _ refl, ((refl, of_at), ((gtin, refl, read_gtin_of gtin of_gtin), ((refl, tt), (refl, tt))))))
 value_spells (messages.Query key) (of_gtin, (of_msg, (of_serial, (of_v, rest)))) =
-    (One, (only (names_of One forms.Query) _ refl, ((key.gtin, refl, read_gtin_of key.gtin of_gtin), ((refl, tt), ((refl, of_serial), ((refl, tt), tt))))))
+    (One, (only (names_of One forms.Query) _ refl, ((key.gtin, refl, read_gtin_of key.gtin of_gtin), ((refl, tt), ((refl, of_serial), (refl, tt))))))
 value_spells (messages.Answer asker q key found) h = answer_spells (found_version found) asker q key found h (found_spelled found h.1.0)
 
 -- each legal message is read back from its value

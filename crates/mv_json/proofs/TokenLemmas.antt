@@ -1,20 +1,23 @@
 -- Tokens that are put one after another.
-use Rattle.std.proofs.Common.{◌≡◌, ◌≤◌, ℕ, List, [], ◌∷◌, ◌++◌, flat_map, length, map, take, refl, subst, ap, ◌∙◌, append_assoc}
+use Rattle.std.proofs.Common.{◌≡◌, ◌≤◌, ℕ, List, [], ◌∷◌, ◌++◌, length, map, take, refl, subst, ap, ◌∙◌, append_assoc}
 use Rattle.std.proofs.lemmas.List.{take_all}
-use Rattle.std.specs.Prelude.{Result, Ok}
+use Rattle.std.specs.Option.{option_map_or}
+use Rattle.std.specs.Prelude.{None, Some, Result, Ok}
 use Rattle.std.proofs.lemmas.Result.{on_ok_weaker}
 use Rattle.json.specs.Token as token
 use Rattle.json.specs.Token.{Token, key, begin_array, end_array, end_object}
 use Rattle.json.specs.Print.{print}
-use Rattle.json.specs.Tree.{items_tokens}
+use Rattle.json.specs.Tree.{items_tokens, members_tokens}
 use Rattle.json.specs.Written.{Written, Writes}
-use Rattle.serde_json.specs.Data.{Data, array, object}
-use Rattle.serde_json.specs.Written.{items_outline, compact_text}
+use Rattle.serde_json.specs.Data.{Data, array, member, no_members}
+use Rattle.serde_json.specs.Written.{items_outline, members_outline, compact_text}
 use Rattle.serde_json.proofs.Texts.{print-outline}
 use Rattle.mv_json.specs.Fields.{field_name}
-use Rattle.mv_json.specs.Tokens.{Puts, PutsValue, tokens_of, rest_tokens}
-use Rattle.mv_json.specs.Objects.{said_value, members_of}
-use Rattle.mv_json.specs.Values.{strings}
+use Rattle.mv_json.specs.Tokens.{Puts, PutsValue, tokens_of, members_put, said_value, members_of, version_member}
+use Rattle.mv_json.specs.Values.{since_two, strings, whole}
+use Rattle.mv_json.specs.declared.field.Field.TheVariants as fields
+use Rattle.mv_json.specs.declared.form.Version.{Version}
+use Rattle.mv_json.specs.declared.form.Version.TheVariants.{One, Two}
 use Rattle.mv_json.specs.declared.field.Field.{Field}
 use Rattle.mv_json.specs.declared.member.Said.{Said}
 
@@ -49,19 +52,18 @@ module _ {A : Type 0} (text_of : A → List ℕ) where
   whole_list i values end =
       ap (λ ts. begin_array ∷ ts) (ap (λ some. map (λ value. token.string (text_of value)) some ++ end_array ∷ []) (take_all i values end) ∙ list_tokens values)
 
--- the tokens of a member
-abbrev pub member_tokens : Field × Said → List Token
-member_tokens (field, said) = key (field_name field) ∷ tokens_of (said_value said)
-
-members_are : (members : List (Field × Said)) → flat_map member_tokens members ++ end_object ∷ [] ≡ rest_tokens (object (members_of members))
+-- members, and the end of their object
+pub members_are : (members : List (Field × Said)) → members_put members ++ end_object ∷ [] ≡ members_tokens (members_outline (members_of members))
 members_are [] = refl
-members_are (member ∷ members) =
-    append_assoc (member_tokens member) (flat_map member_tokens members) (end_object ∷ [])
-    ∙ ap (λ ts. member_tokens member ++ ts) (members_are members)
+members_are ((field, said) ∷ members) =
+    append_assoc (key (field_name field) ∷ tokens_of (said_value said)) (members_put members) (end_object ∷ [])
+    ∙ ap (λ ts. (key (field_name field) ∷ tokens_of (said_value said)) ++ ts) (members_are members)
 
--- members that were put to their end
-pub whole_rest : (i : ℕ) (members : List (Field × Said)) → length members ≤ i → flat_map member_tokens (take i members) ++ end_object ∷ [] ≡ rest_tokens (object (members_of members))
-whole_rest i members end = ap (λ some. flat_map member_tokens some ++ end_object ∷ []) (take_all i members end) ∙ members_are members
+-- the version, and the end of an object
+pub version_is : (version : Version) → members_put (version_member version) ++ end_object ∷ []
+    ≡ members_tokens (members_outline (option_map_or (λ value. member (field_name fields.V) value no_members) (since_two version None (Some (whole 2))) no_members))
+version_is One = refl
+version_is Two = refl
 
 -- the text of a value's tokens, put behind none, is its compact text
 pub printed : (value : Data) (start tokens : List Token) → start ≡ [] → tokens ≡ start ++ tokens_of value → print tokens ≡ compact_text value

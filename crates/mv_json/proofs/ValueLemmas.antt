@@ -7,17 +7,15 @@ use Rattle.json.specs.Lex.{tokens}
 use Rattle.json.specs.Tree as tree
 use Rattle.mv_json.proofs.OrderLemmas.{rises, strictly_sorted}
 use Rattle.mv_json.proofs.ReadsLemmas.{reads_back}
-use Rattle.mv_json.specs.Found.{found_version, found_value}
 use Rattle.mv_json.specs.Keys.{KeysAscend, ItemsKeysAscend}
-use Rattle.mv_json.specs.Shapes.{HasWords, IsLegal}
-use Rattle.mv_json.specs.Messages.{value_of, read_bytes, read_message}
-use Rattle.mv_json.specs.Objects.{value_in}
+use Rattle.mv_json.specs.Messages.{value_of, read_bytes, read_message, value_in}
 use Rattle.mv_json.specs.Reading.{◌and_then◌}
+use Rattle.mv_json.specs.Shapes.{found_version, found_value, HasWords, IsLegal}
 use Rattle.mv_json.specs.Tokens.{tokens_of}
 use Rattle.mv_json.specs.Values.{strings}
 use Rattle.mv_json.specs.declared.fault.MessageFault.TheVariants.{NotJson}
-use Rattle.mv_json.specs.declared.version.Version.{Version}
-use Rattle.mv_json.specs.declared.version.Version.TheVariants.{One, Two}
+use Rattle.mv_json.specs.declared.form.Version.{Version}
+use Rattle.mv_json.specs.declared.form.Version.TheVariants.{One, Two}
 use Rattle.mv_message.specs.declared.found.Found.{Found}
 use Rattle.mv_message.specs.declared.found.Found.TheVariants.{Absent, Present}
 use Rattle.mv_message.specs.declared.message.Message.{Message}
@@ -25,10 +23,10 @@ use Rattle.mv_message.specs.declared.message.Message.TheVariants as messages
 use Rattle.mv_pack.specs.declared.key.PackKey.{PackKey}
 use Rattle.serde_json.proofs.Numbers.{number_of-decimal}
 use Rattle.serde_json.proofs.Texts.{print-outline}
-use Rattle.serde_json.specs.Data.{Data, depth, items_depth, string, array, object, Items, no_items, item, Members, no_members, member, members_depth}
+use Rattle.serde_json.specs.Data.{Data, string, item}
 use Rattle.serde_json.specs.Read.{max_depth, read, of_json, of_items}
-use Rattle.serde_json.specs.Written.{outline, items_outline, members_outline, compact_text}
-use Rattle.std.proofs.Common.{◌≡◌, ◌≤◌, ℕ, suc, sym, subst, arith, true, List, [], ◌∷◌, ap, refl, ◌∙◌, ◌<◌, ◌^◌, max, ap₂, append-nil, option_and_then, option_map, cond}
+use Rattle.serde_json.specs.Written.{outline, items_outline, compact_text}
+use Rattle.std.proofs.Common.{◌≡◌, ◌≤◌, ℕ, sym, arith, true, List, [], ◌∷◌, ap, refl, ◌∙◌, ◌<◌, ◌^◌, max, append-nil, option_and_then, option_map, cond}
 use Rattle.std.proofs.lemmas.Str.{IsUtf8-from_is_utf8, is_utf8-from_IsUtf8}
 use Rattle.std.specs.Cmp.Lexicographic.{slice_cmp}
 use Rattle.std.specs.Option.{ok_or}
@@ -36,17 +34,17 @@ use Rattle.std.specs.Ordering.{nat_cmp}
 use Rattle.std.specs.Prelude.{IsUtf8, max, Some, None, Ok}
 use Rattle.std.specs.Str.{is_utf8}
 
-items_flat : (texts : List (List ℕ)) → items_depth (strings texts) ≡ 0
+items_flat : (texts : List (List ℕ)) → tree.items_depth (items_outline (strings texts)) ≡ 0
 items_flat [] = refl
 items_flat (text ∷ texts) = ap (λ n. max 0 n) (items_flat texts)
 
-answer_depth : (version : Version) (asker q : ℕ) (key : PackKey) (f : Found) → depth (value_in version (messages.Answer asker q key f)) ≤ max_depth
+answer_depth : (version : Version) (asker q : ℕ) (key : PackKey) (f : Found) → tree.depth (outline (value_in version (messages.Answer asker q key f))) ≤ max_depth
 answer_depth One asker q key Absent = omega arith
 answer_depth Two asker q key (Present batch expiry None standing recalled withdrawn) = omega arith
 answer_depth version asker q key found = omega arith
 
 -- the value of a message nests two deep
-pub value_depth : (m : Message) → depth (value_of m) ≤ max_depth
+value_depth : (m : Message) → tree.depth (outline (value_of m)) ≤ max_depth
 value_depth (messages.Master gtin product) = rw (items_flat product.markets) (omega arith)
 value_depth (messages.Upload gtin batch expiry None serials) = rw (items_flat serials) (omega arith)
 value_depth (messages.Upload gtin batch expiry (Some national) serials) = rw (items_flat serials) (omega arith)
@@ -98,32 +96,17 @@ keys_ascend (messages.Answer asker q key found) = answer_ascends (found_version 
 
 -- ---- the canonical text of a message is read as its value
 
--- a value nests as deep as its tokens
-mutual
-  outline_depth : (d : Data) → tree.depth (outline d) ≡ depth d
-  outline_depth (array ds) = ap (λ n. suc n) (items_outline_depth ds)
-  outline_depth (object ms) = ap (λ n. suc n) (members_outline_depth ms)
-  outline_depth d = refl
-
-  items_outline_depth : (ds : Items) → tree.items_depth (items_outline ds) ≡ items_depth ds
-  items_outline_depth no_items = refl
-  items_outline_depth (item d ds) = ap₂ max (outline_depth d) (items_outline_depth ds)
-
-  members_outline_depth : (ms : Members) → tree.members_depth (members_outline ms) ≡ members_depth ms
-  members_outline_depth no_members = refl
-  members_outline_depth (member k d ms) = ap₂ max (outline_depth d) (members_outline_depth ms)
-
 -- what reads back: its numbers are numbers of JSON, and it is the value that its outline reads as
 record ReadsBack (d : Data) : Type 0 where
   numbers : tree.HasNumbers (outline d)
   same : of_json (outline d) ≡ Some d
 
 -- a value whose outline reads as it is what its text is read as
-text_of_value : (d : Data) → depth d ≤ max_depth → ReadsBack d → read (compact_text d) ≡ Some d
+text_of_value : (d : Data) → tree.depth (outline d) ≤ max_depth → ReadsBack d → read (compact_text d) ≡ Some d
 text_of_value d shallow back =
     let text = ap tokens (sym (print-outline d)) ∙ tokens-print (tokens_of d) (ArePrintable-json_tokens (outline d) back.numbers) ∙ sym (append-nil (tokens_of d)) in
     ap (λ o. option_and_then of_json (option_and_then (λ p. json.if_last p.0 p.1) o))
-    (ap (json.value max_depth) text ∙ value-json_tokens (outline d) max_depth [] (subst (λ n. n ≤ max_depth) (sym (outline_depth d)) shallow))
+    (ap (json.value max_depth) text ∙ value-json_tokens (outline d) max_depth [] shallow)
     ∙ back.same
 
 texts_have_numbers : (texts : List (List ℕ)) → tree.ItemsHaveNumbers (items_outline (strings texts))
@@ -159,13 +142,10 @@ message_back (messages.Answer asker q key found) h = answer_back (found_version 
 pub text_reads : (m : Message) → HasWords m → read (compact_text (value_of m)) ≡ Some (value_of m)
 text_reads m h = text_of_value (value_of m) (value_depth m) (message_back m h)
 
--- each legal message is read back from text that is JSON of its value
-pub text_reads_back : (m : Message) (t : List ℕ) → IsUtf8 t → read t ≡ Some (value_of m) → IsLegal m → read_bytes t ≡ Ok m
-text_reads_back m t utf8 json h =
+-- the canonical text of a legal message is read back as that message
+pub canonical_reads_back : (m : Message) (t : List ℕ) → IsUtf8 t → t ≡ compact_text (value_of m) → HasWords m → IsLegal m → read_bytes t ≡ Ok m
+canonical_reads_back m t utf8 same words h =
+    let json : read t ≡ Some (value_of m) = ap read same ∙ text_reads m words in
     ap (λ b. ok_or (cond b (read t) None) NotJson and_then read_message) (utf8_test t utf8)
     ∙ ap (λ o. ok_or o NotJson and_then read_message) json
     ∙ reads_back m h
-
--- the canonical text of a legal message is read back as that message
-pub canonical_reads_back : (m : Message) (t : List ℕ) → IsUtf8 t → t ≡ compact_text (value_of m) → HasWords m → IsLegal m → read_bytes t ≡ Ok m
-canonical_reads_back m t utf8 same words h = text_reads_back m t utf8 (ap read same ∙ text_reads m words) h

@@ -4,16 +4,11 @@ pub mod Fault
 pub mod Members
 pub mod Keys
 pub mod Reading
-pub mod Forms
-pub mod Spellings
 pub mod Values
 pub mod Meanings
-pub mod FieldMeanings
-pub mod Found
 pub mod Shapes
 pub mod Messages
 pub mod Met
 pub mod Parts
-pub mod Objects
 pub mod Tokens
 pub mod Laws

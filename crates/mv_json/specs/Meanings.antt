@@ -1,15 +1,35 @@
--- What a field means: how its values are read, written and spelled, and which are legal; and what the fields of an object say.
-use Rattle.std.specs.Prelude.{⊤, ◌≡◌, ℕ, List, [], ◌∷◌, Option, Some, None, Result, Ok}
-use Rattle.std.specs.Option.{option_or, option_map_or}
-use Rattle.std.specs.Result.{result_err}
-use Rattle.serde_json.specs.Data.{Data, string, object, Members, no_members, member}
-use Rattle.serde_json.specs.Find.{get}
-use Rattle.mv_pack.specs.declared.fault.PackFault.{PackFault}
-use Rattle.mv_json.specs.declared.field.Field.{Field}
-use Rattle.mv_json.specs.declared.fault.MessageFault.{MessageFault}
+-- What a field means: how its values are read, written and spelled, and which are legal; what the fields of an object say; and the table
+-- of what each field means that is no object.
 use Rattle.mv_json.specs.Fields.{field_name}
-use Rattle.mv_json.specs.Reading.{◌and_then◌, read_at}
-use Rattle.mv_json.specs.Spellings.{Spells}
+use Rattle.mv_json.specs.Limits.{most_markets, most_serials, most_text_bytes}
+use Rattle.mv_json.specs.Reading.{◌and_then◌, read_at, truth_at, moment_at, number_at, count_at, list_at, standing_at, free_text_at, national_at}
+use Rattle.mv_json.specs.Values.{since_two, strings, whole}
+use Rattle.mv_json.specs.declared.fault.MessageFault.{MessageFault}
+use Rattle.mv_json.specs.declared.field.Field.{Field}
+use Rattle.mv_json.specs.declared.field.Field.TheVariants as fields
+use Rattle.mv_json.specs.declared.form.Version.{Version}
+use Rattle.mv_json.specs.declared.form.Version.TheVariants.{One, Two}
+use Rattle.mv_message.specs.Standings.{standing_name}
+use Rattle.mv_pack.specs.Code.{IsCode, read_code}
+use Rattle.mv_pack.specs.Expiry.{IsExpiry, expiry_text, read_expiry}
+use Rattle.mv_pack.specs.Gtin.{IsGtin, read_gtin}
+use Rattle.mv_pack.specs.Market.{IsMarket, read_market}
+use Rattle.mv_pack.specs.Moment.{IsMoment}
+use Rattle.mv_pack.specs.declared.fault.PackFault.{PackFault}
+use Rattle.serde_json.specs.Data.{Data, string, object, Members, no_members, member, null, boolean, array}
+use Rattle.serde_json.specs.Find.{get}
+use Rattle.std.specs.List.{AllByRecursion}
+use Rattle.std.specs.Option.{option_or, option_map_or}
+use Rattle.std.specs.Prelude.{⊤, ◌≡◌, ℕ, List, [], ◌∷◌, Option, Some, None, Result, Ok, ◌≤◌, ◌<◌, ◌^◌, false, length}
+use Rattle.std.specs.Result.{result_err}
+
+-- the field is this value
+abbrev pub Has : Data → Field → Data → Type 0
+Has value field part = get (field_name field) value ≡ Some part
+
+-- the field is a text that the reader takes for x
+abbrev pub Spells : {A : Type 0} → (List ℕ → Result A PackFault) → Field → Data → A → Type 0
+Spells reader field value x = (text : List ℕ) × Has value field (string text) × (reader text ≡ Ok x)
 
 -- What a field means: the values that it has, how one is read of an object, how it is written, if it is said at all, which
 -- objects spell it, and which values are legal.
@@ -30,19 +50,25 @@ text_of {A} reader text IsLegal field = record {
   IsLegal = IsLegal;
 }
 
--- legal values, which have no spelling but the one in which they are written, if they are said at all
-abbrev pub if_said : {A : Type 0} → (Field → Data → Result A MessageFault) → (A → Option Data) → (A → Type 0) → Field → Meaning
-if_said {A} read written IsLegal field = record {
+-- legal values, which have no spelling but the one in which they are written
+abbrev pub exactly : {A : Type 0} → (Field → Data → Result A MessageFault) → (A → Data) → (A → Type 0) → Field → Meaning
+exactly {A} read value_of IsLegal field = record {
   Value = A;
   read = read field;
-  written = written;
-  Spells = λ value x. (get (field_name field) value ≡ written x) × IsLegal x;
+  written = λ x. Some (value_of x);
+  Spells = λ value x. Has value field (value_of x) × IsLegal x;
   IsLegal = IsLegal;
 }
 
--- such values, which are always said
-abbrev pub exactly : {A : Type 0} → (Field → Data → Result A MessageFault) → (A → Data) → (A → Type 0) → Field → Meaning
-exactly read value_of IsLegal = if_said read (λ x. Some (value_of x)) IsLegal
+-- the same of fields that came with the second version: of the first the value is always that which stood before
+abbrev pub from_two : {A : Type 0} → Version → A → (Field → Data → Result A MessageFault) → (A → Data) → (A → Type 0) → Field → Meaning
+from_two {A} version before read value_of IsLegal field = record {
+  Value = A;
+  read = λ value. since_two version (Ok before) (read field value);
+  written = λ x. since_two version None (Some (value_of x));
+  Spells = λ value x. (version ≡ Two → Has value field (value_of x)) × (version ≡ One → x ≡ before) × IsLegal x;
+  IsLegal = λ x. (version ≡ One → x ≡ before) × IsLegal x;
+}
 
 -- what values of these fields make
 abbrev pub Making : (Field → Meaning) → Type 0 → List Field → Type 0
@@ -87,3 +113,62 @@ AreSpelled meaning listed values value = EachHolds meaning (λ field x. (meaning
 -- these values are legal
 abbrev pub AreLegal : (meaning : Field → Meaning) → (listed : List Field) → Values meaning listed → Type 0
 AreLegal meaning listed values = EachHolds meaning (λ field x. (meaning field).IsLegal x) listed values
+
+-- a text of 1 to 200 bytes
+abbrev pub IsFreeText : List ℕ → Type 0
+IsFreeText text = (1 ≤ length text) × (length text ≤ most_text_bytes)
+
+-- 1 to most texts of which that holds
+abbrev pub IsListOf : (List ℕ → Type 0) → ℕ → List (List ℕ) → Type 0
+IsListOf Holds most texts = (1 ≤ length texts) × (length texts ≤ most) × AllByRecursion Holds texts
+
+-- a national number, or none
+abbrev pub IsNational : Option (List ℕ) → Type 0
+IsNational None = ⊤
+IsNational (Some number) = IsCode number
+
+-- a product code
+abbrev pub product_code : Field → Meaning
+product_code = text_of read_gtin (λ gtin. gtin) IsGtin
+
+-- a serial number or a batch number
+abbrev pub code : Field → Meaning
+code = exactly (read_at read_code) string IsCode
+
+-- serial numbers
+abbrev pub serial_list : Field → Meaning
+serial_list = exactly (list_at read_code most_serials) (λ serials. array (strings serials)) (IsListOf IsCode most_serials)
+
+-- the standing of a pack
+abbrev pub pack_standing : Field → Meaning
+pack_standing = exactly standing_at (λ standing. string (standing_name standing)) (λ standing. ⊤)
+
+-- What kind of values each field has in a version: free texts, where nothing else is said. The numbers of parties and queries
+-- have 32 bits, as their types say.
+abbrev pub kind_of : Version → Field → Field → Meaning
+kind_of version fields.AfterBatch = code
+kind_of version fields.AfterGtin = product_code
+kind_of version fields.AfterSerials = serial_list
+kind_of version fields.Asker = exactly number_at whole (λ party. party < 2 ^ 32)
+kind_of version fields.At = exactly moment_at whole IsMoment
+kind_of version fields.Batch = code
+kind_of version fields.BeforeBatch = code
+kind_of version fields.BeforeGtin = product_code
+kind_of version fields.BeforeSerials = serial_list
+kind_of version fields.Expiry = text_of read_expiry expiry_text IsExpiry
+kind_of version fields.Gtin = product_code
+kind_of version fields.Markets =
+    exactly (list_at read_market most_markets) (λ markets. array (strings markets)) (IsListOf IsMarket most_markets)
+kind_of version fields.National = from_two version None national_at (λ number. option_map_or string number null) IsNational
+kind_of version fields.Q = exactly count_at whole (λ number. (1 ≤ number) × (number < 2 ^ 32))
+kind_of version fields.Recalled = exactly truth_at boolean (λ truth. ⊤)
+kind_of version fields.Serial = code
+kind_of version fields.Serials = serial_list
+kind_of version fields.Standing = pack_standing
+kind_of version fields.To = pack_standing
+kind_of version fields.Withdrawn = from_two version false truth_at boolean (λ truth. ⊤)
+kind_of version field = exactly free_text_at string IsFreeText
+
+-- what each field means that is no object, and is neither the version nor the form
+abbrev pub part_of : Version → Field → Meaning
+part_of version field = kind_of version field field

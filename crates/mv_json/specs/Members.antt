@@ -1,7 +1,7 @@
 -- The keys of a JSON object, in the byte order in which an object holds them.
-use Rattle.std.specs.Prelude.{ℕ, not, List, [], ◌∷◌, bytes_eq, find, Option}
-use Rattle.std.specs.List.{list_any}
-use Rattle.serde_json.specs.Data.{Members, no_members, member}
+use Rattle.std.specs.Prelude.{◌≡◌, ℕ, not, List, [], ◌∷◌, Contains, bytes_eq, find, Option}
+use Rattle.std.specs.List.{AllByRecursion, list_any}
+use Rattle.serde_json.specs.Data.{Data, object, Members, no_members, member}
 
 -- the keys of an object, in order
 abbrev pub keys_of : Members → List (List ℕ)
@@ -11,3 +11,7 @@ keys_of (member key value members) = key ∷ keys_of members
 -- the first key of an object that is none of these names
 abbrev pub first_unknown : List (List ℕ) → Members → Option (List ℕ)
 first_unknown names members = find (λ key. not (list_any (bytes_eq key) names)) (keys_of members)
+
+-- the value is an object that has no key but these
+abbrev pub HasOnly : List (List ℕ) → Data → Type 0
+HasOnly names value = (members : Members) × (value ≡ object members) × AllByRecursion (Contains names) (keys_of members)

@@ -1,16 +1,14 @@
 -- Messages: what reading a value or bytes gives, where that takes memory, and the JSON value of each.
-use Rattle.mv_json.specs.Forms.{form_of, form_at, version_at}
-use Rattle.mv_json.specs.Found.{found_version}
 use Rattle.mv_json.specs.Meanings.{object_of}
 use Rattle.mv_json.specs.Members.{first_unknown}
 use Rattle.mv_json.specs.Reading.{◌and_then◌}
-use Rattle.mv_json.specs.Shapes.{contents_of, fields_of, meaning_of, names_of, message_at}
+use Rattle.mv_json.specs.Shapes.{form_of, form_at, version_at, found_version, contents_of, fields_of, meaning_of, names_of, message_at}
 use Rattle.mv_json.specs.declared.fault.MessageFault.{MessageFault}
 use Rattle.mv_json.specs.declared.fault.MessageFault.TheVariants.{NotJson, NotObject, Unknown}
 use Rattle.mv_json.specs.declared.form.Form.{Form}
 use Rattle.mv_json.specs.declared.form.Form.TheVariants as forms
-use Rattle.mv_json.specs.declared.version.Version.{Version}
-use Rattle.mv_json.specs.declared.version.Version.TheVariants.{One, Two}
+use Rattle.mv_json.specs.declared.form.Version.{Version}
+use Rattle.mv_json.specs.declared.form.Version.TheVariants.{One, Two}
 use Rattle.mv_message.specs.declared.message.Message.{Message}
 use Rattle.mv_message.specs.declared.message.Message.TheVariants as messages
 use Rattle.serde_json.specs.Data.{Data}
@@ -45,10 +43,13 @@ message_version (messages.Withdraw gtin at) = Two
 message_version (messages.Answer asker q key found) = found_version found
 message_version message = One
 
+-- the value of a message in a version
+abbrev pub value_in : Version → Message → Data
+value_in version message = object_of (meaning_of version (form_of message)) (fields_of (form_of message)) (contents_of version message)
+
 -- the value of a message
 abbrev pub value_of : Message → Data
-value_of message =
-    object_of (meaning_of (message_version message) (form_of message)) (fields_of (form_of message)) (contents_of (message_version message) message)
+value_of message = value_in (message_version message) message
 
 -- ---- where reading a message takes memory: want of it stands in place of no other answer
 

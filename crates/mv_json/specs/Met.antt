@@ -1,6 +1,6 @@
 -- Fields of an object as they are met, one after the other, in any order; and the tokens of JSON that they are read from. What is met,
 -- and what it says of the value that stands there, is left open.
-use Rattle.std.specs.Prelude.{◌≡◌, ◌≢◌, ◌≤◌, ℕ, List, [], ◌∷◌, ◌++◌, map, All, Contains, Some}
+use Rattle.std.specs.Prelude.{◌≡◌, ◌≤◌, ℕ, List, map, All, Contains, Some}
 use Rattle.std.specs.List.{AllByRecursion}
 use Rattle.json.specs.Json.{value}
 use Rattle.json.specs.Token.{Token}
@@ -19,7 +19,3 @@ pub record HasMet {Met : Type 0} (name : Met → List ℕ) (Says : Data → Met 
   pub is : found ≡ object members
   pub says : All (λ met. (part : Data) × (get (name met) found ≡ Some part) × Says part met) all
   pub only : AllByRecursion (Contains (map name all)) (keys_of members)
-
--- one more was met, whose name none of the others has
-abbrev pub IsMore : {Met : Type 0} → (Met → List ℕ) → List Met → Met → List Met → Type 0
-IsMore name old met new = (new ≡ old ++ met ∷ []) × All (λ other. name other ≢ name met) old

@@ -21,9 +21,9 @@ use Rattle.mv_json.specs.declared.object.Place.TheVariants as places
 use Rattle.mv_json.specs.declared.part.Entry.{Entry}
 use Rattle.mv_json.specs.declared.part.Part.{Part}
 use Rattle.mv_json.specs.declared.part.Part.TheVariants as parts
-use Rattle.mv_json.specs.FieldMeanings.{IsListOf}
+use Rattle.mv_json.specs.Meanings.{IsListOf}
 use Rattle.mv_json.specs.Fields.{field_name}
-use Rattle.mv_json.specs.Found.{found_of}
+use Rattle.mv_json.specs.Shapes.{found_of}
 use Rattle.mv_json.specs.Limits.{most_markets, most_serials}
 use Rattle.mv_json.specs.Messages.{read_message}
 use Rattle.mv_json.specs.Met.{BeginWith, HasMet}
@@ -39,10 +39,6 @@ abbrev pub BeginWithTexts : {A : Type 0} → (List ℕ → Result A PackFault) �
 BeginWithTexts reader ts [] rest = ts ≡ token.end_array ∷ rest
 BeginWithTexts reader ts (x ∷ xs) rest =
     (more : List Token) × BeginWithText ts (λ text. reader text ≡ Ok x) more × BeginWithTexts reader more xs rest
-
--- the tokens are this whole number, then the rest
-abbrev pub BeginWithWhole : List Token → ℕ → List Token → Type 0
-BeginWithWhole ts n rest = (text : List ℕ) × (ts ≡ token.number text ∷ rest) × (number_of text ≡ Some (unsigned n))
 
 -- the tokens are a value of JSON that is read as this message, then the rest
 abbrev pub BeginWithMessage : List Token → Message → List Token → Type 0
@@ -100,7 +96,7 @@ StartWithPart ts (parts.Serials serials) rest =
     × ((1 ≤ length serials.items) × (length serials.items ≤ most_serials))
 StartWithPart ts (parts.Text text) rest = ts ≡ token.string text.now ∷ rest
 StartWithPart ts (parts.Truth truth) rest = ts ≡ token.boolean truth ∷ rest
-StartWithPart ts (parts.Whole number) rest = BeginWithWhole ts number rest
+StartWithPart ts (parts.Whole number) rest = (text : List ℕ) × (ts ≡ token.number text ∷ rest) × (number_of text ≡ Some (unsigned number))
 StartWithPart ts part rest = ⊥
 
 -- ---- objects of which fields are read: values, and fields that were met

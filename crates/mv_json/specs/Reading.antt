@@ -4,8 +4,6 @@ use Rattle.mv_json.specs.Limits.{most_text_bytes}
 use Rattle.mv_json.specs.declared.fault.MessageFault.{MessageFault}
 use Rattle.mv_json.specs.declared.fault.MessageFault.TheVariants.{Missing, Kind, Pack, Count, TextLength}
 use Rattle.mv_json.specs.declared.field.Field.{Field}
-use Rattle.mv_json.specs.declared.version.Version.{Version}
-use Rattle.mv_json.specs.declared.version.Version.TheVariants.{One, Two}
 use Rattle.mv_message.specs.Standings.{standing_named}
 use Rattle.mv_message.specs.declared.standing.Standing.{Standing}
 use Rattle.mv_pack.specs.Code.{read_code}
@@ -15,7 +13,7 @@ use Rattle.serde_json.specs.Data.{Data, Items, no_items, item}
 use Rattle.serde_json.specs.Events.{items_len}
 use Rattle.serde_json.specs.Find.{get, as_null, as_str, as_array, as_bool, as_number, as_u64}
 use Rattle.std.specs.Option.{ok_or}
-use Rattle.std.specs.Prelude.{◌≡◌, ◌≢◌, ℕ, ◌==◌, ◌||◌, nat_lt, if◌then◌else◌, List, [], ◌∷◌, length, is_some, Option, Some, None, option_and_then, option_map, Result, Ok, Err, ◌^◌, false, Bool, ◌&&◌, not, true}
+use Rattle.std.specs.Prelude.{◌≡◌, ◌≢◌, ℕ, ◌==◌, ◌||◌, nat_lt, if◌then◌else◌, List, [], ◌∷◌, length, is_some, Option, Some, None, option_and_then, option_map, Result, Ok, Err, ◌^◌, Bool, ◌&&◌, not, true}
 use Rattle.std.specs.Result.{result_map_both}
 
 -- the next step on what was read, or the fault that there was
@@ -57,10 +55,9 @@ national_of field found =
     else (ok_or (as_str found) (Kind field) and_then λ text.
     map_err (Pack field) (read_code text) and_then λ number. Ok (Some number))
 
--- the national number of a field, or none, as in version 1, which has no such field: M3, M5, M6
-unfoldable pub national_at : Version → Field → Data → Result (Option (List ℕ)) MessageFault
-national_at One field value = Ok None
-national_at Two field value = member_at field value and_then national_of field
+-- the national number of a field, or none: M3, M5, M6
+unfoldable pub national_at : Field → Data → Result (Option (List ℕ)) MessageFault
+national_at field value = member_at field value and_then national_of field
 
 -- what each of these is, where each is something
 abbrev pub each_of : {A : Type 0} → (Data → Option A) → Items → Option (List A)
@@ -110,11 +107,6 @@ GivesOr (Err fault) reading other = fault ≢ other → reading ≡ Err fault
 -- whether a field says `true`: M3, M5
 unfoldable pub truth_at : Field → Data → Result Bool MessageFault
 truth_at field value = member_at field value and_then λ found. ok_or (as_bool found) (Kind field)
-
--- whether a field says that a product is withdrawn, of which version 1 does not speak: M3, M5
-abbrev pub withdrawn_at : Version → Field → Data → Result Bool MessageFault
-withdrawn_at One field value = Ok false
-withdrawn_at Two field value = truth_at field value
 
 -- the whole number that a value is; one with a fraction or an exponent is none
 abbrev pub whole_number : Data → Option ℕ

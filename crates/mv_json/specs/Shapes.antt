@@ -1,24 +1,131 @@
--- The shape of each form of message: its fields, what each of them means, the message that their values make, and what they say of it.
-use Rattle.mv_json.specs.FieldMeanings.{part_of}
-use Rattle.mv_json.specs.Fields.{names_in}
-use Rattle.mv_json.specs.Forms.{IsIn, form_name, form_of}
-use Rattle.mv_json.specs.Found.{found_at, found_value, SpellsFound, IsLegalFound}
-use Rattle.mv_json.specs.Meanings.{Meaning, if_said, exactly, Making, made_at, Values, AreLegal, AreSpelled}
-use Rattle.mv_json.specs.Spellings.{Has, HasOnly}
+-- The shape of each form of message: its version and its name, its fields, what each of them means, the message that their values make,
+-- and what they say of it; and that of what was found of a pack.
+use Rattle.mv_json.specs.Fields.{field_name, names_in}
+use Rattle.mv_json.specs.Meanings.{part_of, made_at, object_of, AreSpelled, AreLegal, Meaning, exactly, Making, Values, Has}
+use Rattle.mv_json.specs.Members.{first_unknown, HasOnly}
+use Rattle.mv_json.specs.Reading.{whole_number, ◌and_then◌, text_at, member_at}
 use Rattle.mv_json.specs.Values.{whole, since_two}
 use Rattle.mv_json.specs.declared.fault.MessageFault.{MessageFault}
+use Rattle.mv_json.specs.declared.fault.MessageFault.TheVariants.{Kind, NotObject}
 use Rattle.mv_json.specs.declared.field.Field.{Field}
 use Rattle.mv_json.specs.declared.field.Field.TheVariants as fields
 use Rattle.mv_json.specs.declared.form.Form.{Form}
 use Rattle.mv_json.specs.declared.form.Form.TheVariants as forms
-use Rattle.mv_json.specs.declared.version.Version.{Version}
-use Rattle.mv_json.specs.declared.version.Version.TheVariants.{Two}
+use Rattle.mv_json.specs.declared.form.Version.{Version}
+use Rattle.mv_json.specs.declared.form.Version.TheVariants.{One, Two}
 use Rattle.mv_message.specs.declared.found.Found.{Found}
+use Rattle.mv_message.specs.declared.found.Found.TheVariants.{Absent, Present}
 use Rattle.mv_message.specs.declared.message.Message.{Message}
 use Rattle.mv_message.specs.declared.message.Message.TheVariants as messages
 use Rattle.mv_pack.specs.Keys.{pack_key, batch_key}
-use Rattle.serde_json.specs.Data.{Data, string}
-use Rattle.std.specs.Prelude.{⊤, ℕ, List, [], ◌∷◌, Some, Result, Ok, ◌<◌, ◌^◌}
+use Rattle.serde_json.specs.Data.{Data, null, string}
+use Rattle.serde_json.specs.Find.{get, as_null, as_object}
+use Rattle.std.specs.Option.{ok_or}
+use Rattle.std.specs.Prelude.{⊤, ◌==◌, if◌then◌else◌, Option, Some, None, Result, Ok, Err, ℕ, List, [], ◌∷◌, codes, bytes_eq, find, ◌≡◌, false, is_some, ◌<◌, ◌^◌}
+use Rattle.std.specs.Result.{result_ok}
+
+-- the version, by what stands in `v`: 1 where nothing does; 2 where the whole number 2 does; else M5
+abbrev pub version_of : Option Data → Result Version MessageFault
+version_of None = Ok One
+version_of (Some found) =
+    ok_or (whole_number found) (Kind fields.V) and_then λ number. if number == 2 then Ok Two else Err (Kind fields.V)
+
+-- the version of an object: M5 of `v`
+unfoldable pub version_at : Data → Result Version MessageFault
+version_at value = version_of (get (field_name fields.V) value)
+
+-- ---- the forms of messages, by the version and the text of their field `msg`
+
+-- the text of `msg` in a message of the form
+abbrev pub form_name : Form → List ℕ
+form_name forms.Answer = codes "answer"
+form_name forms.Master = codes "master"
+form_name forms.Query = codes "query"
+form_name forms.Recall = codes "recall"
+form_name forms.Repack = codes "repack"
+form_name forms.Status = codes "status"
+form_name forms.Upload = codes "upload"
+form_name forms.Withdraw = codes "withdraw"
+
+-- the form of a message
+abbrev pub form_of : Message → Form
+form_of (messages.Master gtin product) = forms.Master
+form_of (messages.Upload gtin batch expiry national serials) = forms.Upload
+form_of (messages.Status key to user at) = forms.Status
+form_of (messages.Recall key at) = forms.Recall
+form_of (messages.Repack before before_serials after after_serials at) = forms.Repack
+form_of (messages.Withdraw gtin at) = forms.Withdraw
+form_of (messages.Query key) = forms.Query
+form_of (messages.Answer asker q key found) = forms.Answer
+
+-- the forms of a version: a withdrawal came with the second
+abbrev pub forms_of : Version → List Form
+forms_of One = forms.Answer ∷ forms.Master ∷ forms.Query ∷ forms.Recall ∷ forms.Repack ∷ forms.Status ∷ forms.Upload ∷ []
+forms_of Two = forms.Answer ∷ forms.Master ∷ forms.Query ∷ forms.Recall ∷ forms.Repack ∷ forms.Status ∷ forms.Upload ∷ forms.Withdraw ∷ []
+
+-- the form came with that version, or before it
+abbrev pub IsIn : Form → Version → Type 0
+IsIn forms.Withdraw One = ⊥
+IsIn form version = ⊤
+
+-- the form of a version that a text of `msg` names
+abbrev pub form_named : Version → List ℕ → Option Form
+form_named version text = find (λ form. bytes_eq text (form_name form)) (forms_of version)
+
+-- the form of an object: M3, M5
+unfoldable pub form_at : Version → Data → Result Form MessageFault
+form_at version value = text_at fields.Msg value and_then λ text. ok_or (form_named version text) (Kind fields.Msg)
+
+-- the fields of a pack that was found, in byte order of their names
+abbrev pub present_fields : List Field
+present_fields = fields.Batch ∷ fields.Expiry ∷ fields.National ∷ fields.Recalled ∷ fields.Standing ∷ fields.Withdrawn ∷ []
+
+-- the pack that the fields of an object give
+abbrev pub present_at : Version → Data → Result Found MessageFault
+present_at version value =
+    made_at (part_of version) present_fields
+    (λ batch expiry national recalled standing withdrawn. Present batch expiry national standing recalled withdrawn) value
+
+-- the pack that the fields of an object give, which has no other key
+unfoldable pub present_of : Version → Data → Result Found MessageFault
+present_of version value =
+    ok_or (as_object value) NotObject and_then λ members.
+    if is_some (first_unknown (names_in version present_fields) members) then Err (Kind fields.Found)
+    else present_at version value
+
+-- what a value says was found: nothing where it is `null`; M5 of `found` where it is neither `null` nor a legal pack
+abbrev pub found_of : Version → Data → Result Found MessageFault
+found_of version value =
+    if is_some (as_null value) then Ok Absent else ok_or (result_ok (present_of version value)) (Kind fields.Found)
+
+-- what the field `found` says: M3, M5
+unfoldable pub found_at : Version → Data → Result Found MessageFault
+found_at version value = member_at fields.Found value and_then found_of version
+
+-- the first version that says all of what was found: the second where there is a national number, or the product is withdrawn
+abbrev pub found_version : Found → Version
+found_version Absent = One
+found_version (Present batch expiry None standing recalled false) = One
+found_version found = Two
+
+-- the value of what was found
+abbrev pub found_value : Version → Found → Data
+found_value version Absent = null
+found_value version (Present batch expiry national standing recalled withdrawn) =
+    object_of (part_of version) present_fields (batch, (expiry, (national, (recalled, (standing, (withdrawn, tt))))))
+
+-- a part is `null` where nothing was found, else an object with exactly the fields of the pack
+abbrev pub SpellsFound : Version → Data → Found → Type 0
+SpellsFound version part Absent = part ≡ null
+SpellsFound version part (Present batch expiry national standing recalled withdrawn) =
+    HasOnly (names_in version present_fields) part
+    × AreSpelled (part_of version) present_fields (batch, (expiry, (national, (recalled, (standing, (withdrawn, tt)))))) part
+
+-- what was found is legal where nothing was, or what the fields of the pack say
+abbrev pub IsLegalFound : Version → Found → Type 0
+IsLegalFound version Absent = ⊤
+IsLegalFound version (Present batch expiry national standing recalled withdrawn) =
+    AreLegal (part_of version) present_fields (batch, (expiry, (national, (recalled, (standing, (withdrawn, tt))))))
 
 -- what was found of a pack
 abbrev pub pack_found : Version → Meaning
@@ -35,7 +142,13 @@ abbrev pub meaning_of : Version → Form → Field → Meaning
 meaning_of version form fields.Found = pack_found version
 meaning_of version form fields.Msg =
     exactly {A = ⊤} (λ field value. Ok tt) (λ said. string (form_name form)) (λ said. IsIn form version) fields.Msg
-meaning_of version form fields.V = if_said {A = ⊤} (λ field value. Ok tt) (λ said. since_two version (whole 2)) (λ said. ⊤) fields.V
+meaning_of version form fields.V = record {
+  Value = ⊤;
+  read = λ value. Ok tt;
+  written = λ said. since_two version None (Some (whole 2));
+  Spells = λ value said. get (field_name fields.V) value ≡ since_two version None (Some (whole 2));
+  IsLegal = λ said. ⊤;
+}
 meaning_of version form field = part_of version field
 
 -- the fields of the messages of a form, in byte order of their names

@@ -1,19 +1,23 @@
--- The tokens of JSON that a text is written by.
-use Rattle.std.specs.Prelude.{◌≡◌, List, [], ◌++◌, Result, OnOk}
-use Rattle.json.specs.Token.{Token}
-use Rattle.json.specs.Tree.{json_tokens, members_tokens}
+-- What is written: the members of objects, and the tokens of JSON that a text is written by.
+use Rattle.mv_json.specs.Fields.{field_name}
+use Rattle.mv_json.specs.Values.{since_two, strings, whole}
+use Rattle.mv_json.specs.declared.field.Field.{Field}
+use Rattle.mv_json.specs.declared.field.Field.TheVariants as fields
+use Rattle.mv_json.specs.declared.member.Said.{Said}
+use Rattle.mv_json.specs.declared.member.Said.TheVariants as says
+use Rattle.mv_json.specs.declared.form.Version.{Version}
+use Rattle.mv_pack.specs.Expiry.{expiry_text}
+use Rattle.std.specs.Option.{option_map_or}
+use Rattle.std.specs.Prelude.{◌≡◌, List, [], ◌∷◌, ◌++◌, flat_map, Result, OnOk}
+use Rattle.json.specs.Token.{Token, key}
+use Rattle.json.specs.Tree.{json_tokens}
 use Rattle.json.specs.Written.{Written}
-use Rattle.serde_json.specs.Data.{Data, object}
-use Rattle.serde_json.specs.Written.{outline, members_outline}
+use Rattle.serde_json.specs.Data.{Data, null, boolean, string, array, Members, no_members, member}
+use Rattle.serde_json.specs.Written.{outline}
 
 -- the tokens of a value
 abbrev pub tokens_of : Data → List Token
 tokens_of value = json_tokens (outline value)
-
--- the tokens of an object behind its bracket
-abbrev pub rest_tokens : Data → List Token
-rest_tokens (object members) = members_tokens (members_outline members)
-rest_tokens value = []
 
 -- What stood before the writer's tokens stays, and, unless memory ran out, these tokens stand behind those it had.
 pub record Puts {E : Type 0} (result : Result (Unit {0}) E) (old new : Written) (tokens : List Token) : Type 0 where
@@ -23,3 +27,29 @@ pub record Puts {E : Type 0} (result : Result (Unit {0}) E) (old new : Written) 
 -- The same of the tokens of a value.
 unfoldable pub PutsValue : {E : Type 0} → Result (Unit {0}) E → Written → Written → Data → Type 0
 PutsValue result old new value = Puts result old new (tokens_of value)
+
+-- ---- members
+
+-- the value of what is said
+abbrev pub said_value : Said → Data
+said_value says.Null = null
+said_value (says.Text text) = string text.now
+said_value (says.Whole number) = whole number
+said_value (says.Truth truth) = boolean truth
+said_value (says.Expiry expiry) = string (expiry_text expiry.now)
+said_value (says.National national) = option_map_or string national.now null
+said_value (says.Serials serials) = array (strings serials.now)
+said_value (says.Markets markets) = array (strings markets.now)
+
+-- members of an object, in order
+abbrev pub members_of : List (Field × Said) → Members
+members_of [] = no_members
+members_of ((field, said) ∷ rest) = member (field_name field) (said_value said) (members_of rest)
+
+-- the tokens of members
+abbrev pub members_put : List (Field × Said) → List Token
+members_put members = flat_map (λ member. key (field_name member.0) ∷ tokens_of (said_value member.1)) members
+
+-- the member that says the version, which the first does not have
+abbrev pub version_member : Version → List (Field × Said)
+version_member version = since_two version [] ((fields.V, says.Whole 2) ∷ [])

@@ -1,9 +1,9 @@
 -- The JSON values of what fields say, and the members of objects.
-use Rattle.std.specs.Prelude.{ℕ, List, [], ◌∷◌, map, Option, Some, None}
+use Rattle.std.specs.Prelude.{ℕ, List, [], ◌∷◌, map}
 use Rattle.serde_json.specs.Data.{Data, number, unsigned, string, Items, Members, no_members, member}
 use Rattle.serde_json.specs.View.{items_of}
-use Rattle.mv_json.specs.declared.version.Version.{Version}
-use Rattle.mv_json.specs.declared.version.Version.TheVariants.{One, Two}
+use Rattle.mv_json.specs.declared.form.Version.{Version}
+use Rattle.mv_json.specs.declared.form.Version.TheVariants.{One, Two}
 
 -- a list of texts
 abbrev pub strings : List (List ℕ) → Items
@@ -13,10 +13,10 @@ strings texts = items_of (map string texts)
 abbrev pub whole : ℕ → Data
 whole n = number (unsigned n)
 
--- what the second version says, and the first does not
-abbrev pub since_two : Version → Data → Option Data
-since_two One value = None
-since_two Two value = Some value
+-- what stood before the second version, and what stands from it on
+abbrev pub since_two : {A : Type 0} → Version → A → A → A
+since_two One before now = before
+since_two Two before now = now
 
 -- the members of an object, by their keys
 abbrev pub members_with : List (List ℕ × Data) → Members

@@ -1,19 +1,17 @@
-//! The forms of messages, and the fields of each.
+//! The versions of the JSON form, told apart by the field `v`; the forms of messages, and the fields of each.
 
 ghost use Rattle.std.specs.Prelude.{◌≡◌, ◌≢◌, IfErr, IsSome, Ok, Err};
 ghost use Rattle.std.specs.Option.{option_map_or};
 ghost use Rattle.serde_json.specs.View.{members_view};
 ghost use Rattle.mv_json.specs.Reading.{GivesOr};
-ghost use Rattle.mv_json.specs.Forms.{form_named, form_at};
+ghost use Rattle.mv_json.specs.Shapes.{form_named, form_at, names_of, fields_of, version_at};
 ghost use Rattle.mv_json.specs.Fields.{fields_in};
-ghost use Rattle.mv_json.specs.Shapes.{names_of, fields_of};
 ghost use Rattle.mv_json.specs.Members.{first_unknown};
 ghost use Rattle.mv_json.specs.Parts.{Gives};
 
 use crate::members::first_unknown;
 use crate::object::Object;
 use crate::reading::text_at;
-use crate::version::Version;
 use crate::{Field, MessageFault};
 use mv_message::Text;
 use serde_json::{Map, Value};
@@ -95,7 +93,7 @@ pub(crate) fn form_named(version: Version, name: &str) -> Option<Form>
 }
 
 /// The form of an object: M3, M5.
-#[tactic(auto, unfolding(crate::specs::Forms::form_at))]
+#[tactic(auto, unfolding(crate::specs::Shapes::form_at))]
 pub(crate) fn form_at(object: &Object<'_>, version: Version) -> Result<Form, MessageFault>
     ensures { Gives (form_at version) object.now result }
 {
@@ -118,5 +116,28 @@ pub(crate) fn known_form_at(
     match first_unknown(members, form.fields(version)) {
         Some(key) => Err(MessageFault::Unknown(Text::new(String::from_str(alloc, key)?))),
         None => Ok(form),
+    }
+}
+
+/// A version of the JSON form of messages.
+#[derive(Clone, Copy, Debug, PartialEq, Eq)]
+pub(crate) enum Version {
+    /// The first, whose objects have no `v`.
+    One,
+    /// The second, which has withdrawals, national numbers, and whether a product is withdrawn.
+    Two,
+}
+
+/// The version of an object: M5 of `v`.
+#[tactic(auto, unfolding(crate::specs::Shapes::version_at))]
+pub(crate) fn version_at(object: &Object<'_>) -> Result<Version, MessageFault>
+    ensures { Gives version_at object.now result }
+{
+    let Some(found) = object.get(Field::V) else {
+        return Ok(Version::One);
+    };
+    match found.as_u64() {
+        Some(2) => Ok(Version::Two),
+        _ => Err(MessageFault::Kind(Field::V)),
     }
 }

@@ -4,22 +4,22 @@ ghost use Rattle.std.specs.Prelude.{◌≡◌, ◌≢◌, IfErr, IfSome};
 ghost use Rattle.serde_json.specs.Data.{Data};
 ghost use Rattle.serde_json.specs.View.{view};
 ghost use Rattle.mv_json.specs.Fields.{fields_in};
-ghost use Rattle.mv_json.specs.Found.{present_fields, present_at, present_of, found_of, found_at};
-ghost use Rattle.mv_json.specs.Reading.{withdrawn_at, GivesOr};
+ghost use Rattle.mv_json.specs.Shapes.{present_fields, present_at, present_of, found_of, found_at};
+ghost use Rattle.mv_json.specs.Meanings.{part_of};
+ghost use Rattle.mv_json.specs.Reading.{GivesOr};
 ghost use Rattle.mv_json.specs.Parts.{Gives, MayGive, IsPart, IsValue, Stands};
 
+use crate::form::Version;
 use crate::members::first_unknown;
-use crate::numbers::truth_at;
 use crate::object::Object;
 use crate::part::{Part, Sighting, find};
-use crate::reading::{batch_at, expiry_at, national_at, standing_at};
-use crate::version::Version;
+use crate::reading::{batch_at, expiry_at, national_at, standing_at, truth_at};
 use crate::{Field, MessageFault};
 use mv_message::Found;
 use serde_json::Value;
 
 /// What the field `found` says: M3, M5; M9 where fields were met that say it in another version.
-#[tactic(auto, unfolding(crate::specs::Found::found_at))]
+#[tactic(auto, unfolding(crate::specs::Shapes::found_at))]
 pub(crate) fn found_at(object: &Object<'_>, version: Version) -> Result<Found, MessageFault>
     ensures gives { MayGive (found_at version) object.now result }
     // Of a value it takes no memory.
@@ -80,7 +80,7 @@ fn found_of(value: &Value, version: Version) -> Result<Found, MessageFault>
 }
 
 /// The pack that an object is, which has no other key than its fields.
-#[tactic(auto, unfolding(crate::specs::Found::present_of))]
+#[tactic(auto, unfolding(crate::specs::Shapes::present_of))]
 fn present_of(value: &Value, version: Version) -> Result<Found, MessageFault>
     ensures { result ≡ present_of version (view value.now) }
 {
@@ -106,25 +106,19 @@ pub(crate) fn present_fields(version: Version) -> &'static [Field]
 pub(crate) fn present_at(object: &Object<'_>, version: Version) -> Result<Found, MessageFault>
     ensures { Gives (present_at version) object.now result }
 {
-    let batch = batch_at(object, Field::Batch)?;
-    let expiry = expiry_at(object, Field::Expiry)?;
-    let national = national_at(object, Field::National, version)?;
-    let recalled = truth_at(object, Field::Recalled)?;
-    let standing = standing_at(object, Field::Standing)?;
-    let withdrawn = withdrawn_at(object, version)?;
     Ok(Found::Present {
-        batch,
-        expiry,
-        national,
-        standing,
-        recalled,
-        withdrawn,
+        batch: batch_at(object, Field::Batch)?,
+        expiry: expiry_at(object, Field::Expiry)?,
+        national: national_at(object, version)?,
+        recalled: truth_at(object, Field::Recalled)?,
+        standing: standing_at(object, Field::Standing)?,
+        withdrawn: withdrawn_at(object, version)?,
     })
 }
 
 /// Whether the product is withdrawn, of which version 1 does not speak.
 fn withdrawn_at(object: &Object<'_>, version: Version) -> Result<bool, MessageFault>
-    ensures { Gives (withdrawn_at version Field.Withdrawn) object.now result }
+    ensures { Gives (part_of version Field.Withdrawn).read object.now result }
 {
     match version {
         Version::One => Ok(false),

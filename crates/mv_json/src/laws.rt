@@ -9,6 +9,7 @@ pub fn reads_back()
 {}
 
 /// The value of a legal message is a spelling of it.
+#[tactic(auto, using(crate::proofs::ReadsLemmas::value_spells))]
 pub fn values_spell()
     ensures { ValuesSpell }
 {}
@@ -37,12 +38,13 @@ pub fn first_fault_is_given()
 {}
 
 /// The fields of a message stand in byte order of their names, each once.
-#[tactic(auto, using(crate::proofs::FormLemmas::fields_are_in_order))]
+#[tactic(auto, using(crate::proofs::ReadsLemmas::fields_are_in_order))]
 pub fn fields_are_in_order()
     ensures { FieldsAreInOrder }
 {}
 
 /// In the value of a message the keys of each object, that of `found` too, ascend in byte order, each once.
+#[tactic(auto, using(crate::proofs::ValueLemmas::keys_ascend))]
 pub fn keys_ascend()
     ensures { KeysOfValuesAscend }
 {}

@@ -1,6 +1,6 @@
-//! Reads the fields that are lists of texts.
+//! Reads the fields that are lists of texts, and says what such lists hold: serial numbers and markets.
 
-ghost use Rattle.std.specs.Prelude.{◌≡◌, ◌≢◌, IfOk, IfErr, MatchResult, Ok, Err, is_some};
+ghost use Rattle.std.specs.Prelude.{◌≡◌, ◌≢◌, IfOk, IfErr, MatchResult, Ok, Err, is_some, ℕ, List, Result};
 ghost use Rattle.mv_json.specs.Limits.{most_markets, most_serials};
 ghost use Rattle.std.specs.List.{list_all};
 ghost use Rattle.serde_json.specs.Find.{as_str};
@@ -9,12 +9,13 @@ ghost use Rattle.mv_pack.specs.Code.{read_code};
 ghost use Rattle.mv_pack.specs.Market.{read_market};
 ghost use Rattle.mv_json.specs.Reading.{texts_at, read_item, read_items, list_at};
 ghost use Rattle.mv_json.specs.Parts.{Takes};
+ghost use Rattle.mv_pack.specs.declared.fault.PackFault.{PackFault as AFault};
 
-use crate::listed::Listed;
 use crate::object::Object;
 use crate::part::{Part, take};
 use crate::{Field, MessageFault};
 use mv_message::{Markets, Serials};
+use mv_pack::{Market, PackFault, Serial};
 use serde_json::Value;
 use std::alloc::Global;
 
@@ -116,4 +117,53 @@ fn one_in<T: Listed>(value: &Value, field: Field) -> Result<T, MessageFault>
 {
     let text = value.as_str().ok_or(MessageFault::Kind(field))?;
     T::from_text(text).map_err(|fault| MessageFault::Pack(field, fault))
+}
+
+/// A value that stands in a list as its text.
+pub(crate) trait Listed: Sized + Drop {
+    /// What a text is read as.
+    ghost reads: { List ℕ → Result Self AFault };
+
+    /// The text of a value.
+    ghost written: { Self → List ℕ };
+
+    /// Reads a value from its text.
+    fn from_text(text: &str) -> Result<Self, PackFault>
+        ensures { result ≡ reads text.now };
+
+    /// The text.
+    fn to_text(&self) -> &str
+        ensures { result.now ≡ written self.now };
+}
+
+impl Listed for Serial {
+    ghost reads = { read_code };
+
+    ghost written = { λ serial. serial };
+
+    #[inline(always)]
+    fn from_text(text: &str) -> Result<Serial, PackFault> {
+        Serial::read(text)
+    }
+
+    #[inline(always)]
+    fn to_text(&self) -> &str {
+        self.as_str()
+    }
+}
+
+impl Listed for Market {
+    ghost reads = { read_market };
+
+    ghost written = { λ market. market };
+
+    #[inline(always)]
+    fn from_text(text: &str) -> Result<Market, PackFault> {
+        Market::read(text)
+    }
+
+    #[inline(always)]
+    fn to_text(&self) -> &str {
+        self.as_str()
+    }
 }

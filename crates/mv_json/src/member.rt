@@ -2,12 +2,11 @@
 
 ghost use Rattle.std.specs.Prelude.{map};
 ghost use Rattle.serde_json.specs.Data.{array, object};
-ghost use Rattle.mv_json.specs.Objects.{said_value, members_of};
-ghost use Rattle.mv_json.specs.Tokens.{Puts, PutsValue, tokens_of, rest_tokens};
+ghost use Rattle.mv_json.specs.Tokens.{said_value, members_of, members_put, Puts, PutsValue, tokens_of};
 ghost use Rattle.mv_json.specs.Values.{strings};
 
 use crate::Field;
-use crate::listed::Listed;
+use crate::lists::Listed;
 use json::Writer;
 use mv_pack::{Expiry, Market, National, Serial};
 use std::alloc::AllocError;
@@ -42,19 +41,23 @@ pub(crate) fn put_object(
     ensures { PutsValue result writer.old writer.new (object (members_of members.now)) }
 {
     writer.begin_object()?;
-    put_rest(writer, members)
+    put_members(writer, members)?;
+    writer.end_object()
 }
 
-/// Writes these members of an object that was begun, and its end.
+/// Writes these members of an object that was begun.
 #[tactic(auto, unfolding(crate::specs::Tokens::PutsValue))]
-pub(crate) fn put_rest(writer: &mut Writer, members: &[(Field, Said<'_>)]) -> Result<(), AllocError>
-    ensures { Puts result writer.old writer.new (rest_tokens (object (members_of members.now))) }
+pub(crate) fn put_members(
+    writer: &mut Writer,
+    members: &[(Field, Said<'_>)],
+) -> Result<(), AllocError>
+    ensures { Puts result writer.old writer.new (members_put members.now) }
 {
     for (field, said) in members {
         writer.key(field.as_str())?;
         put_said(writer, *said)?;
     }
-    writer.end_object()
+    Ok(())
 }
 
 /// Writes what stands under a name.

@@ -1,14 +1,13 @@
 //! Writes each message as the object of its members.
 
 ghost use Rattle.std.specs.Prelude.{◌≡◌};
-ghost use Rattle.mv_json.specs.Found.{found_version, found_value};
+ghost use Rattle.mv_json.specs.Shapes.{found_version, found_value};
 ghost use Rattle.mv_json.specs.Messages.{value_of};
-ghost use Rattle.mv_json.specs.Objects.{answer_end};
-ghost use Rattle.mv_json.specs.Tokens.{Puts, PutsValue, rest_tokens};
+ghost use Rattle.mv_json.specs.Tokens.{Puts, PutsValue, members_put, version_member};
 
 use crate::Field;
-use crate::member::{Said, put_object, put_rest, put_said};
-use crate::version::Version;
+use crate::form::Version;
+use crate::member::{Said, put_members, put_object, put_said};
 use json::Writer;
 use mv_message::{Found, Message, Party, Product, Serials, Standing, Text};
 use mv_pack::{Batch, BatchKey, Expiry, Gtin, Moment, National, PackKey};
@@ -240,38 +239,24 @@ fn put_answer(
     writer.u64(asker as u64)?;
     writer.key(Field::Found.as_str())?;
     put_found(writer, version, found)?;
-    put_answer_end(writer, version, q, key)
+    let rest = [
+        (Field::Gtin, Said::Text(key.gtin.as_str())),
+        (Field::Msg, Said::Text("answer")),
+        (Field::Q, Said::Whole(q as u64)),
+        (Field::Serial, Said::Text(key.serial.as_str())),
+    ];
+    put_members(writer, &rest)?;
+    put_version(writer, version)?;
+    writer.end_object()
 }
 
-/// Writes the members of an answer behind what was found, and its end.
-fn put_answer_end(
-    writer: &mut Writer,
-    version: Version,
-    q: u32,
-    key: &PackKey,
-) -> Result<(), AllocError>
-    ensures { Puts result writer.old writer.new (rest_tokens (answer_end version q key.now)) }
+/// Writes the member that says the version, which the first does not have.
+fn put_version(writer: &mut Writer, version: Version) -> Result<(), AllocError>
+    ensures { Puts result writer.old writer.new (members_put (version_member version)) }
 {
     match version {
-        Version::One => put_rest(
-            writer,
-            &[
-                (Field::Gtin, Said::Text(key.gtin.as_str())),
-                (Field::Msg, Said::Text("answer")),
-                (Field::Q, Said::Whole(q as u64)),
-                (Field::Serial, Said::Text(key.serial.as_str())),
-            ],
-        ),
-        Version::Two => put_rest(
-            writer,
-            &[
-                (Field::Gtin, Said::Text(key.gtin.as_str())),
-                (Field::Msg, Said::Text("answer")),
-                (Field::Q, Said::Whole(q as u64)),
-                (Field::Serial, Said::Text(key.serial.as_str())),
-                (Field::V, Said::Whole(2)),
-            ],
-        ),
+        Version::One => Ok(()),
+        Version::Two => put_members(writer, &[(Field::V, Said::Whole(2))]),
     }
 }
 

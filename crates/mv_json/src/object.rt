@@ -5,7 +5,7 @@ ghost use Rattle.serde_json.specs.Data.{Data};
 ghost use Rattle.serde_json.specs.Find.{as_bool, as_null, as_str, get};
 ghost use Rattle.mv_json.specs.Fields.{field_name};
 ghost use Rattle.mv_json.specs.Reading.{whole_number};
-ghost use Rattle.mv_json.specs.Spellings.{HasOnly};
+ghost use Rattle.mv_json.specs.Members.{HasOnly};
 ghost use Rattle.mv_json.specs.Parts.{IsPlace, IsThere, Stands};
 
 use crate::Field;

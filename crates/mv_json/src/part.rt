@@ -5,7 +5,7 @@ ghost use Rattle.mv_json.specs.Parts.{entry, IsTaken};
 ghost use Rattle.mv_json.specs.declared.part.Entry.{Entry as AnEntry};
 
 use crate::Field;
-use crate::version::Version;
+use crate::form::Version;
 use mv_message::{Boxed, Found};
 use mv_pack::{Market, Serial};
 use std::mem;

@@ -8,8 +8,7 @@ ghost use Rattle.mv_json.specs.Parts.{BeginWithPart, BeginWithEntries, BeginWith
 
 use crate::Field;
 use crate::found_reading::sighting_in;
-use crate::listed::Listed;
-use crate::lists::{MOST_MARKETS, MOST_SERIALS};
+use crate::lists::{Listed, MOST_MARKETS, MOST_SERIALS};
 use crate::object::Object;
 use crate::part::{Entry, Part, Sighting, adds};
 use crate::tokens::{takes_opening, whole_of};

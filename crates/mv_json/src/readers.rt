@@ -6,15 +6,14 @@ ghost use Rattle.mv_json.specs.Messages.{holds_texts};
 ghost use Rattle.mv_json.specs.Parts.{Gives, MayGive, IsValue};
 ghost use Rattle.mv_json.specs.Shapes.{message_at};
 
-use crate::form::Form;
+use crate::form::{Form, Version};
 use crate::found_reading::found_at;
 use crate::lists::{markets_at, serials_at};
-use crate::numbers::{count_at, moment_at, number_at};
 use crate::object::Object;
 use crate::reading::{
-    batch_at, expiry_at, free_text_at, gtin_at, national_at, serial_at, standing_at,
+    batch_at, count_at, expiry_at, free_text_at, gtin_at, moment_at, national_at, number_at,
+    serial_at, standing_at,
 };
-use crate::version::Version;
 use crate::{Field, MessageFault};
 use mv_message::{Boxed, Message, Product};
 use mv_pack::{BatchKey, PackKey};
@@ -56,21 +55,15 @@ fn master_at(
     let common = free_text_at(alloc, object, Field::Common)?;
     let form = free_text_at(alloc, object, Field::Form)?;
     let gtin = gtin_at(object, Field::Gtin)?;
-    let markets = markets_at(alloc, object, Field::Markets)?;
-    let name = free_text_at(alloc, object, Field::Name)?;
-    let pack_size = free_text_at(alloc, object, Field::PackSize)?;
-    let pack_type = free_text_at(alloc, object, Field::PackType)?;
-    let scheme = free_text_at(alloc, object, Field::Scheme)?;
-    let strength = free_text_at(alloc, object, Field::Strength)?;
     let product = Product {
-        scheme,
-        name,
         common,
         form,
-        strength,
-        pack_type,
-        pack_size,
-        markets,
+        markets: markets_at(alloc, object, Field::Markets)?,
+        name: free_text_at(alloc, object, Field::Name)?,
+        pack_size: free_text_at(alloc, object, Field::PackSize)?,
+        pack_type: free_text_at(alloc, object, Field::PackType)?,
+        scheme: free_text_at(alloc, object, Field::Scheme)?,
+        strength: free_text_at(alloc, object, Field::Strength)?,
     };
     Ok(Message::Master {
         gtin,
@@ -86,17 +79,12 @@ fn upload_at(
 ) -> Result<Message, MessageFault>
     ensures { MayGive (message_at version Form.Upload) object.old result }
 {
-    let batch = batch_at(object, Field::Batch)?;
-    let expiry = expiry_at(object, Field::Expiry)?;
-    let gtin = gtin_at(object, Field::Gtin)?;
-    let national = national_at(object, Field::National, version)?;
-    let serials = serials_at(alloc, object, Field::Serials)?;
     Ok(Message::Upload {
-        gtin,
-        batch,
-        expiry,
-        national,
-        serials,
+        batch: batch_at(object, Field::Batch)?,
+        expiry: expiry_at(object, Field::Expiry)?,
+        gtin: gtin_at(object, Field::Gtin)?,
+        national: national_at(object, version)?,
+        serials: serials_at(alloc, object, Field::Serials)?,
     })
 }
 
@@ -104,16 +92,14 @@ fn upload_at(
 fn status_at(alloc: Global, object: &Object<'_>, version: Version) -> Result<Message, MessageFault>
     ensures { MayGive (message_at version Form.Status) object.now result }
 {
-    let at = moment_at(object, Field::At)?;
-    let gtin = gtin_at(object, Field::Gtin)?;
-    let serial = serial_at(object, Field::Serial)?;
-    let to = standing_at(object, Field::To)?;
-    let user = free_text_at(alloc, object, Field::User)?;
     Ok(Message::Status {
-        key: PackKey { gtin, serial },
-        to,
-        user,
-        at,
+        at: moment_at(object, Field::At)?,
+        key: PackKey {
+            gtin: gtin_at(object, Field::Gtin)?,
+            serial: serial_at(object, Field::Serial)?,
+        },
+        to: standing_at(object, Field::To)?,
+        user: free_text_at(alloc, object, Field::User)?,
     })
 }
 
@@ -138,21 +124,17 @@ fn repack_at(
 ) -> Result<Message, MessageFault>
     ensures { MayGive (message_at version Form.Repack) object.old result }
 {
-    let after_batch = batch_at(object, Field::AfterBatch)?;
-    let after_gtin = gtin_at(object, Field::AfterGtin)?;
+    let after = BatchKey {
+        batch: batch_at(object, Field::AfterBatch)?,
+        gtin: gtin_at(object, Field::AfterGtin)?,
+    };
     let after_serials = serials_at(alloc, object, Field::AfterSerials)?;
     let at = moment_at(object, Field::At)?;
-    let before_batch = batch_at(object, Field::BeforeBatch)?;
-    let before_gtin = gtin_at(object, Field::BeforeGtin)?;
-    let before_serials = serials_at(alloc, object, Field::BeforeSerials)?;
     let before = BatchKey {
-        gtin: before_gtin,
-        batch: before_batch,
+        batch: batch_at(object, Field::BeforeBatch)?,
+        gtin: gtin_at(object, Field::BeforeGtin)?,
     };
-    let after = BatchKey {
-        gtin: after_gtin,
-        batch: after_batch,
-    };
+    let before_serials = serials_at(alloc, object, Field::BeforeSerials)?;
     Ok(Message::Repack {
         before: Boxed::new(alloc, before)?,
         before_serials,

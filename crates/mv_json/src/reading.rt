@@ -5,15 +5,16 @@ ghost use Rattle.serde_json.specs.Data.{Data};
 ghost use Rattle.mv_pack.specs.Code.{read_code};
 ghost use Rattle.mv_pack.specs.Expiry.{read_expiry};
 ghost use Rattle.mv_pack.specs.Gtin.{read_gtin};
-ghost use Rattle.mv_json.specs.Reading.{member_at, text_at, read_at, standing_at, free_text_at, national_of, national_at};
+ghost use Rattle.mv_json.specs.Meanings.{part_of};
+ghost use Rattle.mv_json.specs.Reading.{member_at, text_at, read_at, standing_at, free_text_at, national_of, truth_at, whole_at, moment_at, number_at, count_at};
 ghost use Rattle.mv_json.specs.Parts.{Gives, MayGive, IsPlace, Stands, there};
 ghost use Rattle.mv_message.specs.Standings.{standing_named};
 
+use crate::form::Version;
 use crate::object::{Object, Place};
-use crate::version::Version;
 use crate::{Field, MessageFault};
 use mv_message::{Standing, Text};
-use mv_pack::{Batch, Expiry, Gtin, National, Serial};
+use mv_pack::{Batch, Expiry, Gtin, Moment, National, Serial};
 use std::alloc::Global;
 
 /// How many bytes a free text has at most.
@@ -76,18 +77,17 @@ pub(crate) fn expiry_at(object: &Object<'_>, field: Field) -> Result<Expiry, Mes
     Expiry::read(text_at(object, field)?).map_err(|fault| MessageFault::Pack(field, fault))
 }
 
-/// The national number of a field, or none where there is `null`, and in version 1, which has no such field: M3, M5, M6.
+/// The national number, or none where there is `null`, and in version 1, which has no such field: M3, M5, M6.
 #[tactic(auto, unfolding(crate::specs::Reading::national_at))]
 pub(crate) fn national_at(
     object: &Object<'_>,
-    field: Field,
     version: Version,
 ) -> Result<Option<National>, MessageFault>
-    ensures { Gives (national_at version field) object.now result }
+    ensures { Gives (part_of version Field.National).read object.now result }
 {
     match version {
         Version::One => Ok(None),
-        Version::Two => national_of(member_at(object, field)?, field),
+        Version::Two => national_of(member_at(object, Field::National)?, Field::National),
     }
 }
 
@@ -147,4 +147,52 @@ pub(crate) fn free_text_at(
         return Err(MessageFault::TextLength(field));
     }
     Ok(Text::new(String::from_str(alloc, text)?))
+}
+
+/// Whether a field says `true`: M3, M5.
+#[tactic(auto, unfolding(crate::specs::Reading::truth_at))]
+pub(crate) fn truth_at(object: &Object<'_>, field: Field) -> Result<bool, MessageFault>
+    ensures { Gives (truth_at field) object.now result }
+{
+    member_at(object, field)?
+        .as_bool()
+        .ok_or(MessageFault::Kind(field))
+}
+
+/// The whole number of a field: M3, M5.
+#[tactic(auto, unfolding(crate::specs::Reading::whole_at))]
+fn whole_at(object: &Object<'_>, field: Field) -> Result<u64, MessageFault>
+    ensures { Gives (whole_at field) object.now result }
+{
+    member_at(object, field)?
+        .as_u64()
+        .ok_or(MessageFault::Kind(field))
+}
+
+/// The moment of a field: M3, M5, M6.
+#[tactic(auto, unfolding(crate::specs::Reading::moment_at))]
+pub(crate) fn moment_at(object: &Object<'_>, field: Field) -> Result<Moment, MessageFault>
+    ensures { Gives (moment_at field) object.now result }
+{
+    Moment::of(whole_at(object, field)?).map_err(|fault| MessageFault::Pack(field, fault))
+}
+
+/// The whole number of a field, up to 4,294,967,295: M3, M5.
+#[tactic(auto, unfolding(crate::specs::Reading::number_at))]
+pub(crate) fn number_at(object: &Object<'_>, field: Field) -> Result<u32, MessageFault>
+    ensures { Gives (number_at field) object.now result }
+{
+    u32::try_from(whole_at(object, field)?).map_err(|_| MessageFault::Kind(field))
+}
+
+/// The whole number of a field, from 1 to 4,294,967,295: M3, M5.
+#[tactic(auto, unfolding(crate::specs::Reading::count_at))]
+pub(crate) fn count_at(object: &Object<'_>, field: Field) -> Result<u32, MessageFault>
+    ensures { Gives (count_at field) object.now result }
+{
+    let number = number_at(object, field)?;
+    if number == 0 {
+        return Err(MessageFault::Kind(field));
+    }
+    Ok(number)
 }

@@ -1,5 +1,5 @@
 use Rattle.mv_json.specs.declared.field.Field.TheVariants as fields
-use Rattle.mv_json.specs.Found.{found_at}
+use Rattle.mv_json.specs.Shapes.{found_at}
 use Rattle.mv_json.proofs.PartLemmas.{stands}
 use Rattle.mv_json.proofs.found_reading.found_at.Goals as goal
 

@@ -1,6 +1,6 @@
 use Rattle.std.proofs.Common.{◌∙◌, refl, rules}
-use Rattle.mv_json.proofs.FormLemmas.{read_by_fields}
-use Rattle.mv_json.proofs.token_message.message_in.Goals as goal
+use Rattle.mv_json.proofs.ReadsLemmas.{read_by_fields}
+use Rattle.mv_json.proofs.message_reading.message_in.Goals as goal
 
 pub returns : goal.returns
 returns c = λ value is.

@@ -2,32 +2,15 @@
 use Rattle.std.proofs.Common.{◌≡◌, ℕ, ◌+◌, ◌<◌, ◌≤◌, Bool, true, false, ◌&&◌, ◌||◌, not, List, [], ◌∷◌, ◌++◌, length, get_or, set, cond, None, sym, refl, ap, ◌∙◌, arith, inl, inr, append-nil, ◌↔◌, length-set}
 use mir.Val.{bool_byte}
 use Rattle.std.specs.Prelude.{◌==◌, nat_lt, find, replicate}
-use Rattle.std.specs.List.{All}
-use Rattle.std.proofs.lemmas.Bool.{cases_eq, cases_lt, eq-eqb, ne_eqb, le-ltb, false_from_ne_true}
-use Rattle.std.proofs.lemmas.List.{get_or-replicate, length-replicate, get_or_default}
-use Rattle.std.proofs.lemmas.Bool.Decides.{nat_tests}
+use Rattle.mv_hub.proofs.Words.{All, AreLinks, AreOpen, Carries, Closed, Entry, HasRoom, IsKept, IsRouting, IsSquare, IsWindow, Item, Message, PartySet, PushesItems, PushesRow, Routed, Sending, cases_eq, cases_lt, cell, cell-all, cell-map, eq-eqb, false_from_ne_true, find-none_at, find-those, gain_of, get_or-replicate, get_or_default, has_party, is_open, le-ltb, length-replicate, link_at, listed-in, nat_tests, ne_eqb, new_sending, no_parties, parties_in, put, put-map, put-read, routed_count, sent_table, table-all}
 use Rattle.std.proofs.lemmas.Grind.{common_steps, elements}
-use Rattle.mv_message.specs.declared.message.Message.{Message}
-use Rattle.mv_link.specs.declared.item.Item.{Item}
 use Rattle.mv_link.specs.declared.item.Item.TheVariants.{Receipt, Carried}
 use Rattle.mv_link.specs.declared.limits.TheConstants.{PARTIES_LIMIT}
-use Rattle.mv_link.specs.Sending.{Sending, IsWindow, HasRoom, new_sending}
-use Rattle.mv_pairs.specs.Pairs.{cell, put, IsSquare}
-use Rattle.mv_pairs.proofs.CallerLemmas.{cell-map, put-map, cell-all, table-all, put-read}
-use Rattle.mv_hub.specs.declared.entry.Entry.{Entry}
-use Rattle.mv_hub.specs.declared.entry.Entry.TheVariants.{Routed, Closed}
-use Rattle.mv_hub.specs.Record.{routed_count, is_open}
 use Rattle.mv_hub.specs.declared.hub.routing.Routing.{Routing}
-use Rattle.mv_link.specs.declared.party_set.PartySet.{PartySet}
 use Rattle.mv_hub.specs.Targets.{reach, is_reached, is_target, is_query}
-use Rattle.mv_link.specs.PartySets.{has_party, parties_in, no_parties}
 use Rattle.mv_hub.specs.Links.{gained, link_items}
 use Rattle.mv_hub.specs.Hub.{HubState, new_hub, sent_of, items_on, next_items, is_busy, busy_party, with_relayed}
-use Rattle.mv_hub.specs.Kept.{link_at, sent_table, Carries, AreOpen, AreLinks, IsKept}
-use Rattle.mv_hub.specs.Gains.{PushesItems, PushesRow, IsRouting, gain_of}
-use Rattle.mv_hub.proofs.LinksLemmas.{room-after}
 use Rattle.mv_hub.proofs.RecordLemmas.{routed_from-append, is_open-append, link_items-push, gained_other, gained-closed}
-use Rattle.mv_link.proofs.CallerLemmas.{find-none_at, find-those, listed-in}
 
 -- what the hub is seen as
 abbrev pub view : List (List (List ℕ)) → ℕ → List Entry → List (List Sending) → HubState
@@ -159,7 +142,7 @@ carries-gain : (window : ℕ) (items more : List Item) (old new : Sending) → C
 carries-gain window items more old new carries gains room = record {
   window = gains.window ∙ carries.window;
   ends = gains.ends items carries.ends;
-  fits = room-after more old new 0 gains (omega (arith, room.0), omega (arith, room.1));
+  fits = (omega (arith, gains.total, gains.sent, gains.window, room.0), omega (arith, gains.total, room.1));
 }
 
 -- all that the hub keeps, once a message was routed

@@ -1,3 +1,4 @@
+pub mod Words
 pub mod RecordLemmas
 pub mod MarketTableLemmas
 pub mod PartiesLemmas

@@ -1,16 +1,7 @@
 -- Links that gain items.
-use Rattle.std.proofs.Common.{◌≡◌, ℕ, suc, ◌+◌, ◌<◌, ◌&&◌, not, true, List, [], ◌∷◌, ◌++◌, cond, length, replicate, refl, sym, ap, ◌∙◌, arith, inl, inr, append-nil, append_assoc, length-append}
+use Rattle.std.proofs.Common.{◌≡◌, ℕ, suc, ◌+◌, ◌<◌, ◌&&◌, not, true, List, [], ◌∷◌, ◌++◌, cond, replicate, refl, sym, ap, ◌∙◌, arith, inl, inr, append-nil, append_assoc, length-append}
 use Rattle.std.specs.Prelude.{◌==◌}
-use Rattle.std.proofs.lemmas.Bool.{cases_eq, eq-eqb, ne_eqb}
-use Rattle.std.proofs.lemmas.List.{same_from_push, replicate_more}
-use Rattle.mv_link.specs.declared.item.Item.{Item}
-use Rattle.mv_link.specs.Sending.{Sending, HasRoom, new_sending}
-use Rattle.mv_pairs.specs.Pairs.{put, IsSquare}
-use Rattle.mv_pairs.proofs.CallerLemmas.{cell-put_same, cell-put_other, square-put, put-map_same}
-use Rattle.mv_link.specs.declared.party_set.PartySet.{PartySet}
-use Rattle.mv_link.specs.PartySets.{has_party}
-use Rattle.mv_hub.specs.Kept.{link_at}
-use Rattle.mv_hub.specs.Gains.{PushesItems, PushesRow}
+use Rattle.mv_hub.proofs.Words.{IsSquare, Item, PartySet, PushesItems, PushesRow, Sending, cases_eq, cell-put_other, cell-put_same, eq-eqb, has_party, link_at, ne_eqb, new_sending, put, put-map_same, replicate_more, same_from_push, square-put}
 
 -- a link that gains nothing, and one that gains twice
 pub pushes-none : (link : Sending) → PushesItems [] link link
@@ -23,11 +14,6 @@ pushes-then xs ys old mid new first second = record {
   sent = second.sent ∙ first.sent;
   ends = λ list ends. rw (← append_assoc list xs ys) (second.ends (list ++ xs) (first.ends list ends));
 }
-
--- room for more than it gained is left
-pub room-after : (xs : List Item) (old new : Sending) (count : ℕ) → PushesItems xs old new → HasRoom old (length xs + count) → HasRoom new count
-room-after xs old new count gains room =
-    (omega (arith, gains.total, gains.sent, gains.window, room.0), omega (arith, gains.total, room.1))
 
 -- what is gained first, and then
 pub row-then : {n from : ℕ} {g h : ℕ → List Item} {old mid new : List (List Sending)} → PushesRow n from g old mid → PushesRow n from h mid new

@@ -1,20 +1,11 @@
 -- Texts, batches and listings: when two are the same, the order of batches, and lists that hold each member once.
 use Rattle.std.proofs.Common.{◌≡◌, true, List, ℕ, Bool, false, not, cond, [], ◌∷◌, ◌++◌, filter, Option, Some, None, ◌↔◌, sym, refl, ap, ◌∙◌, append-nil, arith}
 use Rattle.std.specs.Cmp.{IsEquivalence, IsTotalOrder}
-use Rattle.std.specs.Cmp.Lexicographic.{pointwise}
+use Rattle.mv_hub.proofs.Words.{BatchKey, Decides-and, Decides-eqb, IsAscendingList, Listing, any-filter_same, batch_cmp, bytes_eq-Decides, distinct, filter-append, filter_map, filter_map-append, is_same_batch, is_same_listing, list_any, pointwise}
 use Rattle.std.specs.Ordering.{eq_by_cmp}
 use Rattle.std.specs.Prelude.{nat_eq}
-use Rattle.std.proofs.lemmas.Bool.Decides.{Decides-and, Decides-eqb}
-use Rattle.std.proofs.lemmas.Slice.Eq.{bytes_eq-Decides}
-use Rattle.std.specs.List.{list_any, filter_map}
-use Rattle.std.proofs.lemmas.List.Elements.{filter-append, filter_map-append}
-use Rattle.std.proofs.lemmas.Map.Views.{any-filter_same}
-use Rattle.mv_pack.specs.declared.key.BatchKey.{BatchKey}
 use Rattle.mv_pack.specs.contracts.key.BatchKeyEq.TheImpl.Laws as equal
 use Rattle.mv_pack.specs.contracts.key.BatchKeyOrd.TheImpl.Laws as order
-use Rattle.mv_pack.specs.Keys.{is_same_batch}
-use Rattle.mv_hub.specs.BatchLinks.{batch_cmp, IsAscendingList}
-use Rattle.mv_hub.specs.Listing.{Listing, is_same_listing, distinct}
 
 pub batch_equivalence : IsEquivalence is_same_batch
 batch_equivalence = equal.laws-law

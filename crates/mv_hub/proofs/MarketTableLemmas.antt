@@ -1,16 +1,9 @@
 -- The table of the party of each market.
 use Rattle.std.proofs.Common.{◌≡◌, ◌≢◌, ℕ, zero, suc, ◌+◌, ◌-◌, ◌<◌, ◌≤◌, Bool, true, false, ◌||◌, cond, List, [], ◌∷◌, ◌++◌, length, get_or, set, take, drop, map, replicate, sym, refl, ap, ◌∙◌, append_assoc, append-nil, arith, inl, inr, true≢false}
 use Rattle.std.specs.Prelude.{◌==◌, bytes_eq}
-use Rattle.std.specs.Cmp.Lexicographic.{nat_list_eq_equiv}
-use Rattle.std.proofs.lemmas.Bool.{cases_Bool, cases_eq, cases_lt, eq-eqb, ne_eqb}
-use Rattle.std.proofs.lemmas.List.{ext_get_or, take_more, take-append-drop, map-append, length-map, length-take-le, get_or-set_same, get_or-set_other, get_or-replicate, length-replicate}
+use Rattle.mv_hub.proofs.Words.{AreNoted, all_markets, bytes_eq-Decides, cases_Bool, cases_eq, cases_lt, eq-eqb, ext_get_or, get_or-replicate, get_or-set_other, get_or-set_same, has_market, has_twice, length-map, length-replicate, length-take-le, list_all_at, list_any-append, map-append, nat_list_eq_equiv, nat_tests, ne_eqb, served_by, take-append-drop, take_more}
 use Rattle.std.proofs.Math.ListN.{get_or-eq_default}
-use Rattle.std.proofs.lemmas.List.Folds.{list_any-append, list_all_at}
-use Rattle.std.proofs.lemmas.Bool.Decides.{nat_tests}
-use Rattle.std.proofs.lemmas.Slice.Eq.{bytes_eq-Decides}
 use Rattle.mv_pack.specs.Market.{IsMarket, place_of, is_capital}
-use Rattle.mv_hub.specs.Parties.{has_market, has_twice, served_by, all_markets}
-use Rattle.mv_hub.specs.MarketTables.{AreNoted}
 
 -- the letters of a market
 letters_within : (m : List ℕ) → IsMarket m → (65 ≤ get_or m 0 0) × (get_or m 0 0 ≤ 90) × (65 ≤ get_or m 1 0) × (get_or m 1 0 ≤ 90)

@@ -1,12 +1,7 @@
 -- The parties that serve markets.
 use Rattle.std.proofs.Common.{◌≡◌, ℕ, zero, suc, ◌+◌, ◌<◌, true, false, ◌||◌, ◌&&◌, List, [], ◌∷◌, ◌++◌, length, take, get_or, Option, refl, arith}
 use Rattle.std.specs.Prelude.{nat_lt, bytes_eq}
-use Rattle.std.specs.Cmp.Lexicographic.{nat_list_eq_equiv}
-use Rattle.std.proofs.lemmas.Bool.Decides.{nat_tests}
-use Rattle.std.proofs.lemmas.List.{take_more}
-use Rattle.std.proofs.lemmas.List.Folds.{list_any-append}
-use Rattle.mv_hub.specs.Parties.{has_market, serves_one, served_by}
-use Rattle.mv_hub.specs.MarketTables.{is_found}
+use Rattle.mv_hub.proofs.Words.{has_market, is_found, list_any-append, nat_list_eq_equiv, nat_tests, served_by, serves_one, take_more}
 
 -- who serves a market is a party
 pub server_is_party : (parties : List (List (List ℕ))) (party : ℕ) (market : List ℕ) → has_market (served_by parties party) market ≡ true

@@ -1,9 +1,6 @@
 -- What one more entry at the end of a record changes.
 use Rattle.std.proofs.Common.{◌≡◌, ℕ, ◌&&◌, false, List, [], ◌∷◌, ◌++◌, eqb, sym, refl, ap, ◌∙◌, append_assoc, append-nil, arith}
-use Rattle.mv_message.specs.declared.message.Message.{Message}
-use Rattle.mv_hub.specs.declared.entry.Entry.{Entry}
-use Rattle.mv_hub.specs.declared.entry.Entry.TheVariants.{Routed, Closed}
-use Rattle.mv_hub.specs.Record.{routed_from, is_open}
+use Rattle.mv_hub.proofs.Words.{Closed, Entry, Message, Routed, is_open, routed_from}
 use Rattle.mv_hub.specs.Links.{gained, link_items_after, link_items}
 
 pub routed_from-append : (before after : List Entry) (party : ℕ) → routed_from (before ++ after) party ≡ routed_from before party ++ routed_from after party

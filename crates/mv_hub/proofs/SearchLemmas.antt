@@ -1,13 +1,6 @@
 -- The search for the batches that chains of links lead to.
 use Rattle.std.proofs.Common.{◌≡◌, ◌<◌, ◌≤◌, ◌+◌, ℕ, Bool, true, false, cond, List, [], ◌∷◌, ◌++◌, length, get_or, take, take_all, Contains, ◌↔◌, ◌⊎◌, inl, inr, subst, sym, refl, ap, ◌∙◌, arith, append_assoc, length-append}
-use Rattle.std.specs.List.{list_any}
-use Rattle.std.proofs.lemmas.List.{take_more, take-append-le}
-use Rattle.std.proofs.lemmas.List.Elements.{Contains-push, Contains-push_cases, Contains-append_left}
-use Rattle.std.proofs.lemmas.Map.Views.{Contains-from_any}
-use Rattle.mv_pack.specs.declared.key.BatchKey.{BatchKey}
-use Rattle.mv_pack.specs.Keys.{is_same_batch}
-use Rattle.mv_hub.specs.BatchLinks.{IsChain, IsReachedFrom}
-use Rattle.mv_hub.specs.Tables.{with_link, Gathers}
+use Rattle.mv_hub.proofs.Words.{BatchKey, Contains-append_left, Contains-from_any, Contains-push, Contains-push_cases, Gathers, IsChain, IsReachedFrom, is_same_batch, list_any, take-append-le, take_more, with_link}
 use Rattle.mv_hub.proofs.ListingLemmas.{batch-same}
 
 none-in : (batch : BatchKey) → Contains [] batch → ⊥

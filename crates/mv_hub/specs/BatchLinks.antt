@@ -1,15 +1,9 @@
 -- Links between batches: a routed repack makes packs of the batch before into packs of the batch after.
 use Rattle.std.specs.Prelude.{List, [], ◌∷◌, ◌↔◌, Contains, Option, Some, None, if◌then◌else◌}
-use Rattle.std.specs.Cmp.Lexicographic.{slice_cmp}
+use Rattle.mv_hub.specs.Words.{BatchKey, Entry, Repack, Routed, filter_map, is_same_batch, slice_cmp}
 use Rattle.std.specs.Ordering.{nat_cmp, ordering_then}
 use Rattle.std.specs.declared.cmp.Ordering.{Ordering}
-use Rattle.std.specs.List.{filter_map}
 use Rattle.std.specs.List.Sorted.{IsStrictlySortedBy}
-use Rattle.mv_pack.specs.declared.key.BatchKey.{BatchKey}
-use Rattle.mv_pack.specs.Keys.{is_same_batch}
-use Rattle.mv_message.specs.declared.message.Message.TheVariants.{Repack}
-use Rattle.mv_hub.specs.declared.entry.Entry.{Entry}
-use Rattle.mv_hub.specs.declared.entry.Entry.TheVariants.{Routed}
 
 -- batches in the order of the bytes of their product code, and of one product in that of the bytes of their number
 abbrev pub batch_cmp : BatchKey → BatchKey → Ordering

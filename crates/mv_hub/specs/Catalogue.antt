@@ -1,10 +1,6 @@
 -- What the hub knows of a product: its last master, and the batches of it that were uploaded (Article 33).
 use Rattle.std.specs.Prelude.{ℕ, List, [], Option, Some, None, if◌then◌else◌, bytes_eq}
-use Rattle.std.specs.List.{filter_map}
-use Rattle.mv_message.specs.declared.message.Product.{Product}
-use Rattle.mv_message.specs.declared.message.Message.TheVariants.{Upload}
-use Rattle.mv_hub.specs.declared.entry.Entry.{Entry}
-use Rattle.mv_hub.specs.declared.entry.Entry.TheVariants.{Routed}
+use Rattle.mv_hub.specs.Words.{Entry, Product, Routed, Upload, filter_map}
 use Rattle.mv_hub.specs.declared.catalogue.Catalogue.{Catalogue}
 use Rattle.mv_hub.specs.Record.{last_product}
 use Rattle.mv_hub.specs.Listing.{Listing, is_same_listing, distinct}

@@ -2,9 +2,8 @@
 use Rattle.std.specs.Prelude.{◌≡◌, ℕ, List, codes, IsOk, Result, Ok, Err}
 use Rattle.mv_link.specs.declared.fault.LinkFault.{LinkFault}
 use Rattle.mv_link.specs.declared.fault.LinkFault.TheVariants as link
-use Rattle.mv_hub.specs.declared.fault.HubFault.{HubFault}
+use Rattle.mv_hub.specs.Words.{HubFault, RouteFault}
 use Rattle.mv_hub.specs.declared.fault.HubFault.TheVariants as hub
-use Rattle.mv_hub.specs.declared.fault.RouteFault.{RouteFault}
 use Rattle.mv_hub.specs.declared.fault.RouteFault.TheVariants as route
 
 -- the number of a fault

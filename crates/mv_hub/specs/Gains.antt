@@ -1,14 +1,9 @@
 -- What a routing puts on the links of its sender.
 use Rattle.std.specs.Prelude.{◌≡◌, ◌≢◌, ◌<◌, ◌≤◌, ◌+◌, ◌==◌, ◌&&◌, ◌++◌, ◌∷◌, [], ℕ, List, length, if◌then◌else◌}
-use Rattle.mv_link.specs.declared.item.Item.{Item}
-use Rattle.mv_link.specs.declared.item.Item.TheVariants.{Receipt, Carried}
-use Rattle.mv_link.specs.declared.limits.TheConstants.{PARTIES_LIMIT}
-use Rattle.mv_link.specs.Sending.{Sending, EndsWithHeld}
-use Rattle.mv_pairs.specs.Pairs.{IsSquare}
+use Rattle.mv_hub.specs.Words.{Carried, EndsWithHeld, IsSquare, Item, PARTIES_LIMIT, Receipt, Sending, has_party, parties_in}
 use Rattle.mv_hub.specs.declared.hub.routing.Routing.{Routing}
 use Rattle.mv_hub.specs.Record.{routed_count, is_open}
 use Rattle.mv_hub.specs.Targets.{is_reached, is_query}
-use Rattle.mv_link.specs.PartySets.{has_party, parties_in}
 use Rattle.mv_hub.specs.Hub.{HubState}
 use Rattle.mv_hub.specs.Kept.{link_at, sent_table}
 
@@ -21,13 +16,11 @@ pub record IsRouting (hub : HubState) (routing : Routing) : Type 0 where
   pub own : routing.receipted ≡ is_open hub.entries routing.from routing.from
   pub reaches : (to : ℕ) → has_party routing.reached to ≡ is_reached hub.parties hub.entries routing.from routing.message.now to
 
--- the receipt of a routing
-abbrev pub receipt_of : Routing → Item
-receipt_of routing = Receipt routing.k (parties_in routing.reached) (is_query routing.message.now)
-
 -- the receipt, on the link of its sender to itself while that is open
 abbrev pub receipt_to : Routing → ℕ → List Item
-receipt_to routing to = if (to == routing.from) && routing.receipted then receipt_of routing ∷ [] else []
+receipt_to routing to =
+    if (to == routing.from) && routing.receipted
+    then Receipt routing.k (parties_in routing.reached) (is_query routing.message.now) ∷ [] else []
 
 -- the item that a routing puts on the link to each party that is reached
 abbrev pub carried_by : Routing → Item

@@ -1,17 +1,7 @@
 -- What the hub is seen as. Neither links nor tables are part of it: they follow from the record.
 use Rattle.std.specs.Prelude.{ℕ, List, [], ◌∷◌, ◌++◌, ◌+◌, ◌-◌, length, Bool, ◌||◌, ◌&&◌, not, nat_lt, replicate, find, option_map, Option, Some, None, if◌then◌else◌}
-use Rattle.std.specs.List.{range_with_len}
-use Rattle.mv_message.specs.declared.message.Message.{Message}
-use Rattle.mv_link.specs.declared.item.Item.{Item}
-use Rattle.mv_link.specs.declared.limits.TheConstants.{NUMBER_LIMIT}
-use Rattle.mv_link.specs.Sending.{relay_fault as link_relay_fault, again_fault}
-use Rattle.mv_pairs.specs.Pairs.{cell, put}
-use Rattle.mv_hub.specs.declared.entry.Entry.{Entry}
-use Rattle.mv_hub.specs.declared.entry.Entry.TheVariants.{Routed, Closed}
-use Rattle.mv_hub.specs.declared.fault.RouteFault.{RouteFault}
+use Rattle.mv_hub.specs.Words.{AlreadyClosed, Closed, Entry, HubFault, Item, Message, NUMBER_LIMIT, RouteFault, Routed, Stranger, again_fault, cell, link_relay_fault, put, range_with_len}
 use Rattle.mv_hub.specs.declared.fault.RouteFault.TheVariants.{StrangerParty, Busy}
-use Rattle.mv_hub.specs.declared.fault.HubFault.{HubFault}
-use Rattle.mv_hub.specs.declared.fault.HubFault.TheVariants.{StrangerParty as Stranger, AlreadyClosed}
 use Rattle.mv_hub.specs.Record.{routed_count, is_open}
 use Rattle.mv_hub.specs.Fault.{of_link}
 use Rattle.mv_hub.specs.Links.{gained, link_items}

@@ -1,17 +1,11 @@
 -- What the hub keeps beside its record, and how that follows from the record.
-use Rattle.std.specs.Prelude.{◌≡◌, ◌↔◌, ◌<◌, ◌≤◌, ℕ, List, length, map, slice_index_or, Contains}
-use Rattle.mv_pack.specs.declared.key.BatchKey.{BatchKey}
-use Rattle.mv_link.specs.declared.item.Item.{Item}
-use Rattle.mv_link.specs.declared.limits.TheConstants.{PARTIES_LIMIT}
-use Rattle.mv_link.specs.Sending.{Sending, IsWindow, HasRoom, EndsWithHeld, new_sending}
-use Rattle.mv_pairs.specs.Pairs.{cell, IsSquare}
-use Rattle.mv_hub.specs.declared.entry.Entry.{Entry}
+use Rattle.std.specs.Prelude.{◌≡◌, ◌<◌, ◌≤◌, ℕ, List, length, map, slice_index_or}
+use Rattle.mv_hub.specs.Words.{EndsWithHeld, Entry, HasRoom, IsSquare, IsWindow, Item, PARTIES_LIMIT, Sending, cell, has_party, new_sending, no_parties}
 use Rattle.mv_hub.specs.declared.catalogue.Catalogue.{Catalogue}
 use Rattle.mv_link.specs.declared.party_set.PartySet.{PartySet}
-use Rattle.mv_link.specs.PartySets.{has_party, no_parties}
 use Rattle.mv_hub.specs.Record.{routed_count, is_open}
 use Rattle.mv_hub.specs.Catalogue.{catalogue_of}
-use Rattle.mv_hub.specs.Tables.{catalogue_in, linked_in}
+use Rattle.mv_hub.specs.Tables.{catalogue_in, LinkTable, linked_in}
 use Rattle.mv_hub.specs.BatchLinks.{linked_to}
 use Rattle.mv_hub.specs.Links.{link_items}
 
@@ -29,9 +23,9 @@ pub record AreRoutedCounts (parties : ℕ) (entries : List Entry) (routed_counts
   pub values : (party : ℕ) → party < parties → slice_index_or routed_counts party 0 ≡ routed_count entries party
 
 -- what the record says of each product and each batch
-pub record AreTables (entries : List Entry) (catalogues : List (List ℕ × Catalogue)) (batch_links : List (BatchKey × List BatchKey)) : Type 0 where
+pub record AreTables (entries : List Entry) (catalogues : List (List ℕ × Catalogue)) (batch_links : LinkTable) : Type 0 where
   pub are_catalogues : (gtin : List ℕ) → catalogue_in catalogues gtin ≡ catalogue_of entries gtin
-  pub are_links : (batch other : BatchKey) → Contains (linked_in batch_links batch) other ↔ Contains (linked_to entries batch) other
+  pub are_links : linked_in batch_links ≡ linked_to entries
 
 -- the parties to which a link of each party is open, party 0 first
 pub record AreOpen (parties : ℕ) (entries : List Entry) (open_links : List PartySet) : Type 0 where

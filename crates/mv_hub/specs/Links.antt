@@ -1,9 +1,6 @@
 -- What the record says was put on each link, in order.
 use Rattle.std.specs.Prelude.{ℕ, List, [], ◌∷◌, ◌++◌, ◌+◌, length, ◌==◌, ◌&&◌, if◌then◌else◌}
-use Rattle.mv_link.specs.declared.item.Item.{Item}
-use Rattle.mv_link.specs.declared.item.Item.TheVariants.{Receipt, Carried}
-use Rattle.mv_hub.specs.declared.entry.Entry.{Entry}
-use Rattle.mv_hub.specs.declared.entry.Entry.TheVariants.{Routed, Closed}
+use Rattle.mv_hub.specs.Words.{Carried, Closed, Entry, Item, Receipt, Routed}
 use Rattle.mv_hub.specs.Record.{is_open}
 use Rattle.mv_hub.specs.Targets.{is_reached, reach, is_query}
 

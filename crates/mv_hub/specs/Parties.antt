@@ -1,9 +1,6 @@
 -- The parties and the markets that they serve: each territory is served by one repository (Article 32).
 use Rattle.std.specs.Prelude.{ℕ, List, [], ◌∷◌, flat_map, length, nat_lt, Bool, false, ◌==◌, ◌||◌, if◌then◌else◌, slice_index_or, filter, Result, Ok, Err, bytes_eq}
-use Rattle.std.specs.List.{list_any, range_with_len}
-use Rattle.mv_link.specs.declared.limits.TheConstants.{PARTIES_LIMIT}
-use Rattle.mv_hub.specs.declared.fault.HubFault.{HubFault}
-use Rattle.mv_hub.specs.declared.fault.HubFault.TheVariants.{NoParty, TooMany, ServedTwice}
+use Rattle.mv_hub.specs.Words.{HubFault, NoParty, PARTIES_LIMIT, ServedTwice, TooMany, list_any, range_with_len}
 
 -- the list has the market
 abbrev pub has_market : List (List ℕ) → List ℕ → Bool

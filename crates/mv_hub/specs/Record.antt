@@ -1,11 +1,6 @@
 -- The hub's record, its audit trail (Regulation (EU) 2016/161, Article 35(1)): the oldest entry stands first.
 use Rattle.std.specs.Prelude.{ℕ, List, [], ◌∷◌, length, Bool, true, ◌==◌, ◌&&◌, not, Option, Some, None, option_map, unwrap_or, if◌then◌else◌, bytes_eq}
-use Rattle.std.specs.List.{filter_map, last_or}
-use Rattle.mv_message.specs.declared.message.Message.{Message}
-use Rattle.mv_message.specs.declared.message.Message.TheVariants.{Master}
-use Rattle.mv_message.specs.declared.message.Product.{Product}
-use Rattle.mv_hub.specs.declared.entry.Entry.{Entry}
-use Rattle.mv_hub.specs.declared.entry.Entry.TheVariants.{Routed, Closed}
+use Rattle.mv_hub.specs.Words.{Closed, Entry, Master, Message, Product, Routed, filter_map, last_or}
 
 -- the messages that were routed from a party, in order
 abbrev pub routed_from : List Entry → ℕ → List Message

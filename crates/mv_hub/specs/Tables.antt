@@ -1,18 +1,21 @@
 -- What the tables of the hub hold by its record, and how an entry changes them: words of the inside.
-use Rattle.std.specs.Prelude.{List, [], ◌∷◌, ◌++◌, unwrap_or, ◌≡◌, ◌↔◌, ◌⊎◌, Contains, Option, Some, None, if◌then◌else◌, ℕ, bytes_eq}
-use Rattle.std.specs.Cmp.Lexicographic.{nat_list_eq_equiv}
-use Rattle.std.specs.List.{list_any}
+use Rattle.std.specs.Prelude.{List, [], ◌∷◌, ◌++◌, ◌≡◌, ◌↔◌, ◌⊎◌, Contains, Option, Some, None, if◌then◌else◌, ℕ, bytes_eq}
+use Rattle.mv_hub.specs.Words.{BatchKey, Product, is_same_batch, list_any, nat_list_eq_equiv}
 use Rattle.std.specs.Map.{lookup}
-use Rattle.mv_pack.specs.declared.key.BatchKey.{BatchKey}
-use Rattle.mv_pack.specs.Keys.{is_same_batch}
-use Rattle.mv_message.specs.declared.message.Product.{Product}
+use Rattle.std.specs.Option.{option_map_or}
+use Rattle.std.specs.declared.alloc.Global.{Global}
+use Rattle.std.specs.declared.vec.Vec.{Vec}
 use Rattle.mv_hub.specs.declared.catalogue.Catalogue.{Catalogue}
 use Rattle.mv_hub.specs.Listing.{Listing, is_same_listing}
 use Rattle.std.specs.Cmp.{IsEquivalence, and_equiv, on_equiv, nat_eq_equiv}
 
+-- the batches after, by the batch before
+abbrev pub LinkTable : Type 0
+LinkTable = List (BatchKey × Vec BatchKey Global)
+
 -- what a table of the batches after says of a batch
-abbrev pub linked_in : List (BatchKey × List BatchKey) → BatchKey → List BatchKey
-linked_in table batch = unwrap_or (lookup (is_same_batch batch) table) []
+abbrev pub linked_in : LinkTable → BatchKey → List BatchKey
+linked_in table batch = option_map_or (λ batches. batches.items) (lookup (is_same_batch batch) table) []
 
 -- one more batch after, unless it is there
 abbrev pub with_link : List BatchKey → BatchKey → List BatchKey

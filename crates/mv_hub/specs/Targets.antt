@@ -1,9 +1,6 @@
 -- Whom a message is for, by the record that stands before it (Articles 33 to 35).
 use Rattle.std.specs.Prelude.{ℕ, List, length, nat_lt, Bool, true, false, ◌==◌, ◌&&◌, ◌||◌, not, filter}
-use Rattle.std.specs.List.{range_with_len}
-use Rattle.mv_message.specs.declared.message.Message.{Message}
-use Rattle.mv_message.specs.declared.message.Message.TheVariants.{Master, Upload, Status, Recall, Repack, Withdraw, Query, Answer}
-use Rattle.mv_hub.specs.declared.entry.Entry.{Entry}
+use Rattle.mv_hub.specs.Words.{Answer, Entry, Master, Message, Query, Recall, Repack, Status, Upload, Withdraw, range_with_len}
 use Rattle.mv_hub.specs.Record.{market_table, is_open}
 use Rattle.mv_hub.specs.Parties.{serves_one, served_by}
 

@@ -1,76 +1,30 @@
 //! The links between batches that routed repacks make.
 
-ghost use Rattle.std.specs.Prelude.{◌≡◌, ◌↔◌, ◌∷◌, [], ℕ, List, Contains, OnOk, OnErr, IfOk};
+ghost use Rattle.std.specs.Prelude.{◌≡◌, ◌↔◌, ◌++◌, ◌∷◌, [], Contains, OnOk, OnErr, IfOk};
 ghost use Rattle.std.specs.Prelude.{if◌then◌else◌};
 ghost use Rattle.mv_pack.specs.declared.key.BatchKey.{BatchKey as ABatch};
 ghost use Rattle.mv_pack.specs.Keys.{is_same_batch};
 ghost use Rattle.mv_hub.specs.BatchLinks.{IsReachedFrom, IsAscendingList};
-ghost use Rattle.mv_hub.specs.Tables.{linked_in, with_link, Gathers};
+ghost use Rattle.mv_hub.specs.Tables.{linked_in, Gathers};
 
 use indexmap::{IndexMap, IndexSet};
 use mv_pack::BatchKey;
 use std::alloc::{AllocError, Global};
 use std::marker::Model;
 
-/// The batches after of one batch, each once, in the order of their first link.
-#[derive(Drop)]
-struct BatchesAfter {
-    /// The batches, found without a walk.
-    set: IndexSet<BatchKey>,
-}
-
-impl Model for BatchesAfter {
-    ghost use Rattle.std.specs.Prelude.{List};
-    ghost use Rattle.mv_pack.specs.declared.key.BatchKey.{BatchKey as ABatch};
-
-    ghost Value = { List ABatch };
-
-    ghost view = { λ b. b.set.keys };
-}
-
-impl BatchesAfter {
-    /// One batch.
-    fn of(alloc: Global, batch: &BatchKey) -> Result<BatchesAfter, AllocError>
-        ensures { IfOk result (λ batches. batches ≡ batch.now ∷ []) }
-    {
-        let mut batches = BatchesAfter {
-            set: IndexSet::new(alloc),
-        };
-        batches.add(batch)?;
-        Ok(batches)
-    }
-
-    /// One more batch, unless it is there. Where memory is refused nothing has changed.
-    fn add(&mut self, batch: &BatchKey) -> Result<(), AllocError>
-        ensures ok { OnOk result (self.new ≡ with_link self.old batch.now) }
-        ensures err { OnErr result (self.new ≡ self.old) }
-    {
-        self.set.insert(batch.copy())?;
-        Ok(())
-    }
-
-    /// The batches.
-    fn as_slice(&self) -> &[BatchKey]
-        ensures { result.now ≡ self.now }
-    {
-        self.set.as_slice()
-    }
-}
-
-/// The batches after of each batch.
+/// The batches after of each batch, in the order of their links.
 #[derive(Drop)]
 pub(crate) struct BatchLinks {
     /// Where the batches after of a new batch get their memory.
     alloc: Global,
     /// The batches after, by the batch before.
-    table: IndexMap<BatchKey, BatchesAfter>,
+    table: IndexMap<BatchKey, Vec<BatchKey>>,
 }
 
 impl Model for BatchLinks {
-    ghost use Rattle.std.specs.Prelude.{List};
-    ghost use Rattle.mv_pack.specs.declared.key.BatchKey.{BatchKey as ABatch};
+    ghost use Rattle.mv_hub.specs.Tables.{LinkTable};
 
-    ghost Value = { List (ABatch × List ABatch) };
+    ghost Value = { LinkTable };
 
     ghost view = { λ b. b.table.entries };
 }
@@ -90,14 +44,15 @@ impl BatchLinks {
     pub(crate) fn add(&mut self, before: &BatchKey, after: &BatchKey) -> Result<(), AllocError>
         ensures ok { OnOk result ((other : ABatch) → linked_in self.new other
             ≡ (if is_same_batch before.now other
-            then with_link (linked_in self.old before.now) after.now
+            then linked_in self.old before.now ++ after.now ∷ []
             else linked_in self.old other)) }
-        ensures err { OnErr result (self.new ≡ self.old) }
+        ensures err { OnErr result (linked_in self.new ≡ linked_in self.old) }
     {
         if let Some(batches) = self.table.get_mut(before) {
-            return batches.add(after);
+            return Ok(batches.push(after.copy())?);
         }
-        let batches = BatchesAfter::of(self.alloc, after)?;
+        let mut batches = Vec::new(self.alloc);
+        batches.push(after.copy())?;
         self.table.insert(before.copy(), batches)?;
         Ok(())
     }

@@ -101,10 +101,7 @@ impl MasterProduct {
     pub fn get(&self) -> Option<&Product>
         ensures { option_copied result ≡ self.now }
     {
-        match &self.master {
-            Some(master) => product_of(master),
-            None => None,
-        }
+        product_of(self.master.as_ref()?)
     }
 }
 

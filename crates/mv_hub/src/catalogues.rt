@@ -1,7 +1,7 @@
 //! What the hub knows of each product, by the masters and uploads that it routed.
 
 ghost use Rattle.std.specs.Prelude.{◌≡◌, ℕ, [], List, Option, Some, None, if◌then◌else◌, bytes_eq};
-ghost use Rattle.std.specs.Prelude.{option_map, OnOk, OnErr, IfOk};
+ghost use Rattle.std.specs.Prelude.{OnOk, OnErr};
 ghost use Rattle.std.specs.Option.{option_copied};
 ghost use Rattle.mv_message.specs.declared.message.Product.{Product as AProduct};
 ghost use Rattle.mv_hub.specs.Record.{product_of};
@@ -46,15 +46,6 @@ impl Listed {
             },
             known: IndexSet::new(alloc),
         }
-    }
-
-    /// What is known of a product that has a batch and no master.
-    fn of_batch(alloc: Global, batch: &Batch, expiry: Expiry) -> Result<Listed, AllocError>
-        ensures { IfOk result (λ listed. listed ≡ with_listing None (batch.now, expiry)) }
-    {
-        let mut listed = Listed::new(alloc, MasterProduct::new(None));
-        listed.add(batch, expiry)?;
-        Ok(listed)
     }
 
     /// Puts a batch and its expiry behind the others, unless they are there. Where memory is refused nothing has changed.
@@ -111,10 +102,7 @@ impl Catalogues {
     pub(crate) fn get(&self, gtin: &Gtin) -> Option<&Catalogue>
         ensures { option_copied result ≡ catalogue_in self.now gtin.now }
     {
-        match self.table.get(gtin) {
-            Some(listed) => Some(&listed.catalogue),
-            None => None,
-        }
+        Some(&self.table.get(gtin)?.catalogue)
     }
 
     /// A product has this master from now on. Where memory is refused nothing has changed.
@@ -156,7 +144,8 @@ impl Catalogues {
         if let Some(listed) = self.table.get_mut(&gtin) {
             return listed.add(batch, expiry);
         }
-        let listed = Listed::of_batch(self.alloc, batch, expiry)?;
+        let mut listed = Listed::new(self.alloc, MasterProduct::new(None));
+        listed.add(batch, expiry)?;
         self.table.insert(gtin, listed)?;
         Ok(())
     }

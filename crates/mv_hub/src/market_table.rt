@@ -1,7 +1,6 @@
 //! The party of each market. It is found by the place of the market, with no search and no memory.
 
-ghost use Rattle.std.specs.Prelude.{◌≡◌, ◌<◌, ◌≤◌, ◌++◌, ◌∷◌, [], ℕ, List, map, length, true};
-ghost use Rattle.std.specs.Prelude.{MatchOption, IfSome};
+ghost use Rattle.std.specs.Prelude.{◌≡◌, ◌<◌, ◌≤◌, ℕ, List, map, length, true, MatchOption};
 ghost use Rattle.mv_hub.specs.Parties.{has_market, has_twice, served_by, all_markets};
 ghost use Rattle.mv_hub.specs.MarketTables.{is_found, AreNoted, AddsMarkets};
 

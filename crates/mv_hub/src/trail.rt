@@ -1,13 +1,12 @@
 //! The audit trail: the record of what the hub did, and tables of what it says of products and batches, so that no call
 //! walks the record.
 
-ghost use Rattle.std.specs.Prelude.{◌≡◌, ◌↔◌, ◌++◌, ◌∷◌, [], List, Contains, OnOk, OnErr};
+ghost use Rattle.std.specs.Prelude.{◌≡◌, ◌++◌, ◌∷◌, [], List, OnOk, OnErr};
 ghost use Rattle.std.specs.Option.{option_copied};
 ghost use Rattle.mv_hub.specs.declared.entry.Entry.{Entry as AnEntry};
 ghost use Rattle.mv_hub.specs.Catalogue.{catalogue_of};
 ghost use Rattle.mv_hub.specs.BatchLinks.{linked_to};
 ghost use Rattle.mv_hub.specs.Tables.{linked_in};
-ghost use Rattle.mv_pack.specs.declared.key.BatchKey.{BatchKey as ABatch};
 ghost use Rattle.mv_hub.specs.Kept.{AreTables};
 
 use crate::batch_links::BatchLinks;
@@ -70,8 +69,7 @@ impl AuditTrail {
 
     /// What the record says of the batches that were repackaged.
     pub(crate) fn batch_links(&self) -> &BatchLinks
-        ensures { (batch other : ABatch) → Contains (linked_in result.now batch) other
-            ↔ Contains (linked_to self.now batch) other }
+        ensures { linked_in result.now ≡ linked_to self.now }
     {
         &self.batch_links
     }
@@ -99,7 +97,7 @@ fn add_to_tables(
         → AreTables entries catalogues.old batch_links.old
         → AreTables (entries ++ entry.now ∷ []) catalogues.new batch_links.new) }
     ensures catalogues { OnErr result (catalogues.new ≡ catalogues.old) }
-    ensures links { OnErr result (batch_links.new ≡ batch_links.old) }
+    ensures links { OnErr result (linked_in batch_links.new ≡ linked_in batch_links.old) }
 {
     let Entry::Routed { message, .. } = entry else {
         return Ok(());

@@ -1,11 +1,12 @@
 -- Lemmas on links.
-use Rattle.std.proofs.Common.{◌≡◌, ℕ, ◌+◌, ◌-◌, List, [], ◌∷◌, ◌++◌, length, take, drop, refl, sym, ◌∙◌, ap, arith, append_assoc, append-nil, length-append, Bool, true, false, cond, suc, add-one, drop-cons}
+use Rattle.std.proofs.Common.{◌≡◌, ℕ, ◌+◌, ◌-◌, List, [], ◌∷◌, ◌++◌, length, take, drop, refl, sym, ◌∙◌, ap, arith, append_assoc, append-nil, length-append, Bool, true, false, cond, drop-cons}
 use Rattle.std.specs.Prelude.{Some, slice_get, All, ◌==◌}
 use Rattle.std.proofs.lemmas.List.{take-append-drop}
 use Rattle.std.proofs.lemmas.List.Elements.{All-tail}
-use Rattle.std.proofs.lemmas.Bool.{eqb-true, eq-eqb, ne_eqb}
+use Rattle.std.proofs.lemmas.Bool.{eqb-true}
 use Rattle.std.proofs.lemmas.Bool.Decides.{nat_tests}
-use Rattle.std.proofs.lemmas.Option.{slice_get_within, get_or_from_slice_get}
+use Rattle.std.proofs.lemmas.Grind.{common_steps}
+use Rattle.std.proofs.lemmas.Option.{gets, slice_get_within}
 use Rattle.circular_buffer.proofs.Places.{slice_get-append_left}
 use Rattle.mv_link.specs.declared.item.Item.{Item}
 use Rattle.mv_link.specs.declared.item.Frame.{Frame}
@@ -32,9 +33,7 @@ of_longer list more frame of =
 
 -- the member at a place stands first in what is left from there on
 member_first : (list : List Item) (place : ℕ) (item : Item) → slice_get list place ≡ Some item → drop place list ≡ item ∷ drop (place + 1) list
-member_first list place item at =
-    drop-cons list place item (slice_get_within list place item at) ∙ ap (λ x. x ∷ drop (suc place) list) (get_or_from_slice_get list place item item at)
-    ∙ ap (λ n. item ∷ drop n list) (sym (add-one place))
+member_first list place item at = grind (arith, common_steps, gets, drop-cons list place item)
 
 -- what is accepted from a place on is a front of the list from there on
 pub accepted_front : (list : List Item) (frames : List Frame) (count : ℕ) → All (IsFrameOf list) frames → (rest : List Item) × (drop count list ≡ accepted_after count frames ++ rest)
@@ -58,18 +57,12 @@ pub accepted-push : (count : ℕ) (frames : List Frame) (frame : Frame)
 accepted-push count [] frame = ap (λ n. cond (frame.number == n) (frame.item ∷ []) []) (omega arith)
 accepted-push count (first ∷ frames) frame = grind (arith, accepted-push (count + 1) frames frame, accepted-push count frames frame)
 
--- so a frame of another number changes nothing
-accepted-other : (frames : List Frame) (frame : Frame) → (frame.number == (length (accepted frames) + 1)) ≡ false → accepted (frames ++ frame ∷ []) ≡ accepted frames
-accepted-other frames frame other =
-    accepted-push 0 frames frame ∙ ap (λ n. accepted frames ++ cond (frame.number == (n + 1)) (frame.item ∷ []) []) (omega arith)
-    ∙ ap (λ b. accepted frames ++ cond b (frame.item ∷ []) []) other ∙ append-nil (accepted frames)
-
+-- so it is accepted just where its number is the next
 pub one_more : (frames : List Frame) (frame : Frame) → OneMoreFrame frames frame
 one_more frames frame = record {
-  next = λ e. accepted-push 0 frames frame ∙ ap (λ n. accepted frames ++ cond (frame.number == (n + 1)) (frame.item ∷ []) []) (omega arith)
-      ∙ ap (λ b. accepted frames ++ cond b (frame.item ∷ []) []) (eq-eqb frame.number (length (accepted frames) + 1) e);
-  old = λ le. accepted-other frames frame (ne_eqb frame.number (length (accepted frames) + 1) (λ e. omega (arith, e, le)));
-  gap = λ lt. accepted-other frames frame (ne_eqb frame.number (length (accepted frames) + 1) (λ e. omega (arith, e, lt)));
+  next = λ e. grind (arith, nat_tests, accepted-push 0 frames frame, e);
+  old = λ le. grind (arith, nat_tests, accepted-push 0 frames frame, le, append-nil {A = Item});
+  gap = λ lt. grind (arith, nat_tests, accepted-push 0 frames frame, lt, append-nil {A = Item});
 }
 
 -- a number that is the next
@@ -79,5 +72,5 @@ next-number count number next = grind (arith, nat_tests)
 -- the next frame makes one more
 pub accepts_next : (count more : ℕ) → more ≡ count + 1 → AcceptsNext count more
 accepts_next count more is frames frame counted stands =
-    ap length ((one_more frames frame).next (next-number count frame.number stands ∙ ap (λ n. n + 1) (sym counted)))
-    ∙ length-append (accepted frames) (frame.item ∷ []) ∙ ap (λ n. n + 1) counted ∙ sym is
+    let taken = (one_more frames frame).next (omega (arith, next-number count frame.number stands, counted)) in
+    omega (arith, ap length taken, length-append (accepted frames) (frame.item ∷ []), counted, is)

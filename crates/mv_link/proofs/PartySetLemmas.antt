@@ -1,12 +1,12 @@
 -- Sets of parties, by the bits of their words.
-use Rattle.std.proofs.Common.{◌≡◌, ℕ, ◌-◌, ◌*◌, ◌^◌, ◌%◌, ◌<◌, ◌≤◌, min, max, Bool, true, false, not, ◌&&◌, ◌||◌, [], ◌∷◌, length, w64, bit_and, bit_or, refl, ap, arith, inl, inr}
+use Rattle.std.proofs.Common.{◌≡◌, ℕ, ◌-◌, ◌*◌, ◌^◌, ◌/◌, ◌%◌, ◌<◌, ◌≤◌, min, max, Bool, true, false, not, ◌&&◌, ◌||◌, [], ◌∷◌, length, w64, bit_and, bit_or, refl, ap, arith, inl, inr}
 use Rattle.std.specs.Prelude.{◌==◌}
 use Rattle.std.specs.Int.{bit_at, trailing_zeros}
 use Rattle.std.specs.List.{range_with_len}
 use Rattle.std.proofs.lemmas.Bool.{cases_eq, cases_lt, eq-eqb, ne_eqb}
 use Rattle.std.proofs.lemmas.Bool.Decides.{nat_tests}
 use Rattle.std.proofs.lemmas.Nat.{and_le_l}
-use Rattle.std.proofs.lemmas.Nat.Bits.{bit_at-lt, bit_at-zero, bit_at_and, bit_at_or, bit_at_above, bit_at_set_same, bit_at_set_other, bit_at_clear_same, bit_at_clear_other, bit_at-trailing_zeros}
+use Rattle.std.proofs.lemmas.Nat.Bits.{bit_at-lt, bit_at-zero, bit_at_and, bit_at_or, bit_at_above, bit_at_set_same, bit_at_set_other, bit_at_clear_same, bit_at_clear_other, bit_at-trailing_zeros, bit_at_ones, shr_and_one}
 use Rattle.std.proofs.lemmas.List.Filters.{length-filter_both}
 use Rattle.std.proofs.lemmas.List.FromFn.{length-range_with_len}
 use Rattle.mv_link.specs.declared.party_set.PartySet.{PartySet}
@@ -21,31 +21,31 @@ either-bit : (x y : ℕ) → x < 2 → y < 2 → (max x y == 1) ≡ ((x == 1) ||
 either-bit x y p q = grind (arith, nat_tests)
 
 -- what each change of a word does to the parties of its set
-pub has-and : (a b : PartySet) (party : ℕ)
+pub has_and : (a b : PartySet) (party : ℕ)
     → has_party (record { bits = bit_and a.bits b.bits }) party ≡ (has_party a party && has_party b party)
 unfolding has_party
-has-and a b party =
+has_and a b party =
     rw (bit_at_and a.bits b.bits party) (both-bits _ _ (bit_at-lt a.bits party) (bit_at-lt b.bits party))
 
-pub has-or : (a b : PartySet) (party : ℕ)
+pub has_or : (a b : PartySet) (party : ℕ)
     → has_party (record { bits = bit_or a.bits b.bits }) party ≡ (has_party a party || has_party b party)
 unfolding has_party
-has-or a b party =
+has_or a b party =
     rw (bit_at_or a.bits b.bits party) (either-bit _ _ (bit_at-lt a.bits party) (bit_at-lt b.bits party))
 
-pub has-with : (set : PartySet) (party other : ℕ) → party < 64
+pub has_with : (set : PartySet) (party other : ℕ) → party < 64
     → has_party (record { bits = bit_or set.bits (1 * 2 ^ party % 2 ^ 64) }) other ≡ (has_party set other || (other == party))
 unfolding has_party
-has-with set party other lt = elim (cases_eq other party) [
+has_with set party other lt = elim (cases_eq other party) [
   | inl same ↦ rw (same, bit_at_set_same w64 set.bits party lt, eq-eqb party party refl) (grind arith)
   | inr apart ↦ rw (bit_at_set_other w64 set.bits party lt other apart, ne_eqb other party apart) (grind arith)
 ]
 
-pub has-without : (set : PartySet) (party other : ℕ) → party < 64 → set.bits < 2 ^ 64
+pub has_without : (set : PartySet) (party other : ℕ) → party < 64 → set.bits < 2 ^ 64
     → has_party (record { bits = bit_and set.bits (2 ^ 64 - 1 - 1 * 2 ^ party % 2 ^ 64) }) other
     ≡ (has_party set other && not (other == party))
 unfolding has_party
-has-without set party other lt fits = elim (cases_eq other party) [
+has_without set party other lt fits = elim (cases_eq other party) [
   | inl same ↦ rw (same, bit_at_clear_same w64 set.bits party lt, eq-eqb party party refl) (grind arith)
   | inr apart ↦ elim (cases_lt other 64) [
     | inl within ↦ rw (bit_at_clear_other w64 set.bits party lt other within apart, ne_eqb other party apart) (grind arith)
@@ -57,27 +57,27 @@ has-without set party other lt fits = elim (cases_eq other party) [
 ]
 
 -- the least party of a set that is not empty
-pub first-in : (set : PartySet) → 0 < set.bits → set.bits < 2 ^ 64
+pub first_in : (set : PartySet) → 0 < set.bits → set.bits < 2 ^ 64
     → (trailing_zeros w64 set.bits < 64) × (has_party set (trailing_zeros w64 set.bits) ≡ true)
 unfolding has_party
-first-in set some fits =
+first_in set some fits =
     let found = bit_at-trailing_zeros w64 set.bits some fits in
     (found.0, eq-eqb _ 1 found.1)
 
 -- and the list of the set without it
-pub rest-in : (set rest : PartySet) → 0 < set.bits → set.bits < 2 ^ 64
+pub rest_in : (set rest : PartySet) → 0 < set.bits → set.bits < 2 ^ 64
     → ((other : ℕ) → has_party rest other ≡ (has_party set other && not (other == trailing_zeros w64 set.bits)))
     → parties_in set ≡ trailing_zeros w64 set.bits ∷ parties_in rest
 unfolding has_party parties_in
-rest-in set rest some fits without =
+rest_in set rest some fits without =
     let found = bit_at-trailing_zeros w64 set.bits some fits in
     passing-first _ _ 0 64 (trailing_zeros w64 set.bits) (omega arith) found.0 (eq-eqb _ 1 found.1)
     (λ x below. ap (λ b. b == 1) (found.2 x below)) without
 
 -- a word without bits
-pub none-in : (set : PartySet) → set.bits ≡ 0 → parties_in set ≡ []
+pub none_in : (set : PartySet) → set.bits ≡ 0 → parties_in set ≡ []
 unfolding has_party parties_in
-none-in set none = passing-none (λ x. bit_at set.bits x == 1) 0 64 (λ x low high. rw (none, bit_at-zero x))
+none_in set none = passing-none (λ x. bit_at set.bits x == 1) 0 64 (λ x low high. rw (none, bit_at-zero x))
 
 -- and no set has more than there may be
 pub few-in : (set : PartySet) → length (parties_in set) ≤ 64
@@ -90,12 +90,25 @@ pub listed-in : (set : PartySet) (test : ℕ → Bool) (n : ℕ) → n ≤ 64 �
 unfolding parties_in
 listed-in set test n few same none = those-within (has_party set) test n 64 few same none
 
+-- what a bit says, and the words of no bit and of all
+pub has_is : (set : PartySet) (party : ℕ) → (bit_and (set.bits / 2 ^ party) 1 == 1) ≡ has_party set party
+unfolding has_party
+has_is set party = rw (shr_and_one set.bits party)
+
+pub has_none : (party : ℕ) → has_party (record { bits = 0 }) party ≡ false
+unfolding has_party
+has_none party = rw (bit_at-zero party)
+
+pub has_all : (party : ℕ) → party < 64 → has_party (record { bits = 2 ^ 64 - 1 }) party ≡ true
+unfolding has_party
+has_all party below = rw (bit_at_ones 64 party below)
+
 -- the parties of a set ascend
 pub increasing-in : (set : PartySet) → IsStrictlyIncreasing (parties_in set)
 unfolding parties_in
 increasing-in set = increasing-those _ (has_party set) 64 refl
 
 -- a word without bits has no party
-pub empty-has : (set : PartySet) (party : ℕ) → set.bits ≡ 0 → has_party set party ≡ false
+pub empty_has : (set : PartySet) (party : ℕ) → set.bits ≡ 0 → has_party set party ≡ false
 unfolding has_party
-empty-has set party none = rw (none, bit_at-zero party)
+empty_has set party none = rw (none, bit_at-zero party)

@@ -74,6 +74,7 @@ impl Incoming {
     }
 
     /// Accepts the next frame.
+    #[tactic(auto, using(crate::proofs::LinkLemmas::accepts_next))]
     pub fn advance(&mut self)
         requires { self.old < NUMBER_LIMIT }
         ensures count { self.new ≡ self.old + 1 }

@@ -11,6 +11,7 @@ pub fn accepted_is_prefix()
 /// Whatever frames came before, one more is accepted where its number is the next; where it is old, or behind a gap, what is
 /// accepted stays as it was. So a receiving end that looks at each frame, and advances at each that is next, counts what is
 /// accepted.
+#[tactic(auto, using(crate::proofs::LinkLemmas::one_more))]
 pub fn one_more_frame_is_looked_at()
     ensures { OneMoreFrameIsLookedAt }
 {}

@@ -1,7 +1,7 @@
 //! The end of a link that items are pushed at. It keeps the last of them in a ring of the window's size.
 
-ghost use Rattle.std.specs.Prelude.{◌≡◌, ◌+◌, ◌-◌, ◌<◌, ◌≤◌, ◌↔◌, List, [], ◌∷◌, ◌++◌, length};
-ghost use Rattle.std.specs.Prelude.{IsTrue, IsOk, OnOk, OnErr, IfOk, IfErr};
+ghost use Rattle.std.specs.Prelude.{◌≡◌, ◌+◌, ◌-◌, ◌<◌, ◌≤◌, ◌↔◌, List, [], ◌∷◌, ◌++◌, IsTrue};
+ghost use Rattle.std.specs.Prelude.{IsOk, OnOk, OnErr, IfOk, IfErr};
 
 use crate::{Frame, Item, LinkFault, NUMBER_LIMIT};
 use circular_buffer::HeapCircularBuffer;
@@ -84,6 +84,7 @@ impl Outgoing {
     }
 
     /// Pushes an item. It is always taken: what it pushes out of a full window was relayed.
+    #[tactic(auto, using(crate::proofs::LinkLemmas::pushed))]
     pub fn push(&mut self, item: Item) -> Result<(), (LinkFault, Item)>
         requires { HasRoom self.old 1 }
         ensures ok { IsOk result }

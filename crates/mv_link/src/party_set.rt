@@ -17,6 +17,7 @@ pub struct PartySet {
 
 impl PartySet {
     /// The set of no party.
+    #[tactic(auto, using(crate::proofs::PartySetLemmas::has_none))]
     pub fn none() -> PartySet
         ensures { (party : ℕ) → has_party result party ≡ false }
     {
@@ -24,6 +25,7 @@ impl PartySet {
     }
 
     /// The set of all parties that there can be.
+    #[tactic(auto, using(crate::proofs::PartySetLemmas::has_all))]
     pub fn all() -> PartySet
         ensures { (party : ℕ) → party < PARTIES_LIMIT → has_party result party ≡ true }
     {
@@ -31,6 +33,7 @@ impl PartySet {
     }
 
     /// Whether the set has a party.
+    #[tactic(auto, using(crate::proofs::PartySetLemmas::has_is))]
     pub fn has(self, party: Party) -> bool
         requires { party < PARTIES_LIMIT }
         ensures { result ≡ has_party self party }
@@ -39,6 +42,7 @@ impl PartySet {
     }
 
     /// The set and a party.
+    #[tactic(auto, using(crate::proofs::PartySetLemmas::has_with))]
     pub fn with(self, party: Party) -> PartySet
         requires { party < PARTIES_LIMIT }
         ensures { (other : ℕ) → has_party result other
@@ -50,6 +54,7 @@ impl PartySet {
     }
 
     /// The set without a party.
+    #[tactic(auto, using(crate::proofs::PartySetLemmas::has_without))]
     pub fn without(self, party: Party) -> PartySet
         requires { party < PARTIES_LIMIT }
         ensures { (other : ℕ) → has_party result other
@@ -61,6 +66,7 @@ impl PartySet {
     }
 
     /// The parties that one of two sets has.
+    #[tactic(auto, using(crate::proofs::PartySetLemmas::has_or))]
     pub fn or(self, other: PartySet) -> PartySet
         ensures { (party : ℕ) → has_party result party
             ≡ (has_party self party || has_party other party) }
@@ -71,6 +77,7 @@ impl PartySet {
     }
 
     /// The parties that both of two sets have.
+    #[tactic(auto, using(crate::proofs::PartySetLemmas::has_and))]
     pub fn and(self, other: PartySet) -> PartySet
         ensures { (party : ℕ) → has_party result party
             ≡ (has_party self party && has_party other party) }
@@ -81,6 +88,7 @@ impl PartySet {
     }
 
     /// Takes the least party out of the set.
+    #[tactic(auto, using(crate::proofs::PartySetLemmas::first_in, crate::proofs::PartySetLemmas::rest_in, crate::proofs::PartySetLemmas::none_in, crate::proofs::PartySetLemmas::empty_has))]
     pub fn pop_first(&mut self) -> Option<Party>
         ensures list { MatchOption result (parties_in self.old ≡ [])
             (λ party. parties_in self.old ≡ party ∷ parties_in self.new) }

@@ -2,20 +2,9 @@
 use Rattle.std.proofs.Common.{◌≡◌, ℕ, zero, suc, ◌+◌, ◌*◌, ◌<◌, ◌≤◌, List, [], ◌∷◌, ◌++◌, length, take, length-append, cond, Some, false, refl, ap, subst, append_assoc, append-nil, arith}
 use Rattle.std.specs.Prelude.{nat_lt, slice_get}
 use Rattle.std.proofs.Math.Nat.{mul-le-mul_left}
-use Rattle.std.proofs.lemmas.Bool.{eq-eqb, cases_eq, le-ltb}
-use Rattle.mv_message.specs.declared.message.Message.{Message}
-use Rattle.mv_hub.specs.declared.entry.Entry.{Entry}
-use Rattle.mv_hub.specs.declared.entry.Entry.TheVariants.{Routed, Closed}
-use Rattle.mv_hub.specs.Record.{routed_from, routed_count, is_open}
-use Rattle.mv_hub.specs.Links.{gained, link_items, link_items_after}
-use Rattle.mv_hub.specs.Hub.{is_busy, next_items, items_on}
-use Rattle.mv_hub.proofs.CallerLemmas.{is_open-append, gained_other}
-use Rattle.mv_link.specs.declared.limits.TheConstants.{PARTIES_LIMIT, NUMBER_LIMIT}
+use Rattle.mv_machine.proofs.Words.{Closed, Entry, Fits, IsLawful, Message, NumbersSuffice, Routed, StampsSuffice, State, cases_eq, eq-eqb, gained, gained_other, hub_of, is_busy, is_open, is_open-append, items_on, le-ltb, link_items, link_items_after, next_items, routed_count, routed_from, submissions_of}
+use Rattle.mv_link.specs.declared.limits.TheConstants.{NUMBER_LIMIT}
 use Rattle.mv_party.specs.declared.limits.TheConstants.{SUBMISSIONS_LIMIT}
-use Rattle.mv_machine.specs.Limits.{most_entries}
-use Rattle.mv_machine.specs.State.{State, submissions_of, hub_of}
-use Rattle.mv_machine.specs.Laws.{StampsSuffice, NumbersSuffice}
-use Rattle.mv_machine.specs.Lawful.{Fits, IsLawfulRecord, IsLawful}
 use Rattle.mv_machine.proofs.PutLemmas.{routed_count-push}
 
 -- the sum of what a function gives for the numbers below another

@@ -1,34 +1,17 @@
 -- Nothing that is routed after the closing of a link goes over it, and the record only grows.
 use Rattle.std.proofs.Common.{◌≡◌, ℕ, zero, suc, ◌+◌, ◌≤◌, Bool, true, false, List, [], ◌∷◌, ◌++◌, length, take, cond, Some, sym, refl, ap, ◌∙◌, append_assoc, append-nil, arith}
 use Rattle.std.specs.Prelude.{slice_get}
-use Rattle.std.specs.List.{prefix_len}
-use Rattle.std.proofs.lemmas.List.Elements.{All-weaker}
-use Rattle.mv_message.specs.declared.message.Message.{Message}
-use Rattle.mv_link.specs.Frames.{number_of}
-use Rattle.mv_hub.specs.declared.entry.Entry.{Entry}
-use Rattle.mv_hub.specs.declared.entry.Entry.TheVariants.{Routed, Closed}
-use Rattle.mv_hub.specs.Hub.{next_entry}
-use Rattle.mv_hub.specs.Record.{routed_count, is_open}
-use Rattle.mv_repository.specs.Log.{items_from}
-use Rattle.mv_machine.specs.declared.step.Step.{Step}
-use Rattle.mv_machine.specs.declared.reply.Reply.{Reply}
-use Rattle.mv_machine.specs.State.{State, hub_of, submissions_of, log_of}
-use Rattle.mv_machine.specs.Runs.{Runs}
-use Rattle.mv_machine.specs.Lawful.{IsLawful}
-use Rattle.mv_machine.specs.Headline.{Follows}
+use Rattle.std.proofs.lemmas.List.Sums.{take_while-cons}
+use Rattle.mv_machine.proofs.Words.{All-weaker, Closed, Entry, Follows, IsLawful, Message, Reply, Routed, Runs, State, Step, hub_of, is_open, items_from, log_of, next_entry, number_of, routed_count, submissions_of}
 use Rattle.mv_machine.specs.Closing.{before_closing, NothingRoutedLater, NothingSubmittedLater}
 use Rattle.mv_machine.proofs.PutLemmas.{put-each, log-put}
 use Rattle.mv_machine.proofs.BoundLemmas.{routed_count-few}
 use Rattle.mv_machine.proofs.StepLemmas.{Change, routed, closed, run-keeps}
 
-take-more : {A : Type 0} (more : Bool) (n : ℕ) (x : A) (xs : List A) → take (cond more (1 + n) 0) (x ∷ xs) ≡ cond more (x ∷ take n xs) []
-take-more true n x xs = let one : 1 + n ≡ suc n = omega arith in ap (λ m. take m (x ∷ xs)) one
-take-more false n x xs = refl
-
 -- what stands before the closing of a link goes on behind an entry that does not close it
 before_closing-next : (entry : Entry) (entries : List Entry) (from to : ℕ)
     → before_closing (entry ∷ entries) from to ≡ cond (is_open (entry ∷ []) from to) (entry ∷ before_closing entries from to) []
-before_closing-next entry entries from to = take-more (is_open (entry ∷ []) from to) (prefix_len (λ entry. is_open (entry ∷ []) from to) entries) entry entries
+before_closing-next entry entries from to = take_while-cons (λ entry. is_open (entry ∷ []) from to) entry entries
 
 -- a message that was routed while a link was open was routed before its closing
 open-before : (entries : List Entry) (place from to k : ℕ) (message : Message) → slice_get entries place ≡ Some (Routed from k message) → is_open (take place entries) from to ≡ true

@@ -1,9 +1,6 @@
 -- The headline follows from two lawful states of which one follows the other.
 use Rattle.std.specs.Prelude.{Bool}
-use Rattle.mv_machine.specs.State.{State}
-use Rattle.mv_machine.specs.Lawful.{IsLawful, IsWellFormed}
-use Rattle.mv_machine.specs.Laws.{ClosedLinksStayClosed, InSteps}
-use Rattle.mv_machine.specs.Headline.{Follows, HeadlineHolds}
+use Rattle.mv_machine.proofs.Words.{ClosedLinksStayClosed, Follows, HeadlineHolds, InSteps, IsLawful, IsWellFormed, State}
 use Rattle.mv_machine.proofs.LawfulLemmas.{change-sound, opening-sound, run-sound}
 use Rattle.mv_machine.proofs.ClosingLemmas.{nothing_routed_later, nothing_submitted_later, follows-same, follows_further, change-follows, run-follows}
 use Rattle.mv_machine.proofs.StampLemmas.{repositories_agree}

@@ -1,34 +1,9 @@
 -- Each step keeps a state well formed and lawful, and so does each run.
 use Rattle.std.proofs.Common.{◌≡◌, ℕ, ◌<◌, Bool, true, List, [], ◌∷◌, ◌++◌, length, set, Some, refl, ◌∙◌, subst, append-nil, arith, length-set, eqb, eqb-true, get_or}
 use Rattle.std.specs.Prelude.{slice_get, option_to_list, replicate}
-use Rattle.std.proofs.lemmas.Grind.{elements}
-use Rattle.std.proofs.lemmas.Bool.{cases_eq}
-use Rattle.std.proofs.lemmas.List.{get_or-replicate, length-replicate}
-use mathlib.Core.List.{IsPrefix}
-use Rattle.mv_message.specs.declared.message.Message.{Message}
-use Rattle.mv_link.specs.declared.item.Item.{Item}
-use Rattle.mv_pairs.specs.Pairs.{IsSquare}
-use Rattle.mv_pairs.proofs.CallerLemmas.{put-each, square-put, square-replicate}
-use Rattle.mv_hub.specs.declared.entry.Entry.{Entry}
-use Rattle.mv_hub.specs.declared.entry.Entry.TheVariants.{Closed}
-use Rattle.mv_hub.specs.Hub.{next_entry, with_routed, with_closed, items_on}
-use Rattle.mv_hub.specs.Record.{routed_from, routed_count, is_open}
-use Rattle.mv_hub.proofs.CallerLemmas.{routed_from-append}
-use Rattle.mv_repository.specs.declared.entry.LogEntry.{LogEntry}
-use Rattle.mv_repository.specs.Log.{items_from}
-use Rattle.mv_repository.specs.Query.{answer_to}
-use Rattle.mv_party.specs.Site.{SiteState, entry_from, with_submission, with_applied, answers_in, IsLawfulParty}
-use Rattle.mv_party.proofs.CallerLemmas.{party-submitted, party-applied}
-use Rattle.mv_machine.specs.declared.step.Step.{Step}
-use Rattle.mv_machine.specs.declared.reply.Reply.{Reply}
-use Rattle.mv_machine.specs.Limits.{Bounds}
-use Rattle.mv_machine.specs.State.{State, hub_of, with_hub, submissions_of, site_of, with_site, with_wire, log_of, opening}
+use Rattle.mv_machine.proofs.Words.{Allows, Bounds, Closed, Entry, Fits, InRuns, IsLawful, IsLawfulLink, IsLawfulParty, IsLawfulRecord, IsPrefix, IsSquare, IsWellFormed, Item, LogEntry, Message, Reply, Runs, SiteState, State, Step, answer_to, answers_in, cases_eq, elements, entry_from, gained, get_or-replicate, hub_of, is_open, items_from, items_from-push, items_on, length-replicate, link_items-push, log_of, next_entry, opening, party-applied, party-submitted, put-each, routed_count, routed_from, routed_from-append, site_of, square-put, square-replicate, submissions_of, with_applied, with_closed, with_hub, with_routed, with_site, with_submission, with_wire}
 use Rattle.mv_machine.specs.Steps.{next_item}
-use Rattle.mv_machine.specs.Runs.{Allows, Runs}
-use Rattle.mv_machine.specs.Lawful.{Fits, IsLawfulLink, IsLawful, IsWellFormed}
-use Rattle.mv_machine.specs.Laws.{InRuns}
-use Rattle.mv_machine.proofs.PrefixLemmas.{prefix-grows, prefix-maybe}
-use Rattle.mv_machine.proofs.PartLemmas.{record-entered, link-entered, link-applied}
+use Rattle.mv_machine.proofs.PrefixLemmas.{prefix-grows, prefix-maybe, each-push}
 use Rattle.mv_machine.proofs.StepLemmas.{Change, nothing, submitted, routed, closed, relayed, repeated, dropped, applied, run-keeps}
 
 -- well formed and lawful
@@ -93,8 +68,14 @@ applied-sound st from to item sound from_is_party next =
     site-sound st (with_applied (site_of st to) from item) sound
     (λ is_party. party-applied (length st.parties) (submissions_of st to) (log_of st to) (entry_from from item) (sound.lawful.of_party to is_party) from_is_party)
     (λ is_party. prefix-grows (routed_from st.entries to) (submissions_of st to) (option_to_list (answer_to (log_of st to) (entry_from from item))) (sound.lawful.of_link to to is_party is_party).routed)
-    (λ sender is_sender is_party. (link-applied st.parties st.entries sender to (submissions_of st sender) (log_of st to) (entry_from from item) (sound.lawful.of_link sender to is_sender is_party)
-    (λ same. subst (λ u. next_item st u to ≡ Some item) same next)).applied)
+    (λ sender is_sender is_party. rw (items_from-push (log_of st to) (entry_from from item) sender)
+    (prefix-maybe (items_from (log_of st to) sender) _ (eqb from sender) item (sound.lawful.of_link sender to is_sender is_party).applied
+    (λ same. subst (λ u. next_item st u to ≡ Some item) (eqb-true from sender same) next)))
+
+-- one more entry of a record that fits
+pub record-entered : (count : ℕ) (entries : List Entry) (entry : Entry) → IsLawfulRecord count entries → Fits count entries entry
+    → IsLawfulRecord count (entries ++ entry ∷ [])
+record-entered count entries entry lawful fits = record { fits = each-push (Fits count) entries entry lawful.fits fits }
 
 -- the record gained an entry: what was routed stays a prefix where the entry's own message is the next of its sender
 entered-sound : (st : State) (entry : Entry) → IsSound st → Fits (length st.parties) st.entries entry
@@ -103,9 +84,11 @@ entered-sound : (st : State) (entry : Entry) → IsSound st → Fits (length st.
 entered-sound st entry sound fits order =
     let of_record = record-entered (length st.parties) st.entries entry sound.lawful.of_record fits in
     let of_link : (from to : ℕ) → from < length st.parties → to < length st.parties
-    → IsLawfulLink st.parties (st.entries ++ entry ∷ []) from to (submissions_of st from) (log_of st to) = λ from to from_is_party to_is_party.
-    link-entered st.parties st.entries entry from to (submissions_of st from) (log_of st to) (sound.lawful.of_link from to from_is_party to_is_party)
-    (rw (routed_from-append st.entries (entry ∷ []) from) (order from from_is_party)) in
+    → IsLawfulLink st.parties (st.entries ++ entry ∷ []) from to (submissions_of st from) (log_of st to) = λ from to from_is_party to_is_party. record {
+      routed = rw (routed_from-append st.entries (entry ∷ []) from) (order from from_is_party);
+      applied = rw (link_items-push st.parties st.entries entry from to)
+          (prefix-grows _ _ (gained st.parties st.entries entry from to) (sound.lawful.of_link from to from_is_party to_is_party).applied);
+    } in
     assumption (of_record, of_link)
 
 -- the hub routed the next message of a party
@@ -161,14 +144,8 @@ opening-sound parties limits = record {
 pub run-sound : (old : State) (steps : List Step) (replies : List Reply) (new : State) → IsSound old → Runs old steps replies new → IsSound new
 run-sound old steps replies new sound run = run-keeps IsSound change-sound old steps replies new run sound
 
-runs_are_sound : InRuns IsSound
+pub runs_are_sound : InRuns IsSound
 runs_are_sound parties limits steps replies new run = run-sound (opening parties limits) steps replies new (opening-sound parties limits) run
-
-pub runs_are_well_formed : InRuns IsWellFormed
-runs_are_well_formed parties limits steps replies new run = (runs_are_sound parties limits steps replies new run).well_formed
-
-pub runs_are_lawful : InRuns IsLawful
-runs_are_lawful parties limits steps replies new run = (runs_are_sound parties limits steps replies new run).lawful
 
 -- a run and one more step
 pub runs-push : (old : State) (steps : List Step) (replies : List Reply) (between : State) (step : Step) (reply : Reply) (new : State)

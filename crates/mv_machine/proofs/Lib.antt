@@ -1,5 +1,5 @@
+pub mod Words
 pub mod PrefixLemmas
-pub mod PartLemmas
 pub mod PutLemmas
 pub mod StepLemmas
 pub mod LawfulLemmas

@@ -1,32 +1,10 @@
 -- Each step keeps the limits, and so does each run.
-use Rattle.std.proofs.Common.{◌≡◌, ℕ, ◌+◌, ◌-◌, ◌<◌, ◌≤◌, Bool, false, List, [], ◌∷◌, ◌++◌, length, drop, Some, None, Option, ap, ◌∙◌, subst, arith, length-append, append-nil}
+use Rattle.std.proofs.Common.{◌≡◌, ℕ, ◌+◌, ◌-◌, ◌<◌, ◌≤◌, Bool, List, [], ◌∷◌, ◌++◌, length, drop, Some, None, Option, ap, ◌∙◌, subst, arith, length-append, append-nil}
 use Rattle.std.specs.Prelude.{All, option_to_list, replicate, find}
-use Rattle.std.specs.List.{range_with_len}
+use Rattle.mv_machine.proofs.Words.{All-nil, All-push, All-tail, All-weaker, Bounds, Closed, Entry, InRuns, IsSquare, Item, LogEntry, Message, SiteState, State, answer-free, answer_fault, answer_to, apply_fault, ask-free, ask_fault, busy_party, cell, cell-put_same, elements, entry_from, find-none_at, gained, gained_other, get_or-replicate, hub_of, is_busy, is_party, is_uplink_full, items_on, link_items, link_items-push, log_of, next_entry, opening, put, put-each, put-each_pair, range_with_len, route_fault, routed_count, sent_of, site_of, submissions_of, wire_of, with_applied, with_site, with_submission, with_wire}
 use Rattle.std.proofs.lemmas.Bool.Decides.{nat_tests}
-use Rattle.std.proofs.lemmas.Grind.{elements}
-use Rattle.std.proofs.lemmas.List.{get_or-replicate}
-use Rattle.std.proofs.lemmas.List.Elements.{All-nil, All-tail, All-push, All-weaker}
-use Rattle.mv_message.specs.declared.message.Message.{Message}
-use Rattle.mv_link.specs.declared.item.Item.{Item}
 use Rattle.mv_link.specs.declared.incoming.Look.TheVariants as look
-use Rattle.mv_pairs.specs.Pairs.{cell, put, IsSquare}
-use Rattle.mv_pairs.proofs.CallerLemmas.{put-each, put-each_pair, cell-put_same}
-use Rattle.mv_hub.specs.declared.entry.Entry.{Entry}
-use Rattle.mv_hub.specs.declared.entry.Entry.TheVariants.{Closed}
-use Rattle.mv_hub.specs.Hub.{next_entry, is_busy, busy_party, route_fault, items_on, sent_of}
-use Rattle.mv_hub.specs.Record.{routed_count}
-use Rattle.mv_hub.specs.Links.{gained, link_items}
-use Rattle.mv_hub.proofs.CallerLemmas.{link_items-push, gained_other}
-use Rattle.mv_link.proofs.CallerLemmas.{find-none_at}
-use Rattle.mv_repository.specs.declared.entry.LogEntry.{LogEntry}
-use Rattle.mv_repository.specs.Query.{answer_to}
-use Rattle.mv_party.specs.Site.{SiteState, entry_from, with_submission, with_applied}
-use Rattle.mv_party.specs.Calls.{ask_fault, answer_fault, apply_fault}
-use Rattle.mv_party.proofs.CallerLemmas.{ask-free, answer-free}
-use Rattle.mv_machine.specs.Limits.{Bounds}
-use Rattle.mv_machine.specs.State.{State, is_party, submissions_of, is_uplink_full, hub_of, site_of, with_site, with_wire, wire_of, log_of, opening}
 use Rattle.mv_machine.specs.Bounded.{KeepsLimits}
-use Rattle.mv_machine.specs.Laws.{InRuns}
 use Rattle.mv_machine.proofs.LawfulLemmas.{IsSound, change-sound, opening-sound}
 use Rattle.mv_machine.proofs.PutLemmas.{routed_count-push}
 use Rattle.mv_machine.proofs.StepLemmas.{Change, nothing, submitted, routed, closed, relayed, repeated, dropped, applied, run-keeps}
@@ -110,18 +88,15 @@ entered-keeps st entry k room = record {
     longer : (from to : ℕ) → length (link_items st.parties (st.entries ++ entry ∷ []) from to) ≡ length (items_on (hub_of st) from to) + length (gained st.parties st.entries entry from to)
     longer from to = ap length (link_items-push st.parties st.entries entry from to) ∙ length-append (items_on (hub_of st) from to) (gained st.parties st.entries entry from to)
 
--- where the hub has no fault, no link is busy
-route-free : (st : State) (from : ℕ) (message : Message) → route_fault (hub_of st) from message ≡ None → find (is_busy (hub_of st) from message) (range_with_len 0 (length st.parties)) ≡ None
-unfolding route_fault busy_party
-route-free st from message free = grind arith
-
--- what a routed message puts on the links from its sender fits, where none of them is full, and it puts nothing on others
-routed-room : (st : State) (from : ℕ) (message : Message) → KeepsLimits st → ((to : ℕ) → to < length st.parties → is_busy (hub_of st) from message to ≡ false)
+-- what a routed message puts on the links from its sender fits, since none of them is busy, and it puts nothing on others
+routed-room : (st : State) (from : ℕ) (message : Message) → KeepsLimits st → route_fault (hub_of st) from message ≡ None
     → (sender to : ℕ) → sender < length st.parties → to < length st.parties
     → length (items_on (hub_of st) sender to) - sent_of (hub_of st) sender to + length (gained st.parties st.entries (next_entry (hub_of st) from message) sender to) ≤ st.limits.window
-unfolding is_busy
+unfolding is_busy route_fault busy_party
 routed-room st from message k free sender to a b =
-    grind (arith, k.unsent sender to a b, free to b, gained_other st.parties st.entries from (routed_count st.entries from + 1) message sender to)
+    let none : find (is_busy (hub_of st) from message) (range_with_len 0 (length st.parties)) ≡ None = grind arith in
+    let idle = find-none_at (is_busy (hub_of st) from message) to (length st.parties) b none in
+    grind (arith, k.unsent sender to a b, idle, gained_other st.parties st.entries from (routed_count st.entries from + 1) message sender to)
 
 -- an item was applied, and the answer that it calls for submitted
 applied-keeps : (st : State) (from to : ℕ) (item : Item) → KeepsLimits st → apply_fault (is_uplink_full st to) (site_of st to) from item look.Next ≡ None
@@ -139,7 +114,7 @@ unfolding gained
 change-keeps st _ _ (nothing quiet) square k = k
 change-keeps st _ _ (submitted from message none free) square k = submitted-keeps st from message (log_of st from) k free
 change-keeps st _ _ (routed from message is_party next free) square k =
-    entered-keeps st (next_entry (hub_of st) from message) k (routed-room st from message k (λ to lt. find-none_at (is_busy (hub_of st) from message) to (length st.parties) lt (route-free st from message free)))
+    entered-keeps st (next_entry (hub_of st) from message) k (routed-room st from message k free)
 change-keeps st _ _ (closed from to from_is_party to_is_party still_open) square k =
     entered-keeps st (Closed from to) k (λ sender receiver a b. omega (arith, k.unsent sender receiver a b))
 change-keeps st _ _ (relayed from to from_is_party to_is_party room some) square k =

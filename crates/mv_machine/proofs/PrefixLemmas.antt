@@ -1,11 +1,7 @@
 -- Prefixes of lists that grow at their end.
 use Rattle.std.proofs.Common.{◌≡◌, ℕ, zero, suc, Bool, true, false, List, [], ◌∷◌, ◌++◌, length, take, cond, sym, refl, ap, ◌∙◌, subst, append_assoc, append-nil, arith}
 use Rattle.std.specs.Prelude.{All, Some, slice_get}
-use Rattle.std.proofs.Math.Seq.{take-append_seam}
-use Rattle.std.proofs.lemmas.List.Elements.{All-take}
-use Rattle.std.proofs.lemmas.Grind.{common_steps}
-use Rattle.std.proofs.lemmas.Option.{gets}
-use mathlib.Core.List.{IsPrefix}
+use Rattle.mv_machine.proofs.Words.{All-take, IsPrefix, common_steps, gets, take-append_seam}
 
 -- what is a prefix stays one when the whole grows
 pub prefix-grows : {A : Type 0} (xs ys zs : List A) → IsPrefix xs ys → IsPrefix xs (ys ++ zs)

@@ -1,25 +1,8 @@
 -- Which entry of the record put each item on a link: the items of a link are put there in the order of the record.
 use Rattle.std.proofs.Common.{◌≡◌, ℕ, ◌+◌, ◌<◌, ◌≤◌, Bool, true, false, List, [], ◌∷◌, ◌++◌, length, take, cond, eqb, Some, refl, ap, ◌∙◌, append_assoc, arith, length-append}
 use Rattle.std.specs.Prelude.{All, slice_get, ◌&&◌, IsTrue, nat_lt}
-use Rattle.std.proofs.lemmas.Bool.{eqb-true, eq-eqb, and_parts}
-use Rattle.std.proofs.lemmas.List.{length_push}
-use Rattle.std.proofs.lemmas.List.Elements.{All-nil, All-cons, All-head, All-tail}
-use Rattle.std.proofs.Math.Seq.{take-append_seam}
-use Rattle.std.specs.List.{AllByRecursion}
-use Rattle.mv_message.specs.declared.message.Message.{Message}
-use Rattle.mv_link.specs.declared.item.Item.{Item}
-use Rattle.mv_link.specs.declared.item.Item.TheVariants.{Receipt, Carried}
-use Rattle.mv_link.specs.Frames.{number_of}
-use Rattle.mv_hub.specs.declared.entry.Entry.{Entry}
-use Rattle.mv_hub.specs.declared.entry.Entry.TheVariants.{Routed, Closed}
-use Rattle.mv_hub.specs.Record.{routed_from, routed_count, is_open}
-use Rattle.mv_hub.proofs.CallerLemmas.{routed_from-append}
+use Rattle.mv_machine.proofs.Words.{All-cons, All-head, All-nil, All-tail, AllByRecursion, Carried, Closed, Entry, IsLawful, Item, LogEntry, Message, Receipt, Routed, State, and_parts, eq-eqb, eqb-true, gained, is_open, items_from, length_push, link_items, link_items_after, log_of, number_of, routed_count, routed_from, routed_from-append, take-append_seam}
 use Rattle.mv_hub.specs.Targets.{is_reached, is_target, reach, is_query}
-use Rattle.mv_hub.specs.Links.{gained, link_items_after, link_items}
-use Rattle.mv_repository.specs.declared.entry.LogEntry.{LogEntry}
-use Rattle.mv_repository.specs.Log.{items_from}
-use Rattle.mv_machine.specs.State.{State, log_of}
-use Rattle.mv_machine.specs.Lawful.{IsLawful}
 use Rattle.mv_machine.proofs.PrefixLemmas.{slice_get-behind}
 
 -- an item is made of a message that was routed behind these entries, under this stamp

@@ -2,21 +2,9 @@
 -- twice in a log.
 use Rattle.std.proofs.Common.{◌≡◌, ℕ, zero, suc, ◌+◌, ◌<◌, ◌≤◌, List, [], ◌∷◌, length, Some, refl, ap, arith, ◌⊎◌, inl, inr}
 use Rattle.std.specs.Prelude.{All, slice_get}
-use Rattle.std.proofs.lemmas.Grind.{common_steps}
-use Rattle.std.proofs.lemmas.Option.{gets}
-use Rattle.std.proofs.lemmas.Bool.{eq-eqb, cases_eq}
-use Rattle.std.specs.List.{AllByRecursion}
-use Rattle.mv_message.specs.declared.message.Message.{Message}
-use Rattle.mv_link.specs.declared.item.Item.{Item}
-use Rattle.mv_link.specs.declared.item.Item.TheVariants.{Receipt, Carried}
-use Rattle.mv_hub.specs.declared.entry.Entry.{Entry}
-use Rattle.mv_hub.specs.declared.entry.Entry.TheVariants.{Routed}
-use Rattle.mv_repository.specs.declared.entry.LogEntry.{LogEntry}
-use Rattle.mv_repository.specs.Log.{items_from}
+use Rattle.mv_machine.proofs.Words.{AllByRecursion, Carried, Entry, IsLawful, Item, LogEntry, Message, Receipt, Routed, State, cases_eq, common_steps, eq-eqb, gets, items_from, log_of}
 use Rattle.mv_repository.proofs.SameAboutLemmas.{same_about}
 use Rattle.mv_repository.proofs.StampsLemmas.{stamp_in, stamp_at, HasNoStampTwice, distinct-stamps}
-use Rattle.mv_machine.specs.State.{State, log_of}
-use Rattle.mv_machine.specs.Lawful.{IsLawful}
 use Rattle.mv_machine.specs.Stamps.{StampsAreDistinct, RepositoriesAgree}
 use Rattle.mv_machine.proofs.PutLemmas.{IsPut, ArePut, turn, put-rest, put-each, log-put, each-entry}
 

@@ -2,25 +2,13 @@
 use Rattle.std.proofs.Common.{◌≡◌, ℕ, ◌+◌, ◌<◌, ◌≤◌, Bool, true, false, List, [], ◌∷◌, ◌++◌, length, Some, None, refl, sym, subst, arith}
 use Rattle.std.specs.Prelude.{slice_get, IsTrue}
 use Rattle.mv_pack.specs.declared.key.PackKey.{PackKey}
-use Rattle.mv_message.specs.declared.message.Message.{Message}
-use Rattle.mv_link.specs.declared.item.Item.{Item}
+use Rattle.mv_machine.proofs.Words.{Allows, InSteps, Item, Meets, Message, Reply, Runs, State, Step, answers_in, apply_fault, ask_fault, hub_of, is_open, is_uplink_full, items_on, next-number, no_answer, route_fault, routed_count, sent_of, site_of, submissions_of, submit-free, wire_of, with_applied, with_closed, with_hub, with_relayed, with_routed, with_site, with_submission, with_wire}
 use Rattle.mv_link.specs.declared.incoming.Look.TheVariants as look
-use Rattle.mv_link.proofs.CallerLemmas.{next-number}
-use Rattle.mv_hub.specs.Hub.{route_fault, with_routed, with_relayed, with_closed, items_on, sent_of}
-use Rattle.mv_hub.specs.Record.{routed_count, is_open}
-use Rattle.mv_party.specs.Site.{with_submission, with_applied, answers_in}
-use Rattle.mv_party.specs.Calls.{ask_fault, apply_fault}
-use Rattle.mv_party.proofs.CallerLemmas.{no_answer, submit-free}
-use Rattle.mv_machine.specs.declared.step.Step.{Step}
 use Rattle.mv_machine.specs.declared.step.Step.TheVariants.{Submit, Verify, Route, Relay, Apply, Repeat, Close, Lose, Verdict}
-use Rattle.mv_machine.specs.declared.reply.Reply.{Reply}
 use Rattle.mv_machine.specs.declared.reply.Reply.TheVariants.{Refused}
 use Rattle.mv_machine.specs.declared.reply.Refusal.TheVariants.{Memory}
 use Rattle.mv_machine.specs.Replies.{changes_nothing}
-use Rattle.mv_machine.specs.State.{State, submissions_of, is_uplink_full, hub_of, with_hub, site_of, with_site, with_wire, wire_of}
 use Rattle.mv_machine.specs.Steps.{Answered, submit, ask, verify, verdict, route, relay, next_item, apply, repeat, close, lose, outcome}
-use Rattle.mv_machine.specs.Runs.{Meets, Allows, Runs}
-use Rattle.mv_machine.specs.Laws.{InSteps}
 
 -- What a step leaves: the state as it was, or with one change, of which it says what was seen to before. Where its reply says that
 -- nothing has changed, nothing has.

@@ -3,20 +3,7 @@
 use Rattle.std.proofs.Common.{◌≡◌, ℕ, zero, suc, ◌+◌, ◌-◌, ◌<◌, ◌≤◌, List, [], ◌∷◌, ◌++◌, length, take, drop, Some, sym, refl, ap, ◌∙◌, arith, inl, inr}
 use Rattle.std.specs.Prelude.{slice_get, filter, map, not, Bool, true}
 use Rattle.std.specs.List.Sorted.{IsStrictlyIncreasing}
-use Rattle.std.proofs.lemmas.Bool.{cases_Bool, eq-eqb}
-use Rattle.std.proofs.lemmas.List.{take-append-drop, take-take, take_more}
-use Rattle.std.proofs.lemmas.Option.{slice_get_within, get_or_from_slice_get}
-use Rattle.mv_message.specs.declared.message.Message.{Message}
-use Rattle.mv_link.specs.declared.item.Item.{Item}
-use Rattle.mv_link.specs.declared.item.Item.TheVariants.{Receipt, Carried}
-use Rattle.mv_link.specs.Frames.{number_of}
-use Rattle.mv_hub.specs.declared.entry.Entry.{Entry}
-use Rattle.mv_hub.specs.declared.entry.Entry.TheVariants.{Routed}
-use Rattle.mv_hub.specs.Record.{routed_from, routed_count}
-use Rattle.mv_repository.specs.Log.{items_from}
-use Rattle.mv_machine.specs.State.{State, log_of}
-use Rattle.mv_machine.specs.Lawful.{IsLawfulRecord, IsLawful}
-use Rattle.mv_machine.specs.Headline.{IsRoutedAt, IsOfSubmission, AppliedIsSubmitted, is_carried, NumbersRise}
+use Rattle.mv_machine.proofs.Words.{AppliedIsSubmitted, Carried, Entry, IsLawful, IsLawfulRecord, IsOfSubmission, IsRoutedAt, Item, Message, NumbersRise, Receipt, Routed, State, cases_Bool, eq-eqb, get_or_from_slice_get, is_carried, items_from, log_of, number_of, routed_count, routed_from, slice_get_within, take-append-drop, take-take, take_more}
 use Rattle.mv_machine.proofs.PrefixLemmas.{slice_get-append}
 use Rattle.mv_machine.proofs.PutLemmas.{IsPut, ArePut, turn, put-each, log-put, each-entry, routed_count-push}
 

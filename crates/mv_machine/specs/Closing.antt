@@ -1,10 +1,6 @@
 -- What is applied over a link that is closed.
 use Rattle.std.specs.Prelude.{◌≡◌, ◌<◌, ◌≤◌, ℕ, List, [], ◌∷◌, length, All, false, take_while}
-use Rattle.mv_link.specs.declared.item.Item.{Item}
-use Rattle.mv_link.specs.Frames.{number_of}
-use Rattle.mv_hub.specs.declared.entry.Entry.{Entry}
-use Rattle.mv_hub.specs.Record.{routed_count, is_open}
-use Rattle.mv_repository.specs.Log.{items_from}
+use Rattle.mv_machine.specs.Words.{Entry, Item, is_open, items_from, number_of, routed_count}
 use Rattle.mv_machine.specs.State.{State, submissions_of, log_of}
 
 -- the entries of a record that stand before the closing of a link: all of them where it is open

@@ -1,14 +1,9 @@
 -- The headline: what holds after every step, query and run of a system, whatever came before it.
 use Rattle.std.specs.Prelude.{◌≡◌, ◌<◌, ◌≤◌, ◌-◌, ℕ, length, take, All, Some, slice_get, IsTrue, Bool, true, false, not, map, filter}
 use Rattle.std.specs.List.Sorted.{IsStrictlyIncreasing}
-use mathlib.Core.List.{IsPrefix}
-use Rattle.mv_message.specs.declared.message.Message.{Message}
-use Rattle.mv_link.specs.declared.item.Item.{Item}
+use Rattle.mv_machine.specs.Words.{IsPrefix, Item, Message, is_query, is_reached, items_from, number_of, reach}
 use Rattle.mv_link.specs.declared.item.Item.TheVariants.{Receipt, Carried}
-use Rattle.mv_link.specs.Frames.{number_of}
 use Rattle.mv_hub.specs.declared.entry.Entry.TheVariants.{Routed}
-use Rattle.mv_hub.specs.Targets.{is_reached, reach, is_query}
-use Rattle.mv_repository.specs.Log.{items_from}
 use Rattle.mv_machine.specs.State.{State, submissions_of, log_of}
 use Rattle.mv_machine.specs.Lawful.{IsLawful, IsWellFormed}
 use Rattle.mv_machine.specs.Closing.{NothingRoutedLater, NothingSubmittedLater}

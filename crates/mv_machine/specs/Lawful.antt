@@ -1,15 +1,8 @@
 -- What holds of every state that a system comes to.
 use Rattle.std.specs.Prelude.{◌≡◌, ◌<◌, ◌+◌, ℕ, List, length, take, Some, true, slice_get}
-use mathlib.Core.List.{IsPrefix}
-use Rattle.mv_message.specs.declared.message.Message.{Message}
-use Rattle.mv_pairs.specs.Pairs.{IsSquare}
-use Rattle.mv_hub.specs.declared.entry.Entry.{Entry}
+use Rattle.mv_machine.specs.Words.{Entry, IsLawfulParty, IsPrefix, IsSquare, LogEntry, Message, is_open, items_from, routed_count, routed_from}
 use Rattle.mv_hub.specs.declared.entry.Entry.TheVariants.{Routed, Closed}
-use Rattle.mv_hub.specs.Record.{routed_from, routed_count, is_open}
 use Rattle.mv_hub.specs.Links.{link_items}
-use Rattle.mv_repository.specs.declared.entry.LogEntry.{LogEntry}
-use Rattle.mv_repository.specs.Log.{items_from}
-use Rattle.mv_party.specs.Site.{IsLawfulParty}
 use Rattle.mv_machine.specs.State.{State, submissions_of, log_of}
 
 -- An entry fits behind others, in a system of so many parties: it names parties alone, a routed message has the number that follows

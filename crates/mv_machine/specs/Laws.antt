@@ -1,14 +1,6 @@
 -- What every run of the list machine keeps.
 use Rattle.std.specs.Prelude.{◌≡◌, ◌<◌, ◌≤◌, ◌+◌, ◌-◌, ℕ, List, length, nat_lt}
-use Rattle.mv_pack.specs.declared.key.PackKey.{PackKey}
-use Rattle.mv_message.specs.declared.message.Message.{Message}
-use Rattle.mv_hub.specs.declared.entry.Entry.{Entry}
-use Rattle.mv_hub.specs.Hub.{items_on, sent_of, is_busy, next_items}
-use Rattle.mv_hub.specs.Record.{routed_count}
-use Rattle.mv_machine.specs.declared.step.Step.{Step}
-use Rattle.mv_machine.specs.declared.reply.Reply.{Reply}
-use Rattle.mv_link.specs.declared.limits.TheConstants.{PARTIES_LIMIT}
-use Rattle.mv_party.specs.declared.limits.TheConstants.{SUBMISSIONS_LIMIT}
+use Rattle.mv_machine.specs.Words.{Entry, Message, PARTIES_LIMIT, PackKey, Reply, SUBMISSIONS_LIMIT, Step, is_busy, items_on, next_items, routed_count, sent_of}
 use Rattle.mv_machine.specs.Limits.{Bounds, most_entries}
 use Rattle.mv_machine.specs.State.{State, submissions_of, hub_of, opening}
 use Rattle.mv_machine.specs.Steps.{ask}

@@ -1,9 +1,8 @@
 -- The limits of a system.
 use Rattle.std.specs.Prelude.{ℕ, ◌+◌, ◌*◌, ◌≤◌, ◌&&◌, not, Bool, List, codes, nat_le, if◌then◌else◌, Result, Ok, Err}
-use Rattle.mv_link.specs.declared.limits.TheConstants.{PARTIES_LIMIT, WINDOW_LEAST, WINDOW_LIMIT}
+use Rattle.mv_machine.specs.Words.{PARTIES_LIMIT, SUBMISSIONS_LIMIT, WINDOW_LEAST, WINDOW_LIMIT}
 use Rattle.mv_link.specs.Sending.{IsWindow}
 use Rattle.mv_machine.specs.declared.limits.TheConstants.{WIRE_LIMIT, UPLINK_LIMIT}
-use Rattle.mv_party.specs.declared.limits.TheConstants.{SUBMISSIONS_LIMIT}
 use Rattle.mv_machine.specs.declared.limits.LimitsFault.{LimitsFault}
 use Rattle.mv_machine.specs.declared.limits.LimitsFault.TheVariants.{Window, Wire, Uplink, Submissions}
 

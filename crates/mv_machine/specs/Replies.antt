@@ -9,10 +9,7 @@ use Rattle.mv_party.specs.declared.fault.SiteFault.{SiteFault}
 use Rattle.mv_party.specs.declared.fault.SiteFault.TheVariants as fault
 use Rattle.mv_party.specs.declared.taken.Taken.{Taken}
 use Rattle.mv_party.specs.declared.taken.Taken.TheVariants as taken
-use Rattle.mv_machine.specs.declared.reply.Reply.{Reply}
-use Rattle.mv_machine.specs.declared.reply.Reply.TheVariants.{Known, Applied, Old, Gap, Lost, Joint, Refused}
-use Rattle.mv_machine.specs.declared.reply.Refusal.{Refusal}
-use Rattle.mv_machine.specs.declared.reply.Refusal.TheVariants.{Party, NotYours, UplinkFull, SenderFull, UplinkEmpty, Busy, WireFull, WireEmpty, NotSent, Gone, Nothing, AlreadyClosed, AnswerBusy, Memory}
+use Rattle.mv_machine.specs.Words.{AlreadyClosed, AnswerBusy, Applied, Busy, Gap, Gone, Joint, Known, Lost, Memory, NotSent, NotYours, Nothing, Old, Party, Refusal, Refused, Reply, SenderFull, UplinkEmpty, UplinkFull, WireEmpty, WireFull}
 
 -- the number of a refusal
 abbrev pub code_of : Refusal → List ℕ

@@ -1,9 +1,6 @@
 -- Which replies are allowed to steps, want of memory included, and what they leave.
 use Rattle.std.specs.Prelude.{◌≡◌, List, [], ◌∷◌, IsTrue}
-use Rattle.mv_machine.specs.declared.step.Step.{Step}
-use Rattle.mv_machine.specs.declared.reply.Reply.{Reply}
-use Rattle.mv_machine.specs.declared.reply.Reply.TheVariants.{Refused}
-use Rattle.mv_machine.specs.declared.reply.Refusal.TheVariants.{Memory}
+use Rattle.mv_machine.specs.Words.{Memory, Refused, Reply, Step}
 use Rattle.mv_machine.specs.Replies.{takes_memory}
 use Rattle.mv_machine.specs.State.{State}
 use Rattle.mv_machine.specs.Steps.{Answered, outcome}

@@ -1,12 +1,6 @@
 -- The state of the list machine: the whole system as plain lists.
 use Rattle.std.specs.Prelude.{◌==◌, ℕ, List, [], length, drop, Bool, slice_index_or, nat_le, nat_lt, replicate, slice_set}
-use Rattle.mv_message.specs.declared.message.Message.{Message}
-use Rattle.mv_pairs.specs.Pairs.{cell, put}
-use Rattle.mv_hub.specs.declared.entry.Entry.{Entry}
-use Rattle.mv_hub.specs.Hub.{HubState}
-use Rattle.mv_hub.specs.Record.{routed_count}
-use Rattle.mv_repository.specs.declared.entry.LogEntry.{LogEntry}
-use Rattle.mv_party.specs.Site.{SiteState, count_from}
+use Rattle.mv_machine.specs.Words.{Entry, HubState, LogEntry, Message, SiteState, cell, count_from, put, routed_count}
 use Rattle.mv_machine.specs.Limits.{Bounds}
 
 pub record State : Type 0 where

@@ -1,28 +1,17 @@
 -- What each step answers and leaves where there is memory: a row for each kind of step, its refusals in their order.
 use Rattle.std.specs.Prelude.{◌+◌, ◌-◌, ℕ, List, [], ◌∷◌, ◌++◌, length, Bool, not, if◌then◌else◌, slice_get, Option, Some, None}
-use Rattle.mv_message.specs.declared.message.Message.{Message}
+use Rattle.mv_machine.specs.Words.{Applied, Asked, Closed, Gap, Item, JointVerdict, Known, Lost, Message, Old, PackKey, Party, Refusal, Refused, Relayed, Repeated, Reply, Routed, Step, Submitted, UplinkEmpty, WireEmpty, WireFull, answer_number, are_parties, close_fault, entry_from, items_on, reach, relay_fault, repeat_fault, route_fault, routed_count, sent_of, with_applied, with_closed, with_relayed, with_routed, with_submission}
 use Rattle.mv_message.specs.declared.message.Message.TheVariants.{Query}
-use Rattle.mv_pack.specs.declared.key.PackKey.{PackKey}
-use Rattle.mv_link.specs.declared.item.Item.{Item}
 use Rattle.mv_link.specs.declared.incoming.Look.{Look}
 use Rattle.mv_link.specs.declared.incoming.Look.TheVariants as look
-use Rattle.mv_hub.specs.Hub.{route_fault, relay_fault, repeat_fault, close_fault, with_routed, with_relayed, with_closed, are_parties, items_on, sent_of}
-use Rattle.mv_hub.specs.Record.{routed_count}
-use Rattle.mv_hub.specs.Targets.{reach}
 use Rattle.mv_repository.specs.declared.verdict.Local.{Local}
 use Rattle.mv_repository.specs.declared.verdict.Local.TheVariants.{Known as KnownPack, Absent}
 use Rattle.mv_repository.specs.Effect.{effect_of}
 use Rattle.mv_repository.specs.Query.{answer_to}
 use Rattle.mv_repository.specs.Verdict.{local_verdict, joint_verdict}
-use Rattle.mv_party.specs.Site.{entry_from, answer_number, with_submission, with_applied}
 use Rattle.mv_link.specs.Receiving.{look_at}
 use Rattle.mv_party.specs.Calls.{ask_fault, submit_fault, apply_fault}
-use Rattle.mv_machine.specs.declared.step.Step.{Step}
 use Rattle.mv_machine.specs.declared.step.Step.TheVariants.{Submit, Verify, Route, Relay, Apply, Repeat, Close, Lose, Verdict}
-use Rattle.mv_machine.specs.declared.reply.Reply.{Reply}
-use Rattle.mv_machine.specs.declared.reply.Reply.TheVariants.{Submitted, Known, Asked, Routed, Relayed, Applied, Old, Gap, Repeated, Closed, Lost, Joint as JointVerdict, Refused}
-use Rattle.mv_machine.specs.declared.reply.Refusal.{Refusal}
-use Rattle.mv_machine.specs.declared.reply.Refusal.TheVariants.{Party, UplinkEmpty, WireFull, WireEmpty}
 use Rattle.mv_machine.specs.Replies.{refusal_of, hub_refusal_of, route_refusal_of}
 use Rattle.mv_machine.specs.State.{State, is_party, submissions_of, is_uplink_full, wire_of, is_wire_full, log_of, applied_count, hub_of, with_hub, site_of, with_site, with_wire}
 

@@ -12,7 +12,7 @@ ghost use Rattle.mv_machine.specs.Laws.{HeadlinesJoin};
 
 /// Whatever the steps and whatever their order: what each repository applied from each sender is a prefix of what the record
 /// put on their link, in order and each once, and what was routed is a prefix of what its sender submitted.
-#[tactic(auto, using(crate::proofs::LawfulLemmas::runs_are_well_formed, crate::proofs::LawfulLemmas::runs_are_lawful))]
+#[tactic(auto, using(crate::proofs::LawfulLemmas::runs_are_sound))]
 pub fn runs_are_lawful()
     ensures well_formed { InRuns IsWellFormed }
     ensures lawful { InRuns IsLawful }

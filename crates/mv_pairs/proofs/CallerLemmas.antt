@@ -2,8 +2,8 @@
 use Rattle.std.proofs.Common.{◌≡◌, ◌≢◌, ℕ, zero, suc, ◌<◌, List, [], ◌∷◌, length, map, get_or, set, sym, refl, ap, ◌∙◌, subst, arith, ◌⊎◌, inl, inr, get_or-set_same, get_or-set_other, length-set}
 use Rattle.std.proofs.lemmas.Bool.{cases_eq, cases_lt}
 use Rattle.std.proofs.lemmas.List.Elements.{All-nil}
-use Rattle.std.proofs.lemmas.List.{get_or_past, set_past, get_or-replicate, length-replicate, set-get_or, length-map}
-use Rattle.std.proofs.lemmas.Option.{slice_get-get_or}
+use Rattle.std.proofs.lemmas.List.{get_or_past, get_or_default, set_past, get_or-replicate, length-replicate, set-get_or, length-map, map-set}
+use Rattle.std.proofs.Math.ListN.{get_or-map}
 use Rattle.std.specs.List.{All}
 use Rattle.std.specs.Prelude.{replicate}
 use Rattle.mv_pairs.specs.Pairs.{cell, put, IsSquare}
@@ -48,30 +48,14 @@ square-replicate n v = record {
   row = λ s p. ap length (get_or-replicate n s (replicate n v) [] p) ∙ length-replicate n v;
 }
 
-get_or-any : {A : Type 0} (xs : List A) (i : ℕ) (d e : A) → i < length xs → get_or xs i d ≡ get_or xs i e
-get_or-any xs i d e lt =
-    let f = slice_get-get_or xs i d lt in
-    let g = slice_get-get_or xs i e lt in
-    cc
-
--- one member of a list, or one value of a table, through a function of each
-read-map : {A B : Type 0} (f : A → B) (xs : List A) (i : ℕ) (d : A) → get_or (map f xs) i (f d) ≡ f (get_or xs i d)
-read-map f [] i d = refl
-read-map f (x ∷ xs) zero d = refl
-read-map f (x ∷ xs) (suc i) d = read-map f xs i d
-
-write-map : {A B : Type 0} (f : A → B) (xs : List A) (i : ℕ) (v : A) → map f (set xs i v) ≡ set (map f xs) i (f v)
-write-map f [] i v = refl
-write-map f (x ∷ xs) zero v = refl
-write-map f (x ∷ xs) (suc i) v = ap (λ l. f x ∷ l) (write-map f xs i v)
-
+-- one value of a table, through a function of each
 pub cell-map : {A B : Type 0} (f : A → B) (t : List (List A)) (s r : ℕ) (d : A) → cell (map (map f) t) s r (f d) ≡ f (cell t s r d)
-cell-map f t s r d = ap (λ row. get_or row r (f d)) (read-map (map f) t s []) ∙ read-map f (get_or t s []) r d
+cell-map f t s r d = ap (λ row. get_or row r (f d)) (get_or-map (map f) t s []) ∙ get_or-map f (get_or t s []) r d
 
 pub put-map : {A B : Type 0} (f : A → B) (t : List (List A)) (s r : ℕ) (v : A) → map (map f) (put t s r v) ≡ put (map (map f) t) s r (f v)
 put-map f t s r v =
-    write-map (map f) t s (set (get_or t s []) r v)
-    ∙ ap (set (map (map f) t) s) (write-map f (get_or t s []) r v ∙ ap (λ row. set row r (f v)) (sym (read-map (map f) t s [])))
+    map-set (map f) t s (set (get_or t s []) r v)
+    ∙ ap (set (map (map f) t) s) (map-set f (get_or t s []) r v ∙ ap (λ row. set row r (f v)) (sym (get_or-map (map f) t s [])))
 
 pub put-cell : {A : Type 0} (t : List (List A)) (s r : ℕ) (d : A) → put t s r (cell t s r d) ≡ t
 put-cell t s r d = ap (set t s) (set-get_or (get_or t s []) r d) ∙ set-get_or t s []
@@ -84,7 +68,7 @@ put-map_same f t s r v d e =
 pub square-map : {A B : Type 0} (n : ℕ) (f : A → B) (t : List (List A)) → IsSquare n t → IsSquare n (map (map f) t)
 square-map n f t h = record {
   rows = length-map t (map f) ∙ h.rows;
-  row = λ s p. ap length (read-map (map f) t s []) ∙ length-map (get_or t s []) f ∙ h.row s p;
+  row = λ s p. ap length (get_or-map (map f) t s []) ∙ length-map (get_or t s []) f ∙ h.row s p;
 }
 
 -- where f gives x at each value, the table of what f gives is full of x
@@ -99,7 +83,7 @@ map-all f x (suc n) (v ∷ xs) e a =
 pub table-all : {A B : Type 0} (f : A → B) (x : B) (n : ℕ) (t : List (List A)) → IsSquare n t → All (All (λ v. f v ≡ x)) t → map (map f) t ≡ replicate n (replicate n x)
 table-all f x n t h a =
     map-all (map f) (replicate n x) n t h.rows
-    (λ k d lt. map-all f x n (get_or t k d) (ap length (get_or-any t k d [] lt) ∙ h.row k (subst (λ m. k < m) h.rows lt)) (a k d lt))
+    (λ k d lt. map-all f x n (get_or t k d) (ap length (get_or_default t k d [] lt) ∙ h.row k (subst (λ m. k < m) h.rows lt)) (a k d lt))
 
 -- what holds of all holds at each pair
 pub cell-all : {A : Type 0} (P : A → Type 0) (n : ℕ) (t : List (List A)) (s r : ℕ) (d : A) → IsSquare n t → All (All P) t → s < n → r < n → P (cell t s r d)

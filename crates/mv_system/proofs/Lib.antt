@@ -1,3 +1,4 @@
+pub mod Words
 pub mod WireLemmas
 pub mod SystemLemmas
 pub mod RouteLemmas

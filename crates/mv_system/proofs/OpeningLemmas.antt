@@ -1,34 +1,22 @@
 -- The system where nothing has happened.
 use Rattle.std.proofs.Common.{◌≡◌, ℕ, zero, suc, ◌+◌, ◌≤◌, List, [], ◌∷◌, length, map, sym, refl, ap, subst, arith}
 use Rattle.std.specs.Prelude.{replicate}
-use Rattle.std.specs.List.{range_with_len, All}
-use Rattle.std.proofs.lemmas.List.Elements.{All-nil}
-use Rattle.std.proofs.lemmas.List.FromFn.{get_or-map-range_with_len}
-use Rattle.mv_pairs.specs.Pairs.{IsSquare}
-use Rattle.mv_pairs.proofs.CallerLemmas.{table-all, cell-all, cell-any}
-use Rattle.mv_hub.specs.Hub.{HubState, new_hub, items_on}
-use Rattle.mv_party.specs.Site.{SiteState, new_site}
+use Rattle.mv_system.proofs.Words.{All, All-nil, IsFrameOf, IsSound, IsSquare, IsSystem, PARTIES_LIMIT, Parts, SiteState, WireState, cell-all, cell-any, get_or-map-range_with_len, items_on, new_hub, new_site, new_wire, numbers_of, opening, opening-sound, parts_of, range_with_len, state_of, table-all}
 use Rattle.mv_machine.specs.Limits.{Bounds, AreBounds}
-use Rattle.mv_machine.specs.State.{opening}
-use Rattle.mv_machine.proofs.CallerLemmas.{IsSound, opening-sound}
-use Rattle.mv_system.specs.Wire.{WireState, new_wire, numbers_of}
-use Rattle.mv_link.specs.declared.limits.TheConstants.{PARTIES_LIMIT}
-use Rattle.mv_link.specs.Frames.{IsFrameOf}
-use Rattle.mv_system.specs.World.{Parts, parts_of, state_of, IsSystem}
 
 -- the parties that a system opens with
-abbrev pub opening_sites : ℕ → ℕ → List SiteState
+abbrev opening_sites : ℕ → ℕ → List SiteState
 opening_sites parties limit = map (λ party. new_site party parties limit) (range_with_len 0 parties)
 
 -- the parts that a system opens with
-abbrev opening_parts : List (List (List ℕ)) → Bounds → List (List WireState) → Parts
+abbrev pub opening_parts : List (List (List ℕ)) → Bounds → List (List WireState) → Parts
 opening_parts parties limits wires = parts_of limits (new_hub parties limits.window) (opening_sites (length parties) limits.submissions) wires
 
 map-same : {A B : Type 0} (f : ℕ → A) (g : A → B) (b : B) (start n : ℕ) → ((i : ℕ) → g (f i) ≡ b) → map g (map f (range_with_len start n)) ≡ replicate n b
 map-same f g b start zero same = refl
 map-same f g b start (suc n) same = λ i. same start i ∷ map-same f g b (start + 1) n same i
 
-opening_is : (parties : List (List (List ℕ))) (limits : Bounds) (wires : List (List WireState))
+pub opening_is : (parties : List (List (List ℕ))) (limits : Bounds) (wires : List (List WireState))
     → IsSquare (length parties) wires → All (All (λ w. w ≡ new_wire limits.wire)) wires → state_of (opening_parts parties limits wires) ≡ opening parties limits
 opening_is parties limits wires square empty =
     let make = λ (party : ℕ). new_site party (length parties) limits.submissions in
@@ -37,7 +25,7 @@ opening_is parties limits wires square empty =
     let logs = map-same make (λ (site : SiteState). site.log) [] 0 (length parties) (λ _. refl) in
     λ i. record (opening parties limits) { submissions = submissions i; wires = wires i; logs = logs i }
 
-opening_kept : (parties : List (List (List ℕ))) (limits : Bounds) (wires : List (List WireState))
+pub opening_kept : (parties : List (List (List ℕ))) (limits : Bounds) (wires : List (List WireState))
     → 1 ≤ length parties → length parties ≤ PARTIES_LIMIT → AreBounds limits
     → IsSquare (length parties) wires → All (All (λ w. w ≡ new_wire limits.wire)) wires → IsSystem (opening_parts parties limits wires)
 opening_kept parties limits wires some few bounds square empty =
@@ -59,13 +47,3 @@ opening_kept parties limits wires some few bounds square empty =
           cell-any (λ (w : WireState). All of w.frames) wires from to (new_wire 0)
           (λ k d lt j e below. subst (λ (w : WireState). All of w.frames) (sym (empty k d lt j e below)) (All-nil of)) (All-nil of);
     }
-
--- what opens of these parts keeps what the system keeps, and is the opening
-pub opens : (parties : List (List (List ℕ))) (limits : Bounds) (hub : HubState) (sites : List SiteState) (wires : List (List WireState)) (n size limit : ℕ)
-    → n ≡ length parties → size ≡ limits.wire → limit ≡ limits.submissions → hub ≡ new_hub parties limits.window → sites ≡ opening_sites n limit
-    → 1 ≤ length parties → length parties ≤ PARTIES_LIMIT → AreBounds limits → IsSquare n wires → All (All (λ w. w ≡ new_wire size)) wires
-    → IsSystem (parts_of limits hub sites wires) × (state_of (parts_of limits hub sites wires) ≡ opening parties limits)
-opens parties limits hub sites wires n size limit count wire most hub_is sites_are some few bounds square empty =
-    let square = rw count at square in
-    let empty = rw wire at empty in
-    rw (hub_is, sites_are, count, most) (opening_kept parties limits wires some few bounds square empty, opening_is parties limits wires square empty)

@@ -1,20 +1,15 @@
 -- The hub's routing against the row of the list machine.
 use Rattle.std.proofs.Common.{◌≡◌, ℕ, ◌+◌, ◌<◌, true, List, length, Option, Some, None, Ok, Err, sym, ap, arith}
 use Rattle.std.specs.Prelude.{slice_get, Result, IfOk, IfErr, OnOk, OnErr}
-use Rattle.std.proofs.lemmas.Bool.{lt-ltb}
-use Rattle.mv_message.specs.declared.message.Message.{Message}
+use Rattle.mv_system.proofs.Words.{FailsBy, HubState, IsSystem, Message, Parts, State, close_fault, hub_of, is_open, is_party, lt-ltb, route_fault, routed_count, state_of, submissions_of, with_hub, with_routed}
+use Rattle.std.proofs.lemmas.Bool.Decides.{nat_tests}
 use Rattle.mv_hub.specs.declared.fault.RouteFault.{RouteFault}
 use Rattle.mv_hub.specs.declared.fault.RouteFault.TheVariants.{Memory}
-use Rattle.mv_hub.specs.Record.{routed_count, is_open}
-use Rattle.mv_link.specs.Fault.{FailsBy}
 use Rattle.mv_hub.specs.Targets.{reach}
-use Rattle.mv_hub.specs.Hub.{HubState, with_routed, route_fault, close_fault}
 use Rattle.mv_machine.specs.declared.reply.Reply.TheVariants.{Routed, Refused}
 use Rattle.mv_machine.specs.Replies.{route_refusal_of}
 use Rattle.mv_machine.specs.Runs.{Meets}
-use Rattle.mv_machine.specs.State.{State, is_party, submissions_of, hub_of, with_hub}
 use Rattle.mv_machine.specs.Steps.{Answered, unless, route}
-use Rattle.mv_system.specs.World.{Parts, state_of, IsSystem}
 
 -- what the row of a routing answers and leaves, by the fault of the hub
 abbrev routed_unless : State → ℕ → Message → Option RouteFault → Answered
@@ -49,6 +44,7 @@ unfolding Meets route_fault
 route_refused from message new (Ok routed) k place next err fails = tt
 route_refused from message new (Err fault) k place next err fails = rw (err, route_row from message k place next) (grind (arith, fails))
 
--- where the hub closed a link, it was open
-pub close_told : (h : HubState) (from to : ℕ) → close_fault h from to ≡ None → is_open h.entries from to ≡ true
-close_told h from to fails = grind arith
+-- where the hub closed a link, that was open and between parties
+pub close_told : (h : HubState) (from to : ℕ) → close_fault h from to ≡ None
+    → (from < length h.parties) × (to < length h.parties) × (is_open h.entries from to ≡ true)
+close_told h from to fails = (grind (arith, nat_tests), grind (arith, nat_tests), grind arith)

@@ -1,22 +1,13 @@
 -- What the parts of the system say of the list machine's lists, and what each change of a part keeps.
 use Rattle.std.proofs.Common.{◌≡◌, ℕ, ◌+◌, ◌-◌, ◌<◌, ◌≤◌, Bool, List, [], ◌∷◌, ◌++◌, length, get_or, set, map, Some, sym, refl, ap, ◌∙◌, subst, arith, length-append, length-drop, drop, ltb-true}
 use Rattle.std.specs.Prelude.{All, slice_get, option_map, IsTrue, None, Option, Result, Ok, Err, IfOk, OnOk, OnErr, IsErrOf}
-use Rattle.std.proofs.lemmas.Bool.{and_parts}
+use Rattle.mv_system.proofs.Words.{All-drop, All-get_or, All-push, All-weaker, FailsBy, FitsWire, Frame, HubState, IsFrameOf, IsSiteAt, IsSound, IsSquare, IsSystem, Message, NUMBER_LIMIT, OffersFront, Parts, SiteState, State, Submits, WireState, and_parts, answer-room, answers_in, applied-sound, apply_fault, are_parties, ask-free, ask_fault, cell, cell-map, count_from, entry_from, get_or_read, hub_of, is_party, is_uplink_full, items_on, length-map, log_of, look_at, map-append, map-set, new_site, new_wire, numbers_of, put, put-each, put-each_pair, put-map, routed_count-few, set-get_or, site_at, site_of, square-map, square-put, stamps_suffice, state_of, submissions_of, submitted-sound, taken_by, wire_at, wire_of, with_applied, with_site, with_submission, with_taken, with_wire}
 use Rattle.std.proofs.Math.ListN.{get_or-map}
-use Rattle.std.proofs.lemmas.List.{set-get_or, get_or_read, length-map, map-set}
-use Rattle.std.proofs.lemmas.List.Elements.{All-weaker, All-get_or, All-push, All-drop}
-use Rattle.std.proofs.lemmas.Option.{slice_get_within, get_or_from_slice_get}
-use Rattle.mv_message.specs.declared.message.Message.{Message}
-use Rattle.mv_link.specs.declared.item.Item.{Item}
-use Rattle.mv_link.specs.declared.item.Frame.{Frame}
+use Rattle.std.specs.List.{drop-map}
+use Rattle.std.proofs.lemmas.Option.{slice_get-map, slice_get_within, get_or_from_slice_get}
 use Rattle.mv_link.specs.declared.incoming.Look.{Look}
 use Rattle.mv_link.specs.declared.incoming.Look.TheVariants as look
-use Rattle.mv_link.specs.Frames.{IsFrameOf}
-use Rattle.mv_pairs.specs.Pairs.{cell, put, IsSquare}
-use Rattle.mv_pairs.proofs.CallerLemmas.{put-each, put-each_pair, square-put, square-map, cell-map, put-map}
 use Rattle.mv_hub.specs.declared.entry.Entry.{Entry}
-use Rattle.mv_hub.specs.Hub.{HubState, items_on, are_parties}
-use Rattle.mv_link.specs.declared.limits.TheConstants.{NUMBER_LIMIT}
 use Rattle.mv_link.proofs.CallerLemmas.{of_longer, next-number}
 use Rattle.mv_hub.specs.Links.{link_items}
 use Rattle.mv_hub.proofs.CallerLemmas.{link_items-push}
@@ -24,17 +15,7 @@ use Rattle.mv_repository.specs.Query.{answer_to}
 use Rattle.mv_party.specs.declared.fault.SiteFault.{SiteFault}
 use Rattle.mv_party.specs.declared.fault.SiteFault.TheVariants.{Memory}
 use Rattle.mv_party.specs.declared.taken.Taken.{Taken}
-use Rattle.mv_party.specs.Site.{SiteState, new_site, entry_from, count_from, with_submission, with_applied, answers_in}
-use Rattle.mv_link.specs.Fault.{FailsBy}
-use Rattle.mv_link.specs.Receiving.{look_at}
-use Rattle.mv_party.specs.Calls.{ask_fault, apply_fault, taken_by, with_taken}
-use Rattle.mv_party.proofs.CallerLemmas.{ask-free, answer-room}
-use Rattle.mv_machine.specs.State.{State, is_party, submissions_of, is_uplink_full, wire_of, log_of, site_of, with_site, with_wire, hub_of}
 use Rattle.mv_machine.specs.Steps.{next_item}
-use Rattle.mv_machine.proofs.CallerLemmas.{IsSound, submitted-sound, applied-sound, routed_count-few, stamps_suffice}
-use Rattle.mv_system.specs.Wire.{WireState, new_wire, numbers_of}
-use Rattle.mv_system.specs.World.{Parts, wire_at, site_at, state_of, FitsWire, IsSiteAt, IsSystem, Submits, OffersFront}
-use Rattle.mv_system.proofs.WireLemmas.{length-numbers_of, numbers_of-get, numbers_of-push, numbers_of-drop}
 
 pub sound_of : {p : Parts} → IsSystem p → IsSound (state_of p)
 sound_of k = record { well_formed = k.well_formed; lawful = k.lawful }
@@ -51,7 +32,7 @@ pub wires_at : (wires : List (List WireState)) (from to : ℕ) → cell (map (ma
 wires_at wires from to = cell-map (λ w. numbers_of w.frames) wires from to (new_wire 0)
 
 pub wires_len_at : (wires : List (List WireState)) (from to : ℕ) → length (cell (map (map (λ w. numbers_of w.frames)) wires) from to []) ≡ length (wire_at wires from to).frames
-wires_len_at wires from to = ap length (wires_at wires from to) ∙ length-numbers_of (wire_at wires from to).frames
+wires_len_at wires from to = ap length (wires_at wires from to) ∙ length-map (wire_at wires from to).frames (λ f. f.number)
 
 -- what is known of a party, of which the list machine sees this state
 pub record SiteFacts (p : Parts) (st : State) (party : ℕ) (site : SiteState) : Type 0 where
@@ -118,7 +99,7 @@ link_facts {p} {wire = wire} from to k view both read =
       view = view;
       places = places;
       seen = seen;
-      len = sym (length-numbers_of wire.frames) ∙ ap length seen;
+      len = sym (length-map wire.frames (λ f. f.number)) ∙ ap length seen;
       limits = ap (λ (t : State). t.limits) (sym view);
       linked = ap (λ (t : State). items_on (hub_of t) from to) (sym view);
       frames = subst (λ (v : WireState). All (IsFrameOf (items_on p.hub from to)) v.frames) at (k.frames from to);
@@ -148,7 +129,7 @@ frame_pushed {p} {from = from} {to = to} {old = old} facts frame wire is of room
     wire_written facts wire _
     (rw is (All-push (IsFrameOf (items_on p.hub from to)) old.frames frame facts.frames (subst (λ l. IsFrameOf l frame) facts.linked of)))
     (rw is (record { size = facts.fits.size; within = omega (arith, facts.len, room, ap (λ l. l.wire) facts.limits, length-append old.frames (frame ∷ [])) }))
-    (rw is (numbers_of-push old.frames frame ∙ ap (λ l. l ++ frame.number ∷ []) facts.seen))
+    (rw is (map-append (λ f. f.number) old.frames (frame ∷ []) ∙ ap (λ l. l ++ frame.number ∷ []) facts.seen))
 
 -- the front of a wire is taken away
 pub front_dropped : {p : Parts} {st : State} {from to : ℕ} {old : WireState} → LinkFacts p st from to old → (wire : WireState) → wire ≡ record old { frames = drop 1 old.frames }
@@ -157,7 +138,7 @@ front_dropped {p} {from = from} {to = to} {old = old} facts wire is =
     wire_written facts wire _
     (rw is (All-drop (IsFrameOf (items_on p.hub from to)) 1 old.frames facts.frames))
     (rw is (record { size = facts.fits.size; within = omega (arith, facts.fits.within, length-drop 1 old.frames) }))
-    (rw is (numbers_of-drop old.frames ∙ ap (drop 1) facts.seen))
+    (rw is (sym (drop-map (λ f. f.number) 1 old.frames) ∙ ap (drop 1) facts.seen))
 
 -- the system with one more entry in the record
 pub entered_kept : {p : Parts} (entry : Entry) → IsSystem p → IsSound (state_of (record p { hub = record p.hub { entries = p.hub.entries ++ entry ∷ [] } }))
@@ -241,10 +222,6 @@ module _ {p : Parts} {st : State} {party : ℕ} {site : SiteState} (facts : Site
             (omega (arith, facts.few, (ask-free full site (free fails).1).1, length-append site.submissions (message ∷ [])));
       }))
 
--- a party that took a frame is the party that it was
-with_taken-party : (site : SiteState) (sender : ℕ) (item : Item) (stands : Look) → (with_taken site sender item stands).party ≡ site.party
-with_taken-party site sender item stands = grind arith
-
 -- the frame in front of a wire is offered to its receiver
 module _ {p : Parts} {st : State} {from to : ℕ} {wire : WireState} {site : SiteState} (link : LinkFacts p st from to wire) (facts : SiteFacts p st to site)
     (frame : Frame) (front : slice_get wire.frames 0 ≡ Some frame) (new : SiteState) where
@@ -289,19 +266,15 @@ module _ {p : Parts} {st : State} {from to : ℕ} {wire : WireState} {site : Sit
   takes full result full_is value ok err fails memory = record {
     number = frame.number;
     item = frame.item;
-    front = ap (λ l. slice_get l 0) (sym link.seen) ∙ numbers_of-get wire.frames 0 ∙ ap (option_map (λ f. f.number)) front;
+    front = ap (λ l. slice_get l 0) (sym link.seen) ∙ slice_get-map (λ f. f.number) wire.frames 0 ∙ ap (option_map (λ f. f.number)) front;
     member = front_item;
     answered = subst (λ (s : SiteState). IfOk result (λ taken. taken ≡ taken_by s from frame.item (look_at (count_from s.log from) frame.number))) facts.is value;
-    ok = site_ok facts new (λ s. with_taken s from frame.item (look_at (count_from s.log from) frame.number)) result (with_taken-party (site_of st to) from frame.item _) ok;
+    ok = site_ok facts new (λ s. with_taken s from frame.item (look_at (count_from s.log from) frame.number)) result (grind arith) ok;
     err = site_err facts new result err;
     fault = subst (λ (s : SiteState). FailsBy Memory (apply_fault (is_uplink_full st to) s from frame.item (look_at (count_from s.log from) frame.number)) result) facts.is
         (rw full_is at fails);
     memory = subst (λ (s : SiteState). IsErrOf result Memory → look_at (count_from s.log from) frame.number ≡ look.Next) facts.is memory;
   }
-
--- no party submitted more than it may
-pub submissions-few : (p : Parts) (party : ℕ) → IsSystem p → party < length p.hub.parties → length (submissions_of (state_of p) party) ≤ p.limits.submissions
-submissions-few p party k lt = omega (arith, ap length (submissions-at p party), (k.sites party lt).few)
 
 -- the record is short enough for one more entry
 pub entries-short : {p : Parts} → IsSystem p → length p.hub.entries < NUMBER_LIMIT
@@ -309,5 +282,5 @@ entries-short {p} k =
     omega (
       arith,
       stamps_suffice (length p.hub.parties) p.hub.entries k.lawful.of_record k.parties_most
-          (λ party lt. omega (arith, routed_count-few (state_of p) party k.lawful lt, submissions-few p party k lt, k.bounds.submissions_most)),
+          (λ party lt. omega (arith, routed_count-few (state_of p) party k.lawful lt, ap length (submissions-at p party), (k.sites party lt).few, k.bounds.submissions_most)),
     )

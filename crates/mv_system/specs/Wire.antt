@@ -1,5 +1,5 @@
 -- The frames under way on a link.
-use Rattle.std.specs.Prelude.{ℕ, List, [], ◌∷◌}
+use Rattle.std.specs.Prelude.{ℕ, List, [], map}
 use Rattle.mv_link.specs.declared.item.Frame.{Frame}
 
 -- a wire, as calls see it
@@ -13,5 +13,4 @@ new_wire size = record { size = size; frames = [] }
 
 -- the numbers of frames, in order
 abbrev pub numbers_of : List Frame → List ℕ
-numbers_of [] = []
-numbers_of (frame ∷ frames) = frame.number ∷ numbers_of frames
+numbers_of frames = map (λ frame. frame.number) frames

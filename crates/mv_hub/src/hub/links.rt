@@ -1,11 +1,10 @@
 //! What the hub does with its links: it relays, repeats and closes.
 
-ghost use Rattle.std.specs.Prelude.{◌≡◌, ◌+◌, ◌<◌, length, IsTrue, IfOk, OnOk, OnErr};
+ghost use Rattle.std.specs.Prelude.{◌≡◌, ◌+◌, ◌<◌, length, IfOk, OnOk, OnErr};
 ghost use Rattle.mv_link.specs.Frames.{IsFrameOf};
 ghost use Rattle.mv_link.specs.Fault.{FailsBy};
 ghost use Rattle.mv_hub.specs.Hub.{are_parties, sent_of, items_on, relay_fault, repeat_fault};
-ghost use Rattle.mv_hub.specs.Hub.{close_fault};
-ghost use Rattle.mv_hub.specs.Hub.{with_relayed, with_closed};
+ghost use Rattle.mv_hub.specs.Hub.{close_fault, with_relayed, with_closed};
 
 use crate::hub::Hub;
 use crate::{Entry, HubFault};
@@ -15,9 +14,7 @@ use mv_message::Party;
 impl Hub {
     /// Whether both are parties.
     fn are_parties(&self, from: Party, to: Party) -> bool
-        ensures value { result ≡ are_parties self.now from to }
-        ensures from { IsTrue result → from < length self.now.parties }
-        ensures to { IsTrue result → to < length self.now.parties }
+        ensures { result ≡ are_parties self.now from to }
     {
         let count = self.parties().len();
         from < count && to < count

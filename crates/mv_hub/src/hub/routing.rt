@@ -97,16 +97,6 @@ impl Hub {
         None
     }
 
-    /// The parties that the message reaches.
-    #[tactic(auto, using(crate::proofs::HubLemmas::reach_listed))]
-    fn reach_of(&self, routing: &Routing<'_>) -> Reached
-        requires { IsRouting self.now routing.now }
-        ensures { result ≡ reach self.now.parties self.now.entries
-            routing.now.from routing.now.message.now }
-    {
-        Reached::of(routing.reached)
-    }
-
     /// Puts the message into the record and the tables, and what its routing puts on links on these.
     fn put_routed(
         &mut self,
@@ -137,7 +127,7 @@ impl Hub {
     ///
     /// The first of these that holds is the fault: H4, there is no such party; H5, a link has no room for what it would
     /// gain, the least such; H7, memory was refused.
-    #[tactic(auto, unfolding(crate::specs::Hub::route_fault))]
+    #[tactic(auto, using(crate::proofs::HubLemmas::reach_listed), unfolding(crate::specs::Hub::route_fault))]
     pub fn route(
         &mut self,
         from: Party,
@@ -158,10 +148,9 @@ impl Hub {
         if let Some(to) = self.busy_party(&routing) {
             return Err(RouteFault::Busy(to));
         }
-        let reached = self.reach_of(&routing);
         let shares = shares_of(self.alloc, message, routing.reached)?;
         self.put_routed(&routing, shares)?;
-        Ok((routing.k, reached))
+        Ok((routing.k, Reached::of(routing.reached)))
     }
 }
 

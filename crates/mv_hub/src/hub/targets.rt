@@ -1,32 +1,21 @@
 //! Whom a message is for.
 
 ghost use Rattle.std.specs.Prelude.{◌≡◌, ◌<◌, ◌≤◌, ◌&&◌, ℕ, length, nat_lt};
-ghost use Rattle.mv_hub.specs.Record.{market_table};
 ghost use Rattle.mv_hub.specs.Targets.{serves_product, is_reached, is_target};
 ghost use Rattle.mv_link.specs.PartySets.{has_party};
 
 use crate::hub::Hub;
 use mv_link::{PARTIES_LIMIT, PartySet};
 use mv_message::{Message, Party};
-use mv_pack::{Gtin, Market};
+use mv_pack::Gtin;
 
 impl Hub {
-    /// The markets of a product, by its last routed master.
-    fn market_table(&self, gtin: &Gtin) -> &[Market]
-        ensures { result.now ≡ market_table self.now.entries gtin.now }
-    {
-        match self.markets(gtin) {
-            Some(markets) => markets,
-            None => &[],
-        }
-    }
-
     /// The parties that serve a market of a product.
     fn servers(&self, gtin: &Gtin) -> PartySet
         ensures { (party : ℕ) → has_party result party ≡ (nat_lt party (length self.now.parties)
             && serves_product self.now.parties self.now.entries gtin.now party) }
     {
-        self.parties().servers(self.market_table(gtin))
+        self.parties().servers(self.markets(gtin).unwrap_or(&[]))
     }
 
     /// The parties that a message from a party is for.

@@ -6,7 +6,7 @@ ghost use Rattle.mv_message.specs.declared.message.Message.TheVariants.{Query};
 ghost use Rattle.mv_link.specs.Frames.{IsFrameOf};
 ghost use Rattle.mv_link.specs.Fault.{FailsBy};
 ghost use Rattle.mv_hub.specs.Hub.{are_parties, items_on, sent_of};
-ghost use Rattle.mv_hub.specs.Hub.{relay_fault, repeat_fault, close_fault, with_relayed, with_closed};
+ghost use Rattle.mv_hub.specs.Hub.{relay_fault, close_fault, with_relayed, with_closed};
 ghost use Rattle.mv_hub.specs.Record.{routed_count};
 ghost use Rattle.mv_party.specs.Calls.{submit_fault, ask_fault};
 ghost use Rattle.mv_machine.specs.State.{is_party, is_uplink_full, submissions_of};
@@ -72,7 +72,7 @@ impl World {
     }
 
     /// Takes the next frame of a link from the hub, which is not yet on the wire.
-    fn next_frame(&mut self, from: Party, to: Party) -> Result<Frame, HubFault>
+    pub(super) fn next_frame(&mut self, from: Party, to: Party) -> Result<Frame, HubFault>
         requires { IsTrue (are_parties (hub_of self.old) from to) }
         ensures number { IfOk result (λ frame. frame.number ≡ sent_of (hub_of self.old) from to + 1) }
         ensures frame { IfOk result (λ frame. IsFrameOf (items_on (hub_of self.old) from to) frame) }
@@ -85,7 +85,7 @@ impl World {
     }
 
     /// Puts a frame of a link on its wire.
-    fn push_frame(&mut self, from: Party, to: Party, frame: Frame)
+    pub(super) fn push_frame(&mut self, from: Party, to: Party, frame: Frame)
         requires parties { IsTrue (are_parties (hub_of self.old) from to) }
         requires room { length (wire_of self.old from to) < self.old.limits.wire }
         requires frame { IsFrameOf (items_on (hub_of self.old) from to) frame }
@@ -96,46 +96,8 @@ impl World {
         wire.push(frame);
     }
 
-    /// Puts the next frame of a link on its wire, and answers its number.
-    pub(super) fn put_relayed(&mut self, from: Party, to: Party) -> Result<u32, HubFault>
-        requires parties { IsTrue (are_parties (hub_of self.old) from to) }
-        requires room { length (wire_of self.old from to) < self.old.limits.wire }
-        ensures number { IfOk result (λ number. number ≡ sent_of (hub_of self.old) from to + 1) }
-        ensures ok { OnOk result
-            (self.new ≡ with_wire (with_hub self.old (with_relayed (hub_of self.old) from to)) from to
-            (wire_of self.old from to ++ (sent_of (hub_of self.old) from to + 1) ∷ [])) }
-        ensures err { OnErr result (self.new ≡ self.old) }
-        ensures fault { FailsBy HubFault.Memory (relay_fault (hub_of self.old) from to) result }
-    {
-        let frame = self.next_frame(from, to)?;
-        let number = frame.number;
-        self.push_frame(from, to, frame);
-        Ok(number)
-    }
-
-    /// Puts a frame of a link on its wire again.
-    pub(super) fn put_repeated(
-        &mut self,
-        from: Party,
-        to: Party,
-        number: u32,
-    ) -> Result<(), HubFault>
-        requires parties { IsTrue (are_parties (hub_of self.old) from to) }
-        requires room { length (wire_of self.old from to) < self.old.limits.wire }
-        ensures ok { OnOk result
-            (self.new ≡ with_wire self.old from to (wire_of self.old from to ++ number ∷ [])) }
-        ensures err { OnErr result (self.new ≡ self.old) }
-        ensures fault { FailsBy HubFault.Memory
-            (repeat_fault (hub_of self.old) from to number) result }
-    {
-        let frame = self.hub.repeat(from, to, number)?;
-        self.push_frame(from, to, frame);
-        Ok(())
-    }
-
     /// Closes a link.
     pub(super) fn put_closed(&mut self, from: Party, to: Party) -> Result<(), HubFault>
-        requires { IsTrue (are_parties (hub_of self.old) from to) }
         ensures ok { OnOk result
             (self.new ≡ with_hub self.old (with_closed (hub_of self.old) from to)) }
         ensures err { OnErr result (self.new ≡ self.old) }

@@ -3,7 +3,6 @@
 
 ghost use Rattle.mv_machine.specs.Runs.{Meets, Allows};
 ghost use Rattle.mv_machine.specs.Steps.{ask};
-ghost use Rattle.mv_machine.specs.declared.step.Step.{Step as AStep};
 
 use crate::world::World;
 use mv_machine::{Refusal, Reply, Step};
@@ -95,8 +94,12 @@ impl World {
         if self.is_wire_full(from, to) {
             return Reply::Refused(Refusal::WireFull);
         }
-        match self.put_relayed(from, to) {
-            Ok(number) => Reply::Relayed { number },
+        match self.next_frame(from, to) {
+            Ok(frame) => {
+                let number = frame.number;
+                self.push_frame(from, to, frame);
+                Reply::Relayed { number }
+            }
             Err(fault) => Reply::Refused(Refusal::from(fault)),
         }
     }
@@ -130,8 +133,11 @@ impl World {
         if self.is_wire_full(from, to) {
             return Reply::Refused(Refusal::WireFull);
         }
-        match self.put_repeated(from, to, number) {
-            Ok(()) => Reply::Repeated { number },
+        match self.hub().repeat(from, to, number) {
+            Ok(frame) => {
+                self.push_frame(from, to, frame);
+                Reply::Repeated { number }
+            }
             Err(fault) => Reply::Refused(Refusal::from(fault)),
         }
     }
@@ -140,9 +146,6 @@ impl World {
     fn close(&mut self, from: Party, to: Party) -> Reply
         ensures { Allows self.old (Step.Close from to) result self.new }
     {
-        if !self.are_parties(from, to) {
-            return Reply::Refused(Refusal::Party);
-        }
         match self.put_closed(from, to) {
             Ok(()) => Reply::Closed,
             Err(fault) => Reply::Refused(Refusal::from(fault)),

@@ -1,6 +1,5 @@
 use Rattle.std.proofs.Common.{ℕ, sym, arith}
-use Rattle.mv_party.specs.Site.{new_site}
-use Rattle.std.proofs.lemmas.List.FromFn.{map-range_with_len_more}
+use Rattle.mv_system.proofs.Words.{map-range_with_len_more, new_site}
 use Rattle.mv_system.proofs.opening.new_sites.Goals as goal
 
 pub loop-party-preserved : goal.loop-party-preserved

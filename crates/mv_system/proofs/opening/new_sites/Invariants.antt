@@ -1,6 +1,5 @@
 use Rattle.std.proofs.Common.{◌≡◌, map}
-use Rattle.std.specs.List.{range_with_len}
-use Rattle.mv_party.specs.Site.{new_site}
+use Rattle.mv_system.proofs.Words.{new_site, range_with_len}
 use Rattle.mv_system.proofs.opening.new_sites.Given as goal
 
 abbrev pub invariant-loop-party : goal.invariant-loop-party

@@ -1,15 +1,15 @@
 use Rattle.std.specs.Prelude.{bytes_eq}
 use Rattle.std.proofs.Common.{◌∙◌, ap, subst, refl, sym, Some, arith}
-use Rattle.std.specs.Option.{IsSome}
+use Rattle.mv_hub.proofs.Words.{IsSome, on_err_weaker, on_ok_weaker}
 use Rattle.std.proofs.lemmas.Map.Steps.{set_value_same}
-use Rattle.std.proofs.lemmas.Result.{on_ok_weaker, on_err_weaker}
 use Rattle.mv_hub.proofs.catalogues.Catalogues.add_batch.Goals as goal
 
 -- the product was unknown
 pub returns-clause-ok : goal.returns-clause-ok
 returns-clause-ok c = λ other.
     let written = c.in_ok-insert.ensures.updates.0 other in
-    rw (← c.self.view_is) (written ∙ rw (c.get_mut.follows.holds-at-none, c.in_ok-listed.ensures, ← c.in_default.ensures.value))
+    rw (← c.self.view_is) (written ∙ rw (c.get_mut.follows.holds-at-none, ← c.in_default.ensures.value)
+    (grind (arith, c.in_ok-add.ensures.ok, c.new-listed.ensures, c.new.ensures)))
 
 -- it was known
 pub returns-in-Some-clause-ok : goal.returns-in-Some-clause-ok

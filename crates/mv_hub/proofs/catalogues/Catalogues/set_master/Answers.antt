@@ -1,6 +1,5 @@
 use Rattle.std.proofs.Common.{◌∙◌, ap, subst, refl}
-use Rattle.std.specs.Option.{IsSome}
-use Rattle.mv_hub.specs.Record.{product_of}
+use Rattle.mv_hub.proofs.Words.{IsSome, product_of}
 use Rattle.mv_hub.proofs.catalogues.Catalogues.set_master.Goals as goal
 
 -- the product was unknown

@@ -1,5 +1,4 @@
-use Rattle.mv_link.specs.Sending.{Sending}
-use Rattle.mv_pairs.proofs.CallerLemmas.{square-map}
+use Rattle.mv_hub.proofs.Words.{Sending, square-map}
 use Rattle.mv_hub.proofs.hub.Hub.parties.Goals as goal
 
 pub returns-clause-pairs : goal.returns-clause-pairs

@@ -1,6 +1,5 @@
 use Rattle.std.proofs.Common.{◌∙◌, ap}
-use Rattle.std.proofs.lemmas.Result.{err_from_is_err_and}
-use Rattle.mv_link.specs.Sending.{Sending, new_sending}
+use Rattle.mv_hub.proofs.Words.{Sending, err_from_is_err_and, new_sending}
 use Rattle.mv_hub.proofs.HubLemmas.{view_relayed, view_put_back}
 use Rattle.mv_hub.proofs.hub.Hub.relay.Goals as goal
 

@@ -1,9 +1,6 @@
 use Rattle.std.proofs.Common.{◌∙◌, length, sym, ap}
 use Rattle.std.specs.Prelude.{replicate}
-use Rattle.std.proofs.lemmas.Bool.{and_parts}
-use Rattle.mv_link.specs.Sending.{new_sending}
-use Rattle.mv_link.specs.PartySets.{parties_in}
-use Rattle.mv_hub.specs.Gains.{carried_by}
+use Rattle.mv_hub.proofs.Words.{and_parts, carried_by, new_sending, parties_in}
 use Rattle.mv_hub.proofs.LinksLemmas.{row-same, row-one, row-then, carried-more, pop-equal}
 use Rattle.mv_hub.proofs.hub.gains.put_carried.Goals as goal
 

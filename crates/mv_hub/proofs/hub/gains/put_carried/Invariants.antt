@@ -1,6 +1,5 @@
 use Rattle.std.proofs.Common.{◌≡◌, ℕ, ◌&&◌, not, true, cond, [], ◌∷◌, length, replicate}
-use Rattle.mv_link.specs.PartySets.{has_party, parties_in}
-use Rattle.mv_hub.specs.Gains.{PushesRow, carried_by}
+use Rattle.mv_hub.proofs.Words.{PushesRow, carried_by, has_party, parties_in}
 use Rattle.mv_hub.proofs.hub.gains.put_carried.Given as goal
 
 abbrev pub invariant-loop-to : goal.invariant-loop-to

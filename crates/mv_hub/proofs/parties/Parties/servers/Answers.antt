@@ -1,6 +1,5 @@
 use Rattle.std.proofs.Common.{◌≡◌, ◌∙◌, true, refl, arith}
-use Rattle.std.proofs.lemmas.Bool.{eq-eqb}
-use Rattle.mv_hub.specs.Parties.{has_market, served_by}
+use Rattle.mv_hub.proofs.Words.{eq-eqb, has_market, served_by}
 use Rattle.mv_hub.proofs.PartiesLemmas.{server_is_party}
 use Rattle.mv_hub.proofs.parties.Parties.servers.Goals as goal
 

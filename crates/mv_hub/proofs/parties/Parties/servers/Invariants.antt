@@ -1,7 +1,6 @@
 use Rattle.std.proofs.Common.{◌≡◌, ℕ, ◌&&◌, length, take}
 use Rattle.std.specs.Prelude.{nat_lt}
-use Rattle.mv_hub.specs.Parties.{serves_one, served_by}
-use Rattle.mv_link.specs.PartySets.{has_party}
+use Rattle.mv_hub.proofs.Words.{has_party, served_by, serves_one}
 use Rattle.mv_hub.proofs.parties.Parties.servers.Given as goal
 
 abbrev pub invariant-loop-market : goal.invariant-loop-market

@@ -1,7 +1,5 @@
 use Rattle.std.proofs.Common.{◌∙◌, length}
-use Rattle.std.proofs.lemmas.Bool.{lt-ltb, le-ltb}
-use Rattle.mv_hub.specs.Parties.{serves_one, served_by}
-use Rattle.mv_link.proofs.CallerLemmas.{listed-in}
+use Rattle.mv_hub.proofs.Words.{le-ltb, listed-in, lt-ltb, served_by, serves_one}
 use Rattle.mv_hub.proofs.parties.Parties.serving.Goals as goal
 
 pub returns : goal.returns

@@ -1,7 +1,5 @@
 use Rattle.std.proofs.Common.{length}
-use Rattle.std.specs.Bool.{⊤}
-use Rattle.mv_pairs.proofs.CallerLemmas.{square-put}
-use Rattle.mv_hub.specs.Hub.{with_relayed}
+use Rattle.mv_system.proofs.Words.{square-put, with_relayed, ⊤}
 use Rattle.mv_system.proofs.SystemLemmas.{sent_kept, hub_kept}
 use Rattle.mv_system.proofs.world.World.next_frame.Goals as goal
 

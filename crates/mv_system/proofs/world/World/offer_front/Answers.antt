@@ -1,9 +1,7 @@
 -- The frame bears the item of its number, and the party takes or refuses it as the list machine's does.
 use Rattle.std.proofs.Common.{arith, refl, sym, ap, ◌∙◌}
-use Rattle.std.specs.Option.{option_copied}
-use Rattle.mv_party.specs.Site.{count_from}
-use Rattle.mv_link.specs.Receiving.{look_at}
-use Rattle.mv_system.proofs.WireLemmas.{numbers_of-get}
+use Rattle.mv_system.proofs.Words.{count_from, look_at, option_copied}
+use Rattle.std.proofs.lemmas.Option.{slice_get-map}
 use Rattle.mv_system.proofs.SystemLemmas.{link_facts, site_facts, taken_kept, takes}
 use Rattle.mv_system.proofs.world.World.offer_front.Goals as goal
 
@@ -11,7 +9,7 @@ use Rattle.mv_system.proofs.world.World.offer_front.Goals as goal
 pub unreachable-requires : goal.unreachable-requires
 unreachable-requires c =
     let link = link_facts c.args.from c.args.to c.self.invariant c.self.view_is c.requires.parties c.at.ensures in
-    grind (arith, link.seen, numbers_of-get, c.requires.some)
+    grind (arith, link.seen, slice_get-map, c.requires.some)
 
 pub invariant_of-self : goal.invariant_of-self
 invariant_of-self c =

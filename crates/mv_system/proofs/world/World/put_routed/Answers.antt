@@ -1,14 +1,7 @@
 -- The hub's answer is the row's, since the message that waits is the one that it was given.
 use Rattle.std.proofs.Common.{◌≡◌, ◌<◌, length, Some, refl, sym, ap, ◌∙◌}
-use Rattle.std.specs.Bool.{⊤}
+use Rattle.mv_system.proofs.Words.{SiteState, next_entry, option_copied, parts_of, routed-sound, routed_count, state_of, submissions_of, with_routed, ⊤}
 use Rattle.std.specs.Prelude.{slice_get}
-use Rattle.std.specs.Option.{option_copied}
-use Rattle.mv_hub.specs.Record.{routed_count}
-use Rattle.mv_hub.specs.Hub.{next_entry, with_routed}
-use Rattle.mv_party.specs.Site.{SiteState}
-use Rattle.mv_machine.specs.State.{submissions_of}
-use Rattle.mv_machine.proofs.CallerLemmas.{routed-sound}
-use Rattle.mv_system.specs.World.{parts_of, state_of}
 use Rattle.mv_system.proofs.SystemLemmas.{sound_of, party-place, site_facts, entered_kept, entries-short, hub_kept}
 use Rattle.mv_system.proofs.RouteLemmas.{routes, route_refused}
 use Rattle.mv_system.proofs.world.World.put_routed.Goals as goal

@@ -1,6 +1,5 @@
 -- The party's answer is the list machine's, since its part is what the list machine sees.
-use Rattle.mv_party.specs.Calls.{submit_fault}
-use Rattle.mv_party.proofs.CallerLemmas.{no_answer, submit-free}
+use Rattle.mv_system.proofs.Words.{no_answer, submit-free, submit_fault}
 use Rattle.mv_system.proofs.SystemLemmas.{party-place, site_facts, submission_kept, submits}
 use Rattle.mv_system.proofs.world.World.put_submission.Goals as goal
 

@@ -1,6 +1,5 @@
 use Rattle.std.proofs.Common.{◌≡◌, ◌+◌, [], ◌∷◌, ◌++◌, take, rules, sym, ap, ◌∙◌, arith}
-use Rattle.std.proofs.lemmas.List.{take_more}
-use Rattle.mv_machine.proofs.CallerLemmas.{runs-push, headline-same, headline_further}
+use Rattle.mv_system.proofs.Words.{headline-same, headline_further, runs-push, take_more}
 use Rattle.mv_system.proofs.world.World.run.Goals as goal
 
 -- One more step was taken, and one more reply noted.

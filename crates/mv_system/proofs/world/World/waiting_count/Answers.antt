@@ -1,6 +1,5 @@
 use Rattle.std.proofs.Common.{length, arith, ap}
-use Rattle.mv_machine.specs.State.{State, submissions_of}
-use Rattle.mv_machine.proofs.CallerLemmas.{routed_count-few}
+use Rattle.mv_system.proofs.Words.{State, routed_count-few, submissions_of}
 use Rattle.mv_system.proofs.SystemLemmas.{party-place}
 use Rattle.mv_system.proofs.world.World.waiting_count.Goals as goal
 

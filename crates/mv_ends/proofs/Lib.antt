@@ -1,5 +1,7 @@
+pub mod RingLemmas
 pub mod EndLemmas
 pub mod SiteEndLemmas
 pub mod OpeningLemmas
 pub mod LookLemmas
 pub mod OutcomeLemmas
+pub mod CallerLemmas

@@ -13,30 +13,38 @@ use Rattle.mv_machine.specs.declared.reply.Reply.{Reply}
 use Rattle.mv_machine.specs.declared.reply.Reply.TheVariants.{Routed, Relayed, Repeated, Closed, Refused}
 use Rattle.mv_machine.specs.declared.reply.Refusal.{Refusal}
 use Rattle.mv_machine.specs.declared.reply.Refusal.TheVariants.{Party, UplinkEmpty, Busy, WireFull, Memory}
+use Rattle.mv_machine.specs.Limits.{Bounds}
 use Rattle.mv_machine.specs.Replies.{hub_refusal_of}
 use Rattle.mv_ends.specs.declared.hub_end.HubEnd.{HubEnd}
 use Rattle.mv_ends.specs.Refusals.{IsRefusedBy}
-use Rattle.mv_ends.specs.Inlets.{IsEmptyFrom, IsFront, SameInlets, TakesNothing, Takes}
-use Rattle.mv_ends.specs.Wires.{HasRoomOn, IsFullOn, SameWires, PutsNoFrame, PutsFrame}
+use Rattle.mv_ends.specs.Rings.{Ring, IsEmptyFrom, IsFront, HasRoomOn, IsFullOn, with_item, with_frame}
 
--- The same end of one opening, at two moments: it has the parties and limits that it had, and the ends of the same rings.
-pub record SameHubEnd (old new : HubEnd) : Type 0 where
-  pub parties : new.hub.parties ≡ old.hub.parties
-  pub limits : new.limits ≡ old.limits
-  pub uplinks : SameInlets old.uplinks new.uplinks
-  pub wires : SameWires old.wires new.wires
+-- What stays of the hub's end: its parties, its limits, and the rings that it has ends of.
+pub record HubSeat : Type 0 where
+  pub parties : List (List (List ℕ))
+  pub limits : Bounds
+  pub uplinks : List Ring
+  pub wires : List (List Ring)
+
+-- what stays of this end
+abbrev pub hub_seat : HubEnd → HubSeat
+hub_seat end = record { parties = end.hub.parties; limits = end.limits; uplinks = end.uplinks.rings; wires = end.wires.rings }
+
+-- the same end of one opening, at two moments
+abbrev pub SameHubEnd : HubEnd → HubEnd → Type 0
+SameHubEnd old new = hub_seat new ≡ hub_seat old
 
 -- nothing has changed: neither the hub nor what was taken or put
 pub record IsUnchanged (old new : HubEnd) : Type 0 where
   pub hub : new.hub ≡ old.hub
-  pub taken : TakesNothing old.uplinks new.uplinks
-  pub put : PutsNoFrame old.wires new.wires
+  pub taken : new.uplinks.taken ≡ old.uplinks.taken
+  pub put : new.wires.put ≡ old.wires.put
 
 -- The message was routed that was taken from the uplink: the record gained just that entry.
 pub record RoutesFront (from : ℕ) (old new : HubEnd) (k : ℕ) (reached : List ℕ) : Type 0 where
   pub message : Message
-  pub taken : Takes from message old.uplinks new.uplinks
-  pub put : PutsNoFrame old.wires new.wires
+  pub taken : new.uplinks.taken ≡ with_item old.uplinks.taken from message
+  pub put : new.wires.put ≡ old.wires.put
   pub hub : new.hub ≡ with_routed old.hub from message
   pub free : route_fault old.hub from message ≡ None
   pub number : k ≡ routed_count old.hub.entries from + 1
@@ -65,8 +73,8 @@ pub record PutsOf (from to number : ℕ) (old new : HubEnd) : Type 0 where
   pub frame : Frame
   pub numbered : frame.number ≡ number
   pub member : IsFrameOf (items_on old.hub from to) frame
-  pub put : PutsFrame from to frame old.wires new.wires
-  pub taken : TakesNothing old.uplinks new.uplinks
+  pub put : new.wires.put ≡ with_frame old.wires.put from to frame
+  pub taken : new.uplinks.taken ≡ old.uplinks.taken
 
 -- why no frame is put on the ring of a link of two parties: the ring was full; or it had room, and the hub refuses it, for this fault
 -- if there is one
@@ -91,7 +99,7 @@ Repeats from to number old new reply = ⊥
 
 -- what `close` leaves, by its reply
 abbrev pub Closes : ℕ → ℕ → HubEnd → HubEnd → Reply → Type 0
-Closes from to old new Closed = (new.hub ≡ with_closed old.hub from to) × TakesNothing old.uplinks new.uplinks
-    × PutsNoFrame old.wires new.wires × (close_fault old.hub from to ≡ None)
+Closes from to old new Closed = (new.hub ≡ with_closed old.hub from to) × (new.uplinks.taken ≡ old.uplinks.taken)
+    × (new.wires.put ≡ old.wires.put) × (close_fault old.hub from to ≡ None)
 Closes from to old new (Refused refusal) = IsUnchanged old new × IsRefusedBy hub_refusal_of (close_fault old.hub from to) refusal
 Closes from to old new reply = ⊥

@@ -1,15 +1,14 @@
 -- What the ends of one opening keep.
-use Rattle.std.specs.Prelude.{◌≡◌, ℕ, ◌<◌, List, length, set, slice_index_or}
+use Rattle.std.specs.Prelude.{◌≡◌, ℕ, ◌<◌, List, length, map, set, slice_index_or}
 use Rattle.mv_ends.specs.declared.hub_end.HubEnd.{HubEnd}
 use Rattle.mv_ends.specs.declared.repo_end.RepoEnd.{RepoEnd}
-use Rattle.mv_ends.specs.Same.{SameEach}
 use Rattle.mv_ends.specs.HubEnd.{SameHubEnd}
-use Rattle.mv_ends.specs.RepoEnd.{SameRepoEnd}
+use Rattle.mv_ends.specs.RepoEnd.{SameRepoEnd, repo_seat}
 use Rattle.mv_ends.specs.Whole.{AreEnds}
 
 -- each end is the same at two moments
 abbrev pub AreSameRepos : List RepoEnd → List RepoEnd → Type 0
-AreSameRepos old new = SameEach SameRepoEnd old new
+AreSameRepos old new = map repo_seat new ≡ map repo_seat old
 
 -- each is the same as itself, in this sense
 abbrev pub IsSameItself : {A : Type 0} → (A → A → Type 0) → Type 0

@@ -1,32 +1,37 @@
 -- What is opened for one party, the hub's ends of its rings and the party's end, and for some.
-use Rattle.std.specs.Prelude.{◌≡◌, ℕ, ◌<◌, List, [], length, slice_index_or}
+use Rattle.std.specs.Prelude.{◌≡◌, ℕ, ◌<◌, List, [], length, map, slice_index_or}
+use Rattle.std.specs.List.{All}
 use Rattle.std.specs.declared.alloc.Global.{Global}
-use Rattle.rtrb.specs.Ring.{received, producer_capacity, IsPair}
-use Rattle.rtrb.specs.declared.consumer.Consumer.{Consumer}
-use Rattle.rtrb.specs.declared.AnyItems.{AnyItems}
+use Rattle.std.specs.declared.vec.Vec.{Vec}
+use Rattle.rtrb.specs.Ring.{sent, received}
 use Rattle.mv_message.specs.declared.message.Message.{Message}
+use Rattle.mv_link.specs.declared.item.Frame.{Frame}
 use Rattle.mv_party.specs.Site.{new_site}
 use Rattle.mv_machine.specs.Limits.{Bounds}
-use Rattle.mv_ends.specs.declared.outlets.Outlets.{Outlets}
 use Rattle.mv_ends.specs.declared.repo_end.RepoEnd.{RepoEnd}
-use Rattle.mv_ends.specs.Outlets.{HaveSize}
-use Rattle.mv_ends.specs.Rings.{AreJoined, IsUnused}
+use Rattle.mv_ends.specs.Rings.{Inlet, Outlet, Inflow, Ring, ring_put, ring_taken, AreEmpty}
+
+-- the two ends of the links to one party from so many, which hold so many frames each and were not used yet
+pub record AreLinks (count room : ℕ) (row : List (Outlet Frame)) (inlets : Inflow Frame) : Type 0 where
+  pub wide : length row ≡ count
+  pub each : length inlets.taken ≡ count
+  pub rings : inlets.rings ≡ map ring_put row
+  pub size : All (λ (ring : Ring). ring.size ≡ room) inlets.rings
+  pub unused : AreEmpty (map sent row)
+  pub untaken : AreEmpty inlets.taken
 
 -- the ends of the rings of a party, one of so many, by the limits of the system; nothing has happened yet
-pub record IsOpened (count : ℕ) (limits : Bounds) (party : ℕ) (uplink : Consumer Message Global AnyItems) (outlets : Outlets) (repo : RepoEnd) : Type 0 where
+pub record IsOpened (count : ℕ) (limits : Bounds) (party : ℕ) (uplink : Inlet Message) (row : Vec (Outlet Frame) Global) (repo : RepoEnd) : Type 0 where
   pub site : repo.site ≡ new_site party count limits.submissions
-  pub pair : IsPair repo.uplink uplink
+  pub pair : ring_put repo.uplink ≡ ring_taken uplink
   pub untaken : received uplink ≡ []
-  pub joined : AreJoined outlets repo.inlets
-  pub wide : length outlets.ends.items ≡ count
-  pub unused : IsUnused outlets
-  pub uplink_size : producer_capacity repo.uplink ≡ limits.uplink
-  pub wire_sizes : HaveSize limits.wire outlets
+  pub size : (ring_put repo.uplink).size ≡ limits.uplink
+  pub links : AreLinks count limits.wire row.items repo.inlets
 
 -- the same of so many parties, one of so many each, place by place
-pub record AreOpened (count : ℕ) (limits : Bounds) (opened : ℕ) (uplinks : List (Consumer Message Global AnyItems)) (outlets : List Outlets) (repos : List RepoEnd) : Type 0 where
+pub record AreOpened (count : ℕ) (limits : Bounds) (opened : ℕ) (uplinks : List (Inlet Message)) (rows : List (Vec (Outlet Frame) Global)) (repos : List RepoEnd) : Type 0 where
   pub uplinks_each : length uplinks ≡ opened
-  pub outlets_each : length outlets ≡ opened
+  pub rows_each : length rows ≡ opened
   pub repos_each : length repos ≡ opened
-  pub each : (party : ℕ) (uplink : Consumer Message Global AnyItems) (none : Outlets) (repo : RepoEnd) → party < opened
-      → IsOpened count limits party (slice_index_or uplinks party uplink) (slice_index_or outlets party none) (slice_index_or repos party repo)
+  pub each : (party : ℕ) (uplink : Inlet Message) (row : Vec (Outlet Frame) Global) (repo : RepoEnd) → party < opened
+      → IsOpened count limits party (slice_index_or uplinks party uplink) (slice_index_or rows party row) (slice_index_or repos party repo)

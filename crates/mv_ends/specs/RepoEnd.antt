@@ -1,6 +1,6 @@
 -- What a contract sees of a repository's end, and what its calls leave, by their replies.
-use Rattle.std.specs.Prelude.{◌≡◌, ℕ, ◌+◌, ◌<◌, [], ◌∷◌, ◌++◌, length, Bool, false, None, option_to_list}
-use Rattle.rtrb.specs.Ring.{sent, SameProducer}
+use Rattle.std.specs.Prelude.{◌≡◌, ℕ, ◌+◌, ◌<◌, [], ◌∷◌, ◌++◌, length, List, Bool, false, None, option_to_list}
+use Rattle.rtrb.specs.Ring.{sent}
 use Rattle.mv_pack.specs.declared.key.PackKey.{PackKey}
 use Rattle.mv_message.specs.declared.message.Message.{Message}
 use Rattle.mv_message.specs.declared.message.Message.TheVariants.{Query}
@@ -17,22 +17,35 @@ use Rattle.mv_machine.specs.Replies.{refusal_of, reply_to}
 use Rattle.mv_ends.specs.declared.repo_end.RepoEnd.{RepoEnd}
 use Rattle.mv_ends.specs.Answering.{answer_by, stands_to}
 use Rattle.mv_ends.specs.Refusals.{IsRefusedBy}
-use Rattle.mv_ends.specs.Full.{is_full}
-use Rattle.mv_ends.specs.Inlets.{IsEmptyFrom, IsFront, SameInlets, TakesNothing, Takes}
+use Rattle.mv_ends.specs.Rings.{Ring, ring_put, is_full, IsEmptyFrom, IsFront, with_item}
 
--- The same end of one opening, at two moments: the same party, one of as many, with the ends of the same rings.
-pub record SameRepoEnd (old new : RepoEnd) : Type 0 where
-  pub party : new.site.party ≡ old.site.party
-  pub parties : new.site.parties ≡ old.site.parties
-  pub limit : new.site.limit ≡ old.site.limit
-  pub uplink : SameProducer old.uplink new.uplink
-  pub inlets : SameInlets old.inlets new.inlets
+-- What stays of a repository's end: its party, one of so many, how much it may submit, and the rings that it has ends of.
+pub record RepoSeat : Type 0 where
+  pub party : ℕ
+  pub parties : ℕ
+  pub limit : ℕ
+  pub uplink : Ring
+  pub inlets : List Ring
+
+-- what stays of this end
+abbrev pub repo_seat : RepoEnd → RepoSeat
+repo_seat end = record {
+  party = end.site.party;
+  parties = end.site.parties;
+  limit = end.site.limit;
+  uplink = ring_put end.uplink;
+  inlets = end.inlets.rings;
+}
+
+-- the same end of one opening, at two moments
+abbrev pub SameRepoEnd : RepoEnd → RepoEnd → Type 0
+SameRepoEnd old new = repo_seat new ≡ repo_seat old
 
 -- nothing has changed: neither the party nor what was put or taken
 pub record IsRepoUnchanged (old new : RepoEnd) : Type 0 where
   pub site : new.site ≡ old.site
   pub pushed : sent new.uplink ≡ sent old.uplink
-  pub taken : TakesNothing old.inlets new.inlets
+  pub taken : new.inlets.taken ≡ old.inlets.taken
 
 -- the uplink was full when it was last looked at
 abbrev pub is_uplink_full : RepoEnd → Bool
@@ -42,7 +55,7 @@ is_uplink_full end = is_full end.uplink
 pub record Puts (message : Message) (old new : RepoEnd) (number : ℕ) : Type 0 where
   pub site : new.site ≡ with_submission old.site message
   pub pushed : sent new.uplink ≡ sent old.uplink ++ message ∷ []
-  pub taken : TakesNothing old.inlets new.inlets
+  pub taken : new.inlets.taken ≡ old.inlets.taken
   pub numbered : number ≡ length old.site.submissions + 1
 
 -- what `submit` leaves, by its reply: a refusal is by whether the uplink was full
@@ -66,7 +79,7 @@ Verifies key old new reply = Asks key old new reply × (local_verdict key old.si
 -- did with the frame.
 pub record TakesFrame (from : ℕ) (old new : RepoEnd) (reply : Reply) : Type 0 where
   pub frame : Frame
-  pub taken : Takes from frame old.inlets new.inlets
+  pub taken : new.inlets.taken ≡ with_item old.inlets.taken from frame
   pub site : new.site ≡ with_taken old.site from frame.item (stands_to old.site from frame)
   pub pushed : sent new.uplink ≡ sent old.uplink ++ option_to_list (answer_by old.site from frame.item (stands_to old.site from frame))
   pub reply_is : reply ≡ reply_to frame.number (taken_by old.site from frame.item (stands_to old.site from frame))

@@ -1,26 +1,99 @@
--- The two ends of rings, and rings that were not used yet.
-use Rattle.std.specs.Prelude.{◌≡◌, ℕ, ◌<◌, [], length, slice_index_or}
+-- Rings, by what their two ends show of them.
+use Rattle.std.specs.Prelude.{◌≡◌, ◌==◌, ◌<◌, ℕ, List, [], ◌∷◌, ◌++◌, Bool, length, map, slice_index_or, slice_set}
+use mathlib.Core.List.{IsPrefix}
 use Rattle.std.specs.declared.alloc.Global.{Global}
-use Rattle.rtrb.specs.Ring.{IsPair}
+use Rattle.std.specs.declared.vec.Vec.{Vec}
+use denote.RawPtr.{Ptr}
+use Rattle.rtrb.specs.Ring.{sent, received, known_free, known_items, producer_capacity, consumer_capacity}
+use Rattle.rtrb.specs.declared.producer.Producer.{Producer}
 use Rattle.rtrb.specs.declared.consumer.Consumer.{Consumer}
 use Rattle.rtrb.specs.declared.AnyItems.{AnyItems}
+use Rattle.mv_pairs.specs.Pairs.{cell, put}
 use Rattle.mv_link.specs.declared.item.Frame.{Frame}
-use Rattle.mv_ends.specs.declared.inlets.Inlets.{Inlets}
-use Rattle.mv_ends.specs.declared.outlets.Outlets.{Outlets}
-use Rattle.mv_ends.specs.Inlets.{taken_of}
-use Rattle.mv_ends.specs.Outlets.{Outlet, put_of}
 
--- these are the two ends of each ring of the links to one party
-abbrev pub AreJoined : Outlets → Inlets Frame → Type 0
-AreJoined outlets inlets =
-    (length outlets.ends.items ≡ length inlets.ends.items)
-    × ((from : ℕ) (put : Outlet) (taken : Consumer Frame Global AnyItems) → from < length inlets.ends.items
-    → IsPair (slice_index_or outlets.ends.items from put) (slice_index_or inlets.ends.items from taken))
+-- the end of a ring that is put on, and the one that is taken from
+abbrev pub Outlet : Type 0 → Type 0
+Outlet T = Producer T Global AnyItems
 
--- nothing was put on any of the rings
-abbrev pub IsUnused : Outlets → Type 0
-IsUnused outlets = (from : ℕ) (absent : Outlet) → from < length outlets.ends.items → put_of outlets from absent ≡ []
+abbrev pub Inlet : Type 0 → Type 0
+Inlet T = Consumer T Global AnyItems
 
--- nothing was taken from any of the rings
-abbrev pub IsUntaken : {T : Type 0} → Inlets T → Type 0
-IsUntaken {T = T} inlets = (from : ℕ) (absent : Consumer T Global AnyItems) → from < length inlets.ends.items → taken_of inlets from absent ≡ []
+-- A ring, as both of its ends name it, and how much it holds.
+pub record Ring : Type 0 where
+  pub words : Ptr
+  pub slots : Ptr
+  pub names : ℕ × (ℕ × ℕ)
+  pub heap : Global
+  pub size : ℕ
+
+-- the ring that is put on by an end, and the one that is taken from
+abbrev pub ring_put : {T : Type 0} → Outlet T → Ring
+ring_put end = record { words = end.end.words; slots = end.end.slots; names = end.end.names; heap = end.end.heap; size = producer_capacity end }
+
+abbrev pub ring_taken : {T : Type 0} → Inlet T → Ring
+ring_taken end = record { words = end.end.words; slots = end.end.slots; names = end.end.names; heap = end.end.heap; size = consumer_capacity end }
+
+-- the ring was full when it was last looked at
+abbrev pub is_full : {T : Type 0} → Outlet T → Bool
+is_full end = known_free end == 0
+
+-- What is seen of ends of rings that are taken from, by the party that puts there: what was taken of each ring, and what waits on it as
+-- far as it is known.
+pub record Inflow (T : Type 0) : Type 0 where
+  pub rings : List Ring
+  pub taken : List (List T)
+  pub known : List (List T)
+
+abbrev pub inflow_of : {T : Type 0} → List (Inlet T) → Inflow T
+inflow_of ends = record { rings = map ring_taken ends; taken = map received ends; known = map known_items ends }
+
+-- What is seen of the hub's ends of the links, by the party to which and then the one from which: what was put on each ring, and how much
+-- room it is known to have.
+pub record WireTable : Type 0 where
+  pub rings : List (List Ring)
+  pub put : List (List (List Frame))
+  pub free : List (List ℕ)
+
+-- what all ends show of something, row by row
+abbrev pub each_row : {A : Type 0} → (Outlet Frame → A) → List (Vec (Outlet Frame) Global) → List (List A)
+each_row f rows = map (λ (row : Vec (Outlet Frame) Global). map f row.items) rows
+
+abbrev pub table_of : List (Vec (Outlet Frame) Global) → WireTable
+table_of rows = record { rings = each_row ring_put rows; put = each_row sent rows; free = each_row known_free rows }
+
+-- the lists with one more item at the end of one
+abbrev pub with_item : {A : Type 0} → List (List A) → ℕ → A → List (List A)
+with_item lists place item = slice_set lists place (slice_index_or lists place [] ++ item ∷ [])
+
+module _ {T : Type 0} where
+  -- something is seen on the ring from a party
+  abbrev pub HasFront : Inflow T → ℕ → Type 0
+  HasFront inlets from = 0 < length (slice_index_or inlets.known from [])
+
+  -- the ring from a party was empty when it was last looked at
+  abbrev pub IsEmptyFrom : Inflow T → ℕ → Type 0
+  IsEmptyFrom inlets from = (absent : List T) → length (slice_index_or inlets.known from absent) ≡ 0
+
+  -- this is at the front of the ring from a party
+  abbrev pub IsFront : Inflow T → ℕ → T → Type 0
+  IsFront inlets from front = IsPrefix (front ∷ []) (slice_index_or inlets.known from [])
+
+-- the ring of a link is known to have room
+abbrev pub HasRoomOn : WireTable → ℕ → ℕ → Type 0
+HasRoomOn wires from to = 0 < cell wires.free to from 0
+
+-- the ring of a link was full when it was last looked at
+abbrev pub IsFullOn : WireTable → ℕ → ℕ → Type 0
+IsFullOn wires from to = (absent : ℕ) → cell wires.free to from absent ≡ 0
+
+-- the wires with one more frame put on the ring of a link
+abbrev pub with_frame : List (List (List Frame)) → ℕ → ℕ → Frame → List (List (List Frame))
+with_frame wires from to frame = put wires to from (cell wires to from [] ++ frame ∷ [])
+
+-- there is a link for each ordered pair of so many parties
+abbrev pub IsFor : {A : Type 0} → ℕ → List (List A) → Type 0
+IsFor count table = (length table ≡ count) × ((to : ℕ) → to < count → length (slice_index_or table to []) ≡ count)
+
+-- nothing was put on any ring, or taken from it
+abbrev pub AreEmpty : {A : Type 0} → List (List A) → Type 0
+AreEmpty lists = (from : ℕ) → slice_index_or lists from [] ≡ []

@@ -1,7 +1,7 @@
--- What the hub's end keeps of its rings, beside the hub.
+-- What the ends keep of their rings, beside the hub and the party.
 use Rattle.std.specs.Prelude.{◌≡◌, ℕ, ◌+◌, ◌<◌, ◌≤◌, true, List, [], length, take, slice_index_or}
 use Rattle.std.specs.List.{All}
-use Rattle.mv_link.specs.Frames.{IsFrameOf}
+use Rattle.mv_link.specs.Frames.{IsFrameOf, accepted}
 use Rattle.std.specs.Coded.{×_prop, le_prop, Coded-set, coded_bool}
 use Rattle.std.proofs.Math.Nat.{ℕ_set}
 use Rattle.mv_hub.specs.declared.entry.Entry.{Entry}
@@ -9,35 +9,23 @@ use Rattle.mv_hub.specs.declared.entry.Entry.TheVariants.{Routed, Closed}
 use Rattle.mv_machine.specs.Lawful.{Fits, IsLawfulRecord}
 use Rattle.mv_hub.specs.Record.{routed_from, routed_count, is_open}
 use Rattle.mv_hub.specs.Hub.{HubState, items_on}
-use Rattle.mv_ends.specs.declared.outlets.Outlets.{Outlets}
-use Rattle.std.specs.declared.alloc.Global.{Global}
-use Rattle.rtrb.specs.declared.consumer.Consumer.{Consumer}
-use Rattle.rtrb.specs.declared.AnyItems.{AnyItems}
+use Rattle.mv_pairs.specs.Pairs.{cell}
 use Rattle.mv_message.specs.declared.message.Message.{Message}
-use Rattle.mv_ends.specs.declared.inlets.Inlets.{Inlets}
-use Rattle.mv_ends.specs.declared.wires.Wires.{Wires}
-use Rattle.mv_ends.specs.Inlets.{taken_of}
-use Rattle.mv_ends.specs.Outlets.{Outlet}
-use Rattle.mv_ends.specs.Wires.{wire_of}
+use Rattle.mv_link.specs.declared.item.Frame.{Frame}
+use Rattle.mv_repository.specs.declared.entry.LogEntry.{LogEntry}
+use Rattle.mv_repository.specs.Log.{items_from}
 
 -- what was taken from each uplink is what was routed from its party, in order
-abbrev pub TookAll : List Entry → Inlets Message → Type 0
-TookAll entries uplinks = (from : ℕ) (absent : Consumer Message Global AnyItems) → from < length uplinks.ends.items → taken_of uplinks from absent ≡ routed_from entries from
-
--- there is a link for each ordered pair of so many parties
-abbrev pub IsFor : ℕ → Wires → Type 0
-IsFor count wires = (length wires.outlets.items ≡ count)
-    × ((to : ℕ) (none : Outlets) → to < count → length (slice_index_or wires.outlets.items to none).ends.items ≡ count)
-
--- nothing was put on any ring
-abbrev pub AreUnused : Wires → Type 0
-AreUnused wires = (from to : ℕ) (none : Outlets) (absent : Outlet) → to < length wires.outlets.items
-    → from < length (slice_index_or wires.outlets.items to none).ends.items → wire_of wires from to none absent ≡ []
+abbrev pub TookAll : ℕ → List Entry → List (List Message) → Type 0
+TookAll count entries taken = (from : ℕ) → from < count → slice_index_or taken from [] ≡ routed_from entries from
 
 -- on the ring of each link only frames of the link were put
-abbrev pub AreOfLinks : HubState → Wires → Type 0
-AreOfLinks hub wires = (from to : ℕ) (none : Outlets) (absent : Outlet) → to < length wires.outlets.items
-    → from < length (slice_index_or wires.outlets.items to none).ends.items → All (IsFrameOf (items_on hub from to)) (wire_of wires from to none absent)
+abbrev pub AreOfLinks : HubState → List (List (List Frame)) → Type 0
+AreOfLinks hub put = (from to : ℕ) → All (IsFrameOf (items_on hub from to)) (cell put to from [])
+
+-- of the frames that were taken from each link to a party, just those were accepted that its log has from the sender
+abbrev pub AreAccepted : ℕ → List LogEntry → List (List Frame) → Type 0
+AreAccepted count log taken = (from : ℕ) → from < count → accepted (slice_index_or taken from []) ≡ items_from log from
 
 -- no more messages of any party were routed than it may submit
 abbrev pub AreWithin : ℕ → HubState → Type 0

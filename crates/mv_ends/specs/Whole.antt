@@ -1,34 +1,35 @@
 -- All ends of one opening.
-use Rattle.std.specs.Prelude.{◌≡◌, ℕ, ◌<◌, List, length, slice_index_or}
-use Rattle.std.specs.declared.alloc.Global.{Global}
-use Rattle.rtrb.specs.Ring.{producer_capacity, IsPair}
-use Rattle.rtrb.specs.declared.consumer.Consumer.{Consumer}
-use Rattle.rtrb.specs.declared.AnyItems.{AnyItems}
-use Rattle.mv_message.specs.declared.message.Message.{Message}
+use Rattle.std.specs.Prelude.{◌≡◌, ℕ, ◌<◌, List, length, map, slice_index_or}
+use Rattle.std.specs.List.{All}
 use Rattle.mv_hub.specs.Hub.{new_hub}
 use Rattle.mv_party.specs.Site.{new_site}
 use Rattle.mv_machine.specs.Limits.{Bounds}
-use Rattle.mv_ends.specs.declared.outlets.Outlets.{Outlets}
 use Rattle.mv_ends.specs.declared.hub_end.HubEnd.{HubEnd}
 use Rattle.mv_ends.specs.declared.repo_end.RepoEnd.{RepoEnd}
-use Rattle.mv_ends.specs.Outlets.{HaveSize}
-use Rattle.mv_ends.specs.Rings.{AreJoined}
+use Rattle.mv_ends.specs.Rings.{Ring}
+use Rattle.mv_ends.specs.HubEnd.{HubSeat, hub_seat}
+use Rattle.mv_ends.specs.RepoEnd.{RepoSeat, repo_seat}
 
--- the end of a repository is that of a party of this end of the hub: it holds the other ends of the hub's rings to and from the party,
--- which are of the sizes that the limits give
-pub record IsEndOf (end : HubEnd) (party : ℕ) (repo : RepoEnd) : Type 0 where
-  pub party_is : repo.site.party ≡ party
-  pub parties : repo.site.parties ≡ length end.hub.parties
-  pub limit : repo.site.limit ≡ end.limits.submissions
-  pub uplink : (absent : Consumer Message Global AnyItems) → IsPair repo.uplink (slice_index_or end.uplinks.ends.items party absent)
-  pub links : (none : Outlets) → AreJoined (slice_index_or end.wires.outlets.items party none) repo.inlets
-  pub uplink_size : producer_capacity repo.uplink ≡ end.limits.uplink
-  pub wire_sizes : (none : Outlets) → HaveSize end.limits.wire (slice_index_or end.wires.outlets.items party none)
+-- What stays of a repository's end is that of a party at this end of the hub: it holds the other ends of the hub's rings to and from the
+-- party, one to it from each, which are of the sizes that the limits give.
+pub record IsSeatOf (hub : HubSeat) (party : ℕ) (repo : RepoSeat) : Type 0 where
+  pub party_is : repo.party ≡ party
+  pub parties : repo.parties ≡ length hub.parties
+  pub limit : repo.limit ≡ hub.limits.submissions
+  pub uplink : (absent : Ring) → repo.uplink ≡ slice_index_or hub.uplinks party absent
+  pub links : (absent : List Ring) → repo.inlets ≡ slice_index_or hub.wires party absent
+  pub each_link : length repo.inlets ≡ length hub.parties
+  pub uplink_size : repo.uplink.size ≡ hub.limits.uplink
+  pub wire_sizes : All (λ (ring : Ring). ring.size ≡ hub.limits.wire) repo.inlets
+
+-- the same of the ends of all repositories, in order of party
+pub record AreSeatsOf (hub : HubSeat) (repos : List RepoSeat) : Type 0 where
+  pub each : length repos ≡ length hub.parties
+  pub ends : (party : ℕ) (absent : RepoSeat) → party < length repos → IsSeatOf hub party (slice_index_or repos party absent)
 
 -- the ends are those of one opening, the repositories in order of party
-pub record AreEnds (end : HubEnd) (repos : List RepoEnd) : Type 0 where
-  pub each : length repos ≡ length end.hub.parties
-  pub ends : (party : ℕ) (absent : RepoEnd) → party < length repos → IsEndOf end party (slice_index_or repos party absent)
+abbrev pub AreEnds : HubEnd → List RepoEnd → Type 0
+AreEnds end repos = AreSeatsOf (hub_seat end) (map repo_seat repos)
 
 -- nothing has happened yet: the hub is a new one, and so is each party
 pub record AreFresh (parties : List (List (List ℕ))) (limits : Bounds) (end : HubEnd) (repos : List RepoEnd) : Type 0 where

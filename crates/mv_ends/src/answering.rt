@@ -1,10 +1,10 @@
 //! The answer that a frame calls for: its parcel for the uplink, made before anything changes.
 
 ghost use Rattle.std.specs.Prelude.{◌≡◌, ◌<◌, ◌++◌, true, None, is_some, option_to_list, IfOk, IsFalse, OnErr};
-ghost use Rattle.rtrb.specs.Ring.{sent, known_free, SameProducer, ProducerLooked};
+ghost use Rattle.rtrb.specs.Ring.{sent, known_free};
 ghost use Rattle.mv_party.specs.Calls.{apply_fault};
 ghost use Rattle.mv_ends.specs.Answering.{answer_by, stands_to};
-ghost use Rattle.mv_ends.specs.Full.{is_full};
+ghost use Rattle.mv_ends.specs.Rings.{ring_put, is_full};
 
 use crate::parcel::Parcel;
 use mv_link::{Frame, Look};
@@ -42,7 +42,8 @@ pub(crate) fn answer_parcel(
 
 /// Whether an uplink has no room. The hub may make room at any time.
 pub(crate) fn is_full(uplink: &mut Producer<Parcel<Shared<Message>>>) -> bool
-    ensures looked { ProducerLooked uplink.old uplink.new }
+    ensures same { ring_put uplink.new ≡ ring_put uplink.old }
+    ensures nothing { sent uplink.new ≡ sent uplink.old }
     ensures value { result ≡ is_full uplink.new }
     ensures room { IsFalse result → 0 < known_free uplink.new }
 {
@@ -55,7 +56,7 @@ pub(crate) fn put_answer(
     answer: Option<Parcel<Shared<Message>>>,
 )
     requires { is_some answer ≡ true → 0 < known_free uplink.old }
-    ensures same { SameProducer uplink.old uplink.new }
+    ensures same { ring_put uplink.new ≡ ring_put uplink.old }
     ensures put { sent uplink.new ≡ sent uplink.old ++ option_to_list answer }
 {
     if let Some(parcel) = answer {

@@ -1,8 +1,9 @@
 //! The hub's end: the hub, the ends of the uplinks that it takes messages from, and those of the links that it puts frames on.
 
-ghost use Rattle.std.specs.Prelude.{◌≡◌, ◌<◌, length, Option, None, Some, IfOk, IfSome, IsTrue, false};
+ghost use Rattle.std.specs.Prelude.{◌≡◌, ◌<◌, ℕ, [], length, slice_index_or, Option, None, Some, IfOk, IfSome, IsTrue, false};
 ghost use Rattle.mv_machine.specs.Lawful.{IsLawfulRecord};
-ghost use Rattle.mv_ends.specs.Valid.{TookAll, IsFor, AreUnused, AreOfLinks, AreWithin, IsLawfulRecord-prop};
+ghost use Rattle.mv_ends.specs.Rings.{IsFor};
+ghost use Rattle.mv_ends.specs.Valid.{TookAll, AreOfLinks, AreWithin, IsLawfulRecord-prop};
 
 use crate::inlets::Inlets;
 use crate::parcel::Parcel;
@@ -30,13 +31,13 @@ pub struct HubEnd {
     /// The window of the hub is that of the limits.
     ghost window: { hub.window ≡ limits.window },
     /// There is an uplink for each party.
-    ghost each: { length uplinks.ends.items ≡ length hub.parties },
+    ghost each: { length uplinks.taken ≡ length hub.parties },
     /// There is a link for each ordered pair of parties.
-    ghost square: { IsFor (length hub.parties) wires },
+    ghost square: { IsFor (length hub.parties) wires.put },
     /// What was taken from each uplink is what was routed from its party.
-    ghost took: { TookAll hub.entries uplinks },
+    ghost took: { TookAll (length hub.parties) hub.entries uplinks.taken },
     /// What was put on the ring of each link are frames of the link.
-    ghost of_links: { AreOfLinks hub wires },
+    ghost of_links: { AreOfLinks hub wires.put },
     /// The record is lawful.
     ghost lawful: { IsLawfulRecord (length hub.parties) hub.entries } by { IsLawfulRecord-prop (length hub.parties) hub.entries },
     /// No more messages of a party were routed than it may submit.
@@ -48,12 +49,10 @@ impl HubEnd {
     ghost use Rattle.mv_hub.specs.declared.fault.HubFault.{HubFault as AFault};
     ghost use Rattle.mv_hub.specs.declared.fault.HubFault.TheVariants.{StrangerParty};
     ghost use Rattle.mv_hub.specs.Hub.{new_hub, are_parties, items_on};
-    ghost use Rattle.mv_ends.specs.Rings.{IsUntaken};
-    ghost use Rattle.mv_ends.specs.Inlets.{TakesNothing};
-    ghost use Rattle.mv_ends.specs.Wires.{HasRoomOn, PutsFrame};
-    ghost use Rattle.mv_ends.specs.HubEnd.{SameHubEnd, IsUnchanged, IsPutRefused, Routes, Relays, Repeats, Closes};
-    ghost use Rattle.mv_ends.specs.RepoEnd.{SameRepoEnd, IsRepoUnchanged};
-    ghost use Rattle.mv_ends.specs.Whole.{IsEndOf};
+    ghost use Rattle.mv_ends.specs.Rings.{AreEmpty, HasRoomOn, with_frame};
+    ghost use Rattle.mv_ends.specs.HubEnd.{hub_seat, SameHubEnd, IsUnchanged, IsPutRefused, Routes, Relays, Repeats, Closes};
+    ghost use Rattle.mv_ends.specs.RepoEnd.{repo_seat, SameRepoEnd, IsRepoUnchanged};
+    ghost use Rattle.mv_ends.specs.Whole.{IsSeatOf};
     ghost use Rattle.mv_ends.specs.Looking.{IsLawfulAt};
 
     /// The end of a hub where nothing has happened, with its ends of rings that were not used yet. Refused for want of memory.
@@ -64,10 +63,10 @@ impl HubEnd {
         uplinks: Inlets<Shared<Message>>,
         wires: Wires,
     ) -> Result<HubEnd, AllocError>
-        requires each { length uplinks.ends.items ≡ length parties }
-        requires square { IsFor (length parties) wires }
-        requires untaken { IsUntaken uplinks }
-        requires unused { AreUnused wires }
+        requires each { length uplinks.taken ≡ length parties }
+        requires square { IsFor (length parties) wires.put }
+        requires untaken { AreEmpty uplinks.taken }
+        requires unused { (to : ℕ) → AreEmpty (slice_index_or wires.put to []) }
         ensures hub { IfOk result (λ end. end.hub ≡ new_hub parties limits.window) }
         ensures limits { IfOk result (λ end. end.limits ≡ limits) }
         ensures uplinks { IfOk result (λ end. end.uplinks ≡ uplinks) }
@@ -103,7 +102,7 @@ impl HubEnd {
     /// Answers `Routed`, or the first of these refusals that holds: S1, there is no such party; S5, no message of the party
     /// is there to be routed, or as many of its messages were routed as it may submit; S6, a link has no room; S14, memory was
     /// refused. S5 may be told though a message was just put on the uplink.
-    #[tactic(auto, using(crate::proofs::EndLemmas::took_same, crate::proofs::EndLemmas::room_left))]
+    #[tactic(auto, using(crate::proofs::EndLemmas::room_left))]
     pub fn route(&mut self, from: Party) -> Reply
         ensures same { SameHubEnd self.old self.new }
         ensures reply { Routes from self.old self.new result }
@@ -191,25 +190,23 @@ impl HubEnd {
     }
 
     /// Looks at both ends of all rings of a party: the party is lawful beside the hub.
-    #[tactic(auto, using(crate::proofs::EndLemmas::of_links_same, crate::proofs::EndLemmas::took_same, crate::proofs::EndLemmas::for_same))]
     pub(crate) fn look_beside(&mut self, party: Party, repo: &mut RepoEnd)
         requires party { party < length self.old.hub.parties }
-        requires end { IsEndOf self.old party repo.old }
+        requires seat { IsSeatOf (hub_seat self.old) party (repo_seat repo.old) }
         ensures same { SameHubEnd self.old self.new }
         ensures hub { IsUnchanged self.old self.new }
         ensures repo { SameRepoEnd repo.old repo.new }
         ensures unchanged { IsRepoUnchanged repo.old repo.new }
-        ensures lawful { IsLawfulAt self.old.hub repo.old.site }
+        ensures lawful { IsLawfulAt self.old.hub party repo.old.site }
     {
         // The party is lawful: its submissions are looked at for that alone.
         let _ = repo.sub();
         let count = self.hub.parties().len();
-        repo.look_at_uplink(&mut self.uplinks);
-        self.wires.look_beside(party, count, repo);
+        self.uplinks.look_beside(party, &mut repo.uplink);
+        self.wires.look_beside(party, count, &mut repo.inlets);
     }
 
     /// Why nothing can be put on the ring of a link, whatever the hub answers: one of the parties is none, or the ring is full.
-    #[tactic(auto, using(crate::proofs::EndLemmas::of_links_same, crate::proofs::EndLemmas::for_same))]
     fn put_refusal(&mut self, from: Party, to: Party) -> Option<Refusal>
         ensures same { SameHubEnd self.old self.new }
         ensures unchanged { IsUnchanged self.old self.new }
@@ -228,15 +225,14 @@ impl HubEnd {
     }
 
     /// Puts a frame of a link on its ring, which has room.
-    #[tactic(auto, using(crate::proofs::EndLemmas::of_links_put, crate::proofs::EndLemmas::for_same))]
     fn put(&mut self, from: Party, to: Party, frame: Parcel<Frame>)
         requires parties { IsTrue (are_parties self.old.hub from to) }
         requires room { HasRoomOn self.old.wires from to }
         requires member { IsFrameOf (items_on self.old.hub from to) frame }
         ensures same { SameHubEnd self.old self.new }
         ensures hub { self.new.hub ≡ self.old.hub }
-        ensures taken { TakesNothing self.old.uplinks self.new.uplinks }
-        ensures put { PutsFrame from to frame self.old.wires self.new.wires }
+        ensures taken { self.new.uplinks.taken ≡ self.old.uplinks.taken }
+        ensures put { self.new.wires.put ≡ with_frame self.old.wires.put from to frame }
     {
         self.wires.put(from, to, frame);
     }

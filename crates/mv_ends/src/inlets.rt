@@ -2,43 +2,53 @@
 //!
 //! The hub takes messages from the uplinks, and each repository frames from the links to it.
 
-ghost use Rattle.std.specs.Prelude.{◌≡◌, ◌<◌, length};
-ghost use Rattle.std.specs.Prelude.{IsTrue, IsFalse};
+ghost use Rattle.std.specs.Prelude.{◌≡◌, ◌<◌, [], length, slice_index_or, IsTrue, IsFalse};
+ghost use mathlib.Core.List.{IsPrefix};
 
 use crate::parcel::{Parcel, front_of};
 use mv_message::Party;
 use rtrb::{Consumer, Producer};
+use std::marker::Model;
 
-/// The ends of rings of parcels that are taken from, by the party that puts there.
+/// The ends of rings of parcels that are taken from, by the party that puts there. Contracts see what they show.
 #[derive(Drop)]
 pub struct Inlets<T> {
     /// The ends, that of the ring from party 0 first.
     ends: Vec<Consumer<Parcel<T>>>,
 }
 
+impl<T> Model for Inlets<T> {
+    ghost use Rattle.mv_ends.specs.Rings.{Inflow, inflow_of};
+
+    ghost Value = { Inflow T };
+
+    ghost view = { λ inlets. inflow_of inlets.ends.items };
+}
+
 impl<T: Drop> Inlets<T> {
-    ghost use Rattle.rtrb.specs.Ring.{sent, SameProducer};
-    ghost use Rattle.mv_ends.specs.Inlets.{SameInlets, TakesNothing, Takes, HasFront, IsEmptyFrom, IsFront, IsPairAt, IsFrontOf};
+    ghost use Rattle.rtrb.specs.Ring.{sent};
+    ghost use Rattle.mv_ends.specs.Rings.{ring_put, inflow_of, with_item, HasFront, IsEmptyFrom, IsFront};
 
     /// The ends of these rings.
     pub(crate) fn new(ends: Vec<Consumer<Parcel<T>>>) -> Inlets<T>
-        ensures { result.ends.items ≡ ends.items }
+        ensures { result ≡ inflow_of ends.items }
     {
         Inlets { ends }
     }
 
     /// How many rings there are.
     pub(crate) fn len(&self) -> usize
-        ensures { result ≡ length self.now.ends.items }
+        ensures { result ≡ length self.now.taken }
     {
         self.ends.len()
     }
 
     /// Whether nothing is seen on the ring from a party. The party may put something there at any time.
+    #[tactic(auto, using(crate::proofs::RingLemmas::has_place, crate::proofs::RingLemmas::shows_same, crate::proofs::RingLemmas::shown_after))]
     pub(crate) fn is_empty(&mut self, from: Party) -> bool
-        requires { from < length self.old.ends.items }
-        ensures same { SameInlets self.old self.new }
-        ensures nothing { TakesNothing self.old self.new }
+        requires { from < length self.old.taken }
+        ensures same { self.new.rings ≡ self.old.rings }
+        ensures nothing { self.new.taken ≡ self.old.taken }
         ensures front { IsFalse result → HasFront self.new from }
         ensures empty { IsTrue result → IsEmptyFrom self.new from }
     {
@@ -47,7 +57,7 @@ impl<T: Drop> Inlets<T> {
 
     /// What is in the parcel at the front of the ring from a party.
     pub(crate) fn front(&self, from: Party) -> &T
-        requires from { from < length self.now.ends.items }
+        requires from { from < length self.now.taken }
         requires some { HasFront self.now from }
         ensures { IsFront self.now from result.now }
     {
@@ -55,25 +65,27 @@ impl<T: Drop> Inlets<T> {
     }
 
     /// Takes the parcel at the front of the ring from a party, and opens it.
+    #[tactic(auto, using(crate::proofs::RingLemmas::has_place, crate::proofs::RingLemmas::shows_same, crate::proofs::RingLemmas::shows_more))]
     pub(crate) fn take(&mut self, from: Party) -> T
-        requires from { from < length self.old.ends.items }
+        requires from { from < length self.old.taken }
         requires some { HasFront self.old from }
-        ensures same { SameInlets self.old self.new }
-        ensures takes { Takes from result self.old self.new }
+        ensures same { self.new.rings ≡ self.old.rings }
+        ensures takes { self.new.taken ≡ with_item self.old.taken from result }
         ensures front { (front : T) → IsFront self.old from front → result ≡ front }
     {
         self.ends[from as usize].pop_known().open()
     }
 
     /// Looks at both ends of the ring from a party: what was taken is a front of what was put.
+    #[tactic(auto, using(crate::proofs::RingLemmas::has_place, crate::proofs::RingLemmas::shows_same, crate::proofs::RingLemmas::put_stays))]
     pub(crate) fn look_beside(&mut self, from: Party, producer: &mut Producer<Parcel<T>>)
-        requires from { from < length self.old.ends.items }
-        requires pair { IsPairAt from producer.old self.old }
-        ensures same { SameInlets self.old self.new }
-        ensures nothing { TakesNothing self.old self.new }
-        ensures producer { SameProducer producer.old producer.new }
+        requires from { from < length self.old.taken }
+        requires pair { ring_put producer.old ≡ slice_index_or self.old.rings from (ring_put producer.old) }
+        ensures same { self.new.rings ≡ self.old.rings }
+        ensures nothing { self.new.taken ≡ self.old.taken }
+        ensures producer { ring_put producer.new ≡ ring_put producer.old }
         ensures put { sent producer.new ≡ sent producer.old }
-        ensures front { IsFrontOf from self.old (sent producer.old) }
+        ensures front { IsPrefix (slice_index_or self.old.taken from []) (sent producer.old) }
     {
         self.ends[from as usize].slots_beside(producer);
     }

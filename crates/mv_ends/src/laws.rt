@@ -10,21 +10,19 @@ pub fn ends_stay_ends()
 {}
 
 /// The hub's end is the same over no call, and over calls that follow one another.
-#[tactic(auto, using(crate::proofs::LookLemmas::hub_itself, crate::proofs::LookLemmas::hub_further))]
 pub fn hub_end_stays()
     ensures itself { IsSameItself SameHubEnd }
     ensures further { IsSameFurther SameHubEnd }
 {}
 
 /// A repository's end is the same over no call, and over calls that follow one another.
-#[tactic(auto, using(crate::proofs::LookLemmas::repo_itself, crate::proofs::LookLemmas::repo_further))]
 pub fn repo_end_stays()
     ensures itself { IsSameItself SameRepoEnd }
     ensures further { IsSameFurther SameRepoEnd }
 {}
 
 /// The ends of all repositories are the same over no call, over calls of one of them after another, and over what follows these.
-#[tactic(auto, using(crate::proofs::LookLemmas::repos_itself, crate::proofs::LookLemmas::repos_further, crate::proofs::LookLemmas::same_by_one))]
+#[tactic(auto, using(crate::proofs::CallerLemmas::same_by_one))]
 pub fn repo_ends_stay()
     ensures itself { IsSameItself AreSameRepos }
     ensures further { IsSameFurther AreSameRepos }

@@ -3,7 +3,7 @@
 
 ghost use Rattle.std.specs.Prelude.{◌≡◌, [], length, IfOk, IfErr};
 ghost use Rattle.rtrb.specs.Ring.{sent};
-ghost use Rattle.mv_ends.specs.Accepted.{AreAccepted};
+ghost use Rattle.mv_ends.specs.Valid.{AreAccepted};
 ghost use Rattle.mv_repository.specs.Verdict.{joint_verdict};
 ghost use Rattle.mv_machine.specs.Replies.{refusal_of};
 ghost use Rattle.mv_party.specs.Site.{IsLawfulParty, new_site};
@@ -20,8 +20,6 @@ use mv_repository::{Local, LogEntry, Repository};
 use rtrb::Producer;
 use std::alloc::{AllocError, Global};
 
-mod looking;
-
 /// A repository's end of all its rings, with its party.
 #[derive(Drop)]
 pub struct RepoEnd {
@@ -30,15 +28,15 @@ pub struct RepoEnd {
     /// The party: its submissions and its repository.
     site: Site,
     /// The end of the party's uplink.
-    uplink: Producer<Parcel<Shared<Message>>>,
+    pub(crate) uplink: Producer<Parcel<Shared<Message>>>,
     /// The ends of the links to the party.
-    inlets: Inlets<Frame>,
+    pub(crate) inlets: Inlets<Frame>,
     /// What was put on the uplink is what the party submitted.
     ghost pushed: { sent uplink ≡ site.submissions },
     /// There is a link from each party.
-    ghost each: { length inlets.ends.items ≡ site.parties },
+    ghost each: { length inlets.taken ≡ site.parties },
     /// Of the frames that were taken from each link, just those were accepted that the log has from its sender.
-    ghost accepted: { AreAccepted site.log inlets },
+    ghost accepted: { AreAccepted site.parties site.log inlets.taken },
 }
 
 /// A message that was not submitted, handed back, and why.
@@ -63,7 +61,7 @@ impl Unsubmitted {
 }
 
 impl RepoEnd {
-    ghost use Rattle.mv_ends.specs.Rings.{IsUntaken};
+    ghost use Rattle.mv_ends.specs.Rings.{AreEmpty};
     ghost use Rattle.mv_ends.specs.RepoEnd.{SameRepoEnd, Submits, Asks, Verifies, Applies};
 
     /// The end of a party that did nothing yet, one of so many, with its ends of rings that were not used yet. Refused for want of
@@ -77,8 +75,8 @@ impl RepoEnd {
         inlets: Inlets<Frame>,
     ) -> Result<RepoEnd, AllocError>
         requires pushed { sent uplink ≡ [] }
-        requires each { length inlets.ends.items ≡ count }
-        requires untaken { IsUntaken inlets }
+        requires each { length inlets.taken ≡ count }
+        requires untaken { AreEmpty inlets.taken }
         ensures site { IfOk result (λ end. end.site ≡ new_site party count limits.submissions) }
         ensures uplink { IfOk result (λ end. end.uplink ≡ uplink) }
         ensures inlets { IfOk result (λ end. end.inlets ≡ inlets) }

@@ -1,73 +1,97 @@
 //! The hub's ends of all links: a ring for each ordered pair of parties.
 
-ghost use Rattle.std.specs.Prelude.{◌≡◌, ◌<◌, ℕ, List, length, slice_index_or, All, IsTrue, IsFalse};
+ghost use Rattle.std.specs.Prelude.{◌≡◌, ◌<◌, ℕ, [], length, slice_index_or, IsTrue, IsFalse};
 ghost use mathlib.Core.List.{IsPrefix};
-ghost use Rattle.mv_link.specs.Frames.{IsFrameOf};
-ghost use Rattle.mv_link.specs.declared.item.Item.{Item as AnItem};
-ghost use Rattle.mv_repository.specs.Log.{items_from};
+ghost use Rattle.mv_pairs.specs.Pairs.{cell};
 
-use crate::outlets::Outlets;
+use crate::inlets::Inlets;
 use crate::parcel::Parcel;
-use crate::repo_end::RepoEnd;
 use mv_link::Frame;
 use mv_message::Party;
+use rtrb::Producer;
+use std::marker::Model;
 
-/// The hub's ends of all links, by the party that they go to.
+/// The hub's ends of all links, by the party that they go to and the one that they come from. Contracts see what they show.
 #[derive(Drop)]
 pub struct Wires {
-    /// The ends of the links to each party, party 0 first.
-    outlets: Vec<Outlets>,
+    /// The ends of the links to each party, party 0 first, that of the link from party 0 first.
+    rows: Vec<Vec<Producer<Parcel<Frame>>>>,
+}
+
+impl Model for Wires {
+    ghost use Rattle.mv_ends.specs.Rings.{WireTable, table_of};
+
+    ghost Value = { WireTable };
+
+    ghost view = { λ wires. table_of wires.rows.items };
 }
 
 impl Wires {
-    ghost use Rattle.mv_ends.specs.declared.outlets.Outlets.{Outlets as AnOutlets};
-    ghost use Rattle.mv_ends.specs.Outlets.{Outlet};
-    ghost use Rattle.mv_ends.specs.Rings.{AreJoined};
-    ghost use Rattle.mv_ends.specs.RepoEnd.{SameRepoEnd, IsRepoUnchanged};
-    ghost use Rattle.mv_ends.specs.Wires.{wire_of, AreBetween, HasRoomOn, IsFullOn, SameWires, PutsNoFrame, PutsFrame};
+    ghost use Rattle.mv_ends.specs.Rings.{table_of, with_frame, HasRoomOn, IsFullOn};
 
     /// The ends of these links.
-    pub(crate) fn new(outlets: Vec<Outlets>) -> Wires
-        ensures { result.outlets.items ≡ outlets.items }
+    pub(crate) fn new(rows: Vec<Vec<Producer<Parcel<Frame>>>>) -> Wires
+        ensures { result ≡ table_of rows.items }
     {
-        Wires { outlets }
+        Wires { rows }
     }
 
     /// Whether the ring of a link has no room. The repository may make room at any time.
+    #[tactic(auto, using(crate::proofs::RingLemmas::cell_same, crate::proofs::RingLemmas::cell_after, crate::proofs::RingLemmas::put_stays))]
     pub(crate) fn is_full(&mut self, from: Party, to: Party) -> bool
-        requires { AreBetween self.old from to }
-        ensures same { SameWires self.old self.new }
-        ensures nothing { PutsNoFrame self.old self.new }
+        requires to { to < length self.old.put }
+        requires from { from < length (slice_index_or self.old.put to []) }
+        ensures same { self.new.rings ≡ self.old.rings }
+        ensures nothing { self.new.put ≡ self.old.put }
         ensures room { IsFalse result → HasRoomOn self.new from to }
         ensures full { IsTrue result → IsFullOn self.new from to }
     {
-        self.outlets[to as usize].is_full(from)
+        self.rows[to as usize][from as usize].is_full()
     }
 
     /// Puts a frame on the ring of a link.
+    #[tactic(auto, using(crate::proofs::RingLemmas::cell_same, crate::proofs::RingLemmas::cell_more, crate::proofs::RingLemmas::put_stays))]
     pub(crate) fn put(&mut self, from: Party, to: Party, parcel: Parcel<Frame>)
-        requires ends { AreBetween self.old from to }
+        requires to { to < length self.old.put }
+        requires from { from < length (slice_index_or self.old.put to []) }
         requires room { HasRoomOn self.old from to }
-        ensures same { SameWires self.old self.new }
-        ensures puts { PutsFrame from to parcel self.old self.new }
+        ensures same { self.new.rings ≡ self.old.rings }
+        ensures puts { self.new.put ≡ with_frame self.old.put from to parcel }
     {
-        self.outlets[to as usize].put(from, parcel);
+        self.rows[to as usize][from as usize].push_reserved(parcel);
     }
 
-    /// Looks at both ends of all rings of the links to a party, from so many: what its repository applied from each is a front of
-    /// each list whose frames were put there.
-    pub(crate) fn look_beside(&mut self, to: Party, count: u32, repo: &mut RepoEnd)
-        requires to { to < length self.old.outlets.items }
-        requires count { count ≡ length repo.old.inlets.ends.items }
-        requires joined { (none : AnOutlets) → AreJoined (slice_index_or self.old.outlets.items to none) repo.old.inlets }
-        ensures same { SameWires self.old self.new }
-        ensures nothing { PutsNoFrame self.old self.new }
-        ensures repo { SameRepoEnd repo.old repo.new }
-        ensures unchanged { IsRepoUnchanged repo.old repo.new }
-        ensures applied { (from : ℕ) (items : List AnItem) → from < count
-            → ((none : AnOutlets) (absent : Outlet) → All (IsFrameOf items) (wire_of self.old from to none absent))
-            → IsPrefix (items_from repo.old.site.log from) items }
+    /// Looks at both ends of the ring of a link: what its receiver took is a front of what was put there.
+    #[tactic(auto, using(crate::proofs::RingLemmas::cell_same, crate::proofs::RingLemmas::cell_shown))]
+    fn look_at(&mut self, from: Party, to: Party, inlets: &mut Inlets<Frame>)
+        requires to { to < length self.old.put }
+        requires from { from < length inlets.old.taken }
+        requires wide { from < length (slice_index_or self.old.put to []) }
+        requires pairs { slice_index_or self.old.rings to [] ≡ inlets.old.rings }
+        ensures same { self.new.rings ≡ self.old.rings }
+        ensures nothing { self.new.put ≡ self.old.put }
+        ensures inlets { inlets.new.rings ≡ inlets.old.rings }
+        ensures taken { inlets.new.taken ≡ inlets.old.taken }
+        ensures front { IsPrefix (slice_index_or inlets.old.taken from []) (cell self.old.put to from []) }
     {
-        repo.look_at_links(count, &mut self.outlets[to as usize]);
+        inlets.look_beside(from, &mut self.rows[to as usize][from as usize]);
+    }
+
+    /// The same of the links to a party from all, so many: what it took from each is a front of what was put there.
+    pub(crate) fn look_beside(&mut self, to: Party, count: u32, inlets: &mut Inlets<Frame>)
+        requires to { to < length self.old.put }
+        requires count { count ≡ length inlets.old.taken }
+        requires wide { count ≡ length (slice_index_or self.old.put to []) }
+        requires pairs { slice_index_or self.old.rings to [] ≡ inlets.old.rings }
+        ensures same { self.new.rings ≡ self.old.rings }
+        ensures nothing { self.new.put ≡ self.old.put }
+        ensures inlets { inlets.new.rings ≡ inlets.old.rings }
+        ensures taken { inlets.new.taken ≡ inlets.old.taken }
+        ensures front { (from : ℕ) → from < length inlets.old.taken
+            → IsPrefix (slice_index_or inlets.old.taken from []) (cell self.old.put to from []) }
+    {
+        for from in 0..count {
+            self.look_at(from, to, inlets);
+        }
     }
 }

@@ -1,5 +1,7 @@
 -- Lengths decide what is carried out.
-use Rattle.std.proofs.Common.{◌≡◌, ◌<◌, ◌+◌, ℕ, Bool, true, false, List, [], ◌∷◌, ◌++◌, length, cond, eqb, sym, refl, ap, ◌∙◌, arith, append-nil, length-append}
+use Rattle.std.proofs.lemmas.Grind.{common_steps}
+use Rattle.std.proofs.lemmas.Bool.Decides.{nat_tests}
+use Rattle.std.proofs.Common.{◌≡◌, ◌<◌, ◌+◌, ℕ, Bool, List, ◌∷◌, length, cond, eqb, sym, refl, ◌∙◌, arith, append-nil, length-append}
 use Rattle.std.specs.List.{count_by}
 use Rattle.std.proofs.lemmas.List.Recursion.{is_count_by}
 use mathlib.Core.List.{IsPrefix}
@@ -13,11 +15,7 @@ use Rattle.mv_machine.specs.Lawful.{IsLawful}
 
 -- a front that is as long as the whole is the whole
 pub front-whole : {A : Type 0} (front whole : List A) → IsPrefix front whole → length front ≡ length whole → front ≡ whole
-front-whole {A = A} front whole prefix same = by prefix.0 (omega (arith, same, length-append front prefix.0, ap length prefix.1)) prefix.1
-  where
-    by : (rest : List A) → length rest ≡ 0 → front ++ rest ≡ whole → front ≡ whole
-    by [] none e = sym (append-nil front) ∙ e
-    by (x ∷ rest) none e = absurd (omega (arith, none))
+front-whole {A = A} front whole prefix same = grind (arith, nat_tests, common_steps, append-nil, length-append)
 
 -- where as many messages of a party were routed as it submitted, all were
 pub routed_by_count : (outcome : State) (party count : ℕ) → IsLawful outcome → party < length outcome.parties → count ≡ length (routed_from outcome.entries party)
@@ -39,5 +37,4 @@ from_counted party = is_count_by (λ log. length (items_from log party)) (λ ent
     (λ entry log. by (eqb entry.sender party) entry.item (items_from log party))
   where
     by : (own : Bool) (item : Item) (rest : List Item) → length (cond own (item ∷ rest) rest) ≡ cond own (1 + length rest) (length rest)
-    by true item rest = omega arith
-    by false item rest = refl
+    by own item rest = grind (arith, nat_tests)

@@ -1,5 +1,5 @@
 -- What the ends of a run are behind their turns.
-use Rattle.std.specs.Prelude.{◌≡◌, ◌↔◌, ◌<◌, ℕ, Bool, IsTrue, List, length, map, slice_index_or}
+use Rattle.std.specs.Prelude.{◌≡◌, ◌↔◌, ◌<◌, ℕ, Bool, IsTrue, List, [], length, map, slice_index_or, ◌≤◌, vec_len, vec_capacity}
 use Rattle.std.specs.List.{AllZip, list_all}
 use Rattle.std.specs.declared.thread.PromisedHandle.{PromisedHandle}
 use Rattle.mv_message.specs.declared.message.Message.{Message}
@@ -7,6 +7,7 @@ use Rattle.mv_ends.specs.declared.repo_end.RepoEnd.{RepoEnd}
 use Rattle.mv_ends.specs.RepoEnd.{SameRepoEnd}
 use Rattle.mv_workers.specs.declared.crew.RepoBack.{RepoBack}
 use Rattle.mv_workers.specs.declared.crew.RepoPromise.{RepoPromise}
+use Rattle.mv_workers.specs.declared.crew.Room.{Room}
 use Rattle.mv_workers.specs.Work.{Begins}
 use Rattle.mv_workers.specs.Turns.{own_of, IsUnused, IsBegun}
 
@@ -28,9 +29,7 @@ AllUnused repos = (party : ℕ) (absent : RepoEnd) → party < length repos → 
 
 -- what each end submitted of its own is where its party's list begins, and it is told whether that is all of each list
 abbrev pub AreBegun : List (List Message) → List RepoEnd → Bool → Type 0
-AreBegun work repos all =
-    AllZip (λ list repo. Begins (own_of repo) list) work repos
-    × (IsTrue all ↔ AllZip (λ list repo. own_of repo ≡ list) work repos)
+AreBegun work repos all = AllZip Begins (map own_of repos) work × (IsTrue all ↔ (map own_of repos ≡ work))
 
 -- a handle promises an end, at which a list was begun
 abbrev pub IsPromised : RepoEnd → List Message → Handle → Type 0
@@ -48,3 +47,10 @@ KeepsPromise handle back = SameRepoEnd (end_of handle) back.end × IsBegun (own_
 abbrev pub AllKept : List Handle → List RepoEnd → Bool → Type 0
 AllKept handles repos all = (backs : List RepoBack) × AllZip KeepsPromise handles backs × (repos ≡ map (λ (back : RepoBack). back.end) backs)
     × (all ≡ list_all (λ (back : RepoBack). back.all) backs)
+
+-- there is room for the handles and the ends of so many repositories, and nothing is there yet
+pub record IsRoomFor (count : ℕ) (room : Room) : Type 0 where
+  pub no_handles : room.handles.items ≡ []
+  pub no_repos : vec_len room.repos ≡ 0
+  pub for_handles : count ≤ vec_capacity room.handles
+  pub for_repos : count ≤ vec_capacity room.repos

@@ -1,18 +1,18 @@
 //! Starts a worker for each end, and takes the ends back.
 
-ghost use Rattle.std.specs.Prelude.{◌≡◌, ◌≤◌, [], vec_len, vec_capacity, IfSome};
+ghost use Rattle.std.specs.Prelude.{◌≡◌, ◌≤◌, [], vec_len, vec_capacity, IfOk, IfSome};
 ghost use Rattle.mv_ends.specs.HubEnd.{SameHubEnd};
 ghost use Rattle.mv_ends.specs.RepoEnd.{SameRepoEnd};
 ghost use Rattle.mv_ends.specs.Laws.{AreSameRepos};
 ghost use Rattle.mv_workers.specs.Turns.{own_of, IsUnused, IsBegun};
-ghost use Rattle.mv_workers.specs.Crews.{AllUnused, AreBegun, IsPromised, AllPromised, AllKept};
+ghost use Rattle.mv_workers.specs.Crews.{AllUnused, AreBegun, IsPromised, AllPromised, AllKept, IsRoomFor};
 
 use crate::agenda::Agenda;
 use crate::course::Course;
 use crate::gate::Gate;
 use crate::turns::{hub_turns, repo_turns};
 use mv_ends::{HubEnd, RepoEnd};
-use std::alloc::Global;
+use std::alloc::{AllocError, Global};
 use std::marker::Sync;
 use std::snapshot::Snapshot;
 use std::sync::Wait;
@@ -65,6 +65,27 @@ pub(crate) struct Shift<'s, R, G> {
     pub gate: &'s G,
     /// What they share.
     pub course: &'s Course,
+}
+
+/// Room for what the workers of a run need, got before the first of them starts.
+#[derive(Drop)]
+pub(crate) struct Room {
+    /// The handles of the repositories' workers.
+    handles: Vec<RepoHandle>,
+    /// The repositories' ends, as they come back.
+    repos: Vec<RepoEnd>,
+}
+
+impl Room {
+    /// Room for so many repositories. Refused for want of memory.
+    pub(crate) fn of(alloc: Global, count: u32) -> Result<Room, AllocError>
+        ensures { IfOk result (λ room. IsRoomFor count room) }
+    {
+        Ok(Room {
+            handles: Vec::with_capacity(alloc, count as usize)?,
+            repos: Vec::with_capacity(alloc, count as usize)?,
+        })
+    }
 }
 
 /// The ends behind the turns of all workers, and how these ended.
@@ -206,29 +227,26 @@ fn join_crew<R: Threads>(
 }
 
 /// Runs a worker for the hub and one for each repository. None where one can't be started: the others end before their first
-/// turn. All room is got before the first starts.
+/// turn.
 pub(crate) fn work_in<'s, E, R: Threads + Wait + Sync, G: Gate>(
     scope: &Scope<'s, E>,
     shift: &Shift<'s, R, G>,
-    alloc: Global,
     ends: (HubEnd, Vec<RepoEnd>),
     agendas: Vec<Agenda>,
+    room: Room,
 ) -> Option<CrewEnds>
     requires each { vec_len ends.1 ≡ vec_len agendas }
     requires unused { AllUnused ends.1.items }
+    requires room { IsRoomFor (vec_len ends.1) room }
     ensures { IfSome result (λ back. SameHubEnd ends.0 back.hub
         × AreSameRepos ends.1.items back.repos.items
         × AreBegun agendas.items back.repos.items back.all) }
 {
-    let count = ends.1.len();
-    let (mut back, mut into) = (Vec::new(alloc), Vec::new(alloc));
-    if back.reserve(count).is_err() || into.reserve(count).is_err() {
-        return None;
-    }
-    let Some((first, handles)) = start_crew(scope, shift, ends, agendas, into) else {
+    let Room { handles, repos } = room;
+    let Some((first, handles)) = start_crew(scope, shift, ends, agendas, handles) else {
         shift.course.start.end(shift.rt);
         return None;
     };
     shift.course.start.go(shift.rt);
-    Some(join_crew(shift.rt, first, handles, back))
+    Some(join_crew(shift.rt, first, handles, repos))
 }

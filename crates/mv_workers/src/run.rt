@@ -3,19 +3,21 @@
 ghost use Rattle.std.specs.Prelude.{◌≡◌, ◌↔◌, ◌<◌, ℕ, [], length, vec_len, IfOk, IfErr, IfSome, IsTrue, IsFalse};
 ghost use Rattle.mv_ends.specs.HubEnd.{SameHubEnd};
 ghost use Rattle.mv_ends.specs.Laws.{AreSameRepos};
+ghost use Rattle.mv_ends.specs.Whole.{AreEnds, AreFresh};
 ghost use Rattle.mv_party.specs.Site.{answers_in};
 ghost use Rattle.mv_workers.specs.Work.{list_at};
-ghost use Rattle.mv_workers.specs.Crews.{AllUnused, AreBegun};
+ghost use Rattle.mv_workers.specs.Crews.{AllUnused, AreBegun, IsRoomFor};
 ghost use Rattle.mv_workers.specs.Plans.{IsSound, KeepsPlan, IsComplete, Faults, Leaves};
 
+use crate::agenda::Agenda;
 use crate::complete::is_carried;
 use crate::course::Course;
-use crate::crew::{CrewEnds, Shift, work_in};
+use crate::crew::{CrewEnds, Room, Shift, work_in};
 use crate::gate::Gate;
 use crate::plan::{Plan, WorkFault};
 use crate::work::{Work, own_count};
-use mv_ends::{Outcome, ends_stay_ends, gather, open};
-use std::alloc::Global;
+use mv_ends::{HubEnd, Outcome, RepoEnd, ends_stay_ends, gather, open};
+use std::alloc::{AllocError, Global};
 use std::marker::Sync;
 use std::sync::Wait;
 use std::thread;
@@ -63,26 +65,21 @@ pub fn run_workers<R: Threads + Wait + Sync, G: Gate>(
     if !is_sound(&plan) {
         return Err(WorkFault::Plan);
     }
-    let Plan {
-        parties,
-        limits,
-        work,
-    } = plan;
-    let Ok(agendas) = work.into_agendas(alloc) else {
+    let Ok(ready) = made_ready(alloc, plan, turns) else {
         return Err(WorkFault::Start);
     };
-    let Ok(course) = Course::new(alloc, parties.len(), turns) else {
-        return Err(WorkFault::Start);
-    };
-    let Ok(ends) = open(alloc, parties, limits) else {
-        return Err(WorkFault::Start);
-    };
+    let Ready {
+        course,
+        room,
+        agendas,
+        ends,
+    } = ready;
     let shared = &course;
     let back = thread::scope(
         thread::scope_env(),
         rt,
         |scope| -> Option<CrewEnds>
-            requires { (vec_len ends.1 ≡ vec_len agendas) × AllUnused ends.1.items }
+            requires { (vec_len ends.1 ≡ vec_len agendas) × AllUnused ends.1.items × IsRoomFor (vec_len ends.1) room }
             ensures { IfSome result (λ back. SameHubEnd ends.0 back.hub
                 × AreSameRepos ends.1.items back.repos.items
                 × AreBegun agendas.items back.repos.items back.all) }
@@ -92,7 +89,7 @@ pub fn run_workers<R: Threads + Wait + Sync, G: Gate>(
                 gate,
                 course: shared,
             };
-            work_in(scope, &shift, alloc, ends, agendas)
+            work_in(scope, &shift, ends, agendas, room)
         },
     );
     let Some(
@@ -110,6 +107,43 @@ pub fn run_workers<R: Threads + Wait + Sync, G: Gate>(
     let outcome = gather(hub, repos);
     let complete = all & is_carried(&outcome);
     judged(outcome, complete, short)
+}
+
+/// What a run needs before its workers start.
+#[derive(Drop)]
+struct Ready {
+    /// What the workers share.
+    course: Course,
+    /// Room for their handles and ends.
+    room: Room,
+    /// What each party is to submit.
+    agendas: Vec<Agenda>,
+    /// The ends of the parties of the plan, where nothing has happened.
+    ends: (HubEnd, Vec<RepoEnd>),
+}
+
+/// Gets all that a run by a plan needs. Refused for want of memory.
+fn made_ready(alloc: Global, plan: Plan, turns: u32) -> Result<Ready, AllocError>
+    ensures agendas { IfOk result (λ ready. ready.agendas.items ≡ plan.work) }
+    ensures room { IfOk result (λ ready. IsRoomFor (length plan.parties) ready.room) }
+    ensures ends { IfOk result (λ ready. AreEnds ready.ends.0 ready.ends.1.items) }
+    ensures fresh { IfOk result (λ ready. AreFresh plan.parties plan.limits ready.ends.0 ready.ends.1.items) }
+{
+    let Plan {
+        parties,
+        limits,
+        work,
+    } = plan;
+    let course = Course::new(alloc, parties.len(), turns)?;
+    let room = Room::of(alloc, parties.len())?;
+    let agendas = work.into_agendas(alloc)?;
+    let ends = open(alloc, parties, limits)?;
+    Ok(Ready {
+        course,
+        room,
+        agendas,
+        ends,
+    })
 }
 
 /// What a run came to, by whether its outcome is complete, and whether memory was refused to a worker.

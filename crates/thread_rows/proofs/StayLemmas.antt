@@ -7,11 +7,11 @@ use Rattle.mv_ends.specs.declared.repo_end.RepoEnd.{RepoEnd}
 use Rattle.mv_ends.specs.HubEnd.{SameHubEnd}
 use Rattle.mv_ends.specs.RepoEnd.{SameRepoEnd}
 use Rattle.mv_ends.specs.Whole.{AreEnds}
-use Rattle.mv_ends.proofs.LookLemmas.{ends_kept, same_but_one, repo_itself, hub_itself}
+use Rattle.mv_ends.proofs.CallerLemmas.{ends_kept, same_but_one}
 
 -- the hub's end was called
 pub stay_with_hub : (old new : HubEnd) (repos : List RepoEnd) → AreEnds old repos → SameHubEnd old new → AreEnds new repos
-stay_with_hub old new repos ends same = ends_kept old new repos repos same (refl, λ party absent below. repo_itself (slice_index_or repos party absent)) ends
+stay_with_hub old new repos ends same = ends_kept old new repos repos same refl ends
 
 -- what was taken out of a list, and put back as another, is set in its place
 put_back : {X : Type 0} (list : List X) (k : ℕ) (new : X) → k < length list → insert (remove list k) k new ≡ set list k new
@@ -23,4 +23,4 @@ put_back list k new below =
 pub stay_with_repo : (hub : HubEnd) (repos : List RepoEnd) (k : ℕ) (old new : RepoEnd) → AreEnds hub repos → k < length repos → old ≡ slice_index_or repos k old → SameRepoEnd old new
     → AreEnds hub (insert (remove repos k) k new)
 stay_with_repo hub repos k old new ends below is same =
-    subst (AreEnds hub) (sym (put_back repos k new below)) (ends_kept hub hub repos (set repos k new) (hub_itself hub) (same_but_one repos k old new below is same) ends)
+    subst (AreEnds hub) (sym (put_back repos k new below)) (ends_kept hub hub repos (set repos k new) refl (same_but_one repos k old new below is same) ends)

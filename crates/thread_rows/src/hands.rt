@@ -24,7 +24,6 @@ pub(crate) trait Hand {
 }
 
 /// The call of a step that a repository's end knows.
-#[tactic(auto, using(mv_ends::proofs::LookLemmas::repo_itself))]
 fn called(end: RepoEnd, step: &Step) -> (RepoEnd, Reply)
     ensures { SameRepoEnd end result.0 }
 {
@@ -47,7 +46,6 @@ fn called(end: RepoEnd, step: &Step) -> (RepoEnd, Reply)
 }
 
 /// The call of a step that the hub's end knows.
-#[tactic(auto, using(mv_ends::proofs::LookLemmas::hub_itself))]
 fn hub_called(end: &mut HubEnd, step: &Step) -> Reply
     ensures { SameHubEnd end.old end.new }
 {
@@ -79,7 +77,6 @@ impl Hand for Here {
         }
     }
 
-    #[tactic(auto, using(mv_ends::proofs::LookLemmas::hub_further))]
     fn call_hub(&self, end: &mut HubEnd, step: Step) -> Reply {
         let reply = hub_called(end, &step);
         if is_wanting(&reply) {

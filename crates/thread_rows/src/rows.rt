@@ -259,7 +259,7 @@ fn refuses_what_the_ends_lists_say(rt: HostRuntime) {
 }
 
 /// Submits a message at the first of the ends of repositories.
-#[tactic(auto, using(mv_ends::proofs::LookLemmas::same_but_one, mv_ends::proofs::LookLemmas::repo_itself))]
+#[tactic(auto, using(mv_ends::proofs::CallerLemmas::same_but_one))]
 fn submit_first(repos: &mut Vec<RepoEnd>, message: &Message)
     ensures { AreSameRepos repos.old.items repos.new.items }
 {

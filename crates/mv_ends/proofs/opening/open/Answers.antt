@@ -1,81 +1,55 @@
 -- The ends of each party are those that were opened for it.
-use Rattle.std.proofs.Common.{◌≡◌, ◌<◌, ◌∙◌, length, sym, ap, arith}
-use Rattle.std.specs.declared.alloc.Global.{Global}
-use Rattle.rtrb.specs.declared.consumer.Consumer.{Consumer}
-use Rattle.rtrb.specs.declared.AnyItems.{AnyItems}
-use Rattle.mv_message.specs.declared.message.Message.{Message}
-use Rattle.mv_ends.specs.declared.outlets.Outlets.{Outlets}
+use Rattle.std.proofs.Common.{◌<◌, ◌∙◌, length, sym, ap, subst}
+use Rattle.std.proofs.lemmas.List.{length-map}
 use Rattle.mv_hub.specs.Hub.{HubState}
-use Rattle.mv_party.specs.Site.{SiteState, new_site}
-use Rattle.mv_machine.specs.Limits.{Bounds}
-use Rattle.mv_ends.proofs.OpeningLemmas.{some_of}
+use Rattle.mv_party.specs.Site.{new_site}
+use Rattle.rtrb.specs.Ring.{sent, received}
+use Rattle.mv_ends.specs.Rings.{Inflow, WireTable, IsFor, each_row}
+use Rattle.mv_ends.specs.RepoEnd.{repo_seat}
+use Rattle.mv_ends.proofs.OpeningLemmas.{seat_at, square_of, untaken_of, unused_of, fresh_at}
 use Rattle.mv_ends.proofs.opening.open.Goals as goal
 
 pub new-requires-3-clause-each : goal.new-requires-3-clause-each
-new-requires-3-clause-each c = ap length c.new.ensures ∙ c.in_ok-uplinks.ensures.uplinks_each ∙ c.len.ensures.value
+new-requires-3-clause-each c =
+    let uplinks = c.in_ok-uplinks.field-0.uplinks.items in
+    ap (λ (i : Inflow _). length i.taken) c.new.ensures ∙ length-map uplinks received ∙ c.in_ok-uplinks.ensures.uplinks_each ∙ c.len.ensures.value
 
 pub new-requires-3-clause-square : goal.new-requires-3-clause-square
 new-requires-3-clause-square c =
-    let each = c.in_ok-uplinks.ensures in
-    rw c.new-2.ensures (
-      each.outlets_each ∙ c.len.ensures.value,
-      λ to none below.
-          let low : to < c.len.result = omega (arith, below, c.len.ensures.value) in
-          let uplink = some_of c.in_ok-uplinks.field-0.uplinks.items to (omega (arith, low, each.uplinks_each)) in
-          let repo = some_of c.in_ok-uplinks.field-0.repos.items to (omega (arith, low, each.repos_each)) in
-          (each.each to uplink none repo low).wide ∙ c.len.ensures.value,
-    )
+    let made = c.in_ok-uplinks.field-0 in
+    rw c.new-2.ensures (subst (λ n. IsFor n (each_row sent made.rows.items)) c.len.ensures.value (square_of c.len.result c.args.limits made.uplinks.items made.rows.items made.repos.items c.in_ok-uplinks.ensures))
 
 pub new-requires-3-clause-untaken : goal.new-requires-3-clause-untaken
 new-requires-3-clause-untaken c =
-    let each = c.in_ok-uplinks.ensures in
-    rw c.new.ensures (λ from absent below.
-    let low : from < c.len.result = omega (arith, below, each.uplinks_each) in
-    let out = some_of c.in_ok-uplinks.field-0.outlets.items from (omega (arith, low, each.outlets_each)) in
-    let repo = some_of c.in_ok-uplinks.field-0.repos.items from (omega (arith, low, each.repos_each)) in
-    (each.each from absent out repo low).untaken)
+    let made = c.in_ok-uplinks.field-0 in
+    rw c.new.ensures (untaken_of c.len.result c.args.limits made.uplinks.items made.rows.items made.repos.items c.in_ok-uplinks.ensures)
 
 pub new-requires-3-clause-unused : goal.new-requires-3-clause-unused
 new-requires-3-clause-unused c =
-    let each = c.in_ok-uplinks.ensures in
-    rw c.new-2.ensures (λ from to none absent in_range below.
-    let low : to < c.len.result = omega (arith, in_range, each.outlets_each) in
-    let uplink = some_of c.in_ok-uplinks.field-0.uplinks.items to (omega (arith, low, each.uplinks_each)) in
-    let repo = some_of c.in_ok-uplinks.field-0.repos.items to (omega (arith, low, each.repos_each)) in
-    (each.each to uplink none repo low).unused from absent below)
+    let made = c.in_ok-uplinks.field-0 in
+    rw c.new-2.ensures (unused_of c.len.result c.args.limits made.uplinks.items made.rows.items made.repos.items c.in_ok-uplinks.ensures)
 
 pub returns-clause-ends : goal.returns-clause-ends
 returns-clause-ends c =
-    let each = c.in_ok-uplinks.ensures in
-    let parties : c.in_ok-hub.hub.hub.parties ≡ c.args.parties = ap (λ (h : HubState). h.parties) c.in_ok-hub.ensures.hub in
-    let count : c.len.result ≡ length c.in_ok-hub.hub.hub.parties = c.len.ensures.value ∙ ap length (sym parties) in
+    let made = c.in_ok-uplinks.field-0 in
+    let all = c.in_ok-uplinks.ensures in
+    let count = c.len.ensures.value ∙ ap (λ (h : HubState). length h.parties) (sym c.in_ok-hub.ensures.hub) in
     record {
-      each = each.repos_each ∙ count;
+      each = length-map made.repos.items repo_seat ∙ all.repos_each ∙ count;
       ends = λ party absent below.
-          let low : party < c.len.result = omega (arith, below, each.repos_each) in
-          let at = λ (u : Consumer Message Global AnyItems) (o : Outlets). each.each party u o absent low in
-          let u = some_of c.in_ok-uplinks.field-0.uplinks.items party (omega (arith, low, each.uplinks_each)) in
-          let o = some_of c.in_ok-uplinks.field-0.outlets.items party (omega (arith, low, each.outlets_each)) in
-          record {
-            party_is = ap (λ (s : SiteState). s.party) (at u o).site;
-            parties = ap (λ (s : SiteState). s.parties) (at u o).site ∙ count;
-            limit = ap (λ (s : SiteState). s.limit) (at u o).site ∙ sym (ap (λ (l : Bounds). l.submissions) c.in_ok-hub.ensures.limits);
-            uplink = rw (c.in_ok-hub.ensures.uplinks, c.new.ensures) (λ taken. (at taken o).pair);
-            links = rw (c.in_ok-hub.ensures.wires, c.new-2.ensures) (λ none. (at u none).joined);
-            uplink_size = (at u o).uplink_size ∙ sym (ap (λ (l : Bounds). l.uplink) c.in_ok-hub.ensures.limits);
-            wire_sizes = rw (c.in_ok-hub.ensures.wires, c.new-2.ensures, c.in_ok-hub.ensures.limits) (λ none. (at u none).wire_sizes);
-          };
+          seat_at c.len.result c.args.limits made.uplinks.items made.rows.items made.repos.items all party
+          (subst (λ n. party < n) (length-map made.repos.items repo_seat ∙ all.repos_each) below) _
+          (ap (λ (i : Inflow _). i.rings) (c.in_ok-hub.ensures.uplinks ∙ c.new.ensures)) (ap (λ (w : WireTable). w.rings) (c.in_ok-hub.ensures.wires ∙ c.new-2.ensures))
+          (sym count) c.in_ok-hub.ensures.limits absent;
     }
 
 pub returns-clause-fresh : goal.returns-clause-fresh
 returns-clause-fresh c =
-    let each = c.in_ok-uplinks.ensures in
+    let made = c.in_ok-uplinks.field-0 in
     record {
       hub_is = c.in_ok-hub.ensures.hub;
       limits_are = c.in_ok-hub.ensures.limits;
       sites = λ party absent below.
-          let low : party < c.len.result = omega (arith, below, each.repos_each) in
-          let u = some_of c.in_ok-uplinks.field-0.uplinks.items party (omega (arith, low, each.uplinks_each)) in
-          let o = some_of c.in_ok-uplinks.field-0.outlets.items party (omega (arith, low, each.outlets_each)) in
-          (each.each party u o absent low).site ∙ ap (λ n. new_site party n c.args.limits.submissions) c.len.ensures.value;
+          fresh_at c.len.result c.args.limits made.uplinks.items made.rows.items made.repos.items c.in_ok-uplinks.ensures party absent below
+          ∙ ap (λ n. new_site party n c.args.limits.submissions) c.len.ensures.value;
     }

@@ -1,30 +1,24 @@
--- The ends of each party are those that were opened for it.
-use Rattle.std.proofs.Common.{◌≤◌, ap, subst, sym, length, arith}
+use Rattle.std.proofs.Common.{◌∙◌, sym, ap, subst}
+use Rattle.mv_ends.specs.Rings.{ring_put}
+use Rattle.mv_ends.specs.Opened.{AreLinks}
 use Rattle.mv_ends.proofs.OpeningLemmas.{opened_more}
+use Rattle.mv_ends.proofs.RingLemmas.{one_ring}
 use Rattle.mv_ends.proofs.opening.open_each.Goals as goal
 
-pub loop-party-init : goal.loop-party-init
-loop-party-init c = (
-  record {
-    uplinks_each = ap length c.in_ok-openings.ensures.uplinks.0;
-    outlets_each = ap length c.in_ok-openings.ensures.outlets.0;
-    repos_each = ap length c.in_ok-openings.ensures.repos.0;
-    each = λ party u o r below. absurd (omega (arith, below));
-  },
-  c.in_ok-openings.ensures.uplinks.1,
-  c.in_ok-openings.ensures.outlets.1,
-  c.in_ok-openings.ensures.repos.1,
-)
-
+-- the rings of one more party were opened
 pub loop-party-preserved : goal.loop-party-preserved
 loop-party-preserved c =
-    let was = c.loop-party.openings in
-    let opened = c.in_ok-opened.opened in
-    let before = c.loop-party.invariant in (
-      rw (c.add.ensures.uplinks, c.add.ensures.outlets, c.add.ensures.repos)
-          (opened_more c.args.count c.args.limits c.loop-party.party was.uplinks.items was.outlets.items was.repos.items
-          opened.uplink opened.outlets opened.repo before.0 c.in_ok-opened.ensures),
-      subst (λ n. c.args.count ≤ n) (sym c.add.ensures.uplink_room) before.1,
-      subst (λ n. c.args.count ≤ n) (sym c.add.ensures.outlet_room) before.2,
-      subst (λ n. c.args.count ≤ n) (sym c.add.ensures.repo_room) before.3,
-    )
+    let repo = c.in_ok-repo.repo in
+    let opened = c.in_ok-repo.ensures in
+    let made = c.in_ok-producer.ensures in
+    let size = made.producer.2 ∙ c.uplink.ensures.value in
+    rw (c.in_ok-push.ensures.items, c.in_ok-push-2.ensures.items, c.in_ok-push-3.ensures.items)
+    (opened_more c.args.count c.args.limits c.loop-party.party c.loop-party.uplinks.items c.loop-party.rows.items c.loop-party.repos.items
+    c.in_ok-producer.uplink c.in_ok-row.row repo c.loop-party.invariant record {
+      site = opened.site;
+      pair = ap ring_put opened.uplink ∙ one_ring c.in_ok-producer.producer c.in_ok-producer.uplink made.pair (made.producer.2 ∙ sym made.consumer.2);
+      untaken = made.consumer.0;
+      size = ap (λ it. (ring_put it).size) opened.uplink ∙ size;
+      links = subst (λ i. AreLinks c.args.count c.args.limits.wire c.in_ok-row.row.items i) (sym opened.inlets)
+          (subst (λ n. AreLinks c.args.count n c.in_ok-row.row.items c.in_ok-row.inlets) c.wire.ensures.value c.in_ok-row.ensures);
+    })

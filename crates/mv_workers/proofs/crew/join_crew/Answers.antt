@@ -1,7 +1,5 @@
-use Rattle.std.proofs.Common.{◌≡◌, ◌∙◌, [], ◌∷◌, ◌++◌, length, append-nil, append_assoc, ap, sym, subst, arith, rules}
+use Rattle.std.proofs.Common.{◌∙◌, [], ◌∷◌, ◌++◌, length, append-nil, append_assoc, ap, sym, arith, rules}
 use Rattle.std.proofs.lemmas.List.{nil_from_length}
-use Rattle.std.specs.Vec.Iter.{into_iter_items}
-use Rattle.mv_workers.specs.Crews.{AllKept}
 use Rattle.mv_workers.proofs.CrewLemmas.{kept_more}
 use Rattle.mv_workers.proofs.crew.join_crew.Goals as goal
 
@@ -21,7 +19,4 @@ loop-handle-preserved g c =
     )
 
 pub returns-clause-repos : goal.returns-clause-repos
-returns-clause-repos g c =
-    let was = c.loop-handle.invariant in
-    let none : into_iter_items c.loop-handle.handle-iterator ≡ [] = nil_from_length _ (was.1 ∙ c.in-None.ensures.steps.0) in
-    subst (λ l. AllKept l c.loop-handle.repos.items c.loop-handle.all) (sym (append-nil was.0.0) ∙ ap (λ l. was.0.0 ++ l) (sym none) ∙ was.0.1) was.0.2
+returns-clause-repos g c = search (rules, append-nil, nil_from_length)

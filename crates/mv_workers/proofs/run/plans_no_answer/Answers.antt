@@ -1,4 +1,4 @@
-use Rattle.std.proofs.Common.{◌≡◌, [], length, sym, ap, subst, arith, inl, inr}
+use Rattle.std.proofs.Common.{◌≡◌, [], length, sym, ap, subst, arith, inl, inr, rules}
 use Rattle.std.proofs.lemmas.Bool.{cases_lt}
 use Rattle.std.proofs.lemmas.Bool.Decides.{nat_tests}
 use Rattle.std.proofs.lemmas.List.{nil_from_length}
@@ -9,16 +9,7 @@ use Rattle.mv_workers.proofs.run.plans_no_answer.Goals as goal
 
 -- a party's list has an answer
 pub returns-then-own_count-list : goal.returns-then-own_count-list
-returns-then-own_count-list c =
-    let work = c.args.work.now in let at = c.loop-party.party in
-    let list : c.list-list.result.now ≡ list_at work at = c.list-list.ensures in (
-      (λ h. absurd (cc)),
-      (λ none.
-          let answers : length (answers_in (list_at work at)) ≡ 0 = ap length (none at (omega (arith, c.loop-party-test.true, c.len-party-end.ensures))) in
-          let same : c.own_count.result ≡ length c.list-list.result.now =
-          omega (arith, answers, answers_and_own (list_at work at), c.own_count.ensures, ap length list, ap (λ l. length (own_among l)) list) in
-          absurd (grind (arith, nat_tests, same, c.if-own_count-list.true))),
-    )
+returns-then-own_count-list c = search (rules, answers_and_own (list_at (c.args.work.now) (c.loop-party.party)))
 
 -- one more list has none
 pub loop-party-preserved : goal.loop-party-preserved

@@ -7,12 +7,11 @@ use Rattle.mv_party.specs.Site.{SiteState}
 use Rattle.mv_party.specs.Calls.{apply_fault}
 use Rattle.mv_machine.specs.declared.reply.Refusal.TheVariants.{Memory}
 use Rattle.mv_machine.specs.Replies.{refusal_of, reply_to}
-use Rattle.mv_ends.specs.Inlets.{Takes}
+use Rattle.mv_ends.specs.Rings.{with_item}
 use Rattle.mv_ends.specs.Answering.{stands_to}
-use Rattle.mv_ends.specs.Accepted.{AreAccepted}
+use Rattle.mv_ends.specs.Valid.{AreAccepted}
 use Rattle.mv_ends.specs.Refusals.{IsRefusedBy}
-use Rattle.mv_ends.proofs.EndLemmas.{takes_after}
-use Rattle.mv_ends.proofs.SiteEndLemmas.{apply_refused, apply_taken, memory_told, refused_for, submitted_by, accepted_taken, accepted_same}
+use Rattle.mv_ends.proofs.SiteEndLemmas.{apply_refused, apply_taken, memory_told, refused_for, submitted_by, accepted_taken}
 use Rattle.mv_ends.proofs.repo_end.RepoEnd.apply.Goals as goal
 
 pub returns-in_default-clause-reply : goal.returns-in_default-clause-reply
@@ -53,22 +52,19 @@ pub invariant_of-self-in-Ok-apply-clause-accepted : goal.invariant_of-self-in-Ok
 invariant_of-self-in-Ok-apply-clause-accepted c =
     let site = c.args.self.now.site in
     let frame = c.front-frame.result.now in
-    let taken : c.take-frame.result ≡ frame = c.take-frame.ensures.front frame c.front-frame.ensures in
-    subst (λ (s : SiteState). AreAccepted s.log c.take-frame.new.self) (sym c.in-Ok-apply.ensures.ok)
-    (accepted_taken site c.args.from frame c.is_empty.new.self c.take-frame.new.self c.take-frame.ensures.same
-    (subst (λ f. Takes c.args.from f c.is_empty.new.self c.take-frame.new.self) taken c.take-frame.ensures.takes)
-    (accepted_same site.log c.args.self.now.inlets c.is_empty.new.self c.is_empty.ensures.same c.is_empty.ensures.nothing c.args.self.now.accepted))
+    let taken : c.take-frame.new.self.taken ≡ with_item c.args.self.now.inlets.taken c.args.from frame =
+    rw (c.take-frame.ensures.takes, c.is_empty.ensures.nothing, c.take-frame.ensures.front frame c.front-frame.ensures) in
+    rw taken (subst (λ (s : SiteState). AreAccepted s.parties s.log (with_item c.args.self.now.inlets.taken c.args.from frame)) (sym c.in-Ok-apply.ensures.ok)
+    (accepted_taken site c.args.from frame c.args.self.now.inlets.taken (search rules) c.args.self.now.accepted))
 
 pub returns-in-Ok-apply-clause-reply : goal.returns-in-Ok-apply-clause-reply
 returns-in-Ok-apply-clause-reply c =
     let frame = c.front-frame.result.now in
-    let is : c.take-frame.result ≡ frame = c.take-frame.ensures.front frame c.front-frame.ensures in
     rw c.of_taken.ensures (apply_taken c.args.from frame.number c.args.self.now _ c.in-Ok-apply.taken record {
       frame = frame;
-      taken = takes_after c.args.from frame c.args.self.now.inlets c.is_empty.new.self c.take-frame.new.self c.is_empty.ensures.same c.is_empty.ensures.nothing
-          (subst (λ f. Takes c.args.from f c.is_empty.new.self c.take-frame.new.self) is c.take-frame.ensures.takes);
+      taken = rw (c.take-frame.ensures.takes, c.is_empty.ensures.nothing, c.take-frame.ensures.front frame c.front-frame.ensures);
       site = c.in-Ok-apply.ensures.ok;
       pushed = c.put_answer.ensures.put
-          ∙ (λ i. c.is_full-full.ensures.looked.1 i ++ option_to_list (c.in-Ok.ensures.answer c.in-Ok-apply.ensures.fault i));
+          ∙ (λ i. c.is_full-full.ensures.nothing i ++ option_to_list (c.in-Ok.ensures.answer c.in-Ok-apply.ensures.fault i));
       reply_is = ap (reply_to frame.number) c.in-Ok-apply.ensures.value;
     })

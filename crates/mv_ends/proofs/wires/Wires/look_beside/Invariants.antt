@@ -1,0 +1,14 @@
+use Rattle.std.proofs.Common.{◌≡◌, ◌<◌, ℕ, [], get_or}
+use mathlib.Core.List.{IsPrefix}
+use Rattle.mv_pairs.specs.Pairs.{cell}
+use Rattle.mv_ends.proofs.wires.Wires.look_beside.Given as goal
+
+-- the ends of the links so far were looked at, and show what they showed
+abbrev pub invariant-loop-from : goal.invariant-loop-from
+invariant-loop-from l = record {
+  rings : l.self.rings ≡ l.fn.self.rings;
+  put : l.self.put ≡ l.fn.self.put;
+  inlets : l.inlets.rings ≡ l.fn.inlets.rings;
+  taken : l.inlets.taken ≡ l.fn.inlets.taken;
+  front : (from : ℕ) → from < l.from → IsPrefix (get_or l.fn.inlets.taken from []) (cell l.fn.self.put l.to from []);
+}

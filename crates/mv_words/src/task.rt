@@ -92,6 +92,7 @@ fn task_by<'a>(
 }
 
 /// Whether an option was given that has no value.
+#[tactic(auto, using(crate::proofs::ParseLemmas::text_given))]
 fn is_given(given: &ArgMatches<'_>, flag: &str) -> bool
     ensures given { HasFlag flag.now true (rows_of (found_of given.now)) → result ≡ true }
     ensures absent { HasFlag flag.now false (rows_of (found_of given.now)) → result ≡ false }
@@ -100,6 +101,7 @@ fn is_given(given: &ArgMatches<'_>, flag: &str) -> bool
 }
 
 /// The task of `work`: none without a number of turns.
+#[tactic(auto, using(crate::proofs::ParseLemmas::text_given, crate::proofs::ParseLemmas::turns_read))]
 fn work_task<'a>(given: &ArgMatches<'_>) -> Option<Task<'a>>
     ensures { (turns : ℕ) (text : List ℕ)
         → one_of (codes "turns") (rows_of (found_of given.now)) ≡ Some text → WritesTurns turns text
@@ -111,6 +113,7 @@ fn work_task<'a>(given: &ArgMatches<'_>) -> Option<Task<'a>>
 }
 
 /// The task of `explain`: none without a word.
+#[tactic(auto, using(crate::proofs::ParseLemmas::texts_given))]
 fn explain_task<'a>(alloc: Global, given: &ArgMatches<'a>) -> Result<Option<Task<'a>>, AllocError>
     ensures { (words : List (List ℕ)) → all_of (codes "code") (rows_of (found_of given.now)) ≡ Some words
         → IfOk result (λ task. option_map asked_of task ≡ Some (Explain words)) }

@@ -1,7 +1,7 @@
 //! The command line in the words of its parser.
 
 ghost use Rattle.std.specs.Prelude.{◌≡◌, IfOk, false};
-ghost use Rattle.clap.specs.Words.{App, Rule, app_of, new_app, rule_of, with_rule, with_subcommand};
+ghost use Rattle.clap.specs.Words.{Rule, app_of, new_app, rule_of, shape_of, with_rule};
 ghost use Rattle.clap.specs.declared.builder.command.Command.TheViews.{out-Command as fields_of};
 ghost use Rattle.mv_words.specs.Words.{code_rule, command_line, flag_rule, mvhub, turns_rule};
 
@@ -18,37 +18,25 @@ use std::alloc::{AllocError, Global};
 pub fn command_line<'a>(alloc: Global) -> Result<Command<'a>, AllocError>
     ensures { IfOk result (λ line. app_of line ≡ command_line) }
 {
-    let line = program(alloc);
-    let line = with(
-        line,
-        taking(
+    program(alloc)
+        .subcommand(taking(
             alloc,
             "steps",
             STEPS,
             STEPS_EXAMPLE,
             flag(alloc, "strict", STRICT),
-        ),
-    )?;
-    let line = with(line, Ok(told(alloc, "trail", TRAIL, TRAIL_EXAMPLE)))?;
-    let line = with(line, Ok(told(alloc, "show", SHOW, SHOW_EXAMPLE)))?;
-    let line = with(
-        line,
-        taking(
+        )?)?
+        .subcommand(told(alloc, "trail", TRAIL, TRAIL_EXAMPLE))?
+        .subcommand(told(alloc, "show", SHOW, SHOW_EXAMPLE))?
+        .subcommand(taking(
             alloc,
             "canon",
             CANON,
             CANON_EXAMPLE,
             flag(alloc, "check", CHECK),
-        ),
-    )?;
-    let line = with(
-        line,
-        taking(alloc, "work", WORK, WORK_EXAMPLE, turns(alloc)),
-    )?;
-    with(
-        line,
-        taking(alloc, "explain", EXPLAIN, EXPLAIN_EXAMPLE, codes(alloc)),
-    )
+        )?)?
+        .subcommand(taking(alloc, "work", WORK, WORK_EXAMPLE, turns(alloc))?)?
+        .subcommand(taking(alloc, "explain", EXPLAIN, EXPLAIN_EXAMPLE, codes(alloc))?)
 }
 
 /// The program, with no subcommand yet.
@@ -64,6 +52,7 @@ fn program<'a>(alloc: Global) -> Command<'a>
 /// A command of this name, with what its help says first and last.
 fn told<'a>(alloc: Global, name: &'a str, first: &'a str, last: &'a str) -> Command<'a>
     ensures app { app_of result ≡ new_app name.entry.now }
+    ensures shape { shape_of result ≡ (new_app name.entry.now).top }
     ensures local { (fields_of result).has_globals ≡ false }
 {
     Command::new(alloc, name).about(first).after_help(last)
@@ -78,23 +67,11 @@ fn taking<'a>(
     arg: Arg<'a>,
 ) -> Result<Command<'a>, AllocError>
     requires { arg.global ≡ false }
-    ensures app { (rule : Rule) → rule_of arg.entry ≡ rule
-        → IfOk result (λ command. app_of command ≡ with_rule (new_app name.entry.now) rule) }
+    ensures shape { (rule : Rule) → rule_of arg.entry ≡ rule
+        → IfOk result (λ command. shape_of command ≡ (with_rule (new_app name.entry.now) rule).top) }
     ensures local { IfOk result (λ command. (fields_of command).has_globals ≡ false) }
 {
     told(alloc, name, first, last).arg(arg)
-}
-
-/// A command line with one more subcommand, where that could be made.
-fn with<'a>(
-    line: Command<'a>,
-    made: Result<Command<'a>, AllocError>,
-) -> Result<Command<'a>, AllocError>
-    requires { IfOk made (λ command. (fields_of command).has_globals ≡ false) }
-    ensures { (app : App) → IfOk made.entry (λ command. app_of command ≡ app)
-        → IfOk result (λ next. app_of next ≡ with_subcommand (app_of line.entry) app.top) }
-{
-    line.subcommand(made?)
 }
 
 /// An option that is given or not, with no value.

@@ -3,9 +3,9 @@ use Rattle.std.proofs.Common.{◌≡◌, ◌∷◌, ◌&&◌, ℕ, List, [], Boo
 use Rattle.std.specs.declared.option.Option.{Option}
 use Rattle.std.specs.List.{list_all}
 use Rattle.std.specs.Io.KnownBytes.{Appends}
-use Rattle.mv_lines.specs.Lines.{Line}
-use Rattle.mv_lines.specs.Replies.{AreReplies, said_texts, text_lines}
-use Rattle.mv_lines.specs.Served.{Served}
+use Rattle.mv_engine.specs.Lines.{Line}
+use Rattle.mv_engine.specs.Replies.{AreReplies, said_texts, text_lines}
+use Rattle.mv_engine.specs.Served.{Served}
 use Rattle.mv_checks.specs.Checks.{IsChecked, are_messages, checked, is_message, lines_in, refusals_of}
 
 -- one more line is a message or not
@@ -40,15 +40,15 @@ checked_lines before after (line ∷ lines) (text ∷ texts) (between, said, res
 refusals_written : (bytes : List ℕ) (after : Bool) (old new : Option (List ℕ)) → Served IsChecked true bytes after old new
     → Appends old new (refusals_of bytes)
 refusals_written bytes after old new served =
-    let texts = served.replied.0 in
+    let replied = served.answered.replied in
     let is : served.out ≡ refusals_of bytes =
-    served.replied.1 ∙ ap (λ ts. text_lines (said_texts ts)) (checked_texts true after (lines_in bytes) texts served.replied.2) in
+    replied.1 ∙ ap (λ ts. text_lines (said_texts ts)) (checked_texts true after (lines_in bytes) replied.0 replied.2) in
     subst (Appends old new) is served.written
 
 -- and it is known whether each line is a message
 messages_known : (bytes : List ℕ) (after : Bool) (old new : Option (List ℕ)) → Served IsChecked true bytes after old new
     → after ≡ are_messages bytes
-messages_known bytes after old new served = checked_lines true after (lines_in bytes) served.replied.0 served.replied.2
+messages_known bytes after old new served = checked_lines true after (lines_in bytes) served.answered.replied.0 served.answered.replied.2
 
 -- the same of an input that may be known
 pub refusals_of_input : (input : Option (List ℕ)) (after : Bool) (old new : Option (List ℕ))

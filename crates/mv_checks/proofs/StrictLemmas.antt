@@ -1,14 +1,15 @@
 -- The replies of a run whose lines are counted are those of one whose lines are not.
-use Rattle.std.proofs.Common.{◌≡◌, ◌∷◌, ℕ, List, [], None, Some, IfErr, IfSome, Result, Ok, Err, ap, inr, refl, subst, sym}
+use Rattle.std.proofs.Common.{◌≡◌, ◌∷◌, ℕ, List, [], None, Some, IfErr, IfSome, Result, Ok, Err, ap, inl, inr, refl, subst, sym}
 use Rattle.std.specs.Io.KnownBytes.{Consumes}
 use Rattle.std.specs.declared.option.Option.{Option}
-use Rattle.mv_lines.specs.declared.answered.Answered.{Answered}
-use Rattle.mv_lines.specs.declared.fault.ServeFault.{ServeFault}
-use Rattle.mv_lines.specs.declared.fault.ServeFault.TheVariants as faults
-use Rattle.mv_lines.specs.Lines.{Line}
-use Rattle.mv_lines.specs.Replies.{AreReplies, GotNoReply, IsReplies}
-use Rattle.mv_lines.specs.Served.{Ended, EndedAt, Served, Stopped}
-use Rattle.mv_lines.specs.Sessions.{is_refused, IsReply, IsTaken, Open}
+use Rattle.mv_format.specs.declared.answered.Answered.{Answered}
+use Rattle.mv_engine.specs.declared.fault.ServeFault.{ServeFault}
+use Rattle.mv_engine.specs.declared.fault.ServeFault.TheVariants as faults
+use Rattle.mv_engine.specs.Lines.{Line}
+use Rattle.mv_engine.specs.Replies.{AreReplies, GotNoReply}
+use Rattle.mv_engine.specs.Served.{AreAnswered, Ended, EndedAt, LeftBy, Served, StoppedAt}
+use Rattle.mv_format.specs.ReplyLines.{is_refused}
+use Rattle.mv_lines.specs.Sessions.{IsReply, IsTaken, Open}
 use Rattle.mv_checks.specs.Strict.{IsStrictReply, Strict, strict_at, tallied}
 use Rattle.mv_checks.specs.declared.strict.Untaken.{Untaken}
 
@@ -21,50 +22,58 @@ replies_uncounted before after (line ∷ lines) [] is = absurd is
 replies_uncounted before after (line ∷ lines) (text ∷ texts) (between, (answered, taken, text_is, counted), rest) =
     (between.world, (answered, taken, text_is), replies_uncounted between after lines texts rest)
 
-uncounted : (before after : Strict) (lines : List Line) (out : List ℕ) → IsReplies IsStrictReply before lines out after
-    → IsReplies IsReply before.world lines out after.world
-uncounted before after lines out (texts, is, replies) = (texts, is, replies_uncounted before after lines texts replies)
+uncounted : {before after : Strict} {count : ℕ} {ps : List (List ℕ)} {out : List ℕ} → AreAnswered IsStrictReply count before ps after out
+    → AreAnswered IsReply count before.world ps after.world out
+uncounted {before = before} {after = after} answered =
+    let (texts, is, replies) = answered.replied in
+    record { kept = answered.kept; replied = (texts, is, replies_uncounted before after _ texts replies) }
+
+-- nor is it where a line got no reply
+unanswered_uncounted : (before after : Strict) (line : Line) → GotNoReply IsStrictReply before line after → GotNoReply IsReply before.world line after.world
+unanswered_uncounted before after line (inl same) = inl (ap (λ (s : Strict). s.world) same)
+unanswered_uncounted before after line (inr (text, (answered, taken, text_is, counted))) = inr (text, (answered, taken, text_is))
+
+left_uncounted : (fault : ServeFault) (before after : Strict) (line : Line) → LeftBy fault IsStrictReply before line after
+    → LeftBy fault IsReply before.world line after.world
+left_uncounted faults.TooManyLines before after line same = ap (λ (s : Strict). s.world) same
+left_uncounted faults.LineTooLong before after line same = ap (λ (s : Strict). s.world) same
+left_uncounted fault before after line left = unanswered_uncounted before after line left
 
 -- of a run that answered its whole input
 served_uncounted : (before after : Strict) (bytes : List ℕ) (old new : Option (List ℕ)) → Served IsStrictReply before bytes after old new
     → Served IsReply before.world bytes after.world old new
-served_uncounted before after bytes old new served = record {
-  kept = served.kept;
-  out = served.out;
-  replied = uncounted before after _ _ served.replied;
-  written = served.written;
-}
+served_uncounted before after bytes old new served = record { out = served.out; written = served.written; answered = uncounted served.answered }
 
 -- of one that stopped at a place
-stopped_uncounted : (fault : ServeFault) (before : Strict) (bytes out : List ℕ) → Stopped IsStrictReply fault [] 0 before bytes out
-    → Stopped IsReply fault [] 0 before.world bytes out
-stopped_uncounted fault before bytes out stopped = record {
+stopped_uncounted : (fault : ServeFault) (before after : Strict) (bytes out : List ℕ) → StoppedAt IsStrictReply fault [] 0 before bytes after out
+    → StoppedAt IsReply fault [] 0 before.world bytes after.world out
+stopped_uncounted fault before after bytes out stopped = record {
   good = stopped.good;
   bad = stopped.bad;
   cut = stopped.cut;
   why = stopped.why;
-  kept = stopped.kept;
-  after = stopped.after.world;
-  replied = uncounted before stopped.after _ _ stopped.replied;
+  behind = stopped.behind.world;
+  answered = uncounted stopped.answered;
+  left = left_uncounted fault stopped.behind after _ stopped.left;
 }
 
 -- and of one that a fault ended
-ended_uncounted : (fault : ServeFault) (before : Strict) (bytes : List ℕ) (old new : Option (List ℕ)) → Ended IsStrictReply fault before bytes old new
-    → Ended IsReply fault before.world bytes old new
-ended_uncounted faults.Read before bytes old new (kept, (out, written, (after, replied))) =
-    (kept, (out, written, (after.world, uncounted before after _ _ replied)))
-ended_uncounted faults.Write before bytes old new wrote = record {
-  answered = wrote.answered;
+ended_uncounted : (fault : ServeFault) (before after : Strict) (bytes : List ℕ) (old new : Option (List ℕ)) → EndedAt IsStrictReply fault before bytes after old new
+    → EndedAt IsReply fault before.world bytes after.world old new
+ended_uncounted faults.Read before after bytes old new at_end = (at_end.0, (at_end.1.0, at_end.1.1, uncounted at_end.1.2))
+ended_uncounted faults.Write before after bytes old new wrote = record {
+  first = wrote.first;
   unanswered = wrote.unanswered;
   cut = wrote.cut;
-  kept = wrote.kept;
   out = wrote.out;
   unwritten = wrote.unwritten;
-  after = wrote.after.world;
-  replied = uncounted before wrote.after _ _ wrote.replied;
+  behind = wrote.behind.world;
+  answered = uncounted wrote.answered;
   written = wrote.written;
+  next = wrote.next;
+  left = unanswered_uncounted wrote.behind after _ wrote.left;
 }
-ended_uncounted fault before bytes old new ended = (ended.0, ended.1, stopped_uncounted fault before bytes ended.0 ended.2)
+ended_uncounted fault before after bytes old new at_end = (at_end.0, at_end.1, stopped_uncounted fault before after bytes at_end.0 at_end.2)
 
 module _ (before after : Strict) (world : Open) (begins : before.world ≡ world) (old new : Option (List ℕ)) where
   -- the same of a run over an input that may be known
@@ -78,8 +87,9 @@ module _ (before after : Strict) (world : Open) (begins : before.world ≡ world
   pub ended_input : (fault : ServeFault) (input rest : Option (List ℕ))
       → ((bytes : List ℕ) × Consumes input rest bytes × Ended IsStrictReply fault before bytes old new)
       → (bytes : List ℕ) × Consumes input rest bytes × Ended IsReply fault world bytes old new
-  ended_input fault input rest (bytes, consumed, ended) =
-      (bytes, consumed, subst (λ w. Ended IsReply fault w bytes old new) begins (ended_uncounted fault before bytes old new ended))
+  ended_input fault input rest (bytes, consumed, at_end) =
+      let uncounted = ended_uncounted fault before at_end.after bytes old new at_end.ended in
+      (bytes, consumed, subst (λ w. Ended IsReply fault w bytes old new) begins (record { after = at_end.after.world; ended = uncounted }))
 
 -- a line that was taken and counted may get no reply
 pub counted_unanswered : {A E : Type 0} (r : Result A E) (before after : Strict) (line : Line) (answered : Answered)

@@ -9,9 +9,9 @@ use Rattle.mv_json.specs.Messages.{read_bytes}
 use Rattle.mv_json.specs.Values.{whole}
 use Rattle.mv_json.specs.declared.fault.MessageFault.{MessageFault}
 use Rattle.mv_message.specs.declared.message.Message.{Message}
-use Rattle.mv_lines.specs.Lines.{Line, lines_from, pieces}
-use Rattle.mv_lines.specs.Replies.{said_texts, text_lines}
-use Rattle.mv_lines.specs.ReplyLines.{message_fault_value}
+use Rattle.mv_engine.specs.Lines.{Line, lines_from, pieces}
+use Rattle.mv_engine.specs.Replies.{said_texts, text_lines}
+use Rattle.mv_format.specs.ReplyLines.{message_fault_value}
 
 -- members whose keys ascend, with one more at its place
 abbrev pub with_member : List ℕ → Data → Members → Members

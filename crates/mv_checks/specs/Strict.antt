@@ -1,10 +1,10 @@
 -- A run of steps in which the lines that were not taken are counted.
 use Rattle.std.specs.Prelude.{◌≡◌, ◌+◌, ◌-◌, ◌^◌, ℕ, List, min, Bool, true, false, Option, Some, None}
 use Rattle.serde_json.specs.Written.{compact_text}
-use Rattle.mv_lines.specs.declared.answered.Answered.{Answered}
-use Rattle.mv_lines.specs.Lines.{Line}
-use Rattle.mv_lines.specs.ReplyLines.{answer_value}
-use Rattle.mv_lines.specs.Sessions.{Open, IsTaken, is_refused}
+use Rattle.mv_format.specs.declared.answered.Answered.{Answered}
+use Rattle.mv_engine.specs.Lines.{Line}
+use Rattle.mv_format.specs.ReplyLines.{answer_value, is_refused}
+use Rattle.mv_lines.specs.Sessions.{Open, IsTaken}
 use Rattle.mv_checks.specs.declared.strict.Untaken.{Untaken}
 
 -- what is open, and the lines so far that were not taken

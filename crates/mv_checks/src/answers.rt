@@ -1,8 +1,8 @@
 //! The reply to a line, written from what came of it.
 
 ghost use Rattle.std.specs.Prelude.{◌≡◌, ◌++◌, MatchResult};
-ghost use Rattle.mv_lines.specs.ReplyLines.{answer_value};
-ghost use Rattle.mv_lines.specs.Writing.{Appended};
+ghost use Rattle.mv_format.specs.ReplyLines.{answer_value};
+ghost use Rattle.mv_format.specs.Writing.{Appended};
 
 use mv_lines::{Answered, Member, append_object, fault_text, refusal_text, reply_text};
 use std::alloc::{AllocError, Global};

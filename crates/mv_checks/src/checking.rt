@@ -4,7 +4,7 @@ ghost use Rattle.std.specs.Prelude.{◌≡◌, ℕ, List, true, IfOk, IfErr, IfS
 ghost use Rattle.std.specs.Io.KnownBytes.{Appends, Consumes};
 ghost use Rattle.mv_json.specs.Messages.{read_bytes};
 ghost use Rattle.mv_json.specs.Reading.{GivesOr};
-ghost use Rattle.mv_lines.specs.Served.{Served, Ended};
+ghost use Rattle.mv_engine.specs.Served.{Served, Ended};
 ghost use Rattle.mv_checks.specs.Checks.{IsChecked, are_messages, refusals_of};
 
 use crate::refusing::append_refusal;

@@ -1,8 +1,8 @@
 //! The refusal of a message, with the number of its line.
 
 ghost use Rattle.mv_checks.specs.Checks.{with_line};
-ghost use Rattle.mv_lines.specs.ReplyLines.{message_fault_value, refused, refused_field, refused_pack};
-ghost use Rattle.mv_lines.specs.Writing.{Appended};
+ghost use Rattle.mv_format.specs.ReplyLines.{message_fault_value, refused, refused_field, refused_pack};
+ghost use Rattle.mv_format.specs.Writing.{Appended};
 
 use mv_json::MessageFault;
 use mv_lines::{Member, append_object};

@@ -2,7 +2,7 @@
 
 ghost use Rattle.std.specs.Prelude.{◌≡◌, ℕ, List, None, Some, OnOk, IfErr, IfSome, true};
 ghost use Rattle.std.specs.Io.KnownBytes.{Consumes};
-ghost use Rattle.mv_lines.specs.Served.{Served, Ended, EndedAt};
+ghost use Rattle.mv_engine.specs.Served.{Served, Ended, EndedAt};
 ghost use Rattle.mv_lines.specs.Sessions.{Open, IsReply};
 ghost use Rattle.mv_checks.specs.Strict.{IsStrictReply, strict_at, tallied};
 

@@ -4,9 +4,9 @@ use Rattle.std.specs.declared.option.Option.{Option}
 use Rattle.std.specs.Prelude.{⊤}
 use Rattle.std.specs.Io.KnownBytes.{Appends}
 use Rattle.mv_lines.specs.Canon.{IsCanon, canon_text, canon_of}
-use Rattle.mv_lines.specs.Lines.{Line, lines_from, pieces}
-use Rattle.mv_lines.specs.Replies.{AreReplies, said_texts}
-use Rattle.mv_lines.specs.Served.{Served}
+use Rattle.mv_engine.specs.Lines.{Line, lines_from, pieces}
+use Rattle.mv_engine.specs.Replies.{AreReplies, said_texts}
+use Rattle.mv_engine.specs.Served.{Served}
 
 -- each text is that to the line at its place
 texts_are : (before : ⊤) (lines : List Line) (texts : List (Option (List ℕ))) (after : ⊤) → AreReplies IsCanon before lines texts after
@@ -19,7 +19,7 @@ texts_are before lines texts after are = absurd are
 -- what went out for an input that was answered whole
 served_texts : (bytes : List ℕ) (after : ⊤) (old new : Option (List ℕ)) → Served IsCanon tt bytes after old new → Appends old new (canon_of bytes)
 served_texts bytes after old new served =
-    let (texts, whole, are) = served.replied in
+    let (texts, whole, are) = served.answered.replied in
     rw (← texts_are tt (lines_from 0 (pieces bytes)) texts after are, ← whole) served.written
 
 -- the same of an input that may be known

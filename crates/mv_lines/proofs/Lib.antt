@@ -1,11 +1,1 @@
-pub mod PartLemmas
-pub mod InputLemmas
-pub mod OutputLemmas
-pub mod RepliesLemmas
-pub mod ListLemmas
-pub mod WritingLemmas
-pub mod KeyOrderLemmas
-pub mod LineLawsLemmas
-pub mod ServedLemmas
 pub mod CanonLemmas
-pub mod LinePartLemmas

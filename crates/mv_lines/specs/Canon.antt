@@ -5,9 +5,9 @@ use Rattle.serde_json.specs.Written.{compact_text}
 use Rattle.mv_json.specs.Messages.{read_bytes, value_of}
 use Rattle.mv_json.specs.declared.fault.MessageFault.{MessageFault}
 use Rattle.mv_message.specs.declared.message.Message.{Message}
-use Rattle.mv_lines.specs.Lines.{Line, pieces, lines_of}
-use Rattle.mv_lines.specs.Replies.{text_lines}
-use Rattle.mv_lines.specs.ReplyLines.{message_fault_value}
+use Rattle.mv_engine.specs.Lines.{Line, pieces, lines_of}
+use Rattle.mv_engine.specs.Replies.{text_lines}
+use Rattle.mv_format.specs.ReplyLines.{message_fault_value}
 
 -- the value of the message that was read, or of the refusal of its first fault
 abbrev pub canon_value : Result Message MessageFault → Data

@@ -1,34 +1,25 @@
 -- What may come of a line, and what it is answered. What is open is the state of the list machine; nothing, before an opening succeeds.
-use Rattle.std.specs.Prelude.{◌≡◌, ℕ, List, length, Bool, true, false, Option, Some, None, Result, Ok, Err, MatchResult}
+use Rattle.std.specs.Prelude.{◌≡◌, ℕ, List, length, Option, Some, None, Result, Ok, Err, MatchResult}
 use Rattle.serde_json.specs.Written.{compact_text}
 use Rattle.mv_hub.specs.Parties.{parties_of}
 use Rattle.mv_json.specs.Reading.{map_err}
-use Rattle.mv_machine.specs.declared.reply.Refusal.TheVariants.{Memory}
 use Rattle.mv_machine.specs.declared.reply.Reply.{Reply}
-use Rattle.mv_machine.specs.declared.reply.Reply.TheVariants.{Refused}
 use Rattle.mv_machine.specs.Limits.{Bounds, limits_of}
 use Rattle.mv_machine.specs.State.{State, opening}
 use Rattle.mv_machine.specs.Runs.{Allows}
-use Rattle.mv_lines.specs.declared.answered.Answered.{Answered}
-use Rattle.mv_lines.specs.declared.answered.Answered.TheVariants.{Unread, NotTaken, Opened, Stepped}
-use Rattle.mv_lines.specs.declared.open_fault.OpenFault.{OpenFault}
-use Rattle.mv_lines.specs.declared.open_fault.OpenFault.TheVariants.{NotOpen, AlreadyOpen, Parties, Limits}
-use Rattle.mv_lines.specs.declared.request.Request.{Request}
-use Rattle.mv_lines.specs.declared.request.Request.TheVariants as requests
-use Rattle.mv_lines.specs.Lines.{Line}
-use Rattle.mv_lines.specs.ReplyLines.{answer_value}
-use Rattle.mv_lines.specs.Requests.{read_line}
+use Rattle.mv_format.specs.declared.answered.Answered.{Answered}
+use Rattle.mv_format.specs.declared.answered.Answered.TheVariants.{Unread, NotTaken, Opened, Stepped}
+use Rattle.mv_format.specs.declared.open_fault.OpenFault.{OpenFault}
+use Rattle.mv_format.specs.declared.open_fault.OpenFault.TheVariants.{NotOpen, AlreadyOpen, Parties, Limits}
+use Rattle.mv_format.specs.declared.request.Request.{Request}
+use Rattle.mv_format.specs.declared.request.Request.TheVariants as requests
+use Rattle.mv_engine.specs.Lines.{Line}
+use Rattle.mv_format.specs.ReplyLines.{answer_value}
+use Rattle.mv_format.specs.Requests.{read_line}
 
 -- what is open, and nothing before the first opening
 abbrev pub Open : Type 0
 Open = Option State
-
--- a line that was refused for what it is or for want of memory: by an M, C, H or O, or by S14
-abbrev pub is_refused : Answered → Bool
-is_refused (Unread fault) = true
-is_refused (NotTaken fault) = true
-is_refused (Stepped step (Refused Memory)) = true
-is_refused answered = false
 
 -- what is open refuses the line, and nothing changes
 abbrev pub IsNotTaken : OpenFault → Open → Answered → Open → Type 0

@@ -5,12 +5,12 @@ ghost use Rattle.std.specs.Io.KnownBytes.{Consumes, Appends};
 ghost use Rattle.mv_json.specs.Messages.{read_bytes};
 ghost use Rattle.mv_json.specs.Reading.{GivesOr};
 ghost use Rattle.mv_lines.specs.Canon.{IsCanon, canon_of, canon_text};
-ghost use Rattle.mv_lines.specs.Replies.{Readied};
-ghost use Rattle.mv_lines.specs.Served.{Served, Ended};
+ghost use Rattle.mv_engine.specs.Replies.{Readied};
+ghost use Rattle.mv_engine.specs.Served.{Served, Ended};
 
-use crate::reply_line::append;
-use crate::{Answering, ServeFault, answer_lines};
 use json::Scratch;
+use mv_engine::{Answering, ServeFault, answer_lines};
+use mv_format::append_json;
 use mv_json::MessageFault;
 use mv_message::Message;
 use std::alloc::{AllocError, Global};
@@ -52,7 +52,7 @@ impl Canonizer {
         match self.read(line) {
             Ok(message) => mv_json::write_text(self.alloc, &message, out),
             Err(MessageFault::Memory) => Err(AllocError),
-            Err(fault) => append(self.alloc, out, &fault),
+            Err(fault) => append_json(self.alloc, out, &fault),
         }
     }
 

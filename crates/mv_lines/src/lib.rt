@@ -1,9 +1,9 @@
 //! Lines in, reply lines out, over any reader and writer.
 //!
-//! The program's command line is its user, and its plans. The contract: `serve` writes the replies to the lines that it reads,
-//! by the definitions in `specs/`: what the lines of some bytes are, what a line asks, and which reply it may get from the
-//! list machine. What else answers lines is an [`Answering`], whose rule the contract of [`answer_lines`] carries. This
-//! crate knows no thread and no word of the command line.
+//! The program's command line is its user. The contract: `serve` writes the replies to the lines that it reads, which the list
+//! machine may give, and `canon` the canonical texts of the messages that they are, by the definitions in `specs/`. What the lines
+//! of some bytes are is `mv_engine`, which reads and writes, and what a line asks and a reply says is `mv_format`: most of what
+//! these two give out can be reached here too. This crate knows no thread and no word of the command line.
 //!
 //! It can be used alone, with the crates that its line of crates.txt names.
 //! A caller that answers the lines of a reader, proved in the gate (`mv_rows`):
@@ -23,44 +23,16 @@
 //! ```
 #![tactic(auto)]
 
-mod answered;
-mod answering;
 mod canonical;
-mod engine;
-mod fault;
-mod field;
-mod field_reading;
-mod input;
-mod kind;
 pub mod laws;
-mod limits;
-mod line_fault;
-mod line_part;
-mod line_telling;
-mod market_lists;
-mod members;
-mod open_fault;
-mod opening;
-mod output;
-mod reply_line;
-mod request;
 mod serving;
 mod session;
-mod token_line;
 
-pub use answered::Answered;
-pub use answering::Answering;
 pub use canonical::canon;
-pub use engine::answer_lines;
-pub use fault::ServeFault;
-pub use field::LineField;
-pub use line_fault::LineFault;
-pub use market_lists::MarketLists;
-pub use members::{Member, append_object};
-pub use open_fault::OpenFault;
-pub use opening::{limits_of, parties_of};
-pub use output::put_out;
-pub use reply_line::{fault_text, refusal_text, reply_text};
-pub use request::Request;
+pub use mv_engine::{Answering, ServeFault, answer_lines, put_out};
+pub use mv_format::{
+    Answered, LineFault, LineField, MarketLists, Member, OpenFault, Request, append_object,
+    fault_text, limits_of, parties_of, refusal_text, reply_text,
+};
 pub use serving::{serve, serve_last};
 pub use session::Session;

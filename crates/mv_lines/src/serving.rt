@@ -2,11 +2,11 @@
 
 ghost use Rattle.std.specs.Prelude.{◌≡◌, ℕ, List, None, OnOk, IfErr, IfSome};
 ghost use Rattle.std.specs.Io.KnownBytes.{Consumes};
-ghost use Rattle.mv_lines.specs.Served.{Served, Ended};
+ghost use Rattle.mv_engine.specs.Served.{Served, Ended};
 ghost use Rattle.mv_lines.specs.Sessions.{Open, IsReply};
 
 use crate::session::Session;
-use crate::{ServeFault, answer_lines};
+use mv_engine::{ServeFault, answer_lines};
 use std::alloc::Global;
 use std::io::{Read, Write};
 use std::mem;

@@ -7,11 +7,11 @@ ghost use Rattle.mv_hub.specs.Parties.{parties_of};
 ghost use Rattle.mv_json.specs.Reading.{map_err};
 ghost use Rattle.mv_lines.specs.Sessions.{IsOpened, IsRequestTaken, IsTaken, IsReply};
 
-use crate::reply_line::append;
-use crate::{
-    Answered, Answering, LineFault, MarketLists, OpenFault, Request, limits_of, parties_of,
-};
 use json::Scratch;
+use mv_engine::Answering;
+use mv_format::{
+    Answered, LineFault, MarketLists, OpenFault, Request, append_json, limits_of, parties_of,
+};
 use mv_machine::{Limits, Step};
 use mv_system::World;
 use std::alloc::{AllocError, Global};
@@ -43,7 +43,7 @@ impl Answering for Session {
 
     fn answer(&mut self, _number: u32, line: &[u8], out: &mut Vec<u8>) -> Result<bool, AllocError> {
         let answered = self.take(line)?;
-        append(self.alloc, out, &answered)?;
+        append_json(self.alloc, out, &answered)?;
         Ok(true)
     }
 }

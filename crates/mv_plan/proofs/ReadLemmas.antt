@@ -3,11 +3,11 @@ use Rattle.std.proofs.Common.{◌≡◌, ◌≢◌, ℕ, List, [], ◌∷◌, re
 use Rattle.std.specs.Prelude.{IfSome, map, Option, Some, None, Ok, true, false, is_some, option_map}
 use Rattle.std.specs.List.{fold}
 use Rattle.std.specs.Io.KnownBytes.{Consumes}
-use Rattle.mv_lines.specs.declared.fault.ServeFault.{ServeFault}
-use Rattle.mv_lines.specs.declared.fault.ServeFault.TheVariants.{Read, Write, Memory, Start}
-use Rattle.mv_lines.specs.Replies.{ReplyRule, AreReplies}
-use Rattle.mv_lines.specs.Served.{Served, Ended}
-use Rattle.mv_lines.specs.Lines.{Line, pieces, lines_from, lines_of}
+use Rattle.mv_engine.specs.declared.fault.ServeFault.{ServeFault}
+use Rattle.mv_engine.specs.declared.fault.ServeFault.TheVariants.{Read, Write, Memory, Start}
+use Rattle.mv_engine.specs.Replies.{ReplyRule, AreReplies}
+use Rattle.mv_engine.specs.Served.{Served, Ended}
+use Rattle.mv_engine.specs.Lines.{Line, pieces, lines_from, lines_of}
 use Rattle.mv_plan.specs.Planning.{Planned, IsPlanned, planned_by, plan_line}
 use Rattle.mv_plan.specs.Drafts.{Parts}
 use Rattle.mv_plan.specs.Reading.{IsRead, Unread}
@@ -38,18 +38,18 @@ pub read_whole : (input : Option (List ℕ)) (before after planned : Planned) (o
     → IfSome input (λ bytes. Served IsPlanned before bytes after old new) → IfSome input (λ bytes. IsRead bytes planned)
 read_whole None before after planned old new nothing same served = tt
 read_whole (Some bytes) before after planned old new nothing same served = (
-  served.kept,
-  same ∙ are_planned before (lines_from 0 (pieces bytes)) _ after served.replied.2 ∙ ap (λ p. fold plan_line p (lines_of (pieces bytes))) nothing,
+  served.answered.kept,
+  same ∙ are_planned before (lines_from 0 (pieces bytes)) _ after served.answered.replied.2 ∙ ap (λ p. fold plan_line p (lines_of (pieces bytes))) nothing,
 )
 
 -- why the answering of lines ended is why they were not read
 pub unread : {S : Type 0} (rule : ReplyRule S) (fault : ServeFault) (before : S) (input rest old new : Option (List ℕ)) → fault ≢ Write
     → (bytes : List ℕ) × Consumes input rest bytes × Ended rule fault before bytes old new → Unread fault input rest
-unread rule Read before input rest old new read (bytes, took, ended) = (bytes, took, ended.0)
+unread rule Read before input rest old new read (bytes, took, at_end) = (bytes, took, at_end.ended.0)
 unread rule Write before input rest old new read (bytes, took, ended) = absurd (read refl)
-unread rule Start before input rest old new read (bytes, took, (out, written, stopped)) = absurd stopped.why
-unread rule fault before input rest old new read (bytes, took, (out, written, stopped)) =
-    (bytes, took, (stopped.good, stopped.bad, stopped.cut, stopped.why, stopped.kept))
+unread rule Start before input rest old new read (bytes, took, at_end) = absurd at_end.ended.2.why
+unread rule fault before input rest old new read (bytes, took, at_end) =
+    let stopped = at_end.ended.2 in (bytes, took, (stopped.good, stopped.bad, stopped.cut, stopped.why, stopped.answered.kept))
 
 -- memory may be refused before anything was read
 pub unread_memory : (input rest : Option (List ℕ)) (bytes : List ℕ) → Consumes input rest bytes → Unread Memory input rest

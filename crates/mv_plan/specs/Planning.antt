@@ -9,18 +9,18 @@ use Rattle.mv_machine.specs.Limits.{Bounds, limits_of}
 use Rattle.mv_machine.specs.declared.reply.Refusal.TheVariants.{Party, NotYours}
 use Rattle.mv_machine.specs.declared.step.Step.{Step}
 use Rattle.mv_machine.specs.declared.step.Step.TheVariants.{Submit, Verify}
-use Rattle.mv_lines.specs.declared.line_fault.LineFault.{LineFault}
-use Rattle.mv_lines.specs.declared.open_fault.OpenFault.{OpenFault}
-use Rattle.mv_lines.specs.declared.open_fault.OpenFault.TheVariants.{NotOpen, AlreadyOpen, Parties, Limits}
+use Rattle.mv_format.specs.declared.line_fault.LineFault.{LineFault}
+use Rattle.mv_format.specs.declared.open_fault.OpenFault.{OpenFault}
+use Rattle.mv_format.specs.declared.open_fault.OpenFault.TheVariants.{NotOpen, AlreadyOpen, Parties, Limits}
 use Rattle.mv_plan.specs.declared.planned.Planned.{Planned as HeldPlan}
 use Rattle.mv_plan.specs.declared.planned.Planned.TheVariants as held
-use Rattle.mv_lines.specs.declared.request.Request.{Request}
-use Rattle.mv_lines.specs.declared.request.Request.TheVariants as requests
+use Rattle.mv_format.specs.declared.request.Request.{Request}
+use Rattle.mv_format.specs.declared.request.Request.TheVariants as requests
 use Rattle.mv_plan.specs.Drafts.{Parts, new_parts, with_message}
-use Rattle.mv_lines.specs.Lines.{Line}
-use Rattle.mv_lines.specs.Openings.{map_err, code_of}
-use Rattle.mv_lines.specs.ReplyLines.{refused, line_fault_value, refusal_value}
-use Rattle.mv_lines.specs.Requests.{read_line}
+use Rattle.mv_engine.specs.Lines.{Line}
+use Rattle.mv_format.specs.Openings.{map_err, code_of}
+use Rattle.mv_format.specs.ReplyLines.{refused, line_fault_value, refusal_value}
+use Rattle.mv_format.specs.Requests.{read_line}
 
 -- what some lines plan: nothing yet, a plan, or the text of a refusal
 abbrev pub Planned : Type 0

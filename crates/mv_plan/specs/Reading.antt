@@ -2,10 +2,10 @@
 use Rattle.std.specs.Prelude.{◌≡◌, ℕ, List, [], ◌++◌, Option, None, Ok}
 use Rattle.std.specs.List.{fold}
 use Rattle.std.specs.Io.KnownBytes.{Consumes}
-use Rattle.mv_lines.specs.declared.fault.ServeFault.{ServeFault}
-use Rattle.mv_lines.specs.declared.fault.ServeFault.TheVariants.{Read, Write, Start}
-use Rattle.mv_lines.specs.Lines.{pieces, lines_of, whole_from, KeepLimits}
-use Rattle.mv_lines.specs.Served.{StopsAt}
+use Rattle.mv_engine.specs.declared.fault.ServeFault.{ServeFault}
+use Rattle.mv_engine.specs.declared.fault.ServeFault.TheVariants.{Read, Write, Start}
+use Rattle.mv_engine.specs.Lines.{pieces, lines_of, whole_from, KeepLimits}
+use Rattle.mv_engine.specs.Served.{StopsAt}
 use Rattle.mv_plan.specs.Planning.{Planned, plan_line}
 
 -- All lines of an input keep the limits, and this is what they plan.

@@ -6,7 +6,7 @@ use crate::draft::Draft;
 use crate::planned::Planned;
 use crate::planning::plan_line;
 use json::Scratch;
-use mv_lines::Answering;
+use mv_engine::Answering;
 use std::alloc::{AllocError, Global};
 use std::marker::Model;
 

@@ -2,14 +2,14 @@
 
 ghost use Rattle.std.specs.Prelude.{◌≡◌, Ok, Some, IfOk, OnErr, option_map, string_bytes};
 ghost use Rattle.serde_json.specs.Written.{compact_text};
-ghost use Rattle.mv_lines.specs.Openings.{map_err, code_of};
-ghost use Rattle.mv_lines.specs.ReplyLines.{refused, refusal_value};
+ghost use Rattle.mv_format.specs.Openings.{map_err, code_of};
+ghost use Rattle.mv_format.specs.ReplyLines.{refused, refusal_value};
 ghost use Rattle.mv_hub.specs.Parties.{parties_of};
 ghost use Rattle.mv_plan.specs.Planning.{planned_by, begins, plan_step, plan_request, plan_line};
 
 use crate::draft::Draft;
 use json::Scratch;
-use mv_lines::{
+use mv_format::{
     LineFault, MarketLists, OpenFault, Request, fault_text, limits_of, parties_of, refusal_text,
     reply_text,
 };

@@ -6,7 +6,7 @@ ghost use Rattle.mv_plan.specs.Reading.{IsRead, Unread};
 
 use crate::planned::Planned;
 use crate::planner::Planner;
-use mv_lines::{ServeFault, answer_lines};
+use mv_engine::{ServeFault, answer_lines};
 use std::alloc::Global;
 use std::io::{self, Read};
 

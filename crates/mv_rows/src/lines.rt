@@ -1,7 +1,8 @@
-//! `serve` and `canon` over a reader that gives a line a read, and a writer that shows what was flushed. How they do over readers and
+//! `serve`, `canon` and `answer_lines` over a reader that gives a line a read, and a writer that shows what was flushed. How they do over readers and
 //! writers that give and take little at a time, are interrupted or fail is seen on the program.
 
-use mv_lines::{ServeFault, canon, serve};
+use mv_engine::{Answering, ServeFault, answer_lines};
+use mv_lines::{Session, canon, serve};
 use std::alloc::Global;
 use std::io;
 use std::io::{Read, Write};
@@ -144,4 +145,28 @@ fn flushes_the_replies_to_each_block_and_stops_at_a_flush_that_fails(rt: HostRun
         assert!(rt; is_flushed(rt.alloc(), task, 1, Err(ServeFault::Write), 1, 0));
         assert!(rt; is_flushed(rt.alloc(), task, 2, Err(ServeFault::Write), 2, 51));
     }
+}
+
+/// Answers the lines of a text.
+fn answer_text<S: Answering>(
+    alloc: Global,
+    answering: &mut S,
+    text: &str,
+    writer: &mut Tray,
+) -> Result<(), ServeFault> {
+    let mut reader = text.as_bytes();
+    answer_lines(alloc, answering, &mut reader, writer)
+}
+
+/// Whether a session that its caller keeps answers the lines of a text.
+fn is_answered_by_a_session(alloc: Global) -> bool {
+    let mut session = Session::new(alloc);
+    let mut tray = tray_of(alloc, false, 0);
+    let ended = answer_text(alloc, &mut session, "[]\n", &mut tray);
+    ended.is_ok() && tray.bytes.as_slice() == b"{\"refused\":\"M2\"}\n".as_slice()
+}
+
+#[test]
+fn a_session_answers_the_lines_of_a_text(rt: HostRuntime) {
+    assert!(rt; is_answered_by_a_session(rt.alloc()));
 }

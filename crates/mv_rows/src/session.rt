@@ -1,5 +1,6 @@
-//! A session, line by line, as a caller outside of the engine has it.
+//! A session, line by line, as a caller outside of the engine has it, and what a line asks, which needs no session.
 
+use mv_format::Request;
 use mv_lines::{Answered, Session};
 use mv_machine::{Refusal, Reply};
 use std::alloc::Global;
@@ -46,4 +47,15 @@ fn opens_once(alloc: Global) -> bool {
 #[test]
 fn opens_once_and_says_what_it_refuses(rt: HostRuntime) {
     assert!(rt; opens_once(rt.alloc()));
+}
+
+/// Whether a line asks a step.
+fn asks_a_step(alloc: Global, line: &[u8]) -> bool {
+    matches!(Request::read(alloc, line), Ok(Request::Step(_)))
+}
+
+#[test]
+fn a_routing_asks_a_step_and_an_opening_asks_none(rt: HostRuntime) {
+    assert!(rt; asks_a_step(rt.alloc(), ROUTE));
+    assert!(rt; !asks_a_step(rt.alloc(), OPEN));
 }

@@ -1,6 +1,8 @@
 -- Lemmas on a text that is written in blocks.
-use Rattle.std.proofs.Common.{◌≡◌, ℕ, ◌+◌, ◌<◌, ◌≤◌, List, [], ◌∷◌, ◌++◌, length, take, drop, slice_index_or, map, flat_map, refl, ap, sym, ◌∙◌, subst, append_assoc, append-nil, take-append-drop, add-one, zero-add, arith}
-use Rattle.std.specs.Prelude.{Option, Result, Ok, Err, IfErr}
+use Rattle.std.proofs.lemmas.Grind.{common_steps}
+use Rattle.std.proofs.lemmas.Bool.Decides.{nat_tests}
+use Rattle.std.proofs.Common.{◌≡◌, ℕ, ◌+◌, ◌<◌, ◌≤◌, List, [], ◌++◌, length, take, drop, slice_index_or, flat_map, refl, ap, sym, ◌∙◌, subst, append_assoc, append-nil, take-append-drop, add-one, zero-add, arith, rules}
+use Rattle.std.specs.Prelude.{Option, Result, IfErr}
 use Rattle.std.specs.List.{range_with_len}
 use Rattle.std.proofs.Math.Seq.{take-suc}
 use Rattle.std.proofs.KnownBytes.{Appends-nil, Appends-trans}
@@ -8,16 +10,13 @@ use Rattle.std.proofs.lemmas.List.{map-append, take_all}
 use Rattle.std.proofs.lemmas.List.FromFn.{get_or-range_with_len, length-range_with_len}
 use Rattle.std.proofs.lemmas.Grind.{flat_map-append}
 use Rattle.serde_json.specs.Data.{Data}
-use Rattle.serde_json.specs.Written.{compact_text}
-use Rattle.mv_lines.specs.Output.{WrotePart}
+use Rattle.mv_engine.specs.Output.{WrotePart}
 use Rattle.mv_show.specs.Blocks.{Passes}
 use Rattle.mv_show.specs.Shown.{lines_text}
 
 -- the texts of some values, and of others behind them
 pub lines_text-append : (front behind : List Data) → lines_text (front ++ behind) ≡ lines_text front ++ lines_text behind
-lines_text-append front behind =
-    ap (flat_map (λ text. text ++ 10 ∷ [])) (map-append compact_text front behind)
-    ∙ flat_map-append (λ (text : List ℕ). text ++ 10 ∷ []) (map compact_text front) (map compact_text behind)
+lines_text-append front behind = search (rules, flat_map-append, map-append)
 
 -- nothing goes out, and all stands ready
 pub passes_nothing : (w : Option (List ℕ)) (bytes : List ℕ) → Passes w w bytes bytes
@@ -25,25 +24,17 @@ passes_nothing w bytes = ([], Appends-nil w, refl)
 
 -- some bytes went out, and then some of what stood ready with more behind it
 pub passes_more : (a b c : Option (List ℕ)) (bytes more mid rest : List ℕ) → Passes a b bytes mid → Passes b c (mid ++ more) rest → Passes a c (bytes ++ more) rest
-passes_more a b c bytes more mid rest (first, went, cut) (second, goes, cut') = (
-  first ++ second,
-  Appends-trans a b c first second went goes,
-  ap (λ l. l ++ more) cut ∙ append_assoc first mid more ∙ ap (λ l. first ++ l) cut' ∙ sym (append_assoc first second rest),
-)
+passes_more a b c bytes more mid rest (first, went, cut) (second, goes, cut') =
+    search (rules, Appends-trans a b c first second went goes, append_assoc first mid more, append_assoc first second rest)
 
 -- then a write failed
 pub part_more : (a b c : Option (List ℕ)) (bytes more mid : List ℕ) → Passes a b bytes mid → WrotePart (mid ++ more) b c → WrotePart (bytes ++ more) a c
-part_more a b c bytes more mid (first, went, cut) (second, unwritten, cut', goes) = (
-  first ++ second,
-  unwritten,
-  ap (λ l. l ++ more) cut ∙ append_assoc first mid more ∙ ap (λ l. first ++ l) cut' ∙ sym (append_assoc first second unwritten),
-  Appends-trans a b c first second went goes,
-)
+part_more a b c bytes more mid (first, went, cut) (second, unwritten, cut', goes) =
+    search (rules, Appends-trans a b c first second went goes, append_assoc first mid more, append_assoc first second unwritten)
 
 -- a part of a front is a part of the whole
 pub part_of_front : (a b : Option (List ℕ)) (bytes more : List ℕ) → WrotePart bytes a b → WrotePart (bytes ++ more) a b
-part_of_front a b bytes more (out, unwritten, cut, went) =
-    (out, unwritten ++ more, ap (λ l. l ++ more) cut ∙ append_assoc out unwritten more, went)
+part_of_front a b bytes more (out, unwritten, cut, went) = search (rules, append_assoc out unwritten more)
 
 -- what went out is a part
 pub passed_part : (a b : Option (List ℕ)) (bytes ready : List ℕ) → Passes a b bytes ready → WrotePart bytes a b
@@ -55,10 +46,7 @@ texts_of values ready xs = ready ++ lines_text (flat_map values xs)
 
 texts_more : {A : Type 0} (values : A → List Data) (ready : List ℕ) (front behind : List A)
     → texts_of values ready (front ++ behind) ≡ texts_of values ready front ++ lines_text (flat_map values behind)
-texts_more values ready front behind =
-    ap (λ l. ready ++ lines_text l) (flat_map-append values front behind)
-    ∙ ap (λ l. ready ++ l) (lines_text-append (flat_map values front) (flat_map values behind))
-    ∙ sym (append_assoc ready (lines_text (flat_map values front)) (lines_text (flat_map values behind)))
+texts_more values ready front behind = search (rules, append_assoc, flat_map-append, lines_text-append)
 
 module _ {A : Type 0} (values : A → List Data) (ready : List ℕ) (xs : List A) (i : ℕ) where
   -- what came of the first members is a part of the whole
@@ -74,10 +62,7 @@ module _ {A : Type 0} (values : A → List Data) (ready : List ℕ) (xs : List A
 module _ {A : Type 0} (values : A → List Data) (ready : List ℕ) (xs : List A) (i : ℕ) (one : A) (below : i < length xs) (there : one ≡ slice_index_or xs i one) where
   -- the texts of the first members, and of the next
   pub next_texts : texts_of values ready (take i xs) ++ lines_text (values one) ≡ texts_of values ready (take (i + 1) xs)
-  next_texts =
-      ap (λ l. texts_of values ready (take i xs) ++ lines_text l) (sym (append-nil (values one)))
-      ∙ sym (texts_more values ready (take i xs) (one ∷ []))
-      ∙ ap (texts_of values ready) (ap (λ x. take i xs ++ x ∷ []) there ∙ sym (take-suc xs i one below) ∙ ap (λ k. take k xs) (sym (add-one i)))
+  next_texts = grind (arith, nat_tests, common_steps, add-one, append-nil, take-suc, texts_more)
 
   -- the next member's text came, and some of what stood ready went out
   pub member_next : (a b c : Option (List ℕ)) (mid full rest : List ℕ) → Passes a b (texts_of values ready (take i xs)) mid
@@ -103,12 +88,10 @@ numbers_all i n above = take_all i (range_with_len 0 n) (omega (arith, above, le
 
 -- whatever is true is true of an error
 pub err_always : {A E X : Type 0} (r : Result A E) → X → IfErr r (λ (e : E). X)
-err_always (Ok value) fact = tt
-err_always (Err e) fact = fact
+err_always r fact = grind (arith, nat_tests)
 
 pub err_weaker : {A E X Y : Type 0} (r : Result A E) → (X → Y) → IfErr r (λ (e : E). X) → IfErr r (λ (e : E). Y)
-err_weaker (Ok value) weaker fact = tt
-err_weaker (Err e) weaker fact = weaker fact
+err_weaker r weaker fact = grind (arith, nat_tests)
 
 -- the same members have the same texts
 pub part_same : {A : Type 0} (values : A → List Data) (a b : Option (List ℕ)) (ready : List ℕ) (xs ys : List A) → xs ≡ ys
@@ -142,12 +125,7 @@ part_two a b c ready mid front behind went goes =
 
 -- what stood ready went out in part, behind what had gone out
 pub part_last : (a b c : Option (List ℕ)) (bytes ready : List ℕ) → Passes a b bytes ready → WrotePart ready b c → WrotePart bytes a c
-part_last a b c bytes ready (first, went, cut) (second, unwritten, cut', goes) = (
-  first ++ second,
-  unwritten,
-  cut ∙ ap (λ l. first ++ l) cut' ∙ sym (append_assoc first second unwritten),
-  Appends-trans a b c first second went goes,
-)
+part_last a b c bytes ready (first, went, cut) (second, unwritten, cut', goes) = search (rules, Appends-trans, append_assoc)
 
 -- where nothing stood ready before, these bytes alone are written
 pub passes_all : (a b : Option (List ℕ)) (none text ready : List ℕ) → none ≡ [] → Passes a b (none ++ text) ready → Passes a b text ready
@@ -159,5 +137,4 @@ part_all a b none text nothing part = subst (λ l. WrotePart (l ++ text) a b) no
 -- the same, where the writer and what stood ready are known by other names
 pub part_after : (a b b' c : Option (List ℕ)) (bytes ready ready' : List ℕ) → b ≡ b' → ready ≡ ready' → Passes a b' bytes ready' → WrotePart ready b c
     → WrotePart bytes a c
-part_after a b b' c bytes ready ready' writer stood went goes =
-    part_last a b c bytes ready (subst (λ w. Passes a w bytes ready) (sym writer) (subst (λ l. Passes a b' bytes l) (sym stood) went)) goes
+part_after a b b' c bytes ready ready' writer stood went goes = grind (arith, nat_tests, common_steps, part_last)

@@ -1,5 +1,5 @@
 -- Subjects that are noted one after another stand as the list of them that has each once.
-use Rattle.std.proofs.Common.{◌≡◌, List, [], ◌∷◌, ◌++◌, Bool, true, refl, ap, sym, ◌∙◌, append_assoc, append-nil, true≢false}
+use Rattle.std.proofs.Common.{◌≡◌, List, [], ◌∷◌, ◌++◌, Bool, true, refl, ap, sym, ◌∙◌, append_assoc, append-nil, true≢false, rules}
 use Rattle.std.specs.Cmp.{IsEquivalence}
 use Rattle.std.proofs.lemmas.Cmp.{nat_list_eq_equiv}
 use Rattle.std.proofs.lemmas.Bool.Decides.{Decides-and}
@@ -21,17 +21,13 @@ module _ {A : Type 0} (same : A → A → Bool) (laws : IsEquivalence same) (tel
   -- behind those of a list, noted one after another, come those of another
   noted_after : (xs ys : List A) → insert_all same (distinct same xs) ys ≡ distinct same (xs ++ ys)
   noted_after xs [] = ap (distinct same) (sym (append-nil xs))
-  noted_after xs (y ∷ ys) =
-      ap (λ keys. insert_all same keys ys) (sym (distinct-push same laws tells xs y))
-      ∙ noted_after (xs ++ y ∷ []) ys ∙ ap (distinct same) (append_assoc xs (y ∷ []) ys)
+  noted_after xs (y ∷ ys) = search (rules, noted_after (xs ++ y ∷ []) ys, append_assoc, distinct-push)
 
 pack_equivalence : IsEquivalence is_same_pack
 pack_equivalence = equal.laws-law
 
 pack-same : (a b : PackKey) → is_same_pack a b ≡ true → a ≡ b
-pack-same a b e =
-    let same = (Decides-and _ _ (bytes_eq-Decides a.gtin b.gtin) (bytes_eq-Decides a.serial b.serial)).0 e in
-    λ i. record { gtin = same.0 i; serial = same.1 i }
+pack-same a b e = search (rules, Decides-and, bytes_eq-Decides)
 
 -- subjects that are one are equal
 subject-same : (first second : Subject) → is_same_subject first second ≡ true → first ≡ second
@@ -55,11 +51,7 @@ subject-sym (Pack first) (Pack second) = pack_equivalence.symm first second
 subject-sym _ _ = refl
 
 subject_equivalence : IsEquivalence is_same_subject
-subject_equivalence = record {
-  refl = subject-self;
-  symm = subject-sym;
-  congr = λ x y z e. ap (λ (subject : Subject). is_same_subject subject z) (subject-same x y e);
-}
+subject_equivalence = search (rules, subject-same, subject-self, subject-sym)
 
 -- the party is noted, and then what its log names
 pub all_noted : (log : List LogEntry) (none party products recalls packs : List Subject) → none ≡ []

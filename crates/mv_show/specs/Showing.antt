@@ -1,12 +1,12 @@
 -- What a run that shows has read and written.
 use Rattle.std.specs.Prelude.{◌≡◌, ℕ, List, [], ◌∷◌, ◌⊎◌, Option, None, IfSome}
 use Rattle.std.specs.Io.KnownBytes.{Appends, Consumes}
-use Rattle.mv_lines.specs.declared.answered.Answered.{Answered}
-use Rattle.mv_lines.specs.declared.fault.ServeFault.{ServeFault}
-use Rattle.mv_lines.specs.declared.fault.ServeFault.TheVariants.{Read, Write, Memory}
-use Rattle.mv_lines.specs.Lines.{Line, lines_from, pieces, KeepLimits}
-use Rattle.mv_lines.specs.Output.{WrotePart}
-use Rattle.mv_lines.specs.Served.{Stopped}
+use Rattle.mv_format.specs.declared.answered.Answered.{Answered}
+use Rattle.mv_engine.specs.declared.fault.ServeFault.{ServeFault}
+use Rattle.mv_engine.specs.declared.fault.ServeFault.TheVariants.{Read, Write, Memory}
+use Rattle.mv_engine.specs.Lines.{Line, lines_from, pieces, KeepLimits}
+use Rattle.mv_engine.specs.Output.{WrotePart}
+use Rattle.mv_engine.specs.Served.{StoppedAt}
 use Rattle.mv_lines.specs.Sessions.{Open, IsTaken}
 use Rattle.mv_show.specs.Shown.{shown_text}
 
@@ -29,7 +29,7 @@ pub record LeadsTo (before : Open) (bytes : List ℕ) (after : Open) : Type 0 wh
 abbrev pub Untaken : ServeFault → Open → List ℕ → Type 0
 Untaken Read before bytes = KeepLimits 0 (pieces bytes)
 Untaken Write before bytes = ⊥
-Untaken fault before bytes = Stopped IsPassed fault [] 0 before bytes []
+Untaken fault before bytes = (after : Open) × StoppedAt IsPassed fault [] 0 before bytes after []
 
 -- the input was not taken whole, and nothing went out
 abbrev pub NotShown : ServeFault → Option (List ℕ) → Option (List ℕ) → Option (List ℕ) → Option (List ℕ) → Type 0

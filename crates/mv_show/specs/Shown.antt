@@ -23,13 +23,13 @@ use Rattle.mv_repository.specs.PackState.{pack_state, is_recalled, is_withdrawn}
 use Rattle.mv_repository.specs.Repository.{product_of}
 use Rattle.mv_repository.specs.State.{user_at}
 use Rattle.mv_machine.specs.State.{State, submissions_of, log_of, wire_of, applied_count, hub_of}
-use Rattle.mv_lines.specs.Objects.{object_of}
-use Rattle.mv_lines.specs.Writing.{change_value, national_value}
-use Rattle.mv_lines.specs.Openings.{code_of}
-use Rattle.mv_lines.specs.ReplyLines.{refused, wholes}
-use Rattle.mv_lines.specs.Replies.{text_lines}
+use Rattle.mv_format.specs.Objects.{object_of}
+use Rattle.mv_format.specs.Writing.{change_value, national_value}
+use Rattle.mv_format.specs.Openings.{code_of}
+use Rattle.mv_format.specs.ReplyLines.{refused, wholes}
+use Rattle.mv_engine.specs.Replies.{text_lines}
 use Rattle.mv_lines.specs.Sessions.{Open}
-use Rattle.mv_lines.specs.declared.open_fault.OpenFault.TheVariants.{NotOpen}
+use Rattle.mv_format.specs.declared.open_fault.OpenFault.TheVariants.{NotOpen}
 use Rattle.mv_show.specs.declared.subject.Subject.{Subject}
 use Rattle.mv_show.specs.declared.subject.Subject.TheVariants.{Party, Product, Recall, Pack}
 use Rattle.mv_show.specs.Subjects.{subjects_of}

@@ -5,7 +5,7 @@ ghost use Rattle.std.specs.List.{flat_map};
 ghost use Rattle.std.specs.Option.{option_copied};
 ghost use Rattle.std.specs.Io.KnownBytes.{Appends};
 ghost use Rattle.mv_machine.specs.State.{is_party};
-ghost use Rattle.mv_lines.specs.Output.{WrotePart};
+ghost use Rattle.mv_engine.specs.Output.{WrotePart};
 ghost use Rattle.mv_show.specs.Blocks.{Passes, EndsWriting};
 ghost use Rattle.mv_show.specs.Shown.{party_values, links_values, party_numbers, shown_of, shown_text, lines_text};
 

@@ -2,9 +2,9 @@
 
 ghost use Rattle.std.specs.Prelude.{◌≡◌, ◌++◌, ◌∷◌, [], OnOk};
 ghost use Rattle.serde_json.specs.Data.{object};
-ghost use Rattle.mv_lines.specs.Openings.{code_of};
-ghost use Rattle.mv_lines.specs.ReplyLines.{refused};
-ghost use Rattle.mv_lines.specs.Writing.{members_of};
+ghost use Rattle.mv_format.specs.Openings.{code_of};
+ghost use Rattle.mv_format.specs.ReplyLines.{refused};
+ghost use Rattle.mv_format.specs.Writing.{members_of};
 ghost use Rattle.mv_show.specs.Shown.{lines_text};
 
 use mv_lines::{Member, OpenFault, append_object};

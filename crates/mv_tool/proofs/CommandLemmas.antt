@@ -9,7 +9,7 @@ use Rattle.clap.specs.declared.error.kind.ErrorKind.{ErrorKind}
 use Rattle.clap.specs.declared.error.kind.ErrorKind.TheVariants.{OutOfMemory}
 use Rattle.mv_words.specs.Words.{Asked, IsMistake}
 use Rattle.mv_words.specs.Words as asks
-use Rattle.mv_lines.specs.declared.fault.ServeFault.{ServeFault}
+use Rattle.mv_engine.specs.declared.fault.ServeFault.{ServeFault}
 use Rattle.mv_tool.specs.declared.status.Status.{Status}
 use Rattle.mv_tool.specs.declared.status.Status.TheVariants.{Done, Failed, Refused}
 use Rattle.mv_lines.specs.Canon.{IsCanon}
@@ -17,8 +17,8 @@ use Rattle.mv_tool.specs.Commands.{Ran, RanAnswered, RanLines, ServedStrictly}
 use Rattle.mv_tool.specs.Telling.{ToldCodes, ToldStrict}
 use Rattle.mv_checks.specs.declared.strict.Untaken.{Untaken}
 use Rattle.mv_lines.specs.Sessions.{IsReply}
-use Rattle.mv_lines.specs.Replies.{ReplyRule}
-use Rattle.mv_lines.specs.Served.{Served, Ended}
+use Rattle.mv_engine.specs.Replies.{ReplyRule}
+use Rattle.mv_engine.specs.Served.{Served, Ended}
 
 -- the kind of an error of mistaken words is that of a mistake
 pub kind_mistaken : (kind : ErrorKind) (kinds : List ErrorKind) → (kind ≡ OutOfMemory) ⊎ IsAmong kind kinds → AllByRecursion IsMistake kinds → IsMistake kind

@@ -7,13 +7,13 @@ use Rattle.mv_workers.specs.declared.plan.WorkFault.{WorkFault}
 use Rattle.mv_workers.specs.declared.plan.WorkFault.TheVariants as faults
 use Rattle.mv_workers.specs.Plans.{IsSound, KeepsPlan, IsComplete, Faults}
 use Rattle.mv_tool.specs.declared.working.Output.{Output}
-use Rattle.mv_lines.specs.declared.fault.ServeFault.{ServeFault}
-use Rattle.mv_lines.specs.declared.fault.ServeFault.TheVariants.{Memory, Start}
+use Rattle.mv_engine.specs.declared.fault.ServeFault.{ServeFault}
+use Rattle.mv_engine.specs.declared.fault.ServeFault.TheVariants.{Memory, Start}
 use Rattle.mv_plan.specs.Drafts.{Parts, CanRun}
 use Rattle.mv_report.specs.Report.{report_text}
 use Rattle.mv_plan.specs.Planning.{Planned}
 use Rattle.mv_plan.specs.Reading.{IsRead}
-use Rattle.mv_lines.specs.Output.{WrotePart}
+use Rattle.mv_engine.specs.Output.{WrotePart}
 use Rattle.mv_tool.specs.Working.{end_line, parts_of, Written, report_of, output_of, IsReported, IsOutput, IsWorked, Worked, Failed}
 use Rattle.std.specs.Io.KnownBytes.{Appends, Keeps}
 

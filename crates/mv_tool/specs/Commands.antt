@@ -5,13 +5,13 @@ use Rattle.mv_explain.specs.Explained.{first_unknown, lines_of}
 use Rattle.mv_checks.specs.declared.strict.Untaken.{Untaken}
 use Rattle.mv_checks.specs.Checks.{IsChecked}
 use Rattle.mv_checks.specs.Strict.{IsStrictReply, strict_at}
-use Rattle.mv_lines.specs.declared.fault.ServeFault.{ServeFault}
+use Rattle.mv_engine.specs.declared.fault.ServeFault.{ServeFault}
 use Rattle.mv_tool.specs.declared.status.Status.{Status}
 use Rattle.mv_tool.specs.declared.status.Status.TheVariants.{Done, Failed, Refused}
 use Rattle.mv_lines.specs.Canon.{IsCanon}
-use Rattle.mv_lines.specs.Replies.{ReplyRule}
-use Rattle.mv_lines.specs.Served.{Served, Ended}
-use Rattle.mv_lines.specs.Output.{WrotePart}
+use Rattle.mv_engine.specs.Replies.{ReplyRule}
+use Rattle.mv_engine.specs.Served.{Served, Ended}
+use Rattle.mv_engine.specs.Output.{WrotePart}
 use Rattle.mv_lines.specs.Sessions.{IsReply, Open}
 use Rattle.mv_show.specs.Showing.{LeadsTo, Unshown}
 use Rattle.mv_show.specs.Shown.{shown_text}

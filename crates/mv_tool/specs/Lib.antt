@@ -3,11 +3,11 @@ pub mod Working
 pub mod Telling
 pub mod Commands
 pub use Rattle.mv_words.specs.Words
-pub use Rattle.mv_lines.specs.Lines
-pub use Rattle.mv_lines.specs.Replies
+pub use Rattle.mv_engine.specs.Lines
+pub use Rattle.mv_engine.specs.Replies
 pub use Rattle.mv_lines.specs.Sessions
 pub use Rattle.mv_lines.specs.Canon
-pub use Rattle.mv_lines.specs.Served
+pub use Rattle.mv_engine.specs.Served
 pub use Rattle.mv_explain.specs.Explained
 pub use Rattle.mv_checks.specs.Checks
 pub use Rattle.mv_checks.specs.Strict

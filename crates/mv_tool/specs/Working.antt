@@ -7,12 +7,12 @@ use Rattle.mv_workers.specs.declared.plan.Plan.{Plan}
 use Rattle.mv_workers.specs.declared.plan.WorkFault.{WorkFault}
 use Rattle.mv_workers.specs.declared.plan.WorkFault.TheVariants as faults
 use Rattle.mv_workers.specs.Plans.{KeepsPlan, IsComplete}
-use Rattle.mv_lines.specs.declared.fault.ServeFault.{ServeFault}
-use Rattle.mv_lines.specs.declared.fault.ServeFault.TheVariants.{Write, Memory, Start}
-use Rattle.mv_lines.specs.declared.open_fault.OpenFault.TheVariants.{NotOpen}
-use Rattle.mv_lines.specs.Openings.{code_of}
-use Rattle.mv_lines.specs.Output.{WrotePart}
-use Rattle.mv_lines.specs.ReplyLines.{refused}
+use Rattle.mv_engine.specs.declared.fault.ServeFault.{ServeFault}
+use Rattle.mv_engine.specs.declared.fault.ServeFault.TheVariants.{Write, Memory, Start}
+use Rattle.mv_format.specs.declared.open_fault.OpenFault.TheVariants.{NotOpen}
+use Rattle.mv_format.specs.Openings.{code_of}
+use Rattle.mv_engine.specs.Output.{WrotePart}
+use Rattle.mv_format.specs.ReplyLines.{refused}
 use Rattle.mv_plan.specs.Drafts.{Parts}
 use Rattle.mv_plan.specs.Planning.{Planned}
 use Rattle.mv_plan.specs.Reading.{IsRead, Unread}

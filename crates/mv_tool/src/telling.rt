@@ -2,7 +2,7 @@
 
 ghost use Rattle.std.specs.Prelude.{◌≡◌, ⊤, IfOk, MatchResult, map, string_bytes, if◌then◌else◌};
 ghost use Rattle.std.specs.Io.KnownBytes.{Keeps};
-ghost use Rattle.mv_lines.specs.Output.{WrotePart};
+ghost use Rattle.mv_engine.specs.Output.{WrotePart};
 ghost use Rattle.mv_tool.specs.Telling.{ToldCodes, ToldStrict, no_code_line, untaken_line};
 
 use crate::Status;

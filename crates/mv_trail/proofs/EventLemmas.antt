@@ -1,29 +1,22 @@
 -- What is written of an event.
-use Rattle.std.proofs.Common.{◌≡◌, ℕ, List, length, subst, refl, inr, IfOk, IfErr, Bool, is_some, option_map, Option, Some, None, Result, Ok, Err}
+use Rattle.std.proofs.lemmas.Bool.Decides.{nat_tests}
+use Rattle.std.proofs.Common.{◌≡◌, ℕ, List, length, subst, refl, inr, IfOk, IfErr, Bool, option_map, Some, Result, Ok, Err, arith}
 use Rattle.mv_message.specs.declared.message.Message.{Message}
 use Rattle.mv_hub.specs.declared.entry.Entry.{Entry}
 use Rattle.mv_hub.specs.declared.entry.Entry.TheVariants as entries
-use Rattle.mv_lines.specs.Lines.{line_at}
-use Rattle.mv_lines.specs.Replies.{GotNoReply, Readied, said}
+use Rattle.mv_engine.specs.Lines.{line_at}
+use Rattle.mv_engine.specs.Replies.{GotNoReply, Readied, said}
 use Rattle.mv_lines.specs.Sessions.{Open, IsTaken}
-use Rattle.mv_lines.specs.declared.answered.Answered.{Answered}
+use Rattle.mv_format.specs.declared.answered.Answered.{Answered}
 use Rattle.mv_trail.specs.Events.{Event, event_of, last_of, routed, routing}
 use Rattle.mv_trail.specs.EventValues.{event_value}
-use Rattle.mv_trail.specs.Trail.{event_text, IsEvent, text_or_none, Says, Tells}
-
--- the text of an event, where it is said that there is one
-said_event : (line : ℕ) (spoken : Bool) (event : Option Event) → spoken ≡ is_some event
-    → said spoken (text_or_none line event) ≡ option_map (event_text line) event
-said_event line spoken None is = rw is refl
-said_event line spoken (Some event) is = rw is refl
+use Rattle.mv_trail.specs.Trail.{event_text, IsEvent, Says, Tells}
 
 -- what was said of a line's event is what may be written to the line
 pub event_answers : {E : Type 0} (r : Result Bool E) (old new : List ℕ) (line : ℕ) (before : Open) (bytes : List ℕ) (answered : Answered) (after : Open)
     → IsTaken before bytes answered after → Tells r old new line (event_of answered after)
     → IfOk r (λ spoken. Readied old new (λ text. IsEvent before (line_at line bytes) (said spoken text) after))
-event_answers (Ok spoken) old new line before bytes answered after taken tells =
-    (text_or_none line (event_of answered after), tells.1, (answered, taken, said_event line spoken (event_of answered after) tells.0))
-event_answers (Err e) old new line before bytes answered after taken tells = tt
+event_answers r old new line before bytes answered after taken tells = grind (arith, nat_tests)
 
 -- where there was no memory for it, the line was taken all the same
 pub event_unanswered : {E : Type 0} (r : Result Bool E) (line : ℕ) (before : Open) (bytes : List ℕ) (answered : Answered) (after : Open)

@@ -1,26 +1,22 @@
 -- The events of a run tell the record, the logs and the submissions.
-use Rattle.std.proofs.Common.{◌≡◌, ℕ, zero, suc, List, [], ◌∷◌, ◌++◌, map, length, Some, None, refl, sym, ap, ◌∙◌, subst, append-nil, append_assoc, get_or}
-use Rattle.std.specs.Prelude.{option_map, option_to_list, Option, Result, Ok, Err, MatchResult, replicate, ⊤}
+use Rattle.std.proofs.lemmas.Grind.{common_steps}
+use Rattle.std.proofs.lemmas.Bool.Decides.{nat_tests}
+use Rattle.std.proofs.Common.{◌≡◌, ℕ, List, [], ◌∷◌, ◌++◌, map, length, Some, None, refl, sym, ap, ◌∙◌, append-nil, append_assoc, get_or, arith, rules}
+use Rattle.std.specs.Prelude.{option_map, option_to_list, Option, replicate, ⊤}
 use Rattle.std.specs.List.{filter_map}
 use Rattle.mv_machine.specs.declared.step.Step.{Step}
 use Rattle.mv_machine.specs.declared.reply.Reply.{Reply}
-use Rattle.mv_machine.specs.Limits.{Bounds, limits_of}
+use Rattle.mv_machine.specs.Limits.{Bounds}
 use Rattle.mv_machine.specs.State.{State, opening, submissions_of, log_of}
 use Rattle.mv_machine.specs.Runs.{Allows}
 use Rattle.mv_machine.proofs.CallerLemmas.{IsSound, change-sound, opening-sound, step-changes}
-use Rattle.mv_hub.specs.Parties.{parties_of}
-use Rattle.mv_json.specs.Reading.{map_err}
-use Rattle.mv_lines.specs.declared.answered.Answered.{Answered}
-use Rattle.mv_lines.specs.declared.answered.Answered.TheVariants as answers
-use Rattle.mv_lines.specs.declared.line_fault.LineFault.{LineFault}
-use Rattle.mv_lines.specs.declared.open_fault.OpenFault.{OpenFault}
-use Rattle.mv_lines.specs.declared.open_fault.OpenFault.TheVariants as faults
-use Rattle.mv_lines.specs.declared.request.Request.{Request}
-use Rattle.mv_lines.specs.declared.request.Request.TheVariants as requests
-use Rattle.mv_lines.specs.Lines.{Line}
-use Rattle.mv_lines.specs.Replies.{AreReplies, said_texts, text_lines}
-use Rattle.mv_lines.specs.Requests.{read_line}
-use Rattle.mv_lines.specs.Sessions.{Open, IsOpened, IsRequestTaken, IsTaken}
+use Rattle.mv_format.specs.declared.answered.Answered.{Answered}
+use Rattle.mv_format.specs.declared.answered.Answered.TheVariants as answers
+use Rattle.mv_format.specs.declared.line_fault.LineFault.{LineFault}
+use Rattle.mv_format.specs.declared.open_fault.OpenFault.{OpenFault}
+use Rattle.mv_engine.specs.Lines.{Line}
+use Rattle.mv_engine.specs.Replies.{AreReplies, said_texts}
+use Rattle.mv_lines.specs.Sessions.{Open, IsTaken}
 use Rattle.mv_trail.specs.Events as events
 use Rattle.mv_trail.specs.Events.{Event, event_of, event_of_step}
 use Rattle.mv_trail.specs.Laws.{AreTold, events_in, texts_in, placed, entry_told, applied_told, submission_told, unless_answer, EventsAreWritten, RecordIsTold, LogsAreTold, SubmissionsAreTold}
@@ -37,39 +33,12 @@ data Came (before : Open) : Answered → Open → Type 0 where
   stepped : (old : State) (step : Step) (reply : Reply) (new : State) → before ≡ Some old → Allows old step reply new
       → Came before (answers.Stepped step reply) (Some new)
 
-came-opened : (before : Open) (parties : Result (List (List (List ℕ))) OpenFault) (limits : Result Bounds OpenFault) (answered : Answered)
-    (after : Open) → IsOpened before parties limits answered after → Came before answered after
-came-opened (Some st) parties limits answered after taken = rw (taken.0, taken.1) (not_taken faults.AlreadyOpen)
-came-opened None (Err fault) limits answered after taken = rw (taken.0, taken.1) (not_taken fault)
-came-opened None (Ok parties) (Err fault) answered after taken = rw (taken.0, taken.1) (not_taken fault)
-came-opened None (Ok parties) (Ok limits) answered after taken = rw (taken.0, taken.1) (opened parties limits (length parties) refl)
-
-came-request : (before : Open) (request : Request) (answered : Answered) (after : Open) → IsRequestTaken before request answered after
-    → Came before answered after
-came-request before (requests.Open parties submissions uplink window wire) answered after taken =
-    came-opened before (map_err faults.Parties (parties_of parties)) (map_err faults.Limits (limits_of window wire uplink submissions)) answered after taken
-came-request None (requests.Step step) answered after taken = rw (taken.0, taken.1) (not_taken faults.NotOpen)
-came-request (Some old) (requests.Step step) answered after taken =
-    rw (taken.3, taken.4) (stepped old step taken.0 taken.1 refl taken.2)
-
-came-read : (before : Open) (read : Result Request LineFault) (answered : Answered) (after : Open)
-    → MatchResult read (λ request. IsRequestTaken before request answered after) (λ fault. (answered ≡ answers.Unread fault) × (after ≡ before))
-    → Came before answered after
-came-read before (Ok request) answered after taken = came-request before request answered after taken
-came-read before (Err fault) answered after taken = rw (taken.0, taken.1) (unread fault)
-
 came : (before : Open) (line : List ℕ) (answered : Answered) (after : Open) → IsTaken before line answered after → Came before answered after
-came before line answered after taken = came-read before (read_line line) answered after taken
+came before line answered after taken = grind (arith, nat_tests, not_taken, opened, stepped, unread)
 
 told-first : {X : Type 0} (tell : Event → Option X) (event : Option Event) (rest : List Event)
     → filter_map tell (option_to_list event ++ rest) ≡ told tell event ++ filter_map tell rest
-told-first tell None rest = refl
-told-first tell (Some event) rest = told-one tell (tell event) event rest refl
-  where
-    told-one : {X : Type 0} (tell : Event → Option X) (found : Option X) (event : Event) (rest : List Event) → tell event ≡ found
-        → filter_map tell (event ∷ rest) ≡ option_to_list (tell event) ++ filter_map tell rest
-    told-one tell None event rest is = rw is refl
-    told-one tell (Some x) event rest is = rw is refl
+told-first tell event rest = grind (arith, nat_tests)
 
 -- what holds of what is open, if something is
 abbrev OfOpen : (State → Type 0) → Open → Type 0
@@ -80,8 +49,7 @@ came-sound : (before : Open) (answered : Answered) (after : Open) → Came befor
 came-sound before _ _ (unread fault) sound = sound
 came-sound before _ _ (not_taken fault) sound = sound
 came-sound before _ _ (opened parties limits count none) sound = opening-sound parties limits
-came-sound before _ _ (stepped old step reply new is allowed) sound =
-    change-sound old new _ (step-changes old step reply new allowed) (subst (OfOpen IsSound) is sound)
+came-sound before _ _ (stepped old step reply new is allowed) sound = search (rules, IsSound, change-sound, step-changes)
 
 -- what a state keeps, of what is open; nothing, before something is
 abbrev kept_of : {X : Type 0} → (State → List X) → Open → List X
@@ -94,23 +62,15 @@ module _ {X : Type 0} (tell : Event → Option X) (kept : State → List X)
     (grows : (st : State) → IsSound st → IsTold tell kept st) where
   line-told : (before : Open) (answered : Answered) (after : Open) → Came before answered after → OfOpen IsSound before
       → kept_of kept after ≡ kept_of kept before ++ told tell (event_of answered after)
-  line-told before _ _ (unread fault) sound = sym (append-nil (kept_of kept before))
-  line-told before _ _ (not_taken fault) sound = sym (append-nil (kept_of kept before))
-  line-told before _ _ (opened parties limits count none) sound = rw (none, silent parties limits) (begins parties limits)
-  line-told before _ _ (stepped old step reply new is allowed) sound =
-      rw is (step_grows tell kept old (grows old (subst (OfOpen IsSound) is sound)) step reply new allowed)
+  line-told before answered after came sound = grind (arith, nat_tests, IsSound, append-nil, step_grows)
 
   lines-told : (lines : List (List ℕ)) (events : List Event) (before after : Open) → OfOpen IsSound before → AreTold before lines events after
       → kept_of kept after ≡ kept_of kept before ++ filter_map tell events
-  lines-told [] events before after sound are =
-      ap (kept_of kept) are.1 ∙ sym (append-nil (kept_of kept before)) ∙ ap (λ l. kept_of kept before ++ filter_map tell l) (sym are.0)
+  lines-told [] events before after sound are = search (rules, append-nil)
   lines-told (line ∷ lines) events before after sound are =
       let first = came before line are.0 are.1 are.3 in
-      lines-told lines are.2 are.1 after (came-sound before are.0 are.1 first sound) are.5
-      ∙ ap (λ l. l ++ filter_map tell are.2) (line-told before are.0 are.1 first sound)
-      ∙ append_assoc (kept_of kept before) (told tell (event_of are.0 are.1)) (filter_map tell are.2)
-      ∙ ap (λ l. kept_of kept before ++ l) (sym (told-first tell (event_of are.0 are.1) are.2))
-      ∙ ap (λ l. kept_of kept before ++ filter_map tell l) (sym are.4)
+      let rest = lines-told lines are.2 are.1 after (came-sound before are.0 are.1 first sound) are.5 in
+      search (rules, rest, line-told before are.0 are.1 first sound, append_assoc, told-first, are.4)
 
   -- the events of a whole run tell all that is kept of its last state
   pub run-told : (lines : List (List ℕ)) (events : List Event) (st : State) → AreTold None lines events (Some st) → filter_map tell events ≡ kept st
@@ -120,9 +80,7 @@ pub record_is_told : RecordIsTold
 record_is_told = run-told entry_told (λ st. placed 0 st.entries) (λ parties limits. refl) (λ parties limits. refl) (λ st sound. record_told st)
 
 none-at : {A : Type 0} (count party : ℕ) → ◌≡◌ {A = List A} (get_or (replicate count []) party []) []
-none-at zero party = refl
-none-at (suc count) zero = refl
-none-at (suc count) (suc party) = none-at count party
+none-at count party = grind (arith, common_steps)
 
 pub logs_are_told : LogsAreTold
 logs_are_told party =
@@ -142,12 +100,10 @@ numbered line event = map (λ it. (line, it)) (option_to_list event)
 -- what is written to a line and to others is the text of its event and those of theirs
 text-first : (line : ℕ) (event : Option Event) (texts : List (Option (List ℕ))) (others : List (ℕ × Event)) → said_texts texts ≡ texts_in others
     → said_texts (option_map (event_text line) event ∷ texts) ≡ texts_in (numbered line event ++ others)
-text-first line None texts others are = are
-text-first line (Some event) texts others are = ap (λ rest. event_text line event ∷ rest) are
+text-first line event texts others are = grind (arith, nat_tests)
 
 event-first : (line : ℕ) (event : Option Event) (others : List (ℕ × Event)) → events_in (numbered line event ++ others) ≡ option_to_list event ++ events_in others
-event-first line None others = refl
-event-first line (Some event) others = refl
+event-first line event others = grind (arith, nat_tests)
 
 -- what is written to lines are the texts of their events
 texts-told : (before : Open) (lines : List Line) (texts : List (Option (List ℕ))) (after : Open) → AreReplies IsEvent before lines texts after
@@ -164,6 +120,4 @@ texts-told before (line ∷ lines) (text ∷ texts) after (between, (answered, t
     )
 
 pub events_are_written : EventsAreWritten
-events_are_written before lines out after (texts, is, replies) =
-    let pairs = texts-told before lines texts after replies in
-    (pairs.0, is ∙ ap text_lines pairs.1, pairs.2)
+events_are_written before lines out after (texts, is, replies) = search (rules, texts-told)

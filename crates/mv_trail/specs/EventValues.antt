@@ -11,9 +11,9 @@ use Rattle.mv_repository.specs.declared.effect.Effect.{Effect}
 use Rattle.mv_repository.specs.declared.effect.Effect.TheVariants.{Uploaded}
 use Rattle.mv_repository.specs.declared.verdict.Verdict.{Verdict}
 use Rattle.mv_repository.specs.declared.verdict.Verdict.TheVariants.{Authentic, NotAuthentic}
-use Rattle.mv_lines.specs.Meanings.{markets_value}
-use Rattle.mv_lines.specs.ReplyLines.{wholes}
-use Rattle.mv_lines.specs.Writing.{member_where}
+use Rattle.mv_format.specs.Meanings.{markets_value}
+use Rattle.mv_format.specs.ReplyLines.{wholes}
+use Rattle.mv_format.specs.Writing.{member_where}
 use Rattle.mv_trail.specs.Events.{Event, opened, submitted, asked, verified, routed, applied, closed, decided}
 
 -- a member of an object: its key, and its value, where it has one

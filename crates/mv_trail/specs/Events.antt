@@ -16,8 +16,8 @@ use Rattle.mv_machine.specs.declared.reply.Reply.TheVariants as replies
 use Rattle.mv_machine.specs.Limits.{Bounds}
 use Rattle.mv_machine.specs.State.{State, submissions_of, log_of}
 use Rattle.mv_lines.specs.Sessions.{Open}
-use Rattle.mv_lines.specs.declared.answered.Answered.{Answered}
-use Rattle.mv_lines.specs.declared.answered.Answered.TheVariants as answers
+use Rattle.mv_format.specs.declared.answered.Answered.{Answered}
+use Rattle.mv_format.specs.declared.answered.Answered.TheVariants as answers
 
 -- What a line did. Parties are counted from 0, all else from 1; a stamp is the place of an entry in the hub's record.
 pub data Event : Type 0 where

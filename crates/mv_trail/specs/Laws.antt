@@ -8,10 +8,10 @@ use Rattle.mv_hub.specs.declared.entry.Entry.{Entry}
 use Rattle.mv_hub.specs.declared.entry.Entry.TheVariants as entries
 use Rattle.mv_repository.specs.declared.entry.LogEntry.{LogEntry}
 use Rattle.mv_machine.specs.State.{State, submissions_of, log_of}
-use Rattle.mv_lines.specs.Lines.{Line}
-use Rattle.mv_lines.specs.Replies.{IsReplies, text_lines}
+use Rattle.mv_engine.specs.Lines.{Line}
+use Rattle.mv_engine.specs.Replies.{IsReplies, text_lines}
 use Rattle.mv_lines.specs.Sessions.{Open, IsTaken}
-use Rattle.mv_lines.specs.declared.answered.Answered.{Answered}
+use Rattle.mv_format.specs.declared.answered.Answered.{Answered}
 use Rattle.mv_trail.specs.Events.{Event, submitted, asked, routed, applied, closed, event_of}
 use Rattle.mv_trail.specs.Trail.{IsEvent, event_text}
 

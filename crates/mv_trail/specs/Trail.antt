@@ -2,9 +2,9 @@
 use Rattle.std.specs.Prelude.{◌≡◌, ℕ, List, [], ◌++◌, Bool, true, is_some, Option, Some, None, option_map, Result, MatchResult}
 use Rattle.serde_json.specs.Data.{Data}
 use Rattle.serde_json.specs.Written.{compact_text}
-use Rattle.mv_lines.specs.Lines.{Line}
+use Rattle.mv_engine.specs.Lines.{Line}
 use Rattle.mv_lines.specs.Sessions.{Open, IsTaken}
-use Rattle.mv_lines.specs.declared.answered.Answered.{Answered}
+use Rattle.mv_format.specs.declared.answered.Answered.{Answered}
 use Rattle.mv_trail.specs.Events.{Event, event_of}
 use Rattle.mv_trail.specs.EventValues.{event_value}
 

@@ -5,7 +5,7 @@ ghost use Rattle.std.specs.Option.{option_copied};
 ghost use Rattle.serde_json.specs.Data.{object};
 ghost use Rattle.mv_machine.specs.State.{submissions_of, log_of};
 ghost use Rattle.mv_party.specs.Site.{entry_from};
-ghost use Rattle.mv_lines.specs.Writing.{members_of};
+ghost use Rattle.mv_format.specs.Writing.{members_of};
 ghost use Rattle.mv_trail.specs.Events.{last_of, asked_about, event_of_step, event_of, opened, applied};
 ghost use Rattle.mv_trail.specs.EventValues.{new_packs, old_packs, suspicion, verdict_name};
 ghost use Rattle.mv_trail.specs.Trail.{Tells, Says};

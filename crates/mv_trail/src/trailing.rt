@@ -2,7 +2,7 @@
 
 ghost use Rattle.std.specs.Prelude.{◌≡◌, ℕ, List, None, OnOk, IfErr, IfSome};
 ghost use Rattle.std.specs.Io.KnownBytes.{Consumes};
-ghost use Rattle.mv_lines.specs.Served.{Served, Ended};
+ghost use Rattle.mv_engine.specs.Served.{Served, Ended};
 ghost use Rattle.mv_lines.specs.Sessions.{Open};
 ghost use Rattle.mv_trail.specs.Trail.{IsEvent};
 

@@ -1,5 +1,10 @@
-use Rattle.mv_plan.proofs.ReadLemmas.{read_whole}
+use Rattle.std.proofs.Common.{rules}
+use Rattle.mv_plan.proofs.ReadLemmas.{read_whole, unread}
 use Rattle.mv_plan.proofs.reading.read_plan.Goals as goal
 
 pub returns-in-Ok-clause-ok : goal.returns-in-Ok-clause-ok
 returns-in-Ok-clause-ok g c = read_whole _ _ _ _ _ _ c.new-planner.ensures c.into_planned.ensures c.in-Ok.ensures.ok
+
+-- what ended the answering is no write
+pub returns-clause-err : goal.returns-clause-err
+returns-clause-err g c = unread _ c.in-Err.fault _ _ _ _ _ (search rules) c.in-Err.ensures.err

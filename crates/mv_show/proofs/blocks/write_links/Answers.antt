@@ -1,4 +1,4 @@
-use Rattle.std.proofs.Common.{length, arith}
+use Rattle.std.proofs.Common.{length, arith, rules}
 use Rattle.mv_show.specs.Shown.{links_values, party_numbers}
 use Rattle.mv_show.proofs.BlockLemmas.{err_always, member_next, member_part, member_stop, number_at, numbers_all, passes_same}
 use Rattle.mv_show.proofs.blocks.write_links.Goals as goal
@@ -24,6 +24,4 @@ loop-from-preserved g c =
     _ _ _ c.loop-from.ready.items _ _ c.loop-from.invariant c.in_ok-append_links.ensures c.in_ok-put_full.ensures.ok
 
 pub returns-clause-ok : goal.returns-clause-ok
-returns-clause-ok g c =
-    let st = c.args.world.now in
-    passes_same (links_values st) _ _ c.args.ready.now.items _ _ _ (numbers_all c.loop-from.from (length st.parties) (omega arith)) c.loop-from.invariant
+returns-clause-ok g c = search (rules, numbers_all, passes_same)

@@ -1,4 +1,4 @@
-use Rattle.std.proofs.Common.{refl, length, arith}
+use Rattle.std.proofs.Common.{refl, length, arith, rules}
 use Rattle.mv_show.specs.Shown.{party_values, party_numbers}
 use Rattle.mv_show.proofs.BlockLemmas.{err_always, member_next, member_part, number_at, numbers_all, passes_same}
 use Rattle.mv_show.proofs.blocks.write_parties.Goals as goal
@@ -18,6 +18,4 @@ loop-party-preserved g c =
     _ _ _ c.loop-party.ready.items _ _ c.loop-party.invariant refl c.in_ok-write_party.ensures.ok
 
 pub returns-clause-ok : goal.returns-clause-ok
-returns-clause-ok g c =
-    let st = c.args.world.now in
-    passes_same (party_values st) _ _ c.args.ready.now.items _ _ _ (numbers_all c.loop-party.party (length st.parties) (omega arith)) c.loop-party.invariant
+returns-clause-ok g c = search (rules, numbers_all, passes_same)

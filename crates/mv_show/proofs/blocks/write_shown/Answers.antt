@@ -1,13 +1,12 @@
-use Rattle.std.proofs.Common.{◌∙◌, ◌++◌, None, ap}
+use Rattle.std.proofs.lemmas.Bool.Decides.{nat_tests}
+use Rattle.std.proofs.Common.{◌∙◌, ◌++◌, None, ap, arith}
 use Rattle.mv_show.specs.Shown.{lines_text, shown_of, shown_values}
 use Rattle.mv_show.proofs.BlockLemmas.{err_always, part_all, part_after, passes_all, passes_nothing}
 use Rattle.mv_show.proofs.blocks.write_shown.Goals as goal
 use Rattle.mv_show.proofs.blocks.write_shown.Goals.{in-Some+in_ok-write_world-in-Some, in-None+in_ok-append_not_open-in-None}
 
 pub returns-in_err-write_world-in-Some-clause-err : goal.returns-in_err-write_world-in-Some-clause-err
-returns-in_err-write_world-in-Some-clause-err g c =
-    rw c.in-Some.is (err_always c.from_residual.result (part_all _ _ c.new-ready.result.items (lines_text (shown_of c.in-Some.world.now))
-    c.new-ready.ensures.items c.in_err-write_world-in-Some.ensures.err))
+returns-in_err-write_world-in-Some-clause-err g c = grind (arith, nat_tests, err_always, part_all)
 
 -- what stood ready went out in part, behind what had gone out
 pub returns-in_err-put_out-clause-err : goal.returns-in_err-put_out-clause-err

@@ -1,14 +1,11 @@
-use Rattle.std.proofs.Common.{flat_map}
+use Rattle.std.proofs.Common.{flat_map, rules}
 use Rattle.std.proofs.lemmas.Result.{on_ok_weaker}
 use Rattle.mv_show.specs.Shown.{party_values, links_values, party_numbers}
 use Rattle.mv_show.proofs.BlockLemmas.{err_always, err_weaker, part_of_two, passes_two, part_two}
 use Rattle.mv_show.proofs.blocks.write_world.Goals as goal
 
 pub returns-in_err-write_parties-clause-err : goal.returns-in_err-write_parties-clause-err
-returns-in_err-write_parties-clause-err g c =
-    let st = c.args.world.now in
-    err_always c.from_residual.result (part_of_two _ _ c.args.ready.now.items (flat_map (party_values st) (party_numbers st))
-    (flat_map (links_values st) (party_numbers st)) c.in_err-write_parties.ensures.err)
+returns-in_err-write_parties-clause-err g c = search (rules, err_always, part_of_two)
 
 pub returns-clause-ok : goal.returns-clause-ok
 returns-clause-ok g c =

@@ -1,4 +1,4 @@
-use Rattle.std.proofs.Common.{◌++◌, ◌∙◌, ap, length, arith}
+use Rattle.std.proofs.Common.{◌++◌, ◌∙◌, ap, length, arith, rules}
 use Rattle.mv_show.specs.Shown.{link_values, lines_text, party_numbers}
 use Rattle.mv_show.proofs.BlockLemmas.{next_texts, number_at, numbers_all, texts_of}
 use Rattle.mv_show.proofs.link_lines.append_links.Goals as goal
@@ -11,6 +11,4 @@ loop-to-preserved c =
     ∙ next_texts (link_values st c.args.from) c.args.out.now.items (party_numbers st) c.loop-to.to c.loop-to.to at.0 at.1
 
 pub returns : goal.returns
-returns c =
-    let st = c.args.world.now in
-    c.loop-to.invariant ∙ ap (texts_of (link_values st c.args.from) c.args.out.now.items) (numbers_all c.loop-to.to (length st.parties) (omega arith))
+returns c = search (rules, numbers_all, texts_of)

@@ -1,6 +1,7 @@
 use Rattle.std.specs.Mem.{manually_drop_value}
 use Rattle.std.proofs.Common.{◌≡◌, rules}
-use Rattle.mv_lines.specs.Sessions.{is_refused, IsTaken}
+use Rattle.mv_format.specs.ReplyLines.{is_refused}
+use Rattle.mv_lines.specs.Sessions.{IsTaken}
 use Rattle.mv_checks.specs.Strict.{tallied}
 use Rattle.mv_checks.proofs.StrictLemmas.{counted_unanswered}
 use Rattle.mv_checks.proofs.strict.CountedAnswering.answer.Goals as goal

@@ -1,0 +1,131 @@
+-- Lemmas on an input that comes in parts.
+use Rattle.std.proofs.lemmas.Grind.{common_steps}
+use Rattle.std.proofs.lemmas.Bool.Decides.{nat_tests}
+use Rattle.std.proofs.Common.{◌≡◌, ℕ, ◌+◌, ◌<◌, ◌≤◌, List, [], ◌∷◌, ◌++◌, length, refl, sym, ◌∙◌, ap, subst, arith, append_assoc, append-nil, length-append, rules, inr}
+use Rattle.std.specs.Prelude.{Option}
+use Rattle.std.specs.Io.BufRead.{strip_last}
+use Rattle.mv_engine.specs.declared.fault.ServeFault.{ServeFault}
+use Rattle.mv_engine.specs.Lines.{Line, line_at, line_begun, whole_from, rest_from, lines_from, line_limit, lines_limit, IsUnended, KeepLimits}
+use Rattle.mv_engine.specs.Replies.{GotNoReply}
+use Rattle.mv_engine.specs.Served.{AreAnswered, StopsAt, StopsIn, StoppedAt, LeftBy}
+use Rattle.mv_engine.specs.Taking.{Taken}
+use Rattle.mv_engine.proofs.PartLemmas.{unended_whole, unended_rest, unended_front}
+use Rattle.mv_engine.proofs.RepliesLemmas.{IsReplies-append, IsReplies-nil}
+
+-- the whole pieces of two parts
+pub whole_from-append : (begun xs ys : List ℕ) → whole_from begun (xs ++ ys) ≡ whole_from begun xs ++ whole_from (rest_from begun xs) ys
+whole_from-append begun [] ys = refl
+whole_from-append begun (x ∷ xs) ys = grind (arith, whole_from-append [] xs ys, whole_from-append (begun ++ x ∷ []) xs ys)
+
+-- what two parts leave begun
+pub rest_from-append : (begun xs ys : List ℕ) → rest_from begun (xs ++ ys) ≡ rest_from (rest_from begun xs) ys
+rest_from-append begun [] ys = refl
+rest_from-append begun (x ∷ xs) ys = grind (arith, rest_from-append [] xs ys, rest_from-append (begun ++ x ∷ []) xs ys)
+
+-- the lines of two lists of pieces
+pub lines_from-append : (count : ℕ) (ps qs : List (List ℕ)) → lines_from count (ps ++ qs) ≡ lines_from count ps ++ lines_from (count + length ps) qs
+lines_from-append count [] qs = ap (λ n. lines_from n qs) (omega arith)
+lines_from-append count (piece ∷ ps) qs = grind (arith, lines_from-append (count + 1) ps qs)
+
+-- no piece keeps the limits, wherever a run has come
+pub KeepLimits-nil : (count : ℕ) → count ≤ lines_limit → KeepLimits count []
+KeepLimits-nil count few = record { few = omega (arith, few); short = search rules }
+
+-- one piece keeps them where it is not too long, and no more lines came than may
+pub one_kept : (count : ℕ) (piece : List ℕ) → count < lines_limit → length piece ≤ line_limit → KeepLimits count (piece ∷ [])
+one_kept count piece few short = record { few = omega (arith, few); short = search rules }
+
+-- the place where a later part stops is one of the whole
+pub stops_later : (fault : ServeFault) (begun : List ℕ) (count : ℕ) (front good bad tail : List ℕ)
+    → StopsAt fault (rest_from begun front) (count + length (whole_from begun front)) good bad → StopsAt fault begun count (front ++ good) (bad ++ tail)
+stops_later fault begun count front good bad tail why = grind (arith, length-append, rest_from-append, whole_from-append)
+
+-- the line that is begun behind a later part is that of the whole
+pub begun_later : (begun front begun' good : List ℕ) (count count' : ℕ) → begun' ≡ rest_from begun front → count' ≡ count + length (whole_from begun front)
+    → line_begun count' begun' good ≡ line_begun count begun (front ++ good)
+begun_later begun front begun' good count count' rest counted = grind (arith, length-append, rest_from-append, whole_from-append)
+
+-- no bytes are added
+pub none_added : (kept kept' : List ℕ) → kept' ≡ kept → kept' ≡ kept ++ []
+none_added kept kept' same = same ∙ sym (append-nil kept)
+
+module _ {S : Type 0} (Reply : S → Line → Option (List ℕ) → S → Type 0) where
+  -- no piece has no reply
+  pub answered_none : (count : ℕ) (a : S) → count ≤ lines_limit → AreAnswered Reply count a [] a []
+  answered_none count a few = record { kept = KeepLimits-nil count few; replied = IsReplies-nil Reply a }
+
+  -- some pieces were answered, and then the next
+  pub answered_more : {a b c : S} {count : ℕ} {ps qs : List (List ℕ)} {out other : List ℕ} → AreAnswered Reply count a ps b out
+      → AreAnswered Reply (count + length ps) b qs c other → AreAnswered Reply count a (ps ++ qs) c (out ++ other)
+  answered_more {a = a} {b = b} {c = c} {count = count} {ps = ps} {qs = qs} {out = out} {other = other} first next =
+      grind (arith, nat_tests, common_steps, IsReplies-append Reply a b c _ _ out other first.replied next.replied, lines_from-append count ps qs)
+
+  -- what answers may be as it was, whatever the fault
+  left_alone : (fault : ServeFault) (a : S) (next : Line) → LeftBy fault Reply a next a
+  left_alone fault a next = grind (arith, nat_tests)
+
+  -- there was a reply to a line, and it was dropped
+  pub reply_dropped : (count : ℕ) (piece line : List ℕ) (text : Option (List ℕ)) (a b : S) → line ≡ strip_last 13 piece
+      → Reply a (line_at (count + 1) line) text b → GotNoReply Reply a (line_begun count piece []) b
+  reply_dropped count piece line text a b stripped reply =
+      let numbers : count + 1 ≡ count + 0 + 1 = omega arith in
+      inr (text, subst (λ next. Reply a next text b) (ap (λ l. line_at (count + 1) l) stripped ∙ ap (λ n. line_at n (strip_last 13 piece)) numbers) reply)
+
+  -- bytes that end no line are taken
+  pub part_taken : (begun part begun' : List ℕ) (count count' : ℕ) (a : S) → IsUnended part → count ≤ lines_limit → begun' ≡ begun ++ part → count' ≡ count
+      → Taken Reply begun count a part begun' count' a []
+  part_taken begun part begun' count count' a unended few grown same = grind (arith, unended_rest, unended_whole)
+
+  -- one part is taken, and then the next
+  pub taken_more : {begun xs begun' ys begun'' out other : List ℕ} {count count' count'' : ℕ} {a b c : S}
+      → Taken Reply begun count a xs begun' count' b out → Taken Reply begun' count' b ys begun'' count'' c other
+      → Taken Reply begun count a (xs ++ ys) begun'' count'' c (out ++ other)
+  taken_more first next = grind (arith, answered_more first.answered (rw first.counted at next.answered), length-append, rest_from-append, whole_from-append)
+
+  -- where the taking of a middle part stopped, it stopped in the whole
+  pub stopped_later : {begun front begun' out other back all : List ℕ} {count count' : ℕ} {a b c : S} (fault : ServeFault) (tail : List ℕ)
+      → all ≡ front ++ (back ++ tail) → Taken Reply begun count a front begun' count' b out → StoppedAt Reply fault begun' count' b back c other
+      → StoppedAt Reply fault begun count a all c (out ++ other)
+  stopped_later {begun = begun} {front = front} {begun' = begun'} {count = count} {count' = count'} fault tail cut first stopped =
+      grind (
+        arith,
+        answered_more first.answered (rw first.counted at stopped.answered),
+        append_assoc,
+        begun_later begun front begun' stopped.good count count' first.rest first.counted,
+        stops_later,
+        whole_from-append begun front stopped.good,
+      )
+
+  -- the taking stops behind bytes that end no line
+  pub part_stopped : (fault : ServeFault) (begun good bad : List ℕ) (count : ℕ) (a b : S) → IsUnended good → count ≤ lines_limit
+      → StopsAt fault begun count good bad → LeftBy fault Reply a (line_begun count (begun ++ good) []) b → StoppedAt Reply fault begun count a (good ++ bad) b []
+  part_stopped fault begun good bad count a b unended few why left = grind (arith, answered_none count a few, unended_rest, unended_whole begun good unended)
+
+  -- the taking of bytes that end no line stops among them
+  pub stopped_in : (fault : ServeFault) (begun part tail : List ℕ) (count : ℕ) (a : S) → IsUnended part → count ≤ lines_limit → StopsIn fault begun count part
+      → StoppedAt Reply fault begun count a (part ++ tail) a []
+  stopped_in fault begun part tail count a unended few (good, bad, cut, why) =
+      let later : StopsAt fault begun count good (bad ++ tail) = stops_later fault begun count [] good bad tail (subst (λ n. StopsAt fault begun n good bad) (omega arith) why) in
+      subst (λ l. StoppedAt Reply fault begun count a l a []) (sym (append_assoc good bad tail) ∙ ap (λ l. l ++ tail) (sym cut))
+      (part_stopped fault begun good (bad ++ tail) count a a (unended_front good bad (rw cut at unended)) few later (left_alone fault a _))
+
+  -- a line is taken of which `part` was left; `kept` are the replies before
+  pub line_taken : (kept kept' begun part begun' : List ℕ) (count count' : ℕ) (a b : S) → IsUnended part → begun' ≡ [] → count' ≡ count + 1
+      → (out : List ℕ) × (kept' ≡ kept ++ out) × AreAnswered Reply count a ((begun ++ part) ∷ []) b out
+      → (out : List ℕ) × (kept' ≡ kept ++ out) × Taken Reply begun count a (part ++ 10 ∷ []) begun' count' b out
+  line_taken kept kept' begun part begun' count count' a b unended none more (out, grown, answered) =
+      grind (arith, rest_from-append, unended_rest, unended_whole, whole_from-append)
+
+  -- what stopped a later part of the bytes, stopped their taking; `kept` are the replies before
+  pub grown_stopped : (kept kept' kept'' : List ℕ) {begun front begun' out back all : List ℕ} {count count' : ℕ} {a b c : S} (fault : ServeFault) (tail : List ℕ)
+      → all ≡ front ++ (back ++ tail) → kept' ≡ kept ++ out → Taken Reply begun count a front begun' count' b out
+      → (other : List ℕ) × (kept'' ≡ kept' ++ other) × StoppedAt Reply fault begun' count' b back c other
+      → (whole : List ℕ) × (kept'' ≡ kept ++ whole) × StoppedAt Reply fault begun count a all c whole
+  grown_stopped kept kept' kept'' fault tail cut grown first (other, more, stopped) = grind (arith, append_assoc, stopped_later)
+
+  -- one part is taken and then the next; `kept` are the replies before
+  pub grown_taken : (kept kept' kept'' : List ℕ) {begun xs begun' ys begun'' : List ℕ} {count count' count'' : ℕ} {a b c : S}
+      → (out : List ℕ) × (kept' ≡ kept ++ out) × Taken Reply begun count a xs begun' count' b out
+      → (other : List ℕ) × (kept'' ≡ kept' ++ other) × Taken Reply begun' count' b ys begun'' count'' c other
+      → (whole : List ℕ) × (kept'' ≡ kept ++ whole) × Taken Reply begun count a (xs ++ ys) begun'' count'' c whole
+  grown_taken kept kept' kept'' (out, grown, first) (other, more, next) = grind (arith, append_assoc, taken_more first next)

@@ -1,0 +1,20 @@
+-- Lemmas on the bytes that were written.
+use Rattle.std.proofs.Common.{◌≡◌, ℕ, ◌+◌, List, length, take, drop, sym, length-drop, ◌-◌}
+use Rattle.std.specs.Prelude.{Option}
+use Rattle.std.specs.Io.KnownBytes.{Appends}
+use Rattle.std.proofs.KnownBytes.{Appends-trans}
+use Rattle.std.proofs.lemmas.List.{take-append-drop}
+use Rattle.std.proofs.Math.Seq.{take-add, take-length}
+use Rattle.mv_engine.specs.Output.{WrotePart}
+
+-- all from a place on, as a slice has it
+pub slice_tail : (i : ℕ) (xs : List ℕ) → take (length xs - i) (drop i xs) ≡ drop i xs
+slice_tail i xs = rw (← length-drop i xs) (take-length (drop i xs))
+
+-- the next bytes of a text were written behind its front
+pub wrote_more : (a b c : Option (List ℕ)) (bytes : List ℕ) (i n : ℕ) → Appends a b (take i bytes) → Appends b c (take n (take (length bytes - i) (drop i bytes))) → Appends a c (take (i + n) bytes)
+wrote_more a b c bytes i n p q = rw (take-add i n bytes) (Appends-trans a b c _ _ p (rw (slice_tail i bytes) at q))
+
+-- the front of a text is a part of it
+pub front_is_part : (a b : Option (List ℕ)) (bytes : List ℕ) (i : ℕ) → Appends a b (take i bytes) → WrotePart bytes a b
+front_is_part a b bytes i p = (take i bytes, drop i bytes, sym (take-append-drop i bytes), p)

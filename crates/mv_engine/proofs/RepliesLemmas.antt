@@ -1,0 +1,65 @@
+-- Lemmas on replies to lines that come in parts.
+use Rattle.std.proofs.lemmas.Bool.Decides.{nat_tests}
+use Rattle.std.proofs.Common.{◌≡◌, ℕ, ◌+◌, List, [], ◌∷◌, ◌++◌, ◌≢◌, refl, length, take, take_at, sym, ap, subst, append-nil, append_assoc, arith}
+use Rattle.std.specs.Prelude.{Bool, true, false, Option, Some, None}
+use Rattle.std.proofs.lemmas.Grind.{flat_map-append}
+use Rattle.std.specs.Io.BufRead.{strip_last}
+use Rattle.mv_engine.specs.Lines.{Line, KeepLimits, line_at, line_unless_empty}
+use Rattle.mv_engine.specs.Replies.{AreReplies, IsReplies, said, said_texts}
+use Rattle.mv_engine.specs.Served.{AreAnswered}
+
+-- the texts that there are in two lists
+said_texts-append : (xs ys : List (Option (List ℕ))) → said_texts (xs ++ ys) ≡ said_texts xs ++ said_texts ys
+said_texts-append [] ys = refl
+said_texts-append (None ∷ xs) ys = said_texts-append xs ys
+said_texts-append (Some text ∷ xs) ys = ap (λ ts. text ∷ ts) (said_texts-append xs ys)
+
+-- a line that isn't empty is the one of its piece
+one_line : (number : ℕ) (line : List ℕ) → line ≢ [] → line_unless_empty number line ++ [] ≡ line_at number line ∷ []
+one_line number = grind (arith, nat_tests)
+
+module _ {S : Type 0} (Reply : S → Line → Option (List ℕ) → S → Type 0) where
+  -- replies to some lines, and then to the next
+  pub AreReplies-append : (a b c : S) (lines more : List Line) (texts others : List (Option (List ℕ))) → AreReplies Reply a lines texts b
+      → AreReplies Reply b more others c → AreReplies Reply a (lines ++ more) (texts ++ others) c
+  AreReplies-append a b c [] more [] others first next = subst (λ s. AreReplies Reply s more others c) first next
+  AreReplies-append a b c (line ∷ lines) more (text ∷ texts) others first next =
+      (first.0, first.1, AreReplies-append first.0 b c lines more texts others first.2 next)
+  AreReplies-append a b c lines more texts others first next = absurd first
+
+  -- the bytes of the replies follow one another
+  pub IsReplies-append : (a b c : S) (lines more : List Line) (out other : List ℕ) → IsReplies Reply a lines out b
+      → IsReplies Reply b more other c → IsReplies Reply a (lines ++ more) (out ++ other) c
+  IsReplies-append a b c lines more out other first next = grind (arith, AreReplies-append, flat_map-append, said_texts-append)
+
+  -- no line has no reply
+  pub IsReplies-nil : (a : S) → IsReplies Reply a [] [] a
+  IsReplies-nil a = ([], refl, refl)
+
+  -- the reply to one line
+  IsReplies-one : (a b : S) (line : Line) (text : List ℕ) → Reply a line (Some text) b → IsReplies Reply a (line ∷ []) (text ++ 10 ∷ []) b
+  IsReplies-one a b line text reply = (Some text ∷ [], sym (append-nil (text ++ 10 ∷ [])), (b, reply, refl))
+
+  -- the want of a reply to one line
+  IsReplies-none : (a b : S) (line : Line) → Reply a line None b → IsReplies Reply a (line ∷ []) [] b
+  IsReplies-none a b line reply = (None ∷ [], refl, (b, reply, refl))
+
+  -- a piece that is an empty line adds no reply
+  pub nothing_added : (count : ℕ) (kept piece : List ℕ) (a : S) → KeepLimits count (piece ∷ []) → strip_last 13 piece ≡ []
+      → (out : List ℕ) × (kept ≡ kept ++ out) × AreAnswered Reply count a (piece ∷ []) a out
+  nothing_added count kept piece a limits empty = ([], sym (append-nil kept), record { kept = limits; replied = rw empty (IsReplies-nil a) })
+
+  -- another piece adds the reply to its line
+  pub reply_added : (count : ℕ) (spoken : Bool) (kept written items piece line : List ℕ) (a b : S) → KeepLimits count (piece ∷ []) → spoken ≡ true → line ≡ strip_last 13 piece
+      → line ≢ [] → (text : List ℕ) × (written ≡ kept ++ text) × Reply a (line_at (count + 1) line) (said spoken text) b
+      → items ≡ written ++ 10 ∷ []
+      → (out : List ℕ) × (items ≡ kept ++ out) × AreAnswered Reply count a (piece ∷ []) b out
+  reply_added count spoken kept written items piece line a b limits says stripped some (text, grown, reply) ended = grind (arith, IsReplies-one, append_assoc)
+
+  -- or none
+  pub none_said : (count n : ℕ) (spoken : Bool) (kept written items piece line : List ℕ) (a b : S) → KeepLimits count (piece ∷ []) → spoken ≡ false → line ≡ strip_last 13 piece
+      → line ≢ [] → (text : List ℕ) × (written ≡ kept ++ text) × Reply a (line_at (count + 1) line) (said spoken text) b
+      → n ≡ length kept → items ≡ take n written
+      → (out : List ℕ) × (items ≡ kept ++ out) × AreAnswered Reply count a (piece ∷ []) b out
+  none_said count n spoken kept written items piece line a b limits says stripped some (text, grown, reply) len same =
+      grind (arith, IsReplies-none, append-nil kept, one_line, take_at)

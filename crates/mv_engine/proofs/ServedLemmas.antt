@@ -1,0 +1,85 @@
+-- Lemmas on what a run over lines has written.
+use Rattle.std.proofs.lemmas.Grind.{common_steps}
+use Rattle.std.proofs.lemmas.Bool.Decides.{nat_tests}
+use Rattle.std.proofs.Common.{◌≡◌, ℕ, ◌<◌, ◌≤◌, List, [], ◌++◌, length, sym, ◌∙◌, ap, arith, append_assoc, append-nil, length-append, take, subst}
+use Rattle.std.specs.Prelude.{Option, Result, Ok, Err, OnOk, IfErr}
+use Rattle.std.specs.Io.KnownBytes.{Appends, Consumes}
+use Rattle.std.proofs.KnownBytes.{Appends-trans, Consumes-trans}
+use Rattle.mv_engine.specs.declared.fault.ServeFault.{ServeFault}
+use Rattle.mv_engine.specs.declared.fault.ServeFault.TheVariants.{Read, Write, Start}
+use Rattle.mv_engine.specs.Lines.{whole_from, pieces, last_piece, Line, line_at, line_limit, lines_limit}
+use Rattle.mv_engine.specs.Output.{WrotePart}
+use Rattle.mv_engine.specs.Replies.{GotNoReply}
+use Rattle.mv_engine.specs.Served.{AreAnswered, StoppedAt, WroteAt, Served, EndedAt}
+use Rattle.mv_engine.specs.Taking.{Taken, Halted}
+use Rattle.mv_engine.proofs.InputLemmas.{whole_from-append, answered_more, stopped_later}
+
+-- nothing more was read
+pub read_none : (a b c : Option (List ℕ)) (xs block : List ℕ) (n : ℕ) → Consumes a b xs → Consumes b c (take n block) → n ≡ 0 → Consumes a c xs
+read_none a b c xs block n p q e = subst (λ l. Consumes a c l) (append-nil xs) (Consumes-trans a b c xs [] p (rw e at q))
+
+module _ {S : Type 0} (Reply : S → Line → Option (List ℕ) → S → Type 0) where
+  -- a read failed, and the bytes before it are taken
+  pub unread_at : (before between : S) (bytes begun' out : List ℕ) (count' : ℕ) (old new : Option (List ℕ)) → Appends old new out
+      → Taken Reply [] 0 before bytes begun' count' between out
+      → count' ≤ lines_limit → (0 < length begun' → count' < lines_limit) → length begun' ≤ line_limit → EndedAt Reply Read before bytes between old new
+  unread_at before between bytes begun' out count' old new written taken few behind short = grind (arith, nat_tests, common_steps)
+
+  -- the write of the replies failed to the lines that end in some bytes, and to those that `more` are
+  pub broken : {A : Type 0} (came : Result A ServeFault) (kept ready begun bytes : List ℕ) (more ps : List (List ℕ)) (count : ℕ) (before after : S) (old new : Option (List ℕ))
+      → ps ≡ whole_from begun bytes ++ more → kept ≡ [] → OnOk came ((out : List ℕ) × (ready ≡ kept ++ out) × AreAnswered Reply count before ps after out)
+      → IfErr came (λ fault. (out : List ℕ) × (ready ≡ kept ++ out) × StoppedAt Reply fault begun count before bytes after out)
+      → WrotePart ready old new → WroteAt Reply count before ps after old new
+  broken (Ok u) kept ready begun bytes more ps count before after old new are none (out, grown, answered) stopped part = grind (arith, append-nil ps)
+  broken (Err e) kept ready begun bytes more ps count before after old new are none answered (out, grown, s) part =
+      grind (arith, append_assoc, whole_from-append)
+
+  -- the replies to a later part of the input broke off
+  wrote_later : (before between after : S) (front begun' out : List ℕ) (count' : ℕ) (ps more all : List (List ℕ)) (a b c : Option (List ℕ)) → Appends a b out
+      → Taken Reply [] 0 before front begun' count' between out → all ≡ (whole_from [] front ++ ps) ++ more → WroteAt Reply count' between ps after b c
+      → WroteAt Reply 0 before all after a c
+  wrote_later before between after front begun' out count' ps more all a b c written taken are broken = record {
+    first = whole_from [] front ++ broken.first;
+    unanswered = broken.unanswered ++ more;
+    cut = are ∙ ap (λ l. (whole_from [] front ++ l) ++ more) broken.cut ∙ simp append_assoc;
+    out = out ++ broken.out;
+    unwritten = broken.unwritten;
+    behind = broken.behind;
+    answered = rw (append_assoc out broken.out broken.unwritten) (answered_more Reply taken.answered (rw taken.counted at broken.answered));
+    written = Appends-trans a b c out broken.out written broken.written;
+    next = broken.next;
+    left = subst (λ n. GotNoReply Reply broken.behind (line_at n broken.next) after) (rw length-append (omega (arith, taken.counted))) broken.left;
+  }
+
+  -- the taking of a later part of the input ended, or the writing of the replies to what stands there, and so the run
+  pub halted_later : (fault : ServeFault) (before between after : S) (front back : List ℕ) (begun' out : List ℕ) (count' : ℕ) (ps more : List (List ℕ))
+      (a b c : Option (List ℕ)) → Appends a b out → Taken Reply [] 0 before front begun' count' between out
+      → pieces (front ++ back) ≡ (whole_from [] front ++ ps) ++ more → Halted Reply fault begun' count' between back ps after b c
+      → EndedAt Reply fault before (front ++ back) after a c
+  halted_later Read before between after front back begun' out count' ps more a b c written taken are (other, went, stopped) = absurd stopped.why
+  halted_later Start before between after front back begun' out count' ps more a b c written taken are (other, went, stopped) = absurd stopped.why
+  halted_later Write before between after front back begun' out count' ps more a b c written taken are broken =
+      wrote_later before between after front begun' out count' ps more _ a b c written taken are broken
+  halted_later fault before between after front back begun' out count' ps more a b c written taken are (other, went, stopped) =
+      (out ++ other, Appends-trans a b c out other written went, stopped_later Reply fault [] (ap (λ l. front ++ l) (sym (append-nil back))) taken stopped)
+
+  -- that of a block
+  pub halted_block : (fault : ServeFault) (before between after : S) (front back begun' out : List ℕ) (count' : ℕ) (a b c : Option (List ℕ)) → Appends a b out
+      → Taken Reply [] 0 before front begun' count' between out → Halted Reply fault begun' count' between back (whole_from begun' back) after b c
+      → EndedAt Reply fault before (front ++ back) after a c
+  halted_block fault before between after front back begun' out count' a b c written taken halted = grind (arith, halted_later, whole_from-append)
+
+  -- that of the last line
+  pub halted_last : (fault : ServeFault) (before between after : S) (bytes begun' out : List ℕ) (count' : ℕ) (a b c : Option (List ℕ)) → Appends a b out
+      → Taken Reply [] 0 before bytes begun' count' between out → Halted Reply fault begun' count' between [] (last_piece begun') after b c
+      → EndedAt Reply fault before bytes after a c
+  halted_last fault before between after bytes begun' out count' a b c written taken halted =
+      subst (λ l. EndedAt Reply fault before l after a c) (append-nil bytes) (halted_later fault before between after bytes [] begun' out count' (last_piece begun') [] a b c written taken
+      (ap pieces (append-nil bytes) ∙ rw (← taken.rest) (sym (append-nil _))) halted)
+
+  -- the last line is answered, and so the input
+  pub served_whole : (before between after : S) (bytes begun' out other : List ℕ) (count' : ℕ) (a b c : Option (List ℕ)) → Appends a b out
+      → Taken Reply [] 0 before bytes begun' count' between out → Appends b c other → AreAnswered Reply count' between (last_piece begun') after other
+      → Served Reply before bytes after a c
+  served_whole before between after bytes begun' out other count' a b c written taken more last =
+      grind (arith, Appends-trans, answered_more Reply taken.answered (rw (taken.rest, taken.counted) at last))

@@ -1,0 +1,34 @@
+use Rattle.std.proofs.Common.{refl, [], append_assoc, append-nil}
+use Rattle.std.proofs.lemmas.Result.{err_from_is_err_and}
+use Rattle.mv_engine.proofs.PartLemmas.{cut_line, absent_unended}
+use Rattle.mv_engine.proofs.InputLemmas.{none_added, part_taken, stopped_in, grown_stopped, grown_taken}
+use Rattle.mv_engine.proofs.input.Input.take_all.Goals as goal
+
+-- this line stopped it
+pub returns-in_err-take_line-clause-err : goal.returns-in_err-take_line-clause-err
+returns-in_err-take_line-clause-err g c =
+    let p = err_from_is_err_and c.from_residual.result c.from_residual.ensures.1 in
+    let cut = cut_line c.loop-end.invariant.0 c.loop-end.rest.now _ c.args.bytes.now c.in-Some.end c.in-Some.ensures refl c.loop-end.invariant.1 in
+    rw (p.1, p.2) (grown_stopped g.S.Answering.replies _ _ _ _ _ cut c.loop-end.invariant.3 c.loop-end.invariant.4 c.in_err-take_line.ensures.err)
+
+-- one more line is taken
+pub loop-end-preserved : goal.loop-end-preserved
+loop-end-preserved g c =
+    let cut = cut_line c.loop-end.invariant.0 c.loop-end.rest.now _ c.args.bytes.now c.in-Some.end c.in-Some.ensures refl c.loop-end.invariant.1 in
+    let taken = grown_taken g.S.Answering.replies _ _ _ (c.loop-end.invariant.2, c.loop-end.invariant.3, c.loop-end.invariant.4) c.in_ok-take_line.ensures.ok in
+    (_, rw append_assoc cut, taken.0, taken.1, taken.2)
+
+-- the rest is taken
+pub returns-clause-ok : goal.returns-clause-ok
+returns-clause-ok g c =
+    let part = part_taken g.S.Answering.replies _ _ _ _ _ _ (absent_unended _ c.in_default.ensures) c.loop-end.self.few c.in_ok-take_part.ensures.ok c.in_ok-take_part.ensures.lines in
+    rw c.loop-end.invariant.1
+    (grown_taken g.S.Answering.replies _ _ _ (c.loop-end.invariant.2, c.loop-end.invariant.3, c.loop-end.invariant.4) ([], none_added _ _ c.in_ok-take_part.ensures.replies, part))
+
+-- the rest stopped it
+pub returns-in_err-take_part-clause-err : goal.returns-in_err-take_part-clause-err
+returns-in_err-take_part-clause-err g c =
+    let p = err_from_is_err_and c.from_residual-in_err-take_part.result c.from_residual-in_err-take_part.ensures.1 in
+    let part = stopped_in g.S.Answering.replies _ _ _ [] _ _ (absent_unended _ c.in_default.ensures) c.loop-end.self.few c.in_err-take_part.ensures.err in
+    rw (p.1, p.2) (grown_stopped g.S.Answering.replies _ _ _ _ [] (simp append-nil c.loop-end.invariant.1) c.loop-end.invariant.3 c.loop-end.invariant.4
+    ([], none_added _ _ c.in_err-take_part.ensures.replies, part))

@@ -1,0 +1,6 @@
+pub mod Lines
+pub mod Output
+pub mod Replies
+pub mod Served
+pub mod Taking
+pub mod LineLaws

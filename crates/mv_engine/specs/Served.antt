@@ -1,0 +1,90 @@
+-- What a run over lines has read, answered and written.
+use Rattle.std.specs.Prelude.{◌≡◌, ◌≢◌, ℕ, ◌+◌, ◌<◌, List, [], ◌∷◌, ◌++◌, length, Option, ⊤}
+use Rattle.std.specs.Io.KnownBytes.{Appends}
+use Rattle.mv_engine.specs.declared.fault.ServeFault.{ServeFault}
+use Rattle.mv_engine.specs.declared.fault.ServeFault.TheVariants.{Read, Write, Memory, TooManyLines, LineTooLong}
+use Rattle.mv_engine.specs.Lines.{Line, line_at, line_begun, whole_from, rest_from, pieces, lines_from, line_limit, lines_limit, KeepLimits}
+use Rattle.mv_engine.specs.Replies.{ReplyRule, IsReplies, GotNoReply}
+
+-- some bytes went out, and the fact holds of them
+abbrev pub Wrote : Option (List ℕ) → Option (List ℕ) → (List ℕ → Type 0) → Type 0
+Wrote old new Fact = (out : List ℕ) × Appends old new out × Fact out
+
+-- These pieces, which come behind `count` lines, keep the limits, and `out` are replies to the lines that they are.
+pub record AreAnswered {S : Type 0} (rule : ReplyRule S) (count : ℕ) (before : S) (ps : List (List ℕ)) (after : S)
+    (out : List ℕ) : Type 0 where
+  pub kept : KeepLimits count ps
+  pub replied : IsReplies rule before (lines_from count ps) out after
+
+-- why the taking of bytes stops between `good` and `bad`
+abbrev pub StopsAt : ServeFault → List ℕ → ℕ → List ℕ → List ℕ → Type 0
+StopsAt Memory begun count good bad = ⊤
+-- all lines that a run may have are read, and more follows
+StopsAt TooManyLines begun count good bad =
+    (count + length (whole_from begun good) ≡ lines_limit) × (0 < length bad)
+-- a line that a run may have has all the bytes that it may have, and the next is not its end
+StopsAt LineTooLong begun count good bad =
+    (count + length (whole_from begun good) < lines_limit) × (length (rest_from begun good) ≡ line_limit)
+    × (next : ℕ) × (more : List ℕ) × (bad ≡ next ∷ more) × (next ≢ 10)
+-- no other fault stops it there
+StopsAt fault begun count good bad = ⊥
+
+-- the taking of bytes of a line stopped among them
+abbrev pub StopsIn : ServeFault → List ℕ → ℕ → List ℕ → Type 0
+StopsIn fault begun count bytes = (good : List ℕ) × (bad : List ℕ) × (bytes ≡ good ++ bad) × StopsAt fault begun count good bad
+
+-- What answers is left behind the lines that were answered; where memory was refused, the next line got no reply.
+abbrev pub LeftBy : {S : Type 0} → ServeFault → ReplyRule S → S → Line → S → Type 0
+LeftBy TooManyLines rule behind next after = after ≡ behind
+LeftBy LineTooLong rule behind next after = after ≡ behind
+LeftBy fault rule behind next after = GotNoReply rule behind next after
+
+-- The taking of the bytes stopped at a place, `out` are the replies to the lines that end before it, which keep the limits, and what
+-- answers is left in the state `after`.
+pub record StoppedAt {S : Type 0} (rule : ReplyRule S) (fault : ServeFault) (begun : List ℕ) (count : ℕ) (before : S)
+    (bytes : List ℕ) (after : S) (out : List ℕ) : Type 0 where
+  pub good : List ℕ
+  pub bad : List ℕ
+  pub cut : bytes ≡ good ++ bad
+  pub why : StopsAt fault begun count good bad
+  pub behind : S
+  pub answered : AreAnswered rule count before (whole_from begun good) behind out
+  pub left : LeftBy fault rule behind (line_begun count begun good) after
+
+-- Of the replies to some first pieces the first bytes went out, and no more. Those pieces keep the limits, behind `count` lines. What
+-- answers is left in the state `after`: behind the lines whose replies were ready. Where memory was refused before the write failed, the
+-- next line got no reply.
+pub record WroteAt {S : Type 0} (rule : ReplyRule S) (count : ℕ) (before : S) (ps : List (List ℕ)) (after : S)
+    (old new : Option (List ℕ)) : Type 0 where
+  pub first : List (List ℕ)
+  pub unanswered : List (List ℕ)
+  pub cut : ps ≡ first ++ unanswered
+  pub out : List ℕ
+  pub unwritten : List ℕ
+  pub behind : S
+  pub answered : AreAnswered rule count before first behind (out ++ unwritten)
+  pub written : Appends old new out
+  pub next : List ℕ
+  pub left : GotNoReply rule behind (line_at (count + length first + 1) next) after
+
+-- A whole input was answered: its lines keep the limits, and the replies to them went out.
+pub record Served {S : Type 0} (rule : ReplyRule S) (before : S) (bytes : List ℕ) (after : S) (old new : Option (List ℕ)) : Type 0 where
+  pub out : List ℕ
+  pub written : Appends old new out
+  pub answered : AreAnswered rule 0 before (pieces bytes) after out
+
+-- What a run that read these bytes and ended by a fault has written, and in which state `after` what answers is left. Where a read failed:
+-- the replies to the lines that ended; what was read keeps the limits, the line that it leaves begun too. Where a write failed: the first
+-- bytes of the replies to some first lines, which keep the limits. Where memory was refused, or a line or a byte came that may not: the
+-- replies to the lines that ended before that place, which keep the limits. What answers is left behind the lines that were answered, and,
+-- where memory was refused, perhaps behind the next, though no reply to it stands ready.
+abbrev pub EndedAt : {S : Type 0} → ReplyRule S → ServeFault → S → List ℕ → S → Option (List ℕ) → Option (List ℕ) → Type 0
+EndedAt rule Read before bytes after old new = KeepLimits 0 (pieces bytes)
+    × Wrote old new (AreAnswered rule 0 before (whole_from [] bytes) after)
+EndedAt rule Write before bytes after old new = WroteAt rule 0 before (pieces bytes) after old new
+EndedAt rule fault before bytes after old new = Wrote old new (StoppedAt rule fault [] 0 before bytes after)
+
+-- the same, whatever the state is
+pub record Ended {S : Type 0} (rule : ReplyRule S) (fault : ServeFault) (before : S) (bytes : List ℕ) (old new : Option (List ℕ)) : Type 0 where
+  pub after : S
+  pub ended : EndedAt rule fault before bytes after old new

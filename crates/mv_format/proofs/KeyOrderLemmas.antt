@@ -1,0 +1,77 @@
+-- The keys of replies ascend.
+use Rattle.std.proofs.Common.{◌≡◌, ℕ, true, List, [], ◌∷◌, refl, rules}
+use Rattle.std.specs.Prelude.{None, Some}
+use Rattle.std.specs.Ordering.{nat_cmp}
+use Rattle.std.specs.Cmp.Lexicographic.{slice_cmp}
+use Rattle.mv_pack.specs.declared.fault.PackFault.{PackFault}
+use Rattle.mv_pack.specs.declared.fault.PackFault.TheVariants.{Character}
+use Rattle.mv_json.specs.Fields.{field_name as message_field_name}
+use Rattle.serde_json.specs.Data.{object, Members}
+use Rattle.mv_json.specs.Keys.{ItemsKeysAscend, MembersKeysAscend}
+use Rattle.mv_json.specs.Members.{keys_of}
+use Rattle.mv_json.specs.declared.fault.MessageFault.{MessageFault}
+use Rattle.mv_json.specs.declared.fault.MessageFault.TheVariants as message
+use Rattle.mv_json.proofs.OrderLemmas.{rises, strictly_sorted}
+use Rattle.mv_repository.specs.declared.effect.Effect.TheVariants.{Uploaded}
+use Rattle.mv_repository.specs.declared.verdict.Joint.TheVariants.{Decided}
+use Rattle.mv_repository.specs.declared.verdict.Verdict.{Verdict}
+use Rattle.mv_repository.specs.declared.verdict.Verdict.TheVariants.{Authentic, NotAuthentic}
+use Rattle.mv_machine.specs.declared.reply.Reply.{Reply}
+use Rattle.mv_machine.specs.declared.reply.Reply.TheVariants as replies
+use Rattle.mv_machine.specs.declared.reply.Refusal.TheVariants.{Busy}
+use Rattle.mv_format.specs.declared.line_fault.LineFault.{LineFault}
+use Rattle.mv_format.specs.declared.line_fault.LineFault.TheVariants as line
+use Rattle.mv_format.specs.Fields.{field_name}
+use Rattle.mv_format.specs.KeyOrder.{IsOrdered, RepliesAreOrdered}
+use Rattle.mv_format.specs.ReplyLines.{wholes, refused_pack, verdict_value, reply_value, message_fault_value, line_fault_value}
+
+-- there is no object in a list of numbers
+wholes_ascend : (ns : List ℕ) → ItemsKeysAscend (wholes ns)
+wholes_ascend [] = tt
+wholes_ascend (n ∷ ns) = (tt, wholes_ascend ns)
+
+-- an object is ordered whose keys rise, as those of the objects that it holds do
+ordered : (members : Members) → rises (slice_cmp nat_cmp) (keys_of members) ≡ true → MembersKeysAscend members → IsOrdered (object members)
+ordered members up each = (members, refl, (strictly_sorted (slice_cmp nat_cmp) (keys_of members) up, each))
+
+pack_ordered : (fault : PackFault) (field : List ℕ) → IsOrdered (refused_pack fault field)
+unfolding rises
+pack_ordered (Character place) field = ordered _ refl (search rules)
+pack_ordered fault field = ordered _ refl (search rules)
+
+-- the value of the refusal of a message
+message_fault_ordered : (fault : MessageFault) → IsOrdered (message_fault_value fault)
+unfolding rises
+message_fault_ordered (message.Pack field fault) = pack_ordered fault (message_field_name field)
+message_fault_ordered fault = ordered _ refl (search rules)
+
+-- the value of the refusal of a line
+line_fault_ordered : (fault : LineFault) → IsOrdered (line_fault_value fault)
+unfolding rises
+line_fault_ordered (line.Pack field fault) = pack_ordered fault (field_name field)
+line_fault_ordered (line.Message fault) = message_fault_ordered fault
+line_fault_ordered fault = ordered _ refl (search rules)
+
+verdict_ordered : (verdict : Verdict) → IsOrdered (verdict_value verdict)
+unfolding rises
+verdict_ordered Authentic = ordered _ refl (search rules)
+verdict_ordered (NotAuthentic falsification) = ordered _ refl (search rules)
+
+-- the value of a reply to a step
+reply_ordered : (reply : Reply) → IsOrdered (reply_value reply)
+unfolding rises
+reply_ordered (replies.Routed k reach) = ordered _ refl (wholes_ascend reach, (tt, tt))
+reply_ordered (replies.Known verdict) = verdict_ordered verdict
+reply_ordered (replies.Applied n (Uploaded new old) None) = ordered _ refl (search rules)
+reply_ordered (replies.Applied n (Uploaded new old) (Some answer)) = ordered _ refl (search rules)
+reply_ordered (replies.Applied n effect None) = ordered _ refl (search rules)
+reply_ordered (replies.Applied n effect (Some answer)) = ordered _ refl (search rules)
+reply_ordered (replies.Joint (Decided verdict)) = verdict_ordered verdict
+reply_ordered (replies.Refused (Busy party)) = ordered _ refl (search rules)
+reply_ordered (replies.Refused refusal) = ordered _ refl (search rules)
+reply_ordered reply = ordered _ refl (search rules)
+
+-- each reply is an object whose keys ascend
+pub replies_are_ordered : RepliesAreOrdered
+unfolding rises
+replies_are_ordered = (reply_ordered, line_fault_ordered, message_fault_ordered, λ code. ordered _ refl (search rules), λ count. ordered _ refl (search rules))

@@ -1,0 +1,5 @@
+pub mod ListLemmas
+pub mod WritingLemmas
+pub mod KeyOrderLemmas
+pub mod RequestLawsLemmas
+pub mod LinePartLemmas

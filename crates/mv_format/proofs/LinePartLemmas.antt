@@ -1,0 +1,150 @@
+-- What stands in the fields of a line: its tokens, and what it asks.
+use Rattle.std.proofs.lemmas.Bool.Decides.{nat_tests}
+use Rattle.std.proofs.Common.{◌≡◌, ◌<◌, ◌^◌, ℕ, List, [], ◌∷◌, ◌++◌, length, map, ap, subst, refl, arith, lt-ltb}
+use Rattle.std.proofs.lemmas.List.Elements.{All-contains, All-cons, All-map, All-nil, Contains-append_right}
+use Rattle.std.specs.Prelude.{Option, Some, None, Ok, All, Contains, IfSome, IsUtf8, find, bytes_eq, ◌≢◌}
+use Rattle.json.specs.Json.{value}
+use Rattle.json.specs.Lex.{tokens}
+use Rattle.json.specs.Token.{Token, begin_object, end_object, key}
+use Rattle.json.specs.Token as token
+use Rattle.serde_json.specs.Data.{Data, string, unsigned}
+use Rattle.serde_json.specs.Find.{get, as_object}
+use Rattle.serde_json.specs.Read.{number_of}
+use Rattle.mv_machine.specs.declared.step.Step.{Step as AnyStep}
+use Rattle.mv_json.specs.Members.{keys_of, HasOnly}
+use Rattle.mv_json.specs.Met.{BeginWith}
+use Rattle.mv_json.specs.Parts.{IsText}
+use Rattle.mv_json.specs.Values.{whole}
+use Rattle.mv_json.proofs.ReadsLemmas.{none_unknown}
+use Rattle.mv_json.proofs.MetLemmas.{AreMet, none_met, one_more_met, all_met, begun_shorter, converted_some, text_begins, whole_begins, weaker}
+use Rattle.mv_json.proofs.ValueLemmas.{utf8_test}
+use Rattle.mv_format.specs.declared.field.LineField.{LineField}
+use Rattle.mv_format.specs.declared.field.LineField.TheVariants as fields
+use Rattle.mv_format.specs.declared.kind.LineKind.{LineKind}
+use Rattle.mv_format.specs.declared.line_part.LineEntry.{LineEntry}
+use Rattle.mv_format.specs.declared.line_part.LinePart.{LinePart}
+use Rattle.mv_format.specs.declared.line_part.LinePart.TheVariants as parts
+use Rattle.mv_format.specs.declared.request.Request.{Request}
+use Rattle.mv_format.specs.declared.request.Request.TheVariants.{Step}
+use Rattle.mv_format.specs.Fields.{field_name}
+use Rattle.mv_format.specs.Kinds.{kind_at, names_of, shape_of}
+use Rattle.mv_format.specs.LineParts.{Asks, BeginWithEntries, BeginWithPart, HasEntries, HasKind, IsPart, Tells, TellsPart, entry, entry_name}
+use Rattle.mv_format.specs.Reading.{message_at, number_at, read_at}
+use Rattle.mv_format.specs.Requests.{read_line, read_request, request_at}
+
+-- ---- tokens
+
+-- a value that is a text of which this holds
+pub text_says : (Holds : List ℕ → Type 0) (ts rest : List Token) (text : List ℕ) → ts ≡ token.string text ∷ rest → Holds text
+    → (found : Data) × BeginWith 3 ts found rest × IsText found Holds
+text_says Holds ts rest text is holds = (string text, rw is (text_begins 3 text rest), (text, refl, holds))
+
+-- a value that is a whole number of 32 bits
+pub number_says : (ts rest : List Token) (n : ℕ) (text : List ℕ) → ts ≡ token.number text ∷ rest → number_of text ≡ Some (unsigned n) → n < 2 ^ 32
+    → BeginWithPart ts (parts.Number n) rest
+number_says ts rest n text is numbered within = (whole n, rw is (whole_begins 3 n text rest numbered), (refl, within))
+
+-- ---- names
+
+abbrev all_fields : List LineField
+all_fields =
+    fields.Do ∷ fields.From ∷ fields.Gtin ∷ fields.Message ∷ fields.Number ∷ fields.Parties ∷ fields.Party ∷ fields.Q
+    ∷ fields.Serial ∷ fields.Submissions ∷ fields.To ∷ fields.Uplink ∷ fields.Window ∷ fields.Wire ∷ []
+
+-- the field of that name
+abbrev field_called : List ℕ → Option LineField
+field_called name = find (λ field. bytes_eq name (field_name field)) all_fields
+
+called : (field : LineField) → field_called (field_name field) ≡ Some field
+called field = grind (arith, nat_tests)
+
+-- two fields have two names
+name_apart : (f g : LineField) → f ≢ g → field_name f ≡ field_name g → ⊥
+name_apart f g apart same = grind (arith, nat_tests)
+
+-- ---- fields that are met
+
+-- the tokens up to there are members that have the fields that were met, and no other
+abbrev pub AreEntries : List Token → List LineEntry → List Token → Type 0
+AreEntries start entries rest = AreMet entry_name (λ part met. IsPart part met.part) 3 start entries rest
+
+pub no_entry : (start : List Token) → AreEntries start [] start
+no_entry start = none_met entry_name (λ part met. IsPart part met.part) 3 start
+
+pub one_more_entry : (start more rest : List Token) (old new : List LineEntry) (field : LineField) (part : LinePart)
+    → AreEntries start old (key (field_name field) ∷ more) → BeginWithPart more part rest → new ≡ old ++ entry field part ∷ []
+    → All (λ other. other.field ≢ field) old → AreEntries start new rest
+one_more_entry start more rest old new field part are (found, begins, is) added apart =
+    one_more_met entry_name (λ part met. IsPart part met.part) 3 start more rest old new (entry field part) found are begins is
+    (added, λ k d h. name_apart _ field (apart k d h))
+
+pub all_entries : (start rest : List Token) (entries : List LineEntry) → AreEntries start entries (end_object ∷ rest)
+    → BeginWithEntries (begin_object ∷ start) entries rest
+all_entries start rest entries are = all_met entry_name (λ part met. IsPart part met.part) 3 start rest entries are
+
+-- a part takes tokens
+pub part_shorter : (ts rest : List Token) (part : LinePart) → BeginWithPart ts part rest → length rest < length ts
+part_shorter ts rest part (found, begins, says) = begun_shorter 3 ts rest found begins
+
+-- ---- what a field is read as
+
+-- what was met stands in its field
+stands : (value : Data) (entries : List LineEntry) (met : LineEntry) → HasEntries value entries → Contains entries met
+    → (part : Data) × (get (entry_name met) value ≡ Some part) × IsPart part met.part
+stands value entries met has at =
+    All-contains (λ met. (part : Data) × (get (entry_name met) value ≡ Some part) × IsPart part met.part) entries met has.says at
+
+-- so each part tells what its field is read as
+pub part_told : (entries : List LineEntry) (field : LineField) (part : LinePart) → Contains entries (entry field part) → TellsPart entries field part
+unfolding number_at read_at message_at
+part_told entries field (parts.Gtin gtin) met = λ value has.
+    let (there, at, (text, is, read)) = stands value entries (entry field (parts.Gtin gtin)) has met in rw (at, is, read)
+part_told entries field (parts.Kind kind) met = met
+part_told entries field (parts.Message message) met = λ same value has.
+    let (there, stands_at, read) = stands value entries (entry field (parts.Message message)) has met in
+    let found : get (field_name fields.Message) value ≡ Some there = subst (λ (f : LineField). get (field_name f) value ≡ Some there) same stands_at in rw (found, read)
+part_told entries field (parts.Number n) met = λ value has.
+    let (there, at, (is, within)) = stands value entries (entry field (parts.Number n)) has met in rw (at, is, lt-ltb _ _ within)
+part_told entries field (parts.Serial serial) met = λ value has.
+    let (there, at, (text, is, read)) = stands value entries (entry field (parts.Serial serial)) has met in rw (at, is, read)
+
+kind_told : (entries : List LineEntry) (kind : LineKind) → HasKind entries kind → Tells kind_at entries kind
+unfolding kind_at
+kind_told entries kind met value has = grind (arith, nat_tests, stands value entries (entry fields.Do (parts.Kind kind)) has met)
+
+-- ---- what a line asks
+
+named_each : (listed : List LineField) → All (λ field. Contains (map field_name listed) (field_name field)) listed
+named_each [] = All-nil _
+named_each (field ∷ rest) =
+    All-cons (λ f. Contains (map field_name (field ∷ rest)) (field_name f)) field rest (0, omega arith, refl)
+    (λ k d h. Contains-append_right (field_name field ∷ []) (map field_name rest) _ (named_each rest k d h))
+
+-- an object whose fields are all among these has no other key
+known_only : (value : Data) (entries : List LineEntry) (listed : List LineField) → HasEntries value entries → All (λ met. Contains listed met.field) entries
+    → HasOnly (map field_name listed) value
+known_only value entries listed has among =
+    let P : List ℕ → Type 0 = Contains (map field_name listed) in
+    let known : All P (map entry_name entries) =
+    All-map P entry_name entries (λ k d h. All-contains (λ field. P (field_name field)) listed _ (named_each listed) (among k d h)) in
+    (has.members, has.is, weaker (Contains (map entry_name entries)) P (λ key h. All-contains P (map entry_name entries) key known h) (keys_of has.members) has.only)
+
+-- a line of that kind, which has no other field, asks what its fields tell
+pub request_told : (entries : List LineEntry) (kind : LineKind) (request : Request) → HasKind entries kind
+    → All (λ met. Contains (fields.Do ∷ (shape_of kind).others) met.field) entries → Tells (request_at kind) entries request
+    → Tells read_request entries request
+unfolding read_request
+request_told entries kind request named among tells value has =
+    let (members, is_object, known) = known_only value entries (fields.Do ∷ (shape_of kind).others) has among in
+    let opened : as_object value ≡ Some members = ap as_object is_object in
+    rw (opened, kind_told entries kind named value has, none_unknown (names_of kind) (keys_of members) known) (tells value has)
+
+-- the line asks the step that its tokens ask
+line_asks : (s : List ℕ) (step : AnyStep) → IsUtf8 s → Asks (tokens s) step [] → read_line s ≡ Ok (Step step)
+line_asks s step utf8 (found, begins, asks) = grind (arith, nat_tests, converted_some, utf8_test)
+
+-- the same of a step that there may be
+pub maybe_asks : (s : List ℕ) (step : Option AnyStep) → IsUtf8 s → IfSome step (λ asked. Asks (tokens s) asked [])
+    → IfSome step (λ asked. read_line s ≡ Ok (Step asked))
+maybe_asks s None utf8 are = tt
+maybe_asks s (Some step) utf8 are = line_asks s step utf8 are

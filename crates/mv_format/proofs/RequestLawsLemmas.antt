@@ -1,0 +1,156 @@
+-- The laws of the line that asks a request: it is read as that request, and what any line asks is legal.
+use Rattle.std.proofs.Common.{◌≡◌, ◌<◌, ℕ, ◌^◌, List, [], ◌∷◌, map, refl, subst, arith, true, lt-ltb}
+use Rattle.std.specs.Prelude.{Bool, ok_or, Option, Some, option_and_then, Result, Ok, Err, IfOk}
+use Rattle.std.specs.List.{AllByRecursion, list_all}
+use Rattle.std.specs.Option.{option_map_or}
+use Rattle.std.proofs.lemmas.Bool.{and_parts}
+use Rattle.std.proofs.lemmas.Bool.Decides.{nat_tests}
+use Rattle.serde_json.specs.Data.{Data, array, string}
+use Rattle.serde_json.specs.View.{items_of}
+use Rattle.serde_json.specs.Find.{as_str, as_number, as_u64}
+use Rattle.mv_pack.specs.Market.{IsMarket}
+use Rattle.mv_pack.proofs.CodeLemmas.{read_code_of, read_code_is_code}
+use Rattle.mv_pack.proofs.GtinLemmas.{read_gtin_of}
+use Rattle.mv_pack.proofs.MarketLemmas.{read_market_of, read_market_is_market}
+use Rattle.mv_json.specs.Shapes.{IsLegal}
+use Rattle.mv_json.specs.Values.{strings}
+use Rattle.mv_json.proofs.ReadsLemmas.{reads_back, read_is_legal}
+use Rattle.mv_machine.specs.declared.step.Step.TheVariants as steps
+use Rattle.mv_format.specs.Kinds.{Asking, shape_of, kind_at}
+use Rattle.mv_format.specs.RequestLaws.{request_value, IsLegalRequest}
+use Rattle.mv_format.specs.Meanings.{AreMarketLists, meaning_of}
+use Rattle.mv_json.specs.Reading.{◌and_then◌, map_err, each_of, as_list, GivesOr}
+use Rattle.mv_format.specs.Reading.{member_at, of_32_bits, read_at, number_at, message_at, market_lists_at}
+use Rattle.mv_format.specs.Requests.{asked_at, read_request, request_at}
+use Rattle.mv_format.specs.declared.field.LineField.{LineField}
+use Rattle.mv_format.specs.declared.field.LineField.TheVariants as fields
+use Rattle.mv_format.specs.declared.kind.LineKind.{LineKind}
+use Rattle.mv_format.specs.declared.kind.LineKind.TheVariants as kinds
+use Rattle.mv_format.specs.declared.line_fault.LineFault.{LineFault}
+use Rattle.mv_format.specs.declared.line_fault.LineFault.TheVariants.{Unknown, Kind, Memory}
+use Rattle.mv_format.specs.declared.request.Request.{Request}
+use Rattle.mv_format.specs.declared.request.Request.TheVariants.{Open, Step}
+use Rattle.mv_format.proofs.ListLemmas.{is_market, market_lists}
+
+-- each list of markets is a list of texts, and these are markets
+each_back : {A : Type 0} (as_one : Data → Option A) (value : A → Data) → ((x : A) → as_one (value x) ≡ Some x) → (xs : List A) → each_of as_one (items_of (map value xs)) ≡ Some xs
+each_back as_one value one [] = refl
+each_back as_one value one (x ∷ xs) = rw (one x, each_back as_one value one xs) refl
+
+lists_back : (lists : List (List (List ℕ))) → each_of (as_list as_str) (items_of (map (λ markets. array (strings markets)) lists)) ≡ Some lists
+lists_back = each_back (as_list as_str) (λ markets. array (strings markets)) (each_back as_str string (λ text. refl))
+
+all_pass : {A : Type 0} (P : A → Type 0) (test : A → Bool) → ((x : A) → P x → test x ≡ true) → (xs : List A) → AllByRecursion P xs → list_all test xs ≡ true
+all_pass P test pass [] all = refl
+all_pass P test pass (x ∷ xs) all = rw (pass x all.0) (all_pass P test pass xs all.1)
+
+are_market_lists : (lists : List (List (List ℕ))) → AreMarketLists lists → list_all (list_all is_market) lists ≡ true
+are_market_lists = all_pass (AllByRecursion IsMarket) (list_all is_market) (all_pass IsMarket is_market (λ market legal. rw (read_market_of market legal)))
+
+-- each request is read back from its line
+pub requests_read_back : (request : Request) → IsLegalRequest request → read_request (request_value request) ≡ Ok request
+unfolding read_request kind_at request_at read_at message_at market_lists_at number_at
+requests_read_back (Open parties submissions uplink window wire) (legal, (s, (u, (w, (i, _))))) =
+    rw (lists_back parties, are_market_lists parties legal, lt-ltb _ _ s, lt-ltb _ _ u, lt-ltb _ _ w, lt-ltb _ _ i)
+requests_read_back (Step (steps.Submit from message)) (few, (legal, _)) = rw (lt-ltb _ _ few, reads_back message legal)
+requests_read_back (Step (steps.Verify party key)) (gtin, (few, (serial, _))) = rw (read_gtin_of key.gtin gtin, lt-ltb _ _ few, read_code_of key.serial serial)
+requests_read_back (Step (steps.Route from)) (few, _) = rw (lt-ltb _ _ few)
+requests_read_back (Step (steps.Relay from to)) (few, (less, _)) = rw (lt-ltb _ _ few, lt-ltb _ _ less)
+requests_read_back (Step (steps.Apply from to)) (few, (less, _)) = rw (lt-ltb _ _ few, lt-ltb _ _ less)
+requests_read_back (Step (steps.Repeat from to number)) (few, (small, (less, _))) = rw (lt-ltb _ _ few, lt-ltb _ _ small, lt-ltb _ _ less)
+requests_read_back (Step (steps.Close from to)) (few, (less, _)) = rw (lt-ltb _ _ few, lt-ltb _ _ less)
+requests_read_back (Step (steps.Lose from to)) (few, (less, _)) = rw (lt-ltb _ _ few, lt-ltb _ _ less)
+requests_read_back (Step (steps.Verdict party q)) (few, (less, _)) = rw (lt-ltb _ _ few, lt-ltb _ _ less)
+
+-- what holds of what a reading gives, where the next step sees to it
+then_gave : {A B : Type 0} (P : A → Type 0) (Q : B → Type 0) (reading : Result A LineFault) (next : A → Result B LineFault)
+    → IfOk reading P → ((x : A) → P x → IfOk (next x) Q) → IfOk (reading and_then next) Q
+then_gave P Q reading next gave step = grind (arith, nat_tests)
+
+-- the same where nothing is known of what was read
+then_any : {A B : Type 0} (Q : B → Type 0) (reading : Result A LineFault) (next : A → Result B LineFault)
+    → ((x : A) → IfOk (next x) Q) → IfOk (reading and_then next) Q
+then_any Q reading next step = grind (arith, nat_tests)
+
+-- the same where a fault is made of the one that there was
+error_gave : {A E : Type 0} (P : A → Type 0) (fault_of : E → LineFault) (reading : Result A E) → ((x : A) → reading ≡ Ok x → P x)
+    → IfOk (map_err fault_of reading) P
+error_gave P fault_of reading legal = grind (arith, nat_tests)
+
+-- a number has 32 bits
+abbrev Has32Bits : ℕ → Type 0
+Has32Bits n = n < 2 ^ 32
+
+small_gave : (fault : LineFault) (n : Option ℕ) → IfOk (ok_or (option_and_then of_32_bits n) fault) Has32Bits
+small_gave fault n = grind (arith, nat_tests)
+
+market_gave : (text : List ℕ) → is_market text ≡ true → IsMarket text
+market_gave text is = grind (arith, read_market_is_market text text)
+
+each_gave : {A : Type 0} (P : A → Type 0) (test : A → Bool) → ((x : A) → test x ≡ true → P x) → (xs : List A) → list_all test xs ≡ true → AllByRecursion P xs
+each_gave P test gave [] all = tt
+each_gave P test gave (x ∷ xs) all = let parts = and_parts (test x) (list_all test xs) all in (gave x parts.0, each_gave P test gave xs parts.1)
+
+lists_gave : (lists : List (List (List ℕ))) → list_all (list_all is_market) lists ≡ true → AreMarketLists lists
+lists_gave = each_gave (AllByRecursion IsMarket) (list_all is_market) (each_gave IsMarket is_market market_gave)
+
+all_gave : (field : LineField) (lists : List (List (List ℕ))) → IfOk (market_lists field lists) AreMarketLists
+all_gave field lists = grind (arith, lists_gave lists)
+
+-- what a field is read as is legal
+meaning_gave : (field : LineField) (value : Data) → IfOk ((meaning_of field).read value) (meaning_of field).IsLegal
+unfolding read_at message_at market_lists_at number_at
+meaning_gave fields.Gtin value = grind (arith, nat_tests)
+meaning_gave fields.Serial value = grind (arith, nat_tests, error_gave, read_code_is_code, then_any)
+meaning_gave fields.Message value = grind (arith, nat_tests, error_gave, read_is_legal, then_any)
+meaning_gave fields.Parties value =
+    then_any AreMarketLists (member_at fields.Parties value) _
+    (λ found. then_any AreMarketLists (ok_or (as_list (as_list as_str) found) (Kind fields.Parties)) _ (all_gave fields.Parties))
+meaning_gave field value = then_any Has32Bits (member_at field value) _ (λ found. small_gave (Kind field) (option_and_then as_u64 (as_number found)))
+
+-- what is asked is legal, whatever legal values these fields have
+abbrev AsksLegal : (others : List LineField) → Asking others → Type 0
+AsksLegal [] request = IsLegalRequest request
+AsksLegal (field ∷ rest) asks = (x : (meaning_of field).Value) → (meaning_of field).IsLegal x → AsksLegal rest (asks x)
+
+asked_gave : (others : List LineField) (asks : Asking others) (value : Data) → AsksLegal others asks → IfOk (asked_at others asks value) IsLegalRequest
+asked_gave [] request value legal = legal
+asked_gave (field ∷ rest) asks value legal =
+    then_gave (meaning_of field).IsLegal IsLegalRequest ((meaning_of field).read value) _ (meaning_gave field value) (λ x is. asked_gave rest (asks x) value (legal x is))
+
+kinds_ask : (kind : LineKind) → AsksLegal (shape_of kind).others (shape_of kind).asks
+kinds_ask kinds.Open = λ parties legal submissions s uplink u window w wire i. (legal, (s, (u, (w, (i, tt)))))
+kinds_ask kinds.Submit = λ from small message legal. (small, (legal, tt))
+kinds_ask kinds.Route = λ from small. (small, tt)
+kinds_ask kinds.Relay = λ from small to less. (small, (less, tt))
+kinds_ask kinds.Apply = λ from small to less. (small, (less, tt))
+kinds_ask kinds.Repeat = λ from small number less to few. (small, (less, (few, tt)))
+kinds_ask kinds.Close = λ from small to less. (small, (less, tt))
+kinds_ask kinds.Lose = λ from small to less. (small, (less, tt))
+kinds_ask kinds.Verify = λ gtin legal party small serial coded. (legal, (small, (coded, tt)))
+kinds_ask kinds.Verdict = λ party small q less. (small, (less, tt))
+
+request_gave : (kind : LineKind) (value : Data) → IfOk (request_at kind value) IsLegalRequest
+unfolding request_at
+request_gave kind value = asked_gave (shape_of kind).others (shape_of kind).asks value (kinds_ask kind)
+
+-- what reading gives, where no key is unknown
+abbrev unless_unknown : {A : Type 0} → Option (List ℕ) → Result A LineFault → Result A LineFault
+unless_unknown o reading = option_map_or (λ key. Err (Unknown key)) o reading
+
+-- whoever takes the kind, where no key is unknown, and then reads the fields by it, reads them where no key is unknown
+pub known_gives : (result : Result Request LineFault) (o : Option (List ℕ)) (kind known : LineKind) (value : Data)
+    → unless_unknown o (Ok kind) ≡ Ok known → GivesOr result (request_at known value) Memory
+    → GivesOr result (unless_unknown o (request_at kind value)) Memory
+known_gives result o kind known value taken gives = grind (arith, nat_tests)
+
+known_gave : (o : Option (List ℕ)) (reading : Result Request LineFault) → IfOk reading IsLegalRequest → IfOk (unless_unknown o reading) IsLegalRequest
+known_gave o reading gave = grind (arith, nat_tests)
+
+read_gave : (value : Data) → IfOk (read_request value) IsLegalRequest
+unfolding read_request
+read_gave value = grind (arith, nat_tests, known_gave, request_gave, then_any)
+
+-- what a line asks is legal
+pub read_requests_are_legal : (value : Data) (request : Request) → read_request value ≡ Ok request → IsLegalRequest request
+read_requests_are_legal value request read = subst (λ r. IfOk r IsLegalRequest) read (read_gave value)

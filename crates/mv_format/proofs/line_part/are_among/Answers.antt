@@ -1,0 +1,15 @@
+use Rattle.std.proofs.Common.{arith, subst}
+use Rattle.std.specs.Prelude.{All, Contains}
+use Rattle.std.proofs.lemmas.List.{take_all}
+use Rattle.std.proofs.lemmas.List.Elements.{All-more}
+use Rattle.mv_format.specs.declared.line_part.LineEntry.{LineEntry}
+use Rattle.mv_format.proofs.line_part.are_among.Goals as goal
+
+pub loop-met-preserved : goal.loop-met-preserved
+loop-met-preserved c =
+    let P : LineEntry → Type 0 = λ met. Contains c.args.fields.now met.field in
+    All-more P c.args.entries.now c.loop-met.met-index c.met-item.result (omega arith) c.loop-met.invariant (subst P c.met-item.is (c.is_one_of.ensures c.if-not-is_one_of.false))
+
+pub returns : goal.returns
+returns c = λ all.
+    subst (All (λ met. Contains c.args.fields.now met.field)) (take_all c.loop-met.met-index c.args.entries.now (omega arith)) c.loop-met.invariant

@@ -1,0 +1,9 @@
+use Rattle.std.proofs.Common.{◌≡◌, ◌++◌, ◌∷◌, flat_map, take}
+use Rattle.json.specs.Token.{begin_object}
+use Rattle.mv_format.specs.Writing.{member_tokens}
+use Rattle.mv_format.proofs.members.write_object.Given as goal
+
+-- the first members are written
+abbrev pub invariant-loop-member : goal.invariant-loop-member
+invariant-loop-member l = (l.writer.before ≡ l.fn.writer.before)
+    × (l.writer.tokens ≡ l.fn.writer.tokens ++ (begin_object ∷ flat_map member_tokens (take l.member-index l.members)))

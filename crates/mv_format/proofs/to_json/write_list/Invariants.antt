@@ -1,0 +1,9 @@
+use Rattle.std.proofs.Common.{◌≡◌, ◌++◌, ◌∷◌, flat_map, take}
+use Rattle.json.specs.Token.{begin_array}
+use Rattle.mv_format.specs.Writing.{tokens_of}
+use Rattle.mv_format.proofs.to_json.write_list.Given as goal
+
+-- the first values are written
+abbrev pub invariant-loop-item : goal.invariant-loop-item
+invariant-loop-item g l = (l.writer.before ≡ l.fn.writer.before)
+    × (l.writer.tokens ≡ l.fn.writer.tokens ++ (begin_array ∷ flat_map (λ x. tokens_of (g.T.ToJson.value x)) (take l.item-index l.items)))

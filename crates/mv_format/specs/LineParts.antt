@@ -1,0 +1,71 @@
+-- What stands in the fields of a line, as they are met in its object; and the tokens of JSON that it is read from.
+use Rattle.std.specs.Prelude.{◌≡◌, ◌<◌, ◌^◌, ℕ, List, Contains, Some, Result, Ok}
+use Rattle.json.specs.Token.{Token}
+use Rattle.serde_json.specs.Data.{Data}
+use Rattle.mv_machine.specs.declared.step.Step.{Step}
+use Rattle.mv_pack.specs.Code.{read_code}
+use Rattle.mv_pack.specs.Gtin.{read_gtin}
+use Rattle.mv_json.specs.Messages.{read_message}
+use Rattle.mv_json.specs.Met.{BeginWith, HasMet}
+use Rattle.mv_json.specs.Parts.{IsText}
+use Rattle.mv_json.specs.Values.{whole}
+use Rattle.mv_format.specs.declared.field.LineField.{LineField}
+use Rattle.mv_format.specs.declared.field.LineField.TheVariants as fields
+use Rattle.mv_format.specs.declared.kind.LineKind.{LineKind}
+use Rattle.mv_format.specs.declared.line_fault.LineFault.{LineFault}
+use Rattle.mv_format.specs.declared.line_part.LineEntry.{LineEntry}
+use Rattle.mv_format.specs.declared.line_part.LinePart.{LinePart}
+use Rattle.mv_format.specs.declared.line_part.LinePart.TheVariants as parts
+use Rattle.mv_format.specs.declared.request.Request.TheVariants.{Step as AStep}
+use Rattle.mv_format.specs.Fields.{field_name}
+use Rattle.mv_format.specs.Kinds.{kind_named}
+use Rattle.mv_format.specs.Reading.{message_at, number_at, read_at}
+use Rattle.mv_format.specs.Requests.{read_request}
+
+-- what a value says, read by its kind
+abbrev pub IsPart : Data → LinePart → Type 0
+IsPart found (parts.Gtin gtin) = IsText found (λ text. read_gtin text ≡ Ok gtin)
+IsPart found (parts.Kind kind) = IsText found (λ text. kind_named text ≡ Some kind)
+IsPart found (parts.Message message) = read_message found ≡ Ok message
+IsPart found (parts.Number number) = (found ≡ whole number) × (number < 2 ^ 32)
+IsPart found (parts.Serial serial) = IsText found (λ text. read_code text ≡ Ok serial)
+
+-- a field, and what stands there
+abbrev pub entry : LineField → LinePart → LineEntry
+entry field part = record { field = field; part = part }
+
+-- the name of the field
+abbrev pub entry_name : LineEntry → List ℕ
+entry_name met = field_name met.field
+
+-- an object has these fields, and no other
+abbrev pub HasEntries : Data → List LineEntry → Type 0
+HasEntries found entries = HasMet entry_name (λ part met. IsPart part met.part) found entries
+
+-- among the fields is the one that names this kind
+abbrev pub HasKind : List LineEntry → LineKind → Type 0
+HasKind entries kind = Contains entries (entry fields.Do (parts.Kind kind))
+
+-- the tokens are a value that says this part, then the rest
+abbrev pub BeginWithPart : List Token → LinePart → List Token → Type 0
+BeginWithPart ts part rest = (found : Data) × BeginWith 3 ts found rest × IsPart found part
+
+-- the tokens are an object that has these fields, and no other, then the rest
+abbrev pub BeginWithEntries : List Token → List LineEntry → List Token → Type 0
+BeginWithEntries ts entries rest = (found : Data) × BeginWith 4 ts found rest × HasEntries found entries
+
+-- what a reading of an object gives is told by its fields
+abbrev pub Tells : {A : Type 0} → (Data → Result A LineFault) → List LineEntry → A → Type 0
+Tells reading entries x = (value : Data) → HasEntries value entries → reading value ≡ Ok x
+
+-- what an object that has these fields tells of this one, in which this part was met
+abbrev pub TellsPart : List LineEntry → LineField → LinePart → Type 0
+TellsPart entries field (parts.Gtin gtin) = Tells (read_at read_gtin field) entries gtin
+TellsPart entries field (parts.Kind kind) = Contains entries (entry field (parts.Kind kind))
+TellsPart entries field (parts.Message message) = (field ≡ fields.Message) → Tells message_at entries message
+TellsPart entries field (parts.Number number) = Tells (number_at field) entries number
+TellsPart entries field (parts.Serial serial) = Tells (read_at read_code field) entries serial
+
+-- the tokens are an object that asks this step, then the rest
+abbrev pub Asks : List Token → Step → List Token → Type 0
+Asks ts step rest = (found : Data) × BeginWith 4 ts found rest × (read_request found ≡ Ok (AStep step))

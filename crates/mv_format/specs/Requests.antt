@@ -1,0 +1,36 @@
+-- What a line asks, or its first fault.
+use Rattle.std.specs.Prelude.{ℕ, List, [], ◌∷◌, Result, Ok, Err, ok_or}
+use Rattle.std.specs.Option.{option_map_or}
+use Rattle.serde_json.specs.Data.{Data}
+use Rattle.serde_json.specs.Find.{as_object}
+use Rattle.mv_json.specs.Members.{first_unknown}
+use Rattle.mv_json.specs.Messages.{json_value}
+use Rattle.mv_json.specs.Reading.{◌and_then◌}
+use Rattle.mv_format.specs.declared.field.LineField.{LineField}
+use Rattle.mv_format.specs.declared.line_fault.LineFault.{LineFault}
+use Rattle.mv_format.specs.declared.line_fault.LineFault.TheVariants.{NotJson, NotObject, Unknown}
+use Rattle.mv_format.specs.declared.kind.LineKind.{LineKind}
+use Rattle.mv_format.specs.declared.request.Request.{Request}
+use Rattle.mv_format.specs.Kinds.{Asking, shape_of, names_of, kind_at}
+use Rattle.mv_format.specs.Meanings.{meaning_of}
+
+-- what a line asks by these fields, each of which is read in its turn
+abbrev pub asked_at : (others : List LineField) → Asking others → Data → Result Request LineFault
+asked_at [] request value = Ok request
+asked_at (field ∷ rest) asks value = (meaning_of field).read value and_then λ meaning. asked_at rest (asks meaning) value
+
+-- what the fields of a line of a kind ask
+unfoldable pub request_at : LineKind → Data → Result Request LineFault
+request_at kind value = asked_at (shape_of kind).others (shape_of kind).asks value
+
+-- What the value of a line asks, or the first fault: M2, those of `do`, M4 with the first key that the kind does not have, then those
+-- of each field.
+unfoldable pub read_request : Data → Result Request LineFault
+read_request value =
+    ok_or (as_object value) NotObject and_then λ members.
+    kind_at value and_then λ kind.
+    option_map_or (λ key. Err (Unknown key)) (first_unknown (names_of kind) members) (request_at kind value)
+
+-- what a line asks, or the first fault: M1, then those of its value
+abbrev pub read_line : List ℕ → Result Request LineFault
+read_line line = ok_or (json_value line) NotJson and_then read_request

@@ -1,0 +1,75 @@
+-- What is written of a reply's object.
+use Rattle.std.specs.Prelude.{◌≡◌, ℕ, List, [], ◌∷◌, ◌++◌, codes, IfOk, Option, Some, None, option_map, Result, MatchResult}
+use Rattle.json.specs.Token.{Token, key}
+use Rattle.json.specs.Tree.{json_tokens}
+use Rattle.json.specs.Written.{Written}
+use Rattle.serde_json.specs.Data.{Data, Members, no_members, member, null, string, boolean, array}
+use Rattle.serde_json.specs.Written.{outline, compact_text}
+use Rattle.mv_json.specs.Messages.{value_of}
+use Rattle.mv_json.specs.Values.{whole}
+use Rattle.mv_repository.specs.declared.held.Change.{Change}
+use Rattle.mv_format.specs.Meanings.{markets_value}
+use Rattle.mv_format.specs.Objects.{object_of}
+use Rattle.mv_format.specs.ReplyLines.{wholes}
+use Rattle.mv_format.specs.declared.members.Member.{Member}
+use Rattle.mv_format.specs.declared.members.Member.TheVariants as members
+
+-- a national number; null where there is none
+abbrev pub national_value : Option (List ℕ) → Data
+national_value None = null
+national_value (Some national) = string national
+
+-- what changed a pack: the moment, the party that asked for it, and its user
+abbrev pub change_object : ℕ → ℕ → List ℕ → Data
+change_object at by user = object_of ((codes "at", whole at) ∷ (codes "by", whole by) ∷ (codes "user", string user) ∷ [])
+
+-- a change that this user asked for; null where there is none
+abbrev pub change_value : Option Change → List ℕ → Data
+change_value None user = null
+change_value (Some change) user = change_object change.at change.by user
+
+-- a member before others, where there is a value; else these alone
+abbrev pub member_where : List ℕ → Option Data → Members → Members
+member_where name None rest = rest
+member_where name (Some value) rest = member name value rest
+
+-- the key of a member, and its value, if there is one
+abbrev pub entry_of : Member → List ℕ × Option Data
+entry_of (members.Number name n) = (name.now, Some (whole n))
+entry_of (members.Text name text) = (name.now, Some (string text.now))
+entry_of (members.Flag name flag) = (name.now, Some (boolean flag))
+entry_of (members.NumberOrNone name number) = (name.now, option_map whole number)
+entry_of (members.FlagOrNone name flag) = (name.now, option_map boolean flag)
+entry_of (members.Null name) = (name.now, Some null)
+entry_of (members.Parties name parties) = (name.now, Some (array (wholes parties.now)))
+entry_of (members.Numbers name numbers) = (name.now, Some (array (wholes numbers.now)))
+entry_of (members.Markets name lists) = (name.now, Some (markets_value lists.now))
+entry_of (members.Message name message) = (name.now, Some (value_of message.now))
+entry_of (members.National name national) = (name.now, Some (national_value national.now))
+entry_of (members.Change name change user) = (name.now, Some (change_value change.now user.now))
+
+-- the members, in order
+abbrev pub members_of : List Member → Members
+members_of [] = no_members
+members_of (m ∷ rest) = member_where (entry_of m).0 (entry_of m).1 (members_of rest)
+
+-- the tokens of a value
+unfoldable pub tokens_of : Data → List Token
+tokens_of value = json_tokens (outline value)
+
+-- the tokens of a key and of its value, if there is one
+abbrev pub entry_tokens : List ℕ → Option Data → List Token
+entry_tokens name None = []
+entry_tokens name (Some value) = key name ∷ tokens_of value
+
+-- the tokens of a member
+abbrev pub member_tokens : Member → List Token
+member_tokens m = entry_tokens (entry_of m).0 (entry_of m).1
+
+-- the value came behind what was written
+abbrev pub Adds : {E : Type 0} → Result (Unit {0}) E → Written → Written → Data → Type 0
+Adds result old new value = IfOk result (λ _. new.tokens ≡ old.tokens ++ tokens_of value)
+
+-- the canonical text of the value came behind these bytes, or they are as they were
+abbrev pub Appended : {E : Type 0} → Result (Unit {0}) E → List ℕ → List ℕ → Data → Type 0
+Appended result old new value = MatchResult result (λ _. new ≡ old ++ compact_text value) (λ _. new ≡ old)

@@ -1,0 +1,184 @@
+//! Writes the objects that replies are, member by member.
+
+ghost use Rattle.std.specs.Prelude.{◌≡◌, ◌++◌, IfOk};
+ghost use Rattle.serde_json.specs.Data.{object};
+ghost use Rattle.mv_json.specs.Messages.{value_of};
+ghost use Rattle.mv_format.specs.Writing.{Adds, Appended, change_object, change_value, national_value, members_of, member_tokens};
+
+use crate::to_json::write_list;
+use crate::{ToJson, append_json};
+use json::Writer;
+use mv_link::Reached;
+use mv_message::{Markets, Message, Party};
+use mv_pack::National;
+use mv_repository::Change;
+use std::alloc::{AllocError, Global};
+
+/// A member of an object: its key and its value.
+#[derive(Clone, Copy, Drop)]
+pub enum Member<'a> {
+    /// A whole number.
+    Number(&'static str, u64),
+    /// A text.
+    Text(&'static str, &'a str),
+    /// True or false.
+    Flag(&'static str, bool),
+    /// A whole number, where there is one; else no member.
+    NumberOrNone(&'static str, Option<u64>),
+    /// True or false, where it is one of them; else no member.
+    FlagOrNone(&'static str, Option<bool>),
+    /// `null`.
+    Null(&'static str),
+    /// The parties that a message reached, as a list.
+    Parties(&'static str, &'a Reached),
+    /// A list of whole numbers.
+    Numbers(&'static str, &'a [u32]),
+    /// The markets of each party, a list of texts each.
+    Markets(&'static str, &'a [Markets]),
+    /// A message, as `canon` writes it.
+    Message(&'static str, &'a Message),
+    /// A national number, or `null`.
+    National(&'static str, &'a Option<National>),
+    /// What changed a pack, asked for by this user, or `null`.
+    Change(&'static str, &'a Option<Change>, &'a str),
+}
+
+/// An object of these members.
+#[derive(Clone, Copy, Drop)]
+pub(crate) struct Object<'a> {
+    /// The members, in byte order of their keys.
+    pub(crate) members: &'a [Member<'a>],
+}
+
+impl ToJson for Object<'_> {
+    ghost value = { λ o. object (members_of o.members.now) };
+
+    fn write(&self, writer: &mut Writer) -> Result<(), AllocError> {
+        write_object(writer, self.members)
+    }
+}
+
+/// Writes the object of these members, which come in byte order of their keys, behind what the buffer holds. Where memory is
+/// refused the buffer is as it was.
+pub fn append_object(
+    alloc: Global,
+    out: &mut Vec<u8>,
+    members: &[Member<'_>],
+) -> Result<(), AllocError>
+    ensures { Appended result out.old.items out.new.items (object (members_of members.now)) }
+{
+    append_json(alloc, out, &Object { members })
+}
+
+/// Writes the object of these members, which come in byte order of their keys.
+pub(crate) fn write_object(writer: &mut Writer, members: &[Member<'_>]) -> Result<(), AllocError>
+    ensures before { writer.new.before ≡ writer.old.before }
+    ensures added { Adds result writer.old writer.new (object (members_of members.now)) }
+{
+    writer.begin_object()?;
+    for member in members {
+        write_member(writer, *member)?;
+    }
+    writer.end_object()
+}
+
+/// Writes a member.
+#[tactic(auto, unfolding(crate::specs::Writing::tokens_of))]
+fn write_member(writer: &mut Writer, member: Member<'_>) -> Result<(), AllocError>
+    ensures before { writer.new.before ≡ writer.old.before }
+    ensures added { IfOk result (λ _.
+        writer.new.tokens ≡ writer.old.tokens ++ member_tokens member.entry) }
+{
+    match member {
+        Member::NumberOrNone(_, None) | Member::FlagOrNone(_, None) => Ok(()),
+        Member::Number(key, number) | Member::NumberOrNone(key, Some(number)) => {
+            writer.key(key)?;
+            writer.u64(number)
+        }
+        Member::Text(key, text) => {
+            writer.key(key)?;
+            writer.string(text)
+        }
+        Member::Flag(key, flag) | Member::FlagOrNone(key, Some(flag)) => {
+            writer.key(key)?;
+            writer.boolean(flag)
+        }
+        Member::Null(key) => {
+            writer.key(key)?;
+            writer.null()
+        }
+        Member::Parties(key, parties) => {
+            writer.key(key)?;
+            write_list(writer, parties.to_reach().as_slice())
+        }
+        Member::Numbers(key, numbers) => {
+            writer.key(key)?;
+            write_list(writer, numbers)
+        }
+        Member::Markets(key, lists) => {
+            writer.key(key)?;
+            write_list(writer, lists)
+        }
+        Member::Message(key, message) => {
+            writer.key(key)?;
+            write_message(writer, message)
+        }
+        Member::National(key, national) => {
+            writer.key(key)?;
+            write_national(writer, national)
+        }
+        Member::Change(key, change, user) => {
+            writer.key(key)?;
+            write_change(writer, change, user)
+        }
+    }
+}
+
+/// Writes a national number, if there is one.
+#[tactic(auto, unfolding(crate::specs::Writing::tokens_of))]
+fn write_national(writer: &mut Writer, national: &Option<National>) -> Result<(), AllocError>
+    ensures before { writer.new.before ≡ writer.old.before }
+    ensures added { Adds result writer.old writer.new (national_value national.now) }
+{
+    match national {
+        Some(national) => writer.string(national.as_str()),
+        None => writer.null(),
+    }
+}
+
+/// Writes what changed a pack, if something did.
+#[tactic(auto, unfolding(crate::specs::Writing::tokens_of))]
+fn write_change(writer: &mut Writer, change: &Option<Change>, user: &str) -> Result<(), AllocError>
+    ensures before { writer.new.before ≡ writer.old.before }
+    ensures added { Adds result writer.old writer.new (change_value change.now user.now) }
+{
+    match change {
+        Some(change) => write_fields(writer, change.at.seconds(), change.by, user),
+        None => writer.null(),
+    }
+}
+
+/// Writes the moment, the party and the user of a change.
+#[tactic(auto, unfolding(crate::specs::Writing::tokens_of))]
+fn write_fields(writer: &mut Writer, at: u64, by: Party, user: &str) -> Result<(), AllocError>
+    ensures before { writer.new.before ≡ writer.old.before }
+    ensures added { Adds result writer.old writer.new (change_object at by user.now) }
+{
+    writer.begin_object()?;
+    writer.key("at")?;
+    writer.u64(at)?;
+    writer.key("by")?;
+    writer.u64(u64::from(by))?;
+    writer.key("user")?;
+    writer.string(user)?;
+    writer.end_object()
+}
+
+/// Writes a message.
+#[tactic(auto, unfolding(crate::specs::Writing::tokens_of))]
+fn write_message(writer: &mut Writer, message: &Message) -> Result<(), AllocError>
+    ensures before { writer.new.before ≡ writer.old.before }
+    ensures added { Adds result writer.old writer.new (value_of message.now) }
+{
+    mv_json::write_message(writer, message)
+}

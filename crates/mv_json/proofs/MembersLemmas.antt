@@ -1,6 +1,5 @@
 -- Keys of objects.
-use Rattle.std.proofs.Common.{◌≡◌, ℕ, ◌||◌, not, cond, true, false, map, Bool, List, [], ◌∷◌, ap, refl}
-use Rattle.std.specs.Prelude.{Some, bytes_eq, option_map, find, String, string_bytes}
+use Rattle.std.proofs.Common.{◌≡◌, ℕ, ◌||◌, not, map, Bool, List, [], ◌∷◌, ap, refl, arith, bytes_eq, option_map, find, String, string_bytes}
 use Rattle.std.specs.declared.alloc.Global.{Global}
 use Rattle.std.specs.List.{list_any}
 use Rattle.serde_json.specs.View.{members_view}
@@ -15,8 +14,4 @@ list_any_of_map p f (x ∷ xs) = ap (λ b. p (f x) || b) (list_any_of_map p f xs
 -- the first unknown key of a map is that of its members
 pub first_unknown_of_entries : (names : List (List ℕ)) (es : List (String Global × Value)) → option_map string_bytes (find (λ key. not (list_any (bytes_eq (string_bytes key)) names)) (map (λ e. e.0) es)) ≡ first_unknown names (members_view es)
 first_unknown_of_entries names [] = refl
-first_unknown_of_entries names (e ∷ es) =
-    elim (list_any (bytes_eq (string_bytes e.0)) names) as (λ b.
-    option_map string_bytes (cond (not b) (Some e.0) (find (λ key. not (list_any (bytes_eq (string_bytes key)) names)) (map (λ e. e.0) es)))
-    ≡ cond (not b) (Some (string_bytes e.0)) (first_unknown names (members_view es)))
-    [ true ↦ first_unknown_of_entries names es | false ↦ refl ]
+first_unknown_of_entries names (e ∷ es) = grind (arith, first_unknown_of_entries names es)

@@ -1,20 +1,15 @@
 -- Fields of an object that are met in any order: its tokens are its members, one after the other.
-use Rattle.std.proofs.Common.{◌≡◌, ◌∙◌, ◌≤◌, ◌<◌, ◌-◌, ℕ, suc, zero, List, [], ◌∷◌, ◌++◌, length, map, ap, sym, subst, refl, arith}
+use Rattle.std.proofs.Common.{◌≡◌, ◌∙◌, ◌≤◌, ◌<◌, ◌-◌, ℕ, suc, List, [], ◌∷◌, ◌++◌, length, map, ap, sym, subst, refl, arith, Option, Some, All, Contains, ◌≢◌}
 use Rattle.std.proofs.lemmas.List.{map-append}
 use Rattle.std.proofs.lemmas.List.Elements.{All-append, All-cons, All-nil, Contains-append_left, Contains-append_right}
-use Rattle.std.specs.Prelude.{Bool, Option, Some, None, option_map, All, Contains, ◌≢◌}
 use Rattle.std.specs.List.{AllByRecursion}
-use Rattle.std.specs.Cmp.Lexicographic.{slice_cmp}
-use Rattle.std.specs.Ordering.{nat_cmp, match_ordering}
-use Rattle.std.specs.declared.cmp.Ordering.{Ordering}
-use Rattle.std.specs.declared.cmp.Ordering.TheVariants.{Less, Equal, Greater}
 use Rattle.json.specs.Json as json
 use Rattle.json.specs.Json.{value, members, parse_map}
 use Rattle.json.specs.Token.{Token, begin_object, end_object, key}
 use Rattle.json.specs.Token as token
-use Rattle.json.proofs.Grammar.{left, value-begin_object, skip_value-shorter, members_end, members_more}
+use Rattle.json.proofs.Grammar.{left, value_is, value-begin_object, skip_value-shorter, members_end, members_more}
 use Rattle.serde_json.proofs.Views.{get_member-put, get_member-put_other}
-use Rattle.serde_json.specs.Data.{Data, null, boolean, string, number, object, unsigned, Members, no_members, member, put}
+use Rattle.serde_json.specs.Data.{Data, string, number, object, unsigned, Members, no_members, member, put}
 use Rattle.serde_json.specs.Find.{get_member}
 use Rattle.serde_json.specs.Read.{number_of, of_json, of_members, converted}
 use Rattle.mv_json.specs.Members.{keys_of}
@@ -22,35 +17,18 @@ use Rattle.mv_json.specs.Met.{BeginWith, HasMet}
 
 -- ---- the grammar, a turn at a time, under the conversion to values
 
-abbrev pick : {A : Type 0} → A → Option A → A
-pick d None = d
-pick d (Some a) = a
-
-same_found : {A B : Type 0} (a : A) (r s : List Token) (x : Option B) (b : B)
-    → option_map {U = B × List Token} (λ y. (y, r)) x ≡ Some (b, s) → (r ≡ s) × (x ≡ Some b)
-same_found a r s None b e = absurd (cc)
-same_found a r s (Some y) b e = let same = ap (pick (y, r)) e in (ap (λ p. p.1) same, ap (λ p. Some p.0) same)
-
 -- what was converted was parsed
 pub converted_some : {A B : Type 0} (f : A → Option B) (o : Option (A × List Token)) (b : B) (r : List Token)
     → converted f o ≡ Some (b, r) → (a : A) × (o ≡ Some (a, r)) × (f a ≡ Some b)
-converted_some f None b r e = absurd (cc)
-converted_some f (Some p) b r e = let both = same_found p.0 p.1 r (f p.0) b e in (p.0, ap (λ s. Some (p.0, s)) both.0, both.1)
-
-twice : {A B : Type 0} (g : A → B) (r : List Token) (x : Option A)
-    → option_map (λ b. (b, r)) (option_map g x) ≡ parse_map g (option_map (λ a. (a, r)) x)
-twice g r None = refl
-twice g r (Some a) = refl
+converted_some f o b r e = grind arith
 
 converted_object : (o : Option (json.Members × List Token))
     → converted of_json (parse_map json.object o) ≡ parse_map object (converted (λ ms. of_members ms no_members) o)
-converted_object None = refl
-converted_object (Some p) = twice object p.1 (of_members p.0 no_members)
+converted_object o = grind arith
 
 with_member : (k : List ℕ) (j : json.Json) (d : Data) (old : Members) → of_json j ≡ Some d → (o : Option (json.Members × List Token))
     → converted (λ ms. of_members ms old) (parse_map (json.member k j) o) ≡ converted (λ ms. of_members ms (put k d old)) o
-with_member k j d old e None = refl
-with_member k j d old e (Some p) = rw e
+with_member k j d old e o = grind arith
 
 -- ---- tokens
 
@@ -95,43 +73,19 @@ come_through deep start rest found come depth h =
 
 -- a text, wherever it stands
 pub text_begins : (deep : ℕ) (text : List ℕ) (rest : List Token) → BeginWith deep (token.string text ∷ rest) (string text) rest
-unfolding value
-text_begins deep text rest zero h = refl
-text_begins deep text rest (suc depth) h = refl
-
--- `null`, wherever it stands
-pub null_begins : (deep : ℕ) (rest : List Token) → BeginWith deep (token.null ∷ rest) null rest
-unfolding value
-null_begins deep rest zero h = refl
-null_begins deep rest (suc depth) h = refl
-
--- a truth, wherever it stands
-pub truth_begins : (deep : ℕ) (truth : Bool) (rest : List Token) → BeginWith deep (token.boolean truth ∷ rest) (boolean truth) rest
-unfolding value
-truth_begins deep truth rest zero h = refl
-truth_begins deep truth rest (suc depth) h = refl
+text_begins deep text rest depth h = ap (converted of_json) (value_is depth (token.string text ∷ rest))
 
 -- a whole number, wherever it stands
 pub whole_begins : (deep n : ℕ) (text : List ℕ) (rest : List Token) → number_of text ≡ Some (unsigned n)
     → BeginWith deep (token.number text ∷ rest) (number (unsigned n)) rest
-unfolding value
-whole_begins deep n text rest is zero h = rw is
-whole_begins deep n text rest is (suc depth) h = rw is
+whole_begins deep n text rest is depth h = ap (converted of_json) (value_is depth (token.number text ∷ rest)) ∙ rw is
 
 -- ---- names
-
-keys_put_at : (P : List ℕ → Type 0) (o : Ordering) (k l : List ℕ) (d e : Data) (ms : Members) → P k → P l → AllByRecursion P (keys_of ms)
-    → AllByRecursion P (keys_of (put k d ms))
-    → AllByRecursion P (keys_of (match_ordering o (member k d (member l e ms)) (member l d ms) (member l e (put k d ms))))
-keys_put_at P Less k l d e ms here this others rest = (here, (this, others))
-keys_put_at P Equal k l d e ms here this others rest = (this, others)
-keys_put_at P Greater k l d e ms here this others rest = (this, rest)
 
 -- what holds of a name that is put in, and of those that stand there, holds of all
 pub keys_put : (P : List ℕ → Type 0) (k : List ℕ) (d : Data) (ms : Members) → P k → AllByRecursion P (keys_of ms) → AllByRecursion P (keys_of (put k d ms))
 keys_put P k d no_members here others = (here, tt)
-keys_put P k d (member l e ms) here others =
-    keys_put_at P (slice_cmp nat_cmp k l) k l d e ms here others.0 others.1 (keys_put P k d ms here others.1)
+keys_put P k d (member l e ms) here others = grind (arith, keys_put P k d ms here others.1)
 
 pub weaker : (P Q : List ℕ → Type 0) → ((k : List ℕ) → P k → Q k) → (ks : List (List ℕ)) → AllByRecursion P ks → AllByRecursion Q ks
 weaker P Q h [] all = tt
@@ -148,12 +102,7 @@ pub record AreMet {Met : Type 0} (name : Met → List ℕ) (Says : Data → Met 
 
 -- nothing was met
 pub none_met : {Met : Type 0} (name : Met → List ℕ) (Says : Data → Met → Type 0) (deep : ℕ) (start : List Token) → AreMet name Says deep start [] start
-none_met name Says deep start = record {
-  members = no_members;
-  come = come_nowhere deep start;
-  says = λ k d h. absurd (omega arith);
-  only = tt;
-}
+none_met name Says deep start = record { members = no_members; come = come_nowhere deep start; says = grind arith; only = tt }
 
 says_more : {Met : Type 0} (name : Met → List ℕ) (Says : Data → Met → Type 0) (old : List Met) (met : Met) (found : Data) (ms : Members) → Says found met
     → All (λ other. name other ≢ name met) old → All (λ met. (part : Data) × (get_member (name met) ms ≡ Some part) × Says part met) old

@@ -1,16 +1,14 @@
 -- Lists that are sorted, by computing.
-use Rattle.std.proofs.Common.{◌≡◌, refl, true, ◌&&◌, Bool, List, [], ◌∷◌}
+use Rattle.std.proofs.Common.{◌≡◌, true, ◌&&◌, Bool, List, [], ◌∷◌, arith}
 use Rattle.std.specs.Ordering.{is_lt}
 use Rattle.std.specs.declared.cmp.Ordering.{Ordering}
-use Rattle.std.specs.declared.cmp.Ordering.TheVariants.{Less, Equal, Greater}
+use Rattle.std.specs.declared.cmp.Ordering.TheVariants.{Less}
 use Rattle.std.specs.List.{list_all, AllByRecursion}
 use Rattle.std.specs.List.Sorted.{IsStrictlySortedBy}
 use Rattle.std.proofs.lemmas.Bool.{and_parts}
 
 is_less : (order : Ordering) → is_lt order ≡ true → order ≡ Less
-is_less Less h = refl
-is_less Equal h = cc
-is_less Greater h = cc
+is_less order h = grind arith
 
 -- each of these is above x
 all_above : {X : Type 0} (cmp : X → X → Ordering) (x : X) (ys : List X) → list_all (λ y. is_lt (cmp x y)) ys ≡ true → AllByRecursion (λ y. cmp x y ≡ Less) ys

@@ -1,11 +1,11 @@
 -- What stands in the fields of a message: its tokens, and what is read of it.
-use Rattle.json.proofs.Grammar.{value-begin_array}
-use Rattle.json.specs.Json.{value, items, after_end_array}
+use Rattle.json.proofs.Grammar.{value_is, value-begin_array}
+use Rattle.json.specs.Json.{value, items}
 use Rattle.json.specs.Json as json
 use Rattle.json.specs.Lex.{tokens}
-use Rattle.json.specs.Token.{Token, begin_object, end_object, begin_array, end_array, key}
+use Rattle.json.specs.Token.{Token, begin_array, end_array, key}
 use Rattle.json.specs.Token as token
-use Rattle.mv_json.proofs.MetLemmas.{AreMet, none_met, one_more_met, all_met, begun_shorter, converted_some, weaker, text_begins, null_begins, truth_begins, whole_begins}
+use Rattle.mv_json.proofs.MetLemmas.{AreMet, one_more_met, weaker, text_begins, whole_begins}
 use Rattle.mv_json.proofs.ReadingLemmas.{none_named, Inverts, codes_inverted, markets_inverted, list_tells}
 use Rattle.mv_json.proofs.ValueLemmas.{utf8_test}
 use Rattle.mv_json.specs.Fields.{field_name}
@@ -13,11 +13,10 @@ use Rattle.mv_json.specs.Limits.{most_markets, most_serials}
 use Rattle.mv_json.specs.Members.{keys_of, HasOnly}
 use Rattle.mv_json.specs.Messages.{read_bytes}
 use Rattle.mv_json.specs.Met.{BeginWith}
-use Rattle.mv_json.specs.Parts.{BeginWithMessage, BeginWithPart, BeginWithEntries, BeginWithTexts, StartWithPart, entry, entry_name, HasEntries, IsPart, IsPlace, IsTaken, IsThere, deep_in, there}
+use Rattle.mv_json.specs.Parts.{BeginWithMessage, BeginWithPart, BeginWithTexts, StartWithPart, entry, entry_name, HasEntries, IsPart, IsPlace, IsTaken, IsThere, deep_in, there}
 use Rattle.mv_json.specs.Reading.{list_at, whole_number}
 use Rattle.mv_json.specs.Values.{strings, whole}
 use Rattle.mv_json.specs.declared.field.Field.{Field}
-use Rattle.mv_json.specs.declared.field.Field.TheVariants as fields
 use Rattle.mv_json.specs.declared.object.Place.{Place}
 use Rattle.mv_json.specs.declared.part.Entry.{Entry}
 use Rattle.mv_json.specs.declared.part.Part.{Part}
@@ -29,23 +28,12 @@ use Rattle.mv_pack.specs.declared.fault.PackFault.{PackFault}
 use Rattle.serde_json.specs.Data.{Data, null, boolean, string, array}
 use Rattle.serde_json.specs.Find.{get, as_str, as_bool, as_null}
 use Rattle.serde_json.specs.Read.{of_json, of_items, converted}
-use Rattle.std.proofs.Common.{◌≡◌, ◌∙◌, ◌<◌, ◌-◌, ℕ, Bool, true, false, zero, suc, List, [], ◌∷◌, ◌++◌, length, map, set, ap, sym, subst, refl, arith}
+use Rattle.std.proofs.Common.{◌≡◌, ◌∙◌, ◌-◌, ℕ, Bool, true, false, List, [], ◌∷◌, ◌++◌, length, map, set, ap, sym, subst, refl, arith, Option, Some, None, Result, Ok, All, Contains, is_some, IfSome, IsUtf8, ◌≢◌}
 use Rattle.std.proofs.Math.Seq.{map-set_same}
 use Rattle.std.proofs.lemmas.List.Elements.{All-contains, All-cons, All-map, All-nil, All-set, Contains-append_right}
 use Rattle.std.specs.List.{AllByRecursion}
-use Rattle.std.specs.Prelude.{Option, Some, None, Result, Ok, All, Contains, find, bytes_eq, is_some, IfSome, IsUtf8, ◌≢◌}
 
 -- ---- lists of texts
-
--- the end of a list is a bracket
-pub list_ended : (ts rest : List Token) → after_end_array ts ≡ Some rest → ts ≡ end_array ∷ rest
-list_ended (end_array ∷ ts) rest h = cc
-list_ended ts rest h = cc
-
-text_parsed : (depth : ℕ) (text : List ℕ) (rest : List Token) → value depth (token.string text ∷ rest) ≡ Some (json.string text, rest)
-unfolding value
-text_parsed zero text rest = refl
-text_parsed (suc depth) text rest = refl
 
 no_item : (depth : ℕ) (rest : List Token) → items (value depth) (length (end_array ∷ rest)) (end_array ∷ rest) ≡ Some (json.no_items, rest)
 unfolding items
@@ -54,7 +42,7 @@ no_item depth rest = refl
 one_item : (depth : ℕ) (text : List ℕ) (more rest : List Token) (texts : json.Items) → items (value depth) (length more) more ≡ Some (texts, rest)
     → items (value depth) (length (token.string text ∷ more)) (token.string text ∷ more) ≡ Some (json.item (json.string text) texts, rest)
 unfolding items
-one_item depth text more rest texts h = rw (text_parsed depth text more, h)
+one_item depth text more rest texts h = rw (value_is depth (token.string text ∷ more), h)
 
 -- texts that a reader takes as they are, up to the end of their list
 record TextsParsed (Holds : List ℕ → Type 0) (ts : List Token) (xs : List (List ℕ)) (rest : List Token) : Type 0 where
@@ -65,8 +53,7 @@ record TextsParsed (Holds : List ℕ → Type 0) (ts : List Token) (xs : List (L
 
 texts_parsed : (reader : List ℕ → Result (List ℕ) PackFault) (Holds : List ℕ → Type 0) → Inverts reader (λ t. t) Holds → (ts : List Token) (xs : List (List ℕ)) (rest : List Token)
     → BeginWithTexts reader ts xs rest → TextsParsed Holds ts xs rest
-texts_parsed reader Holds good ts [] rest h =
-    record { texts = json.no_items; parsed = λ depth. rw h (no_item depth rest); is = refl; hold = tt }
+texts_parsed reader Holds good ts [] rest h = record { texts = json.no_items; parsed = grind (arith, no_item); is = refl; hold = tt }
 texts_parsed reader Holds good ts (x ∷ xs) rest (more, (text, is, read), then) =
     let others = texts_parsed reader Holds good more xs rest then in
     record {
@@ -88,12 +75,12 @@ part_starts : (ts rest : List Token) (part : Part) → StartWithPart ts part res
 part_starts ts rest (parts.Markets x) (list, opens, has, count) =
     let (begins, hold) = listed read_market IsMarket markets_inverted ts list rest x.items opens has in
     (array (strings x.items), begins, (refl, (count.0, count.1, hold)))
-part_starts ts rest parts.Null is = (null, rw is (null_begins 1 rest), refl)
+part_starts ts rest parts.Null is = (null, rw is (λ depth h. ap (converted of_json) (value_is depth (token.null ∷ rest))), refl)
 part_starts ts rest (parts.Serials x) (list, opens, has, count) =
     let (begins, hold) = listed read_code IsCode codes_inverted ts list rest x.items opens has in
     (array (strings x.items), begins, (refl, (count.0, count.1, hold)))
 part_starts ts rest (parts.Text x) is = (string x.now, rw is (text_begins 1 x.now rest), refl)
-part_starts ts rest (parts.Truth x) is = (boolean x, rw is (truth_begins 1 x rest), refl)
+part_starts ts rest (parts.Truth x) is = (boolean x, rw is (λ depth h. ap (converted of_json) (value_is depth (token.boolean x ∷ rest))), refl)
 part_starts ts rest (parts.Whole x) (text, is, numbered) = (whole x, rw is (whole_begins 1 x text rest numbered), refl)
 part_starts ts rest part says = absurd says
 
@@ -103,30 +90,15 @@ part_begins false ts rest part says = let (found, begins, is) = part_starts ts r
 
 -- ---- names
 
-abbrev all_fields : List Field
-all_fields = fields.AfterBatch ∷ fields.AfterGtin ∷ fields.AfterSerials ∷ fields.Asker ∷ fields.At ∷ fields.Batch ∷ fields.BeforeBatch ∷ fields.BeforeGtin ∷ fields.BeforeSerials ∷ fields.Common ∷ fields.Expiry ∷ fields.Form ∷ fields.Found ∷ fields.Gtin ∷ fields.Markets ∷ fields.Msg ∷ fields.Name ∷ fields.National ∷ fields.PackSize ∷ fields.PackType ∷ fields.Q ∷ fields.Recalled ∷ fields.Scheme ∷ fields.Serial ∷ fields.Serials ∷ fields.Standing ∷ fields.Strength ∷ fields.To ∷ fields.User ∷ fields.V ∷ fields.Withdrawn ∷ []
-
--- the field of that name
-abbrev field_called : List ℕ → Option Field
-field_called name = find (λ field. bytes_eq name (field_name field)) all_fields
-
-called : (field : Field) → field_called (field_name field) ≡ Some field
-called fields.AfterBatch = refl
-called field = refl
-
 -- two fields have two names
 pub name_apart : (f g : Field) → f ≢ g → field_name f ≡ field_name g → ⊥
-name_apart f g apart same =
-    let one : Some f ≡ Some g = sym (called f) ∙ ap field_called same ∙ called g in apart (cc)
+name_apart f g apart same = grind arith
 
 -- ---- fields that are met
 
 -- the tokens up to there are members that have the fields that were met, and no other
 abbrev pub AreEntries : ℕ → List Token → List Entry → List Token → Type 0
 AreEntries deep start entries rest = AreMet entry_name (λ part met. IsPart part met.part) deep start entries rest
-
-pub no_entry : (deep : ℕ) (start : List Token) → AreEntries deep start [] start
-no_entry deep start = none_met entry_name (λ part met. IsPart part met.part) deep start
 
 pub one_more_entry : (deep : ℕ) (start more rest : List Token) (old new : List Entry) (field : Field) (part : Part)
     → AreEntries deep start old (key (field_name field) ∷ more) → BeginWithPart deep more part rest → new ≡ old ++ entry field part ∷ []
@@ -135,47 +107,20 @@ one_more_entry deep start more rest old new field part are (found, begins, is) a
     one_more_met entry_name (λ part met. IsPart part met.part) deep start more rest old new (entry field part) found are begins is
     (added, λ k d h. name_apart _ field (apart k d h))
 
-pub all_entries : (deep : ℕ) (start rest : List Token) (entries : List Entry) → AreEntries deep start entries (end_object ∷ rest)
-    → BeginWithEntries (suc deep) (begin_object ∷ start) entries rest
-all_entries deep start rest entries are = all_met entry_name (λ part met. IsPart part met.part) deep start rest entries are
-
--- a part takes tokens
-pub part_shorter : (deep : ℕ) (ts rest : List Token) (part : Part) → BeginWithPart deep ts part rest → length rest < length ts
-part_shorter deep ts rest part (found, begins, says) = begun_shorter deep ts rest found begins
-
 -- ---- what is read of a part
 
--- the text that a part is
-abbrev pub text_in : Part → Option (List ℕ)
-text_in (parts.Text text) = Some text.now
-text_in part = None
-
--- the whole number that a part is
-abbrev pub whole_in : Part → Option ℕ
-whole_in (parts.Whole number) = Some number
-whole_in part = None
-
--- what a part is that is true or false
-abbrev pub truth_in : Part → Option Bool
-truth_in (parts.Truth truth) = Some truth
-truth_in part = None
-
--- whether a part is null
-abbrev pub is_null : Part → Bool
-is_null parts.Null = true
-is_null part = false
+-- what a part is: a text, a whole number, a truth, and whether it is null
+abbrev pub told : Part → Option (List ℕ) × Option ℕ × Option Bool × Bool
+told (parts.Text text) = (Some text.now, None, None, false)
+told (parts.Whole number) = (None, Some number, None, false)
+told (parts.Truth truth) = (None, None, Some truth, false)
+told parts.Null = (None, None, None, true)
+told part = (None, None, None, false)
 
 -- what stands in a field is what its part is
 pub part_is : (found : Data) (part : Part) → IsPart found part
-    → (as_str found ≡ text_in part) × (whole_number found ≡ whole_in part) × (as_bool found ≡ truth_in part) × (is_some (as_null found) ≡ is_null part)
-part_is found (parts.Found x) (_, is, _) = rw is (refl, refl, refl, refl)
-part_is found (parts.Markets x) (is, _) = rw is (refl, refl, refl, refl)
-part_is found (parts.Serials x) (is, _) = rw is (refl, refl, refl, refl)
-part_is found parts.Taken (_, is) = rw is (refl, refl, refl, refl)
-part_is found parts.Null is = rw is (refl, refl, refl, refl)
-part_is found (parts.Text x) is = rw is (refl, refl, refl, refl)
-part_is found (parts.Truth x) is = rw is (refl, refl, refl, refl)
-part_is found (parts.Whole x) is = rw is (refl, refl, refl, refl)
+    → (as_str found ≡ (told part).0) × (whole_number found ≡ (told part).1) × (as_bool found ≡ (told part).2) × (is_some (as_null found) ≡ (told part).3)
+part_is found part is = grind arith
 
 -- ---- lists that are taken out
 
@@ -217,9 +162,7 @@ pub not_there : (field : Field) (value : Data) (entries : List Entry) → HasEnt
 not_there field value entries has apart =
     let others : All (λ name. name ≢ field_name field) (map entry_name entries) =
     All-map (λ name. name ≢ field_name field) entry_name entries (λ k d h. name_apart _ field (apart k d h)) in
-    ap (get (field_name field)) has.is
-    ∙ none_named (field_name field) has.members
-    (weaker (Contains (map entry_name entries)) (λ key. key ≢ field_name field) (λ key h. All-contains (λ name. name ≢ field_name field) (map entry_name entries) key others h) (keys_of has.members) has.only)
+    grind (arith, none_named, weaker)
 
 -- what stands in a field, stands there
 pub is_there : (field : Field) (value found : Data) (place : Place) → get (field_name field) value ≡ Some found → IsPlace found place → IsThere field value place
@@ -229,8 +172,7 @@ is_there field value found place at is = (rw at refl, rw at is)
 -- what was met stands in its field
 pub stands : (value : Data) (entries : List Entry) (field : Field) (part : Part) → HasEntries value entries → Contains entries (entry field part)
     → (found : Data) × (get (field_name field) value ≡ Some found) × IsPart found part
-stands value entries field part has at =
-    All-contains (λ met. (found : Data) × (get (entry_name met) value ≡ Some found) × IsPart found met.part) entries (entry field part) has.says at
+stands value entries field part has at = All-contains (λ met. (found : Data) × (get (entry_name met) value ≡ Some found) × IsPart found met.part) entries (entry field part) has.says at
 
 -- ---- objects that have no fields but some
 
@@ -253,9 +195,7 @@ known_only value entries listed has among =
 
 -- the text whose tokens are a message is read as it
 text_read : (s : List ℕ) (message : Message) → IsUtf8 s → BeginWithMessage (tokens s) message [] → read_bytes s ≡ Ok message
-text_read s message utf8 (found, begins, is) =
-    let parsed = converted_some of_json (value 127 (tokens s)) found [] (begins 127 (omega arith)) in
-    rw (utf8_test s utf8, parsed.1, parsed.2) is
+text_read s message utf8 (found, begins, is) = grind (arith, utf8_test)
 
 -- the same of a message that there may be
 pub maybe_read : (s : List ℕ) (message : Option Message) → IsUtf8 s → IfSome message (λ m. BeginWithMessage (tokens s) m [])

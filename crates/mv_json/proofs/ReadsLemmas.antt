@@ -1,15 +1,15 @@
 -- A value is read as a message exactly where it is a spelling of it; what is read is legal, and the value of what is legal spells it.
 use Rattle.mv_json.proofs.OrderLemmas.{rises, strictly_sorted}
-use Rattle.mv_json.proofs.ReadingLemmas.{each, made, made_ok, parts_agree, made_read, both_ok, given, ok_or_some, as_object_ok, text_tells, same_bytes, found_by_name, unrefused, member_tells}
+use Rattle.mv_json.proofs.ReadingLemmas.{each, made, made_ok, parts_agree, made_read, both_ok, given, ok_or_some, text_tells, same_bytes, found_by_name, unrefused, member_tells}
 use Rattle.mv_json.specs.Fields.{field_name, names_in}
-use Rattle.mv_json.specs.Meanings.{part_of, Meaning, Making, made_at, first_fault, Has, AreLegal, AreSpelled}
+use Rattle.mv_json.specs.Meanings.{Spells, part_of, Meaning, Making, made_at, first_fault, Has, AreLegal, AreSpelled}
 use Rattle.mv_json.specs.Members.{keys_of, first_unknown, HasOnly}
-use Rattle.mv_json.specs.Messages.{read_message, value_of, value_in}
-use Rattle.mv_json.specs.Reading.{◌and_then◌, text_at, GivesOr, member_at}
+use Rattle.mv_json.specs.Messages.{read_message, value_of, value_in, message_version}
+use Rattle.mv_json.specs.Reading.{◌and_then◌, text_at}
 use Rattle.mv_json.specs.Shapes.{IsIn, form_name, forms_of, form_named, form_at, version_of, version_at, form_of, present_fields, found_version, found_value, SpellsFound, IsLegalFound, present_at, present_of, found_of, found_at, meaning_of, fields_of, making_of, names_of, message_at, contents_of, IsLegal, Reads}
 use Rattle.mv_json.specs.Values.{whole, since_two}
 use Rattle.mv_json.specs.declared.fault.MessageFault.{MessageFault}
-use Rattle.mv_json.specs.declared.fault.MessageFault.TheVariants.{Kind, Memory, NotObject, Unknown}
+use Rattle.mv_json.specs.declared.fault.MessageFault.TheVariants.{Kind, Unknown}
 use Rattle.mv_json.specs.declared.field.Field.{Field}
 use Rattle.mv_json.specs.declared.field.Field.TheVariants as fields
 use Rattle.mv_json.specs.declared.form.Form.{Form}
@@ -24,18 +24,17 @@ use Rattle.mv_message.specs.declared.standing.Standing.{Standing}
 use Rattle.mv_pack.proofs.ExpiryLemmas.{read_expiry_text}
 use Rattle.mv_pack.proofs.GtinLemmas.{read_gtin_of}
 use Rattle.mv_pack.specs.Expiry.{expiry_text, CivilDate}
+use Rattle.mv_pack.specs.Gtin.{read_gtin, IsGtin}
 use Rattle.mv_pack.specs.declared.key.PackKey.{PackKey}
-use Rattle.serde_json.specs.Data.{Data, number, object, string, unsigned, Members, null}
+use Rattle.serde_json.specs.Data.{Data, object, string, Members, null}
 use Rattle.serde_json.specs.Find.{get, as_object}
-use Rattle.std.proofs.Common.{◌≡◌, ◌∙◌, ℕ, true, false, not, cond, List, [], ◌∷◌, ap, subst, refl, arith, ◌↔◌, Bool}
-use Rattle.std.proofs.lemmas.Bool.Decides.{nat_tests}
+use Rattle.std.proofs.Common.{◌≡◌, ◌∙◌, ℕ, true, false, not, cond, List, [], ◌∷◌, ap, subst, refl, arith, Bool, bytes_eq, Option, Some, None, Result, Ok, Err, find, Contains, is_some}
 use Rattle.std.proofs.lemmas.Map.Views.{Contains-from_any, list_any-from_Contains}
 use Rattle.std.specs.Cmp.Lexicographic.{nat_list_eq_equiv, slice_cmp}
 use Rattle.std.specs.List.{AllByRecursion, list_any}
 use Rattle.std.specs.List.Sorted.{IsStrictlySortedBy}
 use Rattle.std.specs.Option.{ok_or, option_map_or, option_or}
 use Rattle.std.specs.Ordering.{nat_cmp}
-use Rattle.std.specs.Prelude.{◌==◌, Bool, bytes_eq, Option, Some, None, Result, Ok, Err, find, Contains, is_some}
 use Rattle.std.specs.Result.{result_err, result_ok}
 
 -- ---- the keys, the version and the form of an object, and the fault of its fields
@@ -63,19 +62,7 @@ abbrev unless_unknown : {A : Type 0} → Option (List ℕ) → Result A MessageF
 unless_unknown o reading = option_map_or (λ key. Err (Unknown key)) o reading
 
 unless_ok : {A : Type 0} (o : Option (List ℕ)) (reading : Result A MessageFault) (x : A) → unless_unknown o reading ≡ Ok x → (o ≡ None) × (reading ≡ Ok x)
-unless_ok None reading x h = (refl, h)
-unless_ok (Some key) reading x h = cc
-
--- whoever takes the form, where no key is unknown, and then reads the fields by it, reads them where no key is unknown
-pub known_gives : (result : Result Message MessageFault) (o : Option (List ℕ)) (version : Version) (form known : Form) (d : Data)
-    → unless_unknown o (Ok form) ≡ Ok known → GivesOr result (message_at version known d) Memory
-    → GivesOr result (unless_unknown o (message_at version form d)) Memory
-known_gives result None version form known d taken gives =
-    let same : known ≡ form = cc in subst (λ f. GivesOr result (message_at version f d) Memory) same gives
-known_gives result (Some key) version form known d taken gives = cc
-
-is_two : (n : ℕ) → (n == 2) ≡ true → n ≡ 2
-is_two n h = grind (arith, nat_tests)
+unless_ok o reading x h = grind arith
 
 -- what `v` is where it gives that version
 abbrev IsVersion : Version → Option Data → Type 0
@@ -90,10 +77,7 @@ abbrev pub IsOfForm : Version → Form → Data → Type 0
 IsOfForm version form d = HasOnly (names_of version form) d × Has d fields.Msg (string (form_name form))
 
 version_of_ok : (o : Option Data) (version : Version) → version_of o ≡ Ok version → IsVersion version o
-version_of_ok None One h = refl
-version_of_ok (Some (number (unsigned n))) version h =
-    let g = given (n == 2) Two (Kind fields.V) version h in subst (λ v. IsVersion v (Some (whole n))) g.1 (ap (λ n. Some (whole n)) (is_two n g.0))
-version_of_ok o version h = cc
+version_of_ok o version h = grind arith
 
 -- an object whose version is read is of that version
 pub version_ok : (d : Data) (version : Version) → version_at d ≡ Ok version → IsOfVersion version d
@@ -130,20 +114,7 @@ form_read version d form h is_in = rw (h, form_is_named version form is_in) refl
 -- a message was read, so the object has a version and a form, and its fields give the message
 pub opened : (d : Data) (m : Message) → read_message d ≡ Ok m → (version : Version) × (form : Form) × IsOfVersion version d × IsOfForm version form d × IsIn form version × (message_at version form d ≡ Ok m)
 unfolding read_message
-opened d m h =
-    let a = both_ok (ok_or (as_object d) NotObject) (λ ms. version_at d and_then λ version. form_at version d and_then λ form. unless_unknown (first_unknown (names_of version form) ms) (message_at version form d)) m h in
-    let v = both_ok (version_at d) (λ version. form_at version d and_then λ form. unless_unknown (first_unknown (names_of version form) a.0) (message_at version form d)) m a.2 in
-    let b = both_ok (form_at v.0 d) (λ form. unless_unknown (first_unknown (names_of v.0 form) a.0) (message_at v.0 form d)) m v.2 in
-    let u = unless_ok (first_unknown (names_of v.0 b.0) a.0) (message_at v.0 b.0 d) m b.2 in
-    let is_object : d ≡ object a.0 = as_object_ok d a.0 (ok_or_some NotObject (as_object d) a.0 a.1) in
-    let named = form_ok v.0 d b.0 b.1 in (
-      v.0,
-      b.0,
-      version_ok d v.0 v.1,
-      ((a.0, is_object, all_known (names_of v.0 b.0) (keys_of a.0) u.0), named.0),
-      named.1,
-      u.1,
-    )
+opened d m h = grind (arith, both_ok, unless_ok, ok_or_some, form_ok, version_ok, all_known)
 
 -- an object of that version and form, with no other key, is read by its fields
 pub read_by_fields : (d : Data) (version : Version) (form : Form) → version_at d ≡ Ok version → form_at version d ≡ Ok form → HasOnly (names_of version form) d → read_message d ≡ message_at version form d
@@ -166,8 +137,7 @@ behind (Err fault) next rest h = refl
 -- the fault of fields is that of the first of them that has one
 made_fault : (A : Type 0) (meaning : Field → Meaning) (listed : List Field) (makes : Making meaning A listed) (d : Data) → result_err (made_at meaning listed makes d) ≡ first_fault meaning listed d
 made_fault A meaning [] made d = refl
-made_fault A meaning (field ∷ rest) makes d =
-    behind ((meaning field).read d) _ _ (λ x. made_fault A meaning rest (makes x) d)
+made_fault A meaning (field ∷ rest) makes d = behind ((meaning field).read d) _ _ (λ x. made_fault A meaning rest (makes x) d)
 
 message_fault : (version : Version) (d : Data) (form : Form) → result_err (message_at version form d) ≡ first_fault (meaning_of version form) (fields_of form) d
 unfolding message_at
@@ -175,8 +145,7 @@ message_fault version d form = made_fault Message (meaning_of version form) (fie
 
 -- the fault of an object with a version, a form and the keys of that form is that of the first of its fields that has one
 pub first_fault_is_given : (d : Data) (version : Version) (form : Form) → version_at d ≡ Ok version → form_at version d ≡ Ok form → HasOnly (names_of version form) d → result_err (read_message d) ≡ first_fault (meaning_of version form) (fields_of form) d
-first_fault_is_given d version form of_version of_form known =
-    ap result_err (read_by_fields d version form of_version of_form known) ∙ message_fault version d form
+first_fault_is_given d version form of_version of_form known = ap result_err (read_by_fields d version form of_version of_form known) ∙ message_fault version d form
 
 names_rise : (version : Version) (form : Form) → rises (slice_cmp nat_cmp) (names_of version form) ≡ true
 unfolding rises
@@ -207,12 +176,7 @@ none_found (Some x) h = cc
 
 object_spelled : (version : Version) (part : Data) (found : Found) → present_of version part ≡ Ok found → SpellsFound version part found
 unfolding present_of
-object_spelled version part found h =
-    let refused : Members → Bool = λ ms. is_some (first_unknown (names_in version present_fields) ms) in
-    let a = both_ok (ok_or (as_object part) NotObject) (λ ms. cond (refused ms) (Err (Kind fields.Found)) (present_at version part)) found h in
-    let k = unrefused (refused a.0) (Kind fields.Found) (present_at version part) found a.2 in
-    let is_object : part ≡ object a.0 = as_object_ok part a.0 (ok_or_some NotObject (as_object part) a.0 a.1) in
-    fields_spelled version part found (a.0, is_object, all_known (names_in version present_fields) (keys_of a.0) (none_found (first_unknown (names_in version present_fields) a.0) k.0)) k.1
+object_spelled version part found h = grind (arith, both_ok, unrefused, fields_spelled, all_known, none_found)
 
 present_ok : (r : Result Found MessageFault) (found : Found) → ok_or (result_ok r) (Kind fields.Found) ≡ Ok found → r ≡ Ok found
 present_ok (Ok x) found h = cc
@@ -230,9 +194,7 @@ HasFound version d found = (part : Data) × Has d fields.Found part × SpellsFou
 -- a field that is read as what was found spells it
 pub found_ok : (version : Version) (d : Data) (found : Found) → found_at version d ≡ Ok found → HasFound version d found
 unfolding found_at
-found_ok version d found h =
-    let p = both_ok (member_at fields.Found d) (found_of version) found h in
-    (p.0, (member_tells fields.Found).ok d p.0 p.1, part_spelled version p.0 found p.2)
+found_ok version d found h = grind (arith, part_spelled)
 
 -- an object that has no other key than the fields of a pack is read as the pack that they give
 pub pack_read : (version : Version) (part : Data) (found : Found) → HasOnly (names_in version present_fields) part → present_at version part ≡ Ok found → found_of version part ≡ Ok found
@@ -290,14 +252,8 @@ field_is_read version form d field x h = (parts_agree version field).tells.read 
 
 -- what spells a message has its version and its form
 opened_by : (version : Version) (d : Data) (m : Message) → ReadsIn version d m → IsOfVersion version d × IsOfForm version (form_of m) d × IsIn (form_of m) version
-opened_by version d (messages.Master gtin product) h = (h.1.1.1.1.1.1.1.1.1.1.1.0, (h.0, h.1.1.1.1.1.0.0), h.1.1.1.1.1.0.1)
-opened_by version d (messages.Upload gtin batch expiry national serials) h = (h.1.1.1.1.1.1.1.0, (h.0, h.1.1.1.1.0.0), h.1.1.1.1.0.1)
-opened_by version d (messages.Status key to user at) h = (h.1.1.1.1.1.1.1.0, (h.0, h.1.1.1.0.0), h.1.1.1.0.1)
-opened_by version d (messages.Recall key at) h = (h.1.1.1.1.1.0, (h.0, h.1.1.1.1.0.0), h.1.1.1.1.0.1)
-opened_by version d (messages.Repack before before_serials after after_serials at) h = (h.1.1.1.1.1.1.1.1.1.0, (h.0, h.1.1.1.1.1.1.1.1.0.0), h.1.1.1.1.1.1.1.1.0.1)
-opened_by version d (messages.Withdraw gtin at) h = (h.1.1.1.1.0, (h.0, h.1.1.1.0.0), h.1.1.1.0.1)
-opened_by version d (messages.Query key) h = (h.1.1.1.1.0, (h.0, h.1.1.0.0), h.1.1.0.1)
-opened_by version d (messages.Answer asker q key found) h = (h.1.1.1.1.1.1.1.0, (h.0, h.1.1.1.1.0.0), h.1.1.1.1.0.1)
+opened_by version d (messages.Query key) h = search h depth 16 parts 16
+opened_by version d m h = search h depth 16 parts 16
 
 -- what a message says makes that message
 made_again : (version : Version) (m : Message) → made Message (meaning_of version (form_of m)) (fields_of (form_of m)) (making_of version (form_of m)) (contents_of version m) ≡ m
@@ -313,26 +269,16 @@ spelled_is_read d m (version, h) =
     reopened d m version (form_of m) of_version of_form is_in
     (made_read Message (meaning_of version (form_of m)) (fields_of (form_of m)) (making_of version (form_of m)) d (contents_of version m) read ∙ ap (λ x. Ok x) (made_again version m))
 
--- a value is read as a message exactly where it is a spelling of it
-pub reads_exactly : (d : Data) (m : Message) → (read_message d ≡ Ok m) ↔ Reads d m
-reads_exactly d m = (read_is_spelled d m, spelled_is_read d m)
-
--- no value is a spelling of two messages
-pub reads_one : (d : Data) (m n : Message) → Reads d m → Reads d n → m ≡ n
-reads_one d m n h k = let one = spelled_is_read d m h in let other = spelled_is_read d n k in cc
-
 -- ---- what is read is legal, and the value of what is legal spells it
 
 found_in_two : (version : Version) (found : Found) → IsLegalFound version found → IsLegalFound Two found
 found_in_two version Absent h = tt
-found_in_two version (Present batch expiry national standing recalled withdrawn) h =
-    (h.0, (h.1.0, ((λ e. cc, h.1.1.0.1), (tt, (tt, ((λ e. cc, tt), tt))))))
+found_in_two version (Present batch expiry national standing recalled withdrawn) h = (h.0, (h.1.0, ((λ e. cc, h.1.1.0.1), (tt, (tt, ((λ e. cc, tt), tt))))))
 
 -- what is legal in a version is legal
 in_two : (version : Version) (m : Message) → AreLegal (meaning_of version (form_of m)) (fields_of (form_of m)) (contents_of version m) → IsLegal m
 in_two version (messages.Answer asker q key found) h = (h.0, (found_in_two version found h.1.0, h.1.1))
-in_two version (messages.Upload gtin batch expiry national serials) h =
-    (h.0, (h.1.0, (h.1.1.0, (tt, ((λ e. cc, h.1.1.1.1.0.1), h.1.1.1.1.1)))))
+in_two version (messages.Upload gtin batch expiry national serials) h = (h.0, (h.1.0, (h.1.1.0, (tt, ((λ e. cc, h.1.1.1.1.0.1), h.1.1.1.1.1)))))
 in_two version (messages.Withdraw gtin at) h = (h.0, (h.1.0, (tt, h.1.1.1)))
 in_two version m h = h
 
@@ -361,41 +307,38 @@ read_is_legal d m h = spelled_is_legal d m (read_is_spelled d m h)
 only : (names : List (List ℕ)) (ms : Members) → first_unknown names ms ≡ None → HasOnly names (object ms)
 only names ms h = (ms, refl, all_known names (keys_of ms) h)
 
+gtin_spelled : (f : Field) (d : Data) (gtin : List ℕ) → Has d f (string gtin) → IsGtin gtin → Spells read_gtin f d gtin
+gtin_spelled f d gtin has legal = (gtin, has, read_gtin_of gtin legal)
+
+spelled_one : {A P L : Type 0} (x before : A) → x ≡ before → L → (One ≡ Two → P) × (One ≡ One → x ≡ before) × L
+spelled_one x before same legal = (λ e. cc, λ e. same, legal)
+
+spelled_two : {A P L : Type 0} (x before : A) → P → L → (Two ≡ Two → P) × (Two ≡ One → x ≡ before) × L
+spelled_two x before said legal = (λ e. said, λ e. cc, legal)
+
 -- what was found is spelled in the version that says all of it
 found_spelled : (found : Found) → IsLegalFound Two found → SpellsFound (found_version found) (found_value (found_version found) found) found
-found_spelled Absent h = refl
-found_spelled (Present batch expiry None standing recalled false) (of_batch, (of_expiry, (of_national, rest))) =
-    (only (names_in One present_fields) _ refl, ((refl, of_batch), ((expiry_text expiry, refl, read_expiry_text expiry of_expiry), ((λ e. cc, λ e. refl, of_national.1), ((refl, tt), ((refl, tt), ((λ e. cc, λ e. refl, tt), tt)))))))
-found_spelled (Present batch expiry None standing recalled true) (of_batch, (of_expiry, (of_national, rest))) =
-    (only (names_in Two present_fields) _ refl, ((refl, of_batch), ((expiry_text expiry, refl, read_expiry_text expiry of_expiry), ((λ e. refl, λ e. cc, of_national.1), ((refl, tt), ((refl, tt), ((λ e. refl, λ e. cc, tt), tt)))))))
-found_spelled (Present batch expiry (Some national) standing recalled withdrawn) (of_batch, (of_expiry, (of_national, rest))) =
-    (only (names_in Two present_fields) _ refl, ((refl, of_batch), ((expiry_text expiry, refl, read_expiry_text expiry of_expiry), ((λ e. refl, λ e. cc, of_national.1), ((refl, tt), ((refl, tt), ((λ e. refl, λ e. cc, tt), tt)))))))
+found_spelled (Present batch expiry None standing recalled false) h =
+    (only (names_in One present_fields) _ refl, ((refl, h.0), ((expiry_text expiry, refl, read_expiry_text expiry h.1.0), (spelled_one _ _ refl h.1.1.0.1, ((refl, tt), ((refl, tt), (spelled_one _ _ refl tt, tt)))))))
+found_spelled (Present batch expiry None standing recalled true) h =
+    (only (names_in Two present_fields) _ refl, ((refl, h.0), ((expiry_text expiry, refl, read_expiry_text expiry h.1.0), (spelled_two _ _ refl h.1.1.0.1, ((refl, tt), ((refl, tt), (spelled_two _ _ refl tt, tt)))))))
+found_spelled (Present batch expiry (Some national) standing recalled withdrawn) h =
+    (only (names_in Two present_fields) _ refl, ((refl, h.0), ((expiry_text expiry, refl, read_expiry_text expiry h.1.0), (spelled_two _ _ refl h.1.1.0.1, ((refl, tt), ((refl, tt), (spelled_two _ _ refl tt, tt)))))))
+found_spelled found h = refl
 
 answer_spells : (version : Version) (asker q : ℕ) (key : PackKey) (found : Found) → IsLegal (messages.Answer asker q key found) → SpellsFound version (found_value version found) found → Reads (value_in version (messages.Answer asker q key found)) (messages.Answer asker q key found)
-answer_spells One asker q key found (of_asker, (of_found, (of_gtin, (of_msg, (of_q, (of_serial, (of_v, rest))))))) spells =
-    (One, (only (names_of One forms.Answer) _ refl, ((refl, of_asker), ((_, refl, spells), ((key.gtin, refl, read_gtin_of key.gtin of_gtin), ((refl, tt), ((refl, of_q), ((refl, of_serial), (refl, tt)))))))))
-answer_spells Two asker q key found (of_asker, (of_found, (of_gtin, (of_msg, (of_q, (of_serial, (of_v, rest))))))) spells =
-    (Two, (only (names_of Two forms.Answer) _ refl, ((refl, of_asker), ((_, refl, spells), ((key.gtin, refl, read_gtin_of key.gtin of_gtin), ((refl, tt), ((refl, of_q), ((refl, of_serial), (refl, tt)))))))))
+answer_spells One asker q key found h spells = (One, (only (names_of One forms.Answer) _ refl, ((refl, h.0), ((_, refl, spells), ((key.gtin, refl, read_gtin_of key.gtin h.1.1.0), search h depth 16 parts 16)))))
+answer_spells Two asker q key found h spells = (Two, (only (names_of Two forms.Answer) _ refl, ((refl, h.0), ((_, refl, spells), ((key.gtin, refl, read_gtin_of key.gtin h.1.1.0), search h depth 16 parts 16)))))
 
 -- the value of a legal message is a spelling of it
 pub value_spells : (m : Message) → IsLegal m → Reads (value_of m) m
-value_spells (messages.Master gtin product) (of_common, (of_form, (of_gtin, (of_markets, (of_msg, (of_name, (of_pack_size, (of_pack_type, (of_scheme, (of_strength, (of_v, rest))))))))))) =
-    (One, (only (names_of One forms.Master) _ refl, ((refl, of_common), ((refl, of_form), ((gtin, refl, read_gtin_of gtin of_gtin), ((refl, of_markets), ((refl, tt), ((refl, of_name), ((refl, of_pack_size), ((refl, of_pack_type), ((refl, of_scheme), ((refl, of_strength), (refl, tt)))))))))))))
-value_spells (messages.Upload gtin batch expiry None serials) (of_batch, (of_expiry, (of_gtin, (of_msg, (of_national, (of_serials, (of_v, rest))))))) =
-    (One, (only (names_of One forms.Upload) _ refl, ((refl, of_batch), ((expiry_text expiry, refl, read_expiry_text expiry of_expiry), ((gtin, refl, read_gtin_of gtin of_gtin), ((refl, tt), ((λ e. cc, λ e. refl, of_national.1), ((refl, of_serials), (refl, tt)))))))))
-value_spells (messages.Upload gtin batch expiry (Some national) serials) (of_batch, (of_expiry, (of_gtin, (of_msg, (of_national, (of_serials, (of_v, rest))))))) =
-    (Two, (only (names_of Two forms.Upload) _ refl, ((refl, of_batch), ((expiry_text expiry, refl, read_expiry_text expiry of_expiry), ((gtin, refl, read_gtin_of gtin of_gtin), ((refl, tt), ((λ e. refl, λ e. cc, of_national.1), ((refl, of_serials), (refl, tt)))))))))
-value_spells (messages.Status key to user at) (of_at, (of_gtin, (of_msg, (of_serial, (of_to, (of_user, (of_v, rest))))))) =
-    (One, (only (names_of One forms.Status) _ refl, ((refl, of_at), ((key.gtin, refl, read_gtin_of key.gtin of_gtin), ((refl, tt), ((refl, of_serial), ((refl, of_to), ((refl, of_user), (refl, tt)))))))))
-value_spells (messages.Recall key at) (of_at, (of_batch, (of_gtin, (of_msg, (of_v, rest))))) =
-    (One, (only (names_of One forms.Recall) _ refl, ((refl, of_at), ((refl, of_batch), ((key.gtin, refl, read_gtin_of key.gtin of_gtin), ((refl, tt), (refl, tt)))))))
-value_spells (messages.Repack before before_serials after after_serials at) (of_after_batch, (of_after_gtin, (of_after_serials, (of_at, (of_before_batch, (of_before_gtin, (of_before_serials, (of_msg, (of_v, rest))))))))) =
-    (One, (only (names_of One forms.Repack) _ refl, ((refl, of_after_batch), ((after.gtin, refl, read_gtin_of after.gtin of_after_gtin), ((refl, of_after_serials), ((refl, of_at), ((refl, of_before_batch), ((before.gtin, refl, read_gtin_of before.gtin of_before_gtin), ((refl, of_before_serials), ((refl, tt), (refl, tt)))))))))))
-value_spells (messages.Withdraw gtin at) (of_at, (of_gtin, (of_msg, (of_v, rest)))) =
-    (Two, (only (names_of Two forms.Withdraw) _ refl, ((refl, of_at), ((gtin, refl, read_gtin_of gtin of_gtin), ((refl, tt), (refl, tt))))))
-value_spells (messages.Query key) (of_gtin, (of_msg, (of_serial, (of_v, rest)))) =
-    (One, (only (names_of One forms.Query) _ refl, ((key.gtin, refl, read_gtin_of key.gtin of_gtin), ((refl, tt), ((refl, of_serial), (refl, tt))))))
+value_spells (messages.Upload gtin batch expiry None serials) h =
+    (One, (only (names_of One forms.Upload) _ refl, ((refl, h.0), ((expiry_text expiry, refl, read_expiry_text expiry h.1.0), ((gtin, refl, read_gtin_of gtin h.1.1.0), ((refl, tt), (spelled_one _ _ refl h.1.1.1.1.0.1, ((refl, h.1.1.1.1.1.0), (refl, tt)))))))))
+value_spells (messages.Upload gtin batch expiry (Some national) serials) h =
+    (Two, (only (names_of Two forms.Upload) _ refl, ((refl, h.0), ((expiry_text expiry, refl, read_expiry_text expiry h.1.0), ((gtin, refl, read_gtin_of gtin h.1.1.0), ((refl, tt), (spelled_two _ _ refl h.1.1.1.1.0.1, ((refl, h.1.1.1.1.1.0), (refl, tt)))))))))
 value_spells (messages.Answer asker q key found) h = answer_spells (found_version found) asker q key found h (found_spelled found h.1.0)
+value_spells (messages.Query key) h = (One, (only (names_of One forms.Query) _ refl, search (h, gtin_spelled) depth 16 parts 16))
+value_spells m h = (message_version m, (only (names_of (message_version m) (form_of m)) _ refl, search (h, gtin_spelled) depth 16 parts 16))
 
 -- each legal message is read back from its value
 pub reads_back : (m : Message) → IsLegal m → read_message (value_of m) ≡ Ok m

@@ -26,12 +26,9 @@ use Rattle.serde_json.proofs.Texts.{print-outline}
 use Rattle.serde_json.specs.Data.{Data, string, item}
 use Rattle.serde_json.specs.Read.{max_depth, read, of_json, of_items}
 use Rattle.serde_json.specs.Written.{outline, items_outline, compact_text}
-use Rattle.std.proofs.Common.{◌≡◌, ◌≤◌, ℕ, sym, arith, true, List, [], ◌∷◌, ap, refl, ◌∙◌, ◌<◌, ◌^◌, max, append-nil, option_and_then, option_map, cond}
+use Rattle.std.proofs.Common.{◌≡◌, ◌≤◌, ℕ, sym, arith, rules, true, List, [], ◌∷◌, ap, refl, ◌∙◌, ◌<◌, ◌^◌, max, append-nil, option_and_then, option_map, cond, IsUtf8, Some, None, Ok}
 use Rattle.std.proofs.lemmas.Str.{IsUtf8-from_is_utf8, is_utf8-from_IsUtf8}
-use Rattle.std.specs.Cmp.Lexicographic.{slice_cmp}
 use Rattle.std.specs.Option.{ok_or}
-use Rattle.std.specs.Ordering.{nat_cmp}
-use Rattle.std.specs.Prelude.{IsUtf8, max, Some, None, Ok}
 use Rattle.std.specs.Str.{is_utf8}
 
 items_flat : (texts : List (List ℕ)) → tree.items_depth (items_outline (strings texts)) ≡ 0
@@ -45,15 +42,9 @@ answer_depth version asker q key found = omega arith
 
 -- the value of a message nests two deep
 value_depth : (m : Message) → tree.depth (outline (value_of m)) ≤ max_depth
-value_depth (messages.Master gtin product) = rw (items_flat product.markets) (omega arith)
-value_depth (messages.Upload gtin batch expiry None serials) = rw (items_flat serials) (omega arith)
-value_depth (messages.Upload gtin batch expiry (Some national) serials) = rw (items_flat serials) (omega arith)
-value_depth (messages.Status key to user at) = omega arith
-value_depth (messages.Recall key at) = omega arith
-value_depth (messages.Repack before before_serials after after_serials at) = rw (items_flat after_serials, items_flat before_serials) (omega arith)
-value_depth (messages.Withdraw gtin at) = omega arith
-value_depth (messages.Query key) = omega arith
+value_depth (messages.Upload gtin batch expiry None serials) = omega (arith, items_flat)
 value_depth (messages.Answer asker q key found) = answer_depth (found_version found) asker q key found
+value_depth m = omega (arith, items_flat)
 
 -- bytes that are text pass the test
 pub utf8_test : (bytes : List ℕ) → IsUtf8 bytes → is_utf8 bytes ≡ true
@@ -71,28 +62,21 @@ texts_ascend (text ∷ texts) = (tt, texts_ascend texts)
 
 found_ascends : (version : Version) (found : Found) → KeysAscend (found_value version found)
 unfolding rises
-found_ascends version Absent = tt
-found_ascends One (Present batch expiry national standing recalled withdrawn) = (strictly_sorted (slice_cmp nat_cmp) _ refl, (tt, (tt, (tt, (tt, tt)))))
-found_ascends Two (Present batch expiry None standing recalled withdrawn) = (strictly_sorted (slice_cmp nat_cmp) _ refl, (tt, (tt, (tt, (tt, (tt, (tt, tt)))))))
-found_ascends Two (Present batch expiry (Some code) standing recalled withdrawn) = (strictly_sorted (slice_cmp nat_cmp) _ refl, (tt, (tt, (tt, (tt, (tt, (tt, tt)))))))
+found_ascends One Absent = tt
+found_ascends Two (Present batch expiry None standing recalled withdrawn) = search (rules, strictly_sorted) depth 16 parts 16
+found_ascends version found = search (rules, strictly_sorted) depth 16 parts 16
 
 answer_ascends : (version : Version) (asker q : ℕ) (key : PackKey) (found : Found) → KeysAscend (value_in version (messages.Answer asker q key found))
 unfolding rises
-answer_ascends One asker q key found = (strictly_sorted (slice_cmp nat_cmp) _ refl, (tt, (found_ascends One found, (tt, (tt, (tt, (tt, tt)))))))
-answer_ascends Two asker q key found = (strictly_sorted (slice_cmp nat_cmp) _ refl, (tt, (found_ascends Two found, (tt, (tt, (tt, (tt, (tt, tt))))))))
+answer_ascends One asker q key found = search (rules, strictly_sorted, found_ascends) depth 16 parts 16
+answer_ascends version asker q key found = search (rules, strictly_sorted, found_ascends) depth 16 parts 16
 
 -- the keys of each object in the value of a message ascend
 pub keys_ascend : (m : Message) → KeysAscend (value_of m)
 unfolding rises
-keys_ascend (messages.Master gtin product) = (strictly_sorted (slice_cmp nat_cmp) _ refl, (tt, (tt, (tt, (texts_ascend product.markets, (tt, (tt, (tt, (tt, (tt, (tt, tt)))))))))))
-keys_ascend (messages.Upload gtin batch expiry None serials) = (strictly_sorted (slice_cmp nat_cmp) _ refl, (tt, (tt, (tt, (tt, (texts_ascend serials, tt))))))
-keys_ascend (messages.Upload gtin batch expiry (Some code) serials) = (strictly_sorted (slice_cmp nat_cmp) _ refl, (tt, (tt, (tt, (tt, (tt, (texts_ascend serials, (tt, tt))))))))
-keys_ascend (messages.Status key to user at) = (strictly_sorted (slice_cmp nat_cmp) _ refl, (tt, (tt, (tt, (tt, (tt, (tt, tt)))))))
-keys_ascend (messages.Recall key at) = (strictly_sorted (slice_cmp nat_cmp) _ refl, (tt, (tt, (tt, (tt, tt)))))
-keys_ascend (messages.Repack before before_serials after after_serials at) = (strictly_sorted (slice_cmp nat_cmp) _ refl, (tt, (tt, (texts_ascend after_serials, (tt, (tt, (tt, (texts_ascend before_serials, (tt, tt)))))))))
-keys_ascend (messages.Withdraw gtin at) = (strictly_sorted (slice_cmp nat_cmp) _ refl, (tt, (tt, (tt, (tt, tt)))))
-keys_ascend (messages.Query key) = (strictly_sorted (slice_cmp nat_cmp) _ refl, (tt, (tt, (tt, tt))))
+keys_ascend (messages.Upload gtin batch expiry None serials) = search (rules, strictly_sorted, texts_ascend) depth 16 parts 16
 keys_ascend (messages.Answer asker q key found) = answer_ascends (found_version found) asker q key found
+keys_ascend m = search (rules, strictly_sorted, texts_ascend) depth 16 parts 16
 
 -- ---- the canonical text of a message is read as its value
 
@@ -118,25 +102,19 @@ texts_same [] = refl
 texts_same (text ∷ texts) = ap (λ o. option_map (item (string text)) o) (texts_same texts)
 
 found_back : (version : Version) (found : Found) → ReadsBack (found_value version found)
-found_back version Absent = record { numbers = tt; same = refl }
-found_back One (Present batch expiry national standing recalled withdrawn) = record { numbers = (tt, (tt, (tt, (tt, tt)))); same = refl }
-found_back Two (Present batch expiry None standing recalled withdrawn) = record { numbers = (tt, (tt, (tt, (tt, (tt, (tt, tt)))))); same = refl }
-found_back Two (Present batch expiry (Some code) standing recalled withdrawn) = record { numbers = (tt, (tt, (tt, (tt, (tt, (tt, tt)))))); same = refl }
+found_back One Absent = record { numbers = tt; same = refl }
+found_back Two (Present batch expiry None standing recalled withdrawn) = record { numbers = search rules depth 16 parts 16; same = refl }
+found_back version found = record { numbers = search rules depth 16 parts 16; same = refl }
 
 answer_back : (version : Version) (asker q : ℕ) (key : PackKey) (found : Found) → asker < 2 ^ 64 → q < 2 ^ 64 → ReadsBack (found_value version found) → ReadsBack (value_in version (messages.Answer asker q key found))
-answer_back One asker q key found small less back = record { numbers = (IsNumber-decimal asker (omega arith), (back.numbers, (tt, (tt, (IsNumber-decimal q (omega arith), (tt, tt)))))); same = rw (number_of-decimal asker (omega arith), back.same, number_of-decimal q (omega arith)) refl }
-answer_back Two asker q key found small less back = record { numbers = (IsNumber-decimal asker (omega arith), (back.numbers, (tt, (tt, (IsNumber-decimal q (omega arith), (tt, (IsNumber-decimal 2 (omega arith), tt))))))); same = rw (number_of-decimal asker (omega arith), back.same, number_of-decimal q (omega arith), number_of-decimal 2 (omega arith)) refl }
+answer_back One asker q key found small less back = record { numbers = search (rules, IsNumber-decimal, back.numbers) depth 16 parts 16; same = rw (number_of-decimal asker small, back.same, number_of-decimal q less) refl }
+answer_back Two asker q key found small less back = record { numbers = search (rules, IsNumber-decimal, back.numbers) depth 16 parts 16; same = rw (number_of-decimal asker small, back.same, number_of-decimal q less, number_of-decimal 2 (omega arith)) refl }
 
 message_back : (m : Message) → HasWords m → ReadsBack (value_of m)
-message_back (messages.Master gtin product) h = record { numbers = (tt, (tt, (tt, (texts_have_numbers product.markets, (tt, (tt, (tt, (tt, (tt, (tt, tt)))))))))); same = rw (texts_same product.markets) refl }
-message_back (messages.Upload gtin batch expiry None serials) h = record { numbers = (tt, (tt, (tt, (tt, (texts_have_numbers serials, tt))))); same = rw (texts_same serials) refl }
-message_back (messages.Upload gtin batch expiry (Some code) serials) h = record { numbers = (tt, (tt, (tt, (tt, (tt, (texts_have_numbers serials, (IsNumber-decimal 2 (omega arith), tt))))))); same = rw (texts_same serials, number_of-decimal 2 (omega arith)) refl }
-message_back (messages.Status key to user at) h = record { numbers = (IsNumber-decimal at (omega arith), (tt, (tt, (tt, (tt, (tt, tt)))))); same = rw (number_of-decimal at (omega arith)) refl }
-message_back (messages.Recall key at) h = record { numbers = (IsNumber-decimal at (omega arith), (tt, (tt, (tt, tt)))); same = rw (number_of-decimal at (omega arith)) refl }
-message_back (messages.Repack before before_serials after after_serials at) h = record { numbers = (tt, (tt, (texts_have_numbers after_serials, (IsNumber-decimal at (omega arith), (tt, (tt, (texts_have_numbers before_serials, (tt, tt)))))))); same = rw (texts_same after_serials, number_of-decimal at (omega arith), texts_same before_serials) refl }
-message_back (messages.Withdraw gtin at) h = record { numbers = (IsNumber-decimal at (omega arith), (tt, (tt, (IsNumber-decimal 2 (omega arith), tt)))); same = rw (number_of-decimal at (omega arith), number_of-decimal 2 (omega arith)) refl }
-message_back (messages.Query key) h = record { numbers = (tt, (tt, (tt, tt))); same = refl }
-message_back (messages.Answer asker q key found) h = answer_back (found_version found) asker q key found (omega arith) (omega arith) (found_back (found_version found) found)
+message_back (messages.Upload gtin batch expiry None serials) h = record { numbers = search (rules, texts_have_numbers) depth 16 parts 16; same = simp texts_same refl }
+message_back (messages.Answer asker q key found) h = answer_back (found_version found) asker q key found h.0 h.1 (found_back (found_version found) found)
+message_back (messages.Query key) h = record { numbers = search rules depth 16 parts 16; same = refl }
+message_back m h = record { numbers = search (rules, arith, IsNumber-decimal, texts_have_numbers) depth 16 parts 16; same = simp (texts_same, number_of-decimal, number_of-decimal 2 (omega arith)) refl }
 
 -- the canonical text of a message is read as its value
 pub text_reads : (m : Message) → HasWords m → read (compact_text (value_of m)) ≡ Some (value_of m)

@@ -1,21 +1,13 @@
 //! The versions of the JSON form, told apart by the field `v`; the forms of messages, and the fields of each.
 
-ghost use Rattle.std.specs.Prelude.{◌≡◌, ◌≢◌, IfErr, IsSome, Ok, Err};
-ghost use Rattle.std.specs.Option.{option_map_or};
-ghost use Rattle.serde_json.specs.View.{members_view};
-ghost use Rattle.mv_json.specs.Reading.{GivesOr};
-ghost use Rattle.mv_json.specs.Shapes.{form_named, form_at, names_of, fields_of, version_at};
+ghost use Rattle.std.specs.Prelude.{◌≡◌};
+ghost use Rattle.mv_json.specs.Shapes.{form_named, form_at, fields_of, version_at};
 ghost use Rattle.mv_json.specs.Fields.{fields_in};
-ghost use Rattle.mv_json.specs.Members.{first_unknown};
 ghost use Rattle.mv_json.specs.Parts.{Gives};
 
-use crate::members::first_unknown;
 use crate::object::Object;
 use crate::reading::text_at;
 use crate::{Field, MessageFault};
-use mv_message::Text;
-use serde_json::{Map, Value};
-use std::alloc::Global;
 
 /// The form of a message, which its field `msg` names.
 #[derive(Clone, Copy, Debug, PartialEq, Eq)]
@@ -84,10 +76,7 @@ pub(crate) fn form_named(version: Version, name: &str) -> Option<Form>
         "repack" => Some(Form::Repack),
         "answer" => Some(Form::Answer),
         "master" => Some(Form::Master),
-        "withdraw" => match version {
-            Version::One => None,
-            Version::Two => Some(Form::Withdraw),
-        },
+        "withdraw" if version == Version::Two => Some(Form::Withdraw),
         _ => None,
     }
 }
@@ -98,25 +87,6 @@ pub(crate) fn form_at(object: &Object<'_>, version: Version) -> Result<Form, Mes
     ensures { Gives (form_at version) object.now result }
 {
     form_named(version, text_at(object, Field::Msg)?).ok_or(MessageFault::Kind(Field::Msg))
-}
-
-/// The form, where its messages have all keys of the object; else M4 with the first other one.
-pub(crate) fn known_form_at(
-    alloc: Global,
-    members: &Map<String, Value>,
-    version: Version,
-    form: Form,
-) -> Result<Form, MessageFault>
-    ensures gives { GivesOr result (option_map_or (λ key. Err (MessageFault.Unknown key))
-        (first_unknown (names_of version form) (members_view members.now.entries)) (Ok form)) MessageFault.Memory }
-    // Memory is asked for only to name another key.
-    ensures memory { IfErr result (λ fault. fault ≡ MessageFault.Memory
-        → IsSome (first_unknown (names_of version form) (members_view members.now.entries))) }
-{
-    match first_unknown(members, form.fields(version)) {
-        Some(key) => Err(MessageFault::Unknown(Text::new(String::from_str(alloc, key)?))),
-        None => Ok(form),
-    }
 }
 
 /// A version of the JSON form of messages.

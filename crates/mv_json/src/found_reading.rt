@@ -39,8 +39,7 @@ pub(crate) fn found_at(object: &Object<'_>, version: Version) -> Result<Found, M
 
 /// What was met says was found, where it says so in that version.
 fn found_in(part: &Part<'_>, version: Version) -> Result<Found, MessageFault>
-    ensures { (value : Data) → IsPart value part.now
-        → GivesOr result (found_of version value) MessageFault.Memory }
+    ensures { (value : Data) → IsPart value part.now → GivesOr result (found_of version value) MessageFault.Memory }
 {
     match part {
         Part::Null => Ok(Found::Absent),
@@ -53,8 +52,7 @@ fn found_in(part: &Part<'_>, version: Version) -> Result<Found, MessageFault>
 
 /// The pack that an object is, and the version that says it so, which is the second where it speaks of withdrawals.
 pub(crate) fn sighting_in(object: &Object<'_>) -> Option<Sighting>
-    ensures { IfSome result (λ sighting.
-        (value : Data) → Stands value object.now → IsPart value (Part.Found sighting)) }
+    ensures { IfSome result (λ sighting. (value : Data) → Stands value object.now → IsPart value (Part.Found sighting)) }
 {
     let version = match object.get(Field::Withdrawn) {
         Some(_) => Version::Two,

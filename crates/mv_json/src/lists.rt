@@ -7,7 +7,7 @@ ghost use Rattle.serde_json.specs.Find.{as_str};
 ghost use Rattle.serde_json.specs.View.{view, items_view};
 ghost use Rattle.mv_pack.specs.Code.{read_code};
 ghost use Rattle.mv_pack.specs.Market.{read_market};
-ghost use Rattle.mv_json.specs.Reading.{texts_at, read_item, read_items, list_at};
+ghost use Rattle.mv_json.specs.Reading.{texts_at, read_item, list_at};
 ghost use Rattle.mv_json.specs.Parts.{Takes};
 ghost use Rattle.mv_pack.specs.declared.fault.PackFault.{PackFault as AFault};
 
@@ -57,7 +57,6 @@ fn are_texts(list: &[Value]) -> bool
 }
 
 /// The markets of a field, 1 to 32: M3, M5, M7, M6. Of fields that were met they are taken out, once.
-#[tactic(auto, unfolding(crate::specs::Reading::list_at))]
 pub(crate) fn markets_at(
     alloc: Global,
     object: &mut Object<'_>,
@@ -70,15 +69,11 @@ pub(crate) fn markets_at(
             Some(Part::Markets(list)) => Ok(Markets::new(list)),
             _ => Err(MessageFault::Memory),
         },
-        Object::Value(value) => {
-            let list = texts_at(value, field, MOST_MARKETS)?;
-            Ok(Markets::new(all_in(alloc, list, field)?))
-        }
+        Object::Value(value) => Ok(Markets::new(list_in(alloc, value, field, MOST_MARKETS)?)),
     }
 }
 
 /// The serial numbers of a field, 1 to 100: M3, M5, M7, M6. Of fields that were met they are taken out, once.
-#[tactic(auto, unfolding(crate::specs::Reading::list_at))]
 pub(crate) fn serials_at(
     alloc: Global,
     object: &mut Object<'_>,
@@ -91,19 +86,23 @@ pub(crate) fn serials_at(
             Some(Part::Serials(list)) => Ok(Serials::new(list)),
             _ => Err(MessageFault::Memory),
         },
-        Object::Value(value) => {
-            let list = texts_at(value, field, MOST_SERIALS)?;
-            Ok(Serials::new(all_in(alloc, list, field)?))
-        }
+        Object::Value(value) => Ok(Serials::new(list_in(alloc, value, field, MOST_SERIALS)?)),
     }
 }
 
-/// What the members of a list are read as, or the fault of the first bad one.
-fn all_in<T: Listed>(alloc: Global, list: &[Value], field: Field) -> Result<Vec<T>, MessageFault>
-    ensures ok { IfOk result (λ all. read_items T.reads field (items_view list.now) ≡ Ok all.items) }
+/// What the members of a field that is a list of 1 to `most` texts are read as: M3, M5, M7, M6 of the first bad one.
+#[tactic(auto, unfolding(crate::specs::Reading::list_at))]
+fn list_in<T: Listed>(
+    alloc: Global,
+    value: &Value,
+    field: Field,
+    most: usize,
+) -> Result<Vec<T>, MessageFault>
+    ensures ok { IfOk result (λ all. list_at T.reads most field (view value.now) ≡ Ok all.items) }
     ensures err { IfErr result (λ fault. fault ≢ MessageFault.Memory
-        → read_items T.reads field (items_view list.now) ≡ Err fault) }
+        → list_at T.reads most field (view value.now) ≡ Err fault) }
 {
+    let list = texts_at(value, field, most)?;
     let mut all = Vec::with_capacity(alloc, list.len())?;
     for value in list {
         all.push(one_in(value, field)?)?;

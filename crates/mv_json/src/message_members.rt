@@ -15,8 +15,7 @@ use std::alloc::AllocError;
 
 /// Writes a message.
 pub(crate) fn put_message(writer: &mut Writer, message: &Message) -> Result<(), AllocError>
-    ensures { PutsValue result writer.old writer.new
-        (value_of message.now) }
+    ensures { PutsValue result writer.old writer.new (value_of message.now) }
 {
     match message {
         Message::Master { gtin, product } => put_master(writer, gtin, product.get()),
@@ -60,24 +59,21 @@ fn put_master<'a>(
     gtin: &'a Gtin,
     product: &'a Product,
 ) -> Result<(), AllocError>
-    ensures { PutsValue result writer.old writer.new
-        (value_of (Message.Master gtin.now product.now)) }
+    ensures { PutsValue result writer.old writer.new (value_of (Message.Master gtin.now product.now)) }
 {
-    put_object(
-        writer,
-        &[
-            (Field::Common, Said::Text(product.common.as_str())),
-            (Field::Form, Said::Text(product.form.as_str())),
-            (Field::Gtin, Said::Text(gtin.as_str())),
-            (Field::Markets, Said::Markets(product.markets.as_slice())),
-            (Field::Msg, Said::Text("master")),
-            (Field::Name, Said::Text(product.name.as_str())),
-            (Field::PackSize, Said::Text(product.pack_size.as_str())),
-            (Field::PackType, Said::Text(product.pack_type.as_str())),
-            (Field::Scheme, Said::Text(product.scheme.as_str())),
-            (Field::Strength, Said::Text(product.strength.as_str())),
-        ],
-    )
+    let members = [
+        (Field::Common, Said::Text(product.common.as_str())),
+        (Field::Form, Said::Text(product.form.as_str())),
+        (Field::Gtin, Said::Text(gtin.as_str())),
+        (Field::Markets, Said::Markets(product.markets.as_slice())),
+        (Field::Msg, Said::Text("master")),
+        (Field::Name, Said::Text(product.name.as_str())),
+        (Field::PackSize, Said::Text(product.pack_size.as_str())),
+        (Field::PackType, Said::Text(product.pack_type.as_str())),
+        (Field::Scheme, Said::Text(product.scheme.as_str())),
+        (Field::Strength, Said::Text(product.strength.as_str())),
+    ];
+    put_object(writer, &members)
 }
 
 /// Writes an upload: of version 2 where it has a national number.
@@ -92,30 +88,26 @@ fn put_upload<'a>(
     ensures { PutsValue result writer.old writer.new
         (value_of (Message.Upload gtin.now batch.now expiry.now national.now serials.now)) }
 {
-    match national {
-        None => put_object(
-            writer,
-            &[
-                (Field::Batch, Said::Text(batch.as_str())),
-                (Field::Expiry, Said::Expiry(expiry)),
-                (Field::Gtin, Said::Text(gtin.as_str())),
-                (Field::Msg, Said::Text("upload")),
-                (Field::Serials, Said::Serials(serials.as_slice())),
-            ],
-        ),
-        Some(number) => put_object(
-            writer,
-            &[
-                (Field::Batch, Said::Text(batch.as_str())),
-                (Field::Expiry, Said::Expiry(expiry)),
-                (Field::Gtin, Said::Text(gtin.as_str())),
-                (Field::Msg, Said::Text("upload")),
-                (Field::National, Said::Text(number.as_str())),
-                (Field::Serials, Said::Serials(serials.as_slice())),
-                (Field::V, Said::Whole(2)),
-            ],
-        ),
-    }
+    let Some(number) = national else {
+        let members = [
+            (Field::Batch, Said::Text(batch.as_str())),
+            (Field::Expiry, Said::Expiry(expiry)),
+            (Field::Gtin, Said::Text(gtin.as_str())),
+            (Field::Msg, Said::Text("upload")),
+            (Field::Serials, Said::Serials(serials.as_slice())),
+        ];
+        return put_object(writer, &members);
+    };
+    let members = [
+        (Field::Batch, Said::Text(batch.as_str())),
+        (Field::Expiry, Said::Expiry(expiry)),
+        (Field::Gtin, Said::Text(gtin.as_str())),
+        (Field::Msg, Said::Text("upload")),
+        (Field::National, Said::Text(number.as_str())),
+        (Field::Serials, Said::Serials(serials.as_slice())),
+        (Field::V, Said::Whole(2)),
+    ];
+    put_object(writer, &members)
 }
 
 /// Writes a change of standing.
@@ -127,36 +119,30 @@ fn put_status<'a>(
     user: &'a Text,
     at: Moment,
 ) -> Result<(), AllocError>
-    ensures { PutsValue result writer.old writer.new
-        (value_of (Message.Status key.now to user.now at)) }
+    ensures { PutsValue result writer.old writer.new (value_of (Message.Status key.now to user.now at)) }
 {
-    put_object(
-        writer,
-        &[
-            (Field::At, Said::Whole(at.seconds())),
-            (Field::Gtin, Said::Text(key.gtin.as_str())),
-            (Field::Msg, Said::Text("status")),
-            (Field::Serial, Said::Text(key.serial.as_str())),
-            (Field::To, Said::Text(to.name())),
-            (Field::User, Said::Text(user.as_str())),
-        ],
-    )
+    let members = [
+        (Field::At, Said::Whole(at.seconds())),
+        (Field::Gtin, Said::Text(key.gtin.as_str())),
+        (Field::Msg, Said::Text("status")),
+        (Field::Serial, Said::Text(key.serial.as_str())),
+        (Field::To, Said::Text(to.name())),
+        (Field::User, Said::Text(user.as_str())),
+    ];
+    put_object(writer, &members)
 }
 
 /// Writes a recall.
 fn put_recall(writer: &mut Writer, key: &BatchKey, at: Moment) -> Result<(), AllocError>
-    ensures { PutsValue result writer.old writer.new
-        (value_of (Message.Recall key.now at)) }
+    ensures { PutsValue result writer.old writer.new (value_of (Message.Recall key.now at)) }
 {
-    put_object(
-        writer,
-        &[
-            (Field::At, Said::Whole(at.seconds())),
-            (Field::Batch, Said::Text(key.batch.as_str())),
-            (Field::Gtin, Said::Text(key.gtin.as_str())),
-            (Field::Msg, Said::Text("recall")),
-        ],
-    )
+    let members = [
+        (Field::At, Said::Whole(at.seconds())),
+        (Field::Batch, Said::Text(key.batch.as_str())),
+        (Field::Gtin, Said::Text(key.gtin.as_str())),
+        (Field::Msg, Said::Text("recall")),
+    ];
+    put_object(writer, &members)
 }
 
 /// Writes a repackaging.
@@ -172,53 +158,45 @@ fn put_repack<'a>(
     ensures { PutsValue result writer.old writer.new
         (value_of (Message.Repack before.now before_serials.now after.now after_serials.now at)) }
 {
-    put_object(
-        writer,
-        &[
-            (Field::AfterBatch, Said::Text(after.batch.as_str())),
-            (Field::AfterGtin, Said::Text(after.gtin.as_str())),
-            (Field::AfterSerials, Said::Serials(after_serials.as_slice())),
-            (Field::At, Said::Whole(at.seconds())),
-            (Field::BeforeBatch, Said::Text(before.batch.as_str())),
-            (Field::BeforeGtin, Said::Text(before.gtin.as_str())),
-            (
-                Field::BeforeSerials,
-                Said::Serials(before_serials.as_slice()),
-            ),
-            (Field::Msg, Said::Text("repack")),
-        ],
-    )
+    let members = [
+        (Field::AfterBatch, Said::Text(after.batch.as_str())),
+        (Field::AfterGtin, Said::Text(after.gtin.as_str())),
+        (Field::AfterSerials, Said::Serials(after_serials.as_slice())),
+        (Field::At, Said::Whole(at.seconds())),
+        (Field::BeforeBatch, Said::Text(before.batch.as_str())),
+        (Field::BeforeGtin, Said::Text(before.gtin.as_str())),
+        (
+            Field::BeforeSerials,
+            Said::Serials(before_serials.as_slice()),
+        ),
+        (Field::Msg, Said::Text("repack")),
+    ];
+    put_object(writer, &members)
 }
 
 /// Writes a withdrawal.
 fn put_withdraw(writer: &mut Writer, gtin: &Gtin, at: Moment) -> Result<(), AllocError>
-    ensures { PutsValue result writer.old writer.new
-        (value_of (Message.Withdraw gtin.now at)) }
+    ensures { PutsValue result writer.old writer.new (value_of (Message.Withdraw gtin.now at)) }
 {
-    put_object(
-        writer,
-        &[
-            (Field::At, Said::Whole(at.seconds())),
-            (Field::Gtin, Said::Text(gtin.as_str())),
-            (Field::Msg, Said::Text("withdraw")),
-            (Field::V, Said::Whole(2)),
-        ],
-    )
+    let members = [
+        (Field::At, Said::Whole(at.seconds())),
+        (Field::Gtin, Said::Text(gtin.as_str())),
+        (Field::Msg, Said::Text("withdraw")),
+        (Field::V, Said::Whole(2)),
+    ];
+    put_object(writer, &members)
 }
 
 /// Writes a query.
 fn put_query(writer: &mut Writer, key: &PackKey) -> Result<(), AllocError>
-    ensures { PutsValue result writer.old writer.new
-        (value_of (Message.Query key.now)) }
+    ensures { PutsValue result writer.old writer.new (value_of (Message.Query key.now)) }
 {
-    put_object(
-        writer,
-        &[
-            (Field::Gtin, Said::Text(key.gtin.as_str())),
-            (Field::Msg, Said::Text("query")),
-            (Field::Serial, Said::Text(key.serial.as_str())),
-        ],
-    )
+    let members = [
+        (Field::Gtin, Said::Text(key.gtin.as_str())),
+        (Field::Msg, Said::Text("query")),
+        (Field::Serial, Said::Text(key.serial.as_str())),
+    ];
+    put_object(writer, &members)
 }
 
 /// Writes an answer: of the version that says all of what was found.
@@ -230,8 +208,7 @@ fn put_answer(
     key: &PackKey,
     found: &Found,
 ) -> Result<(), AllocError>
-    ensures { PutsValue result writer.old writer.new
-        (value_of (Message.Answer asker q key.now found.now)) }
+    ensures { PutsValue result writer.old writer.new (value_of (Message.Answer asker q key.now found.now)) }
 {
     let version = found_version(found);
     writer.begin_object()?;
@@ -262,8 +239,7 @@ fn put_version(writer: &mut Writer, version: Version) -> Result<(), AllocError>
 
 /// Writes what was found in a version.
 fn put_found(writer: &mut Writer, version: Version, found: &Found) -> Result<(), AllocError>
-    ensures { PutsValue result writer.old writer.new
-        (found_value version found.now) }
+    ensures { PutsValue result writer.old writer.new (found_value version found.now) }
 {
     let Found::Present {
         batch,
@@ -276,28 +252,24 @@ fn put_found(writer: &mut Writer, version: Version, found: &Found) -> Result<(),
     else {
         return put_said(writer, Said::Null);
     };
-    match version {
-        Version::One => put_object(
-            writer,
-            &[
-                (Field::Batch, Said::Text(batch.as_str())),
-                (Field::Expiry, Said::Expiry(expiry)),
-                (Field::Recalled, Said::Truth(*recalled)),
-                (Field::Standing, Said::Text(standing.name())),
-            ],
-        ),
-        Version::Two => put_object(
-            writer,
-            &[
-                (Field::Batch, Said::Text(batch.as_str())),
-                (Field::Expiry, Said::Expiry(expiry)),
-                (Field::National, Said::National(national)),
-                (Field::Recalled, Said::Truth(*recalled)),
-                (Field::Standing, Said::Text(standing.name())),
-                (Field::Withdrawn, Said::Truth(*withdrawn)),
-            ],
-        ),
+    if version == Version::One {
+        let members = [
+            (Field::Batch, Said::Text(batch.as_str())),
+            (Field::Expiry, Said::Expiry(expiry)),
+            (Field::Recalled, Said::Truth(*recalled)),
+            (Field::Standing, Said::Text(standing.name())),
+        ];
+        return put_object(writer, &members);
     }
+    let members = [
+        (Field::Batch, Said::Text(batch.as_str())),
+        (Field::Expiry, Said::Expiry(expiry)),
+        (Field::National, Said::National(national)),
+        (Field::Recalled, Said::Truth(*recalled)),
+        (Field::Standing, Said::Text(standing.name())),
+        (Field::Withdrawn, Said::Truth(*withdrawn)),
+    ];
+    put_object(writer, &members)
 }
 
 /// The version that says all of what was found.
@@ -305,21 +277,11 @@ fn found_version(found: &Found) -> Version
     ensures { result ≡ found_version found.now }
 {
     match found {
-        Found::Absent => Version::One,
         Found::Present {
-            national: Some(_),
-            ..
-        } => Version::Two,
-        Found::Present {
-            national: None,
+            national,
             withdrawn,
             ..
-        } => {
-            if *withdrawn {
-                Version::Two
-            } else {
-                Version::One
-            }
-        }
+        } if national.is_some() || *withdrawn => Version::Two,
+        _ => Version::One,
     }
 }

@@ -9,12 +9,13 @@ ghost use Rattle.mv_json.specs.Parts.{BeginWithMessage, Stands};
 ghost use Rattle.mv_json.specs.Reading.{GivesOr};
 
 use crate::MessageFault;
-use crate::form::{form_at, known_form_at, version_at};
+use crate::form::{form_at, version_at};
+use crate::members::first_unknown;
 use crate::object::Object;
 use crate::part_reading::take_entries;
 use crate::readers::message_at;
 use json::{Reader, Scratch};
-use mv_message::Message;
+use mv_message::{Message, Text};
 use serde_json::Value;
 use std::alloc::Global;
 
@@ -42,16 +43,18 @@ pub fn read(alloc: Global, bytes: &[u8]) -> Result<Message, MessageFault>
 /// of `msg`; M4 with the first key, in byte order, that the message does not have; then the faults of the fields, in byte
 /// order of their names. M9 may stand, where memory was refused, in place of M4, which names a key, and of what the fields
 /// of a master, an upload, a status or a repack give, which hold texts and lists; in place of nothing else.
-#[tactic(auto, unfolding(crate::specs::Messages::read_message), using(crate::proofs::ReadsLemmas::known_gives))]
+#[tactic(auto, unfolding(crate::specs::Messages::read_message))]
 pub fn from_value(alloc: Global, value: &Value) -> Result<Message, MessageFault>
     ensures gives { GivesOr result (read_message (view value.now)) MessageFault.Memory }
-    ensures memory { IfErr result (λ fault. fault ≡ MessageFault.Memory
-        → MayTakeMemory (view value.now)) }
+    ensures memory { IfErr result (λ fault. fault ≡ MessageFault.Memory → MayTakeMemory (view value.now)) }
 {
     let members = value.as_object().ok_or(MessageFault::NotObject)?;
     let mut object = Object::Value(value);
     let version = version_at(&object)?;
-    let form = known_form_at(alloc, members, version, form_at(&object, version)?)?;
+    let form = form_at(&object, version)?;
+    if let Some(key) = first_unknown(members, form.fields(version)) {
+        return Err(MessageFault::Unknown(Text::new(String::from_str(alloc, key)?)));
+    }
     message_at(alloc, &mut object, version, form)
 }
 
@@ -67,8 +70,7 @@ pub fn take_message(alloc: Global, reader: &mut Reader<'_>) -> Option<Message>
 
 /// The message that an object of fields is which were met.
 fn message_in(alloc: Global, object: &mut Object<'_>) -> Result<Message, MessageFault>
-    ensures { IfOk result (λ message.
-        (value : Data) → Stands value object.old → read_message value ≡ Ok message) }
+    ensures { IfOk result (λ message. (value : Data) → Stands value object.old → read_message value ≡ Ok message) }
 {
     let version = version_at(object)?;
     let form = form_at(object, version)?;

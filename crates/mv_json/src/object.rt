@@ -1,4 +1,5 @@
 //! Objects of JSON, of which messages are read: values, and fields that were met. What stands in a field is read alike of both.
+#![tactic(auto, using(crate::proofs::PartLemmas::part_is))]
 
 ghost use Rattle.std.specs.Prelude.{◌≡◌, All, Contains, IsTrue, MatchOption, None, is_some, map, option_map};
 ghost use Rattle.serde_json.specs.Data.{Data};
@@ -46,8 +47,7 @@ impl Object<'_> {
 
     /// Whether it is of fields that were met, each of which is one of these.
     pub(crate) fn has_met_only(&self, fields: &[Field]) -> bool
-        ensures { IsTrue result → (value : Data) → Stands value self.now
-            → HasOnly (map field_name fields.now) value }
+        ensures { IsTrue result → (value : Data) → Stands value self.now → HasOnly (map field_name fields.now) value }
     {
         match self {
             Object::Met(entries) => are_among(entries, fields),
@@ -77,10 +77,8 @@ fn is_one_of(field: Field, fields: &[Field]) -> bool
 
 impl<'a> Place<'a> {
     /// The text.
-    #[tactic(auto, using(crate::proofs::PartLemmas::part_is))]
     pub(crate) fn as_str(self) -> Option<&'a str>
-        ensures { (value : Data) → IsPlace value self.entry
-            → option_map (λ text. text.now) result ≡ as_str value }
+        ensures { (value : Data) → IsPlace value self.entry → option_map (λ text. text.now) result ≡ as_str value }
     {
         match self {
             Place::Part(Part::Text(text)) => Some(text),
@@ -90,7 +88,6 @@ impl<'a> Place<'a> {
     }
 
     /// The whole number.
-    #[tactic(auto, using(crate::proofs::PartLemmas::part_is))]
     pub(crate) fn as_u64(self) -> Option<u64>
         ensures { (value : Data) → IsPlace value self.entry → result ≡ whole_number value }
     {
@@ -102,7 +99,6 @@ impl<'a> Place<'a> {
     }
 
     /// Whether it is `true`.
-    #[tactic(auto, using(crate::proofs::PartLemmas::part_is))]
     pub(crate) fn as_bool(self) -> Option<bool>
         ensures { (value : Data) → IsPlace value self.entry → result ≡ as_bool value }
     {
@@ -114,7 +110,6 @@ impl<'a> Place<'a> {
     }
 
     /// Whether it is `null`.
-    #[tactic(auto, using(crate::proofs::PartLemmas::part_is))]
     pub(crate) fn is_null(self) -> bool
         ensures { (value : Data) → IsPlace value self.entry → result ≡ is_some (as_null value) }
     {

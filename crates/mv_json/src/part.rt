@@ -52,8 +52,7 @@ pub(crate) struct Entry<'a> {
 /// Adds an entry, unless its field was met before or memory is refused, and says whether it did.
 #[inline(always)]
 pub(crate) fn adds<'a>(entries: &mut Vec<Entry<'a>>, field: Field, part: Part<'a>) -> bool
-    ensures added { IsTrue result
-        → entries.new.items ≡ entries.old.items ++ entry field part.entry ∷ [] }
+    ensures added { IsTrue result → entries.new.items ≡ entries.old.items ++ entry field part.entry ∷ [] }
     ensures apart { IsTrue result → All (λ other. other.field ≢ field) entries.old.items }
 {
     if find(entries, field).is_some() {
@@ -67,12 +66,8 @@ pub(crate) fn find<'b, 'a>(entries: &'b [Entry<'a>], field: Field) -> Option<&'b
     ensures { MatchOption result (All (λ other. other.field ≢ field) entries.now)
         (λ part. Contains entries.now (entry field part.now)) }
 {
-    for met in entries {
-        if is_same(met.field, field) {
-            return Some(&met.part);
-        }
-    }
-    None
+    let met = entries.iter().find(|met| is_same(met.field, field))?;
+    Some(&met.part)
 }
 
 /// Takes out what stands in a field.

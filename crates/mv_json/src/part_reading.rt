@@ -14,7 +14,6 @@ use crate::part::{Entry, Part, Sighting, adds};
 use crate::tokens::{takes_opening, whole_of};
 use json::{Reader, Token};
 use mv_message::Boxed;
-use mv_pack::Serial;
 use std::alloc::Global;
 
 /// How many fields a message has at most.
@@ -135,15 +134,11 @@ fn take_part<'a>(
     field: Field,
     is_inside: bool,
 ) -> Option<Part<'a>>
-    ensures { IfSome result (λ part.
-        BeginWithPart (deep_in is_inside) reader.old part reader.new) }
+    ensures { IfSome result (λ part. BeginWithPart (deep_in is_inside) reader.old part reader.new) }
 {
     match reader.next()? {
         Token::BeginObject if !is_inside => take_found(alloc, reader),
-        token => {
-            let part = take_rest(alloc, reader, field, token)?;
-            Some(part)
-        }
+        token => take_rest(alloc, reader, field, token),
     }
 }
 
@@ -174,8 +169,7 @@ fn take_rest<'a>(
     field: Field,
     token: Token<'a>,
 ) -> Option<Part<'a>>
-    ensures { IfSome result (λ part.
-        StartWithPart (token_of token.entry ∷ reader.old) part reader.new) }
+    ensures { IfSome result (λ part. StartWithPart (token_of token.entry ∷ reader.old) part reader.new) }
 {
     match token {
         Token::String(text) => Some(Part::Text(text)),
@@ -189,13 +183,16 @@ fn take_rest<'a>(
 
 /// Takes the rest of a list, behind its opening bracket, by the field's kind.
 fn take_list_part<'a>(alloc: Global, reader: &mut Reader<'a>, field: Field) -> Option<Part<'a>>
-    ensures { IfSome result (λ part.
-        StartWithPart (begin_array ∷ reader.old) part reader.new) }
+    ensures { IfSome result (λ part. StartWithPart (begin_array ∷ reader.old) part reader.new) }
 {
     match field {
         Field::AfterSerials | Field::BeforeSerials | Field::Serials => {
-            let serials = take_list(alloc, reader, MOST_SERIALS)?;
-            Some(Part::Serials(fitted(serials)))
+            let mut serials = take_list(alloc, reader, MOST_SERIALS)?;
+            // One alone keeps the place of many: a message copies it out, and what is given back as a whole leaves no small part behind.
+            if serials.len() > 1 {
+                serials.shrink_to_fit();
+            }
+            Some(Part::Serials(serials))
         }
         Field::Markets => Some(Part::Markets(take_list(alloc, reader, MOST_MARKETS)?)),
         _ => None,
@@ -204,10 +201,8 @@ fn take_list_part<'a>(alloc: Global, reader: &mut Reader<'a>, field: Field) -> O
 
 /// Takes 1 to `most` values, up to the end of their list.
 fn take_list<T: Listed>(alloc: Global, reader: &mut Reader<'_>, most: usize) -> Option<Vec<T>>
-    ensures list { IfSome result (λ list.
-        BeginWithTexts T.reads reader.old list.items reader.new) }
-    ensures count { IfSome result (λ list.
-        (1 ≤ length list.items) × (length list.items ≤ most)) }
+    ensures list { IfSome result (λ list. BeginWithTexts T.reads reader.old list.items reader.new) }
+    ensures count { IfSome result (λ list. (1 ≤ length list.items) × (length list.items ≤ most)) }
 {
     let mut list = Vec::with_capacity(alloc, most).ok()?;
     while !reader.take_end_array() {
@@ -222,21 +217,9 @@ fn take_list<T: Listed>(alloc: Global, reader: &mut Reader<'_>, most: usize) -> 
     Some(list)
 }
 
-/// The same serial numbers in no more place than they take. One alone keeps the place of many: a message copies it out, and what is given
-/// back as a whole leaves no small part behind.
-fn fitted(mut serials: Vec<Serial>) -> Vec<Serial>
-    ensures { result.items ≡ serials.items }
-{
-    if serials.len() > 1 {
-        serials.shrink_to_fit();
-    }
-    serials
-}
-
 /// Takes a value of a list. The token is taken here, since most of what is read are these.
 fn take_item<T: Listed>(reader: &mut Reader<'_>) -> Option<T>
-    ensures { IfSome result (λ value.
-        BeginWithText reader.old (λ text. T.reads text ≡ Ok value) reader.new) }
+    ensures { IfSome result (λ value. BeginWithText reader.old (λ text. T.reads text ≡ Ok value) reader.new) }
 {
     match reader.next()? {
         Token::String(text) => T::from_text(text).ok(),

@@ -5,6 +5,7 @@ ghost use Rattle.std.specs.Prelude.{◌≡◌, ◌≢◌, IfErr, IsTrue};
 ghost use Rattle.mv_json.specs.Messages.{holds_texts};
 ghost use Rattle.mv_json.specs.Parts.{Gives, MayGive, IsValue};
 ghost use Rattle.mv_json.specs.Shapes.{message_at};
+ghost use Rattle.mv_json.specs.declared.form.Version.{Version as AVersion};
 
 use crate::form::{Form, Version};
 use crate::found_reading::found_at;
@@ -34,23 +35,19 @@ pub(crate) fn message_at(
 {
     match form {
         Form::Answer => answer_at(object, version),
-        Form::Master => master_at(alloc, object, version),
+        Form::Master => master_at(alloc, object),
         Form::Query => query_at(object, version),
         Form::Recall => recall_at(object, version),
-        Form::Repack => repack_at(alloc, object, version),
-        Form::Status => status_at(alloc, object, version),
+        Form::Repack => repack_at(alloc, object),
+        Form::Status => status_at(alloc, object),
         Form::Upload => upload_at(alloc, object, version),
         Form::Withdraw => withdraw_at(object, version),
     }
 }
 
 /// The product master that the fields give.
-fn master_at(
-    alloc: Global,
-    object: &mut Object<'_>,
-    version: Version,
-) -> Result<Message, MessageFault>
-    ensures { MayGive (message_at version Form.Master) object.old result }
+fn master_at(alloc: Global, object: &mut Object<'_>) -> Result<Message, MessageFault>
+    ensures { (version : AVersion) → MayGive (message_at version Form.Master) object.old result }
 {
     let common = free_text_at(alloc, object, Field::Common)?;
     let form = free_text_at(alloc, object, Field::Form)?;
@@ -89,8 +86,8 @@ fn upload_at(
 }
 
 /// The change of standing that the fields give.
-fn status_at(alloc: Global, object: &Object<'_>, version: Version) -> Result<Message, MessageFault>
-    ensures { MayGive (message_at version Form.Status) object.now result }
+fn status_at(alloc: Global, object: &Object<'_>) -> Result<Message, MessageFault>
+    ensures { (version : AVersion) → MayGive (message_at version Form.Status) object.now result }
 {
     Ok(Message::Status {
         at: moment_at(object, Field::At)?,
@@ -117,12 +114,8 @@ fn recall_at(object: &Object<'_>, version: Version) -> Result<Message, MessageFa
 }
 
 /// The repackaging that the fields give.
-fn repack_at(
-    alloc: Global,
-    object: &mut Object<'_>,
-    version: Version,
-) -> Result<Message, MessageFault>
-    ensures { MayGive (message_at version Form.Repack) object.old result }
+fn repack_at(alloc: Global, object: &mut Object<'_>) -> Result<Message, MessageFault>
+    ensures { (version : AVersion) → MayGive (message_at version Form.Repack) object.old result }
 {
     let after = BatchKey {
         batch: batch_at(object, Field::AfterBatch)?,
@@ -148,9 +141,10 @@ fn repack_at(
 fn withdraw_at(object: &Object<'_>, version: Version) -> Result<Message, MessageFault>
     ensures { Gives (message_at version Form.Withdraw) object.now result }
 {
-    let at = moment_at(object, Field::At)?;
-    let gtin = gtin_at(object, Field::Gtin)?;
-    Ok(Message::Withdraw { gtin, at })
+    Ok(Message::Withdraw {
+        at: moment_at(object, Field::At)?,
+        gtin: gtin_at(object, Field::Gtin)?,
+    })
 }
 
 /// The query that the fields give.

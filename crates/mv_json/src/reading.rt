@@ -1,4 +1,5 @@
 //! Reads the fields of a JSON object, one at a time, each with its own faults in their order.
+#![tactic(auto, unfolding(crate::specs::Reading::read_at, crate::specs::Reading::national_at, crate::specs::Reading::standing_at, crate::specs::Reading::free_text_at, crate::specs::Reading::truth_at, crate::specs::Reading::whole_at, crate::specs::Reading::moment_at, crate::specs::Reading::number_at, crate::specs::Reading::count_at))]
 
 ghost use Rattle.std.specs.Prelude.{◌≡◌, ◌≢◌, IfErr, IsOk, MatchResult, Ok, Err};
 ghost use Rattle.serde_json.specs.Data.{Data};
@@ -46,7 +47,6 @@ pub(crate) fn text_at<'b>(object: &'b Object<'_>, field: Field) -> Result<&'b st
 }
 
 /// The product code of a field: M3, M5, M6.
-#[tactic(auto, unfolding(crate::specs::Reading::read_at))]
 pub(crate) fn gtin_at(object: &Object<'_>, field: Field) -> Result<Gtin, MessageFault>
     ensures { Gives (read_at read_gtin field) object.now result }
 {
@@ -54,7 +54,6 @@ pub(crate) fn gtin_at(object: &Object<'_>, field: Field) -> Result<Gtin, Message
 }
 
 /// The serial number of a field: M3, M5, M6.
-#[tactic(auto, unfolding(crate::specs::Reading::read_at))]
 pub(crate) fn serial_at(object: &Object<'_>, field: Field) -> Result<Serial, MessageFault>
     ensures { Gives (read_at read_code field) object.now result }
 {
@@ -62,7 +61,6 @@ pub(crate) fn serial_at(object: &Object<'_>, field: Field) -> Result<Serial, Mes
 }
 
 /// The batch number of a field: M3, M5, M6.
-#[tactic(auto, unfolding(crate::specs::Reading::read_at))]
 pub(crate) fn batch_at(object: &Object<'_>, field: Field) -> Result<Batch, MessageFault>
     ensures { Gives (read_at read_code field) object.now result }
 {
@@ -70,7 +68,6 @@ pub(crate) fn batch_at(object: &Object<'_>, field: Field) -> Result<Batch, Messa
 }
 
 /// The expiry date of a field: M3, M5, M6.
-#[tactic(auto, unfolding(crate::specs::Reading::read_at))]
 pub(crate) fn expiry_at(object: &Object<'_>, field: Field) -> Result<Expiry, MessageFault>
     ensures { Gives (read_at read_expiry field) object.now result }
 {
@@ -78,7 +75,6 @@ pub(crate) fn expiry_at(object: &Object<'_>, field: Field) -> Result<Expiry, Mes
 }
 
 /// The national number, or none where there is `null`, and in version 1, which has no such field: M3, M5, M6.
-#[tactic(auto, unfolding(crate::specs::Reading::national_at))]
 pub(crate) fn national_at(
     object: &Object<'_>,
     version: Version,
@@ -106,7 +102,6 @@ fn national_of(found: Place<'_>, field: Field) -> Result<Option<National>, Messa
 }
 
 /// The standing of a field: M3, M5.
-#[tactic(auto, unfolding(crate::specs::Reading::standing_at))]
 pub(crate) fn standing_at(object: &Object<'_>, field: Field) -> Result<Standing, MessageFault>
     ensures { Gives (standing_at field) object.now result }
 {
@@ -131,7 +126,6 @@ pub(crate) fn standing_named(name: &str) -> Option<Standing>
 }
 
 /// The free text of a field: M3, M5, M8.
-#[tactic(auto, unfolding(crate::specs::Reading::free_text_at))]
 pub(crate) fn free_text_at(
     alloc: Global,
     object: &Object<'_>,
@@ -150,7 +144,6 @@ pub(crate) fn free_text_at(
 }
 
 /// Whether a field says `true`: M3, M5.
-#[tactic(auto, unfolding(crate::specs::Reading::truth_at))]
 pub(crate) fn truth_at(object: &Object<'_>, field: Field) -> Result<bool, MessageFault>
     ensures { Gives (truth_at field) object.now result }
 {
@@ -160,7 +153,6 @@ pub(crate) fn truth_at(object: &Object<'_>, field: Field) -> Result<bool, Messag
 }
 
 /// The whole number of a field: M3, M5.
-#[tactic(auto, unfolding(crate::specs::Reading::whole_at))]
 fn whole_at(object: &Object<'_>, field: Field) -> Result<u64, MessageFault>
     ensures { Gives (whole_at field) object.now result }
 {
@@ -170,7 +162,6 @@ fn whole_at(object: &Object<'_>, field: Field) -> Result<u64, MessageFault>
 }
 
 /// The moment of a field: M3, M5, M6.
-#[tactic(auto, unfolding(crate::specs::Reading::moment_at))]
 pub(crate) fn moment_at(object: &Object<'_>, field: Field) -> Result<Moment, MessageFault>
     ensures { Gives (moment_at field) object.now result }
 {
@@ -178,7 +169,6 @@ pub(crate) fn moment_at(object: &Object<'_>, field: Field) -> Result<Moment, Mes
 }
 
 /// The whole number of a field, up to 4,294,967,295: M3, M5.
-#[tactic(auto, unfolding(crate::specs::Reading::number_at))]
 pub(crate) fn number_at(object: &Object<'_>, field: Field) -> Result<u32, MessageFault>
     ensures { Gives (number_at field) object.now result }
 {
@@ -186,7 +176,6 @@ pub(crate) fn number_at(object: &Object<'_>, field: Field) -> Result<u32, Messag
 }
 
 /// The whole number of a field, from 1 to 4,294,967,295: M3, M5.
-#[tactic(auto, unfolding(crate::specs::Reading::count_at))]
 pub(crate) fn count_at(object: &Object<'_>, field: Field) -> Result<u32, MessageFault>
     ensures { Gives (count_at field) object.now result }
 {

@@ -20,8 +20,7 @@ pub fn takes_opening(reader: &mut Reader<'_>) -> bool
 /// Takes the text that is next.
 pub fn take_text<'a>(reader: &mut Reader<'a>) -> Option<&'a str>
     ensures text { IfSome result (λ text. reader.old ≡ string text.now ∷ reader.new) }
-    ensures none { IfNone result ((text : List ℕ) (rest : List AToken)
-        → reader.old ≢ string text ∷ rest) }
+    ensures none { IfNone result ((text : List ℕ) (rest : List AToken) → reader.old ≢ string text ∷ rest) }
 {
     match reader.next() {
         Some(Token::String(text)) => Some(text),

@@ -4,12 +4,11 @@ use denote.Struct.Values.{Values}
 use denote.Enum.Compared.{Each, by}
 use denote.Enum.Declared.{Record, Choice, values_one}
 use denote.Enum.Bare.{same_true, true_same}
-use Rattle.std.proofs.Common.{◌≡◌, List, [], ◌∷◌, ℕ, Bool, false, nat_eq, refl, ap, rules, ◌&&◌, Decides}
+use Rattle.std.proofs.Common.{◌≡◌, List, [], ◌∷◌, ℕ, Bool, false, nat_eq, refl, ap, rules, ◌&&◌, Decides, inl, inr}
 use Rattle.std.specs.Prelude.{⊤, Option, Some, None}
 use Rattle.std.specs.Option.{option_eq}
 use Rattle.std.specs.Cmp.{booleans_Decides}
 use Rattle.std.specs.Cmp.Lexicographic.{pointwise}
-use Rattle.std.proofs.Common.{inl, inr}
 use Rattle.std.proofs.lemmas.Bool.{false≢true}
 use Rattle.std.proofs.lemmas.Bool.Decides.{Decides-and, Decides-like, Decides-eqb}
 use Rattle.std.proofs.lemmas.Slice.Eq.{slice_eq-Decides, bytes_eq-Decides}
@@ -76,36 +75,10 @@ standings_decide x y = (same_true the_type (search rules) x y, true_same the_typ
 
 pub products_decide : (x y : Product) → Decides ((product.ghosts).eq x y) (x ≡ y)
 products_decide x y = Decides-like _
-    (λ e. λ i. record {
-      scheme = e.0 i;
-      name = e.1.0 i;
-      common = e.1.1.0 i;
-      form = e.1.1.1.0 i;
-      strength = e.1.1.1.1.0 i;
-      pack_type = e.1.1.1.1.1.0 i;
-      pack_size = e.1.1.1.1.1.1.0 i;
-      markets = e.1.1.1.1.1.1.1 i;
-    })
-    (λ e. (
-      ap (λ p. p.scheme) e,
-      (
-        ap (λ p. p.name) e,
-        (
-          ap (λ p. p.common) e,
-          (
-            ap (λ p. p.form) e,
-            (
-              ap (λ p. p.strength) e,
-              (ap (λ p. p.pack_type) e, (ap (λ p. p.pack_size) e, ap (λ p. p.markets) e)),
-            ),
-          ),
-        ),
-      ),
-    ))
-    (Decides-and _ _ (texts_decide x.scheme y.scheme) (Decides-and _ _ (texts_decide x.name y.name)
-    (Decides-and _ _ (texts_decide x.common y.common) (Decides-and _ _ (texts_decide x.form y.form)
-    (Decides-and _ _ (texts_decide x.strength y.strength) (Decides-and _ _ (texts_decide x.pack_type y.pack_type)
-    (Decides-and _ _ (texts_decide x.pack_size y.pack_size) (lists_decide x.markets y.markets))))))))
+    (λ e. λ i. record { scheme = e.0 i; name = e.1.0 i; common = e.1.1.0 i; form = e.1.1.1.0 i; strength = e.1.1.1.1.0 i; pack_type = e.1.1.1.1.1.0 i; pack_size = e.1.1.1.1.1.1.0 i; markets = e.1.1.1.1.1.1.1 i })
+    (λ e. (ap (λ p. p.scheme) e, (ap (λ p. p.name) e, (ap (λ p. p.common) e, (ap (λ p. p.form) e, (ap (λ p. p.strength) e, (ap (λ p. p.pack_type) e, (ap (λ p. p.pack_size) e, ap (λ p. p.markets) e))))))))
+    (Decides-and _ _ (texts_decide x.scheme y.scheme) (Decides-and _ _ (texts_decide x.name y.name) (Decides-and _ _ (texts_decide x.common y.common) (Decides-and _ _ (texts_decide x.form y.form)
+    (Decides-and _ _ (texts_decide x.strength y.strength) (Decides-and _ _ (texts_decide x.pack_type y.pack_type) (Decides-and _ _ (texts_decide x.pack_size y.pack_size) (lists_decide x.markets y.markets))))))))
 
 packs_decide : (x y : PackKey) → Decides ((pack.ghosts).eq x y) (x ≡ y)
 packs_decide x y = Decides-like _ (λ e. λ i. record { gtin = e.0 i; serial = e.1 i })
@@ -127,46 +100,9 @@ last_decides : {A : Type 0} (x y : A × Unit {0}) {a : Bool} → Decides a (x.0 
 last_decides x y {a} last = Decides-like a (λ e. λ i. (e i, tt)) (λ e. ap (λ z. z.0) e) last
 
 pub found_decide : (x y : Found) → Decides ((found.ghosts).eq x y) (x ≡ y)
-found_decide x y = values_decide found_enum _ (
-  λ a b. (λ e. refl, λ e. refl),
-  (
-    λ a b. first_decides a b (texts_decide a.0 b.0) (first_decides a.1 b.1 (dates_decide a.1.0 b.1.0)
-        (first_decides a.1.1 b.1.1 (options_decide a.1.1.0 b.1.1.0) (first_decides a.1.1.1 b.1.1.1 (standings_decide a.1.1.1.0 b.1.1.1.0)
-        (first_decides a.1.1.1.1 b.1.1.1.1 (booleans_Decides a.1.1.1.1.0 b.1.1.1.1.0)
-        (last_decides a.1.1.1.1.1 b.1.1.1.1.1 (booleans_Decides a.1.1.1.1.1.0 b.1.1.1.1.1.0)))))),
-    tt,
-  ),
-) x y
+found_decide x y = values_decide found_enum _
+    (λ a b. (λ e. refl, λ e. refl), (search (first_decides, last_decides, texts_decide, dates_decide, options_decide, standings_decide, booleans_Decides) depth 12 parts 12, tt)) x y
 
 pub messages_decide : (x y : Message) → Decides ((message.ghosts).eq x y) (x ≡ y)
-messages_decide x y = values_decide message_enum _ (
-  λ a b. first_decides a b (texts_decide a.0 b.0) (last_decides a.1 b.1 (products_decide a.1.0 b.1.0)),
-  (
-    λ a b. first_decides a b (texts_decide a.0 b.0) (first_decides a.1 b.1 (texts_decide a.1.0 b.1.0)
-        (first_decides a.1.1 b.1.1 (dates_decide a.1.1.0 b.1.1.0) (first_decides a.1.1.1 b.1.1.1 (options_decide a.1.1.1.0 b.1.1.1.0)
-        (last_decides a.1.1.1.1 b.1.1.1.1 (lists_decide a.1.1.1.1.0 b.1.1.1.1.0))))),
-    (
-      λ a b. first_decides a b (packs_decide a.0 b.0) (first_decides a.1 b.1 (standings_decide a.1.0 b.1.0)
-          (first_decides a.1.1 b.1.1 (texts_decide a.1.1.0 b.1.1.0) (last_decides a.1.1.1 b.1.1.1 (Decides-eqb a.1.1.1.0 b.1.1.1.0)))),
-      (
-        λ a b. first_decides a b (batches_decide a.0 b.0) (last_decides a.1 b.1 (Decides-eqb a.1.0 b.1.0)),
-        (
-          λ a b. first_decides a b (batches_decide a.0 b.0) (first_decides a.1 b.1 (lists_decide a.1.0 b.1.0)
-              (first_decides a.1.1 b.1.1 (batches_decide a.1.1.0 b.1.1.0) (first_decides a.1.1.1 b.1.1.1 (lists_decide a.1.1.1.0 b.1.1.1.0)
-              (last_decides a.1.1.1.1 b.1.1.1.1 (Decides-eqb a.1.1.1.1.0 b.1.1.1.1.0))))),
-          (
-            λ a b. first_decides a b (texts_decide a.0 b.0) (last_decides a.1 b.1 (Decides-eqb a.1.0 b.1.0)),
-            (
-              λ a b. last_decides a b (packs_decide a.0 b.0),
-              (
-                λ a b. first_decides a b (Decides-eqb a.0 b.0) (first_decides a.1 b.1 (Decides-eqb a.1.0 b.1.0)
-                    (first_decides a.1.1 b.1.1 (packs_decide a.1.1.0 b.1.1.0) (last_decides a.1.1.1 b.1.1.1 (found_decide a.1.1.1.0 b.1.1.1.0)))),
-                tt,
-              ),
-            ),
-          ),
-        ),
-      ),
-    ),
-  ),
-) x y
+messages_decide x y = values_decide message_enum _
+    (search (first_decides, last_decides, texts_decide, lists_decide, products_decide, dates_decide, options_decide, standings_decide, packs_decide, batches_decide, found_decide, Decides-eqb) depth 16 parts 16) x y

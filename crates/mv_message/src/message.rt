@@ -152,8 +152,19 @@ impl Message {
                 expiry,
                 national,
                 serials,
-            } => upload_copy(alloc, *gtin, batch, *expiry, national, serials),
-            Message::Status { key, to, user, at } => status_copy(alloc, key, *to, user, *at),
+            } => Ok(Message::Upload {
+                gtin: *gtin,
+                batch: batch.copy(),
+                expiry: *expiry,
+                national: national_copy(national),
+                serials: serials.copy(alloc)?,
+            }),
+            Message::Status { key, to, user, at } => Ok(Message::Status {
+                key: key.copy(),
+                to: *to,
+                user: user.copy(alloc)?,
+                at: *at,
+            }),
             Message::Recall { key, at } => Ok(Message::Recall {
                 key: key.copy(),
                 at: *at,
@@ -164,14 +175,13 @@ impl Message {
                 after,
                 after_serials,
                 at,
-            } => repack_copy(
-                alloc,
-                before.get(),
-                before_serials,
-                after.get(),
-                after_serials,
-                *at,
-            ),
+            } => Ok(Message::Repack {
+                before: Boxed::new(alloc, before.get().copy())?,
+                before_serials: before_serials.copy(alloc)?,
+                after: Boxed::new(alloc, after.get().copy())?,
+                after_serials: after_serials.copy(alloc)?,
+                at: *at,
+            }),
             Message::Withdraw { gtin, at } => Ok(Message::Withdraw {
                 gtin: *gtin,
                 at: *at,
@@ -190,64 +200,4 @@ impl Message {
             }),
         }
     }
-}
-
-/// An upload of its own with the same values.
-fn upload_copy(
-    alloc: Global,
-    gtin: Gtin,
-    batch: &Batch,
-    expiry: Expiry,
-    national: &Option<National>,
-    serials: &Serials,
-) -> Result<Message, AllocError>
-    ensures { IfOk result (λ message. message
-        ≡ Message.Upload gtin batch.now expiry national.now serials.now) }
-{
-    Ok(Message::Upload {
-        gtin,
-        batch: batch.copy(),
-        expiry,
-        national: national_copy(national),
-        serials: serials.copy(alloc)?,
-    })
-}
-
-/// A change of standing of its own with the same values.
-fn status_copy(
-    alloc: Global,
-    key: &PackKey,
-    to: Standing,
-    user: &Text,
-    at: Moment,
-) -> Result<Message, AllocError>
-    ensures { IfOk result (λ message. message ≡ Message.Status key.now to user.now at) }
-{
-    Ok(Message::Status {
-        key: key.copy(),
-        to,
-        user: user.copy(alloc)?,
-        at,
-    })
-}
-
-/// A repackaging of its own with the same values.
-fn repack_copy(
-    alloc: Global,
-    before: &BatchKey,
-    before_serials: &Serials,
-    after: &BatchKey,
-    after_serials: &Serials,
-    at: Moment,
-) -> Result<Message, AllocError>
-    ensures { IfOk result (λ message. message
-        ≡ Message.Repack before.now before_serials.now after.now after_serials.now at) }
-{
-    Ok(Message::Repack {
-        before: Boxed::new(alloc, before.copy())?,
-        before_serials: before_serials.copy(alloc)?,
-        after: Boxed::new(alloc, after.copy())?,
-        after_serials: after_serials.copy(alloc)?,
-        at,
-    })
 }

@@ -1,6 +1,5 @@
 -- What is read as a serial, batch or national number.
-use Rattle.std.proofs.Common.{◌≡◌, ◌∙◌, ℕ, zero, suc, ◌<◌, ◌≤◌, ◌+◌, ◌-◌, ◌*◌, ◌++◌, List, [], ◌∷◌, Bool, true, false, cond, not, ◌&&◌, length, take, drop, replicate, refl, sym, ap, ap₂, subst, arith}
-use Rattle.std.specs.Prelude.{◌==◌, nat_lt, IsUtf8, Option, None, Some, Result, Ok, Err}
+use Rattle.std.proofs.Common.{◌≡◌, ◌∙◌, ℕ, zero, suc, ◌<◌, ◌≤◌, ◌+◌, ◌-◌, ◌++◌, List, [], ◌∷◌, Bool, true, false, cond, not, ◌&&◌, length, take, drop, replicate, refl, sym, ap, ap₂, subst, arith, IsUtf8, None, Some, Ok, Err}
 use Rattle.std.specs.List.{count_by, list_all, position_from, prefix_len}
 use Rattle.std.proofs.lemmas.Bool.{and_parts}
 use Rattle.std.proofs.lemmas.List.{take_all, take-take, length-take-le, length-drop, length-append, take-append-le, take-append-drop, drop-replicate}
@@ -11,9 +10,8 @@ use Rattle.std.proofs.Math.Seq.{take-append_seam, drop-append-add}
 use borrow.Rule.Slice.PartMut.{put_mid}
 use Rattle.mv_pack.proofs.TextLemmas.{text_of_ascii}
 use Rattle.std.proofs.lemmas.Bool.Decides.{nat_tests}
-use Rattle.mv_pack.specs.Code.{is_code_character, is_filled, is_zero, first_wrong, read_characters, read_code, filled_up, text_before, IsCode, IsFilledUp, most_code_bytes}
+use Rattle.mv_pack.specs.Code.{is_code_character, is_filled, is_zero, first_wrong, read_code, filled_up, text_before, IsCode, IsFilledUp, most_code_bytes}
 use Rattle.mv_pack.specs.declared.fault.PackFault.{PackFault}
-use Rattle.mv_pack.specs.declared.fault.PackFault.TheVariants.{Empty, TooLong}
 
 -- where no wrong element is found all are right
 none_wrong : {X : Type 0} (p : X → Bool) (xs : List X) (i : ℕ) → position_from (λ x. not (p x)) i xs ≡ None → list_all p xs ≡ true
@@ -31,32 +29,15 @@ all_right p (x ∷ xs) i h = elim (p x) as (λ b. (b && list_all p xs) ≡ true 
 
 -- a code is read as it stands
 pub read_code_of : (t : List ℕ) → IsCode t → read_code t ≡ Ok t
-read_code_of t h =
-    let all = all_right is_code_character t 0 h.2 in
-    grind (arith, nat_tests, all)
+read_code_of t h = grind (arith, all_right is_code_character t 0 h.2)
 
 -- no fault is found in a code
 pub no_fault : (t : List ℕ) (e : PackFault) → read_code t ≡ Err e → IsCode t → ⊥
 no_fault t e h code = let ok = read_code_of t code in cc
 
--- reading as a choice by its three tests
-chosen : Bool → Bool → Option ℕ → List ℕ → Result (List ℕ) PackFault
-chosen empty long place t = cond empty (Err Empty) (cond long (Err TooLong) (read_characters t place))
-
-read_chosen : (empty long : Bool) (place : Option ℕ) (t c : List ℕ) → chosen empty long place t ≡ Ok c → (empty ≡ false) × (long ≡ false) × (place ≡ None) × (t ≡ c)
-unfolding chosen
-read_chosen true long place t c h = cc
-read_chosen false true place t c h = cc
-read_chosen false false (Some i) t c h = cc
-read_chosen false false None t c h = (refl, refl, refl, cc)
-
 -- what is read is a code
 pub read_code_is_code : (t c : List ℕ) → read_code t ≡ Ok c → IsCode c
-unfolding chosen
-read_code_is_code t c h =
-    let tests = read_chosen (length t == 0) (nat_lt most_code_bytes (length t)) (first_wrong t) t c h in
-    subst IsCode tests.3
-    (grind (arith, nat_tests, tests.0), grind (arith, nat_tests, tests.1), no_wrong_byte t tests.2)
+read_code_is_code t c h = grind (arith, no_wrong_byte)
 
 character_below : (byte : ℕ) → is_code_character byte ≡ true → byte < 128
 character_below byte h = grind (arith, nat_tests)
@@ -66,8 +47,7 @@ pub codes_are_text : (text : List ℕ) → IsCode text → IsUtf8 text
 codes_are_text text code = text_of_ascii is_code_character character_below text code.2
 
 no_zero_character : (byte : ℕ) → is_code_character byte ≡ true → is_zero byte ≡ false
-no_zero_character zero h = cc
-no_zero_character (suc byte) h = grind (arith, nat_tests)
+no_zero_character byte h = grind arith
 
 -- a text is what stands before the zeros behind it
 before_zeros : (text : List ℕ) (count : ℕ) → list_all is_code_character text ≡ true → text_before (text ++ replicate count 0) ≡ text
@@ -78,8 +58,7 @@ before_zeros (byte ∷ text) count all =
     let behind = text ++ replicate count 0 in
     let most = prefix_len (λ x. not (is_zero x)) behind in
     let one : 1 + most ≡ suc most = omega arith in
-    ap (λ k. take k (byte ∷ behind)) (ap (λ b. cond (not b) (1 + most) 0) (no_zero_character byte parts.0) ∙ one)
-    ∙ ap (λ (rest : List ℕ). byte ∷ rest) (before_zeros text count parts.1)
+    grind (arith, before_zeros text count parts.1)
 
 pub text_filled_up : (text : List ℕ) → IsCode text → text_before (filled_up text) ≡ text
 text_filled_up text code = before_zeros text (most_code_bytes - length text) code.2
@@ -89,11 +68,7 @@ code_filled_up text code = (subst IsCode (sym (text_filled_up text code)) code, 
 
 -- zeros behind a text do not count, where a zero does not pass
 count_behind : (p : ℕ → Bool) (text : List ℕ) (k : ℕ) → p 0 ≡ false → count_by p (text ++ replicate k 0) ≡ count_by p text
-count_behind p text k h =
-    let one = λ (x : ℕ). cond (p x) 1 0 in
-    let all = sum_by-append one text (replicate k 0) in
-    let zeros = sum_by-replicate one k 0 ∙ ap (λ b. k * cond b 1 0) h in
-    omega (arith, all, zeros)
+count_behind p text k h = grind (arith, sum_by-append, sum_by-replicate)
 
 count_cons : (p : ℕ → Bool) (byte : ℕ) (text : List ℕ) → count_by p (byte ∷ text) ≡ cond (p byte) 1 0 + count_by p text
 count_cons p byte text = sum_by-cons (λ x. cond (p x) 1 0) byte text
@@ -137,10 +112,7 @@ all_filled (byte ∷ text) h =
 
 -- what stands before the zeros, by how many bytes are none
 pub filled_counted : (bytes : List ℕ) → IsFilledUp bytes → take (count_by is_filled bytes) bytes ≡ text_before bytes
-filled_counted bytes h =
-    let text = text_before bytes in
-    let count : count_by is_filled bytes ≡ length text = ap (count_by is_filled) h.1 ∙ count_behind is_filled text (most_code_bytes - length text) refl ∙ count_of_all is_filled text (all_filled text h.0.2) in
-    ap₂ take count h.1 ∙ take-append_seam text (replicate (most_code_bytes - length text) 0)
+filled_counted bytes h = grind (arith, count_behind, count_of_all, all_filled, take-append_seam)
 
 -- the first 8 bytes of a text of 8 to 16, and over these its last 8, with zeros behind
 pub two_pieces : (t : List ℕ) (k : ℕ) (ys : List ℕ) → 8 ≤ length t → length t ≤ 16 → k ≡ 8 → ys ≡ take k (drop (length t - 8) t) → put_mid (length t - 8) k (take 8 t ++ replicate 12 0) ys ≡ filled_up t

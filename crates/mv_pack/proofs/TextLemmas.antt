@@ -1,6 +1,5 @@
 -- Texts whose bytes pass a test, and readings that choose by a test.
-use Rattle.std.proofs.Common.{◌≡◌, ℕ, zero, suc, ◌<◌, List, [], ◌∷◌, Bool, true, false, cond, length, get_or, refl, arith}
-use Rattle.std.specs.Prelude.{IsUtf8, Result, Ok, Err}
+use Rattle.std.proofs.Common.{◌≡◌, ℕ, zero, suc, ◌<◌, List, [], ◌∷◌, Bool, true, false, cond, length, get_or, refl, arith, IsUtf8, Result, Ok, Err}
 use Rattle.std.specs.List.{list_all}
 use Rattle.std.proofs.lemmas.Bool.{and_parts}
 use Rattle.std.proofs.lemmas.List.Folds.{list_all_at}
@@ -24,8 +23,3 @@ text_of_ascii p bound xs all = IsUtf8-from_ascii xs (ascii_at p bound xs all)
 pub chosen_ok : {A F : Type 0} (test : Bool) (reading : Result A F) (fault : F) (value : A) → cond test reading (Err fault) ≡ Ok value → (test ≡ true) × (reading ≡ Ok value)
 chosen_ok true reading fault value h = (refl, h)
 chosen_ok false reading fault value h = cc
-
--- a reading that gives this value where a test holds, and else a fault, gave this value
-pub given_ok : {A F : Type 0} (test : Bool) (given : A) (fault : F) (value : A) → cond test (Ok given) (Err fault) ≡ Ok value → (test ≡ true) × (given ≡ value)
-given_ok true given fault value h = (refl, cc)
-given_ok false given fault value h = cc

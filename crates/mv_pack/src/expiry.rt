@@ -1,11 +1,9 @@
 //! Expiry dates.
 
-ghost use Rattle.std.specs.Prelude.{◌≡◌, ◌+◌, ◌*◌, ◌-◌, ◌++◌, ◌<◌, ◌≤◌, ◌/◌, ◌↔◌, length, IsOk};
-ghost use Rattle.std.specs.Prelude.{IsTrue, pos, ◌≤ℤ◌};
+ghost use Rattle.std.specs.Prelude.{◌≡◌, ◌+◌, ◌*◌, ◌-◌, ◌++◌, ◌<◌, ◌≤◌, ◌/◌, ◌↔◌, length, IsOk, IsTrue, pos, ◌≤ℤ◌};
 ghost use Rattle.std.specs.List.{list_all};
 ghost use Rattle.mv_pack.specs.Gtin.{is_digit};
-ghost use Rattle.mv_pack.specs.Expiry.{read_expiry, dated, day_of, is_expired_at, two_digits_at};
-ghost use Rattle.mv_pack.specs.Expiry.{two_digits, expiry_text, IsDayOrZero, IsExpiryText};
+ghost use Rattle.mv_pack.specs.Expiry.{read_expiry, dated, day_of, is_expired_at, two_digits_at, two_digits, expiry_text, IsDayOrZero, IsExpiryText};
 
 use crate::gtin::are_digits;
 use crate::{Moment, PackFault};

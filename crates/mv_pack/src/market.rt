@@ -1,6 +1,6 @@
 //! Markets, by the two letters of the Member State.
 
-ghost use Rattle.std.specs.Prelude.{◌≡◌, ◌<◌, ◌↔◌, IsOk, length};
+ghost use Rattle.std.specs.Prelude.{◌≡◌, ◌<◌, ◌↔◌, IsOk};
 ghost use Rattle.std.specs.List.{list_all};
 ghost use Rattle.mv_pack.specs.Market.{is_capital, read_market, place_of, IsMarket};
 

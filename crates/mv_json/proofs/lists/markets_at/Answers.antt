@@ -1,5 +1,4 @@
-use Rattle.std.proofs.Common.{◌∙◌, ap, rules, sym}
-use Rattle.std.specs.Prelude.{Ok}
+use Rattle.std.proofs.Common.{◌∙◌, ap, rules, sym, Ok}
 use Rattle.mv_json.proofs.PartLemmas.{markets_taken}
 use Rattle.mv_json.proofs.lists.markets_at.Goals as goal
 

@@ -1,5 +1,4 @@
-use Rattle.std.proofs.Common.{◌∷◌, map, take}
-use Rattle.std.specs.Prelude.{Ok}
+use Rattle.std.proofs.Common.{◌∷◌, map, take, Ok}
 use Rattle.std.specs.declared.alloc.AllocError.{AllocError}
 use Rattle.json.specs.Token.{string, begin_array}
 use Rattle.mv_json.specs.Tokens.{Puts}

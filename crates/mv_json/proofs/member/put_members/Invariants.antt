@@ -1,5 +1,4 @@
-use Rattle.std.proofs.Common.{take}
-use Rattle.std.specs.Prelude.{Ok}
+use Rattle.std.proofs.Common.{take, Ok}
 use Rattle.std.specs.declared.alloc.AllocError.{AllocError}
 use Rattle.mv_json.specs.Tokens.{Puts, members_put}
 use Rattle.mv_json.proofs.member.put_members.Given as goal

@@ -1,5 +1,4 @@
-use Rattle.std.proofs.Common.{◌∙◌, sym, ap, map}
-use Rattle.std.specs.Prelude.{Some, option_map, string_bytes}
+use Rattle.std.proofs.Common.{◌∙◌, sym, ap, map, Some, option_map, string_bytes}
 use Rattle.std.specs.Option.{option_copied}
 use Rattle.mv_json.proofs.MembersLemmas.{first_unknown_of_entries}
 use Rattle.mv_json.proofs.members.first_unknown.Goals as goal

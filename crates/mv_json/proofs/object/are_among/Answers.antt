@@ -1,5 +1,4 @@
-use Rattle.std.proofs.Common.{arith, subst}
-use Rattle.std.specs.Prelude.{All, Contains}
+use Rattle.std.proofs.Common.{arith, subst, All, Contains}
 use Rattle.std.proofs.lemmas.List.{take_all}
 use Rattle.std.proofs.lemmas.List.Elements.{All-more}
 use Rattle.mv_json.specs.declared.part.Entry.{Entry}

@@ -2,18 +2,19 @@ use Rattle.std.proofs.Common.{◌≡◌, [], ◌∷◌, length, sym, subst, ap, 
 use Rattle.json.specs.Token.{key, end_object}
 use Rattle.mv_json.specs.Fields.{field_name}
 use Rattle.mv_json.specs.Parts.{deep_in}
-use Rattle.mv_json.proofs.PartLemmas.{AreEntries, no_entry, one_more_entry, all_entries, part_shorter}
+use Rattle.mv_json.proofs.MetLemmas.{none_met, all_met, begun_shorter}
+use Rattle.mv_json.proofs.PartLemmas.{AreEntries, one_more_entry}
 use Rattle.mv_json.proofs.part_reading.+members.Goals as goal
 
 pub take_members-loop-entries-init : goal.take_members-loop-entries-init
 take_members-loop-entries-init t c =
     let none : c.in_ok-entries.entries.items ≡ [] = search rules in
-    subst (λ entries. AreEntries (deep_in c.args.is_inside) c.args.reader.now entries c.args.reader.now) (sym none) (no_entry (deep_in c.args.is_inside) c.args.reader.now)
+    subst (λ entries. AreEntries (deep_in c.args.is_inside) c.args.reader.now entries c.args.reader.now) (sym none) (none_met _ _ _ _)
 
 pub take_members-loop-entries-smaller : goal.take_members-loop-entries-smaller
 take_members-loop-entries-smaller t c =
     let at : c.loop-entries.reader ≡ key (field_name c.in-Some.field) ∷ c.next_field.new.reader = rw c.in-Some.is at c.in_ok-field.ensures in
-    omega (arith, part_shorter _ _ _ _ c.in_ok-part.ensures, ap length at)
+    omega (arith, begun_shorter _ _ _ _ c.in_ok-part.ensures.1, ap length at)
 
 pub take_members-loop-entries-preserved : goal.take_members-loop-entries-preserved
 take_members-loop-entries-preserved t c =
@@ -25,4 +26,4 @@ pub take_members-returns : goal.take_members-returns
 take_members-returns t c =
     let deep = deep_in c.args.is_inside in
     let at : c.loop-entries.reader ≡ end_object ∷ c.next_field.new.reader = rw c.in_default.is at c.in_ok-field.ensures in
-    all_entries deep _ _ _ (subst (AreEntries deep c.args.reader.now c.loop-entries.entries.items) at c.loop-entries.invariant)
+    all_met _ _ deep _ _ _ (subst (AreEntries deep c.args.reader.now c.loop-entries.entries.items) at c.loop-entries.invariant)

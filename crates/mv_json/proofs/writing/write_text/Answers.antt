@@ -1,5 +1,4 @@
-use Rattle.std.proofs.Common.{◌≡◌, ◌∙◌, ◌++◌, ap₂, subst, rules, Result, Ok, Err, OnOk}
-use Rattle.std.specs.Prelude.{IsUtf8}
+use Rattle.std.proofs.Common.{◌≡◌, ◌∙◌, ◌++◌, ap₂, subst, rules, Result, Ok, Err, OnOk, IsUtf8}
 use Rattle.json.specs.Print.{print}
 use Rattle.serde_json.specs.Written.{compact_text}
 use Rattle.mv_json.specs.Messages.{value_of}

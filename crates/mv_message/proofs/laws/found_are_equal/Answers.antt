@@ -1,9 +1,6 @@
-use Rattle.std.proofs.Common.{◌≡◌, subst, sym, Decides}
 use Rattle.mv_message.proofs.EqualityLemmas.{found_decide}
 use Rattle.mv_message.proofs.laws.found_are_equal.Goals as goal
 
 -- equality decides
 pub returns : goal.returns
-returns c =
-    let left = c.args.left.now in
-    let right = c.args.right.now in subst (λ b. Decides b (left ≡ right)) (sym c.eq.ensures) (found_decide left right)
+returns c = rw c.eq.ensures (found_decide c.args.left.now c.args.right.now)

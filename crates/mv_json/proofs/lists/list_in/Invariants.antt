@@ -2,7 +2,7 @@ use Rattle.std.proofs.Common.{◌≡◌, drop}
 use Rattle.serde_json.specs.View.{items_view}
 use Rattle.mv_json.specs.Reading.{read_items}
 use Rattle.mv_json.proofs.ReadingLemmas.{with_front}
-use Rattle.mv_json.proofs.lists.all_in.Given as goal
+use Rattle.mv_json.proofs.lists.list_in.Given as goal
 
 abbrev pub invariant-loop-value : goal.invariant-loop-value
 invariant-loop-value g l =

@@ -1,6 +1,6 @@
 -- Links that gain items.
-use Rattle.std.proofs.Common.{◌≡◌, ℕ, suc, ◌+◌, ◌<◌, ◌&&◌, not, true, List, [], ◌∷◌, ◌++◌, cond, replicate, refl, sym, ap, ◌∙◌, arith, inl, inr, append-nil, append_assoc, length-append}
-use Rattle.std.specs.Prelude.{◌==◌}
+use Rattle.std.proofs.lemmas.Grind.{common_steps}
+use Rattle.std.proofs.Common.{◌≡◌, ℕ, ◌<◌, ◌&&◌, not, true, List, [], ◌∷◌, ◌++◌, cond, replicate, refl, arith, inl, inr, append-nil, append_assoc, length-append, ◌==◌}
 use Rattle.mv_hub.proofs.Words.{IsSquare, Item, PartySet, PushesItems, PushesRow, Sending, cases_eq, cell-put_other, cell-put_same, eq-eqb, has_party, link_at, ne_eqb, new_sending, put, put-map_same, replicate_more, same_from_push, square-put}
 
 -- a link that gains nothing, and one that gains twice
@@ -8,22 +8,12 @@ pub pushes-none : (link : Sending) → PushesItems [] link link
 pushes-none link = record { window = refl; total = omega arith; sent = refl; ends = λ list ends. rw append-nil ends }
 
 pub pushes-then : (xs ys : List Item) (old mid new : Sending) → PushesItems xs old mid → PushesItems ys mid new → PushesItems (xs ++ ys) old new
-pushes-then xs ys old mid new first second = record {
-  window = second.window ∙ first.window;
-  total = omega (arith, first.total, second.total, length-append xs ys);
-  sent = second.sent ∙ first.sent;
-  ends = λ list ends. rw (← append_assoc list xs ys) (second.ends (list ++ xs) (first.ends list ends));
-}
+pushes-then xs ys old mid new first second = grind (arith, length-append, append_assoc)
 
 -- what is gained first, and then
 pub row-then : {n from : ℕ} {g h : ℕ → List Item} {old mid new : List (List Sending)} → PushesRow n from g old mid → PushesRow n from h mid new
     → PushesRow n from (λ to. g to ++ h to) old new
-row-then {g = g} {h = h} first second = record {
-  square = second.square;
-  gained = λ to below. pushes-then (g to) (h to) _ _ _ (first.gained to below) (second.gained to below);
-  others = λ party to other. second.others party to other ∙ first.others party to other;
-  sent = second.sent ∙ first.sent;
-}
+row-then {g = g} {h = h} first second = grind (arith, common_steps)
 
 -- one link gains these items
 pub row-one : {n from to : ℕ} {items : List Item} {now : List (List Sending)} {link : Sending} → IsSquare n now → from < n → to < n
@@ -42,24 +32,16 @@ row-one {n} {from} {to} {items} {now} {link} square is_from is_to gains = record
 -- the same, said in other words
 pub row-same : {n from : ℕ} {g h : ℕ → List Item} {old new : List (List Sending)} → ((to : ℕ) → to < n → g to ≡ h to) → PushesRow n from g old new
     → PushesRow n from h old new
-row-same same row = record {
-  square = row.square;
-  gained = λ to below. rw (← same to below) (row.gained to below);
-  others = row.others;
-  sent = row.sent;
-}
+row-same same row = grind arith
 
 -- one more party of those that are reached gets the item
 pub carried-more : (reached rest left : PartySet) (item : Item) (to other : ℕ) → has_party reached to ≡ true → has_party rest to ≡ true
     → has_party left other ≡ (has_party rest other && not (other == to))
     → cond (has_party reached other && not (has_party rest other)) (item ∷ []) [] ++ cond (other == to) (item ∷ []) []
     ≡ cond (has_party reached other && not (has_party left other)) (item ∷ []) []
-carried-more reached rest left item to other is_reached is_left without =
-    grind (arith, cases_eq other to, without, is_reached, is_left, append-nil {A = Item})
+carried-more reached rest left item to other is_reached is_left without = grind arith
 
 -- what was taken off the end of a list of equal members is one of them, and the others are left
 pub pop-equal : {A : Type 0} (n : ℕ) (same last : A) (rest : List A) → rest ++ last ∷ [] ≡ same ∷ replicate n same
     → (rest ≡ replicate n same) × (last ≡ same)
-pop-equal n same last rest e =
-    let more : suc n ≡ n + 1 = omega arith in
-    same_from_push rest (replicate n same) last same (e ∙ ap (λ k. replicate k same) more ∙ sym (replicate_more n same))
+pop-equal n same last rest e = same_from_push rest (replicate n same) last same (grind (arith, e, replicate_more n same))

@@ -1,9 +1,8 @@
 -- Texts, batches and listings: when two are the same, the order of batches, and lists that hold each member once.
-use Rattle.std.proofs.Common.{◌≡◌, true, List, ℕ, Bool, false, not, cond, [], ◌∷◌, ◌++◌, filter, Option, Some, None, ◌↔◌, sym, refl, ap, ◌∙◌, append-nil, arith}
+use Rattle.std.proofs.Common.{◌≡◌, true, List, ℕ, Bool, false, not, cond, [], ◌∷◌, ◌++◌, filter, Option, Some, None, ◌↔◌, sym, refl, ap, ◌∙◌, append-nil, arith, nat_eq}
 use Rattle.std.specs.Cmp.{IsEquivalence, IsTotalOrder}
 use Rattle.mv_hub.proofs.Words.{BatchKey, Decides-and, Decides-eqb, IsAscendingList, Listing, any-filter_same, batch_cmp, bytes_eq-Decides, distinct, filter-append, filter_map, filter_map-append, is_same_batch, is_same_listing, list_any, pointwise}
 use Rattle.std.specs.Ordering.{eq_by_cmp}
-use Rattle.std.specs.Prelude.{nat_eq}
 use Rattle.mv_pack.specs.contracts.key.BatchKeyEq.TheImpl.Laws as equal
 use Rattle.mv_pack.specs.contracts.key.BatchKeyOrd.TheImpl.Laws as order
 
@@ -18,10 +17,7 @@ batch_ties = order.matches_eq-law
 
 -- a list of batches, said in other words
 pub listed-same : {list : List BatchKey} {P Q : BatchKey → Type 0} → ((batch : BatchKey) → P batch ↔ Q batch) → IsAscendingList list P → IsAscendingList list Q
-listed-same same listed = record {
-  order = listed.order;
-  members = λ batch. (λ h. (same batch).0 ((listed.members batch).0 h), λ h. (listed.members batch).1 ((same batch).1 h));
-}
+listed-same same listed = record { order = listed.order; members = λ batch. grind (arith, same batch, listed.members batch) }
 
 -- texts that agree in each byte are the same
 pub text-same : (a b : List ℕ) → pointwise nat_eq a b ≡ true → a ≡ b
@@ -57,11 +53,9 @@ module _ {A : Type 0} (same : A → A → Bool) where
     distinct-push [] x = refl
     distinct-push (y ∷ ys) x =
         let front = distinct same ys in
-        let kept = filter-append (λ z. not (same y z)) front (x ∷ []) in
-        grind (arith, distinct-push ys x, kept, any-others x y front, laws.symm x y, append-nil {A = A})
+        grind (arith, distinct-push ys x, filter-append (λ z. not (same y z)) front (x ∷ []), any-others x y front, laws.symm x y, append-nil {A = A})
 
     -- the members that a list names, each once, once one more stands at its end
     pub distinct-named : {E : Type 0} (named : E → Option A) (entries : List E) (entry : E)
         → distinct same (filter_map named (entries ++ entry ∷ [])) ≡ add_to (distinct same (filter_map named entries)) (named entry)
-    distinct-named named entries entry =
-        grind (arith, filter_map-append named entries (entry ∷ []), append-nil {A = A}, distinct-push (filter_map named entries))
+    distinct-named named entries entry = grind (arith, filter_map-append named entries (entry ∷ []), append-nil {A = A}, distinct-push (filter_map named entries))

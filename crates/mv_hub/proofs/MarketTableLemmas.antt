@@ -1,8 +1,8 @@
 -- The table of the party of each market.
-use Rattle.std.proofs.Common.{◌≡◌, ◌≢◌, ℕ, zero, suc, ◌+◌, ◌-◌, ◌<◌, ◌≤◌, Bool, true, false, ◌||◌, cond, List, [], ◌∷◌, ◌++◌, length, get_or, set, take, drop, map, replicate, sym, refl, ap, ◌∙◌, append_assoc, append-nil, arith, inl, inr, true≢false}
-use Rattle.std.specs.Prelude.{◌==◌, bytes_eq}
-use Rattle.mv_hub.proofs.Words.{AreNoted, all_markets, bytes_eq-Decides, cases_Bool, cases_eq, cases_lt, eq-eqb, ext_get_or, get_or-replicate, get_or-set_other, get_or-set_same, has_market, has_twice, length-map, length-replicate, length-take-le, list_all_at, list_any-append, map-append, nat_list_eq_equiv, nat_tests, ne_eqb, served_by, take-append-drop, take_more}
+use Rattle.std.proofs.Common.{◌≡◌, ◌≢◌, ℕ, zero, suc, ◌+◌, ◌-◌, ◌<◌, ◌≤◌, true, false, ◌||◌, ◌&&◌, List, [], ◌∷◌, ◌++◌, length, get_or, set, take, drop, map, replicate, length-set, sym, refl, ◌∙◌, append_assoc, append-nil, arith, inl, inr, true≢false, ◌==◌, bytes_eq}
+use Rattle.mv_hub.proofs.Words.{AreNoted, all_markets, bytes_eq-Decides, cases_eq, cases_lt, eq-eqb, ext_get_or, get_or-replicate, get_or-set_other, get_or-set_same, has_market, has_twice, length-map, length-replicate, length-take-le, list_all_at, list_any-append, map-append, nat_list_eq_equiv, nat_tests, ne_eqb, served_by, take-append-drop, take_more}
 use Rattle.std.proofs.Math.ListN.{get_or-eq_default}
+use Rattle.mv_pack.specs.declared.market.TheConstants.{MARKETS_LIMIT}
 use Rattle.mv_pack.specs.Market.{IsMarket, place_of, is_capital}
 
 -- the letters of a market
@@ -22,7 +22,7 @@ same-market a b h k e =
 -- the markets of the first lists, and those of the others
 all_markets-append : (xs ys : List (List (List ℕ))) → all_markets (xs ++ ys) ≡ all_markets xs ++ all_markets ys
 all_markets-append [] ys = refl
-all_markets-append (x ∷ xs) ys = rw (all_markets-append xs ys) (sym (append_assoc x (all_markets xs) (all_markets ys)))
+all_markets-append (x ∷ xs) ys = grind (arith, all_markets-append xs ys, append_assoc)
 
 -- and those of one more list
 all_markets-push : (lists : List (List (List ℕ))) (markets : List (List ℕ)) → all_markets (lists ++ markets ∷ []) ≡ all_markets lists ++ markets
@@ -32,8 +32,7 @@ all_markets-push lists markets = rw (all_markets-append lists (markets ∷ []), 
 has_twice-push : (xs : List (List ℕ)) (market : List ℕ)
     → has_twice (xs ++ market ∷ []) ≡ (has_twice xs || has_market xs market)
 has_twice-push [] market = refl
-has_twice-push (x ∷ xs) market =
-    grind (arith, list_any-append (λ m. bytes_eq m x) xs (market ∷ []), nat_list_eq_equiv.symm market x, has_twice-push xs market)
+has_twice-push (x ∷ xs) market = grind (arith, list_any-append (λ m. bytes_eq m x) xs (market ∷ []), nat_list_eq_equiv.symm market x, has_twice-push xs market)
 
 -- what stands twice does so in a longer list
 has_twice-longer : (xs ys : List (List ℕ)) → has_twice xs ≡ true → has_twice (xs ++ ys) ≡ true
@@ -49,82 +48,57 @@ market-among : (lists : List (List (List ℕ))) (party : ℕ) (market : List ℕ
     → has_market (all_markets lists) market ≡ true
 market-among [] party market has = absurd (true≢false (sym has))
 market-among (x ∷ xs) zero market has = rw (list_any-append, has)
-market-among (x ∷ xs) (suc party) market has =
-    grind (arith, list_any-append (λ m. bytes_eq m market) x (all_markets xs), market-among xs party market has)
+market-among (x ∷ xs) (suc party) market has = grind (arith, list_any-append (λ m. bytes_eq m market) x (all_markets xs), market-among xs party market has)
 
 market-absent : (lists : List (List (List ℕ))) (market : List ℕ) → ((party : ℕ) → has_market (served_by lists party) market ≡ false)
     → has_market (all_markets lists) market ≡ false
 market-absent [] market none = refl
-market-absent (x ∷ xs) market none =
-    rw (list_any-append, none 0) (market-absent xs market (λ party. none (suc party)))
+market-absent (x ∷ xs) market none = grind (arith, list_any-append, none 0, market-absent xs market (λ party. none (suc party)))
 
--- the list of one more party
-served-push : (lists : List (List (List ℕ))) (markets : List (List ℕ)) (party : ℕ)
-    → served_by (lists ++ markets ∷ []) party ≡ cond (party == length lists) markets (served_by lists party)
-served-push [] markets zero = refl
-served-push [] markets (suc party) = grind arith
-served-push (x ∷ xs) markets zero = grind arith
-served-push (x ∷ xs) markets (suc party) = grind (arith, served-push xs markets party)
+-- who serves a market once the last list has one more
+served-more : (lists : List (List (List ℕ))) (markets : List (List ℕ)) (market other : List ℕ) (party : ℕ)
+    → has_market (served_by (lists ++ (markets ++ market ∷ []) ∷ []) party) other
+    ≡ (has_market (served_by (lists ++ markets ∷ []) party) other || ((party == length lists) && bytes_eq market other))
+served-more [] markets market other zero = grind (arith, list_any-append (λ m. bytes_eq m other) markets (market ∷ []))
+served-more [] markets market other (suc party) = grind arith
+served-more (x ∷ xs) markets market other zero = grind arith
+served-more (x ∷ xs) markets market other (suc party) = grind (arith, served-more xs markets market other party)
 
 -- no market is noted yet
-pub noted-none : (size : ℕ) → AreNoted [] (replicate size 0)
-noted-none size = record {
+pub noted-none : AreNoted [] (replicate MARKETS_LIMIT 0)
+noted-none = record {
+  long = length-replicate {A = ℕ} MARKETS_LIMIT 0;
   once = refl;
   parties = λ market party is. rw (none (place_of market)) (sym (ne_eqb 0 (party + 1) (λ e. absurd (omega arith))));
 }
   where
-    none : (place : ℕ) → get_or (replicate {A = ℕ} size 0) place 0 ≡ 0
-    none place = elim (cases_lt place size) [
-      | inl within ↦ get_or-replicate {A = ℕ} size place 0 0 within
-      | inr beyond ↦ get_or-eq_default (replicate {A = ℕ} size 0) 0 {n = place} (omega (arith, length-replicate {A = ℕ} size 0))
+    none : (place : ℕ) → get_or (replicate {A = ℕ} MARKETS_LIMIT 0) place 0 ≡ 0
+    none place = elim (cases_lt place MARKETS_LIMIT) [
+      | inl within ↦ get_or-replicate {A = ℕ} MARKETS_LIMIT place 0 0 within
+      | inr beyond ↦ get_or-eq_default (replicate {A = ℕ} MARKETS_LIMIT 0) 0 {n = place} (omega (arith, length-replicate {A = ℕ} MARKETS_LIMIT 0))
     ]
 
 -- one more market of the last list stands twice if any did, or if it stood before
 twice-more : (lists : List (List (List ℕ))) (markets : List (List ℕ)) (market : List ℕ)
     → has_twice (all_markets (lists ++ (markets ++ market ∷ []) ∷ []))
     ≡ (has_twice (all_markets (lists ++ markets ∷ [])) || has_market (all_markets (lists ++ markets ∷ [])) market)
-twice-more lists markets market =
-    rw (all_markets-push lists (markets ++ market ∷ []), all_markets-push lists markets, ← append_assoc (all_markets lists) markets (market ∷ []))
-    (has_twice-push (all_markets lists ++ markets) market)
+twice-more lists markets market = grind (arith, all_markets-push, append_assoc, has_twice-push)
 
 -- the market at hand, which no list has, is noted
 pub noted-more : (lists : List (List (List ℕ))) (markets : List (List ℕ)) (market : List ℕ) (noted : List ℕ)
-    → AreNoted (lists ++ markets ∷ []) noted → IsMarket market → place_of market < length noted
-    → get_or noted (place_of market) 0 ≡ 0
+    → AreNoted (lists ++ markets ∷ []) noted → IsMarket market → place_of market < MARKETS_LIMIT → get_or noted (place_of market) 0 ≡ 0
     → AreNoted (lists ++ (markets ++ market ∷ []) ∷ []) (set noted (place_of market) (length lists + 1))
 noted-more lists markets market noted are is within free = record {
+  long = length-set noted (place_of market) (length lists + 1) ∙ are.long;
   once = rw (twice-more, are.once) (market-absent (lists ++ markets ∷ []) market
       (λ party. are.parties market party is ∙ rw free (ne_eqb 0 (party + 1) (λ e. absurd (omega arith)))));
-  parties = λ other party is_other. rw served-push (by other party (party == length lists) refl is_other);
+  parties = λ other party is_other.
+      let before = are.parties other party is_other in
+      rw served-more (elim (cases_eq (place_of other) (place_of market)) [
+        | inl same ↦ grind (arith, nat_tests, same-market other market is_other is same, before, free, get_or-set_same, are.long, nat_list_eq_equiv.refl market)
+        | inr apart ↦ grind (arith, before, get_or-set_other, (bytes_eq-Decides market other).0)
+      ]);
 }
-  where
-    -- the market itself, and another
-    itself : (party : ℕ) (b : Bool) → (party == length lists) ≡ b → has_market (cond b markets (served_by lists party)) market ≡ (0 == (party + 1))
-        → has_market (cond b (markets ++ market ∷ []) (served_by lists party)) market ≡ ((length lists + 1) == (party + 1))
-    itself party b e before =
-        grind (arith, e, before, list_any-append (λ m. bytes_eq m market) markets (market ∷ []), nat_list_eq_equiv.refl market)
-
-    another : (other : List ℕ) (party noted_at : ℕ) (b : Bool) → bytes_eq market other ≡ false
-        → has_market (cond b markets (served_by lists party)) other ≡ (noted_at == (party + 1))
-        → has_market (cond b (markets ++ market ∷ []) (served_by lists party)) other ≡ (noted_at == (party + 1))
-    another other party noted_at b apart before =
-        grind (arith, apart, before, list_any-append (λ m. bytes_eq m other) markets (market ∷ []))
-
-    by : (other : List ℕ) (party : ℕ) (b : Bool) → (party == length lists) ≡ b → IsMarket other
-        → has_market (cond b (markets ++ market ∷ []) (served_by lists party)) other
-        ≡ (get_or (set noted (place_of market) (length lists + 1)) (place_of other) 0 == (party + 1))
-    by other party b e is_other =
-        let before = rw (served-push, e) at (are.parties other party is_other) in
-        elim (cases_eq (place_of other) (place_of market)) [
-          | inl same ↦
-              let equal = same-market other market is_other is same in
-              rw (equal, get_or-set_same noted (place_of market) (length lists + 1) 0 within) (itself party b e (rw (equal, free) at before))
-          | inr apart ↦
-              let differs : bytes_eq market other ≡ false =
-              elim (cases_Bool (bytes_eq market other)) [ inl e ↦ absurd (apart (ap place_of (sym ((bytes_eq-Decides market other).0 e)))) | inr e ↦ e ] in
-              rw (get_or-set_other noted (place_of market) (place_of other) (length lists + 1) 0 apart)
-              (another other party (get_or noted (place_of other) 0) b differs before)
-        ]
 
 -- the market at hand was noted, so it stands twice
 pub noted-twice : (lists : List (List (List ℕ))) (markets : List (List ℕ)) (market : List ℕ) (noted : List ℕ)
@@ -133,21 +107,17 @@ pub noted-twice : (lists : List (List (List ℕ))) (markets : List (List ℕ)) (
 noted-twice lists markets market noted are is taken =
     let party = get_or noted (place_of market) 0 - 1 in
     let here = are.parties market party is ∙ eq-eqb _ (party + 1) (omega arith) in
-    rw (twice-more, are.once) (market-among (lists ++ markets ∷ []) party market here)
+    grind (arith, twice-more lists markets market, market-among (lists ++ markets ∷ []) party market here)
 
 -- what a front of the last list has twice, all lists have twice
 pub twice-front : (lists : List (List (List ℕ))) (markets : List (List ℕ)) (i : ℕ)
     → has_twice (all_markets (lists ++ take i markets ∷ [])) ≡ true → has_twice (all_markets (lists ++ markets ∷ [])) ≡ true
-twice-front lists markets i twice =
-    let longer = has_twice-longer (all_markets lists ++ take i markets) (drop i markets) (rw (all_markets-push lists (take i markets)) at twice) in
-    rw (all_markets-push lists markets) (rw (append_assoc (all_markets lists) (take i markets) (drop i markets), take-append-drop i markets) at longer)
+twice-front lists markets i twice = grind (arith, all_markets-push, append_assoc, take-append-drop i markets, has_twice-longer (all_markets lists ++ take i markets) (drop i markets))
 
 -- what the first lists have twice, all lists have twice
 pub twice-first : {V : Type 0} (items : V → List (List ℕ)) (lists : List V) (i : ℕ)
     → has_twice (all_markets (map items (take i lists))) ≡ true → has_twice (all_markets (map items lists)) ≡ true
-twice-first items lists i twice =
-    ap (λ l. has_twice (all_markets (map items l))) (sym (take-append-drop i lists))
-    ∙ rw (map-append items) (twice-longer (map items (take i lists)) (map items (drop i lists)) twice)
+twice-first items lists i twice = grind (arith, take-append-drop i lists, map-append items (take i lists) (drop i lists), twice-longer (map items (take i lists)) (map items (drop i lists)))
 
 -- the markets of one more list, and how many lists those are
 pub lists-more : {V : Type 0} (items : V → List (List ℕ)) (lists : List V) (i : ℕ) (d : V) → i < length lists

@@ -1,6 +1,5 @@
 -- The parties that serve markets.
-use Rattle.std.proofs.Common.{◌≡◌, ℕ, zero, suc, ◌+◌, ◌<◌, true, false, ◌||◌, ◌&&◌, List, [], ◌∷◌, ◌++◌, length, take, get_or, Option, refl, arith}
-use Rattle.std.specs.Prelude.{nat_lt, bytes_eq}
+use Rattle.std.proofs.Common.{◌≡◌, ℕ, zero, suc, ◌+◌, ◌<◌, true, false, ◌||◌, ◌&&◌, List, [], ◌∷◌, ◌++◌, length, take, get_or, Option, refl, arith, nat_lt, bytes_eq}
 use Rattle.mv_hub.proofs.Words.{has_market, is_found, list_any-append, nat_list_eq_equiv, nat_tests, served_by, serves_one, take_more}
 
 -- who serves a market is a party
@@ -29,5 +28,4 @@ pub serves_more : (parties : List (List (List ℕ))) (markets : List (List ℕ))
     → ((nat_lt party (length parties) && serves_one (served_by parties party) (take i markets)) || is_found found party)
     ≡ (nat_lt party (length parties) && serves_one (served_by parties party) (take (i + 1) markets))
 serves_more parties markets i market party found lt at is =
-    let known = server_is_party parties party market in
-    rw (take_more markets i market lt, ← at, serves_one-push (served_by parties party) (take i markets) market) (grind (arith, is, known, nat_tests))
+    grind (arith, nat_tests, is, at, take_more markets i market lt, serves_one-push (served_by parties party) (take i markets) market, server_is_party parties party market)

@@ -1,5 +1,5 @@
 -- What one more entry at the end of a record changes.
-use Rattle.std.proofs.Common.{◌≡◌, ℕ, ◌&&◌, false, List, [], ◌∷◌, ◌++◌, eqb, sym, refl, ap, ◌∙◌, append_assoc, append-nil, arith}
+use Rattle.std.proofs.Common.{◌≡◌, ℕ, ◌&&◌, false, List, [], ◌∷◌, ◌++◌, eqb, refl, append_assoc, append-nil, arith}
 use Rattle.mv_hub.proofs.Words.{Closed, Entry, Message, Routed, is_open, routed_from}
 use Rattle.mv_hub.specs.Links.{gained, link_items_after, link_items}
 
@@ -15,19 +15,14 @@ is_open-append (entry ∷ before) after from to = grind (arith, is_open-append b
 link_items_after-append : (parties : List (List (List ℕ))) (before entries more : List Entry) (from to : ℕ)
     → link_items_after parties before (entries ++ more) from to
     ≡ link_items_after parties before entries from to ++ link_items_after parties (before ++ entries) more from to
-link_items_after-append parties before [] more from to =
-    ap (λ b. link_items_after parties b more from to) (sym (append-nil before))
-link_items_after-append parties before (e ∷ entries) more from to =
-    rw (link_items_after-append parties (before ++ e ∷ []) entries more from to, append_assoc before (e ∷ []) entries)
-    (sym (append_assoc (gained parties before e from to) _ _))
+link_items_after-append parties before [] more from to = grind (arith, append-nil)
+link_items_after-append parties before (e ∷ entries) more from to = grind (arith, link_items_after-append parties (before ++ e ∷ []) entries more from to, append_assoc)
 
 -- one more entry puts on a link just what it gains
 pub link_items-push : (parties : List (List (List ℕ))) (entries : List Entry) (entry : Entry) (from to : ℕ)
     → link_items parties (entries ++ entry ∷ []) from to ≡ link_items parties entries from to ++ gained parties entries entry from to
 unfolding link_items
-link_items-push parties entries entry from to =
-    link_items_after-append parties [] entries (entry ∷ []) from to
-    ∙ ap (λ l. link_items_after parties [] entries from to ++ l) (append-nil (gained parties entries entry from to))
+link_items-push parties entries entry from to = grind (arith, link_items_after-append parties [] entries (entry ∷ []) from to, append-nil)
 
 -- a routed message of another party puts nothing on the link
 pub gained_other : (parties : List (List (List ℕ))) (before : List Entry) (sender k : ℕ) (message : Message) (from to : ℕ)

@@ -1,18 +1,17 @@
 -- The search for the batches that chains of links lead to.
 use Rattle.std.proofs.Common.{◌≡◌, ◌<◌, ◌≤◌, ◌+◌, ℕ, Bool, true, false, cond, List, [], ◌∷◌, ◌++◌, length, get_or, take, take_all, Contains, ◌↔◌, ◌⊎◌, inl, inr, subst, sym, refl, ap, ◌∙◌, arith, append_assoc, length-append}
-use Rattle.mv_hub.proofs.Words.{BatchKey, Contains-append_left, Contains-from_any, Contains-push, Contains-push_cases, Gathers, IsChain, IsReachedFrom, is_same_batch, list_any, take-append-le, take_more, with_link}
+use Rattle.indexmap.specs.IndexSet.{insert_key}
+use Rattle.mv_hub.proofs.Words.{BatchKey, Contains-append_left, Contains-from_any, Contains-push, Contains-push_cases, Gathers, IsChain, IsReachedFrom, is_same_batch, list_any, take-append-le, take_more}
 use Rattle.mv_hub.proofs.ListingLemmas.{batch-same}
 
 none-in : (batch : BatchKey) → Contains [] batch → ⊥
 none-in batch (k, below, at) = omega (arith, below)
 
 pub one-more : (xs : List BatchKey) (x batch : BatchKey) → Contains (xs ++ x ∷ []) batch ↔ (Contains xs batch ⊎ (x ≡ batch))
-one-more xs x batch = (
-  Contains-push_cases xs x batch,
-  elim [ inl h ↦ Contains-append_left xs (x ∷ []) batch h | inr e ↦ subst (Contains (xs ++ x ∷ [])) e (Contains-push xs x) ],
-)
+one-more xs x batch =
+    (Contains-push_cases xs x batch, elim [ inl h ↦ Contains-append_left xs (x ∷ []) batch h | inr e ↦ subst (Contains (xs ++ x ∷ [])) e (Contains-push xs x) ])
 
-pub one-link : (xs : List BatchKey) (x batch : BatchKey) → Contains (with_link xs x) batch ↔ (Contains xs batch ⊎ (x ≡ batch))
+pub one-link : (xs : List BatchKey) (x batch : BatchKey) → Contains (insert_key is_same_batch xs x) batch ↔ (Contains xs batch ⊎ (x ≡ batch))
 one-link xs x batch = by (list_any (is_same_batch x) xs) refl
   where
     by : (b : Bool) → list_any (is_same_batch x) xs ≡ b → Contains (cond b xs (xs ++ x ∷ [])) batch ↔ (Contains xs batch ⊎ (x ≡ batch))
@@ -20,7 +19,7 @@ one-link xs x batch = by (list_any (is_same_batch x) xs) refl
     by false e = one-more xs x batch
 
 -- one more batch was
-pub gathers_more : (old more now : List BatchKey) (x : BatchKey) → Gathers old more now → Gathers old (more ++ x ∷ []) (with_link now x)
+pub gathers_more : (old more now : List BatchKey) (x : BatchKey) → Gathers old more now → Gathers old (more ++ x ∷ []) (insert_key is_same_batch now x)
 gathers_more old more now x gathers = record {
   behind = by (list_any (is_same_batch x) now);
   members = λ batch. grind (arith, one-link now x batch, one-more more x batch, gathers.members batch);
@@ -42,7 +41,7 @@ pub searching_start : (links : BatchKey → List BatchKey) (batch : BatchKey) (r
     → IsSearching links batch 0 reached
 searching_start links batch reached gathers = record {
   sound = λ other h. elim ((gathers.members other).0 h) [ inl h ↦ absurd (none-in other h) | inr h ↦ ([], h) ];
-  begun = λ other h. (gathers.members other).1 (inr h);
+  begun = λ other. grind (arith, gathers.members other);
   closed = λ from other h. absurd (none-in from h);
   within = omega arith;
 }
@@ -64,18 +63,14 @@ searching_more links batch next reached new current search below at gathers = re
         let chain = search.sound current (next, below, at) in
         (chain.0 ++ current ∷ [], chain-more links batch chain.0 current other chain.1 h)
   ];
-  begun = λ other h. (gathers.members other).1 (inl (search.begun other h));
-  closed = λ from other h linked. elim (Contains-push_cases (take next reached) current from (subst (λ l. Contains l from) front h)) [
-    | inl h ↦ (gathers.members other).1 (inl (search.closed from other h linked))
-    | inr e ↦ (gathers.members other).1 (inr (subst (λ b. Contains (links b) other) (sym e) linked))
-  ];
+  begun = λ other. grind (arith, gathers.members other, search.begun other);
+  closed = λ from other h linked.
+      grind (arith, linked, gathers.members other, search.closed from other, Contains-push_cases (take next reached) current from (subst (λ l. Contains l from) front h));
   within = omega (arith, ap length gathers.behind.1, length-append reached gathers.behind.0);
 }
   where
     front : take (next + 1) new ≡ take next reached ++ current ∷ []
-    front =
-        ap (take (next + 1)) gathers.behind.1 ∙ take-append-le (next + 1) reached gathers.behind.0 (omega arith)
-        ∙ take_more reached next current below ∙ ap (λ b. take next reached ++ b ∷ []) at
+    front = grind (arith, gathers.behind.1, take-append-le (next + 1) reached gathers.behind.0, take_more reached next current below, at)
 
 -- where each batch that was reached was looked at, all were reached
 pub searching_end : (links : BatchKey → List BatchKey) (batch : BatchKey) (next : ℕ) (reached : List BatchKey)

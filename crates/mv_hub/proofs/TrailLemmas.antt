@@ -1,7 +1,7 @@
 -- What one more entry changes in what the record says of products and batches.
-use Rattle.std.proofs.Common.{◌≡◌, ℕ, List, [], ◌∷◌, ◌++◌, Option, Some, None, refl, sym, ap, ◌∙◌, arith}
-use Rattle.std.specs.Prelude.{option_to_list}
-use Rattle.mv_hub.proofs.Words.{AreTables, BatchKey, Entry, LinkTable, Listing, catalogue_in, filter_map-append, is_same_listing, last_or, last_product, link_in, linked_in, linked_to, listing_equiv, option_or, product_in, with_listing, with_product}
+use Rattle.std.proofs.Common.{◌≡◌, ℕ, List, [], ◌∷◌, ◌++◌, Option, Some, None, refl, arith}
+use Rattle.std.specs.Prelude.{option_to_list, unwrap_or}
+use Rattle.mv_hub.proofs.Words.{AreTables, BatchKey, Entry, LinkTable, Listing, catalogue_in, filter_map-append, is_same_listing, last_or, last_product, link_in, linked_in, linked_to, listing_equiv, catalogue_after, option_or, product_in, no_catalogue}
 use Rattle.mv_message.specs.declared.message.Product.{Product}
 use Rattle.mv_hub.specs.declared.catalogue.Catalogue.{Catalogue}
 use Rattle.mv_hub.specs.Catalogue.{catalogue_with, listing_in, batches_of}
@@ -10,7 +10,7 @@ use Rattle.mv_hub.proofs.ListingLemmas.{listing-same, add_to, distinct-named}
 -- an empty record says nothing
 pub tables_none : AreTables [] [] []
 unfolding last_product batches_of linked_to
-tables_none = record { are_catalogues = λ gtin. refl; are_links = refl }
+tables_none = record { are_catalogues = λ gtin. refl; are_links = λ batch. refl }
 
 last_or-append : {A : Type 0} (o : Option A) (xs ys : List A) → last_or o (xs ++ ys) ≡ last_or (last_or o xs) ys
 last_or-append o [] ys = refl
@@ -20,8 +20,7 @@ last_or-append o (x ∷ xs) ys = last_or-append (Some x) xs ys
 last_product-push : (entries : List Entry) (entry : Entry) (gtin : List ℕ)
     → last_product (entries ++ entry ∷ []) gtin ≡ option_or (product_in gtin entry) (last_product entries gtin)
 unfolding last_product
-last_product-push entries entry gtin =
-    grind (arith, filter_map-append (product_in gtin) entries (entry ∷ []), last_or-append {A = Product})
+last_product-push entries entry gtin = grind (arith, filter_map-append (product_in gtin) entries (entry ∷ []), last_or-append {A = Product})
 
 batches-push : (entries : List Entry) (entry : Entry) (gtin : List ℕ)
     → batches_of (entries ++ entry ∷ []) gtin ≡ add_to is_same_listing (batches_of entries gtin) (listing_in gtin entry)
@@ -36,9 +35,7 @@ links-push entries entry batch = grind (arith, filter_map-append (link_in batch)
 -- what is known of a product once an entry gives it a description or a batch
 abbrev pub known : Option Catalogue → Option Product → Option Listing → Option Catalogue
 known catalogue None None = catalogue
-known catalogue (Some product) None = Some (with_product catalogue product)
-known catalogue None (Some listing) = Some (with_listing catalogue listing)
-known catalogue (Some product) (Some listing) = Some (with_listing (Some (with_product catalogue product)) listing)
+known catalogue product listing = Some (catalogue_after (unwrap_or catalogue no_catalogue) product listing)
 
 known-with : (old product : Option Product) (batches : List Listing) (listing : Option Listing)
     → known (catalogue_with old batches) product listing ≡ catalogue_with (option_or product old) (add_to is_same_listing batches listing)
@@ -49,10 +46,5 @@ pub tables-push : (entries : List Entry) (entry : Entry) (old new : List (List �
     → ((gtin : List ℕ) → catalogue_in new gtin ≡ known (catalogue_in old gtin) (product_in gtin entry) (listing_in gtin entry))
     → ((batch : BatchKey) → linked_in new_links batch ≡ linked_in old_links batch ++ option_to_list (link_in batch entry))
     → AreTables entries old old_links → AreTables (entries ++ entry ∷ []) new new_links
-tables-push entries entry old new old_links new_links products links tables = record {
-  are_catalogues = λ gtin. products gtin
-      ∙ rw (tables.are_catalogues gtin, last_product-push entries entry gtin, batches-push entries entry gtin)
-      (known-with (last_product entries gtin) (product_in gtin entry) (batches_of entries gtin) (listing_in gtin entry));
-  are_links = λ i batch. (links batch ∙ ap (λ links. links batch ++ option_to_list (link_in batch entry)) tables.are_links
-      ∙ sym (links-push entries entry batch)) i;
-}
+tables-push entries entry old new old_links new_links products links tables =
+    grind (arith, last_product-push, batches-push, links-push, known-with)

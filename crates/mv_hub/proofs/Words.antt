@@ -1,19 +1,19 @@
 -- The names of the library, of the definitions, and of the crates below that the proofs cite, passed on from one place. Declares nothing.
 pub use Rattle.mv_hub.specs.BatchLinks.{IsAscendingList, IsChain, IsReachedFrom, batch_cmp, link_in}
 unfoldable pub use Rattle.mv_hub.specs.BatchLinks.{linked_to}
-pub use Rattle.mv_hub.specs.Gains.{IsRouting, PushesItems, PushesRow, carried_by, gain_of}
-pub use Rattle.mv_hub.specs.Kept.{AreLinks, AreOpen, AreTables, Carries, IsKept, link_at, sent_table}
+pub use Rattle.mv_hub.specs.Gains.{IsRouting, PushesItems, PushesRow, carried_by, gain_of, receipt_to}
+pub use Rattle.mv_hub.specs.Kept.{AreTables, Carries, IsKept, link_at, sent_table}
 pub use Rattle.mv_hub.specs.Listing.{Listing, distinct, is_same_listing}
 pub use Rattle.mv_hub.specs.MarketTables.{AreNoted, is_found}
 pub use Rattle.mv_hub.specs.Parties.{all_markets, has_market, has_twice, served_by, serves_one}
 pub use Rattle.mv_hub.specs.Record.{is_open, product_in, product_of, routed_count, routed_from}
 unfoldable pub use Rattle.mv_hub.specs.Record.{last_product}
-pub use Rattle.mv_hub.specs.Tables.{Gathers, LinkTable, catalogue_in, linked_in, listing_equiv, with_link, with_listing, with_product}
+pub use Rattle.mv_hub.specs.Tables.{Gathers, LinkTable, catalogue_after, catalogue_in, linked_in, listing_equiv, no_catalogue}
 pub use Rattle.mv_hub.specs.declared.entry.Entry.{Entry}
 pub use Rattle.mv_hub.specs.declared.entry.Entry.TheVariants.{Closed, Routed}
 pub use Rattle.mv_link.proofs.CallerLemmas.{find-none_at, find-those, listed-in}
 pub use Rattle.mv_link.specs.PartySets.{has_party, no_parties, parties_in}
-pub use Rattle.mv_link.specs.Sending.{HasRoom, IsWindow, Sending, new_sending}
+pub use Rattle.mv_link.specs.Sending.{HasRoom, Sending, new_sending}
 pub use Rattle.mv_link.specs.declared.item.Item.{Item}
 pub use Rattle.mv_link.specs.declared.party_set.PartySet.{PartySet}
 pub use Rattle.mv_message.specs.declared.message.Message.{Message}

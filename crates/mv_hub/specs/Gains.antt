@@ -26,13 +26,9 @@ receipt_to routing to =
 abbrev pub carried_by : Routing → Item
 carried_by routing = Carried routing.k routing.stamp routing.message.now
 
--- the item, on the link to a party that is reached
-abbrev pub carried_to : Routing → ℕ → List Item
-carried_to routing to = if has_party routing.reached to then carried_by routing ∷ [] else []
-
--- what a link to a party gains: the receipt, and then the item
+-- what a link to a party gains: the receipt, and then the item, where the party is reached
 abbrev pub gain_of : Routing → ℕ → List Item
-gain_of routing to = receipt_to routing to ++ carried_to routing to
+gain_of routing to = receipt_to routing to ++ (if has_party routing.reached to then carried_by routing ∷ [] else [])
 
 -- these items were pushed on a sending end, and nothing else changed
 pub record PushesItems (items : List Item) (old new : Sending) : Type 0 where

@@ -1,8 +1,8 @@
 -- What the tables of the hub hold by its record, and how an entry changes them: words of the inside.
 use Rattle.std.specs.Prelude.{List, [], ◌∷◌, ◌++◌, ◌≡◌, ◌↔◌, ◌⊎◌, Contains, Option, Some, None, if◌then◌else◌, ℕ, bytes_eq}
-use Rattle.mv_hub.specs.Words.{BatchKey, Product, is_same_batch, list_any, nat_list_eq_equiv}
+use Rattle.mv_hub.specs.Words.{BatchKey, Message, Product, Upload, is_same_batch, list_any, nat_list_eq_equiv}
 use Rattle.std.specs.Map.{lookup}
-use Rattle.std.specs.Option.{option_map_or}
+use Rattle.std.specs.Option.{option_map_or, option_or}
 use Rattle.std.specs.declared.alloc.Global.{Global}
 use Rattle.std.specs.declared.vec.Vec.{Vec}
 use Rattle.mv_hub.specs.declared.catalogue.Catalogue.{Catalogue}
@@ -17,27 +17,29 @@ LinkTable = List (BatchKey × Vec BatchKey Global)
 abbrev pub linked_in : LinkTable → BatchKey → List BatchKey
 linked_in table batch = option_map_or (λ batches. batches.items) (lookup (is_same_batch batch) table) []
 
--- one more batch after, unless it is there
-abbrev pub with_link : List BatchKey → BatchKey → List BatchKey
-with_link batches batch = if list_any (is_same_batch batch) batches then batches else batches ++ batch ∷ []
-
 -- more batches were put behind those of a list, each unless it was there
 pub record Gathers (old more new : List BatchKey) : Type 0 where
   pub behind : (rest : List BatchKey) × (new ≡ old ++ rest)
   pub members : (batch : BatchKey) → Contains new batch ↔ (Contains old batch ⊎ Contains more batch)
 
--- a product is known from now on
-abbrev pub with_product : Option Catalogue → Product → Catalogue
-with_product None product = record { product = Some product; batches = [] }
-with_product (Some catalogue) product = record { product = Some product; batches = catalogue.batches }
+-- nothing is known of a product
+abbrev pub no_catalogue : Catalogue
+no_catalogue = record { product = None; batches = [] }
 
--- one more listing, unless it is there
-abbrev pub with_listing : Option Catalogue → Listing → Catalogue
-with_listing None listing = record { product = None; batches = listing ∷ [] }
-with_listing (Some catalogue) listing = record {
-  product = catalogue.product;
-  batches = if list_any (is_same_listing listing) catalogue.batches then catalogue.batches else catalogue.batches ++ listing ∷ [];
-}
+-- the batch and its expiry that a message lists: those of an upload
+abbrev pub listing_of : Message → Option Listing
+listing_of (Upload gtin batch expiry national serials) = Some (batch, expiry)
+listing_of message = None
+
+-- one more listing, where there is one, unless it is there
+abbrev pub with_listing : List Listing → Option Listing → List Listing
+with_listing listings None = listings
+with_listing listings (Some listing) = if list_any (is_same_listing listing) listings then listings else listings ++ listing ∷ []
+
+-- what is known of a product once a message gives it a description or lists a batch of it
+abbrev pub catalogue_after : Catalogue → Option Product → Option Listing → Catalogue
+catalogue_after catalogue product listing =
+    record { product = option_or product catalogue.product; batches = with_listing catalogue.batches listing }
 
 -- what a table says of a product
 abbrev pub catalogue_in : List (List ℕ × Catalogue) → List ℕ → Option Catalogue

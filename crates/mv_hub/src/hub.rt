@@ -160,7 +160,7 @@ impl Hub {
         ensures { IfOk result (λ list.
             IsAscendingList list.items (Contains (linked_to self.now.entries batch.now))) }
     {
-        self.trail.batch_links().linked(batch)
+        self.trail.linked(batch)
     }
 
     /// The batches that descend from a batch: those to which a chain of one or more links leads from it, ascending and each
@@ -169,6 +169,6 @@ impl Hub {
         ensures { IfOk result (λ list.
             IsAscendingList list.items (IsDescendant self.now.entries batch.now)) }
     {
-        self.trail.batch_links().descendants(batch)
+        self.trail.descendants(batch)
     }
 }

@@ -21,9 +21,7 @@
 //! ```
 #![tactic(auto)]
 
-mod batch_links;
 mod catalogue;
-mod catalogues;
 mod entry;
 mod fault;
 mod hub;

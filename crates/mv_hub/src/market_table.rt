@@ -1,8 +1,8 @@
 //! The party of each market. It is found by the place of the market, with no search and no memory.
 
-ghost use Rattle.std.specs.Prelude.{◌≡◌, ◌<◌, ◌≤◌, ℕ, List, map, length, true, MatchOption};
+ghost use Rattle.std.specs.Prelude.{◌≡◌, ◌≤◌, ℕ, List, map, length, true, MatchOption};
 ghost use Rattle.mv_hub.specs.Parties.{has_market, has_twice, served_by, all_markets};
-ghost use Rattle.mv_hub.specs.MarketTables.{is_found, AreNoted, AddsMarkets};
+ghost use Rattle.mv_hub.specs.MarketTables.{is_found, AreNoted};
 
 use mv_link::PARTIES_LIMIT;
 use mv_message::Party;
@@ -23,32 +23,18 @@ impl MarketTable {
             (has_twice (all_markets (map (λ list. list.items) lists.now)) ≡ true)
             (λ table. AreNoted (map (λ list. list.items) lists.now) table.noted) }
     {
-        let mut table = MarketTable {
-            noted: [0; MARKETS_LIMIT],
-        };
+        let mut noted = [0; MARKETS_LIMIT];
         for party in 0..lists.len() {
-            if !table.add(lists[party].as_slice(), party as u8) {
-                return None;
+            let markets = lists[party].as_slice();
+            for market in markets {
+                let place = market.place();
+                if noted[place] != 0 {
+                    return None;
+                }
+                noted[place] = party as u8 + 1;
             }
         }
-        Some(table)
-    }
-
-    /// Notes a party, the next one, as that of these markets, unless one of them stands twice.
-    fn add(&mut self, markets: &[Market], party: u8) -> bool
-        requires { party < PARTIES_LIMIT }
-        ensures { (lists : List (List (List ℕ))) → length lists ≡ party
-            → AreNoted lists self.old.noted
-            → AddsMarkets lists markets.now self.new.noted result }
-    {
-        for market in markets {
-            let place = market.place();
-            if self.noted[place] != 0 {
-                return false;
-            }
-            self.noted[place] = party + 1;
-        }
-        true
+        Some(MarketTable { noted })
     }
 
     /// The party that serves a market, if one does.

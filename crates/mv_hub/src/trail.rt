@@ -2,30 +2,34 @@
 //! walks the record.
 
 ghost use Rattle.std.specs.Prelude.{◌≡◌, ◌++◌, ◌∷◌, [], List, OnOk, OnErr};
-ghost use Rattle.std.specs.Option.{option_copied};
+ghost use Rattle.mv_pack.specs.declared.key.BatchKey.{BatchKey as ABatch};
 ghost use Rattle.mv_hub.specs.declared.entry.Entry.{Entry as AnEntry};
-ghost use Rattle.mv_hub.specs.Catalogue.{catalogue_of};
-ghost use Rattle.mv_hub.specs.BatchLinks.{linked_to};
 ghost use Rattle.mv_hub.specs.Tables.{linked_in};
 ghost use Rattle.mv_hub.specs.Kept.{AreTables};
 
-use crate::batch_links::BatchLinks;
-use crate::catalogues::Catalogues;
-use crate::{Catalogue, Entry};
+use crate::Entry;
+use crate::trail::batch_links::add_link;
+use crate::trail::catalogues::{Listed, note};
+use indexmap::IndexMap;
 use mv_message::Message;
-use mv_pack::Gtin;
+use mv_pack::{BatchKey, Gtin};
 use std::alloc::{AllocError, Global};
 use std::marker::Model;
+
+mod batch_links;
+mod catalogues;
 
 /// The record and its tables. Contracts see the record, the oldest entry first.
 #[derive(Drop)]
 pub(crate) struct AuditTrail {
+    /// Where the tables get their memory.
+    alloc: Global,
     /// The record, the oldest entry first.
     entries: Vec<Entry>,
-    /// What it says of each product.
-    catalogues: Catalogues,
-    /// What it says of the batches that were repackaged.
-    batch_links: BatchLinks,
+    /// What it says of each product, by its code.
+    catalogues: IndexMap<Gtin, Listed>,
+    /// The batches after of each batch before, in the order of their links.
+    batch_links: IndexMap<BatchKey, Vec<BatchKey>>,
 }
 
 impl Model for AuditTrail {
@@ -37,7 +41,8 @@ impl Model for AuditTrail {
 
     ghost view = { λ a. a.entries.items };
 
-    ghost invariant = { λ a. AreTables a.entries.items a.catalogues a.batch_links };
+    ghost invariant = { λ a. AreTables
+        a.entries.items a.catalogues.entries a.batch_links.entries };
 }
 
 impl AuditTrail {
@@ -47,9 +52,10 @@ impl AuditTrail {
         ensures { result ≡ [] }
     {
         AuditTrail {
+            alloc,
             entries: Vec::new(alloc),
-            catalogues: Catalogues::new(alloc),
-            batch_links: BatchLinks::new(alloc),
+            catalogues: IndexMap::new(alloc),
+            batch_links: IndexMap::new(alloc),
         }
     }
 
@@ -60,27 +66,18 @@ impl AuditTrail {
         self.entries.as_slice()
     }
 
-    /// What the record says of a product.
-    pub(crate) fn catalogue(&self, gtin: &Gtin) -> Option<&Catalogue>
-        ensures { option_copied result ≡ catalogue_of self.now gtin.now }
-    {
-        self.catalogues.get(gtin)
-    }
-
-    /// What the record says of the batches that were repackaged.
-    pub(crate) fn batch_links(&self) -> &BatchLinks
-        ensures { linked_in result.now ≡ linked_to self.now }
-    {
-        &self.batch_links
-    }
-
     /// Puts an entry at the end of the record. Where memory is refused nothing has changed.
     pub(crate) fn push(&mut self, entry: Entry) -> Result<(), AllocError>
         ensures ok { OnOk result (self.new ≡ self.old ++ entry ∷ []) }
         ensures err { OnErr result (self.new ≡ self.old) }
     {
         self.entries.reserve(1)?;
-        add_to_tables(&mut self.catalogues, &mut self.batch_links, &entry)?;
+        add_to_tables(
+            self.alloc,
+            &mut self.catalogues,
+            &mut self.batch_links,
+            &entry,
+        )?;
         // Nothing fails from here on.
         self.entries.push_reserved(entry);
         Ok(())
@@ -89,28 +86,27 @@ impl AuditTrail {
 
 /// Puts into the tables what an entry says. Where memory is refused neither has changed.
 fn add_to_tables(
-    catalogues: &mut Catalogues,
-    batch_links: &mut BatchLinks,
+    alloc: Global,
+    catalogues: &mut IndexMap<Gtin, Listed>,
+    batch_links: &mut IndexMap<BatchKey, Vec<BatchKey>>,
     entry: &Entry,
 ) -> Result<(), AllocError>
     ensures ok { OnOk result ((entries : List AnEntry)
-        → AreTables entries catalogues.old batch_links.old
-        → AreTables (entries ++ entry.now ∷ []) catalogues.new batch_links.new) }
-    ensures catalogues { OnErr result (catalogues.new ≡ catalogues.old) }
-    ensures links { OnErr result (linked_in batch_links.new ≡ linked_in batch_links.old) }
+        → AreTables entries catalogues.old.entries batch_links.old.entries
+        → AreTables (entries ++ entry.now ∷ []) catalogues.new.entries batch_links.new.entries) }
+    ensures catalogues { OnErr result (catalogues.new.entries ≡ catalogues.old.entries) }
+    ensures links { OnErr result ((batch : ABatch) → linked_in batch_links.new.entries batch
+        ≡ linked_in batch_links.old.entries batch) }
 {
     let Entry::Routed { message, .. } = entry else {
         return Ok(());
     };
     match message.get() {
-        Message::Master { gtin, .. } => catalogues.set_master(*gtin, message)?,
-        Message::Upload {
-            gtin,
-            batch,
-            expiry,
-            ..
-        } => catalogues.add_batch(*gtin, batch, *expiry)?,
-        Message::Repack { before, after, .. } => batch_links.add(before.get(), after.get())?,
+        Message::Master { gtin, .. } => note(alloc, catalogues, *gtin, message)?,
+        Message::Upload { gtin, .. } => note(alloc, catalogues, *gtin, message)?,
+        Message::Repack { before, after, .. } => {
+            add_link(alloc, batch_links, before.get(), after.get())?
+        }
         // No other message says anything of what a product is, of its batches or of links.
         _ => {}
     }

@@ -1,6 +1,5 @@
 -- Lemmas on links.
-use Rattle.std.proofs.Common.{◌≡◌, ℕ, ◌+◌, ◌-◌, List, [], ◌∷◌, ◌++◌, length, take, drop, refl, sym, ◌∙◌, ap, arith, append_assoc, append-nil, length-append, Bool, true, false, cond, drop-cons}
-use Rattle.std.specs.Prelude.{Some, slice_get, All, ◌==◌}
+use Rattle.std.proofs.Common.{◌≡◌, ℕ, ◌+◌, ◌-◌, List, [], ◌∷◌, ◌++◌, length, take, drop, refl, sym, ◌∙◌, ap, arith, append_assoc, append-nil, length-append, Bool, true, false, cond, drop-cons, Some, slice_get, All, ◌==◌}
 use Rattle.std.proofs.lemmas.List.{take-append-drop}
 use Rattle.std.proofs.lemmas.List.Elements.{All-tail}
 use Rattle.std.proofs.lemmas.Bool.{eqb-true}
@@ -20,16 +19,12 @@ pub pushed : (sending : Sending) (list : List Item) (item : Item) → EndsWithHe
     → EndsWithHeld (with_item sending item) (list ++ item ∷ [])
 pushed sending list item e =
     let more = sending.held ++ item ∷ [] in
-    let cut = length more - sending.window in record {
-      front = e.front ++ take cut more;
-      whole = ap (λ l. l ++ item ∷ []) e.whole ∙ append_assoc e.front sending.held (item ∷ []) ∙ ap (λ l. e.front ++ l) (sym (take-append-drop cut more)) ∙ sym (append_assoc e.front (take cut more) (drop cut more));
-      count = rw length-append (omega (arith, e.count));
-    }
+    let cut = length more - sending.window in
+    record { front = e.front ++ take cut more; whole = grind (arith, e.whole, append_assoc, take-append-drop cut more); count = rw length-append (omega (arith, e.count)) }
 
 -- a frame of a list is one of a longer list
 pub of_longer : (list more : List Item) (frame : Frame) → IsFrameOf list frame → IsFrameOf (list ++ more) frame
-of_longer list more frame of =
-    (of.0, slice_get-append_left list more (frame.number - 1) (slice_get_within list (frame.number - 1) frame.item of.1) ∙ of.1)
+of_longer list more frame of = grind (arith, slice_get-append_left, slice_get_within)
 
 -- the member at a place stands first in what is left from there on
 member_first : (list : List Item) (place : ℕ) (item : Item) → slice_get list place ≡ Some item → drop place list ≡ item ∷ drop (place + 1) list
@@ -72,5 +67,4 @@ next-number count number next = grind (arith, nat_tests)
 -- the next frame makes one more
 pub accepts_next : (count more : ℕ) → more ≡ count + 1 → AcceptsNext count more
 accepts_next count more is frames frame counted stands =
-    let taken = (one_more frames frame).next (omega (arith, next-number count frame.number stands, counted)) in
-    omega (arith, ap length taken, length-append (accepted frames) (frame.item ∷ []), counted, is)
+    grind (arith, (one_more frames frame).next, next-number count frame.number stands, length-append (accepted frames) (frame.item ∷ []))

@@ -1,6 +1,5 @@
 -- Searches and filters over the numbers below a count.
-use Rattle.std.proofs.Common.{◌≡◌, ℕ, zero, suc, ◌+◌, ◌-◌, ◌<◌, ◌≤◌, Bool, true, false, not, ◌&&◌, List, [], ◌∷◌, ◌++◌, None, inl, inr, refl, ap, ◌∙◌, arith, zero-add, append-nil}
-use Rattle.std.specs.Prelude.{filter, find, ◌==◌}
+use Rattle.std.proofs.Common.{◌≡◌, ℕ, zero, suc, ◌+◌, ◌-◌, ◌<◌, ◌≤◌, Bool, true, false, not, ◌&&◌, List, [], ◌∷◌, ◌++◌, None, inl, inr, refl, ap, arith, zero-add, append-nil, filter, find, ◌==◌}
 use Rattle.std.specs.List.{range_with_len}
 use Rattle.std.specs.List.Sorted.{IsStrictlyIncreasing}
 use Rattle.std.proofs.lemmas.Bool.{eq-eqb, ne_eqb, cases_eq}
@@ -12,15 +11,11 @@ use Rattle.mv_link.specs.PartySets.{those}
 -- so many numbers, and then more
 pub range-append : (a m n : ℕ) → range_with_len a (m + n) ≡ range_with_len a m ++ range_with_len (a + m) n
 range-append a zero n = rw (zero-add n) (ap (λ b. range_with_len b n) (omega arith))
-range-append a (suc m) n =
-    let count : suc m + n ≡ suc (m + n) = omega arith in
-    let place : a + 1 + m ≡ a + suc m = omega arith in
-    rw count (ap (λ l. a ∷ l) (range-append (a + 1) m n ∙ ap (λ b. range_with_len (a + 1) m ++ range_with_len b n) place))
+range-append a (suc m) n = let count : suc m + n ≡ suc (m + n) = omega arith in grind (arith, range-append (a + 1) m n)
 
 -- the numbers below a count that pass ascend
 pub increasing-those : (xs : List ℕ) (p : ℕ → Bool) (n : ℕ) → xs ≡ those p n → IsStrictlyIncreasing xs
-increasing-those xs p n e =
-    rw e (IsStrictlyIncreasing-filter p (range_with_len 0 n) (λ k lt. grind (arith, get_or-range_with_len, length-range_with_len)))
+increasing-those xs p n e = grind (arith, IsStrictlyIncreasing-filter, get_or-range_with_len, length-range_with_len)
 
 none-from : (p : ℕ → Bool) (a m i : ℕ) → find p (range_with_len a m) ≡ None → a ≤ i → i < a + m → p i ≡ false
 none-from p a zero i none from upto = absurd (omega arith)
@@ -37,14 +32,12 @@ passing p a m = filter p (range_with_len a m)
 -- two tests that agree pass the same
 pub passing-agree : (p q : ℕ → Bool) (a m : ℕ) → ((x : ℕ) → a ≤ x → x < a + m → p x ≡ q x) → passing p a m ≡ passing q a m
 passing-agree p q a zero agree = refl
-passing-agree p q a (suc m) agree =
-    rw (agree a (omega arith) (omega arith), passing-agree p q (a + 1) m (λ x low high. agree x (omega arith) (omega arith)))
+passing-agree p q a (suc m) agree = grind (arith, passing-agree p q (a + 1) m (λ x low high. agree x (omega arith) (omega arith)))
 
 -- where none passes
 pub passing-none : (p : ℕ → Bool) (a m : ℕ) → ((x : ℕ) → a ≤ x → x < a + m → p x ≡ false) → passing p a m ≡ []
 passing-none p a zero none = refl
-passing-none p a (suc m) none =
-    rw (none a (omega arith) (omega arith)) (passing-none p (a + 1) m (λ x low high. none x (omega arith) (omega arith)))
+passing-none p a (suc m) none = grind (arith, passing-none p (a + 1) m (λ x low high. none x (omega arith) (omega arith)))
 
 -- the first that passes, and the others
 pub passing-first : (p q : ℕ → Bool) (a m first : ℕ) → a ≤ first → first < a + m → p first ≡ true → ((x : ℕ) → x < first → p x ≡ false)
@@ -64,10 +57,7 @@ pub those-within : (p q : ℕ → Bool) (n m : ℕ) → n ≤ m → ((x : ℕ) �
     → those p m ≡ those q n
 those-within p q n m le same none =
     let whole : m ≡ n + (m - n) = omega arith in
-    let split = ap (λ k. those p k) whole ∙ ap (filter p) (range-append 0 n (m - n)) ∙ filter-append p (range_with_len 0 n) (range_with_len (0 + n) (m - n)) in
-    let first = passing-agree p q 0 n (λ x low high. same x (omega arith)) in
-    let rest = passing-none p (0 + n) (m - n) (λ x low high. none x (omega arith)) in
-    split ∙ rw (first, rest) (append-nil (those q n))
+    grind (arith, range-append, filter-append, passing-agree, passing-none, append-nil)
 
 -- a search among those that pass a test finds what a search among all does, where no other can be found
 pub find-those : (p q : ℕ → Bool) (n : ℕ) → ((x : ℕ) → x < n → q x ≡ false → p x ≡ false) → find p (those q n) ≡ find p (range_with_len 0 n)

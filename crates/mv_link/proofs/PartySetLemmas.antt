@@ -1,9 +1,8 @@
 -- Sets of parties, by the bits of their words.
-use Rattle.std.proofs.Common.{◌≡◌, ℕ, ◌-◌, ◌*◌, ◌^◌, ◌/◌, ◌%◌, ◌<◌, ◌≤◌, min, max, Bool, true, false, not, ◌&&◌, ◌||◌, [], ◌∷◌, length, w64, bit_and, bit_or, refl, ap, arith, inl, inr}
-use Rattle.std.specs.Prelude.{◌==◌}
+use Rattle.std.proofs.Common.{◌≡◌, ℕ, ◌-◌, ◌*◌, ◌^◌, ◌/◌, ◌%◌, ◌<◌, ◌≤◌, min, max, Bool, true, false, not, ◌&&◌, ◌||◌, [], ◌∷◌, length, w64, bit_and, bit_or, refl, arith, inl, inr, ◌==◌}
 use Rattle.std.specs.Int.{bit_at, trailing_zeros}
 use Rattle.std.specs.List.{range_with_len}
-use Rattle.std.proofs.lemmas.Bool.{cases_eq, cases_lt, eq-eqb, ne_eqb}
+use Rattle.std.proofs.lemmas.Bool.{cases_eq, cases_lt, eq-eqb}
 use Rattle.std.proofs.lemmas.Bool.Decides.{nat_tests}
 use Rattle.std.proofs.lemmas.Nat.{and_le_l}
 use Rattle.std.proofs.lemmas.Nat.Bits.{bit_at-lt, bit_at-zero, bit_at_and, bit_at_or, bit_at_above, bit_at_set_same, bit_at_set_other, bit_at_clear_same, bit_at_clear_other, bit_at-trailing_zeros, bit_at_ones, shr_and_one}
@@ -24,45 +23,34 @@ either-bit x y p q = grind (arith, nat_tests)
 pub has_and : (a b : PartySet) (party : ℕ)
     → has_party (record { bits = bit_and a.bits b.bits }) party ≡ (has_party a party && has_party b party)
 unfolding has_party
-has_and a b party =
-    rw (bit_at_and a.bits b.bits party) (both-bits _ _ (bit_at-lt a.bits party) (bit_at-lt b.bits party))
+has_and a b party = grind (arith, bit_at_and, both-bits, bit_at-lt)
 
 pub has_or : (a b : PartySet) (party : ℕ)
     → has_party (record { bits = bit_or a.bits b.bits }) party ≡ (has_party a party || has_party b party)
 unfolding has_party
-has_or a b party =
-    rw (bit_at_or a.bits b.bits party) (either-bit _ _ (bit_at-lt a.bits party) (bit_at-lt b.bits party))
+has_or a b party = grind (arith, bit_at_or, either-bit, bit_at-lt)
 
 pub has_with : (set : PartySet) (party other : ℕ) → party < 64
     → has_party (record { bits = bit_or set.bits (1 * 2 ^ party % 2 ^ 64) }) other ≡ (has_party set other || (other == party))
 unfolding has_party
-has_with set party other lt = elim (cases_eq other party) [
-  | inl same ↦ rw (same, bit_at_set_same w64 set.bits party lt, eq-eqb party party refl) (grind arith)
-  | inr apart ↦ rw (bit_at_set_other w64 set.bits party lt other apart, ne_eqb other party apart) (grind arith)
-]
+has_with set party other lt = grind (arith, cases_eq other party, bit_at_set_same w64 set.bits party lt, bit_at_set_other w64 set.bits party lt other)
 
 pub has_without : (set : PartySet) (party other : ℕ) → party < 64 → set.bits < 2 ^ 64
     → has_party (record { bits = bit_and set.bits (2 ^ 64 - 1 - 1 * 2 ^ party % 2 ^ 64) }) other
     ≡ (has_party set other && not (other == party))
 unfolding has_party
-has_without set party other lt fits = elim (cases_eq other party) [
-  | inl same ↦ rw (same, bit_at_clear_same w64 set.bits party lt, eq-eqb party party refl) (grind arith)
-  | inr apart ↦ elim (cases_lt other 64) [
-    | inl within ↦ rw (bit_at_clear_other w64 set.bits party lt other within apart, ne_eqb other party apart) (grind arith)
-    | inr beyond ↦
-        let less : bit_and set.bits (2 ^ 64 - 1 - 1 * 2 ^ party % 2 ^ 64) < 2 ^ 64 =
-        omega (arith, and_le_l set.bits (2 ^ 64 - 1 - 1 * 2 ^ party % 2 ^ 64)) in
-        rw (bit_at_above _ 64 other less beyond, bit_at_above set.bits 64 other fits beyond)
-  ]
+has_without set party other lt fits = elim (cases_lt other 64) [
+  | inl within ↦ grind (arith, cases_eq other party, bit_at_clear_same w64 set.bits party lt, bit_at_clear_other w64 set.bits party lt other within)
+  | inr beyond ↦
+      let mask = 2 ^ 64 - 1 - 1 * 2 ^ party % 2 ^ 64 in
+      rw (bit_at_above (bit_and set.bits mask) 64 other (omega (arith, and_le_l set.bits mask)) beyond, bit_at_above set.bits 64 other fits beyond)
 ]
 
 -- the least party of a set that is not empty
 pub first_in : (set : PartySet) → 0 < set.bits → set.bits < 2 ^ 64
     → (trailing_zeros w64 set.bits < 64) × (has_party set (trailing_zeros w64 set.bits) ≡ true)
 unfolding has_party
-first_in set some fits =
-    let found = bit_at-trailing_zeros w64 set.bits some fits in
-    (found.0, eq-eqb _ 1 found.1)
+first_in set some fits = grind (arith, bit_at-trailing_zeros w64 set.bits some fits)
 
 -- and the list of the set without it
 pub rest_in : (set rest : PartySet) → 0 < set.bits → set.bits < 2 ^ 64
@@ -71,8 +59,7 @@ pub rest_in : (set rest : PartySet) → 0 < set.bits → set.bits < 2 ^ 64
 unfolding has_party parties_in
 rest_in set rest some fits without =
     let found = bit_at-trailing_zeros w64 set.bits some fits in
-    passing-first _ _ 0 64 (trailing_zeros w64 set.bits) (omega arith) found.0 (eq-eqb _ 1 found.1)
-    (λ x below. ap (λ b. b == 1) (found.2 x below)) without
+    passing-first _ _ 0 64 (trailing_zeros w64 set.bits) (omega arith) found.0 (eq-eqb _ 1 found.1) (λ x below. grind (arith, found.2 x below)) without
 
 -- a word without bits
 pub none_in : (set : PartySet) → set.bits ≡ 0 → parties_in set ≡ []

@@ -1,75 +1,48 @@
 -- Reads of a table that was written: what the proofs of other crates cite of tables.
-use Rattle.std.proofs.Common.{◌≡◌, ◌≢◌, ℕ, zero, suc, ◌<◌, List, [], ◌∷◌, length, map, get_or, set, sym, refl, ap, ◌∙◌, subst, arith, ◌⊎◌, inl, inr, get_or-set_same, get_or-set_other, length-set}
-use Rattle.std.proofs.lemmas.Bool.{cases_eq, cases_lt}
+use Rattle.std.proofs.lemmas.Grind.{common_steps}
+use Rattle.std.proofs.Common.{◌≡◌, ◌≢◌, ℕ, zero, suc, ◌<◌, List, [], ◌∷◌, length, map, get_or, set, sym, refl, ap, ◌∙◌, subst, arith, ◌⊎◌, get_or-set_same, get_or-set_other, rules, replicate}
 use Rattle.std.proofs.lemmas.List.Elements.{All-nil}
 use Rattle.std.proofs.lemmas.List.{get_or_past, get_or_default, set_past, get_or-replicate, length-replicate, set-get_or, length-map, map-set}
 use Rattle.std.proofs.Math.ListN.{get_or-map}
 use Rattle.std.specs.List.{All}
-use Rattle.std.specs.Prelude.{replicate}
 use Rattle.mv_pairs.specs.Pairs.{cell, put, IsSquare}
 
 -- what holds at each place, and of the new value at its own, holds at each place after the write
 pub put-each : {A : Type 0} (P : ℕ → A → Type 0) (xs : List A) (i : ℕ) (v d : A) → P i v → ((j : ℕ) → P j (get_or xs j d)) → (j : ℕ) → P j (get_or (set xs i v) j d)
-put-each P xs i v d new old j =
-    let here : P i (get_or (set xs i v) i d) =
-    elim (cases_lt i (length xs)) as (λ _. P i (get_or (set xs i v) i d)) [
-      | inl lt ↦ subst (P i) (sym (get_or-set_same xs i v d lt)) new
-      | inr ge ↦ subst (λ l. P i (get_or l i d)) (sym (set_past xs i v ge)) (old i)
-    ] in
-    elim (cases_eq j i) as (λ _. P j (get_or (set xs i v) j d)) [
-      | inl e ↦ subst (λ u. P u (get_or (set xs i v) u d)) (sym e) here
-      | inr ne ↦ subst (P j) (sym (get_or-set_other xs i j v d ne)) (old j)
-    ]
+put-each P xs i v d new old j = grind (arith, get_or-set_same, set_past, get_or-set_other)
 
 -- the same for the pairs of a table
 pub put-each_pair : {A : Type 0} (P : ℕ → ℕ → A → Type 0) (t : List (List A)) (s r : ℕ) (v d : A) → P s r v → ((i j : ℕ) → P i j (cell t i j d)) → (i j : ℕ) → P i j (cell (put t s r v) i j d)
-put-each_pair P t s r v d new old i =
-    put-each (λ k row. (j : ℕ) → P k j (get_or row j d)) t s (set (get_or t s []) r v) [] (put-each (P s) (get_or t s []) r v d new (old s)) old i
+put-each_pair P t s r v d new old i = grind (arith, common_steps)
 
 pub cell-put_same : {A : Type 0} (n : ℕ) (t : List (List A)) (s r : ℕ) (v d : A) → IsSquare n t → s < n → r < n → cell (put t s r v) s r d ≡ v
-cell-put_same n t s r v d h p q =
-    let row : r < length (get_or t s []) = subst (λ k. r < k) (sym (h.row s p)) q in
-    ap (λ l. get_or l r d) (get_or-set_same t s (set (get_or t s []) r v) [] (subst (λ k. s < k) (sym h.rows) p))
-    ∙ get_or-set_same (get_or t s []) r v d row
+cell-put_same n t s r v d h p q = grind (arith, get_or-set_same)
 
 pub cell-put_other : {A : Type 0} (t : List (List A)) (s r i j : ℕ) (v d : A) → (i ≢ s) ⊎ (j ≢ r) → cell (put t s r v) i j d ≡ cell t i j d
-cell-put_other t s r i j v d h =
-    put-each_pair (λ i j w. (i ≢ s) ⊎ (j ≢ r) → w ≡ cell t i j d) t s r v d (elim [ inl ne ↦ absurd (ne refl) | inr ne ↦ absurd (ne refl) ]) (λ i j _. refl) i j h
+cell-put_other t s r i j v d h = grind (arith, common_steps)
 
 pub square-put : {A : Type 0} (n : ℕ) (t : List (List A)) (s r : ℕ) (v : A) → IsSquare n t → IsSquare n (put t s r v)
-square-put n t s r v h = record {
-  rows = length-set t s (set (get_or t s []) r v) ∙ h.rows;
-  row = put-each (λ i row. i < n → length row ≡ n) t s (set (get_or t s []) r v) [] (λ p. length-set (get_or t s []) r v ∙ h.row s p) h.row;
-}
+square-put n t s r v h = search rules
 
 pub square-replicate : {A : Type 0} (n : ℕ) (v : A) → IsSquare n (replicate n (replicate n v))
-square-replicate n v = record {
-  rows = length-replicate n (replicate n v);
-  row = λ s p. ap length (get_or-replicate n s (replicate n v) [] p) ∙ length-replicate n v;
-}
+square-replicate n v = search (length-replicate, get_or-replicate)
 
 -- one value of a table, through a function of each
 pub cell-map : {A B : Type 0} (f : A → B) (t : List (List A)) (s r : ℕ) (d : A) → cell (map (map f) t) s r (f d) ≡ f (cell t s r d)
 cell-map f t s r d = ap (λ row. get_or row r (f d)) (get_or-map (map f) t s []) ∙ get_or-map f (get_or t s []) r d
 
 pub put-map : {A B : Type 0} (f : A → B) (t : List (List A)) (s r : ℕ) (v : A) → map (map f) (put t s r v) ≡ put (map (map f) t) s r (f v)
-put-map f t s r v =
-    map-set (map f) t s (set (get_or t s []) r v)
-    ∙ ap (set (map (map f) t) s) (map-set f (get_or t s []) r v ∙ ap (λ row. set row r (f v)) (sym (get_or-map (map f) t s [])))
+put-map f t s r v = grind (arith, common_steps, map-set)
 
 pub put-cell : {A : Type 0} (t : List (List A)) (s r : ℕ) (d : A) → put t s r (cell t s r d) ≡ t
 put-cell t s r d = ap (set t s) (set-get_or (get_or t s []) r d) ∙ set-get_or t s []
 
 -- a write that a function doesn't see
 pub put-map_same : {A B : Type 0} (f : A → B) (t : List (List A)) (s r : ℕ) (v d : A) → f v ≡ f (cell t s r d) → map (map f) (put t s r v) ≡ map (map f) t
-put-map_same f t s r v d e =
-    put-map f t s r v ∙ ap (put (map (map f) t) s r) (e ∙ sym (cell-map f t s r d)) ∙ put-cell (map (map f) t) s r (f d)
+put-map_same f t s r v d e = cc (put-map f t s r v, cell-map f t s r d, put-cell (map (map f) t) s r (f d))
 
 pub square-map : {A B : Type 0} (n : ℕ) (f : A → B) (t : List (List A)) → IsSquare n t → IsSquare n (map (map f) t)
-square-map n f t h = record {
-  rows = length-map t (map f) ∙ h.rows;
-  row = λ s p. ap length (get_or-map (map f) t s []) ∙ length-map (get_or t s []) f ∙ h.row s p;
-}
+square-map n f t h = record { rows = grind (arith, length-map); row = λ s p. ap length (get_or-map (map f) t s []) ∙ length-map (get_or t s []) f ∙ h.row s p }
 
 -- where f gives x at each value, the table of what f gives is full of x
 map-all : {A B : Type 0} (f : A → B) (x : B) (n : ℕ) (xs : List A) → length xs ≡ n → All (λ v. f v ≡ x) xs → map f xs ≡ replicate n x
@@ -95,10 +68,7 @@ put-read t s r v d e = ap (put t s r) e ∙ put-cell t s r d
 
 -- what holds of all values, and of the default, holds at each place
 pub read-any : {A : Type 0} (P : A → Type 0) (xs : List A) (i : ℕ) (d : A) → All P xs → P d → P (get_or xs i d)
-read-any P xs i d a p = elim (cases_lt i (length xs)) as (λ _. P (get_or xs i d)) [
-  | inl lt ↦ a i d lt
-  | inr ge ↦ subst P (sym (get_or_past xs i d ge)) p
-]
+read-any P xs i d a p = grind (arith, get_or_past)
 
 pub cell-any : {A : Type 0} (P : A → Type 0) (t : List (List A)) (s r : ℕ) (d : A) → All (All P) t → P d → P (cell t s r d)
 cell-any P t s r d a p = read-any P (get_or t s []) r d (read-any (All P) t s [] a (All-nil P)) p

@@ -1,6 +1,5 @@
 -- The answers among what a party submits are those that its repository's log calls for.
-use Rattle.std.proofs.Common.{◌≡◌, ℕ, false, List, [], ◌∷◌, ◌++◌, sym, refl, ap, ◌∙◌, append_assoc, append-nil, arith}
-use Rattle.std.specs.Prelude.{option_to_list}
+use Rattle.std.proofs.Common.{◌≡◌, ℕ, false, List, [], ◌∷◌, ◌++◌, sym, refl, ap, ◌∙◌, append_assoc, append-nil, arith, option_to_list}
 use Rattle.mv_message.specs.declared.message.Message.{Message}
 use Rattle.mv_message.specs.Kinds.{is_query_or_answer}
 use Rattle.mv_link.specs.declared.item.Item.{Item}
@@ -26,16 +25,9 @@ called_for log sender item = grind arith
 
 answers_from-push : (before log : List LogEntry) (entry : LogEntry) → answers_from before (log ++ entry ∷ []) ≡ answers_from before log ++ option_to_list (answer_to (before ++ log) entry)
 answers_from-push before [] entry = append-nil (option_to_list (answer_to before entry)) ∙ ap (λ b. option_to_list (answer_to b entry)) (sym (append-nil before))
-answers_from-push before (x ∷ log) entry =
-    ap (λ l. option_to_list (answer_to before x) ++ l) (answers_from-push (before ++ x ∷ []) log entry)
-    ∙ sym (append_assoc (option_to_list (answer_to before x)) (answers_from (before ++ x ∷ []) log) (option_to_list (answer_to ((before ++ x ∷ []) ++ log) entry)))
-    ∙ ap (λ b. (option_to_list (answer_to before x) ++ answers_from (before ++ x ∷ []) log) ++ option_to_list (answer_to b entry)) (append_assoc before (x ∷ []) log)
+answers_from-push before (x ∷ log) entry = grind (arith, answers_from-push (before ++ x ∷ []) log entry, append_assoc)
 
 -- an entry is applied, and the answer that it calls for is submitted
 pub answers_in-applied : (messages : List Message) (log : List LogEntry) (entry : LogEntry) → answers_in messages ≡ answers_of log
     → answers_in (messages ++ option_to_list (answer_to log entry)) ≡ answers_of (log ++ entry ∷ [])
-answers_in-applied messages log entry same =
-    answers_in-append messages (option_to_list (answer_to log entry))
-    ∙ ap (λ l. answers_in messages ++ l) (called_for log entry.sender entry.item)
-    ∙ ap (λ l. l ++ option_to_list (answer_to log entry)) same
-    ∙ sym (answers_from-push [] log entry)
+answers_in-applied messages log entry same = grind (arith, answers_in-append, called_for, answers_from-push [] log entry)

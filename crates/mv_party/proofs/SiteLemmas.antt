@@ -1,7 +1,6 @@
 -- What a party keeps with one more submission, and with one more item of its repository.
-use Rattle.std.proofs.Common.{◌≡◌, ℕ, ◌+◌, ◌<◌, ◌≤◌, ◌≢◌, Bool, false, List, [], ◌∷◌, ◌++◌, length, cond, set, get_or, length-set, eqb, Option, Some, None, Ok, refl, ◌∙◌, arith, length-append}
+use Rattle.std.proofs.Common.{◌≡◌, ℕ, ◌+◌, ◌<◌, ◌≤◌, ◌≢◌, Bool, false, List, [], ◌∷◌, ◌++◌, length, cond, set, get_or, length-set, eqb, Option, Some, None, Ok, refl, arith, length-append, option_to_list}
 use Rattle.std.specs.List.{AllByRecursion}
-use Rattle.std.specs.Prelude.{option_to_list}
 use Rattle.std.proofs.lemmas.Bool.{cases_eq}
 use Rattle.std.proofs.lemmas.Grind.{elements}
 use Rattle.mv_message.specs.declared.message.Message.{Message}
@@ -25,10 +24,7 @@ items_from-push (x ∷ log) entry party = grind (arith, items_from-push log entr
 -- a party submitted a message that is no answer
 pub party-submitted : (count : ℕ) (submissions : List Message) (log : List LogEntry) (message : Message) → IsLawfulParty count submissions log
     → answers_in (message ∷ []) ≡ [] → IsLawfulParty count (submissions ++ message ∷ []) log
-party-submitted count submissions log message lawful none = record {
-  answered = answers_in-more submissions message none ∙ lawful.answered;
-  from_parties = lawful.from_parties;
-}
+party-submitted count submissions log message lawful none = grind (arith, answers_in-more)
 
 -- one more entry from a party
 from_parties-push : (count : ℕ) (log : List LogEntry) (entry : LogEntry) → AllByRecursion (λ (entry : LogEntry). entry.sender < count) log → entry.sender < count → AllByRecursion (λ (entry : LogEntry). entry.sender < count) (log ++ entry ∷ [])
@@ -38,20 +34,12 @@ from_parties-push count (x ∷ log) entry all from_party = (all.0, from_parties-
 -- its repository applied an entry, and it submitted the answer that this calls for, if it does
 pub party-applied : (count : ℕ) (submissions : List Message) (log : List LogEntry) (entry : LogEntry) → IsLawfulParty count submissions log
     → entry.sender < count → IsLawfulParty count (submissions ++ option_to_list (answer_to log entry)) (log ++ entry ∷ [])
-party-applied count submissions log entry lawful from_party = record {
-  answered = answers_in-applied submissions log entry lawful.answered;
-  from_parties = from_parties-push count log entry lawful.from_parties from_party;
-}
+party-applied count submissions log entry lawful from_party = grind (arith, answers_in-applied, from_parties-push)
 
 -- one more submission that is no answer
 pub submitted-kept : (site : SiteState) (accepted : List ℕ) (messages : List Message) (message : Message) → IsSite site accepted → length site.submissions < site.limit
     → answers_in (message ∷ []) ≡ [] → messages ≡ site.submissions ++ message ∷ [] → IsSite (record site { submissions = messages }) accepted
-submitted-kept site accepted messages message k room none more = rw more (record {
-  lawful = party-submitted site.parties site.submissions site.log message k.lawful none;
-  few = omega (arith, room, length-append site.submissions (message ∷ []));
-  limit = k.limit;
-  counts = k.counts;
-})
+submitted-kept site accepted messages message k room none more = grind (arith, party-submitted, length-append)
 
 -- where a party can submit, its uplink has room, and it may submit more
 pub ask-free : (full : Bool) (site : SiteState) → ask_fault full site ≡ None → (full ≡ false) × (length site.submissions ≢ site.limit)
@@ -69,8 +57,7 @@ answer-free full site answer free = grind (arith, free)
 pub answer-room : (full : Bool) (site : SiteState) (answer : Option Message) → length site.submissions ≤ site.limit → answer_fault full site answer ≡ None
     → length (site.submissions ++ option_to_list answer) ≤ site.limit
 answer-room full site None few free = omega (arith, few, length-append site.submissions [])
-answer-room full site (Some answer) few free =
-    omega (arith, few, (ask-free full site (answer-free full site answer free)).1, length-append site.submissions (answer ∷ []))
+answer-room full site (Some answer) few free = grind (arith, ask-free full site (answer-free full site answer free), length-append)
 
 -- where a call only tells of a fault, and tells of none, there is none
 no_fault : (fault : Option SiteFault) (done : Unit {0}) → Ok done ≡ unless_fault fault → fault ≡ None

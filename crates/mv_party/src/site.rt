@@ -173,17 +173,15 @@ impl Site {
         match self.look(sender, frame) {
             Look::Old => Ok(Taken::Old),
             Look::Gap { expected } => Ok(Taken::Gap { expected }),
-            Look::Next => {
-                prove!(frame.number <= u32::MAX);
-                self.apply_next(sender, &frame.item, uplink_full)
-            }
+            Look::Next => self.apply_next(sender, &frame.item, uplink_full),
         }
     }
 
     /// How a frame from a party stands to what was accepted from it. Nothing changes.
     pub fn look(&self, sender: Party, frame: &Frame) -> Look
         requires { sender < self.now.parties }
-        ensures { result ≡ look_at (count_from self.now.log sender) frame.now.number }
+        ensures value { result ≡ look_at (count_from self.now.log sender) frame.now.number }
+        ensures counted { result ≡ Next → count_from self.now.log sender < NUMBER_LIMIT }
     {
         self.accepted[sender as usize].look(frame)
     }

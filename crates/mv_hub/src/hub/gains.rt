@@ -4,7 +4,7 @@ ghost use Rattle.std.specs.Prelude.{◌≡◌, ◌<◌, ℕ, [], ◌∷◌, leng
 ghost use Rattle.mv_link.specs.Sending.{HasRoom};
 ghost use Rattle.mv_pairs.specs.Pairs.{IsSquare};
 ghost use Rattle.mv_link.specs.PartySets.{has_party, parties_in};
-ghost use Rattle.mv_hub.specs.Gains.{PushesItems, PushesRow, receipt_to, carried_to, gain_of};
+ghost use Rattle.mv_hub.specs.Gains.{PushesItems, PushesRow, receipt_to, gain_of};
 ghost use Rattle.mv_hub.specs.Targets.{is_query};
 ghost use Rattle.mv_hub.specs.Kept.{link_at};
 
@@ -52,40 +52,12 @@ fn put_receipt(links: &mut PairTable<Outgoing>, routing: &Routing<'_>)
     put_one(links.at_mut(routing.from, routing.from), receipt);
 }
 
-/// Pushes the message on the link to each party that it reaches.
-fn put_carried(
-    links: &mut PairTable<Outgoing>,
-    routing: &Routing<'_>,
-    mut shares: Vec<Shared<Message>>,
-)
-    requires square { IsSquare (length links.old) links.old }
-    requires from { routing.now.from < length links.old }
-    requires within { (to : ℕ) → has_party routing.now.reached to ≡ true → to < length links.old }
-    requires shares { shares.items
-        ≡ replicate (length (parties_in routing.now.reached)) routing.now.message.now }
-    requires room { (to : ℕ) → has_party routing.now.reached to ≡ true
-        → HasRoom (link_at links.old routing.now.from to) 1 }
-    ensures { PushesRow (length links.old) routing.now.from (carried_to routing.now)
-        links.old links.new }
-{
-    let mut rest = routing.reached;
-    while let Some(to) = rest.pop_first() {
-        let Some(message) = shares.pop() else {
-            // There is one for each party that is reached.
-            unreachable!();
-        };
-        let (k, stamp) = (routing.k, routing.stamp);
-        let item = Item::Carried { k, stamp, message };
-        put_one(links.at_mut(routing.from, to), item);
-    }
-}
-
 /// Pushes what a routing puts on the links of its sender: the receipt, and then the message for each party that it
 /// reaches.
 pub(super) fn put_gains(
     links: &mut PairTable<Outgoing>,
     routing: &Routing<'_>,
-    shares: Vec<Shared<Message>>,
+    mut shares: Vec<Shared<Message>>,
 )
     requires square { IsSquare (length links.old) links.old }
     requires from { routing.now.from < length links.old }
@@ -99,5 +71,14 @@ pub(super) fn put_gains(
         links.old links.new }
 {
     put_receipt(links, routing);
-    put_carried(links, routing, shares);
+    let mut rest = routing.reached;
+    while let Some(to) = rest.pop_first() {
+        let Some(message) = shares.pop() else {
+            // There is one for each party that is reached.
+            unreachable!();
+        };
+        let (k, stamp) = (routing.k, routing.stamp);
+        let item = Item::Carried { k, stamp, message };
+        put_one(links.at_mut(routing.from, to), item);
+    }
 }

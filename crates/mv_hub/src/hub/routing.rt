@@ -1,11 +1,11 @@
 //! How a message is routed. Only the links that gain something are looked at: those to the parties that it reaches, and
 //! that of its sender to itself.
 
-ghost use Rattle.std.specs.Prelude.{◌≡◌, ◌+◌, ◌<◌, ℕ, length, replicate, find, true, IfOk};
-ghost use Rattle.std.specs.Prelude.{OnOk, OnErr, None};
+ghost use Rattle.std.specs.Prelude.{◌≡◌, ◌+◌, ◌<◌, length, replicate};
+ghost use Rattle.std.specs.Prelude.{IfOk, OnOk, OnErr};
 ghost use Rattle.mv_hub.specs.Record.{routed_count};
 ghost use Rattle.mv_hub.specs.Targets.{reach};
-ghost use Rattle.mv_link.specs.PartySets.{has_party, parties_in};
+ghost use Rattle.mv_link.specs.PartySets.{parties_in};
 ghost use Rattle.mv_link.specs.Fault.{FailsBy};
 ghost use Rattle.mv_link.specs.declared.limits.TheConstants.{NUMBER_LIMIT};
 ghost use Rattle.mv_hub.specs.Hub.{is_busy, busy_party, route_fault, with_routed};
@@ -54,23 +54,6 @@ impl Hub {
         }
     }
 
-    /// The parties whose links gain something: those that the message reaches, and its sender, where its link to itself is
-    /// open. No other link is busy.
-    #[tactic(auto, using(crate::proofs::HubLemmas::reached_below))]
-    fn gaining(&self, routing: &Routing<'_>) -> PartySet
-        requires { IsRouting self.now routing.now }
-        ensures parties { (to : ℕ) → has_party result to ≡ true → to < length self.now.parties }
-        ensures busy { busy_party self.now routing.now.from routing.now.message.now
-            ≡ find (is_busy self.now routing.now.from routing.now.message.now)
-            (parties_in result) }
-    {
-        let from = routing.from;
-        if !self.open_links[from as usize].has(from) {
-            return routing.reached;
-        }
-        routing.reached.with(from)
-    }
-
     /// Whether a link has no room for what the routing puts on it.
     #[tactic(auto, using(crate::proofs::HubLemmas::length_next_items, crate::proofs::HubLemmas::busy_is))]
     fn is_busy(&self, routing: &Routing<'_>, to: Party) -> bool
@@ -83,42 +66,20 @@ impl Hub {
         !self.link(routing.from, to).room(count)
     }
 
-    /// The least party whose link has no room for what the routing puts on it.
+    /// The least party whose link has no room for what the routing puts on it. Only those are looked at that gain something:
+    /// the links to the parties that it reaches, and that of its sender to itself, where it is open.
     fn busy_party(&self, routing: &Routing<'_>) -> Option<Party>
         requires { IsRouting self.now routing.now }
         ensures { result ≡ busy_party self.now routing.now.from routing.now.message.now }
     {
-        let mut gaining = self.gaining(routing);
+        let own = self.open_links[routing.from as usize].and(PartySet::none().with(routing.from));
+        let mut gaining = routing.reached.or(own);
         while let Some(to) = gaining.pop_first() {
             if self.is_busy(routing, to) {
                 return Some(to);
             }
         }
         None
-    }
-
-    /// Puts the message into the record and the tables, and what its routing puts on links on these.
-    fn put_routed(
-        &mut self,
-        routing: &Routing<'_>,
-        shares: Vec<Shared<Message>>,
-    ) -> Result<(), AllocError>
-        requires routing { IsRouting self.old routing.now }
-        requires short_record { length self.old.entries < NUMBER_LIMIT }
-        requires room { busy_party self.old routing.now.from routing.now.message.now ≡ None }
-        requires shares { shares.items
-            ≡ replicate (length (parties_in routing.now.reached)) routing.now.message.now }
-        ensures ok { OnOk result
-            (self.new ≡ with_routed self.old routing.now.from routing.now.message.now) }
-        ensures err { OnErr result (self.new ≡ self.old) }
-    {
-        let (from, k) = (routing.from, routing.k);
-        let message = routing.message.share()?;
-        self.trail.push(Entry::Routed { from, k, message })?;
-        // Nothing fails from here on.
-        put_gains(&mut self.links, routing, shares);
-        self.routed_counts[from as usize] = k;
-        Ok(())
     }
 
     /// Routes the next message of a party: it goes into the record, a receipt of it onto the party's link to itself,
@@ -149,8 +110,12 @@ impl Hub {
             return Err(RouteFault::Busy(to));
         }
         let shares = shares_of(self.alloc, message, routing.reached)?;
-        self.put_routed(&routing, shares)?;
-        Ok((routing.k, Reached::of(routing.reached)))
+        let (k, message) = (routing.k, message.share()?);
+        self.trail.push(Entry::Routed { from, k, message })?;
+        // Nothing fails from here on.
+        put_gains(&mut self.links, &routing, shares);
+        self.routed_counts[from as usize] = k;
+        Ok((k, Reached::of(routing.reached)))
     }
 }
 

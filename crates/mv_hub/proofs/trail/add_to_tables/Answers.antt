@@ -1,6 +1,5 @@
-use Rattle.std.proofs.Common.{◌∙◌, refl, sym, ap, arith, append-nil}
-use Rattle.mv_hub.specs.Record.{product_of}
-use Rattle.mv_hub.proofs.ListingLemmas.{text-same, batch-same}
+use Rattle.std.proofs.Common.{refl, sym, arith, append-nil}
+use Rattle.mv_hub.proofs.ListingLemmas.{text-same}
 use Rattle.mv_hub.proofs.TrailLemmas.{tables-push}
 use Rattle.mv_hub.proofs.trail.add_to_tables.Goals as goal
 
@@ -8,26 +7,26 @@ pub returns-in_default-clause-ok : goal.returns-in_default-clause-ok
 returns-in_default-clause-ok c = λ entries tables.
     rw c.in_default.is (tables-push entries _ _ _ _ _ (λ gtin. refl) (λ batch. sym (append-nil _)) tables)
 
-pub returns-in_ok-set_master-in-Master-clause-ok : goal.returns-in_ok-set_master-in-Master-clause-ok
-returns-in_ok-set_master-in-Master-clause-ok c = λ entries tables.
+pub returns-in_ok-note-in-Master-clause-ok : goal.returns-in_ok-note-in-Master-clause-ok
+returns-in_ok-note-in-Master-clause-ok c = λ entries tables.
     let m = c.in-Master in
-    let updates = c.in_ok-set_master-in-Master.ensures.ok m.product (ap product_of (sym c.get.ensures ∙ m.is)) in
+    let updates = rw (← c.get.ensures, m.is) at c.in_ok-note-in-Master.ensures.ok in
     rw (c.in-Routed.is, ← c.get.ensures, m.is)
     (tables-push entries _ _ _ _ _ (λ gtin. grind (arith, updates gtin, text-same m.gtin gtin)) (λ batch. sym (append-nil _)) tables)
 
-pub returns-in_ok-add_batch-in-Upload-clause-ok : goal.returns-in_ok-add_batch-in-Upload-clause-ok
-returns-in_ok-add_batch-in-Upload-clause-ok c = λ entries tables.
+pub returns-in_ok-note-in-Upload-clause-ok : goal.returns-in_ok-note-in-Upload-clause-ok
+returns-in_ok-note-in-Upload-clause-ok c = λ entries tables.
     let m = c.in-Upload in
-    let updates = c.in_ok-add_batch-in-Upload.ensures.ok in
+    let updates = rw (← c.get.ensures, m.is) at c.in_ok-note-in-Upload.ensures.ok in
     rw (c.in-Routed.is, ← c.get.ensures, m.is)
     (tables-push entries _ _ _ _ _ (λ gtin. grind (arith, updates gtin, text-same m.gtin gtin)) (λ batch. sym (append-nil _)) tables)
 
-pub returns-in_ok-add-in-Repack-clause-ok : goal.returns-in_ok-add-in-Repack-clause-ok
-returns-in_ok-add-in-Repack-clause-ok c = λ entries tables.
+pub returns-in_ok-add_link-in-Repack-clause-ok : goal.returns-in_ok-add_link-in-Repack-clause-ok
+returns-in_ok-add_link-in-Repack-clause-ok c = λ entries tables.
     let m = c.in-Repack in
-    let updates = c.in_ok-add-in-Repack.ensures.ok in
+    let updates = c.in_ok-add_link-in-Repack.ensures.ok in
     rw (c.in-Routed.is, ← c.get.ensures, m.is)
-    (tables-push entries _ _ _ _ _ (λ gtin. refl) (λ batch. grind (arith, updates batch, batch-same m.before batch, append-nil)) tables)
+    (tables-push entries _ _ _ _ _ (λ gtin. refl) (λ batch. grind (arith, updates batch)) tables)
 
 pub returns-in_default-get-clause-ok : goal.returns-in_default-get-clause-ok
 returns-in_default-get-clause-ok c = λ entries tables.

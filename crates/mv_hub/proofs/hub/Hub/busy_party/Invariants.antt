@@ -1,5 +1,4 @@
-use Rattle.std.proofs.Common.{◌≡◌, ◌<◌, ℕ, true, length}
-use Rattle.std.specs.Prelude.{find}
+use Rattle.std.proofs.Common.{◌≡◌, ◌<◌, ℕ, true, length, find}
 use Rattle.mv_link.specs.PartySets.{has_party, parties_in}
 use Rattle.mv_hub.specs.Hub.{is_busy, busy_party}
 use Rattle.mv_hub.proofs.hub.Hub.busy_party.Given as goal

@@ -10,7 +10,7 @@ invariant_of-result c =
       c.in_ok-open_links.ensures.items_if_clones_equal (λ y e. e),
       count,
     )
-    (kept-new c.args.parties c.args.window c.all.result _ c.len-count.ensures.some c.len-count.ensures.few c.requires c.all.ensures
+    (kept-new c.args.parties c.args.window c.all.result _ c.len-count.ensures.some c.len-count.ensures.few c.all.ensures
     (rw count at c.in_ok-links.ensures.square) c.in_ok-links.ensures.each)
 
 pub returns : goal.returns

@@ -1,25 +1,45 @@
-use Rattle.std.proofs.Common.{◌+◌, ◌∙◌, ap}
-use Rattle.mv_hub.proofs.MarketTableLemmas.{noted-none, twice-first, lists-more, lists-count}
+use Rattle.std.proofs.Common.{◌+◌, ◌∙◌, take, map, ap, arith, take_all}
+use Rattle.std.proofs.lemmas.List.{take_more}
+use Rattle.mv_hub.proofs.MarketTableLemmas.{noted-none, noted-more, noted-twice, twice-front, twice-first, lists-more, lists-count}
 use Rattle.mv_hub.proofs.market_table.MarketTable.of.Goals as goal
 
 pub loop-party-init : goal.loop-party-init
-loop-party-init c = noted-none 676
+loop-party-init c = noted-none
 
-pub returns-then-not-add : goal.returns-then-not-add
-returns-then-not-add c =
+-- the market at hand has a party already
+pub returns-then-noted-place-ne0 : goal.returns-then-noted-place-ne0
+returns-then-noted-place-ne0 c =
     let lists = c.args.lists.now in
     let party = c.loop-party.party in
+    let i = c.loop-market.market-index in
+    let market = c.market-item.result in
+    let first = map (λ list. list.items) (take party lists) in
+    let markets = c.as_slice-markets.result.now in
+    let taken = rw c.place-place.ensures.value at c.if-noted-place-ne0.true in
+    let twice = noted-twice first (take i markets) market c.loop-market.noted c.loop-market.invariant c.place-place.ensures.market taken in
+    let front = take_more markets i market c.loop-market-test.true in
     let more = lists-more (λ list. list.items) lists party c.index-lists-party.result c.loop-party-test.true in
-    let count = lists-count (λ list. list.items) lists party c.loop-party-test.true in
-    let last = c.as_slice.ensures.value ∙ ap (λ v. v.items) c.index-lists-party.is in
+    let last = c.as_slice-markets.ensures.value ∙ ap (λ v. v.items) c.index-lists-party.is in
     twice-first (λ list. list.items) lists (party + 1)
-    (rw (more, ← last) ((c.add.ensures _ count c.loop-party.invariant).is_twice c.if-not-add.true))
+    (rw (more, ← last) (twice-front first markets (i + 1) (rw (front, ← c.market-item.is) twice)))
+
+pub loop-market-preserved : goal.loop-market-preserved
+loop-market-preserved c =
+    let party = c.loop-party.party in
+    let i = c.loop-market.market-index in
+    let market = c.market-item.result in
+    let first = map (λ list. list.items) (take party c.args.lists.now) in
+    let markets = c.as_slice-markets.result.now in
+    let count = lists-count (λ list. list.items) c.args.lists.now party c.loop-party-test.true in
+    rw (take_more markets i market c.loop-market-test.true, ← c.market-item.is, c.place-place.ensures.value)
+    (rw count at (noted-more first (take i markets) market c.loop-market.noted c.loop-market.invariant c.place-place.ensures.market
+    (rw c.place-place.ensures.value at c.place-place.ensures.within) (rw c.place-place.ensures.value at c.if-noted-place-ne0.false)))
 
 pub loop-party-preserved : goal.loop-party-preserved
 loop-party-preserved c =
     let lists = c.args.lists.now in
     let party = c.loop-party.party in
+    let markets = c.as_slice-markets.result.now in
     let more = lists-more (λ list. list.items) lists party c.index-lists-party.result c.loop-party-test.true in
-    let count = lists-count (λ list. list.items) lists party c.loop-party-test.true in
-    let last = c.as_slice.ensures.value ∙ ap (λ v. v.items) c.index-lists-party.is in
-    rw (more, ← last) ((c.add.ensures _ count c.loop-party.invariant).are_noted c.if-not-add.false)
+    let last = c.as_slice-markets.ensures.value ∙ ap (λ v. v.items) c.index-lists-party.is in
+    rw (more, ← last) (rw (take_all c.loop-market.market-index markets (omega (arith, c.loop-market-test.false))) at c.loop-market.invariant)

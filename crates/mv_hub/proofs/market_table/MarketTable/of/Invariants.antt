@@ -1,6 +1,9 @@
-use Rattle.std.proofs.Common.{map, take}
+use Rattle.std.proofs.Common.{◌++◌, ◌∷◌, [], map, take}
 use Rattle.mv_hub.specs.MarketTables.{AreNoted}
 use Rattle.mv_hub.proofs.market_table.MarketTable.of.Given as goal
 
 abbrev pub invariant-loop-party : goal.invariant-loop-party
-invariant-loop-party l = AreNoted (map (λ list. list.items) (take l.party l.lists)) l.table.noted
+invariant-loop-party l = AreNoted (map (λ list. list.items) (take l.party l.lists)) l.noted
+
+abbrev pub invariant-loop-market : goal.invariant-loop-market
+invariant-loop-market l = AreNoted (map (λ list. list.items) (take l.party l.lists) ++ take l.market-index l.markets ∷ []) l.noted

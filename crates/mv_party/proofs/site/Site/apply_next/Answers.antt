@@ -1,6 +1,5 @@
 -- The item, the answer and the count go in together.
-use Rattle.std.proofs.Common.{◌≡◌, ◌<◌, ◌+◌, ◌++◌, length, Ok, ap, sym, subst, ◌∙◌}
-use Rattle.std.specs.Prelude.{option_to_list}
+use Rattle.std.proofs.Common.{◌≡◌, ◌<◌, ◌+◌, ◌++◌, length, Ok, ap, sym, subst, ◌∙◌, option_to_list}
 use Rattle.std.proofs.lemmas.List.{get_or_read}
 use Rattle.mv_repository.specs.Query.{answer_to}
 use Rattle.mv_party.specs.Site.{SiteState, entry_from}

@@ -2,7 +2,7 @@ use Rattle.std.proofs.lemmas.List.Filters.{dedup_is}
 use Rattle.std.proofs.lemmas.List.Kept.{Contains-dedup, Contains-from_dedup, IsStrictlySortedBy-dedup}
 use Rattle.std.proofs.lemmas.List.Sorted.{Contains-permutation, IsPermutation-sym}
 use Rattle.mv_hub.proofs.ListingLemmas.{batch_order, batch_ties, batch_equivalence, batch-same}
-use Rattle.mv_hub.proofs.batch_links.ascending.Goals as goal
+use Rattle.mv_hub.proofs.trail.batch_links.ascending.Goals as goal
 
 pub returns : goal.returns
 returns c =

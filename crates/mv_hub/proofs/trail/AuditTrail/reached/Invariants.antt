@@ -1,10 +1,10 @@
 use Rattle.std.proofs.Common.{◌-◌}
-use Rattle.mv_hub.specs.Tables.{linked_in}
+use Rattle.mv_hub.specs.BatchLinks.{linked_to}
 use Rattle.mv_hub.proofs.SearchLemmas.{IsSearching}
-use Rattle.mv_hub.proofs.batch_links.BatchLinks.reached.Given as goal
+use Rattle.mv_hub.proofs.trail.AuditTrail.reached.Given as goal
 
 abbrev pub invariant-loop-next : goal.invariant-loop-next
-invariant-loop-next l = IsSearching (linked_in l.self) l.batch l.next l.reached.keys
+invariant-loop-next l = IsSearching (linked_to l.self) l.batch l.next l.reached.keys
 
 -- a set never has so many members
 abbrev pub decreases-loop-next : goal.decreases-loop-next

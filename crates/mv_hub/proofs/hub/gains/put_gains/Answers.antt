@@ -1,8 +1,14 @@
-use Rattle.std.proofs.Common.{◌∙◌, length, sym, ap}
-use Rattle.std.specs.Prelude.{replicate}
-use Rattle.mv_hub.proofs.Words.{and_parts, carried_by, new_sending, parties_in}
+use Rattle.std.proofs.Common.{◌∙◌, ◌++◌, length, sym, ap, append-nil, append_assoc, arith, replicate}
+use Rattle.mv_hub.proofs.Words.{Item, and_parts, carried_by, new_sending, parties_in, receipt_to}
 use Rattle.mv_hub.proofs.LinksLemmas.{row-same, row-one, row-then, carried-more, pop-equal}
-use Rattle.mv_hub.proofs.hub.gains.put_carried.Goals as goal
+use Rattle.mv_hub.proofs.hub.gains.put_gains.Goals as goal
+
+pub loop-to-init : goal.loop-to-init
+loop-to-init c = record {
+  row = row-same (λ to lt. grind (arith, append-nil {A = Item})) c.put_receipt.ensures;
+  left = λ to e. e;
+  each = c.requires.shares;
+}
 
 -- the least party of those that are left gets the message
 pub loop-to-preserved : goal.loop-to-preserved
@@ -18,7 +24,8 @@ loop-to-preserved c =
     let popped = pop-equal (length (parties_in left)) routing.message.now c.in-Some-pop.message c.pop.new.self.items shares in
     let pushed = rw (popped.1, ← c.at_mut.ensures.value (new_sending 0)) at c.put_one.ensures in
     record {
-      row = row-same (λ other lt. carried-more routing.reached c.loop-to.rest left (carried_by routing) to other here sets.1 (sets.2 other))
+      row = row-same (λ other lt. append_assoc (receipt_to routing other) _ _ ∙ ap (λ l. receipt_to routing other ++ l)
+          (carried-more routing.reached c.loop-to.rest left (carried_by routing) to other here sets.1 (sets.2 other)))
           (row-then before.row (row-one before.row.square c.requires.from (c.requires.within to here) pushed));
       left = λ other e. before.left other (and_parts _ _ (sym (sets.2 other) ∙ e)).0;
       each = popped.0;

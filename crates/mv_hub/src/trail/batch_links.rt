@@ -4,64 +4,42 @@ ghost use Rattle.std.specs.Prelude.{◌≡◌, ◌↔◌, ◌++◌, ◌∷◌, [
 ghost use Rattle.std.specs.Prelude.{if◌then◌else◌};
 ghost use Rattle.mv_pack.specs.declared.key.BatchKey.{BatchKey as ABatch};
 ghost use Rattle.mv_pack.specs.Keys.{is_same_batch};
-ghost use Rattle.mv_hub.specs.BatchLinks.{IsReachedFrom, IsAscendingList};
+ghost use Rattle.mv_hub.specs.BatchLinks.{linked_to, IsDescendant, IsAscendingList};
 ghost use Rattle.mv_hub.specs.Tables.{linked_in, Gathers};
 
+use crate::trail::AuditTrail;
 use indexmap::{IndexMap, IndexSet};
 use mv_pack::BatchKey;
 use std::alloc::{AllocError, Global};
-use std::marker::Model;
 
-/// The batches after of each batch, in the order of their links.
-#[derive(Drop)]
-pub(crate) struct BatchLinks {
-    /// Where the batches after of a new batch get their memory.
+/// A batch is linked to another from now on. Where memory is refused nothing has changed.
+pub(super) fn add_link(
     alloc: Global,
-    /// The batches after, by the batch before.
-    table: IndexMap<BatchKey, Vec<BatchKey>>,
+    links: &mut IndexMap<BatchKey, Vec<BatchKey>>,
+    before: &BatchKey,
+    after: &BatchKey,
+) -> Result<(), AllocError>
+    ensures ok { OnOk result ((other : ABatch) → linked_in links.new.entries other
+        ≡ linked_in links.old.entries other
+        ++ (if is_same_batch before.now other then after.now ∷ [] else [])) }
+    ensures err { OnErr result ((other : ABatch) → linked_in links.new.entries other
+        ≡ linked_in links.old.entries other) }
+{
+    if let Some(batches) = links.get_mut(before) {
+        return Ok(batches.push(after.copy())?);
+    }
+    let mut batches = Vec::new(alloc);
+    batches.push(after.copy())?;
+    links.insert(before.copy(), batches)?;
+    Ok(())
 }
 
-impl Model for BatchLinks {
-    ghost use Rattle.mv_hub.specs.Tables.{LinkTable};
-
-    ghost Value = { LinkTable };
-
-    ghost view = { λ b. b.table.entries };
-}
-
-impl BatchLinks {
-    /// No batch is linked to another.
-    pub(crate) fn new(alloc: Global) -> BatchLinks
-        ensures { result ≡ [] }
+impl AuditTrail {
+    /// The batches that are linked to a batch, in the order of their links.
+    fn links_of(&self, batch: &BatchKey) -> &[BatchKey]
+        ensures { result.now ≡ linked_to self.now batch.now }
     {
-        BatchLinks {
-            alloc,
-            table: IndexMap::new(alloc),
-        }
-    }
-
-    /// A batch is linked to another from now on. Where memory is refused nothing has changed.
-    pub(crate) fn add(&mut self, before: &BatchKey, after: &BatchKey) -> Result<(), AllocError>
-        ensures ok { OnOk result ((other : ABatch) → linked_in self.new other
-            ≡ (if is_same_batch before.now other
-            then linked_in self.old before.now ++ after.now ∷ []
-            else linked_in self.old other)) }
-        ensures err { OnErr result (linked_in self.new ≡ linked_in self.old) }
-    {
-        if let Some(batches) = self.table.get_mut(before) {
-            return Ok(batches.push(after.copy())?);
-        }
-        let mut batches = Vec::new(self.alloc);
-        batches.push(after.copy())?;
-        self.table.insert(before.copy(), batches)?;
-        Ok(())
-    }
-
-    /// The batches that are linked to a batch.
-    fn get(&self, batch: &BatchKey) -> &[BatchKey]
-        ensures { result.now ≡ linked_in self.now batch.now }
-    {
-        match self.table.get(batch) {
+        match self.batch_links.get(batch) {
             Some(batches) => batches.as_slice(),
             None => &[],
         }
@@ -70,16 +48,16 @@ impl BatchLinks {
     /// The batches that are linked to a batch, ascending. Refused for want of memory.
     pub(crate) fn linked(&self, batch: &BatchKey) -> Result<Vec<BatchKey>, AllocError>
         ensures { IfOk result (λ list.
-            IsAscendingList list.items (Contains (linked_in self.now batch.now))) }
+            IsAscendingList list.items (Contains (linked_to self.now batch.now))) }
     {
-        let list = copies(self.alloc, self.get(batch))?;
+        let list = copies(self.alloc, self.links_of(batch))?;
         Ok(ascending(list))
     }
 
     /// The batches to which a chain of one or more links leads from a batch, ascending. Refused for want of memory.
     pub(crate) fn descendants(&self, batch: &BatchKey) -> Result<Vec<BatchKey>, AllocError>
         ensures { IfOk result (λ list.
-            IsAscendingList list.items (IsReachedFrom (linked_in self.now) batch.now)) }
+            IsAscendingList list.items (IsDescendant self.now batch.now)) }
     {
         let reached = self.reached(batch)?;
         let list = copies(self.alloc, reached.as_slice())?;
@@ -90,14 +68,14 @@ impl BatchLinks {
     /// it was reached.
     fn reached(&self, batch: &BatchKey) -> Result<IndexSet<BatchKey>, AllocError>
         ensures { IfOk result (λ reached. (other : ABatch)
-            → Contains reached.keys other ↔ IsReachedFrom (linked_in self.now) batch.now other) }
+            → Contains reached.keys other ↔ IsDescendant self.now batch.now other) }
     {
         let mut reached = IndexSet::new(self.alloc);
-        add_all(&mut reached, self.get(batch))?;
+        add_all(&mut reached, self.links_of(batch))?;
         let mut next = 0usize;
         while next < reached.len() {
             let current = reached.as_slice()[next].copy();
-            add_all(&mut reached, self.get(&current))?;
+            add_all(&mut reached, self.links_of(&current))?;
             next += 1;
         }
         Ok(reached)

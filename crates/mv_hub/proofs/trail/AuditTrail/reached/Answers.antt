@@ -1,0 +1,19 @@
+use Rattle.std.proofs.Common.{arith, sym}
+use Rattle.mv_hub.specs.BatchLinks.{linked_to}
+use Rattle.mv_hub.proofs.SearchLemmas.{searching_start, searching_more, searching_end}
+use Rattle.mv_hub.proofs.trail.AuditTrail.reached.Goals as goal
+
+pub loop-next-init : goal.loop-next-init
+loop-next-init c =
+    searching_start (linked_to c.args.self.now) c.args.batch.now _ (rw (c.new-reached.ensures.empty, c.links_of.ensures) at c.in_ok-add_all.ensures)
+
+pub loop-next-preserved : goal.loop-next-preserved
+loop-next-preserved c =
+    searching_more (linked_to c.args.self.now) c.args.batch.now _ _ _ c.index-as_slice-next.result c.loop-next.invariant
+    (omega (arith, c.len.ensures.len, c.loop-next-test.true)) (sym (rw c.as_slice.ensures.keys at c.index-as_slice-next.is))
+    (rw (c.links_of-in-loop-next.ensures, c.copy-current.ensures) at c.in_ok-add_all-2.ensures)
+
+pub returns : goal.returns
+returns c =
+    searching_end (linked_to c.args.self.now) c.args.batch.now c.loop-next.next c.loop-next.reached.keys c.loop-next.invariant
+    (omega (arith, c.len.ensures.len, c.loop-next-test.false))

@@ -1,7 +1,6 @@
 -- What a log has about a pack gives its history, and so decides what that decides.
 use Rattle.std.specs.Prelude.{◌||◌, ◌++◌, ◌∷◌, ◌≡◌}
-use Rattle.mv_repository.proofs.Words.{Bool, List, None, Option, Some, [], ap, append_assoc, cond, cond_both, false, filter, find, map, refl, sym, ℕ, ◌∙◌, or-false, list_any-append, list_any, option_and_then, option_map_or, Item, Carried, Receipt, Message, batch_key, PackKey, LogEntry, Sent, sent_by, bears_on, about, AgreeOn, SentHistory, SentStatus, as_sent, history_of, sent_of, sent_status, item_batch, Ascends, Placed, ordered, is_recall_of, is_withdrawal_of, first_stops, is_before, first_upload, is_status_of, is_upload_of, statuses_of, arith, nat_tests}
-use Rattle.mv_repository.specs.Agreement.{batch_in}
+use Rattle.mv_repository.proofs.Words.{Bool, List, None, Option, Some, [], ap, append_assoc, cond, cond_both, false, filter, find, map, refl, sym, ℕ, ◌∙◌, or-false, list_any-append, list_any, option_and_then, option_map_or, Item, Carried, Receipt, Message, batch_key, PackKey, LogEntry, Sent, sent_by, bears_on, about, AgreeOn, SentHistory, SentStatus, as_sent, history_of, sent_of, sent_status, made_batch, Ascends, Placed, ordered, is_recall_of, is_withdrawal_of, first_stops, is_before, first_upload, is_status_of, is_upload_of, statuses_of, arith, nat_tests, batch_in}
 use Rattle.mv_repository.proofs.HistoryLemmas.{batch-upload, same_history}
 use Rattle.mv_repository.proofs.OrderLemmas.{ordered-ascends}
 use Rattle.mv_repository.proofs.StateLemmas.{first-before}
@@ -127,7 +126,7 @@ history-about pack log =
 
 -- the batch of the first upload that names a pack, among messages in the order of stamps
 abbrev pub first_batch : PackKey → List Sent → Option (List ℕ)
-first_batch pack sent = option_and_then (λ (s : Sent). item_batch (bare s.message)) (find (λ (s : Sent). is_upload_of pack (bare s.message)) sent)
+first_batch pack sent = option_and_then (λ (s : Sent). made_batch (bare s.message)) (find (λ (s : Sent). is_upload_of pack (bare s.message)) sent)
 
 pub batch-first : (pack : PackKey) (log : List LogEntry) → batch_in pack log ≡ first_batch pack (sent_by (ordered log))
 batch-first pack log = grind (arith, nat_tests, batch-upload, find-sent (is_upload_of pack) (λ k reach query. refl) (upload-carried pack) (ordered log))

@@ -1,7 +1,6 @@
 -- Tracks that are worked out again, also without need.
-use Rattle.std.specs.Prelude.{◌+◌, ◌≡◌}
-use Rattle.mv_repository.proofs.Words.{bytes_eq, Bool, None, Option, Some, [], ap, false, get_or, length, map, refl, subst, sym, take, true, true≢false, ℕ, ◌∙◌, List, lookup, option_map, pack_key, LogEntry, Slot, Made, Own, ListingTable, no_numbers, ordered, IsAgain, IsRefreshed, IsShelfOf, NamesNone, kept_by, no_shelf, nothing_kept, AreStopsOf, StopTables, no_entry, place_of, stops_in, IsKept, Kept, Life, first_upload, is_status_of, is_upload_of, life_of, statuses_of, track_of}
-use Rattle.mv_repository.proofs.ListedLemmas.{listed-none}
+use Rattle.std.specs.Prelude.{◌≡◌, ◌+◌}
+use Rattle.mv_repository.proofs.Words.{arith, nat_tests, bytes_eq, Bool, None, Option, Some, [], ap, false, get_or, length, map, refl, subst, sym, take, true, true≢false, ℕ, ◌∙◌, List, lookup, IfSome, option_and_then, option_map, made_batch, pack_key, LogEntry, Slot, Made, Own, Placed, StopTables, stops_in, ordered, IsAgain, IsRefreshed, IsShelfOf, ShelfTable, NamesNone, is_listed, kept_by, no_shelf, nothing_kept, AreStopsOf, no_entry, place_of, IsKept, Kept, Life, first_upload, statuses_of, life_of}
 use Rattle.mv_repository.proofs.TableLemmas.{filter-none, find-none, log-split}
 use Rattle.mv_repository.proofs.TrackLemmas.{track-is}
 
@@ -10,43 +9,46 @@ module _ (whole : List LogEntry) (place : ℕ) (tables : StopTables) (gtin : Lis
   abbrev log : List LogEntry
   log = take place whole
 
-  abbrev entry : LogEntry
-  entry = get_or whole place no_entry
-
   abbrev IsOf : List LogEntry → List ℕ → Kept → Type 0
   IsOf log serial = IsKept (life_of (pack_key gtin serial) log)
 
-  is_worked : (serial : List ℕ) (was kept : Kept) → IsOf log serial was → IsAgain whole (stops_in whole tables) gtin was kept → IsOf whole serial kept
+  first-stays : (serial : List ℕ) → first_upload (pack_key gtin serial) (ordered whole) ≡ first_upload (pack_key gtin serial) (ordered log)
+  first-stays serial = grind (arith, nat_tests, find-none, log-split whole place l)
+
+  own-stay : (serial : List ℕ) → statuses_of (pack_key gtin serial) (ordered whole) ≡ statuses_of (pack_key gtin serial) (ordered log)
+  own-stay serial = grind (arith, nat_tests, filter-none, log-split whole place l)
+
+  is_worked : (serial : List ℕ) (was kept : Kept) → IsOf log serial was → IsAgain whole (stops_in whole tables) gtin was.birth was kept → IsOf whole serial kept
   is_worked serial was kept e a =
-      let pack = pack_key gtin serial in
-      let birth : (track_of pack whole).birth ≡ (track_of pack log).birth = ap (λ (w : List LogEntry). option_map place_of (first_upload pack (ordered w))) (log-split whole place l)
-      ∙ ap (option_map place_of) (find-none (λ placed. is_upload_of pack placed.entry.item) log entry (names serial).0) in
-      let statuses : (track_of pack whole).statuses ≡ (track_of pack log).statuses = ap (λ (w : List LogEntry). map place_of (statuses_of pack (ordered w))) (log-split whole place l)
-      ∙ ap (map place_of) (filter-none (λ placed. is_status_of pack placed.entry.item) log entry (names serial).1) in
-      track-is whole tables pack kept stops (a.birth ∙ ap (λ (k : Kept). k.birth) e.bare ∙ sym birth) (a.statuses ∙ ap (λ (k : Kept). k.statuses) e.bare ∙ sym statuses) a.worked
+      track-is whole tables (pack_key gtin serial) kept stops
+      (a.birth ∙ ap (λ (k : Kept). k.birth) e.bare ∙ sym (ap (option_map place_of) (first-stays serial)))
+      (a.statuses ∙ ap (λ (k : Kept). k.statuses) e.bare ∙ sym (ap (map place_of) (own-stay serial))) a.worked
+
+  -- what has no status stands by its upload
+  none-again : (birth : Option ℕ) → IsAgain whole (stops_in whole tables) gtin birth (kept_by [] (option_map Made birth)) (kept_by [] (option_map Made birth))
+  none-again None = record { birth = refl; statuses = refl; worked = record { by = refl; blocks = tt } }
+  none-again (Some first) = record { birth = refl; statuses = refl; worked = record { by = refl; blocks = tt } }
 
   -- a shelf, where it was looked at some tracks again, and the entry bears on no pack of another
-  pub shelf-again : (looked : ℕ → Bool) (slots : List (List ℕ × Slot)) (own : ListingTable) (tracks tracks' : List Kept)
-      → ((number : ℕ) → IsRefreshed whole (stops_in whole tables) gtin (looked number) (get_or tracks number nothing_kept) (get_or tracks' number nothing_kept))
-      → ((serial : List ℕ) (number : ℕ) → lookup (bytes_eq serial) slots ≡ Some (Own number) → looked number ≡ false → life_of (pack_key gtin serial) whole ≡ life_of (pack_key gtin serial) log)
-      → IsShelfOf log gtin (record { slots = slots; tracks = tracks; listing = own }) → IsShelfOf whole gtin (record { slots = slots; tracks = tracks'; listing = own })
-  shelf-again looked slots own tracks tracks' again away of = record {
-    kept = λ serial. by serial (lookup (bytes_eq serial) slots) refl (of.kept serial);
-    listed = listed-none whole place l gtin slots own of.listed (λ serial. (names serial).0);
+  pub shelf-again : (looked : ℕ → Bool) (shelf : ShelfTable) (tracks : List Kept)
+      → ((number : ℕ) → IsRefreshed whole (stops_in whole tables) gtin (looked number) (get_or shelf.tracks number nothing_kept) (get_or tracks number nothing_kept))
+      → ((serial : List ℕ) (number : ℕ) → lookup (bytes_eq serial) shelf.slots ≡ Some (Own number) → looked number ≡ false → life_of (pack_key gtin serial) whole ≡ life_of (pack_key gtin serial) log)
+      → IsShelfOf log gtin shelf → IsShelfOf whole gtin (record shelf { tracks = tracks })
+  shelf-again looked shelf tracks again away of serial = record {
+    kept = by (lookup (bytes_eq serial) shelf.slots) refl (of serial).kept;
+    listed = subst (λ (o : Option Placed). IfSome (option_and_then (λ (x : Placed). made_batch x.entry.item) o) (λ batch. is_listed shelf.listing (lookup (bytes_eq serial) shelf.slots) batch ≡ true))
+        (sym (first-stays serial)) (of serial).listed;
   }
     where
-      by : (serial : List ℕ) (slot : Option Slot) → lookup (bytes_eq serial) slots ≡ slot → IsOf log serial (kept_by tracks slot) → IsOf whole serial (kept_by tracks' slot)
-      by serial None e kept = is_worked serial nothing_kept nothing_kept kept (record { birth = refl; statuses = refl; worked = record { by = refl; blocks = tt } })
-      by serial (Some (Made first)) e kept =
-          let made : Kept = record { birth = Some first; statuses = []; by = first; blocks = [] } in
-          is_worked serial made made kept (record { birth = refl; statuses = refl; worked = record { by = refl; blocks = tt } })
-      by serial (Some (Own n)) e kept = track (looked n) refl (again n)
+      by : (slot : Option Slot) → lookup (bytes_eq serial) shelf.slots ≡ slot → IsOf log serial (kept_by shelf.tracks slot) → IsOf whole serial (kept_by tracks slot)
+      by None e kept = is_worked serial nothing_kept nothing_kept kept (none-again None)
+      by (Some (Made first)) e kept = is_worked serial (kept_by [] (Some (Made first))) (kept_by [] (Some (Made first))) kept (none-again (Some first))
+      by (Some (Own n)) e kept = track (looked n) refl (again n)
         where
-          track : (b : Bool) → looked n ≡ b → IsRefreshed whole (stops_in whole tables) gtin b (get_or tracks n nothing_kept) (get_or tracks' n nothing_kept) → IsOf whole serial (get_or tracks' n nothing_kept)
-          track true h r = is_worked serial (get_or tracks n nothing_kept) (get_or tracks' n nothing_kept) kept r
-          track false h r = subst (IsOf whole serial) (sym r) (subst (λ (life : Life). IsKept life (get_or tracks n nothing_kept)) (sym (away serial n e h)) kept)
+          track : (b : Bool) → looked n ≡ b → IsRefreshed whole (stops_in whole tables) gtin b (get_or shelf.tracks n nothing_kept) (get_or tracks n nothing_kept) → IsOf whole serial (get_or tracks n nothing_kept)
+          track true h r = is_worked serial (get_or shelf.tracks n nothing_kept) (get_or tracks n nothing_kept) kept r
+          track false h r = subst (IsOf whole serial) (sym r) (subst (λ (life : Life). IsKept life (get_or shelf.tracks n nothing_kept)) (sym (away serial n e h)) kept)
 
   -- a product with no shelf has no pack
   pub shelf-empty : IsShelfOf log gtin no_shelf → IsShelfOf whole gtin no_shelf
-  shelf-empty =
-      shelf-again (λ number. true) [] no_numbers [] [] (λ number. record { birth = refl; statuses = refl; worked = record { by = refl; blocks = tt } }) (λ serial number e h. absurd (true≢false h))
+  shelf-empty = shelf-again (λ number. true) no_shelf [] (λ number. none-again None) (λ serial number e h. absurd (true≢false h))

@@ -1,11 +1,18 @@
 -- What the tables are after one more entry, by its form.
 use Rattle.std.specs.Prelude.{◌≡◌, ◌+◌}
-use Rattle.mv_repository.proofs.Words.{ℕ, List, length, get_or, take, sym, ◌∙◌, true, Option, None, Some, Result, OnOk, [], ap, Item, Message, Master, Upload, Status, Recall, Withdraw, Product, Standing, CivilDate, pack_key, BatchKey, PackKey, LogEntry, uploaded_in, uploaded_packs, is_master, AreMastersOf, ordered, IsShelfOf, ShelfTable, shelf_of, StopTables, first_stops, no_entry, message_in, AreStopsOf, AreTablesOf, life_of, Tables, arith, nat_tests}
+use Rattle.mv_repository.proofs.Words.{ℕ, List, length, get_or, take, sym, ◌∙◌, true, Option, None, Some, Result, OnOk, OnErr, [], ap, Item, Message, Master, Upload, Status, Recall, Withdraw, Product, Standing, CivilDate, pack_key, BatchKey, PackKey, LogEntry, uploaded_in, uploaded_packs, is_master, AreMastersOf, ordered, IsShelfOf, ShelfTable, shelf_of, StopTables, first_stops, no_entry, message_in, AreStopsOf, AreTablesOf, life_of, Tables, arith, nat_tests}
 use Rattle.mv_repository.proofs.PacksLemmas.{none-named, shelf-stays}
 use Rattle.mv_repository.proofs.ProductLemmas.{masters-noted}
 use Rattle.mv_repository.proofs.StopLemmas.{NoMaster, NoPack}
 use Rattle.mv_repository.proofs.TableLemmas.{StopsNone, at-newest, first-same, log-split, stops-stay}
 use Rattle.mv_repository.proofs.UploadLemmas.{life-same}
+
+-- what holds where a call ends well, and what holds where it fails
+pub on_map : {A E P Q : Type 0} → (r : Result A E) → OnOk r P → (P → Q) → OnOk r Q
+on_map r p f = grind (arith, nat_tests)
+
+pub on_err : {A E : Type 0} → (r : Result A E) (P : Type 0) → P → OnErr r P
+on_err r P p = grind (arith, nat_tests)
 
 pub on_both : {A E P Q R : Type 0} → (r : Result A E) → OnOk r P → OnOk r Q → (P → Q → R) → OnOk r R
 on_both r p q f = grind (arith, nat_tests)
@@ -47,7 +54,7 @@ module _ (whole : List LogEntry) (place : ℕ) (l : length whole ≡ place + 1) 
   pub shelves-at : (shelves : List (List ℕ × ShelfTable)) → NoPack entry.item → first_stops (ordered whole) ≡ first_stops (ordered log)
       → ((gtin : List ℕ) → IsShelfOf log gtin (shelf_of gtin shelves)) → (gtin : List ℕ) → IsShelfOf whole gtin (shelf_of gtin shelves)
   shelves-at shelves none same are gtin =
-      shelf-stays whole place l gtin (shelf_of gtin shelves) (λ serial.
+      shelf-stays whole log gtin (shelf_of gtin shelves) (λ serial.
       let pack = pack_key gtin serial in
       ap (life_of pack) (log-split whole place l)
       ∙ life-same log entry pack (none.0 pack).0 (none.0 pack).1 (ap (λ (w : List LogEntry). first_stops (ordered w)) (sym (log-split whole place l)) ∙ same)) (are gtin)

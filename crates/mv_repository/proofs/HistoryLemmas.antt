@@ -1,7 +1,6 @@
 -- Two logs that have the same history of a pack agree on it.
 use Rattle.std.specs.Prelude.{◌≡◌, ◌∷◌}
-use Rattle.mv_repository.proofs.Words.{ℕ, List, [], refl, sym, ◌∙◌, ap, Bool, true, false, cond, Option, Some, None, IfSome, is_some, find, fold, map, option_map, option_and_then, PackKey, BatchKey, batch_key, Upload, Item, Receipt, Carried, LogEntry, BatchStanding, Placed, ordered, KnownPack, new_pack, is_recall_of, is_withdrawal_of, is_withdrawn, Sent, sent_in, unplaced, unplaced_state, is_batch_recalled, AgreeOn, item_batch, entry_of, pack_made_by, FirstStops, first_stops, is_before, first_upload, statuses_of, pack_changed, pack_step, pack_grown, PackHistory, SentStatus, SentHistory, sent_of, sent_status, history_of, as_sent, HaveSameHistory, arith, nat_tests}
-use Rattle.mv_repository.specs.Agreement.{batch_in}
+use Rattle.mv_repository.proofs.Words.{ℕ, List, [], refl, sym, ◌∙◌, ap, Bool, true, false, cond, Option, Some, None, IfSome, is_some, find, fold, map, option_map, option_and_then, PackKey, BatchKey, batch_key, Upload, Item, Receipt, Carried, LogEntry, BatchStanding, Placed, ordered, KnownPack, new_pack, is_recall_of, is_withdrawal_of, is_withdrawn, Sent, sent_in, unplaced, unplaced_state, is_batch_recalled, AgreeOn, made_batch, entry_of, pack_made_by, FirstStops, first_stops, is_before, first_upload, statuses_of, pack_changed, pack_step, pack_grown, PackHistory, SentStatus, SentHistory, sent_of, sent_status, history_of, as_sent, HaveSameHistory, arith, nat_tests, batch_in}
 use Rattle.mv_repository.proofs.OrderLemmas.{find-true, ordered-ascends}
 use Rattle.mv_repository.proofs.StateLemmas.{known-grown}
 use Rattle.mv_repository.proofs.BeforeLemmas.{any-find}
@@ -19,7 +18,7 @@ fold-batch stops pack birth held [] = refl
 fold-batch stops pack birth held (x ∷ xs) = fold-batch stops pack birth (pack_step stops pack birth held x) xs ∙ step-batch stops pack birth held x
 
 -- the batch of a pack is that of its upload
-pub batch-upload : (pack : PackKey) (log : List LogEntry) → batch_in pack log ≡ option_and_then (λ (x : Placed). item_batch x.entry.item) (first_upload pack (ordered log))
+pub batch-upload : (pack : PackKey) (log : List LogEntry) → batch_in pack log ≡ option_and_then (λ (x : Placed). made_batch x.entry.item) (first_upload pack (ordered log))
 batch-upload pack log = grind (arith, nat_tests, fold-batch, known-grown, ordered-ascends)
 
 -- a pack by what was sent
@@ -59,12 +58,12 @@ module _ (stops : FirstStops) (pack : PackKey) where
   fold-sent birth held number (x ∷ xs) e = grind (arith, nat_tests, fold-sent birth (pack_step stops pack birth held x) number xs (step-batch stops pack birth held x ∙ e), changed-sent)
 
   grown-sent : (upload : Option Placed) (own : List Placed) → option_map unplaced (pack_grown stops pack upload own)
-      ≡ option_map (λ held. fold (step_of pack) held (map (status upload (option_and_then (λ (x : Placed). item_batch x.entry.item) upload)) own)) (made_of (option_and_then sent_of upload))
+      ≡ option_map (λ held. fold (step_of pack) held (map (status upload (option_and_then (λ (x : Placed). made_batch x.entry.item) upload)) own)) (made_of (option_and_then sent_of upload))
   grown-sent None own = refl
   grown-sent (Some x) own = by x.entry.item
     where
       by : (item : Item) → option_map unplaced (option_map (λ held. fold (pack_step stops pack x) held own) (pack_made_by item))
-          ≡ option_map (λ held. fold (step_of pack) held (map (status (Some x) (item_batch item)) own)) (made_of (sent_in x.entry.sender item))
+          ≡ option_map (λ held. fold (step_of pack) held (map (status (Some x) (made_batch item)) own)) (made_of (sent_in x.entry.sender item))
       by (Carried k stamp (Upload gtin batch expiry national serials)) = ap Some (fold-sent x (new_pack batch expiry national) batch own refl)
       by (Receipt k reach query) = refl
       by (Carried k stamp message) = refl

@@ -1,6 +1,6 @@
 -- Lemmas on what a log says of its party's queries.
 use Rattle.std.specs.Prelude.{◌≡◌, ◌∷◌, ◌++◌, ◌&&◌, ◌||◌, ◌==◌}
-use Rattle.mv_repository.proofs.Words.{arith, nat_tests, ℕ, List, [], refl, ◌∙◌, ap, Bool, true, false, cond, Option, Some, None, is_some, length, list_any, option_or, option_map_or, or-false, list_any-append, Answer, Found, Item, Receipt, Carried, PackKey, LogEntry, Inquiries, Inquiry, asked_parties, finding_in, has_answered, found_active, found_explained, joint_verdict_when, joint_verdict, tells_of_query, inquiry_in, with_receipt, with_finding, has_reply, parties_at, verdict_once_asked, known_verdict, is_receipt_of, receipt_place, inquiry_of, IsInquiriesOf}
+use Rattle.mv_repository.proofs.Words.{arith, nat_tests, ℕ, List, [], ◌∙◌, ap, Bool, true, false, cond, Option, Some, None, is_some, length, list_any, option_or, option_map_or, or-false, list_any-append, Answer, Found, Item, Receipt, Carried, PackKey, LogEntry, Inquiries, Inquiry, asked_parties, finding_in, has_answered, found_active, found_explained, joint_verdict, joint_verdict_when, has_finding, sym, tells_of_query, inquiry_in, with_receipt, with_finding, has_reply, inquiry_of, IsInquiriesOf, query_reach, verdict_when, not, filter, Decided, Pending}
 
 -- there is a finding, and it is so
 abbrev is_found_so : (Found → Bool) → Option Found → Bool
@@ -14,30 +14,30 @@ entry_of sender item = record { sender = sender; item = item }
 abbrev with_entry : List LogEntry → ℕ → Item → List LogEntry
 with_entry log sender item = log ++ record { sender = sender; item = item } ∷ []
 
--- the place of an entry, if it counts
-abbrev place_if : Bool → ℕ → Option ℕ
-place_if counts place = cond counts (Some place) None
+-- the parties that an item asked, if it is a receipt of the query
+abbrev asked_in : ℕ → ℕ → Item → ℕ → Option (List ℕ)
+asked_in party sender item q = cond (sender == party) (query_reach q item) None
 
 -- the first receipt of a query once one more entry has come
-place-more : (party : ℕ) (log : List LogEntry) (sender : ℕ) (item : Item) (q : ℕ)
-    → receipt_place party (with_entry log sender item) q ≡ option_or (receipt_place party log q) (place_if (is_receipt_of party q (entry_of sender item)) (length log))
-place-more party [] sender item q = refl
-place-more party (entry ∷ log) sender item q = grind (arith, nat_tests, place-more party log sender item q)
+asked-more : (party : ℕ) (log : List LogEntry) (sender : ℕ) (item : Item) (q : ℕ)
+    → asked_parties party (with_entry log sender item) q ≡ option_or (asked_parties party log q) (asked_in party sender item q)
+asked-more party [] sender item q = grind (arith, nat_tests)
+asked-more party (entry ∷ log) sender item q = grind (arith, nat_tests, asked-more party log sender item q)
 
 any-more : (test : LogEntry → Bool) (log : List LogEntry) (entry : LogEntry) → list_any test (log ++ entry ∷ []) ≡ (list_any test log || test entry)
 any-more test log entry = list_any-append test log (entry ∷ []) ∙ ap (λ b. list_any test log || b) (or-false (test entry))
 
--- what a log with one more entry, at a place, says of a query
-abbrev more_known : ℕ → ℕ → Item → ℕ → ℕ → Inquiry → Inquiry
-more_known party sender item place q inquiry = record {
-  receipt = option_or inquiry.receipt (place_if (is_receipt_of party q (entry_of sender item)) place);
+-- what a log with one more entry says of a query
+abbrev more_known : ℕ → ℕ → Item → ℕ → Inquiry → Inquiry
+more_known party sender item q inquiry = record {
+  asked = option_or inquiry.asked (asked_in party sender item q);
   active = inquiry.active || is_found_so found_active (finding_in party q item);
   explained = inquiry.explained || is_found_so found_explained (finding_in party q item);
 }
 
 inquiry-more : (party : ℕ) (log : List LogEntry) (sender : ℕ) (item : Item) (q : ℕ)
-    → inquiry_of party (with_entry log sender item) q ≡ more_known party sender item (length log) q (inquiry_of party log q)
-inquiry-more party log sender item q = grind (arith, nat_tests, any-more, place-more)
+    → inquiry_of party (with_entry log sender item) q ≡ more_known party sender item q (inquiry_of party log q)
+inquiry-more party log sender item q = grind (arith, nat_tests, any-more, asked-more)
 
 replies-more : (party : ℕ) (log : List LogEntry) (sender : ℕ) (item : Item) (q other : ℕ)
     → has_answered party (with_entry log sender item) q other ≡ (has_answered party log q other || ((sender == other) && is_some (finding_in party q item)))
@@ -45,7 +45,7 @@ replies-more party log sender item q other = grind (arith, nat_tests, any-more)
 
 -- an item tells nothing of a query
 abbrev pub TellsNothing : ℕ → ℕ → Item → ℕ → Type 0
-TellsNothing party sender item q = (is_receipt_of party q (entry_of sender item) ≡ false) × (finding_in party q item ≡ None)
+TellsNothing party sender item q = (asked_in party sender item q ≡ None) × (finding_in party q item ≡ None)
 
 pub tells_nothing : (party sender : ℕ) (item : Item) → tells_of_query party sender item ≡ false → (q : ℕ) → TellsNothing party sender item q
 tells_nothing party sender item e q = grind (arith, nat_tests)
@@ -55,12 +55,12 @@ pub known_stays : (party : ℕ) (log : List LogEntry) (sender : ℕ) (item : Ite
     → IsInquiriesOf party log known → IsInquiriesOf party (with_entry log sender item) known
 known_stays party log sender item known nothing is = grind (arith, nat_tests, inquiry-more, or-false, replies-more)
 
-pub receipt_noted : (party : ℕ) (log : List LogEntry) (sender k : ℕ) (reach : List ℕ) (query : Bool) (place : ℕ) (known known' : Inquiries)
-    → tells_of_query party sender (Receipt k reach query) ≡ true → place ≡ length log
-    → ((q : ℕ) → inquiry_in known' q ≡ cond (k == q) (with_receipt place (inquiry_in known q)) (inquiry_in known q))
+pub receipt_noted : (party : ℕ) (log : List LogEntry) (sender k : ℕ) (reach : List ℕ) (query : Bool) (known known' : Inquiries)
+    → tells_of_query party sender (Receipt k reach query) ≡ true
+    → ((q : ℕ) → inquiry_in known' q ≡ cond (k == q) (with_receipt reach (inquiry_in known q)) (inquiry_in known q))
     → ((q other : ℕ) → has_reply known' q other ≡ has_reply known q other)
     → IsInquiriesOf party log known → IsInquiriesOf party (with_entry log sender (Receipt k reach query)) known'
-receipt_noted party log sender k reach query place known known' told last inquiries replies is = grind (arith, nat_tests, inquiry-more, replies-more)
+receipt_noted party log sender k reach query known known' told inquiries replies is = grind (arith, nat_tests, inquiry-more, replies-more)
 
 pub answer_noted : (party : ℕ) (log : List LogEntry) (sender k stamp asker asked : ℕ) (key : PackKey) (found : Found) (known known' : Inquiries)
     → (asker == party) ≡ true
@@ -69,18 +69,12 @@ pub answer_noted : (party : ℕ) (log : List LogEntry) (sender k stamp asker ask
     → IsInquiriesOf party log known → IsInquiriesOf party (with_entry log sender (Carried k stamp (Answer asker asked key found))) known'
 answer_noted party log sender k stamp asker asked key found known known' told inquiries replies is = grind (arith, nat_tests, inquiry-more, replies-more)
 
--- the first receipt names the parties that were asked
-parties-asked : (party : ℕ) (log : List LogEntry) (q : ℕ) → parties_at log (receipt_place party log q) ≡ asked_parties party log q
-parties-asked party [] q = refl
-parties-asked party (entry ∷ log) q = grind (arith, nat_tests, parties-asked party log q)
-
--- what is known decides the verdict
-pub verdict-known : (party : ℕ) (log : List LogEntry) (known : Inquiries) (q : ℕ) → IsInquiriesOf party log known → known_verdict log known q ≡ joint_verdict party log q
-verdict-known party log known q is =
-    ap (λ (inquiry : Inquiry). verdict_once_asked known q inquiry (parties_at log inquiry.receipt)) (is.inquiries q)
-    ∙ ap (verdict_once_asked known q (inquiry_of party log q)) (parties-asked party log q)
-    ∙ by (asked_parties party log q)
-  where
-    by : (asked : Option (List ℕ)) → verdict_once_asked known q (inquiry_of party log q) asked ≡ joint_verdict_when party log q asked
-    by None = refl
-    by (Some parties) = grind (arith, nat_tests)
+-- what is known decides the verdict, once all have answered
+pub verdict_known : (party : ℕ) (log : List LogEntry) (known : Inquiries) (q : ℕ) (inquiry : Inquiry) (parties : List ℕ) → IsInquiriesOf party log known → inquiry_in known q ≡ inquiry
+    → inquiry.asked ≡ Some parties → length (filter (λ other. not (has_reply known q other)) parties) ≡ 0 → Decided (verdict_when inquiry.active inquiry.explained) ≡ joint_verdict party log q
+verdict_known party log known q inquiry parties is same e none =
+    let of : inquiry ≡ inquiry_of party log q = sym same ∙ is.inquiries q in
+    let left : length (filter (λ other. not (has_answered party log q other)) parties) ≡ 0 = sym (λ i. length (filter (λ other. not (is.replies q other i)) parties)) ∙ none in
+    (λ i. Decided (verdict_when (of i).active (of i).explained))
+    ∙ sym (ap (joint_verdict_when party log q) (sym (ap (λ (known : Inquiry). known.asked) of) ∙ e)
+    ∙ ap (λ (n : ℕ). cond (n == 0) (Decided (verdict_when (has_finding found_active party log q) (has_finding found_explained party log q))) (Pending n)) left)

@@ -1,7 +1,6 @@
 -- Lemmas on the table of packs.
-use Rattle.std.proofs.lemmas.Bool.{and_parts}
 use Rattle.std.specs.Prelude.{◌≡◌, ◌&&◌}
-use Rattle.mv_repository.proofs.Words.{bytes_eq, ℕ, List, sym, true, same_text, nat_list_eq_equiv, PackKey, BatchKey, is_same_pack, is_same_batch, pack_key, batch_key}
+use Rattle.mv_repository.proofs.Words.{bytes_eq, ℕ, List, sym, true, same_text, nat_list_eq_equiv, PackKey, BatchKey, is_same_pack, is_same_batch, pack_key, batch_key, and_parts}
 
 -- keys that pass the test are one
 pub same_pack : (a b : PackKey) → is_same_pack a b ≡ true → a ≡ b

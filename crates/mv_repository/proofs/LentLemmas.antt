@@ -1,11 +1,11 @@
 -- The places that the tables keep of a pack are those of its history.
 use Rattle.std.specs.Prelude.{◌≡◌}
-use Rattle.mv_repository.proofs.Words.{bytes_eq, ℕ, List, Option, IfSome, map, get_or, lookup, option_map, option_and_then, is_same_batch, batch_key, PackKey, LogEntry, AreAt, history_of, batch_at, item_batch, Placed, ordered, StopTables, AreStopsOf, entry_at, place_of, no_entry, is_upload_of, track_of, arith, nat_tests}
-use Rattle.mv_repository.specs.Agreement.{batch_in}
+use Rattle.mv_repository.proofs.Words.{bytes_eq, ℕ, List, map, lookup, option_map, option_and_then, is_same_batch, batch_key, PackKey, LogEntry, AreAt, history_of, batch_at, ordered, StopTables, AreStopsOf, entry_at, is_upload_of, track_of, arith, nat_tests, batch_in}
 use Rattle.mv_repository.proofs.HistoryLemmas.{batch-upload}
 use Rattle.mv_repository.proofs.OrderLemmas.{ordered-of, ordered-stand, filter-all, find-all}
 use Rattle.mv_repository.proofs.StateLemmas.{find-stand, find-stands, map-stands}
 use Rattle.mv_repository.proofs.TableLemmas.{filter-stand}
+use Rattle.mv_repository.proofs.UploadLemmas.{batch-there}
 
 module _ (log : List LogEntry) (pack : PackKey) where
   pub lent-upload : option_map (entry_at log) (track_of pack log).birth ≡ (history_of pack log).upload
@@ -14,13 +14,8 @@ module _ (log : List LogEntry) (pack : PackKey) where
   pub lent-statuses : map (entry_at log) (track_of pack log).statuses ≡ (history_of pack log).statuses
   lent-statuses = grind (arith, nat_tests, filter-stand, map-stands, ordered-stand)
 
-  -- the batch of the upload at its place
-  batch-there : (o : Option Placed) → IfSome o (λ x. get_or log x.place no_entry ≡ x.entry)
-      → option_and_then (batch_at log) (option_map place_of o) ≡ option_and_then (λ (x : Placed). item_batch x.entry.item) o
-  batch-there o h = grind (arith, nat_tests)
-
   lent-batch : option_and_then (batch_at log) (track_of pack log).birth ≡ batch_in pack log
-  lent-batch = grind (arith, nat_tests, batch-there, batch-upload, find-stand, ordered-stand)
+  lent-batch = grind (arith, nat_tests, batch-there log, batch-upload, find-stand, ordered-stand)
 
   pub lent-recall : (tables : StopTables) → AreStopsOf log tables
       → option_map (entry_at log) (option_and_then (λ (number : List ℕ). lookup (is_same_batch (batch_key pack.gtin number)) tables.recalls) (option_and_then (batch_at log) (track_of pack log).birth))

@@ -13,7 +13,6 @@ pub mod UploadLemmas
 pub mod ActiveLemmas
 pub mod AgainLemmas
 pub mod UploadedLemmas
-pub mod ListedLemmas
 pub mod ShelvesLemmas
 pub mod CountedLemmas
 pub mod PacksLemmas

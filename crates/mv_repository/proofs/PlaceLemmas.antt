@@ -1,7 +1,6 @@
 -- Lemmas on places in the log, where the entries are in the order of stamps.
 use Rattle.std.specs.Prelude.{◌≡◌, ◌<◌, ◌≤◌, ◌∷◌}
-use Rattle.mv_repository.proofs.Words.{ℕ, zero, suc, List, [], length, map, get_or, insert, take, not, refl, arith, nat_tests, Bool, true, false, LogEntry, Placed, passes, stands_before, Ascends, entry_at, put_place, places_before}
-use Rattle.std.specs.List.Sorted.{IsPartitionedBy, IsPartitionPoint}
+use Rattle.mv_repository.proofs.Words.{ℕ, zero, suc, List, [], length, map, get_or, insert, take, not, refl, arith, nat_tests, Bool, true, false, LogEntry, Placed, passes, stands_before, Ascends, entry_at, put_place, places_before, IsPartitionedBy, IsPartitionPoint}
 use Rattle.mv_repository.proofs.OrderLemmas.{StandsBeforeAll}
 
 before_get : (log : List LogEntry) (x : Placed) (js : List ℕ) (i d : ℕ) → StandsBeforeAll x (map (entry_at log) js) → i < length js → stands_before x (entry_at log (get_or js i d)) ≡ true

@@ -1,11 +1,9 @@
 -- What a recall and a withdrawal do: their effects, the tables that find the first, and the packs on which they bear.
 use Rattle.std.specs.Prelude.{◌&&◌, ◌+◌, ◌∷◌, ◌≡◌}
-use Rattle.std.proofs.lemmas.Grind.{common_steps}
-use Rattle.mv_repository.proofs.Words.{arith, nat_tests, bytes_eq, Bool, IfSome, Option, Some, [], ap, cond, false, find, get_or, length, not, refl, sym, take, true, true≢false, ℕ, ◌∙◌, List, same_text, list_any, keys_of, lookup, option_map, insert_key, Item, Carried, Recall, Withdraw, batch_key, is_same_batch, pack_key, BatchKey, PackKey, LogEntry, Slot, Own, recalled_in, uploaded_in, effect_after, effect_of, entries_before, lasting_effect, AreListed, ListingTable, batch_at, lists, is_master, Placed, ordered, KnownPack, is_recall_of, is_recalled_by, is_withdrawal_of, is_withdrawn_by, NamesNone, next_by, pack_made_by, withdrawn_in, AreFirstsOf, AreStopsOf, FirstStops, StopTables, comes_first, earlier_place, first_place, first_stops, is_stop, no_entry, place_of, standing_at, stopped_product, first_upload, is_status_of, is_upload_of, life_of, statuses_of, track_of, Stop}
-use Rattle.mv_repository.specs.Listing.{batch_in}
+use Rattle.mv_repository.proofs.Words.{arith, nat_tests, bytes_eq, Bool, IfSome, Option, None, Some, [], ap, cond, false, find, get_or, length, not, refl, sym, take, true, true≢false, ℕ, ◌∙◌, List, same_text, list_any, keys_of, lookup, option_map, insert_key, Item, Carried, Recall, Withdraw, batch_key, is_same_batch, pack_key, BatchKey, PackKey, LogEntry, Own, recalled_in, uploaded_in, effect_after, effect_of, entries_before, lasting_effect, IsShelfOf, ShelfTable, is_listed, lists, made_batch, may_stop, life_batch, option_and_then, is_master, Placed, ordered, KnownPack, is_recall_of, is_recalled_by, is_withdrawal_of, is_withdrawn_by, NamesNone, next_by, pack_made_by, withdrawn_in, AreFirstsOf, AreStopsOf, FirstStops, StopTables, comes_first, earlier_place, first_place, first_stops, is_stop, no_entry, place_of, standing_at, stopped_product, first_upload, is_status_of, is_upload_of, life_of, statuses_of, Stop, common_steps}
 use Rattle.mv_repository.proofs.BeforeLemmas.{any-before}
 use Rattle.mv_repository.proofs.KeptLemmas.{same_batch, batch-self, text-self}
-use Rattle.mv_repository.proofs.OrderLemmas.{ordered-ascends, ordered-below, ordered-stand, still-stand}
+use Rattle.mv_repository.proofs.OrderLemmas.{ordered-ascends, ordered-below, still-stand}
 use Rattle.mv_repository.proofs.StateLemmas.{find-stand}
 use Rattle.mv_repository.proofs.StoppedLemmas.{once-one, one-recall, one-withdrawal}
 use Rattle.mv_repository.proofs.TableLemmas.{at-newest, earlier, filter-none, find-more, find-none, find-some, log-split, longer, newest, newest-stands, recalls-stay, withdrawals-stay}
@@ -100,7 +98,7 @@ next-same stops stops' gtin birth by x same = grind (arith, nat_tests)
 
 -- an entry that names no pack, withdraws not the product of a pack, and recalls not its batch
 elsewhere : (log : List LogEntry) (entry : LogEntry) (pack : PackKey) → NamesNone pack entry.item → is_withdrawal_of pack.gtin entry.item ≡ false
-    → ((birth : ℕ) (batch : List ℕ) → (track_of pack log).birth ≡ Some birth → batch_at log birth ≡ Some batch → is_recall_of (batch_key pack.gtin batch) entry.item ≡ false)
+    → IfSome (life_batch (life_of pack log)) (λ batch. is_recall_of (batch_key pack.gtin batch) entry.item ≡ false)
     → life_of pack (longer log entry) ≡ life_of pack log
 elsewhere log entry pack names withdrawal recall =
     let first : first_upload pack (ordered (longer log entry)) ≡ first_upload pack (ordered log) = find-none (λ placed. is_upload_of pack placed.entry.item) log entry names.0 in
@@ -110,7 +108,7 @@ elsewhere log entry pack names withdrawal recall =
       birth = first_upload pack (ordered log);
       statuses = statuses_of pack (ordered log);
       next = λ by x. next-same before now pack.gtin (first_upload pack (ordered log)) by x
-          (same (first_upload pack (ordered log)) (find-stand (λ placed. is_upload_of pack placed.entry.item) log (ordered log) (ordered-stand log)) recall) i;
+          (same (first_upload pack (ordered log)) recall) i;
     })
   where
     now : FirstStops
@@ -122,13 +120,16 @@ elsewhere log entry pack names withdrawal recall =
     stand : (number : List ℕ) → is_recall_of (batch_key pack.gtin number) entry.item ≡ false → (x : Placed) → standing_at now x (batch_key pack.gtin number) ≡ standing_at before x (batch_key pack.gtin number)
     stand number e x = grind (arith, nat_tests, find-none)
 
-    made : (item : Item) → ((batch : List ℕ) → batch_in item ≡ Some batch → is_recall_of (batch_key pack.gtin batch) entry.item ≡ false)
+    made : (item : Item) → IfSome (made_batch item) (λ batch. is_recall_of (batch_key pack.gtin batch) entry.item ≡ false)
         → IfSome (pack_made_by item) (λ (made : KnownPack). (x : Placed) → standing_at now x (batch_key pack.gtin made.batch) ≡ standing_at before x (batch_key pack.gtin made.batch))
     made item e = grind (arith, nat_tests, stand)
 
-    same : (birth : Option Placed) → IfSome birth (λ placed. get_or log placed.place no_entry ≡ placed.entry)
-        → ((b : ℕ) (batch : List ℕ) → option_map place_of birth ≡ Some b → batch_at log b ≡ Some batch → is_recall_of (batch_key pack.gtin batch) entry.item ≡ false) → IsSameFor before now pack.gtin birth
-    same birth s h = grind (arith, nat_tests, made)
+    same : (birth : Option Placed) → IfSome (option_and_then (λ (x : Placed). made_batch x.entry.item) birth) (λ batch. is_recall_of (batch_key pack.gtin batch) entry.item ≡ false) → IsSameFor before now pack.gtin birth
+    same birth h = grind (arith, nat_tests, made)
+
+-- what holds of all holds of what there is
+any-some : {A : Type 0} {P : A → Type 0} → (o : Option A) → ((x : A) → P x) → IfSome o P
+any-some o f = grind (arith, nat_tests)
 
 -- the newest entry, by its place
 module _ (whole : List LogEntry) (place : ℕ) (l : length whole ≡ place + 1) where
@@ -176,26 +177,34 @@ module _ (whole : List LogEntry) (place : ℕ) (l : length whole ≡ place + 1) 
   stop-away (stops.Recall batch) own pack n =
       let form = recall-form batch.now entry.item own in
       ap (life_of pack) (log-split whole place l)
-      ∙ elsewhere log entry pack (form.2.0 pack) (form.1 pack.gtin) (λ birth number b e. form.0 (batch_key pack.gtin number) ∙ ap (λ t. t && bytes_eq batch.now.batch number) n)
+      ∙ elsewhere log entry pack (form.2.0 pack) (form.1 pack.gtin) (any-some (life_batch (life_of pack log)) (λ number. form.0 (batch_key pack.gtin number) ∙ ap (λ t. t && bytes_eq batch.now.batch number) n))
   stop-away (stops.Withdrawal gtin) own pack n =
       let form = withdrawal-form gtin.now entry.item own in
       ap (life_of pack) (log-split whole place l)
-      ∙ elsewhere log entry pack (form.2.0 pack) (form.0 pack.gtin ∙ n) (λ birth number b e. form.1 (batch_key pack.gtin number))
+      ∙ elsewhere log entry pack (form.2.0 pack) (form.0 pack.gtin ∙ n) (any-some (life_batch (life_of pack log)) (λ number. form.1 (batch_key pack.gtin number)))
 
   -- a recall bears on no pack whose track is not listed under its batch
-  pub recall-away : (key : BatchKey) (slots : List (List ℕ × Slot)) (own : ListingTable) → is_recall_of key entry.item ≡ true → AreListed log key.gtin slots own
-      → (serial : List ℕ) (number : ℕ) → lookup (bytes_eq serial) slots ≡ Some (Own number) → lists own key.batch number ≡ false
+  pub recall-away : (key : BatchKey) (shelf : ShelfTable) → is_recall_of key entry.item ≡ true → IsShelfOf log key.gtin shelf
+      → (serial : List ℕ) (number : ℕ) → lookup (bytes_eq serial) shelf.slots ≡ Some (Own number) → lists shelf.listing key.batch number ≡ false
       → life_of (pack_key key.gtin serial) whole ≡ life_of (pack_key key.gtin serial) log
-  recall-away key slots own recall listed serial number found none =
+  recall-away key shelf recall of serial number found none =
       let form = recall-form key entry.item recall in
-      ap (life_of (pack_key key.gtin serial)) (log-split whole place l)
-      ∙ elsewhere log entry (pack_key key.gtin serial) (form.2.0 (pack_key key.gtin serial)) (form.1 key.gtin)
-      (λ birth batch b e. form.0 (batch_key key.gtin batch) ∙ no_other (bytes_eq key.gtin key.gtin) (bytes_eq key.batch batch) (by birth batch b e (bytes_eq key.batch batch) refl))
+      let pack = pack_key key.gtin serial in
+      ap (life_of pack) (log-split whole place l)
+      ∙ elsewhere log entry pack (form.2.0 pack) (form.1 key.gtin) (other (life_batch (life_of pack log)) (of serial).listed (λ batch. form.0 (batch_key key.gtin batch)))
     where
-      no_other : (a b : Bool) → b ≡ false → (a && b) ≡ false
-      no_other a b e = grind (arith, nat_tests)
+      other : (o : Option (List ℕ)) → IfSome o (λ batch. is_listed shelf.listing (lookup (bytes_eq serial) shelf.slots) batch ≡ true)
+          → ((batch : List ℕ) → is_recall_of (batch_key key.gtin batch) entry.item ≡ is_same_batch key (batch_key key.gtin batch))
+          → IfSome o (λ batch. is_recall_of (batch_key key.gtin batch) entry.item ≡ false)
+      other None h f = tt
+      other (Some batch) h f = f batch ∙ by (bytes_eq key.batch batch) refl
+        where
+          by : (c : Bool) → bytes_eq key.batch batch ≡ c → is_same_batch key (batch_key key.gtin batch) ≡ false
+          by c e = grind (arith, nat_tests, found, h, none, same_text key.batch batch)
 
-      by : (birth : ℕ) (batch : List ℕ) → (track_of (pack_key key.gtin serial) log).birth ≡ Some birth → batch_at log birth ≡ Some batch
-          → (c : Bool) → bytes_eq key.batch batch ≡ c → c ≡ false
-      by birth batch b e false h = refl
-      by birth batch b e true h = grind (arith, nat_tests, same_text key.batch batch (sym h))
+  -- a stop bears on no pack whose track is not one that it may bear on
+  pub stop-passes : (stop : Stop) → is_stop stop entry.item ≡ true → (shelf : ShelfTable) → IsShelfOf log (stopped_product stop) shelf
+      → (serial : List ℕ) (number : ℕ) → lookup (bytes_eq serial) shelf.slots ≡ Some (Own number) → may_stop shelf.listing stop number ≡ false
+      → life_of (pack_key (stopped_product stop) serial) whole ≡ life_of (pack_key (stopped_product stop) serial) log
+  stop-passes (stops.Recall batch) own shelf of serial number found none = recall-away batch.now shelf own of serial number found none
+  stop-passes (stops.Withdrawal gtin) own shelf of serial number found none = absurd (true≢false none)

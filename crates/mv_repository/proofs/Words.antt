@@ -1,85 +1,81 @@
 -- The names of the library and of the crates below that proofs cite, passed on from one place. Declares nothing.
-pub use Rattle.std.proofs.Common.{Bool, Err, IfSome, IsSome, List, None, Ok, OnErr, OnOk, Option, Result, Some, [], ap, append-nil, append_assoc, arith, cond, drop, false, filter, find, fold, get_or, inl, inr, insert, is_some, length, length-append, map, min, nat_eq, nat_lt, not, refl, rules, set, slice_set, subst, suc, sym, take, true, true≢false, zero, ℕ, ◌∙◌}
-pub use Rattle.std.proofs.Math.Bool.{and-false, or-false}
-pub use Rattle.std.proofs.Math.ListN.{drop_of_length-le}
-pub use Rattle.std.proofs.Math.Seq.{take-add}
-pub use Rattle.std.proofs.lemmas.Bool.{cond_both, eqb-true, ltb-true}
-pub use Rattle.std.proofs.lemmas.Bool.Decides.{nat_tests}
-pub use Rattle.std.proofs.lemmas.Grind.{flat_map-append}
-pub use Rattle.std.proofs.lemmas.List.{at_drop_more, drop-append-le, drop-drop, drop-map, drop-set-lt, drop_at, get_or_append_left, get_or_default, get_or_push, length-drop, length-map, length-take-le, take-append-drop, take-append-le, take-map, take_all, take_at, take_more, take_more_set}
-pub use Rattle.std.proofs.lemmas.List.Elements.{filter-append}
-pub use Rattle.std.proofs.lemmas.List.Folds.{list_any-append, list_any_more}
-pub use Rattle.std.proofs.lemmas.List.Sums.{fold-append}
-pub use Rattle.std.proofs.lemmas.Map.Entries.{length-keys_of, lookup-filter-values, option_filter}
-pub use Rattle.std.proofs.lemmas.Map.Keys.{IsDistinct-cons, IsDistinct-head, IsDistinct-tail}
-pub use Rattle.std.proofs.lemmas.Map.Made.{IsDistinct-keys_filter, distinct_count-le, is_member-filter, is_some-lookup, length-from_keys}
-pub use Rattle.std.proofs.lemmas.Map.Steps.{list_any_congr}
-pub use Rattle.std.proofs.lemmas.Option.{get_or_from_slice_get, slice_get-get_or, slice_get_within}
-pub use Rattle.std.specs.Bool.{⊤}
-pub use Rattle.std.specs.Cmp.{IsEquivalence}
-pub use Rattle.std.specs.Cmp.Lexicographic.{nat_list_eq_equiv, same_text}
-pub use Rattle.std.specs.HashSet.{HashSet}
-pub use Rattle.std.specs.List.{AllByRecursion, Contains, cons_option, filter_map, flat_map, last_or, list_any}
-unfoldable pub use Rattle.std.specs.List.{IsDistinct}
-pub use Rattle.std.specs.Map.{keys_of, lookup}
-pub use Rattle.std.specs.Option.{option_and_then, option_copied, option_map, option_map_or, option_or, unwrap_or}
-pub use Rattle.std.specs.Prelude.{bytes_eq, slice_get}
-pub use Rattle.std.specs.Set.{distinct_count, is_member, unique_keys}
 pub use Rattle.indexmap.proofs.SetLemmas.{keys_insert_entry}
 pub use Rattle.indexmap.specs.IndexMap.{insert_entry, spare}
 pub use Rattle.indexmap.specs.IndexSet.{insert_key}
 pub use Rattle.mv_link.specs.PartySets.{has_party}
-pub use Rattle.mv_link.specs.declared.item.Item.{Item}
 pub use Rattle.mv_link.specs.declared.item.Item.TheVariants.{Carried, Receipt}
+pub use Rattle.mv_link.specs.declared.item.Item.{Item}
 pub use Rattle.mv_link.specs.declared.limits.TheConstants.{PARTIES_LIMIT}
 pub use Rattle.mv_link.specs.declared.party_set.PartySet.{PartySet}
 pub use Rattle.mv_message.specs.declared.found.Found.{Found}
-pub use Rattle.mv_message.specs.declared.message.Message.{Message}
 pub use Rattle.mv_message.specs.declared.message.Message.TheVariants.{Answer, Master, Recall, Status, Upload, Withdraw}
+pub use Rattle.mv_message.specs.declared.message.Message.{Message}
 pub use Rattle.mv_message.specs.declared.message.Product.{Product}
 pub use Rattle.mv_message.specs.declared.standing.Standing.{Standing}
 pub use Rattle.mv_pack.specs.Expiry.{CivilDate}
 pub use Rattle.mv_pack.specs.Keys.{batch_key, is_same_batch, is_same_pack, pack_key}
 pub use Rattle.mv_pack.specs.declared.key.BatchKey.{BatchKey}
 pub use Rattle.mv_pack.specs.declared.key.PackKey.{PackKey}
-pub use Rattle.mv_repository.specs.declared.blocks.Block.{Block}
-pub use Rattle.mv_repository.specs.declared.blocks.Cut.{Cut}
-pub use Rattle.mv_repository.specs.declared.blocks.TheConstants.{BLOCK}
-pub use Rattle.mv_repository.specs.declared.entry.LogEntry.{LogEntry}
-pub use Rattle.mv_repository.specs.declared.slot.Slot.{Slot}
-pub use Rattle.mv_repository.specs.declared.slot.Slot.TheVariants.{Made, Own}
-pub use Rattle.mv_repository.specs.declared.verdict.Local.{Local}
-pub use Rattle.mv_repository.specs.Agreement.{AgreeOn, HasDistinctStamps, HaveSameAbout, HaveSameEntries, Sent, about, bears_on, is_batch_recalled, sent_by, sent_in, unplaced, unplaced_state}
+pub use Rattle.mv_repository.specs.Agreement.{AgreeOn, HasDistinctStamps, HaveSameAbout, HaveSameEntries, Sent, about, batch_in, bears_on, is_batch_recalled, sent_by, sent_in, unplaced, unplaced_state}
 pub use Rattle.mv_repository.specs.Blocks.{AreBlocks, IsCovered, IsCut, IsFront, IsSummary, may_have, no_block, without}
 pub use Rattle.mv_repository.specs.Changes.{ChangeNamesStatus, NamesStatus}
-pub use Rattle.mv_repository.specs.Counted.{is_counted, packs_counted, slots_counted}
 pub use Rattle.mv_repository.specs.Counts.{is_held_active, mastered_in, recalled_in, uploaded_in, uploaded_packs}
 pub use Rattle.mv_repository.specs.Effect.{effect_after, effect_of, entries_before, lasting_effect}
-pub use Rattle.mv_repository.specs.History.{AreAt, HaveSameHistory, IsAt, PackHistory, SentHistory, SentStatus, as_sent, history_at, history_of, sent_of, sent_status}
-pub use Rattle.mv_repository.specs.Inquiries.{IsInquiriesOf, has_reply, inquiry_in, inquiry_of, is_receipt_of, known_verdict, named_parties, parties_at, receipt_place, tells_of_query, verdict_once_asked, with_finding, with_receipt}
-pub use Rattle.mv_repository.specs.Listing.{AreListed, HasAllOf, ListingTable, batch_at, batch_in as item_batch, has_number, lists, no_numbers, numbers_in, numbers_of}
+pub use Rattle.mv_repository.specs.History.{AreAt, HaveSameHistory, PackHistory, SentHistory, SentStatus, as_sent, history_at, history_of, sent_of, sent_status}
+pub use Rattle.mv_repository.specs.Inquiries.{IsInquiriesOf, has_reply, inquiry_in, inquiry_of, tells_of_query, with_finding, with_receipt}
 pub use Rattle.mv_repository.specs.Log.{items_from}
 pub use Rattle.mv_repository.specs.Masters.{AreMastersOf, comes_late, entry_of, is_master, last_in, product_at, product_in}
-pub use Rattle.mv_repository.specs.Order.{Ascends, IsOrderOf, Placed, ordered, passes, put_in, rank, stands_before}
-pub use Rattle.mv_repository.specs.Pack.{KnownChange, KnownPack, change_effect, is_active, is_done, is_final, new_pack, pack_after_status, revert_effect}
-pub use Rattle.mv_repository.specs.PackState.{batch_standing, has_pack, held_of, is_recall_of, is_recalled, is_recalled_by, is_withdrawal_of, is_withdrawn, is_withdrawn_by, known_pack, known_pack_from, pack_after_item, pack_state}
+pub use Rattle.mv_repository.specs.Order.{Ascends, IsOrderOf, Placed, ordered, passes, put_in, stands_before}
+pub use Rattle.mv_repository.specs.Pack.{KnownPack, change_effect, is_active, is_done, new_pack}
+pub use Rattle.mv_repository.specs.PackState.{batch_standing, has_pack, held_of, is_recall_of, is_recalled_by, is_withdrawal_of, is_withdrawn, is_withdrawn_by, known_pack, known_pack_from, pack_after_item, pack_state}
 pub use Rattle.mv_repository.specs.Product.{product_under}
 pub use Rattle.mv_repository.specs.Repository.{product_of}
-pub use Rattle.mv_repository.specs.Shelf.{AreKept, AreMadeListed, HasNoOther, IsAgain, IsRefreshed, IsShelf, IsShelfOf, IsUploadOf, NamesNone, ShelfTable, has, kept_by, kept_on, new_count, no_shelf, nothing_kept, shelf_of}
-pub use Rattle.mv_repository.specs.State.{change_in, effect_by, effect_on, entry_in, known_at, next_by, next_in, next_place, pack_made_by, standing_in, start_in}
+pub use Rattle.mv_repository.specs.Shelf.{IsAgain, IsPackOf, IsRefreshed, IsShelf, IsShelfOf, IsUploadOf, NamesNone, ShelfTable, has, has_number, is_counted, is_in, is_listed, kept_by, kept_on, life_batch, lists, may_stop, no_shelf, nothing_kept, numbers_in, packs_counted, shelf_of, slots_counted}
+pub use Rattle.mv_repository.specs.State.{batch_at, change_in, effect_by, effect_on, entry_in, known_at, made_batch, next_by, next_in, next_place, pack_made_by, standing_in, start_in}
 pub use Rattle.mv_repository.specs.Stopped.{each_once, withdrawn_in}
 pub use Rattle.mv_repository.specs.Stops.{AreFirstsOf, AreFound, AreStopsOf, FirstStops, StopTables, comes_first, earlier_place, entry_at, first_place, first_stops, is_before, is_stop, message_in, no_entry, place_of, standing_at, stopped_product, stops_in}
 pub use Rattle.mv_repository.specs.Tables.{AreTablesOf}
 pub use Rattle.mv_repository.specs.Track.{IsKept, IsTrack, Kept, Life, bare, first_upload, is_active_kept, is_status_of, is_upload_of, kept_of, life_of, pack_changed, pack_grown, pack_step, places_before, put_place, start_of, state_by, state_from, statuses_of, track_of}
-pub use Rattle.mv_repository.specs.Verdict.{asked_parties, finding_in, found_active, found_explained, has_answered, has_finding, is_for_destruction, joint_verdict, joint_verdict_when, local_verdict, local_verdict_of, query_reach, verdict_when}
+pub use Rattle.mv_repository.specs.Verdict.{asked_parties, finding_in, found_active, found_explained, has_answered, has_finding, joint_verdict, joint_verdict_when, query_reach, verdict_when}
+pub use Rattle.mv_repository.specs.declared.blocks.Block.{Block}
+pub use Rattle.mv_repository.specs.declared.blocks.Cut.{Cut}
+pub use Rattle.mv_repository.specs.declared.blocks.TheConstants.{BLOCK}
 pub use Rattle.mv_repository.specs.declared.counted.Counted.{Counted}
-pub use Rattle.mv_repository.specs.declared.counted.Counted.TheVariants.{Active, Held}
 pub use Rattle.mv_repository.specs.declared.effect.Effect.{Effect}
+pub use Rattle.mv_repository.specs.declared.entry.LogEntry.{LogEntry}
 pub use Rattle.mv_repository.specs.declared.history.Places.{Places}
 pub use Rattle.mv_repository.specs.declared.inquiries.Inquiries.{Inquiries}
 pub use Rattle.mv_repository.specs.declared.inquiries.Inquiry.{Inquiry}
+pub use Rattle.mv_repository.specs.declared.slot.Slot.TheVariants.{Made, Own}
+pub use Rattle.mv_repository.specs.declared.slot.Slot.{Slot}
 pub use Rattle.mv_repository.specs.declared.stops.BatchStanding.{BatchStanding}
 pub use Rattle.mv_repository.specs.declared.stops.Stop.{Stop}
 pub use Rattle.mv_repository.specs.declared.tables.Tables.{Tables}
-pub use Rattle.mv_repository.specs.declared.verdict.Joint.TheVariants.{Decided, Pending}
-pub use Rattle.mv_repository.specs.declared.verdict.Local.TheVariants.{Absent, Known}
+pub use Rattle.mv_repository.specs.declared.verdict.Joint.TheVariants.{Decided, NotAsked, Pending}
+pub use Rattle.std.proofs.Common.{Bool, IfSome, List, None, OnErr, OnOk, Option, Result, Some, [], ap, append-nil, append_assoc, arith, cond, drop, false, filter, find, fold, get_or, inl, inr, insert, is_some, length, length-append, map, min, nat_eq, nat_lt, not, refl, rules, set, subst, suc, sym, take, true, true≢false, zero, ℕ, ◌∙◌}
+pub use Rattle.std.proofs.Math.Bool.{and-true, or-false, or-true}
+pub use Rattle.std.proofs.Math.ListN.{drop_of_length-le}
+pub use Rattle.std.proofs.Math.Seq.{take-add}
+pub use Rattle.std.proofs.lemmas.Bool.Decides.{nat_tests}
+pub use Rattle.std.proofs.lemmas.Bool.{and_parts, cond_both}
+pub use Rattle.std.proofs.lemmas.Grind.{common_steps, flat_map-append}
+pub use Rattle.std.proofs.lemmas.List.Elements.{All-contains, All-from_recursion, filter-append}
+pub use Rattle.std.proofs.lemmas.List.Folds.{list_any-append, list_any_more}
+pub use Rattle.std.proofs.lemmas.List.Sorted.{Contains-permutation, IsPermutation-cons, IsPermutation-middle, IsPermutation-trans, list_any-IsPermutation}
+pub use Rattle.std.proofs.lemmas.List.Sums.{fold-append}
+pub use Rattle.std.proofs.lemmas.List.{at_drop_more, drop-append-le, drop-drop, drop-map, drop_at, get_or_append_left, get_or_default, get_or_push, length-drop, length-map, length-take-le, take-append-drop, take-append-le, take-map, take_all, take_at, take_more, take_more_set}
+pub use Rattle.std.proofs.lemmas.Map.Entries.{length-keys_of, lookup-filter-values, option_filter}
+pub use Rattle.std.proofs.lemmas.Map.Keys.{IsDistinct-cons, IsDistinct-head, IsDistinct-tail}
+pub use Rattle.std.proofs.lemmas.Map.Made.{IsDistinct-keys_filter, distinct_count-le, is_member-filter, is_some-lookup, length-from_keys}
+pub use Rattle.std.proofs.lemmas.Option.{get_or_from_slice_get, slice_get-get_or, slice_get_within}
+pub use Rattle.std.specs.Bool.{⊤}
+pub use Rattle.std.specs.Cmp.Lexicographic.{nat_list_eq_equiv, same_text}
+pub use Rattle.std.specs.Cmp.{IsEquivalence}
+pub use Rattle.std.specs.HashSet.{HashSet}
+pub use Rattle.std.specs.List.Sorted.{IsPartitionPoint, IsPartitionedBy, IsPermutation}
+pub use Rattle.std.specs.List.{AllByRecursion, Contains, cons_option, filter_map, flat_map, last_or, list_any}
+pub use Rattle.std.specs.Map.{keys_of, lookup}
+pub use Rattle.std.specs.Option.{option_and_then, option_copied, option_map, option_map_or, option_or, unwrap_or}
+pub use Rattle.std.specs.Prelude.{bytes_eq, slice_get}
+pub use Rattle.std.specs.Set.{distinct_count, is_member}
+unfoldable pub use Rattle.std.specs.List.{IsDistinct}

@@ -1,8 +1,7 @@
 -- What many statuses of a pack do that stand one behind the other.
 use Rattle.std.specs.Prelude.{◌≡◌, ◌≤◌, ◌+◌, ◌%◌, ◌++◌, ◌∷◌}
-use Rattle.mv_repository.specs.Words.{⊤, ℕ, List, [], length, fold, take, drop, Bool, true, AllByRecursion, PARTIES_LIMIT, PartySet}
+use Rattle.mv_repository.specs.Words.{⊤, ℕ, List, [], length, fold, take, drop, Bool, true, AllByRecursion, PARTIES_LIMIT, PartySet, Block}
 use Rattle.mv_link.specs.PartySets.{has_party, no_parties}
-use Rattle.mv_repository.specs.declared.blocks.Block.{Block}
 use Rattle.mv_repository.specs.declared.blocks.Cut.{Cut}
 use Rattle.mv_repository.specs.Order.{Placed}
 use Rattle.mv_repository.specs.Pack.{is_active}

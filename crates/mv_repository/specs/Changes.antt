@@ -1,8 +1,7 @@
 -- What the change of a pack says of the log.
 use Rattle.std.specs.Prelude.{◌≡◌}
-use Rattle.mv_repository.specs.Words.{ℕ, List, true, Some, IfSome, slice_get, PackKey, Standing, Status, Carried, LogEntry}
+use Rattle.mv_repository.specs.Words.{ℕ, List, true, Some, IfSome, slice_get, PackKey, Standing, Status, Carried, LogEntry, is_same_pack}
 use Rattle.mv_repository.specs.Order.{ordered}
-use Rattle.mv_pack.specs.Keys.{is_same_pack}
 use Rattle.mv_repository.specs.Pack.{KnownChange}
 use Rattle.mv_repository.specs.PackState.{known_pack}
 

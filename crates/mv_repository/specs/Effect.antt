@@ -1,10 +1,8 @@
 -- What applying an item does, by its number.
 use Rattle.std.specs.Prelude.{◌-◌, if◌then◌else◌}
-use Rattle.mv_repository.specs.Words.{ℕ, List, length, filter, not, Bool, is_some, codes, bytes_eq, option_map_or, distinct_count, Master, Upload, Status, Withdraw, Item, Carried, Effect, LogEntry}
-use Rattle.mv_message.specs.declared.message.Message.TheVariants.{Recall}
+use Rattle.mv_repository.specs.Words.{ℕ, List, length, filter, not, Bool, is_some, codes, bytes_eq, option_map_or, distinct_count, Master, Upload, Status, Withdraw, Item, Carried, Effect, LogEntry, Recall, pack_key, batch_key}
 use Rattle.mv_repository.specs.declared.effect.Effect.TheVariants as effects
 use Rattle.mv_repository.specs.Order.{Placed, passes, ordered}
-use Rattle.mv_pack.specs.Keys.{pack_key, batch_key}
 use Rattle.mv_repository.specs.Pack.{change_effect}
 use Rattle.mv_repository.specs.PackState.{is_recalled_by, is_withdrawn_by, batch_standing, known_pack}
 

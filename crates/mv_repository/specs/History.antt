@@ -1,7 +1,6 @@
 -- What decides one pack: as a log has it, and as it was sent.
 use Rattle.std.specs.Prelude.{◌≡◌}
-use Rattle.mv_repository.specs.Words.{List, map, Bool, Option, Some, IfSome, slice_get, AllByRecursion, option_map, option_and_then, PackKey, LogEntry, BatchStanding}
-use Rattle.mv_pack.specs.Keys.{batch_key}
+use Rattle.mv_repository.specs.Words.{List, map, Bool, Option, Some, IfSome, slice_get, AllByRecursion, option_map, option_and_then, PackKey, LogEntry, BatchStanding, batch_key}
 use Rattle.mv_repository.specs.declared.history.Places.{Places}
 use Rattle.mv_repository.specs.Order.{Placed, ordered}
 use Rattle.mv_repository.specs.Agreement.{Sent, sent_in, batch_in}

@@ -17,9 +17,7 @@ pub mod Masters
 pub mod State
 pub mod Blocks
 pub mod Track
-pub mod Counted
 pub mod Shelf
-pub mod Listing
 pub mod Inquiries
 pub mod Tables
 pub mod History

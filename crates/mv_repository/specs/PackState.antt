@@ -1,10 +1,7 @@
 -- What a log means for one pack, one batch and one product: its entries are read in the order of stamps.
 use Rattle.std.specs.Prelude.{◌∷◌, ◌++◌, ◌&&◌, if◌then◌else◌}
-use Rattle.mv_repository.specs.Words.{ℕ, List, [], Bool, false, Option, Some, None, bytes_eq, list_any, option_map, option_or, PackKey, BatchKey, Upload, Status, Withdraw, Item, Carried, LogEntry, BatchStanding}
-use Rattle.mv_message.specs.declared.message.Message.TheVariants.{Recall}
-use Rattle.mv_repository.specs.declared.held.Held.{Held}
+use Rattle.mv_repository.specs.Words.{ℕ, List, [], Bool, false, Option, Some, None, bytes_eq, list_any, option_map, option_or, PackKey, BatchKey, Upload, Status, Withdraw, Item, Carried, LogEntry, BatchStanding, Recall, Held, is_same_pack, is_same_batch, batch_key}
 use Rattle.mv_repository.specs.Order.{Placed, ordered}
-use Rattle.mv_pack.specs.Keys.{is_same_pack, is_same_batch, batch_key}
 use Rattle.mv_repository.specs.Pack.{KnownPack, KnownChange, new_pack, pack_after_status}
 
 -- an item is a recall of a batch

@@ -1,8 +1,6 @@
 -- What a query finds, and the answers that a log calls for.
 use Rattle.std.specs.Prelude.{◌∷◌, ◌++◌}
-use Rattle.mv_repository.specs.Words.{ℕ, List, [], Option, Some, None, option_to_list, option_map_or, PackKey, Message, Query, Answer, Found, Present, Item, Carried, LogEntry}
-use Rattle.mv_message.specs.declared.found.Found.TheVariants.{Absent}
-use Rattle.mv_pack.specs.Keys.{batch_key}
+use Rattle.mv_repository.specs.Words.{ℕ, List, [], Option, Some, None, option_to_list, option_map_or, PackKey, Message, Query, Answer, Found, Present, Item, Carried, LogEntry, Absent, batch_key}
 use Rattle.mv_repository.specs.PackState.{pack_state, is_recalled, is_withdrawn}
 
 -- what a log finds of a pack: how it is held, and whether its batch is recalled and its product withdrawn

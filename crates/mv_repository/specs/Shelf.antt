@@ -1,13 +1,12 @@
 -- What is kept of each pack of a product: a pack that has no status has a slot alone, and each other a track.
-use Rattle.std.specs.Prelude.{◌≡◌, ◌<◌, if◌then◌else◌}
-use Rattle.mv_repository.specs.Words.{ℕ, List, [], length, get_or, take, filter, not, is_some, Bool, true, false, Option, Some, None, bytes_eq, lookup, Slot, Made, Own, list_any, Upload, Item, Carried, PackKey, LogEntry, distinct_count}
-use Rattle.mv_pack.specs.Keys.{pack_key}
-use Rattle.std.specs.Option.{unwrap_or}
-use Rattle.mv_repository.specs.Effect.{entries_before}
-use Rattle.mv_repository.specs.PackState.{known_pack}
-use Rattle.mv_repository.specs.Listing.{ListingTable, no_numbers, lists, batch_at, AreListed}
-use Rattle.mv_repository.specs.Stops.{FirstStops, comes_first}
-use Rattle.mv_repository.specs.Track.{Kept, life_of, IsKept, IsTrack, is_upload_of, is_status_of, track_of}
+use Rattle.std.specs.Prelude.{◌≡◌, ◌<◌, ◌==◌, ◌||◌}
+use Rattle.mv_repository.specs.Words.{ℕ, List, [], length, get_or, Bool, true, false, Option, Some, None, IfSome, bytes_eq, lookup, option_and_then, option_map_or, map, filter, is_some, not, flat_map, keys_of, HashSet, Counted, Active, Slot, Made, Own, list_any, Upload, Item, Carried, PackKey, LogEntry, pack_key, unwrap_or, Stop, Withdrawal}
+use Rattle.mv_repository.specs.declared.counted.Counted.TheVariants.{Held}
+use Rattle.mv_repository.specs.declared.stops.Stop.TheVariants.{Recall}
+use Rattle.mv_repository.specs.Order.{Placed}
+use Rattle.mv_repository.specs.State.{made_batch}
+use Rattle.mv_repository.specs.Stops.{FirstStops}
+use Rattle.mv_repository.specs.Track.{Kept, Life, life_of, IsKept, IsTrack, is_active_kept, is_upload_of, is_status_of}
 
 -- nothing is kept
 abbrev pub nothing_kept : Kept
@@ -29,6 +28,19 @@ pub record IsShelf (slots : List (List ℕ × Slot)) (tracks : List Kept) : Type
   pub apart : (serial other : List ℕ) (number : ℕ) → lookup (bytes_eq serial) slots ≡ Some (Own number)
       → lookup (bytes_eq other) slots ≡ Some (Own number) → bytes_eq serial other ≡ true
 
+-- sets of numbers by batch, each as a list
+abbrev pub numbers_in : {S : Type 0} → List (List ℕ × HashSet ℕ S) → List (List ℕ × List ℕ)
+numbers_in sets = map (λ entry. (entry.0, entry.1.keys)) sets
+
+-- the numbers of tracks by batch; where memory was refused for one, they are not all
+pub record ListingTable : Type 0 where
+  pub is_whole : Bool
+  pub numbers : List (List ℕ × List ℕ)
+
+-- a number is among these
+abbrev pub has_number : List ℕ → ℕ → Bool
+has_number numbers number = list_any (λ one. one == number) numbers
+
 -- what is kept of the packs of a product
 pub record ShelfTable : Type 0 where
   pub slots : List (List ℕ × Slot)
@@ -44,52 +56,69 @@ IsUploadOf _ gtin serials = ⊥
 abbrev pub has : List (List ℕ) → List ℕ → Bool
 has serials serial = list_any (λ one. bytes_eq one serial) serials
 
--- how many of these serial numbers, each counted once, are of packs that no entry makes that stands before the newest
-abbrev pub new_count : List LogEntry → LogEntry → List ℕ → List (List ℕ) → ℕ
-new_count log entry gtin serials =
-    distinct_count bytes_eq (filter (λ serial. not (is_some (known_pack (pack_key gtin serial) (entries_before log entry)))) serials)
+-- a number is in the set of a batch
+abbrev pub is_in : {S : Type 0} → List (List ℕ × HashSet ℕ S) → List ℕ → ℕ → Bool
+is_in {S} sets batch number = option_map_or (λ (set : HashSet ℕ S). has_number set.keys number) (lookup (bytes_eq batch) sets) false
 
--- each pack of a product is kept as a log means it, where these packs are by the first of two logs, and the others by the second
-abbrev pub AreKept : List LogEntry → List LogEntry → List (List ℕ) → List ℕ → List (List ℕ × Slot) → List Kept → Type 0
-AreKept now before done gtin slots tracks =
-    (serial : List ℕ) → IsKept (life_of (pack_key gtin serial) (if has done serial then now else before)) (kept_on slots tracks serial)
+-- a number may be of a batch: any may, where they are not all
+abbrev pub lists : ListingTable → List ℕ → ℕ → Bool
+lists listing batch number = not listing.is_whole || option_map_or (λ numbers. has_number numbers number) (lookup (bytes_eq batch) listing.numbers) false
 
--- of the packs with these serial numbers, those that the entry at the last place of a log makes have their tracks listed under its batch
-abbrev pub AreMadeListed : List LogEntry → ℕ → List (List ℕ) → List ℕ → List (List ℕ × Slot) → ListingTable → Type 0
-AreMadeListed log place serials gtin slots listing =
-    (serial : List ℕ) (number : ℕ) (batch : List ℕ) → has serials serial ≡ true → lookup (bytes_eq serial) slots ≡ Some (Own number)
-    → comes_first log place (track_of (pack_key gtin serial) (take place log)).birth ≡ true → batch_at log place ≡ Some batch
-    → lists listing batch number ≡ true
+-- a stop may bear on the pack of a track
+abbrev pub may_stop : ListingTable → Stop → ℕ → Bool
+may_stop listing (Recall batch) number = lists listing batch.now.batch number
+may_stop listing (Withdrawal gtin) number = true
 
--- no other track is in these slots than in those before
-abbrev pub HasNoOther : List (List ℕ × Slot) → List (List ℕ × Slot) → Type 0
-HasNoOther old new =
-    (serial : List ℕ) (number : ℕ) → lookup (bytes_eq serial) new ≡ Some (Own number) → lookup (bytes_eq serial) old ≡ Some (Own number)
+-- a pack's track may be of a batch, where it has one
+abbrev pub is_listed : ListingTable → Option Slot → List ℕ → Bool
+is_listed listing (Some (Own number)) batch = lists listing batch number
+is_listed listing _ batch = true
+
+-- the batch of the upload that made a pack
+abbrev pub life_batch : Life → Option (List ℕ)
+life_batch life = option_and_then (λ (placed : Placed). made_batch placed.entry.item) life.birth
+
+-- a pack is kept on a shelf as a log means it, and its track is listed under its batch
+pub record IsPackOf (life : Life) (shelf : ShelfTable) (serial : List ℕ) : Type 0 where
+  pub kept : IsKept life (kept_on shelf.slots shelf.tracks serial)
+  pub listed : IfSome (life_batch life) (λ batch. is_listed shelf.listing (lookup (bytes_eq serial) shelf.slots) batch ≡ true)
 
 -- a shelf is that of a product by a log
-pub record IsShelfOf (log : List LogEntry) (gtin : List ℕ) (shelf : ShelfTable) : Type 0 where
-  pub kept : (serial : List ℕ) → IsKept (life_of (pack_key gtin serial) log) (kept_on shelf.slots shelf.tracks serial)
-  pub listed : AreListed log gtin shelf.slots shelf.listing
+abbrev pub IsShelfOf : List LogEntry → List ℕ → ShelfTable → Type 0
+IsShelfOf log gtin shelf = (serial : List ℕ) → IsPackOf (life_of (pack_key gtin serial) log) shelf serial
 
 -- a shelf with no pack
 abbrev pub no_shelf : ShelfTable
-no_shelf = record { slots = []; tracks = []; listing = no_numbers }
+no_shelf = record { slots = []; tracks = []; listing = record { is_whole = true; numbers = [] } }
 
 -- the shelf of a product
 abbrev pub shelf_of : List ℕ → List (List ℕ × ShelfTable) → ShelfTable
 shelf_of gtin shelves = unwrap_or (lookup (bytes_eq gtin) shelves) no_shelf
 
--- a track was worked out again by a log
-pub record IsAgain (log : List LogEntry) (stops : FirstStops) (gtin : List ℕ) (old new : Kept) : Type 0 where
-  pub birth : new.birth ≡ old.birth
+-- a track was worked out again by a log, where its pack has this upload
+pub record IsAgain (log : List LogEntry) (stops : FirstStops) (gtin : List ℕ) (upload : Option ℕ) (old new : Kept) : Type 0 where
+  pub birth : new.birth ≡ upload
   pub statuses : new.statuses ≡ old.statuses
   pub worked : IsTrack log stops gtin new
 
 -- a track was worked out again, or it stays
 abbrev pub IsRefreshed : List LogEntry → FirstStops → List ℕ → Bool → Kept → Kept → Type 0
-IsRefreshed log stops gtin true old new = IsAgain log stops gtin old new
+IsRefreshed log stops gtin true old new = IsAgain log stops gtin old.birth old new
 IsRefreshed log stops gtin false old new = new ≡ old
 
 -- an item is no upload and no status of a pack
 abbrev pub NamesNone : PackKey → Item → Type 0
 NamesNone pack item = (is_upload_of pack item ≡ false) × (is_status_of pack item ≡ false)
+
+-- a pack that is kept so is counted
+abbrev pub is_counted : Counted → Kept → Bool
+is_counted Held kept = is_some kept.birth
+is_counted Active kept = is_active_kept kept
+
+-- the slots of the packs on a shelf that are counted
+abbrev pub slots_counted : Counted → ShelfTable → List (List ℕ × Slot)
+slots_counted counted shelf = filter (λ slot. is_counted counted (kept_by shelf.tracks (Some slot.1))) shelf.slots
+
+-- the packs that are counted, shelf by shelf
+abbrev pub packs_counted : Counted → List (List ℕ × ShelfTable) → List PackKey
+packs_counted counted shelves = flat_map (λ shelf. map (pack_key shelf.0) (keys_of (slots_counted counted shelf.1))) shelves

@@ -1,13 +1,10 @@
 -- By which entry a pack stands: by the upload that made it, or by the status that changed it last. The place of that entry is
 -- the whole state of a pack whose upload is known.
 use Rattle.std.specs.Prelude.{if◌then◌else◌}
-use Rattle.mv_repository.specs.Words.{ℕ, List, [], Option, Some, None, option_and_then, option_map, option_map_or, BatchKey, Standing, Message, Upload, Status, Item, LogEntry, Change, Effect, BatchStanding}
-use Rattle.std.specs.Option.{unwrap_or}
+use Rattle.mv_repository.specs.Words.{ℕ, List, [], Option, Some, None, option_and_then, option_map, option_map_or, BatchKey, Standing, Message, Upload, Status, Item, LogEntry, Change, Effect, BatchStanding, unwrap_or, Held, batch_key}
 use Rattle.mv_message.specs.declared.standing.Standing.TheVariants as standings
-use Rattle.mv_repository.specs.declared.held.Held.{Held}
 use Rattle.mv_repository.specs.declared.effect.Effect.TheVariants as effects
 use Rattle.mv_repository.specs.declared.state.Basis.{Basis}
-use Rattle.mv_pack.specs.Keys.{batch_key}
 use Rattle.mv_repository.specs.Order.{Placed, stands_before}
 use Rattle.mv_repository.specs.Pack.{KnownPack, KnownChange, new_pack, is_active, is_done, change_effect}
 use Rattle.mv_repository.specs.PackState.{held_of}
@@ -20,6 +17,13 @@ pack_of _ = None
 
 abbrev pub pack_made_by : Item → Option KnownPack
 pack_made_by item = option_and_then pack_of (message_in item)
+
+-- the batch of the packs that an item uploads, and that the entry at a place of a log does
+abbrev pub made_batch : Item → Option (List ℕ)
+made_batch item = option_map (λ (made : KnownPack). made.batch) (pack_made_by item)
+
+abbrev pub batch_at : List LogEntry → ℕ → Option (List ℕ)
+batch_at log place = made_batch (entry_at log place).entry.item
 
 -- how a pack stands that stands by an item: as a status asked, else active
 abbrev pub standing_of : Option Message → Standing

@@ -1,7 +1,6 @@
 -- Which batches a log recalls, and which products it withdraws: each once, in the order in which the first of each came.
 use Rattle.std.specs.Prelude.{◌∷◌}
-use Rattle.mv_repository.specs.Words.{ℕ, List, [], fold, Bool, bytes_eq, flat_map, insert_key, BatchKey, Withdraw, Item, Carried, LogEntry}
-use Rattle.mv_pack.specs.Keys.{is_same_batch}
+use Rattle.mv_repository.specs.Words.{ℕ, List, [], fold, Bool, bytes_eq, flat_map, insert_key, BatchKey, Withdraw, Item, Carried, LogEntry, is_same_batch}
 use Rattle.mv_repository.specs.Counts.{recalled_in}
 
 -- the products that an item withdraws

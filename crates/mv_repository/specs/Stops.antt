@@ -1,9 +1,7 @@
 -- What stops a batch for ever: its first recall, and the first withdrawal of its product, by the order of stamps.
 use Rattle.std.specs.Prelude.{◌≡◌, if◌then◌else◌}
-use Rattle.mv_repository.specs.Words.{ℕ, List, [], find, get_or, Bool, true, false, Option, Some, None, bytes_eq, flat_map, lookup, keys_of, option_map, BatchKey, Item, Receipt, Carried, Message, LogEntry, BatchStanding}
-use Rattle.mv_repository.specs.declared.stops.Stop.{Stop}
-use Rattle.mv_repository.specs.declared.stops.Stop.TheVariants.{Recall, Withdrawal}
-use Rattle.mv_pack.specs.Keys.{is_same_batch}
+use Rattle.mv_repository.specs.Words.{ℕ, List, [], find, get_or, Bool, true, false, Option, Some, None, bytes_eq, flat_map, lookup, keys_of, option_map, BatchKey, Item, Receipt, Carried, Message, LogEntry, BatchStanding, Stop, Withdrawal, is_same_batch}
+use Rattle.mv_repository.specs.declared.stops.Stop.TheVariants.{Recall}
 use Rattle.mv_repository.specs.Order.{Placed, passes, stands_before, ordered}
 use Rattle.mv_repository.specs.PackState.{is_recall_of, is_withdrawal_of}
 use Rattle.mv_repository.specs.Counts.{recalled_in}

@@ -1,14 +1,10 @@
 -- What is kept of one pack: its first upload, its statuses in the order of stamps, and the entry by which the pack stands
 -- behind them.
 use Rattle.std.specs.Prelude.{◌≡◌, ◌∷◌, ◌==◌, if◌then◌else◌}
-use Rattle.mv_repository.specs.Words.{ℕ, List, [], map, fold, filter, find, not, Bool, false, Option, Some, None, option_map, option_map_or, PackKey, BatchKey, Upload, Status, Item, Carried, LogEntry, BatchStanding}
-use Rattle.std.specs.Option.{unwrap_or}
-use Rattle.mv_repository.specs.declared.blocks.Block.{Block}
-use Rattle.mv_pack.specs.Keys.{is_same_pack, batch_key}
+use Rattle.mv_repository.specs.Words.{ℕ, List, [], map, fold, filter, find, not, Bool, false, Option, Some, None, option_map, option_map_or, PackKey, BatchKey, Upload, Status, Item, Carried, LogEntry, BatchStanding, unwrap_or, Block, is_same_pack, batch_key, Held}
 use Rattle.mv_repository.specs.Order.{Placed, passes, stands_before, ordered}
 use Rattle.mv_repository.specs.Pack.{KnownPack, pack_after_status}
 use Rattle.mv_repository.specs.PackState.{has_pack}
-use Rattle.mv_repository.specs.declared.held.Held.{Held}
 use Rattle.mv_repository.specs.Blocks.{AreBlocks}
 use Rattle.mv_repository.specs.State.{pack_made_by, next_by, next_place, held_at}
 use Rattle.mv_repository.specs.Stops.{FirstStops, entry_at, place_of, first_stops, standing_at}

@@ -1,11 +1,11 @@
 //! What decides one pack, lent from a repository, and whether two have the same.
 
 ghost use Rattle.std.specs.Prelude.{◌≡◌, ◌↔◌};
-ghost use Rattle.mv_repository.specs.Words.{map, IsTrue, bytes_eq, YieldsFirstRef, item_count, lookup, option_copied, option_map, option_and_then};
+ghost use Rattle.mv_repository.specs.Words.{map, IsTrue, YieldsFirstRef, item_count, lookup, option_copied, option_map, option_and_then};
 ghost use Rattle.mv_pack.specs.Keys.{is_same_batch, batch_key};
 ghost use Rattle.mv_repository.specs.Agreement.{sent_in};
 ghost use Rattle.mv_repository.specs.History.{history_of, history_at, sent_status, as_sent};
-ghost use Rattle.mv_repository.specs.Listing.{batch_at};
+ghost use Rattle.mv_repository.specs.State.{batch_at};
 ghost use Rattle.mv_repository.specs.Masters.{entry_of};
 ghost use Rattle.mv_repository.specs.Stops.{AreStopsOf, entry_at};
 ghost use Rattle.mv_repository.specs.Track.{track_of};

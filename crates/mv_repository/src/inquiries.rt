@@ -1,17 +1,17 @@
-//! The table of a repository's own queries: for each the place in the log of its first receipt, which names the parties
-//! that it reached, and what was answered so far.
+//! The table of a repository's own queries: for each the parties that it reached, by its first receipt, and what was answered
+//! so far.
 //!
 //! It stands apart since no other table bears on it: it changes at receipts of queries and at answers alone.
 
 ghost use Rattle.std.specs.Prelude.{◌≡◌, ◌<◌, ◌≤◌, ◌==◌, ◌&&◌, ◌||◌, if◌then◌else◌, ◌∷◌, ◌++◌};
-ghost use Rattle.mv_repository.specs.Words.{not, OnOk, ℕ, List, [], length, filter, option_copied, map_spare, set_spare, AnEntry};
-ghost use Rattle.mv_repository.specs.Verdict.{found_active, found_explained};
+ghost use Rattle.mv_repository.specs.Words.{not, OnOk, ℕ, List, [], length, filter, map_spare, set_spare, AnEntry};
+ghost use Rattle.mv_repository.specs.Verdict.{found_active, found_explained, joint_verdict};
 ghost use Rattle.mv_repository.specs.Inquiries.{IsInquiriesOf, HasRoomFor, has_reply, inquiry_in, no_inquiry, tells_of_query};
-ghost use Rattle.mv_repository.specs.Inquiries.{with_receipt, with_finding, parties_at, known_verdict, verdict_once_asked};
+ghost use Rattle.mv_repository.specs.Inquiries.{with_receipt, with_finding};
 
+use crate::Joint;
 use crate::state::is_active;
 use crate::verdict::{is_explained, verdict_when};
-use crate::{Joint, LogEntry};
 use indexmap::{IndexMap, IndexSet};
 use mv_link::{Item, Reached};
 use mv_message::{Found, Message, Party};
@@ -20,8 +20,8 @@ use std::alloc::{AllocError, Global};
 /// What is known of a query.
 #[derive(Debug, Drop)]
 struct Inquiry {
-    /// The place in the log of the first receipt of it, once that has come.
-    receipt: Option<usize>,
+    /// The parties that the first receipt of it names, once that has come.
+    asked: Option<Reached>,
     /// Whether an answer found the pack active.
     active: bool,
     /// Whether an answer found the pack recalled, withdrawn, or to be destroyed, which explains it.
@@ -71,17 +71,17 @@ impl Inquiries {
         Ok(())
     }
 
-    /// Notes an item from a sender, which comes last in the log of the party, at this place.
-    pub fn note(&mut self, party: Party, sender: Party, item: &Item, place: usize)
+    /// Notes an item from a sender, which comes last in the log of the party.
+    pub fn note(&mut self, party: Party, sender: Party, item: &Item)
         requires room { HasRoomFor self.old party sender item.now }
-        ensures { (log : List AnEntry) → place ≡ length log → IsInquiriesOf party log self.old
+        ensures { (log : List AnEntry) → IsInquiriesOf party log self.old
             → IsInquiriesOf party (log ++ record { sender = sender; item = item.now } ∷ []) self.new }
     {
         if !tells_of_query(party, sender, item) {
             return;
         }
         match item {
-            Item::Receipt { k, .. } => self.note_receipt(*k, place),
+            Item::Receipt { k, reach, .. } => self.note_receipt(*k, reach),
             Item::Carried { message, .. } => match message.get() {
                 Message::Answer { q, found, .. } => self.note_answer(sender, *q, found),
                 _ => (),
@@ -89,17 +89,17 @@ impl Inquiries {
         }
     }
 
-    /// Notes the receipt of a query, which stands at a place of the log.
-    fn note_receipt(&mut self, query: u32, place: usize)
+    /// Notes the receipt of a query, which reached these parties.
+    fn note_receipt(&mut self, query: u32, reach: &Reached)
         requires { 0 < map_spare self.old.inquiries }
         ensures inquiries { (q : ℕ) → inquiry_in self.new q ≡ (if query == q
-            then with_receipt place (inquiry_in self.old q) else inquiry_in self.old q) }
+            then with_receipt reach.now (inquiry_in self.old q) else inquiry_in self.old q) }
         ensures replies { (q other : ℕ) → has_reply self.new q other ≡ has_reply self.old q other }
     {
         let Ok(inquiry) = self.inquiries.entry(query) else {
             unreachable!();
         };
-        inquiry.or_insert(Inquiry::new()).note_receipt(place);
+        inquiry.or_insert(Inquiry::new()).note_receipt(reach);
     }
 
     /// Notes an answer to a query.
@@ -124,23 +124,15 @@ impl Inquiries {
         };
     }
 
-    /// The verdict on the query that was the `q`-th message of the party, by what is kept of its log. It takes no memory, and
-    /// reads the log at one place.
-    pub fn verdict(&self, log: &[LogEntry], q: u32) -> Joint
-        ensures { result ≡ known_verdict log.now self.now q }
+    /// The verdict on the query that was the `q`-th message of the party, by what is kept of its log. It takes no memory.
+    pub fn verdict(&self, q: u32) -> Joint
+        ensures { (party : ℕ) (log : List AnEntry) → IsInquiriesOf party log self.now
+            → result ≡ joint_verdict party log q }
     {
-        match self.inquiries.get(&q) {
-            Some(inquiry) => self.verdict_on(log, q, inquiry),
-            None => Joint::NotAsked,
-        }
-    }
-
-    /// The verdict on a query of which this is known.
-    fn verdict_on(&self, log: &[LogEntry], q: u32, inquiry: &Inquiry) -> Joint
-        ensures { result ≡ verdict_once_asked self.now q inquiry.now
-            (parties_at log.now inquiry.now.receipt) }
-    {
-        let Some(asked) = parties_at(log, inquiry.receipt) else {
+        let Some(inquiry) = self.inquiries.get(&q) else {
+            return Joint::NotAsked;
+        };
+        let Some(asked) = &inquiry.asked else {
             return Joint::NotAsked;
         };
         let left = self.left_count(q, asked.to_reach().as_slice());
@@ -172,17 +164,19 @@ impl Inquiry {
         ensures { result ≡ no_inquiry }
     {
         Inquiry {
-            receipt: None,
+            asked: None,
             active: false,
             explained: false,
         }
     }
 
-    /// Notes a receipt of the query, which stands at a place of the log: the first one counts.
-    fn note_receipt(&mut self, place: usize)
-        ensures { self.new ≡ with_receipt place self.old }
+    /// Notes a receipt of the query, which names these parties: the first one counts.
+    fn note_receipt(&mut self, reach: &Reached)
+        ensures { self.new ≡ with_receipt reach.now self.old }
     {
-        self.receipt = self.receipt.or(Some(place));
+        if self.asked.is_none() {
+            self.asked = Some(reach.copy());
+        }
     }
 
     /// Notes an answer to the query.
@@ -191,16 +185,6 @@ impl Inquiry {
     {
         self.active = self.active || found_active(found);
         self.explained = self.explained || found_explained(found);
-    }
-}
-
-/// The parties that the receipt at a place of a log names.
-fn parties_at(log: &[LogEntry], place: Option<usize>) -> Option<&Reached>
-    ensures { option_copied result ≡ parties_at log.now place }
-{
-    match &log.get(place?)?.item {
-        Item::Receipt { reach, .. } => Some(reach),
-        Item::Carried { .. } => None,
     }
 }
 

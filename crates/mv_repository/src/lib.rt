@@ -33,7 +33,6 @@ mod order;
 mod repository;
 mod sender;
 mod shelf;
-mod shelves;
 mod slot;
 mod state;
 mod stops;

@@ -1,11 +1,13 @@
 //! For each batch of a product the numbers of the tracks that may be of it: what a recall has to look at.
 
 ghost use Rattle.std.specs.Prelude.{◌≡◌};
-ghost use Rattle.mv_repository.specs.Words.{ℕ, List, true, false, OnOk, Some, MatchOption, option_copied};
-ghost use Rattle.mv_repository.specs.Listing.{numbers_in, numbers_of, no_numbers, has_number, lists, HasAllOf, HasNumbersOf, batch_at};
+ghost use Rattle.mv_repository.specs.Words.{ℕ, List, [], true, OnOk, IfSome, MatchOption, option_and_then, option_copied};
+ghost use Rattle.mv_repository.specs.Shelf.{has_number, is_in, lists, may_stop};
+ghost use Rattle.mv_repository.specs.State.{batch_at};
 
 use crate::LogEntry;
 use crate::entry::message_at;
+use crate::stops::Stop;
 use indexmap::{IndexMap, IndexSet};
 use mv_message::Message;
 use mv_pack::Batch;
@@ -22,8 +24,8 @@ pub(crate) fn batch_at(log: &[LogEntry], place: u32) -> Option<&Batch>
     }
 }
 
-/// The numbers of tracks by batch. Too many numbers are right, and cost time alone. Where memory was refused for one, any track may be of
-/// any batch.
+/// The numbers of tracks by batch. Too many are right, and cost time alone. Where memory was refused for one, any track may be of any
+/// batch.
 #[derive(Drop)]
 pub(crate) struct Listing {
     /// What memory is got from.
@@ -35,7 +37,7 @@ pub(crate) struct Listing {
 }
 
 impl Model for Listing {
-    ghost use Rattle.mv_repository.specs.Listing.{ListingTable, numbers_in};
+    ghost use Rattle.mv_repository.specs.Shelf.{ListingTable, numbers_in};
 
     ghost Value = { ListingTable };
 
@@ -45,7 +47,7 @@ impl Model for Listing {
 impl Listing {
     /// No number. It takes no memory.
     pub fn new(alloc: Global) -> Listing
-        ensures { result ≡ no_numbers }
+        ensures { result ≡ record { is_whole = true; numbers = [] } }
     {
         Listing {
             alloc,
@@ -56,10 +58,10 @@ impl Listing {
 
     /// Lists a track under the batch of the upload at a place, if there is one. Where memory is refused for it, the listing is not
     /// whole any more.
+    #[tactic(auto, using(crate::proofs::ShelvesLemmas::listed_in))]
     pub fn note(&mut self, log: &[LogEntry], birth: Option<u32>, number: u32)
-        ensures added { (place : ℕ) (batch : List ℕ) → birth ≡ Some place → batch_at log.now place ≡ Some batch
-            → lists self.new batch number ≡ true }
-        ensures kept { HasAllOf self.old self.new }
+        ensures added { IfSome (option_and_then (batch_at log.now) birth) (λ batch. lists self.new batch number ≡ true) }
+        ensures kept { (batch : List ℕ) (other : ℕ) → lists self.old batch other ≡ true → lists self.new batch other ≡ true }
     {
         let Some(place) = birth else {
             return;
@@ -72,25 +74,21 @@ impl Listing {
         }
     }
 
-    /// The numbers that are listed under a batch, each once; none where one may be left out.
-    pub fn of(&self, batch: &Batch) -> Option<&[u32]>
-        ensures { MatchOption result (self.now.is_whole ≡ false)
-            (λ numbers. (number : ℕ) → lists self.now batch.now number ≡ has_number numbers.now number) }
+    /// The numbers of the tracks that a stop may bear on, each once; none where it may bear on any.
+    pub fn of(&self, stop: &Stop<'_>) -> Option<&[u32]>
+        ensures { MatchOption result ((number : ℕ) → may_stop self.now stop.now number ≡ true)
+            (λ numbers. (number : ℕ) → may_stop self.now stop.now number ≡ has_number numbers.now number) }
     {
+        let Stop::Recall(key) = *stop else {
+            return None;
+        };
         if !self.is_whole {
             return None;
         }
-        Some(numbers_of(&self.batches, batch))
-    }
-}
-
-/// The numbers of a batch.
-fn numbers_of<'a>(batches: &'a IndexMap<Batch, IndexSet<u32>>, batch: &Batch) -> &'a [u32]
-    ensures { result.now ≡ numbers_of (numbers_in batches.now.entries) batch.now }
-{
-    match batches.get(batch) {
-        Some(numbers) => numbers.as_slice(),
-        None => &[],
+        match self.batches.get(&key.batch) {
+            Some(numbers) => Some(numbers.as_slice()),
+            None => Some(&[]),
+        }
     }
 }
 
@@ -101,8 +99,8 @@ fn add_to(
     batch: &Batch,
     number: u32,
 ) -> Result<(), AllocError>
-    ensures added { OnOk result (has_number (numbers_of (numbers_in batches.new.entries) batch.now) number ≡ true) }
-    ensures kept { HasNumbersOf (numbers_in batches.old.entries) (numbers_in batches.new.entries) }
+    ensures added { OnOk result (is_in batches.new.entries batch.now number ≡ true) }
+    ensures kept { (other : List ℕ) (one : ℕ) → is_in batches.old.entries other one ≡ true → is_in batches.new.entries other one ≡ true }
 {
     if !batches.contains_key(batch) {
         batches.insert(batch.copy(), IndexSet::new(alloc))?;

@@ -198,7 +198,7 @@ impl Repository {
     pub fn verdict(&self, q: u32) -> Joint
         ensures { result ≡ joint_verdict self.now.party self.now.log q }
     {
-        self.inquiries.verdict(self.log.as_slice(), q)
+        self.inquiries.verdict(q)
     }
 
     /// The answer that an item from a party calls for, by what is held now; only a query calls for one. Nothing changes.
@@ -260,7 +260,7 @@ impl Repository {
         self.log.push_reserved(LogEntry { sender, item: copy });
         match self.tables.add(self.log.as_slice(), place as u32) {
             Ok(effect) => {
-                self.inquiries.note(self.party, sender, item, place);
+                self.inquiries.note(self.party, sender, item);
                 Ok((effect, answer))
             }
             Err(refused) => {

@@ -1,13 +1,12 @@
 //! What is kept of each pack of one product, by serial numbers alone. This file knows no other product.
 
-ghost use Rattle.std.specs.Prelude.{◌≡◌, ◌<◌, ◌≤◌, ◌+◌, ◌^◌, ◌==◌};
-ghost use Rattle.mv_repository.specs.Words.{ℕ, List, [], length, get_or, take, Some, true, false, bytes_eq, OnOk, OnErr, IfOk, lookup, keys_of, Own, spare};
+ghost use Rattle.std.specs.Prelude.{◌≡◌, ◌<◌, ◌≤◌, ◌+◌, ◌==◌};
+ghost use Rattle.mv_repository.specs.Words.{ℕ, List, [], length, get_or, take, Some, true, false, bytes_eq, OnOk, OnErr, IfOk, lookup, keys_of, spare};
 ghost use Rattle.std.specs.List.{IsDistinct};
-ghost use Rattle.mv_repository.specs.Counted.{is_counted, slots_counted};
 ghost use Rattle.mv_repository.specs.Stops.{AreStopsOf, entry_at, is_stop, stopped_product, stops_in, comes_first, earlier_place};
-ghost use Rattle.mv_repository.specs.Shelf.{new_count, nothing_kept, kept_by, kept_on, IsShelf, IsShelfOf, IsUploadOf, IsAgain, IsRefreshed, AreKept, AreMadeListed, HasNoOther};
-ghost use Rattle.mv_repository.specs.Listing.{no_numbers, has_number, lists, HasAllOf, batch_at, AreListed};
-ghost use Rattle.mv_repository.specs.Track.{IsTrack, IsKept, life_of, is_status_of, state_by};
+ghost use Rattle.mv_repository.specs.Shelf.{has_number, may_stop, is_counted, slots_counted, no_shelf, nothing_kept, kept_by, kept_on, is_listed, IsShelf, IsShelfOf, IsUploadOf, IsAgain, IsRefreshed};
+ghost use Rattle.mv_repository.specs.State.{batch_at};
+ghost use Rattle.mv_repository.specs.Track.{IsTrack, is_status_of, state_by};
 ghost use Rattle.mv_repository.specs.Effect.{effect_of};
 
 use crate::counted::Counted;
@@ -20,7 +19,7 @@ use crate::track::Track;
 use crate::{Effect, Held, LogEntry};
 use indexmap::IndexMap;
 use indexmap::map::Entry;
-use mv_pack::{BatchKey, Gtin, PackKey, Serial};
+use mv_pack::{Gtin, PackKey, Serial};
 use std::alloc::{AllocError, Global};
 use std::marker::Model;
 
@@ -39,18 +38,15 @@ fn put_upload(
     requires worked { IsTrack newest.now.log.now (stops_in newest.now.log.now newest.now.stops.now) gtin.now (kept_on slots.old.entries tracks.old.items serial.now) }
     ensures room { spare slots.old ≤ spare slots.new + 1 }
     ensures shelf { IsShelf slots.new.entries tracks.new.items }
-    ensures no_other { HasNoOther slots.old.entries slots.new.entries }
-    ensures birth { (kept_on slots.new.entries tracks.new.items serial.now).birth
-        ≡ earlier_place newest.now.log.now newest.now.place (kept_on slots.old.entries tracks.old.items serial.now).birth }
-    ensures statuses { (kept_on slots.new.entries tracks.new.items serial.now).statuses
-        ≡ (kept_on slots.old.entries tracks.old.items serial.now).statuses }
-    ensures worked { IsTrack newest.now.log.now (stops_in newest.now.log.now newest.now.stops.now) gtin.now (kept_on slots.new.entries tracks.new.items serial.now) }
+    ensures again { IsAgain newest.now.log.now (stops_in newest.now.log.now newest.now.stops.now) gtin.now (earlier_place newest.now.log.now newest.now.place (kept_on slots.old.entries tracks.old.items serial.now).birth)
+        (kept_on slots.old.entries tracks.old.items serial.now) (kept_on slots.new.entries tracks.new.items serial.now) }
     ensures others { (other : List ℕ) → bytes_eq serial.now other ≡ false
         → kept_on slots.new.entries tracks.new.items other ≡ kept_on slots.old.entries tracks.old.items other }
     ensures first { result ≡ comes_first newest.now.log.now newest.now.place (kept_on slots.old.entries tracks.old.items serial.now).birth }
-    ensures listed { HasAllOf listing.old listing.new }
-    ensures made { result ≡ true → (number : ℕ) (batch : List ℕ) → lookup (bytes_eq serial.now) slots.new.entries ≡ Some (Own number)
-        → batch_at newest.now.log.now newest.now.place ≡ Some batch → lists listing.new batch number ≡ true }
+    ensures listed { (other batch : List ℕ) → is_listed listing.old (lookup (bytes_eq other) slots.old.entries) batch ≡ true
+        → is_listed listing.new (lookup (bytes_eq other) slots.new.entries) batch ≡ true }
+    ensures made { result ≡ true → (batch : List ℕ) → batch_at newest.now.log.now newest.now.place ≡ Some batch
+        → is_listed listing.new (lookup (bytes_eq serial.now) slots.new.entries) batch ≡ true }
 {
     let Ok(entry) = slots.entry(serial.copy()) else {
         unreachable!();
@@ -95,7 +91,7 @@ fn refresh_track(tracks: &mut Vec<Track>, newest: &Newest<'_>, gtin: &Gtin, numb
 /// Works out again all tracks.
 fn refresh_all(tracks: &mut Vec<Track>, newest: &Newest<'_>, gtin: &Gtin)
     ensures count { length tracks.new.items ≡ length tracks.old.items }
-    ensures tracks { (number : ℕ) → IsAgain newest.now.log.now (stops_in newest.now.log.now newest.now.stops.now) gtin.now
+    ensures tracks { (number : ℕ) → IsRefreshed newest.now.log.now (stops_in newest.now.log.now newest.now.stops.now) gtin.now true
         (get_or tracks.old.items number nothing_kept) (get_or tracks.new.items number nothing_kept) }
 {
     for number in 0..tracks.len() {
@@ -114,15 +110,15 @@ fn refresh_listed(tracks: &mut Vec<Track>, newest: &Newest<'_>, gtin: &Gtin, num
     }
 }
 
-/// Works out again the tracks that may be of a batch.
-fn refresh_batch(tracks: &mut Vec<Track>, listing: &Listing, newest: &Newest<'_>, batch: &BatchKey)
+/// Works out again the tracks that a stop may bear on.
+fn refresh_stopped(tracks: &mut Vec<Track>, listing: &Listing, newest: &Newest<'_>, stop: &Stop<'_>)
     ensures count { length tracks.new.items ≡ length tracks.old.items }
-    ensures tracks { (number : ℕ) → IsRefreshed newest.now.log.now (stops_in newest.now.log.now newest.now.stops.now) batch.now.gtin (lists listing.now batch.now.batch number)
+    ensures tracks { (number : ℕ) → IsRefreshed newest.now.log.now (stops_in newest.now.log.now newest.now.stops.now) (stopped_product stop.now) (may_stop listing.now stop.now number)
         (get_or tracks.old.items number nothing_kept) (get_or tracks.new.items number nothing_kept) }
 {
-    match listing.of(&batch.batch) {
-        Some(numbers) => refresh_listed(tracks, newest, &batch.gtin, numbers),
-        None => refresh_all(tracks, newest, &batch.gtin),
+    match listing.of(stop) {
+        Some(numbers) => refresh_listed(tracks, newest, stop.gtin(), numbers),
+        None => refresh_all(tracks, newest, stop.gtin()),
     }
 }
 
@@ -150,7 +146,7 @@ impl Model for Shelf {
 impl Shelf {
     /// No pack.
     pub fn new(alloc: Global) -> Shelf
-        ensures { result ≡ record { slots = []; tracks = []; listing = no_numbers } }
+        ensures { result ≡ no_shelf }
     {
         Shelf {
             slots: IndexMap::new(alloc),
@@ -205,25 +201,24 @@ impl Shelf {
             .count()
     }
 
-    /// Adds the newest entry, an upload; how many of the packs are new. Where memory is refused nothing has changed.
+    /// Adds the newest entry, an upload; its effect where it stands. Where memory is refused nothing has changed.
     pub fn add_upload(
         &mut self,
         newest: &Newest<'_>,
         gtin: &Gtin,
         serials: &[Serial],
-    ) -> Result<usize, AllocError>
+    ) -> Result<Effect, AllocError>
         requires last { length newest.now.log.now ≡ newest.now.place + 1 }
         requires stops { AreStopsOf (take newest.now.place newest.now.log.now) newest.now.stops.now }
         requires upload { IsUploadOf (entry_at newest.now.log.now newest.now.place).entry.item gtin.now serials.now }
         requires shelf { IsShelfOf (take newest.now.place newest.now.log.now) gtin.now self.old }
         ensures ok { OnOk result (IsShelfOf newest.now.log.now gtin.now self.new) }
-        ensures new { IfOk result (λ new. new ≡ new_count (take newest.now.place newest.now.log.now) (entry_at newest.now.log.now newest.now.place).entry gtin.now serials.now) }
-        ensures least { IfOk result (λ new. new ≤ length serials.now) }
+        ensures effect { IfOk result (λ effect. effect ≡ effect_of (take newest.now.place newest.now.log.now) (entry_at newest.now.log.now newest.now.place).entry) }
         ensures err { OnErr result (IsShelfOf (take newest.now.place newest.now.log.now) gtin.now self.new) }
     {
         self.slots.reserve(serials.len())?;
         // All room is got: nothing fails from here on. A track that finds no memory to be listed by makes the listing not whole.
-        let mut count = 0;
+        let mut new = 0;
         for serial in serials {
             let is_first = put_upload(
                 &mut self.slots,
@@ -233,9 +228,12 @@ impl Shelf {
                 gtin,
                 serial,
             );
-            count = if is_first { count + 1 } else { count };
+            new = if is_first { new + 1 } else { new };
         }
-        Ok(count)
+        Ok(Effect::Uploaded {
+            new: new as u64,
+            old: (serials.len() - new) as u64,
+        })
     }
 
     /// Adds the newest entry, a status of a pack of the product; its effect where it stands. Where memory is refused nothing
@@ -284,9 +282,6 @@ impl Shelf {
         requires shelf { IsShelfOf (take newest.now.place newest.now.log.now) (stopped_product stop.now) self.old }
         ensures { IsShelfOf newest.now.log.now (stopped_product stop.now) self.new }
     {
-        match *stop {
-            Stop::Recall(batch) => refresh_batch(&mut self.tracks, &self.listing, newest, batch),
-            Stop::Withdrawal(gtin) => refresh_all(&mut self.tracks, newest, gtin),
-        }
+        refresh_stopped(&mut self.tracks, &self.listing, newest, stop);
     }
 }

@@ -1,13 +1,11 @@
 //! The tables that a repository keeps of its log, and what one more entry does to them.
 
 ghost use Rattle.std.specs.Prelude.{◌≡◌, ◌+◌};
-ghost use Rattle.mv_repository.specs.Words.{List, length, filter, take, [], true, OnOk, OnErr, IfOk, distinct_count, AnEntry};
+ghost use Rattle.mv_repository.specs.Words.{ℕ, List, length, filter, take, [], true, is_some, bytes_eq, lookup, OnOk, OnErr, IfOk, distinct_count, AnEntry};
 ghost use Rattle.mv_pack.specs.Keys.{is_same_pack};
-ghost use Rattle.mv_repository.specs.Counted.{is_counted};
 ghost use Rattle.mv_repository.specs.Counts.{uploaded_packs};
 ghost use Rattle.mv_repository.specs.Effect.{effect_of};
-ghost use Rattle.mv_repository.specs.PackState.{pack_state};
-ghost use Rattle.mv_repository.specs.Shelf.{IsUploadOf};
+ghost use Rattle.mv_repository.specs.Shelf.{is_counted, shelf_of, IsUploadOf};
 ghost use Rattle.mv_repository.specs.Stops.{entry_at, is_stop};
 ghost use Rattle.mv_repository.specs.Tables.{AreTablesOf};
 ghost use Rattle.mv_repository.specs.Track.{is_status_of, track_of};
@@ -16,10 +14,9 @@ use crate::counted::Counted;
 use crate::entry::message_at;
 use crate::masters::add_master;
 use crate::shelf::Shelf;
-use crate::shelves::add_shelf;
 use crate::state::Newest;
 use crate::stops::{Stop, Stops};
-use crate::{Effect, Held, LogEntry};
+use crate::{Effect, LogEntry};
 use indexmap::IndexMap;
 use mv_message::Message;
 use mv_pack::{Gtin, PackKey, Serial};
@@ -123,12 +120,9 @@ impl Tables {
             stops: &self.stops,
             place,
         };
-        let new = shelf.add_upload(&newest, gtin, serials)?;
+        let effect = shelf.add_upload(&newest, gtin, serials)?;
         self.named += serials.len();
-        Ok(Effect::Uploaded {
-            new: new as u64,
-            old: (serials.len() - new) as u64,
-        })
+        Ok(effect)
     }
 
     /// Adds the newest entry, a status of a pack.
@@ -188,4 +182,19 @@ impl Tables {
         shelf.refresh(&newest, stop);
         Ok(Effect::Done)
     }
+}
+
+/// Gives a product a shelf, where it has none; what is kept of packs stays the same.
+fn add_shelf(
+    alloc: Global,
+    shelves: &mut IndexMap<Gtin, Shelf>,
+    gtin: Gtin,
+) -> Result<(), AllocError>
+    ensures shelf { OnOk result (is_some (lookup (bytes_eq gtin) shelves.new.entries) ≡ true) }
+    ensures same { (other : List ℕ) → shelf_of other shelves.new.entries ≡ shelf_of other shelves.old.entries }
+{
+    if !shelves.contains_key(&gtin) {
+        shelves.insert(gtin, Shelf::new(alloc))?;
+    }
+    Ok(())
 }

@@ -2,14 +2,13 @@
 //! which the pack stands behind them. This file knows no other pack.
 
 ghost use Rattle.std.specs.Prelude.{◌≡◌, ◌≤◌, ◌<◌, ◌+◌};
-ghost use Rattle.mv_repository.specs.Words.{ℕ, List, [], length, map, insert, take, fold, not, true, OnOk, OnErr, IfOk};
+ghost use Rattle.mv_repository.specs.Words.{[], length, map, insert, take, fold, not, true, OnOk, OnErr, IfOk};
 ghost use Rattle.std.specs.Option.{unwrap_or};
 ghost use Rattle.mv_repository.specs.Blocks.{AreBlocks, without};
 ghost use Rattle.mv_repository.specs.State.{entry_in, next_in, start_in};
-ghost use Rattle.mv_repository.specs.Counted.{is_counted};
 ghost use Rattle.mv_repository.specs.Effect.{effect_of};
 ghost use Rattle.mv_repository.specs.Order.{Ascends, passes};
-ghost use Rattle.mv_repository.specs.Shelf.{IsAgain};
+ghost use Rattle.mv_repository.specs.Shelf.{is_counted, IsAgain};
 ghost use Rattle.mv_repository.specs.Stops.{AreStopsOf, entry_at, stops_in, comes_first, earlier_place};
 ghost use Rattle.mv_repository.specs.Track.{is_status_of, life_of, IsKept, IsTrack, state_by, put_place, places_before};
 
@@ -176,9 +175,7 @@ impl Track {
     /// Adds the newest entry, an upload that names the pack; whether it is the first such by stamp.
     pub fn add_upload(&mut self, newest: &Newest<'_>, gtin: &Gtin) -> bool
         requires { IsTrack newest.now.log.now (stops_in newest.now.log.now newest.now.stops.now) gtin.now self.old }
-        ensures birth { self.new.birth ≡ earlier_place newest.now.log.now newest.now.place self.old.birth }
-        ensures statuses { self.new.statuses ≡ self.old.statuses }
-        ensures worked { IsTrack newest.now.log.now (stops_in newest.now.log.now newest.now.stops.now) gtin.now self.new }
+        ensures again { IsAgain newest.now.log.now (stops_in newest.now.log.now newest.now.stops.now) gtin.now (earlier_place newest.now.log.now newest.now.place self.old.birth) self.old self.new }
         ensures first { result ≡ comes_first newest.now.log.now newest.now.place self.old.birth }
     {
         if !comes_first(newest.log, newest.place, self.birth) {
@@ -191,7 +188,7 @@ impl Track {
 
     /// Works the pack out again.
     pub fn refresh(&mut self, newest: &Newest<'_>, gtin: &Gtin)
-        ensures { IsAgain newest.now.log.now (stops_in newest.now.log.now newest.now.stops.now) gtin.now self.old self.new }
+        ensures { IsAgain newest.now.log.now (stops_in newest.now.log.now newest.now.stops.now) gtin.now self.old.birth self.old self.new }
     {
         let basis = Basis {
             log: newest.log,

@@ -1,7 +1,6 @@
 -- The newest goes behind the last that it does not pass.
-use Rattle.std.specs.Prelude.{◌≡◌}
 use Rattle.mv_repository.proofs.Words.{rules, insert, take, put_place, places_before}
-use Rattle.std.proofs.Common.{of_calls}
+use Rattle.std.proofs.Common.{of_calls, ◌≡◌}
 use Rattle.std.proofs.lemmas.Fn.{always_returns_same}
 use Rattle.mv_repository.proofs.PlaceLemmas.{stays_at, parted, place_cut}
 use Rattle.mv_repository.proofs.track.place_for.Goals as goal

@@ -1,9 +1,8 @@
 -- The pack has the status, and no other track is touched.
 use Rattle.std.specs.Prelude.{◌≡◌, ◌++◌, ◌∷◌}
-use Rattle.mv_repository.proofs.Words.{bytes_eq, rules, ◌∙◌, [], ℕ, List, length, get_or, take, ap, sym, subst, false, refl, Option, Some, None, lookup, get_or_append_left, get_or_default, get_or_push, Slot, Made, Own, pack_key, lists, IsShelfOf, kept_by, kept_on, nothing_kept, no_entry, IsKept, Kept, life_of}
-use Rattle.mv_repository.proofs.ListedLemmas.{on_map, listed-none, listed-track}
-use Rattle.mv_repository.proofs.TrackLemmas.{status-form}
-use Rattle.mv_repository.proofs.UploadLemmas.{status-others}
+use Rattle.mv_repository.proofs.Words.{bytes_eq, rules, ◌∙◌, [], ℕ, List, IfSome, length, get_or, take, ap, sym, subst, true, false, refl, Option, Some, None, lookup, option_and_then, get_or_append_left, get_or_default, get_or_push, Slot, Made, Own, batch_at, is_listed, lists, life_batch, IsShelfOf, kept_by, kept_on, nothing_kept, IsKept, Kept, life_of}
+use Rattle.mv_repository.proofs.FormLemmas.{on_map}
+use Rattle.mv_repository.proofs.UploadLemmas.{batch-kept, batch-noted, status-others}
 use Rattle.mv_repository.proofs.shelf.Shelf.add_status.Goals.{in-Some-Made, in-None}
 use Rattle.mv_repository.proofs.shelf.Shelf.add_status.Goals as goal
 
@@ -13,7 +12,7 @@ add_status-requires-clause-kept c =
     let slot : lookup (bytes_eq c.args.pack.now.serial) c.self.inside.slots.entries ≡ Some (Own c.in-Some-Own.number) = search rules in
     let track = get_or_default c.self.inside.tracks.items c.in-Some-Own.number nothing_kept c.index_mut-track.result.now (c.self.invariant.within c.args.pack.now.serial c.in-Some-Own.number slot) ∙ sym c.index_mut-track.ensures.value in
     subst (IsKept (life_of c.args.pack.now log)) (ap (kept_by c.self.inside.tracks.items) slot ∙ track)
-    ((subst (IsShelfOf log c.args.pack.now.gtin) (sym c.self.view_is) c.requires.shelf).kept c.args.pack.now.serial)
+    (subst (IsShelfOf log c.args.pack.now.gtin) (sym c.self.view_is) c.requires.shelf c.args.pack.now.serial).kept
 
 pub returns-in-Some-Own-clause-ok : goal.returns-in-Some-Own-clause-ok
 returns-in-Some-Own-clause-ok c =
@@ -22,12 +21,15 @@ returns-in-Some-Own-clause-ok c =
     let pack = c.args.pack.now in
     let of = subst (IsShelfOf (take place whole) pack.gtin) (sym c.self.view_is) c.requires.shelf in
     let own : lookup (bytes_eq pack.serial) c.self.inside.slots.entries ≡ Some (Own c.in-Some-Own.number) = search rules in
-    on_map c.add_status.result c.add_status.ensures.ok (λ now. record {
-      kept = status-others whole place pack c.self.inside.slots.entries c.self.inside.slots.entries c.self.inside.tracks.items _ c.requires.last c.requires.own of.kept
-          (search (rules, now)) (λ other e. search rules);
-      listed = listed-none whole place c.requires.last pack.gtin c.self.inside.slots.entries c.self.inside.listing of.listed
-          (λ serial. ((status-form pack (get_or whole place no_entry).item c.requires.own).0 (pack_key pack.gtin serial)).0);
+    on_map c.add_status.result c.add_status.ensures.ok (λ now.
+    status-others whole place pack c.requires.last c.requires.own
+    (record { slots = c.self.inside.slots.entries; tracks = c.self.inside.tracks.items; listing = c.self.inside.listing }) _ of
+    (record {
+      kept = search (rules, now);
+      listed = subst (λ (batch : Option (List ℕ)). IfSome batch (λ one. is_listed c.self.inside.listing (lookup (bytes_eq pack.serial) c.self.inside.slots.entries) one ≡ true))
+          (sym (batch-kept whole place pack c.requires.last c.requires.own)) (of pack.serial).listed;
     })
+    (λ other e. search rules) (λ other batch e h. h))
 
 made_is : (c : goal.After-track-1) → kept_on c.self.inside.slots.entries c.self.inside.tracks.items c.args.pack.now.serial ≡ c.new-track.result
 made_is c = search rules
@@ -35,11 +37,7 @@ made_is c = search rules
 pub add_status-requires-2-clause-kept : goal.add_status-requires-2-clause-kept
 add_status-requires-2-clause-kept c =
     let log = take c.args.newest.now.place c.args.newest.now.log.now in
-    subst (IsKept (life_of c.args.pack.now log)) (made_is c) ((subst (IsShelfOf log c.args.pack.now.gtin) (sym c.self.view_is) c.requires.shelf).kept c.args.pack.now.serial)
-
-abbrev number_in : Option Slot → ℕ
-number_in (Some (Own number)) = number
-number_in _ = 0
+    subst (IsKept (life_of c.args.pack.now log)) (made_is c) (subst (IsShelfOf log c.args.pack.now.gtin) (sym c.self.view_is) c.requires.shelf c.args.pack.now.serial).kept
 
 module _ (c : goal.After-push_reserved) where
   items : c.push_reserved.new.self.items ≡ c.self.inside.tracks.items ++ c.add_status-2.new.self ∷ []
@@ -76,21 +74,31 @@ module _ (c : goal.After-push_reserved) where
       by (Some (Made place)) h = refl
       by (Some (Own n)) h = get_or_append_left c.self.inside.tracks.items (c.add_status-2.new.self ∷ []) nothing_kept n (c.self.invariant.within other n h)
 
+  others_listed : (other batch : List ℕ) → bytes_eq c.args.pack.now.serial other ≡ false
+      → is_listed c.self.inside.listing (lookup (bytes_eq other) c.self.inside.slots.entries) batch ≡ true → is_listed c.note.new.self (lookup (bytes_eq other) c.insert.new.self.entries) batch ≡ true
+  others_listed other batch e h =
+      let looks : lookup (bytes_eq other) c.insert.new.self.entries ≡ lookup (bytes_eq other) c.self.inside.slots.entries = search rules in
+      subst (λ (slot : Option Slot). is_listed c.note.new.self slot batch ≡ true) (sym looks) (by (lookup (bytes_eq other) c.self.inside.slots.entries) h)
+    where
+      by : (slot : Option Slot) → is_listed c.self.inside.listing slot batch ≡ true → is_listed c.note.new.self slot batch ≡ true
+      by None h = refl
+      by (Some (Made place)) h = refl
+      by (Some (Own n)) h = c.note.ensures.kept batch n h
+
 pub returns-clause-ok : goal.returns-clause-ok
 returns-clause-ok c =
     let whole = c.args.newest.now.log.now in
     let place = c.args.newest.now.place in
     let pack = c.args.pack.now in
-    let slots = c.self.inside.slots.entries in
-    let tracks = c.self.inside.tracks.items in
     let of = subst (IsShelfOf (take place whole) pack.gtin) (sym c.self.view_is) c.requires.shelf in
-    record {
-      kept = status-others whole place pack slots c.insert.new.self.entries tracks c.push_reserved.new.self.items c.requires.last c.requires.own of.kept
-          (subst (IsKept (life_of pack whole)) (sym (now c)) c.in_ok-effect.ensures.ok) (others c);
-      listed = listed-track whole place c.requires.last pack.gtin slots c.self.inside.listing of.listed
-          (λ serial. ((status-form pack (get_or whole place no_entry).item c.requires.own).0 (pack_key pack.gtin serial)).0)
-          pack.serial c.insert.new.self.entries c.note.new.self c.note.ensures.kept (λ other e. search rules)
-          (λ n first batch f b e.
-          ap (lists c.note.new.self batch) (ap number_in (sym f ∙ mine c))
-          ∙ c.note.ensures.added first batch (birth_is c ∙ ap (λ (k : Kept). k.birth) (of.kept pack.serial).bare ∙ b) e);
-    }
+    status-others whole place pack c.requires.last c.requires.own
+    (record { slots = c.self.inside.slots.entries; tracks = c.self.inside.tracks.items; listing = c.self.inside.listing })
+    (record { slots = c.insert.new.self.entries; tracks = c.push_reserved.new.self.items; listing = c.note.new.self }) of
+    (record {
+      kept = subst (IsKept (life_of pack whole)) (sym (now c)) c.in_ok-effect.ensures.ok;
+      listed = subst (λ (slot : Option Slot). IfSome (life_batch (life_of pack whole)) (λ batch. is_listed c.note.new.self slot batch ≡ true)) (sym (mine c))
+          (subst (λ (batch : Option (List ℕ)). IfSome batch (λ one. lists c.note.new.self one c.len-number.result ≡ true))
+          (ap (option_and_then (batch_at whole)) (birth_is c ∙ ap (λ (k : Kept). k.birth) (of pack.serial).kept.bare) ∙ batch-noted whole place pack c.requires.last c.requires.own)
+          (search rules));
+    })
+    (others c) (λ other batch e h. others_listed c other batch e h)

@@ -1,6 +1,5 @@
 -- The tables have the first of each batch, and of each product.
-use Rattle.std.proofs.lemmas.Grind.{common_steps}
-use Rattle.mv_repository.proofs.Words.{rules, arith}
+use Rattle.mv_repository.proofs.Words.{rules, arith, common_steps}
 use Rattle.mv_repository.proofs.FormLemmas.{on_both}
 use Rattle.mv_repository.proofs.StopLemmas.{recall-added, withdrawal-added}
 use Rattle.mv_repository.proofs.stops.Stops.add.Goals as goal

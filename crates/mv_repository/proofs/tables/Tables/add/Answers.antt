@@ -1,6 +1,5 @@
 -- Each form of entry bears on one table.
-use Rattle.std.proofs.lemmas.Grind.{common_steps}
-use Rattle.mv_repository.proofs.Words.{rules, get_or, no_entry, arith}
+use Rattle.mv_repository.proofs.Words.{rules, get_or, no_entry, arith, common_steps}
 use Rattle.mv_repository.proofs.FormLemmas.{none-noted, other-noted, master-form, stops-at, same-at, shelves-at, named-at, tables-noted}
 use Rattle.mv_repository.proofs.tables.Tables.add.Goals as goal
 

@@ -1,49 +1,48 @@
 -- The shelf of the product has the entry, and no other product is touched.
-use Rattle.mv_repository.proofs.Words.{refl, rules, get_or, take, no_entry}
-use Rattle.mv_repository.proofs.FormLemmas.{masters-at, stops-at}
-use Rattle.mv_repository.proofs.ListedLemmas.{on_err}
-use Rattle.mv_repository.proofs.PacksLemmas.{shelves-same, shelf-found, shelves-stay, shelves-on, status-away, none-named}
-use Rattle.mv_repository.proofs.ShelvesLemmas.{IsShelved}
+use Rattle.std.specs.Prelude.{◌≡◌}
+use Rattle.mv_repository.proofs.Words.{refl, rules, ◌∙◌, ap, bytes_eq, lookup, Option, Some, subst, sym, unwrap_or, get_or, take, no_entry, no_shelf, IsShelfOf, ShelfTable}
+use Rattle.mv_repository.proofs.FormLemmas.{masters-at, on_err, stops-at}
+use Rattle.mv_repository.proofs.PacksLemmas.{status-away, none-named}
+use Rattle.mv_repository.proofs.ShelvesLemmas.{shelved, shelves-follow}
 use Rattle.mv_repository.proofs.TableLemmas.{log-split}
 use Rattle.mv_repository.proofs.TrackLemmas.{status-form}
 use Rattle.mv_repository.proofs.tables.Tables.add_status.Goals as goal
+
+pub add_status-requires-clause-shelf : goal.add_status-requires-clause-shelf
+add_status-requires-clause-shelf c =
+    let found : lookup (bytes_eq c.args.pack.now.gtin) c.add_shelf.new.shelves.entries ≡ Some c.in-Some.shelf.now = search rules in
+    subst (IsShelfOf (take c.args.place c.args.log.now) c.args.pack.now.gtin) (sym (c.add_shelf.ensures.same c.args.pack.now.gtin) ∙ ap (λ (o : Option ShelfTable). unwrap_or o no_shelf) found) (c.requires.tables.shelves c.args.pack.now.gtin)
 
 pub returns-in_err-add_shelf-clause-err : goal.returns-in_err-add_shelf-clause-err
 returns-in_err-add_shelf-clause-err c =
     on_err c.from_residual.result _ (record {
       masters = c.requires.tables.masters;
       stops = c.requires.tables.stops;
-      shelves = shelves-same (take c.args.place c.args.log.now) c.args.self.now.shelves.entries c.add_shelf.new.shelves.entries c.add_shelf.ensures.same
-          c.requires.tables.shelves;
       named = c.requires.tables.named;
+      shelves = λ other. subst (IsShelfOf (take c.args.place c.args.log.now) other) (sym (c.add_shelf.ensures.same other)) (c.requires.tables.shelves other);
     })
-
-pub add_status-requires-clause-shelf : goal.add_status-requires-clause-shelf
-add_status-requires-clause-shelf c = search (rules, shelf-found (take c.args.place c.args.log.now) c.args.self.now.shelves.entries c.add_shelf.new.shelves.entries c.add_shelf.ensures.same c.requires.tables.shelves c.args.pack.now.gtin c.in-Some.shelf.now (search rules))
 
 pub returns-in_err-effect-clause-err : goal.returns-in_err-effect-clause-err
 returns-in_err-effect-clause-err c =
+    let before = take c.args.place c.args.log.now in
     let new = (c.get_mut.follows.lender c.add_status.new.self).entries in
-    let looks : IsShelved c.add_shelf.new.shelves.entries new c.args.pack.now.gtin c.add_status.new.self = λ other. search rules in
     on_err c.from_residual-in_err-effect.result _ (record {
       masters = c.requires.tables.masters;
       stops = c.requires.tables.stops;
-      shelves = shelves-stay (take c.args.place c.args.log.now) c.args.self.now.shelves.entries c.add_shelf.new.shelves.entries c.add_shelf.ensures.same c.requires.tables.shelves
-          new c.args.pack.now.gtin c.add_status.new.self looks c.in_err-effect.ensures.err;
       named = c.requires.tables.named;
+      shelves = shelves-follow c.args.self.now.shelves.entries new c.args.pack.now.gtin c.add_status.new.self (shelved c.args.self.now.shelves.entries c.add_shelf.new.shelves.entries new c.args.pack.now.gtin c.add_status.new.self c.add_shelf.ensures.same (λ other. search rules))
+          before before c.requires.tables.shelves c.in_err-effect.ensures.err (λ other serial e. refl);
     })
 
 pub returns-clause-ok : goal.returns-clause-ok
 returns-clause-ok c =
     let new = (c.get_mut.follows.lender c.add_status.new.self).entries in
-    let looks : IsShelved c.add_shelf.new.shelves.entries new c.args.pack.now.gtin c.add_status.new.self = λ other. search rules in
     let form = status-form c.args.pack.now (get_or c.args.log.now c.args.place no_entry).item c.requires.own in
     record {
       masters = masters-at c.args.log.now c.args.place c.requires.last c.args.self.now.masters.entries form.2 c.requires.tables.masters;
       stops = stops-at c.args.log.now c.args.place c.requires.last c.args.self.now.stops form.1 c.requires.tables.stops;
-      shelves = shelves-on (take c.args.place c.args.log.now) c.args.self.now.shelves.entries c.add_shelf.new.shelves.entries c.add_shelf.ensures.same c.requires.tables.shelves
-          new c.args.pack.now.gtin c.add_status.new.self c.args.log.now c.args.place c.requires.last refl looks c.in_ok-effect.ensures.ok (status-away c.args.log.now c.args.place c.args.pack.now c.requires.last c.requires.own);
+      shelves = shelves-follow c.args.self.now.shelves.entries new c.args.pack.now.gtin c.add_status.new.self (shelved c.args.self.now.shelves.entries c.add_shelf.new.shelves.entries new c.args.pack.now.gtin c.add_status.new.self c.add_shelf.ensures.same (λ other. search rules)) c.args.log.now (take c.args.place c.args.log.now) c.requires.tables.shelves c.in_ok-effect.ensures.ok
+          (status-away c.args.log.now c.args.place c.args.pack.now c.requires.last c.requires.own);
       named = none-named (take c.args.place c.args.log.now) (get_or c.args.log.now c.args.place no_entry) c.args.self.now.named
-          form.3
-          c.requires.tables.named c.args.log.now (log-split c.args.log.now c.args.place c.requires.last);
+          form.3 c.requires.tables.named c.args.log.now (log-split c.args.log.now c.args.place c.requires.last);
     }

@@ -1,10 +1,9 @@
 -- The first works out the packs that it may bear on; any other changes none.
 use Rattle.std.specs.Prelude.{◌≡◌}
-use Rattle.mv_repository.proofs.Words.{bytes_eq, ℕ, List, rules, refl, sym, subst, get_or, take, true, false, Some, None, lookup, pack_key, ShelfTable, IsShelfOf, shelf_of, no_entry, stopped_product}
+use Rattle.mv_repository.proofs.Words.{bytes_eq, rules, ap, subst, get_or, take, true, false, Option, None, lookup, unwrap_or, pack_key, ShelfTable, IsShelfOf, no_shelf, shelf_of, no_entry, stopped_product}
 use Rattle.mv_repository.proofs.AgainLemmas.{shelf-empty}
 use Rattle.mv_repository.proofs.FormLemmas.{masters-at, shelves-at, named-at}
-use Rattle.mv_repository.proofs.PacksLemmas.{shelf-found, shelves-on, none-follow}
-use Rattle.mv_repository.proofs.ShelvesLemmas.{IsShelved}
+use Rattle.mv_repository.proofs.ShelvesLemmas.{IsShelved, shelved-none, shelves-follow}
 use Rattle.mv_repository.proofs.StopLemmas.{stop-form, stop-does, stop-leaves, stop-away}
 use Rattle.mv_repository.proofs.tables.Tables.add_stop.Goals as goal
 
@@ -17,17 +16,18 @@ returns-then-not-branch-clause-effect c = search (rules, stop-does c.args.log.no
 pub returns-in_default-clause-ok : goal.returns-in_default-clause-ok
 returns-in_default-clause-ok c =
     let form = stop-form c.args.stop.now (get_or c.args.log.now c.args.place no_entry).item c.requires.stop in
-    let none : lookup (bytes_eq (stopped_product c.args.stop.now)) c.args.self.now.shelves.entries ≡ None = search rules in
+    let gtin = stopped_product c.args.stop.now in
+    let none : lookup (bytes_eq gtin) c.args.self.now.shelves.entries ≡ None = search rules in
+    let empty : shelf_of gtin c.args.self.now.shelves.entries ≡ no_shelf = ap (λ (o : Option ShelfTable). unwrap_or o no_shelf) none in
     let same : c.get_mut.follows.lender-at-none.entries ≡ c.args.self.now.shelves.entries = search rules in
     record {
       masters = masters-at c.args.log.now c.args.place c.requires.last c.args.self.now.masters.entries form.1 c.requires.tables.masters;
       stops = c.in_ok-add.ensures.ok;
-      shelves = subst (λ (shelves : List (List ℕ × ShelfTable)). (gtin : List ℕ) → IsShelfOf c.args.log.now gtin (shelf_of gtin shelves)) (sym same)
-          (none-follow c.args.log.now c.args.place (stopped_product c.args.stop.now) c.args.self.now.shelves.entries c.requires.last
-          (stop-away c.args.log.now c.args.place c.requires.last c.args.stop.now c.requires.stop) none
-          (shelf-empty c.args.log.now c.args.place c.add.new.self (stopped_product c.args.stop.now) c.requires.last c.in_ok-add.ensures.ok
-          (λ serial. form.0.0 (pack_key (stopped_product c.args.stop.now) serial)))
-          c.requires.tables.shelves);
+      shelves = shelves-follow c.args.self.now.shelves.entries c.get_mut.follows.lender-at-none.entries gtin no_shelf (shelved-none c.args.self.now.shelves.entries _ gtin same empty)
+          c.args.log.now (take c.args.place c.args.log.now) c.requires.tables.shelves
+          (shelf-empty c.args.log.now c.args.place c.add.new.self gtin c.requires.last c.in_ok-add.ensures.ok (λ serial. form.0.0 (pack_key gtin serial))
+          (subst (IsShelfOf (take c.args.place c.args.log.now) gtin) empty (c.requires.tables.shelves gtin)))
+          (λ other serial e. stop-away c.args.log.now c.args.place c.requires.last c.args.stop.now c.requires.stop (pack_key other serial) e);
       named = named-at c.args.log.now c.args.place c.requires.last c.args.self.now.named form.0.1 c.requires.tables.named;
     }
 
@@ -36,8 +36,8 @@ returns-in_default-clause-effect c = search (rules, stop-does c.args.log.now c.a
 
 pub refresh-requires-clause-shelf : goal.refresh-requires-clause-shelf
 refresh-requires-clause-shelf c =
-    let found : lookup (bytes_eq (stopped_product c.args.stop.now)) c.args.self.now.shelves.entries ≡ Some c.in-Some.shelf.now = search rules in
-    shelf-found (take c.args.place c.args.log.now) c.args.self.now.shelves.entries c.args.self.now.shelves.entries (λ other. refl) c.requires.tables.shelves (stopped_product c.args.stop.now) c.in-Some.shelf.now found
+    let shelf : shelf_of (stopped_product c.args.stop.now) c.args.self.now.shelves.entries ≡ c.in-Some.shelf.now = search rules in
+    subst (IsShelfOf (take c.args.place c.args.log.now) (stopped_product c.args.stop.now)) shelf (c.requires.tables.shelves (stopped_product c.args.stop.now))
 
 pub returns-clause-ok : goal.returns-clause-ok
 returns-clause-ok c =
@@ -47,8 +47,7 @@ returns-clause-ok c =
     record {
       masters = masters-at c.args.log.now c.args.place c.requires.last c.args.self.now.masters.entries form.1 c.requires.tables.masters;
       stops = c.in_ok-add.ensures.ok;
-      shelves = shelves-on (take c.args.place c.args.log.now) c.args.self.now.shelves.entries c.args.self.now.shelves.entries (λ other. refl) c.requires.tables.shelves
-          new (stopped_product c.args.stop.now) c.refresh.new.self c.args.log.now c.args.place c.requires.last refl looks c.refresh.ensures
+      shelves = shelves-follow c.args.self.now.shelves.entries new (stopped_product c.args.stop.now) c.refresh.new.self looks c.args.log.now (take c.args.place c.args.log.now) c.requires.tables.shelves c.refresh.ensures
           (λ other serial e. stop-away c.args.log.now c.args.place c.requires.last c.args.stop.now c.requires.stop (pack_key other serial) e);
       named = named-at c.args.log.now c.args.place c.requires.last c.args.self.now.named form.0.1 c.requires.tables.named;
     }

@@ -1,7 +1,6 @@
 -- The status is put in, and what stands behind it worked out.
-use Rattle.std.proofs.lemmas.Grind.{common_steps}
 use Rattle.std.specs.Prelude.{◌≡◌, ◌≤◌, ◌+◌, ◌∷◌}
-use Rattle.mv_repository.proofs.Words.{◌∙◌, [], ℕ, List, ap, sym, subst, rules, length, take, insert, get_or, fold, refl, option_map, unwrap_or, fold-append, AreBlocks, without, next_place, effect_on, entry_at, stops_in, no_entry, Kept, IsKept, life_of, put_place, places_before, arith}
+use Rattle.mv_repository.proofs.Words.{◌∙◌, [], ℕ, List, ap, sym, subst, rules, length, take, insert, get_or, fold, refl, option_map, unwrap_or, fold-append, AreBlocks, without, next_place, effect_on, entry_at, stops_in, no_entry, Kept, IsKept, life_of, put_place, places_before, arith, common_steps}
 use Rattle.mv_repository.proofs.BlockLemmas.{take-insert, without-insert}
 use Rattle.mv_repository.proofs.TableLemmas.{log-split, log-length}
 use Rattle.mv_repository.proofs.TrackLemmas.{put-ascend, put-blocks, put-standing, Done, put-status}

@@ -1,10 +1,10 @@
 -- What is said of lines that are only checked.
-use Rattle.std.proofs.Common.{◌≡◌, ◌∷◌, ◌&&◌, ℕ, List, [], Bool, true, false, None, Some, IfSome, refl, ap, ap₂, ◌∙◌, map, subst}
+use Rattle.std.proofs.Common.{◌≡◌, ◌∷◌, ◌&&◌, ℕ, List, [], Bool, true, false, IfSome, refl, ◌∙◌, map, arith}
 use Rattle.std.specs.declared.option.Option.{Option}
 use Rattle.std.specs.List.{list_all}
 use Rattle.std.specs.Io.KnownBytes.{Appends}
 use Rattle.mv_engine.specs.Lines.{Line}
-use Rattle.mv_engine.specs.Replies.{AreReplies, said_texts, text_lines}
+use Rattle.mv_engine.specs.Replies.{AreReplies}
 use Rattle.mv_engine.specs.Served.{Served}
 use Rattle.mv_checks.specs.Checks.{IsChecked, are_messages, checked, is_message, lines_in, refusals_of}
 
@@ -23,8 +23,7 @@ checked_texts : (before after : Bool) (lines : List Line) (texts : List (Option 
 checked_texts before after [] [] is = refl
 checked_texts before after [] (text ∷ texts) is = absurd is
 checked_texts before after (line ∷ lines) [] is = absurd is
-checked_texts before after (line ∷ lines) (text ∷ texts) (between, said, rest) =
-    ap₂ (λ t ts. t ∷ ts) said.0 (checked_texts between after lines texts rest)
+checked_texts before after (line ∷ lines) (text ∷ texts) (between, said, rest) = search (checked_texts between after lines texts rest)
 
 -- and at the end it is known whether each is a message
 checked_lines : (before after : Bool) (lines : List Line) (texts : List (Option (List ℕ))) → AreReplies IsChecked before lines texts after
@@ -32,18 +31,12 @@ checked_lines : (before after : Bool) (lines : List Line) (texts : List (Option 
 checked_lines before after [] [] is = is ∙ and_all before
 checked_lines before after [] (text ∷ texts) is = absurd is
 checked_lines before after (line ∷ lines) [] is = absurd is
-checked_lines before after (line ∷ lines) (text ∷ texts) (between, said, rest) =
-    checked_lines between after lines texts rest ∙ ap (λ b. b && list_all is_message lines) said.1
-    ∙ and_more before (is_message line) (list_all is_message lines)
+checked_lines before after (line ∷ lines) (text ∷ texts) (between, said, rest) = grind (arith, checked_lines between after lines texts rest)
 
 -- the refusals of an input went out
 refusals_written : (bytes : List ℕ) (after : Bool) (old new : Option (List ℕ)) → Served IsChecked true bytes after old new
     → Appends old new (refusals_of bytes)
-refusals_written bytes after old new served =
-    let replied = served.answered.replied in
-    let is : served.out ≡ refusals_of bytes =
-    replied.1 ∙ ap (λ ts. text_lines (said_texts ts)) (checked_texts true after (lines_in bytes) replied.0 replied.2) in
-    subst (Appends old new) is served.written
+refusals_written bytes after old new served = grind (arith, checked_texts)
 
 -- and it is known whether each line is a message
 messages_known : (bytes : List ℕ) (after : Bool) (old new : Option (List ℕ)) → Served IsChecked true bytes after old new
@@ -53,10 +46,8 @@ messages_known bytes after old new served = checked_lines true after (lines_in b
 -- the same of an input that may be known
 pub refusals_of_input : (input : Option (List ℕ)) (after : Bool) (old new : Option (List ℕ))
     → IfSome input (λ bytes. Served IsChecked true bytes after old new) → IfSome input (λ bytes. Appends old new (refusals_of bytes))
-refusals_of_input None after old new served = served
-refusals_of_input (Some bytes) after old new served = refusals_written bytes after old new served
+refusals_of_input input after old new served = grind (arith, refusals_written)
 
 pub messages_of_input : (input : Option (List ℕ)) (after : Bool) (old new : Option (List ℕ))
     → IfSome input (λ bytes. Served IsChecked true bytes after old new) → IfSome input (λ bytes. after ≡ are_messages bytes)
-messages_of_input None after old new served = served
-messages_of_input (Some bytes) after old new served = messages_known bytes after old new served
+messages_of_input input after old new served = grind (arith, messages_known)

@@ -16,7 +16,6 @@
 //! ```
 #![tactic(auto)]
 
-mod answers;
 mod checking;
 mod refusing;
 mod strict;

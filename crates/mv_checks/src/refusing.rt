@@ -21,15 +21,15 @@ pub(crate) fn append_refusal(
 {
     let code = fault.code();
     match fault {
-        MessageFault::Missing(field) => append_field(alloc, out, field.as_str(), line, code),
         MessageFault::Unknown(key) => append_field(alloc, out, key.as_str(), line, code),
-        MessageFault::Kind(field) => append_field(alloc, out, field.as_str(), line, code),
-        MessageFault::Count(field) => append_field(alloc, out, field.as_str(), line, code),
-        MessageFault::TextLength(field) => append_field(alloc, out, field.as_str(), line, code),
+        MessageFault::Missing(field)
+        | MessageFault::Kind(field)
+        | MessageFault::Count(field)
+        | MessageFault::TextLength(field) => append_field(alloc, out, field.as_str(), line, code),
         MessageFault::Pack(field, fault) => append_pack(alloc, out, *fault, field.as_str(), line),
-        MessageFault::NotJson => append_code(alloc, out, line, code),
-        MessageFault::NotObject => append_code(alloc, out, line, code),
-        MessageFault::Memory => append_code(alloc, out, line, code),
+        MessageFault::NotJson | MessageFault::NotObject | MessageFault::Memory => append_code(
+            alloc, out, line, code,
+        ),
     }
 }
 

@@ -6,7 +6,7 @@ ghost use Rattle.mv_engine.specs.Served.{Served, Ended, EndedAt};
 ghost use Rattle.mv_lines.specs.Sessions.{Open, IsReply};
 ghost use Rattle.mv_checks.specs.Strict.{IsStrictReply, strict_at, tallied};
 
-use crate::answers::append_answer;
+use mv_format::append_json;
 use mv_lines::{Answering, ServeFault, Session, answer_lines};
 use std::alloc::{AllocError, Global};
 use std::io::{Read, Write};
@@ -59,7 +59,7 @@ impl Answering for Counted {
         if answered.is_refused() {
             self.untaken = Some(tallied(self.untaken, number));
         }
-        append_answer(self.alloc, out, &answered)?;
+        append_json(self.alloc, out, &answered)?;
         Ok(true)
     }
 }

@@ -1,11 +1,11 @@
 -- How long the record can grow: each sender routes what it submitted, and each link is closed at most once.
-use Rattle.std.proofs.Common.{◌≡◌, ℕ, zero, suc, ◌+◌, ◌*◌, ◌<◌, ◌≤◌, List, [], ◌∷◌, ◌++◌, length, take, length-append, cond, Some, false, refl, ap, subst, append_assoc, append-nil, arith}
-use Rattle.std.specs.Prelude.{nat_lt, slice_get}
+use Rattle.std.proofs.Common.{◌≡◌, ℕ, zero, suc, ◌+◌, ◌*◌, ◌<◌, ◌≤◌, List, [], ◌∷◌, ◌++◌, length, take, length-append, cond, Some, refl, ap, ◌∙◌, subst, append_assoc, append-nil, arith, slice_get}
 use Rattle.std.proofs.Math.Nat.{mul-le-mul_left}
-use Rattle.mv_machine.proofs.Words.{Closed, Entry, Fits, IsLawful, Message, NumbersSuffice, Routed, StampsSuffice, State, cases_eq, eq-eqb, gained, gained_other, hub_of, is_busy, is_open, is_open-append, items_on, le-ltb, link_items, link_items_after, next_items, routed_count, routed_from, submissions_of}
-use Rattle.mv_link.specs.declared.limits.TheConstants.{NUMBER_LIMIT}
+use Rattle.mv_machine.proofs.Words.{Closed, Entry, Fits, IsLawful, Message, NumbersSuffice, Routed, StampsSuffice, State, cases_eq, eq-eqb, gained, hub_of, is_busy, is_open, is_open-append, items_on, le-ltb, link_items, link_items_after, routed_count, routed_from, routed_from-append, submissions_of}
 use Rattle.mv_party.specs.declared.limits.TheConstants.{SUBMISSIONS_LIMIT}
-use Rattle.mv_machine.proofs.PutLemmas.{routed_count-push}
+
+pub routed_count-push : (before after : List Entry) (party : ℕ) → routed_count (before ++ after) party ≡ routed_count before party + routed_count after party
+routed_count-push before after party = ap length (routed_from-append before after party) ∙ length-append (routed_from before party) (routed_from after party)
 
 -- the sum of what a function gives for the numbers below another
 sum_below : ℕ → (ℕ → ℕ) → ℕ
@@ -42,13 +42,13 @@ unfolding open_from
 open_from-fewer count before entry from = sum_below-mono count _ _ (open-fewer before entry from)
 
 -- each entry fits behind those that stand before it, and behind others
-abbrev AllFit : ℕ → List Entry → List Entry → Type 0
+abbrev pub AllFit : ℕ → List Entry → List Entry → Type 0
 AllFit count before entries = (place : ℕ) (entry : Entry) → slice_get entries place ≡ Some entry → Fits count (before ++ take place entries) entry
 
-first-fits : (count : ℕ) (before : List Entry) (entry : Entry) (entries : List Entry) → AllFit count before (entry ∷ entries) → Fits count before entry
+pub first-fits : (count : ℕ) (before : List Entry) (entry : Entry) (entries : List Entry) → AllFit count before (entry ∷ entries) → Fits count before entry
 first-fits count before entry entries fit = subst (λ (l : List Entry). Fits count l entry) (append-nil before) (fit zero entry refl)
 
-rest-fit : (count : ℕ) (before : List Entry) (entry : Entry) (entries : List Entry) → AllFit count before (entry ∷ entries) → AllFit count (before ++ entry ∷ []) entries
+pub rest-fit : (count : ℕ) (before : List Entry) (entry : Entry) (entries : List Entry) → AllFit count before (entry ∷ entries) → AllFit count (before ++ entry ∷ []) entries
 rest-fit count before entry entries fit place x at = rw append_assoc (fit (suc place) x at)
 
 -- each entry routes a message of a party, or closes a link that was open
@@ -99,22 +99,9 @@ items-few : (parties : List (List (List ℕ))) (before entries : List Entry) (fr
 unfolding gained
 items-few parties before [] from to = omega arith
 items-few parties before (Closed a b ∷ entries) from to = items-few parties (before ++ Closed a b ∷ []) entries from to
-items-few parties before (Routed a k m ∷ entries) from to =
-    let rest = link_items_after parties (before ++ Routed a k m ∷ []) entries from to in
-    grind (
-      arith,
-      items-few parties (before ++ Routed a k m ∷ []) entries from to,
-      length-append (gained parties before (Routed a k m) from to) rest,
-      gained-few parties before a k m from to,
-      gained_other parties before a k m from to,
-    )
+items-few parties before (Routed a k m ∷ entries) from to = grind (arith, items-few parties (before ++ Routed a k m ∷ []) entries from to)
 
 -- so no link runs out of numbers
 pub numbers_suffice : NumbersSuffice
 unfolding is_busy link_items
-numbers_suffice st from to message lawful is_party few =
-    let items = items-few st.parties [] st.entries from to in
-    let more = gained-few st.parties st.entries from (routed_count st.entries from + 1) message from to in
-    let numbers : nat_lt NUMBER_LIMIT (length (items_on (hub_of st) from to) + length (next_items (hub_of st) from message to)) ≡ false =
-    le-ltb _ _ (omega (arith, items, more, routed_count-few st from lawful is_party, few)) in
-    rw numbers (grind arith)
+numbers_suffice st from to message lawful is_party few = grind (arith, items-few, gained-few, items_on, hub_of, le-ltb, routed_count-few)

@@ -1,12 +1,11 @@
 -- Nothing that is routed after the closing of a link goes over it, and the record only grows.
-use Rattle.std.proofs.Common.{◌≡◌, ℕ, zero, suc, ◌+◌, ◌≤◌, Bool, true, false, List, [], ◌∷◌, ◌++◌, length, take, cond, Some, sym, refl, ap, ◌∙◌, append_assoc, append-nil, arith}
-use Rattle.std.specs.Prelude.{slice_get}
+use Rattle.std.proofs.Common.{◌≡◌, ℕ, zero, suc, ◌+◌, ◌≤◌, Bool, true, false, List, [], ◌∷◌, ◌++◌, take, cond, Some, refl, append_assoc, append-nil, arith, slice_get}
 use Rattle.std.proofs.lemmas.List.Sums.{take_while-cons}
-use Rattle.mv_machine.proofs.Words.{All-weaker, Closed, Entry, Follows, IsLawful, Message, Reply, Routed, Runs, State, Step, hub_of, is_open, items_from, log_of, next_entry, number_of, routed_count, submissions_of}
+use Rattle.mv_machine.proofs.Words.{Entry, Follows, IsLawful, Message, Reply, Routed, Runs, State, Step, is_open, items_from, log_of, number_of, routed_count}
 use Rattle.mv_machine.specs.Closing.{before_closing, NothingRoutedLater, NothingSubmittedLater}
 use Rattle.mv_machine.proofs.PutLemmas.{put-each, log-put}
 use Rattle.mv_machine.proofs.BoundLemmas.{routed_count-few}
-use Rattle.mv_machine.proofs.StepLemmas.{Change, routed, closed, run-keeps}
+use Rattle.mv_machine.proofs.StepLemmas.{Change, routed, run-keeps}
 
 -- what stands before the closing of a link goes on behind an entry that does not close it
 before_closing-next : (entry : Entry) (entries : List Entry) (from to : ℕ)
@@ -18,26 +17,24 @@ open-before : (entries : List Entry) (place from to k : ℕ) (message : Message)
     → routed_count (take place entries) from + 1 ≤ routed_count (before_closing entries from to) from
 open-before [] place from to k message at open_then = absurd (cc)
 open-before (entry ∷ entries) zero from to k message at open_then = grind (arith, at, before_closing-next entry entries from to)
-open-before (entry ∷ entries) (suc place) from to k message at open_then =
-    grind (arith, open_then, before_closing-next entry entries from to, open-before entries place from to k message at)
+open-before (entry ∷ entries) (suc place) from to k message at open_then = grind (arith, open-before entries place from to k message at, before_closing-next)
 
 -- what was applied over a link is about messages that were routed before its closing
 pub nothing_routed_later : (st : State) → IsLawful st → NothingRoutedLater st
 nothing_routed_later st lawful from to from_is_party to_is_party =
     let count = routed_count (before_closing st.entries from to) from in
-    put-each st.parties st.entries from to (λ item. number_of item ≤ count) 0
-    (λ place item turn put. omega (
+    put-each st.parties st.entries from to (λ item. number_of item ≤ count) 2
+    (λ item put. omega (
       arith,
-      (lawful.of_record.fits place (Routed from (number_of item) put.message) put.routed).1,
-      open-before st.entries place from to (number_of item) put.message put.routed put.still_open,
+      (lawful.of_record.fits put.place (Routed from (number_of item) put.message) put.routed).1,
+      open-before st.entries put.place from to (number_of item) put.message put.routed put.still_open,
     ))
     (items_from (log_of st to) from) (log-put st from to lawful from_is_party to_is_party)
 
 -- once a link is closed, what stands before its closing stays
 before_closing-append : (entries more : List Entry) (from to : ℕ) → is_open entries from to ≡ false → before_closing (entries ++ more) from to ≡ before_closing entries from to
 before_closing-append [] more from to shut = absurd (cc)
-before_closing-append (entry ∷ entries) more from to shut =
-    grind (arith, before_closing-next entry entries from to, before_closing-next entry (entries ++ more) from to, before_closing-append entries more from to)
+before_closing-append (entry ∷ entries) more from to shut = grind (arith, before_closing-append entries more from to, before_closing-next)
 
 -- it is no more than was routed at all
 before_closing-few : (entries : List Entry) (from to party : ℕ) → routed_count (before_closing entries from to) party ≤ routed_count entries party
@@ -50,17 +47,11 @@ follows-same st = record { parties = refl; limits = refl; entries = ([], append-
 
 -- a later state of a later one
 pub follows_further : (first second third : State) → Follows first second → Follows second third → Follows first third
-follows_further first second third a b = record {
-  parties = b.parties ∙ a.parties;
-  limits = b.limits ∙ a.limits;
-  entries = (a.entries.0 ++ b.entries.0, sym (append_assoc first.entries a.entries.0 b.entries.0) ∙ ap (λ l. l ++ b.entries.0) a.entries.1 ∙ b.entries.1);
-}
+follows_further first second third a b = grind (arith, append_assoc)
 
 -- each change goes on with the record
 pub change-follows : (old new : State) (quiet : Bool) → Change old quiet new → Follows old new
-change-follows st _ _ (routed from message is_party next free) = record { parties = refl; limits = refl; entries = (next_entry (hub_of st) from message ∷ [], refl) }
-change-follows st _ _ (closed from to from_is_party to_is_party still_open) = record { parties = refl; limits = refl; entries = (Closed from to ∷ [], refl) }
-change-follows st _ _ _ = record { parties = refl; limits = refl; entries = ([], append-nil st.entries) }
+change-follows st new quiet h3 = grind (arith, append-nil)
 
 -- and so does each run
 pub run-follows : (old : State) (steps : List Step) (replies : List Reply) (new : State) → Runs old steps replies new → Follows old new
@@ -70,10 +61,4 @@ run-follows old steps replies new run =
 -- where a link is closed in one state, nothing that was submitted since is applied over it in a later one
 pub nothing_submitted_later : (old new : State) → IsLawful old → IsLawful new → Follows old new → NothingSubmittedLater old new
 nothing_submitted_later old new old_lawful new_lawful follows from to from_is_party to_is_party shut =
-    let count = routed_count (before_closing old.entries from to) from in
-    let same : before_closing new.entries from to ≡ before_closing old.entries from to =
-    ap (λ l. before_closing l from to) (sym follows.entries.1) ∙ before_closing-append old.entries follows.entries.0 from to shut in
-    let about = rw same at (nothing_routed_later new new_lawful from to (rw follows.parties from_is_party) (rw follows.parties to_is_party)) in
-    let few = before_closing-few old.entries from to from in
-    let submitted = routed_count-few old from old_lawful from_is_party in
-    All-weaker (λ item. number_of item ≤ count) (λ item. number_of item ≤ length (submissions_of old from)) (λ item first. omega (arith, first, few, submitted)) (items_from (log_of new to) from) about
+    grind (arith, before_closing-append, nothing_routed_later, before_closing-few, routed_count-few, number_of, log_of)

@@ -1,6 +1,5 @@
 -- Each step keeps a state well formed and lawful, and so does each run.
-use Rattle.std.proofs.Common.{◌≡◌, ℕ, ◌<◌, Bool, true, List, [], ◌∷◌, ◌++◌, length, set, Some, refl, ◌∙◌, subst, append-nil, arith, length-set, eqb, eqb-true, get_or}
-use Rattle.std.specs.Prelude.{slice_get, option_to_list, replicate}
+use Rattle.std.proofs.Common.{◌≡◌, ℕ, ◌<◌, Bool, true, List, [], ◌∷◌, ◌++◌, length, set, Some, refl, ◌∙◌, subst, append-nil, arith, length-set, eqb, eqb-true, get_or, slice_get, option_to_list, replicate}
 use Rattle.mv_machine.proofs.Words.{Allows, Bounds, Closed, Entry, Fits, InRuns, IsLawful, IsLawfulLink, IsLawfulParty, IsLawfulRecord, IsPrefix, IsSquare, IsWellFormed, Item, LogEntry, Message, Reply, Runs, SiteState, State, Step, answer_to, answers_in, cases_eq, elements, entry_from, gained, get_or-replicate, hub_of, is_open, items_from, items_from-push, items_on, length-replicate, link_items-push, log_of, next_entry, opening, party-applied, party-submitted, put-each, routed_count, routed_from, routed_from-append, site_of, square-put, square-replicate, submissions_of, with_applied, with_closed, with_hub, with_routed, with_site, with_submission, with_wire}
 use Rattle.mv_machine.specs.Steps.{next_item}
 use Rattle.mv_machine.proofs.PrefixLemmas.{prefix-grows, prefix-maybe, each-push}
@@ -17,8 +16,7 @@ under_way-sound : (st : State) (sent : List (List ℕ)) (wires : List (List (Lis
 under_way-sound st sent wires sent_square wires_square sound = assumption
 
 with_wire-sound : (st : State) (from to : ℕ) (numbers : List ℕ) → IsSound st → IsSound (with_wire st from to numbers)
-with_wire-sound st from to numbers sound =
-    under_way-sound st st.sent _ sound.well_formed.sent_each (square-put (length st.parties) st.wires from to numbers sound.well_formed.wires_each) sound
+with_wire-sound st from to numbers sound = search square-put
 
 -- one party's part is written
 party-written : {count : ℕ} (party : ℕ) (site : SiteState) (submissions : List (List Message)) (logs : List (List LogEntry)) → length submissions ≡ count → length logs ≡ count
@@ -113,8 +111,7 @@ change-sound st _ _ (nothing quiet) sound = sound
 change-sound st _ _ (submitted from message none free) sound = submitted-sound st from message sound none
 change-sound st _ _ (routed from message is_party next free) sound = routed-sound st from message sound is_party next
 change-sound st _ _ (closed from to from_is_party to_is_party still_open) sound = closed-sound st from to sound from_is_party to_is_party still_open
-change-sound st _ _ (relayed from to from_is_party to_is_party room some) sound =
-    under_way-sound st _ _ (square-put _ st.sent from to _ sound.well_formed.sent_each) (square-put _ st.wires from to _ sound.well_formed.wires_each) sound
+change-sound st _ _ (relayed from to from_is_party to_is_party room some) sound = search square-put
 change-sound st _ _ (repeated from to number room least most) sound = with_wire-sound st from to _ sound
 change-sound st _ _ (dropped from to number rest front) sound = with_wire-sound st from to rest sound
 change-sound st _ _ (applied from to number rest item is_party front next free) sound = with_wire-sound _ from to rest (applied-sound st from to item sound is_party next)

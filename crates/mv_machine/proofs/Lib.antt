@@ -1,9 +1,9 @@
 pub mod Words
 pub mod PrefixLemmas
+pub mod BoundLemmas
 pub mod PutLemmas
 pub mod StepLemmas
 pub mod LawfulLemmas
-pub mod BoundLemmas
 pub mod ClosingLemmas
 pub mod StampLemmas
 pub mod SubmittedLemmas

@@ -1,12 +1,12 @@
 -- Each step keeps the limits, and so does each run.
-use Rattle.std.proofs.Common.{◌≡◌, ℕ, ◌+◌, ◌-◌, ◌<◌, ◌≤◌, Bool, List, [], ◌∷◌, ◌++◌, length, drop, Some, None, Option, ap, ◌∙◌, subst, arith, length-append, append-nil}
-use Rattle.std.specs.Prelude.{All, option_to_list, replicate, find}
-use Rattle.mv_machine.proofs.Words.{All-nil, All-push, All-tail, All-weaker, Bounds, Closed, Entry, InRuns, IsSquare, Item, LogEntry, Message, SiteState, State, answer-free, answer_fault, answer_to, apply_fault, ask-free, ask_fault, busy_party, cell, cell-put_same, elements, entry_from, find-none_at, gained, gained_other, get_or-replicate, hub_of, is_busy, is_party, is_uplink_full, items_on, link_items, link_items-push, log_of, next_entry, opening, put, put-each, put-each_pair, range_with_len, route_fault, routed_count, sent_of, site_of, submissions_of, wire_of, with_applied, with_site, with_submission, with_wire}
+use Rattle.std.proofs.lemmas.Grind.{common_steps}
+use Rattle.std.proofs.Common.{◌≡◌, ℕ, ◌+◌, ◌-◌, ◌<◌, ◌≤◌, Bool, List, [], ◌∷◌, ◌++◌, length, drop, Some, None, Option, ap, ◌∙◌, subst, arith, length-append, append-nil, All, option_to_list, replicate, find}
+use Rattle.mv_machine.proofs.Words.{All-nil, All-push, All-tail, All-weaker, Bounds, Entry, InRuns, IsSquare, Item, LogEntry, Message, SiteState, State, answer-free, answer_fault, answer_to, apply_fault, ask-free, ask_fault, busy_party, cell, cell-put_same, elements, entry_from, find-none_at, gained, gained_other, get_or-replicate, hub_of, is_busy, is_party, is_uplink_full, items_on, link_items, link_items-push, log_of, next_entry, opening, put, put-each_pair, range_with_len, route_fault, routed_count, sent_of, site_of, submissions_of, wire_of, with_applied, with_site, with_submission, with_wire}
 use Rattle.std.proofs.lemmas.Bool.Decides.{nat_tests}
 use Rattle.mv_link.specs.declared.incoming.Look.TheVariants as look
 use Rattle.mv_machine.specs.Bounded.{KeepsLimits}
 use Rattle.mv_machine.proofs.LawfulLemmas.{IsSound, change-sound, opening-sound}
-use Rattle.mv_machine.proofs.PutLemmas.{routed_count-push}
+use Rattle.mv_machine.proofs.BoundLemmas.{routed_count-push}
 use Rattle.mv_machine.proofs.StepLemmas.{Change, nothing, submitted, routed, closed, relayed, repeated, dropped, applied, run-keeps}
 
 -- a party's part is another, in which it submitted more, for which it has room
@@ -14,10 +14,7 @@ site-keeps : (st : State) (site : SiteState) → KeepsLimits st
     → (site.party < length st.parties → length site.submissions ≤ st.limits.submissions)
     → (site.party < length st.parties → length (drop (routed_count st.entries site.party) site.submissions) ≤ st.limits.uplink)
     → KeepsLimits (with_site st site)
-site-keeps st site k few room =
-    let submitted = put-each (λ party l. party < length st.parties → length l ≤ st.limits.submissions) st.submissions site.party site.submissions [] few k.submitted in
-    let waiting = put-each (λ party l. party < length st.parties → length (drop (routed_count st.entries party) l) ≤ st.limits.uplink) st.submissions site.party site.submissions [] room k.waiting in
-    assumption (submitted, waiting)
+site-keeps st site k few room = grind (arith, common_steps)
 
 -- a party that may submitted one more message, whatever its log is then
 submitted-keeps : (st : State) (from : ℕ) (message : Message) (log : List LogEntry) → KeepsLimits st → ask_fault (is_uplink_full st from) (site_of st from) ≡ None
@@ -113,18 +110,15 @@ change-keeps : (old new : State) (quiet : Bool) → Change old quiet new → IsS
 unfolding gained
 change-keeps st _ _ (nothing quiet) square k = k
 change-keeps st _ _ (submitted from message none free) square k = submitted-keeps st from message (log_of st from) k free
-change-keeps st _ _ (routed from message is_party next free) square k =
-    entered-keeps st (next_entry (hub_of st) from message) k (routed-room st from message k free)
-change-keeps st _ _ (closed from to from_is_party to_is_party still_open) square k =
-    entered-keeps st (Closed from to) k (λ sender receiver a b. omega (arith, k.unsent sender receiver a b))
+change-keeps st _ _ (routed from message is_party next free) square k = search (entered-keeps, routed-room)
+change-keeps st _ _ (closed from to from_is_party to_is_party still_open) square k = grind (arith, entered-keeps)
 change-keeps st _ _ (relayed from to from_is_party to_is_party room some) square k =
     let now : cell (put st.sent from to (sent_of (hub_of st) from to + 1)) from to 0 ≡ sent_of (hub_of st) from to + 1 =
     cell-put_same (length st.parties) st.sent from to (sent_of (hub_of st) from to + 1) 0 square from_is_party to_is_party in
     pushed-keeps (record st { sent = put st.sent from to (sent_of (hub_of st) from to + 1) }) from to (sent_of (hub_of st) from to + 1) (sent-keeps st from to k some) room (omega arith) (omega (arith, now))
 change-keeps st _ _ (repeated from to number room least most) square k = pushed-keeps st from to number k room least most
 change-keeps st _ _ (dropped from to number rest front) square k = dropped-keeps st from to number rest k front
-change-keeps st _ _ (applied from to number rest item is_party front next free) square k =
-    dropped-keeps (with_site st (with_applied (site_of st to) from item)) from to number rest (applied-keeps st from to item k free) front
+change-keeps st _ _ (applied from to number rest item is_party front next free) square k = search (dropped-keeps, applied-keeps)
 
 opening-keeps : (parties : List (List (List ℕ))) (limits : Bounds) → KeepsLimits (opening parties limits)
 unfolding link_items

@@ -1,6 +1,5 @@
 -- Prefixes of lists that grow at their end.
-use Rattle.std.proofs.Common.{◌≡◌, ℕ, zero, suc, Bool, true, false, List, [], ◌∷◌, ◌++◌, length, take, cond, sym, refl, ap, ◌∙◌, subst, append_assoc, append-nil, arith}
-use Rattle.std.specs.Prelude.{All, Some, slice_get}
+use Rattle.std.proofs.Common.{◌≡◌, ℕ, zero, suc, Bool, true, false, List, [], ◌∷◌, ◌++◌, length, take, cond, sym, refl, ap, ◌∙◌, subst, append_assoc, append-nil, arith, All, Some, slice_get}
 use Rattle.mv_machine.proofs.Words.{All-take, IsPrefix, common_steps, gets, take-append_seam}
 
 -- what is a prefix stays one when the whole grows

@@ -1,56 +1,53 @@
--- The stamps of a log name places of the record, each of which has one sender; and the stamps on one link rise. So none stands
--- twice in a log.
-use Rattle.std.proofs.Common.{◌≡◌, ℕ, zero, suc, ◌+◌, ◌<◌, ◌≤◌, List, [], ◌∷◌, length, Some, refl, ap, arith, ◌⊎◌, inl, inr}
-use Rattle.std.specs.Prelude.{All, slice_get}
-use Rattle.mv_machine.proofs.Words.{AllByRecursion, Carried, Entry, IsLawful, Item, LogEntry, Message, Receipt, Routed, State, cases_eq, common_steps, eq-eqb, gets, items_from, log_of}
+-- The stamps of a log name places of the record, each of which has one sender; and the turns of the items on one link rise. So no stamp
+-- stands twice in a log.
+use Rattle.std.proofs.Common.{◌≡◌, ℕ, zero, suc, ◌+◌, ◌<◌, List, [], ◌∷◌, length, None, Option, Some, refl, ap, subst, arith, option_and_then, slice_get}
+use Rattle.mv_machine.proofs.Words.{AllByRecursion, Carried, Entry, IsLawful, Item, LogEntry, Receipt, State, eq-eqb, items_from, log_of}
 use Rattle.mv_repository.proofs.SameAboutLemmas.{same_about}
 use Rattle.mv_repository.proofs.StampsLemmas.{stamp_in, stamp_at, HasNoStampTwice, distinct-stamps}
 use Rattle.mv_machine.specs.Stamps.{StampsAreDistinct, RepositoriesAgree}
-use Rattle.mv_machine.proofs.PutLemmas.{IsPut, ArePut, turn, put-rest, put-each, log-put, each-entry}
+use Rattle.mv_machine.proofs.PutLemmas.{IsPut, ArePut, turn, put-rest, log-put, entry-put}
+
+-- what holds of each entry of a log holds of the one at a place
+pub entry-at : (P : LogEntry → Type 0) (log : List LogEntry) (place : ℕ) (entry : LogEntry) → slice_get log place ≡ Some entry → AllByRecursion P log → P entry
+entry-at P [] place entry at all = absurd (cc)
+entry-at P (first ∷ log) zero entry at all = let same : first ≡ entry = cc at in rw same at all.0
+entry-at P (first ∷ log) (suc place) entry at all = entry-at P log place entry at all.1
 
 module _ (parties : List (List (List ℕ))) (entries : List Entry) (to : ℕ) where
   -- the items that a log has from each sender are put on their links
   abbrev IsPutLog : ℕ → List LogEntry → Type 0
-  IsPutLog count log = (sender : ℕ) → sender < count → ArePut parties entries sender to 0 (items_from log sender)
+  IsPutLog count log = (sender : ℕ) → sender < count → ArePut parties entries sender to 2 (items_from log sender)
 
   -- what a log has from a sender behind its first entry
   log-rest : (count : ℕ) (entry : LogEntry) (log : List LogEntry) → IsPutLog count (entry ∷ log) → IsPutLog count log
-  log-rest count entry log put sender is_party = grind (arith, put-rest parties entries sender to 0 entry.item (items_from log sender), put sender is_party)
+  log-rest count entry log put sender is_party = grind (arith, put-rest parties entries sender to 2 entry.item (items_from log sender), put sender is_party)
 
-  -- no message that was put on a link has the stamp of another entry, nor of one before those that put them
-  other-stamps : (sender other place k least : ℕ) (message : Message) (items : List Item) → slice_get entries place ≡ Some (Routed other k message)
-      → (sender ≡ other → turn place (Carried k (place + 1) message) < least) → ArePut parties entries sender to least items
-      → All (λ item. stamp_in item ≡ Some (place + 1) → ⊥) items
-  other-stamps sender other place k least message items routed later =
-      put-each parties entries sender to (λ item. stamp_in item ≡ Some (place + 1) → ⊥) least apart items
-    where
-      apart : (at : ℕ) (item : Item) → least ≤ turn at item → IsPut parties entries sender to at item → stamp_in item ≡ Some (place + 1) → ⊥
-      apart at (Receipt l reached query) le put is = absurd (cc)
-      apart at (Carried l stamp sent) le put is = grind (arith, later, put.made.0, put.routed)
-
-  -- the place of a log's first entry in the record, and what comes behind
-  stamp-none : (stamp : ℕ) (log : List LogEntry) (place : ℕ) → All (λ entry. stamp_in entry.item ≡ Some stamp → ⊥) log → stamp_at log place ≡ Some stamp → ⊥
-  stamp-none stamp log place none at = grind (arith, common_steps, gets)
+  -- two items with one stamp are of one sender and of one turn
+  same-turn : (from other : ℕ) (one two : Item) (stamp : ℕ) → stamp_in one ≡ Some stamp → stamp_in two ≡ Some stamp → IsPut parties entries from to one → IsPut parties entries other to two
+      → (from ≡ other) × (turn one ≡ turn two)
+  same-turn from other (Receipt k reached query) two stamp first second put later = absurd (cc)
+  same-turn from other one (Receipt k reached query) stamp first second put later = absurd (cc)
+  same-turn from other (Carried k given message) (Carried l sent copy) stamp first second put later =
+      let given_is : given ≡ sent = cc (first, second) in
+      let place : put.place ≡ later.place = omega (arith, put.made.0, later.made.0, given_is) in
+      let number : k ≡ l = cc (place, put.routed, later.routed) in
+      (cc (place, put.routed, later.routed), omega (arith, number))
 
   -- no stamp stands at the first place of a log and at another
   first-alone : (count : ℕ) (entry : LogEntry) (log : List LogEntry) (place stamp : ℕ) → AllByRecursion (λ (entry : LogEntry). entry.sender < count) log → IsPutLog count (entry ∷ log) → entry.sender < count
       → stamp_in entry.item ≡ Some stamp → stamp_at log place ≡ Some stamp → ⊥
-  first-alone count entry log place stamp all put is_party first at =
-      by entry.item (rw (eq-eqb entry.sender entry.sender refl) at (put entry.sender is_party)) first
+  first-alone count entry log place stamp all put is_party first second = by (slice_get log place) refl second
     where
-      by : (item : Item) → ArePut parties entries entry.sender to 0 (item ∷ items_from log entry.sender) → stamp_in item ≡ Some stamp → ⊥
-      by (Receipt k reached query) own is = absurd (cc)
-      by (Carried k given message) own is =
-          let stamp_is : stamp ≡ own.0 + 1 = cc (is, own.2.made.0) in
-          stamp-none stamp log place
-          (each-entry (λ sender item. stamp_in item ≡ Some stamp → ⊥) count log all (λ sender lt. rw stamp_is (among sender (cases_eq sender entry.sender) (log-rest count entry log put sender lt))))
-          at
-        where
-          among : (sender : ℕ) → (sender ≡ entry.sender) ⊎ (sender ≡ entry.sender → ⊥) → ArePut parties entries sender to 0 (items_from log sender)
-              → All (λ item. stamp_in item ≡ Some (own.0 + 1) → ⊥) (items_from log sender)
-          among sender (inl same) put =
-              other-stamps sender entry.sender own.0 k (own.0 + own.0 + 1 + 1) own.2.message (items_from log sender) own.2.routed (λ _. omega arith) (rw same own.3)
-          among sender (inr other) put = other-stamps sender entry.sender own.0 k 0 own.2.message (items_from log sender) own.2.routed (λ same. absurd (other same)) put
+      own : ArePut parties entries entry.sender to 2 (entry.item ∷ items_from log entry.sender)
+      own = rw (eq-eqb entry.sender entry.sender refl) at (put entry.sender is_party)
+
+      by : (found : Option LogEntry) → slice_get log place ≡ found → option_and_then (λ (entry : LogEntry). stamp_in entry.item) found ≡ Some stamp → ⊥
+      by None at second = absurd (cc)
+      by (Some other) at second =
+          let other_is_party = entry-at (λ (entry : LogEntry). entry.sender < count) log place other at all in
+          let later = entry-put parties entries to 2 log place other at (log-rest count entry log put other.sender other_is_party) in
+          let same = same-turn entry.sender other.sender entry.item other.item stamp first second own.1 later.1 in
+          omega (arith, same.1, (entry-put parties entries to (turn entry.item + 1) log place other at (subst (λ sender. ArePut parties entries sender to (turn entry.item + 1) (items_from log sender)) same.0 own.2)).0)
 
   log-distinct : (count : ℕ) (log : List LogEntry) → AllByRecursion (λ (entry : LogEntry). entry.sender < count) log → IsPutLog count log → HasNoStampTwice log
   log-distinct count [] all put first second stamp a b = absurd (cc)

@@ -1,6 +1,5 @@
 -- What a step changes, and what it has seen to before: one lemma for all that every step keeps.
-use Rattle.std.proofs.Common.{◌≡◌, ℕ, ◌+◌, ◌<◌, ◌≤◌, Bool, true, false, List, [], ◌∷◌, ◌++◌, length, Some, None, refl, sym, subst, arith}
-use Rattle.std.specs.Prelude.{slice_get, IsTrue}
+use Rattle.std.proofs.Common.{◌≡◌, ℕ, ◌+◌, ◌<◌, ◌≤◌, Bool, true, false, List, [], ◌∷◌, ◌++◌, length, Some, None, refl, sym, subst, arith, slice_get, IsTrue}
 use Rattle.mv_pack.specs.declared.key.PackKey.{PackKey}
 use Rattle.mv_machine.proofs.Words.{Allows, InSteps, Item, Meets, Message, Reply, Runs, State, Step, answers_in, apply_fault, ask_fault, hub_of, is_open, is_uplink_full, items_on, next-number, no_answer, route_fault, routed_count, sent_of, site_of, submissions_of, submit-free, wire_of, with_applied, with_closed, with_hub, with_relayed, with_routed, with_site, with_submission, with_wire}
 use Rattle.mv_link.specs.declared.incoming.Look.TheVariants as look

@@ -14,7 +14,7 @@ pub use Rattle.mv_link.specs.declared.item.Item.TheVariants.{Carried, Receipt}
 pub use Rattle.mv_machine.specs.Headline.{AppliedIsSubmitted, Follows, HeadlineHolds, IsOfSubmission, IsRoutedAt, NumbersRise, is_carried}
 pub use Rattle.mv_machine.specs.Lawful.{Fits, IsLawful, IsLawfulLink, IsLawfulRecord, IsWellFormed}
 pub use Rattle.mv_machine.specs.Laws.{ClosedLinksStayClosed, InRuns, InSteps, NumbersSuffice, StampsSuffice}
-pub use Rattle.mv_machine.specs.Limits.{Bounds, most_entries}
+pub use Rattle.mv_machine.specs.Limits.{Bounds}
 pub use Rattle.mv_machine.specs.Runs.{Runs}
 unfoldable pub use Rattle.mv_machine.specs.Runs.{Allows, Meets}
 pub use Rattle.mv_machine.specs.State.{State, hub_of, is_party, is_uplink_full, log_of, opening, site_of, submissions_of, wire_of, with_hub, with_site, with_wire}
@@ -32,8 +32,8 @@ pub use Rattle.mv_repository.specs.declared.entry.LogEntry.{LogEntry}
 pub use Rattle.std.proofs.Math.Seq.{take-append_seam}
 pub use Rattle.std.proofs.lemmas.Bool.{and_parts, cases_Bool, cases_eq, eq-eqb, eqb-true, le-ltb}
 pub use Rattle.std.proofs.lemmas.Grind.{common_steps, elements}
-pub use Rattle.std.proofs.lemmas.List.{get_or-replicate, length-replicate, length_push, take-append-drop, take-take, take_more}
-pub use Rattle.std.proofs.lemmas.List.Elements.{All-cons, All-head, All-nil, All-push, All-tail, All-take, All-weaker}
-pub use Rattle.std.proofs.lemmas.Option.{get_or_from_slice_get, gets, slice_get_within}
+pub use Rattle.std.proofs.lemmas.List.{get_or-replicate, length-replicate}
+pub use Rattle.std.proofs.lemmas.List.Elements.{All-cons, All-nil, All-push, All-tail, All-take, All-weaker}
+pub use Rattle.std.proofs.lemmas.Option.{gets}
 pub use Rattle.std.specs.List.{AllByRecursion, range_with_len}
 pub use mathlib.Core.List.{IsPrefix}

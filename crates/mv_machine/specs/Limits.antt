@@ -13,6 +13,10 @@ pub record Bounds : Type 0 where
   pub uplink : ℕ  -- messages of each party under way to the hub
   pub submissions : ℕ  -- messages that each party submits in all
 
+-- the bounds of these numbers
+abbrev pub bounds_of : ℕ → ℕ → ℕ → ℕ → Bounds
+bounds_of window wire uplink submissions = record { window = window; wire = wire; uplink = uplink; submissions = submissions }
+
 -- the limits that a system may have
 pub record AreBounds (bounds : Bounds) : Type 0 where
   pub is_window : IsWindow bounds.window
@@ -38,7 +42,7 @@ limits_of window wire uplink submissions =
     else (if not (is_between 1 WIRE_LIMIT wire) then Err Wire
     else (if not (is_between 1 UPLINK_LIMIT uplink) then Err Uplink
     else (if not (is_between 1 SUBMISSIONS_LIMIT submissions) then Err Submissions
-    else Ok (record { window = window; wire = wire; uplink = uplink; submissions = submissions }))))
+    else Ok (bounds_of window wire uplink submissions))))
 
 -- the number of a fault
 abbrev pub code_of : LimitsFault → List ℕ

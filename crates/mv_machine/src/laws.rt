@@ -6,9 +6,7 @@ ghost use Rattle.mv_machine.specs.Lawful.{IsLawful, IsWellFormed};
 ghost use Rattle.mv_machine.specs.Stamps.{StampsAreDistinct};
 ghost use Rattle.mv_machine.specs.Headline.{AppliedIsSubmitted, NumbersRise, HeadlineHolds};
 ghost use Rattle.mv_machine.specs.Bounded.{KeepsLimits};
-ghost use Rattle.mv_machine.specs.Laws.{InRuns, InLawfulStates, InSteps, ClosedLinksStayClosed};
-ghost use Rattle.mv_machine.specs.Laws.{StampsSuffice, NumbersSuffice, LawfulStatesKeepHeadline};
-ghost use Rattle.mv_machine.specs.Laws.{HeadlinesJoin};
+ghost use Rattle.mv_machine.specs.Laws.{InRuns, InLawfulStates, InSteps, ClosedLinksStayClosed, StampsSuffice, NumbersSuffice, LawfulStatesKeepHeadline, HeadlinesJoin};
 
 /// Whatever the steps and whatever their order: what each repository applied from each sender is a prefix of what the record
 /// put on their link, in order and each once, and what was routed is a prefix of what its sender submitted.

@@ -28,23 +28,13 @@ pub struct Limits {
 }
 
 impl Model for Limits {
-    ghost use Rattle.mv_machine.specs.Limits.{Bounds, AreBounds};
+    ghost use Rattle.mv_machine.specs.Limits.{Bounds, AreBounds, bounds_of};
 
     ghost Value = { Bounds };
 
-    ghost view = { λ l. record {
-      window = l.window;
-      wire = l.wire;
-      uplink = l.uplink;
-      submissions = l.submissions;
-    } };
+    ghost view = { λ l. bounds_of l.window l.wire l.uplink l.submissions };
 
-    ghost invariant = { λ l. AreBounds (record {
-      window = l.window;
-      wire = l.wire;
-      uplink = l.uplink;
-      submissions = l.submissions;
-    }) };
+    ghost invariant = { λ l. AreBounds (bounds_of l.window l.wire l.uplink l.submissions) };
 
     ghost inverse = { λ b. record {
       window = b.window;

@@ -1,13 +1,12 @@
 -- Lemmas on an input that was read.
-use Rattle.std.proofs.Common.{◌≡◌, ◌≢◌, ℕ, List, [], ◌∷◌, refl, ap, sym, ◌∙◌, arith}
-use Rattle.std.specs.Prelude.{IfSome, map, Option, Some, None, Ok, true, false, is_some, option_map}
+use Rattle.std.proofs.Common.{◌≡◌, ◌≢◌, ℕ, List, [], ◌∷◌, refl, arith, IfSome, map, Option, None, Ok, true, false, is_some, option_map}
 use Rattle.std.specs.List.{fold}
 use Rattle.std.specs.Io.KnownBytes.{Consumes}
 use Rattle.mv_engine.specs.declared.fault.ServeFault.{ServeFault}
-use Rattle.mv_engine.specs.declared.fault.ServeFault.TheVariants.{Read, Write, Memory, Start}
+use Rattle.mv_engine.specs.declared.fault.ServeFault.TheVariants.{Write, Memory}
 use Rattle.mv_engine.specs.Replies.{ReplyRule, AreReplies}
 use Rattle.mv_engine.specs.Served.{Served, Ended}
-use Rattle.mv_engine.specs.Lines.{Line, pieces, lines_from, lines_of}
+use Rattle.mv_engine.specs.Lines.{Line}
 use Rattle.mv_plan.specs.Planning.{Planned, IsPlanned, planned_by, plan_line}
 use Rattle.mv_plan.specs.Drafts.{Parts}
 use Rattle.mv_plan.specs.Reading.{IsRead, Unread}
@@ -15,14 +14,12 @@ use Rattle.mv_plan.specs.Reading.{IsRead, Unread}
 -- where no line was refused, the next is planned
 pub planned_next : {A : Type 0} (bytes : A → List ℕ) (refusal : Option A) (draft : Option Parts) (planned after : Planned) (line : List ℕ)
     → is_some refusal ≡ false → planned_by (option_map bytes refusal) draft ≡ planned → after ≡ plan_line (Ok draft) line → after ≡ plan_line planned line
-planned_next bytes None draft planned after line none same is = is ∙ ap (λ p. plan_line p line) same
-planned_next bytes (Some text) draft planned after line none same is = absurd (cc)
+planned_next bytes refusal draft planned after line none same is = grind arith
 
 -- behind a line that was refused none is
 pub planned_still : {A : Type 0} (bytes : A → List ℕ) (refusal : Option A) (draft : Option Parts) (planned : Planned) (line : List ℕ)
     → is_some refusal ≡ true → planned_by (option_map bytes refusal) draft ≡ planned → planned ≡ plan_line planned line
-planned_still bytes (Some text) draft planned line some same = sym same ∙ ap (λ p. plan_line p line) same
-planned_still bytes None draft planned line some same = absurd (cc)
+planned_still bytes refusal draft planned line some same = grind arith
 
 -- what stands behind lines that were taken one by one is what they plan
 are_planned : (before : Planned) (lines : List Line) (texts : List (Option (List ℕ))) (after : Planned) → AreReplies IsPlanned before lines texts after
@@ -30,26 +27,17 @@ are_planned : (before : Planned) (lines : List Line) (texts : List (Option (List
 are_planned before [] [] after same = same
 are_planned before [] (text ∷ texts) after none = absurd none
 are_planned before (line ∷ lines) [] after none = absurd none
-are_planned before (line ∷ lines) (text ∷ texts) after (between, one, rest) =
-    are_planned between lines texts after rest ∙ ap (λ p. fold plan_line p (map (λ line. line.bytes) lines)) one
+are_planned before (line ∷ lines) (text ∷ texts) after (between, one, rest) = cc (are_planned between lines texts after rest)
 
 -- an input that was answered whole was read
 pub read_whole : (input : Option (List ℕ)) (before after planned : Planned) (old new : Option (List ℕ)) → before ≡ Ok None → planned ≡ after
     → IfSome input (λ bytes. Served IsPlanned before bytes after old new) → IfSome input (λ bytes. IsRead bytes planned)
-read_whole None before after planned old new nothing same served = tt
-read_whole (Some bytes) before after planned old new nothing same served = (
-  served.answered.kept,
-  same ∙ are_planned before (lines_from 0 (pieces bytes)) _ after served.answered.replied.2 ∙ ap (λ p. fold plan_line p (lines_of (pieces bytes))) nothing,
-)
+read_whole input before after planned old new nothing same served = grind (arith, are_planned)
 
 -- why the answering of lines ended is why they were not read
 pub unread : {S : Type 0} (rule : ReplyRule S) (fault : ServeFault) (before : S) (input rest old new : Option (List ℕ)) → fault ≢ Write
     → (bytes : List ℕ) × Consumes input rest bytes × Ended rule fault before bytes old new → Unread fault input rest
-unread rule Read before input rest old new read (bytes, took, at_end) = (bytes, took, at_end.ended.0)
-unread rule Write before input rest old new read (bytes, took, ended) = absurd (read refl)
-unread rule Start before input rest old new read (bytes, took, at_end) = absurd at_end.ended.2.why
-unread rule fault before input rest old new read (bytes, took, at_end) =
-    let stopped = at_end.ended.2 in (bytes, took, (stopped.good, stopped.bad, stopped.cut, stopped.why, stopped.answered.kept))
+unread rule fault before input rest old new read h8 = grind arith
 
 -- memory may be refused before anything was read
 pub unread_memory : (input rest : Option (List ℕ)) (bytes : List ℕ) → Consumes input rest bytes → Unread Memory input rest

@@ -1,13 +1,9 @@
 -- Lemmas on the report.
-use Rattle.std.proofs.Common.{◌≡◌, ℕ, ◌+◌, ◌-◌, ◌^◌, ◌<◌, List, [], ◌∷◌, ◌++◌, refl, append-nil, ap, sym, ◌∙◌, arith, length, take, replicate, flat_map, append_assoc, codes, decimal, slice_index_or}
-use Rattle.std.specs.Prelude.{IfOk, zero, suc, false, Result, Ok, Err, is_ok, if◌then◌else◌}
+use Rattle.std.proofs.Common.{◌≡◌, ℕ, ◌+◌, ◌-◌, ◌^◌, List, [], ◌∷◌, ◌++◌, refl, append-nil, ap, ◌∙◌, arith, length, replicate, flat_map, append_assoc, codes, decimal, IfOk, zero, suc, false, Result, is_ok, if◌then◌else◌}
 use Rattle.std.specs.List.{range_with_len, repeat}
-use Rattle.std.specs.Char.{encode_utf8}
 use Rattle.std.specs.Fmt.{padded_integral, format_spec, char_count}
 use Rattle.std.proofs.lemmas.Str.{encode_ascii}
 use Rattle.std.proofs.lemmas.List.{flat_map_more}
-use Rattle.mv_hub.specs.declared.entry.Entry.{Entry}
-use Rattle.mv_hub.specs.declared.entry.Entry.TheVariants.{Routed, Closed}
 use Rattle.mv_link.proofs.CallerLemmas.{range-append}
 use Rattle.mv_machine.specs.State.{State, submissions_of, log_of}
 use Rattle.mv_hub.specs.Record.{routed_count}
@@ -23,36 +19,12 @@ blanks (suc n) = ap (λ l. 32 ∷ l) (blanks n)
 -- a number as the library writes it in ten places
 pub padded_number : (n : ℕ) → padded_integral (format_spec 32 3 0 10 (2 ^ 64 - 1)) false [] (decimal n) ≡ in_ten_places n
 unfolding padded_integral char_count in_ten_places
-padded_number n =
-    let d = decimal n in
-    let gap : ℕ = 10 - length d - 0 - 0 in
-    let none : gap - gap ≡ 0 = omega arith in
-    let same : gap ≡ 10 - length d = omega arith in
-    (λ i. (((repeat gap (encode_ascii 32 (omega arith) i) ++ []) ++ []) ++ []) ++ (d ++ repeat (none i) (encode_utf8 32)))
-    ∙ (λ i. append-nil (append-nil (append-nil (blanks gap i) i) i) i ++ append-nil d i)
-    ∙ (λ i. replicate (same i) 32 ++ d)
-
--- the entries up to a place, and the one there
-counted_next : (entries : List Entry) (i : ℕ) (entry : Entry) → i < length entries → entry ≡ slice_index_or entries i entry
-    → closed_count (take (suc i) entries) ≡ closed_count (take i entries) + closed_count (entry ∷ [])
-counted_next [] i entry below is = absurd (omega arith)
-counted_next (Routed from k message ∷ entries) zero entry below is = omega (arith, ap (λ e. closed_count (e ∷ [])) is)
-counted_next (Closed from to ∷ entries) zero entry below is = omega (arith, ap (λ e. closed_count (e ∷ [])) is)
-counted_next (Routed from k message ∷ entries) (suc i) entry below is = counted_next entries i entry (omega arith) is
-counted_next (Closed from to ∷ entries) (suc i) entry below is = omega (arith, counted_next entries i entry (omega arith) is)
-
--- one more entry is counted
-pub counted_more : (entries : List Entry) (i : ℕ) (entry : Entry) → i < length entries → entry ≡ slice_index_or entries i entry
-    → closed_count (take (i + 1) entries) ≡ closed_count (take i entries) + closed_count (entry ∷ [])
-counted_more entries i entry below is =
-    let on : i + 1 ≡ suc i = omega arith in ap (λ n. closed_count (take n entries)) on ∙ counted_next entries i entry below is
+padded_number n = grind (arith, encode_ascii, append-nil, blanks)
 
 -- the line of one more party is written
 pub lines_more : (f : ℕ → List ℕ) (head was now : List ℕ) (n : ℕ) → was ≡ head ++ flat_map f (range_with_len 0 n) → now ≡ was ++ f n
     → now ≡ head ++ flat_map f (range_with_len 0 (n + 1))
-lines_more f head was now n before line =
-    line ∙ ap (λ l. l ++ f n) before ∙ flat_map_more f head (range_with_len 0 n) n
-    ∙ ap (λ l. head ++ flat_map f l) (ap (λ k. range_with_len 0 n ++ k ∷ []) (omega arith) ∙ sym (range-append 0 n 1))
+lines_more f head was now n before line = grind (arith, flat_map_more, range-append)
 
 -- the line of a party is written
 pub line_ended : {E : Type 0} (r : Result (Unit {0}) E) (outcome : State) (party submitted routed : ℕ) (counts : Counts) (old mid new : List ℕ)
@@ -60,12 +32,7 @@ pub line_ended : {E : Type 0} (r : Result (Unit {0}) E) (outcome : State) (party
     → mid ≡ old ++ flat_map in_ten_places (party ∷ numbers_of submitted routed counts) → new ≡ (if is_ok r then mid ++ 10 ∷ [] else mid)
     → IfOk r (λ _. new ≡ old ++ party_line outcome party)
 unfolding party_line
-line_ended (Ok u) outcome party submitted routed counts old mid new subs routes counted numbers whole =
-    whole ∙ ap (λ l. l ++ 10 ∷ []) (numbers ∙ ap (λ n. old ++ flat_map in_ten_places (party ∷ numbers_of n routed counts)) subs
-    ∙ ap (λ n. old ++ flat_map in_ten_places (party ∷ numbers_of (length (submissions_of outcome party)) n counts)) routes
-    ∙ ap (λ n. old ++ flat_map in_ten_places (party ∷ numbers_of (length (submissions_of outcome party)) (routed_count outcome.entries party) n)) counted)
-    ∙ append_assoc old _ (10 ∷ [])
-line_ended (Err e) outcome party submitted routed counts old mid new subs routes counted numbers whole = tt
+line_ended r outcome party submitted routed counts old mid new subs routes counted numbers whole = grind (arith, append_assoc)
 
 -- all lines of a report are written
 pub report_whole : (outcome : State) (count : ℕ) (lines closing counted whole number : List ℕ) → count ≡ length outcome.parties

@@ -1,5 +1,5 @@
 -- The report of a run: a head line, a line for each party, and a line on closed links.
-use Rattle.std.specs.Prelude.{ℕ, suc, ◌-◌, List, [], ◌∷◌, ◌++◌, length, flat_map, replicate, codes, decimal}
+use Rattle.std.specs.Prelude.{ℕ, ◌-◌, Bool, true, false, List, [], ◌∷◌, ◌++◌, length, filter, flat_map, replicate, codes, decimal}
 use Rattle.std.specs.List.{range_with_len}
 use Rattle.mv_hub.specs.declared.entry.Entry.{Entry}
 use Rattle.mv_hub.specs.declared.entry.Entry.TheVariants.{Routed, Closed}
@@ -8,11 +8,14 @@ use Rattle.mv_repository.specs.declared.counts.Counts.{Counts}
 use Rattle.mv_repository.specs.Counts.{counts_of}
 use Rattle.mv_machine.specs.State.{State, submissions_of, log_of}
 
+-- the entry closes a link
+abbrev pub is_closing : Entry → Bool
+is_closing (Routed from k message) = false
+is_closing (Closed from to) = true
+
 -- how many links a record closes
 abbrev pub closed_count : List Entry → ℕ
-closed_count [] = 0
-closed_count (Routed from k message ∷ entries) = closed_count entries
-closed_count (Closed from to ∷ entries) = suc (closed_count entries)
+closed_count entries = length (filter is_closing entries)
 
 -- a number on the right of ten places, blanks (32) before it; one that is wider is written whole
 unfoldable pub in_ten_places : ℕ → List ℕ

@@ -2,7 +2,7 @@
 
 ghost use Rattle.std.specs.Prelude.{◌≡◌, ◌++◌, IfOk, IsTrue, flat_map, string_bytes};
 ghost use Rattle.mv_machine.specs.State.{is_party};
-ghost use Rattle.mv_report.specs.Report.{closed_count, in_ten_places, party_line, report_text};
+ghost use Rattle.mv_report.specs.Report.{closed_count, in_ten_places, is_closing, party_line, report_text};
 
 use mv_ends::Outcome;
 use mv_hub::Entry;
@@ -81,12 +81,12 @@ fn in_ten_places(alloc: Global, number: usize) -> Result<String, AllocError>
 fn closed_count(entries: &[Entry]) -> usize
     ensures { result ≡ closed_count entries.now }
 {
-    let mut count = 0;
-    for entry in entries {
-        match entry {
-            Entry::Routed { .. } => {}
-            Entry::Closed { .. } => count += 1,
-        }
-    }
-    count
+    entries.iter().filter(|entry| is_closing(entry)).count()
+}
+
+/// Whether an entry closes a link.
+fn is_closing(entry: &Entry) -> bool
+    ensures { result ≡ is_closing entry.now }
+{
+    matches!(entry, Entry::Closed { .. })
 }

@@ -1,5 +1,4 @@
 pub mod Words
-pub mod WireLemmas
 pub mod SystemLemmas
 pub mod RouteLemmas
 pub mod OpeningLemmas

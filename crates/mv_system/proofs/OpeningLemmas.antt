@@ -1,6 +1,5 @@
 -- The system where nothing has happened.
-use Rattle.std.proofs.Common.{◌≡◌, ℕ, zero, suc, ◌+◌, ◌≤◌, List, [], ◌∷◌, length, map, sym, refl, ap, subst, arith}
-use Rattle.std.specs.Prelude.{replicate}
+use Rattle.std.proofs.Common.{◌≡◌, ℕ, zero, suc, ◌+◌, ◌≤◌, List, [], ◌∷◌, length, map, sym, refl, ap, subst, arith, replicate}
 use Rattle.mv_system.proofs.Words.{All, All-nil, IsFrameOf, IsSound, IsSquare, IsSystem, PARTIES_LIMIT, Parts, SiteState, WireState, cell-all, cell-any, get_or-map-range_with_len, items_on, new_hub, new_site, new_wire, numbers_of, opening, opening-sound, parts_of, range_with_len, state_of, table-all}
 use Rattle.mv_machine.specs.Limits.{Bounds, AreBounds}
 
@@ -20,20 +19,17 @@ pub opening_is : (parties : List (List (List ℕ))) (limits : Bounds) (wires : L
     → IsSquare (length parties) wires → All (All (λ w. w ≡ new_wire limits.wire)) wires → state_of (opening_parts parties limits wires) ≡ opening parties limits
 opening_is parties limits wires square empty =
     let make = λ (party : ℕ). new_site party (length parties) limits.submissions in
-    let submissions = map-same make (λ (site : SiteState). site.submissions) [] 0 (length parties) (λ _. refl) in
-    let wires = table-all (λ w. numbers_of w.frames) [] (length parties) wires square (λ k d lt j e below. ap (λ (w : WireState). numbers_of w.frames) (empty k d lt j e below)) in
-    let logs = map-same make (λ (site : SiteState). site.log) [] 0 (length parties) (λ _. refl) in
-    λ i. record (opening parties limits) { submissions = submissions i; wires = wires i; logs = logs i }
+    let wires = table-all (λ w. numbers_of w.items) [] (length parties) wires square (λ k d lt j e below. ap (λ (w : WireState). numbers_of w.items) (empty k d lt j e below)) in
+    grind (arith, map-same)
 
 pub opening_kept : (parties : List (List (List ℕ))) (limits : Bounds) (wires : List (List WireState))
-    → 1 ≤ length parties → length parties ≤ PARTIES_LIMIT → AreBounds limits
+    → length parties ≤ PARTIES_LIMIT → AreBounds limits
     → IsSquare (length parties) wires → All (All (λ w. w ≡ new_wire limits.wire)) wires → IsSystem (opening_parts parties limits wires)
-opening_kept parties limits wires some few bounds square empty =
+opening_kept parties limits wires few bounds square empty =
     let sound : IsSound (state_of (opening_parts parties limits wires)) = subst IsSound (sym (opening_is parties limits wires square empty)) (opening-sound parties limits) in
     record {
       well_formed = sound.well_formed;
       lawful = sound.lawful;
-      parties_least = some;
       parties_most = few;
       window = refl;
       bounds = bounds;
@@ -44,6 +40,6 @@ opening_kept parties limits wires some few bounds square empty =
           (record { size = refl; within = omega arith });
       frames = λ from to.
           let of = IsFrameOf (items_on (new_hub parties limits.window) from to) in
-          cell-any (λ (w : WireState). All of w.frames) wires from to (new_wire 0)
-          (λ k d lt j e below. subst (λ (w : WireState). All of w.frames) (sym (empty k d lt j e below)) (All-nil of)) (All-nil of);
+          cell-any (λ (w : WireState). All of w.items) wires from to (new_wire 0)
+          (λ k d lt j e below. subst (λ (w : WireState). All of w.items) (sym (empty k d lt j e below)) (All-nil of)) (All-nil of);
     }

@@ -1,6 +1,5 @@
 -- The hub's routing against the row of the list machine.
-use Rattle.std.proofs.Common.{◌≡◌, ℕ, ◌+◌, ◌<◌, true, List, length, Option, Some, None, Ok, Err, sym, ap, arith}
-use Rattle.std.specs.Prelude.{slice_get, Result, IfOk, IfErr, OnOk, OnErr}
+use Rattle.std.proofs.Common.{◌≡◌, ℕ, ◌+◌, ◌<◌, true, List, length, Option, Some, None, Ok, Err, sym, ap, arith, slice_get, Result, IfOk, IfErr, OnOk, OnErr}
 use Rattle.mv_system.proofs.Words.{FailsBy, HubState, IsSystem, Message, Parts, State, close_fault, hub_of, is_open, is_party, lt-ltb, route_fault, routed_count, state_of, submissions_of, with_hub, with_routed}
 use Rattle.std.proofs.lemmas.Bool.Decides.{nat_tests}
 use Rattle.mv_hub.specs.declared.fault.RouteFault.{RouteFault}

@@ -1,6 +1,5 @@
 -- What the parts of the system say of the list machine's lists, and what each change of a part keeps.
-use Rattle.std.proofs.Common.{◌≡◌, ℕ, ◌+◌, ◌-◌, ◌<◌, ◌≤◌, Bool, List, [], ◌∷◌, ◌++◌, length, get_or, set, map, Some, sym, refl, ap, ◌∙◌, subst, arith, length-append, length-drop, drop, ltb-true}
-use Rattle.std.specs.Prelude.{All, slice_get, option_map, IsTrue, None, Option, Result, Ok, Err, IfOk, OnOk, OnErr, IsErrOf}
+use Rattle.std.proofs.Common.{◌≡◌, ℕ, ◌+◌, ◌-◌, ◌<◌, ◌≤◌, Bool, List, [], ◌∷◌, ◌++◌, length, get_or, set, map, Some, sym, refl, ap, ◌∙◌, subst, arith, length-append, length-drop, drop, ltb-true, All, slice_get, option_map, IsTrue, None, Option, Result, Ok, Err, IfOk, OnOk, OnErr, IsErrOf}
 use Rattle.mv_system.proofs.Words.{All-drop, All-get_or, All-push, All-weaker, FailsBy, FitsWire, Frame, HubState, IsFrameOf, IsSiteAt, IsSound, IsSquare, IsSystem, Message, NUMBER_LIMIT, OffersFront, Parts, SiteState, State, Submits, WireState, and_parts, answer-room, answers_in, applied-sound, apply_fault, are_parties, ask-free, ask_fault, cell, cell-map, count_from, entry_from, get_or_read, hub_of, is_party, is_uplink_full, items_on, length-map, log_of, look_at, map-append, map-set, new_site, new_wire, numbers_of, put, put-each, put-each_pair, put-map, routed_count-few, set-get_or, site_at, site_of, square-map, square-put, stamps_suffice, state_of, submissions_of, submitted-sound, taken_by, wire_at, wire_of, with_applied, with_site, with_submission, with_taken, with_wire}
 use Rattle.std.proofs.Math.ListN.{get_or-map}
 use Rattle.std.specs.List.{drop-map}
@@ -16,6 +15,15 @@ use Rattle.mv_party.specs.declared.fault.SiteFault.{SiteFault}
 use Rattle.mv_party.specs.declared.fault.SiteFault.TheVariants.{Memory}
 use Rattle.mv_party.specs.declared.taken.Taken.{Taken}
 use Rattle.mv_machine.specs.Steps.{next_item}
+use Rattle.circular_buffer.specs.Buffer.{buffer, keep_last}
+
+-- the number at a place of a wire is that of the frame there
+pub ruleset number_of_frame = (slice_get-map)
+
+-- a list that is not too long is kept whole
+keep_all : {A : Type 0} (n : ℕ) (xs : List A) (x : A) → length xs < n → keep_last n (xs ++ x ∷ []) ≡ xs ++ x ∷ []
+keep_all n xs x short =
+    let none : length (xs ++ x ∷ []) - n ≡ 0 = omega (arith, length-append xs (x ∷ [])) in ap (λ k. drop k (xs ++ x ∷ [])) none
 
 pub sound_of : {p : Parts} → IsSystem p → IsSound (state_of p)
 sound_of k = record { well_formed = k.well_formed; lawful = k.lawful }
@@ -28,11 +36,11 @@ logs-at : (p : Parts) (party : ℕ) → log_of (state_of p) party ≡ (site_at p
 logs-at p party = get_or-map (λ (site : SiteState). site.log) p.sites party (new_site 0 0 0)
 
 -- the numbers under way on a link are those of the frames on its wire
-pub wires_at : (wires : List (List WireState)) (from to : ℕ) → cell (map (map (λ w. numbers_of w.frames)) wires) from to [] ≡ numbers_of (wire_at wires from to).frames
-wires_at wires from to = cell-map (λ w. numbers_of w.frames) wires from to (new_wire 0)
+pub wires_at : (wires : List (List WireState)) (from to : ℕ) → cell (map (map (λ w. numbers_of w.items)) wires) from to [] ≡ numbers_of (wire_at wires from to).items
+wires_at wires from to = cell-map (λ w. numbers_of w.items) wires from to (new_wire 0)
 
-pub wires_len_at : (wires : List (List WireState)) (from to : ℕ) → length (cell (map (map (λ w. numbers_of w.frames)) wires) from to []) ≡ length (wire_at wires from to).frames
-wires_len_at wires from to = ap length (wires_at wires from to) ∙ length-map (wire_at wires from to).frames (λ f. f.number)
+pub wires_len_at : (wires : List (List WireState)) (from to : ℕ) → length (cell (map (map (λ w. numbers_of w.items)) wires) from to []) ≡ length (wire_at wires from to).items
+wires_len_at wires from to = ap length (wires_at wires from to) ∙ length-map (wire_at wires from to).items (λ f. f.number)
 
 -- what is known of a party, of which the list machine sees this state
 pub record SiteFacts (p : Parts) (st : State) (party : ℕ) (site : SiteState) : Type 0 where
@@ -81,11 +89,11 @@ pub record LinkFacts (p : Parts) (st : State) (from to : ℕ) (wire : WireState)
   pub kept : IsSystem p
   pub view : state_of p ≡ st
   pub places : ArePlaces p from to
-  pub seen : numbers_of wire.frames ≡ wire_of st from to
-  pub len : length wire.frames ≡ length (wire_of st from to)
+  pub seen : numbers_of wire.items ≡ wire_of st from to
+  pub len : length wire.items ≡ length (wire_of st from to)
   pub limits : st.limits ≡ p.limits
   pub linked : items_on (hub_of st) from to ≡ items_on p.hub from to
-  pub frames : All (IsFrameOf (items_on p.hub from to)) wire.frames
+  pub frames : All (IsFrameOf (items_on p.hub from to)) wire.items
   pub fits : FitsWire p.limits.wire wire
 
 pub link_facts : {p : Parts} {st : State} {wire : WireState} (from to : ℕ) → IsSystem p → state_of p ≡ st → IsTrue (are_parties (hub_of st) from to)
@@ -93,52 +101,54 @@ pub link_facts : {p : Parts} {st : State} {wire : WireState} (from to : ℕ) →
 link_facts {p} {wire = wire} from to k view both read =
     let at = read (new_wire 0) in
     let places = parties-places from to k view both in
-    let seen = ap (λ (v : WireState). numbers_of v.frames) (sym at) ∙ sym (wires_at p.wires from to) ∙ ap (λ (t : State). wire_of t from to) view in
+    let seen = ap (λ (v : WireState). numbers_of v.items) (sym at) ∙ sym (wires_at p.wires from to) ∙ ap (λ (t : State). wire_of t from to) view in
     record {
       kept = k;
       view = view;
       places = places;
       seen = seen;
-      len = sym (length-map wire.frames (λ f. f.number)) ∙ ap length seen;
+      len = sym (length-map wire.items (λ f. f.number)) ∙ ap length seen;
       limits = ap (λ (t : State). t.limits) (sym view);
       linked = ap (λ (t : State). items_on (hub_of t) from to) (sym view);
-      frames = subst (λ (v : WireState). All (IsFrameOf (items_on p.hub from to)) v.frames) at (k.frames from to);
+      frames = subst (λ (v : WireState). All (IsFrameOf (items_on p.hub from to)) v.items) at (k.frames from to);
       fits = subst (FitsWire p.limits.wire) at (k.wires_fit from to places.from_party places.to_party);
     }
 
 -- a wire is written
 wire_written : {p : Parts} {st : State} {from to : ℕ} {old : WireState} → LinkFacts p st from to old → (wire : WireState) (numbers : List ℕ)
-    → All (IsFrameOf (items_on p.hub from to)) wire.frames → FitsWire p.limits.wire wire → numbers_of wire.frames ≡ numbers
+    → All (IsFrameOf (items_on p.hub from to)) wire.items → FitsWire p.limits.wire wire → numbers_of wire.items ≡ numbers
     → IsSystem (record p { wires = put p.wires from to wire }) × (state_of (record p { wires = put p.wires from to wire }) ≡ with_wire st from to numbers)
 wire_written {p} {from = from} {to = to} facts wire numbers frames fits e =
     let k = facts.kept in
     let square = square-put (length p.hub.parties) p.wires from to wire k.wires_square in
-    let wires_each = square-map (length p.hub.parties) (λ w. numbers_of w.frames) (put p.wires from to wire) square in
+    let wires_each = square-map (length p.hub.parties) (λ w. numbers_of w.items) (put p.wires from to wire) square in
     let wires_fit = put-each_pair (λ i j w. i < length p.hub.parties → j < length p.hub.parties → FitsWire p.limits.wire w) p.wires from to wire (new_wire 0) (λ _ _. fits) k.wires_fit in
-    let frames_of = put-each_pair (λ i j w. All (IsFrameOf (items_on p.hub i j)) w.frames) p.wires from to wire (new_wire 0) frames k.frames in
-    let wires = put-map (λ w. numbers_of w.frames) p.wires from to wire in
-    let seen : state_of (record p { wires = put p.wires from to wire }) ≡ with_wire (state_of p) from to (numbers_of wire.frames) = λ i. record (state_of p) { wires = wires i } in
+    let frames_of = put-each_pair (λ i j w. All (IsFrameOf (items_on p.hub i j)) w.items) p.wires from to wire (new_wire 0) frames k.frames in
+    let wires = put-map (λ w. numbers_of w.items) p.wires from to wire in
+    let seen : state_of (record p { wires = put p.wires from to wire }) ≡ with_wire (state_of p) from to (numbers_of wire.items) = λ i. record (state_of p) { wires = wires i } in
     (assumption (square, wires_each, wires_fit, frames_of, k), seen ∙ ap (with_wire (state_of p) from to) e ∙ ap (λ (t : State). with_wire t from to numbers) facts.view)
 
 -- a frame of the link is put on its wire
 pub frame_pushed : {p : Parts} {st : State} {from to : ℕ} {old : WireState} → LinkFacts p st from to old → (frame : Frame) (wire : WireState)
-    → wire ≡ record old { frames = old.frames ++ frame ∷ [] } → IsFrameOf (items_on (hub_of st) from to) frame → length (wire_of st from to) < st.limits.wire
+    → wire ≡ buffer (keep_last old.capacity (old.items ++ frame ∷ [])) old.capacity → IsFrameOf (items_on (hub_of st) from to) frame → length (wire_of st from to) < st.limits.wire
     → IsSystem (record p { wires = put p.wires from to wire })
     × (state_of (record p { wires = put p.wires from to wire }) ≡ with_wire st from to (wire_of st from to ++ frame.number ∷ []))
 frame_pushed {p} {from = from} {to = to} {old = old} facts frame wire is of room =
+    let fits : length old.items < old.capacity = omega (arith, facts.len, facts.fits.size, room, ap (λ l. l.wire) facts.limits) in
+    let kept : wire ≡ buffer (old.items ++ frame ∷ []) old.capacity = is ∙ ap (λ l. buffer l old.capacity) (keep_all old.capacity old.items frame fits) in
     wire_written facts wire _
-    (rw is (All-push (IsFrameOf (items_on p.hub from to)) old.frames frame facts.frames (subst (λ l. IsFrameOf l frame) facts.linked of)))
-    (rw is (record { size = facts.fits.size; within = omega (arith, facts.len, room, ap (λ l. l.wire) facts.limits, length-append old.frames (frame ∷ [])) }))
-    (rw is (map-append (λ f. f.number) old.frames (frame ∷ []) ∙ ap (λ l. l ++ frame.number ∷ []) facts.seen))
+    (rw kept (All-push (IsFrameOf (items_on p.hub from to)) old.items frame facts.frames (subst (λ l. IsFrameOf l frame) facts.linked of)))
+    (rw kept (record { size = facts.fits.size; within = omega (arith, facts.len, room, ap (λ l. l.wire) facts.limits, length-append old.items (frame ∷ [])) }))
+    (rw kept (map-append (λ f. f.number) old.items (frame ∷ []) ∙ ap (λ l. l ++ frame.number ∷ []) facts.seen))
 
 -- the front of a wire is taken away
-pub front_dropped : {p : Parts} {st : State} {from to : ℕ} {old : WireState} → LinkFacts p st from to old → (wire : WireState) → wire ≡ record old { frames = drop 1 old.frames }
+pub front_dropped : {p : Parts} {st : State} {from to : ℕ} {old : WireState} → LinkFacts p st from to old → (wire : WireState) → wire ≡ buffer (drop 1 old.items) old.capacity
     → IsSystem (record p { wires = put p.wires from to wire }) × (state_of (record p { wires = put p.wires from to wire }) ≡ with_wire st from to (drop 1 (wire_of st from to)))
 front_dropped {p} {from = from} {to = to} {old = old} facts wire is =
     wire_written facts wire _
-    (rw is (All-drop (IsFrameOf (items_on p.hub from to)) 1 old.frames facts.frames))
-    (rw is (record { size = facts.fits.size; within = omega (arith, facts.fits.within, length-drop 1 old.frames) }))
-    (rw is (sym (drop-map (λ f. f.number) 1 old.frames) ∙ ap (drop 1) facts.seen))
+    (rw is (All-drop (IsFrameOf (items_on p.hub from to)) 1 old.items facts.frames))
+    (rw is (record { size = facts.fits.size; within = omega (arith, facts.fits.within, length-drop 1 old.items) }))
+    (rw is (sym (drop-map (λ f. f.number) 1 old.items) ∙ ap (drop 1) facts.seen))
 
 -- the system with one more entry in the record
 pub entered_kept : {p : Parts} (entry : Entry) → IsSystem p → IsSound (state_of (record p { hub = record p.hub { entries = p.hub.entries ++ entry ∷ [] } }))
@@ -224,12 +234,12 @@ module _ {p : Parts} {st : State} {party : ℕ} {site : SiteState} (facts : Site
 
 -- the frame in front of a wire is offered to its receiver
 module _ {p : Parts} {st : State} {from to : ℕ} {wire : WireState} {site : SiteState} (link : LinkFacts p st from to wire) (facts : SiteFacts p st to site)
-    (frame : Frame) (front : slice_get wire.frames 0 ≡ Some frame) (new : SiteState) where
+    (frame : Frame) (front : slice_get wire.items 0 ≡ Some frame) (new : SiteState) where
   -- it bears the item of its number
   front_item : slice_get (items_on (hub_of st) from to) (frame.number - 1) ≡ Some frame.item
   front_item =
-      let of = All-get_or (IsFrameOf (items_on p.hub from to)) wire.frames 0 frame (slice_get_within wire.frames 0 frame front) link.frames in
-      rw link.linked (rw (get_or_from_slice_get wire.frames 0 frame frame front) at of).1
+      let of = All-get_or (IsFrameOf (items_on p.hub from to)) wire.items 0 frame (slice_get_within wire.items 0 frame front) link.frames in
+      rw link.linked (rw (get_or_from_slice_get wire.items 0 frame frame front) at of).1
 
   -- so where it is the next, it bears the next item of its link
   next_of : look_at (count_from site.log from) frame.number ≡ look.Next → next_item (state_of p) from to ≡ Some frame.item
@@ -266,7 +276,7 @@ module _ {p : Parts} {st : State} {from to : ℕ} {wire : WireState} {site : Sit
   takes full result full_is value ok err fails memory = record {
     number = frame.number;
     item = frame.item;
-    front = ap (λ l. slice_get l 0) (sym link.seen) ∙ slice_get-map (λ f. f.number) wire.frames 0 ∙ ap (option_map (λ f. f.number)) front;
+    front = ap (λ l. slice_get l 0) (sym link.seen) ∙ slice_get-map (λ f. f.number) wire.items 0 ∙ ap (option_map (λ f. f.number)) front;
     member = front_item;
     answered = subst (λ (s : SiteState). IfOk result (λ taken. taken ≡ taken_by s from frame.item (look_at (count_from s.log from) frame.number))) facts.is value;
     ok = site_ok facts new (λ s. with_taken s from frame.item (look_at (count_from s.log from) frame.number)) result (grind arith) ok;

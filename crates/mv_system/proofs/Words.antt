@@ -15,8 +15,7 @@ pub use Rattle.mv_pairs.specs.Pairs.{IsSquare, cell, put}
 pub use Rattle.mv_party.proofs.CallerLemmas.{answer-room, ask-free, no_answer, submit-free}
 pub use Rattle.mv_party.specs.Calls.{apply_fault, ask_fault, submit_fault, taken_by, with_taken}
 pub use Rattle.mv_party.specs.Site.{SiteState, answers_in, count_from, entry_from, new_site, with_applied, with_submission}
-pub use Rattle.mv_system.specs.Wire.{WireState, new_wire, numbers_of}
-pub use Rattle.mv_system.specs.World.{FitsWire, IsSiteAt, IsSystem, OffersFront, Parts, Submits, parts_of, site_at, state_of, wire_at}
+pub use Rattle.mv_system.specs.World.{FitsWire, IsSiteAt, IsSystem, OffersFront, Parts, Submits, WireState, new_wire, numbers_of, parts_of, site_at, state_of, wire_at}
 pub use Rattle.std.proofs.lemmas.Bool.{and_parts, lt-ltb}
 pub use Rattle.std.proofs.lemmas.List.{get_or_read, length-map, map-append, map-set, set-get_or, take_more}
 pub use Rattle.std.proofs.lemmas.List.Elements.{All-drop, All-get_or, All-nil, All-push, All-weaker}

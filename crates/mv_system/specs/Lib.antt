@@ -1,4 +1,3 @@
-pub mod Wire
 pub mod World
 pub use Rattle.mv_machine.specs.Limits
 pub use Rattle.mv_machine.specs.Replies

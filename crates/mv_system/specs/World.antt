@@ -1,5 +1,5 @@
 -- What the system is seen as, the state of the list machine, and what it keeps beside that.
-use Rattle.std.specs.Prelude.{◌≡◌, All, ◌<◌, ◌≤◌, ◌+◌, ◌-◌, ℕ, List, length, map, slice_index_or, slice_get, Option, Some, Result, IfOk, OnOk, OnErr, IsErrOf}
+use Rattle.std.specs.Prelude.{◌≡◌, All, ◌<◌, ◌≤◌, ◌+◌, ◌-◌, ℕ, List, [], length, map, slice_index_or, slice_get, Option, Some, Result, Ok, Err, IfOk, OnOk, OnErr, IsErrOf}
 use Rattle.mv_message.specs.declared.message.Message.{Message}
 use Rattle.mv_link.specs.Frames.{IsFrameOf}
 use Rattle.mv_link.specs.declared.limits.TheConstants.{PARTIES_LIMIT}
@@ -17,7 +17,23 @@ use Rattle.mv_party.specs.Calls.{apply_fault, taken_by, with_taken}
 use Rattle.mv_machine.specs.Limits.{Bounds, AreBounds}
 use Rattle.mv_machine.specs.State.{State, submissions_of, is_uplink_full, wire_of, applied_count, site_of, with_site, hub_of}
 use Rattle.mv_machine.specs.Lawful.{IsLawful, IsWellFormed}
-use Rattle.mv_system.specs.Wire.{WireState, new_wire, numbers_of}
+use Rattle.mv_link.specs.declared.item.Frame.{Frame}
+use Rattle.mv_machine.specs.declared.reply.Refusal.{Refusal}
+use Rattle.mv_machine.specs.declared.reply.Reply.{Reply}
+use Rattle.mv_machine.specs.declared.reply.Reply.TheVariants.{Refused}
+use Rattle.circular_buffer.specs.Buffer.{Buffer, buffer}
+
+-- the frames under way on a link, the front first, in a ring of the wire's size
+abbrev pub WireState : Type 0
+WireState = Buffer Frame
+
+-- a wire where nothing is under way
+abbrev pub new_wire : ℕ → WireState
+new_wire size = buffer [] size
+
+-- the numbers of frames, in order
+abbrev pub numbers_of : List Frame → List ℕ
+numbers_of frames = map (λ frame. frame.number) frames
 
 -- the parts of the system
 pub record Parts : Type 0 where
@@ -46,14 +62,14 @@ state_of p = record {
   submissions = map (λ site. site.submissions) p.sites;
   entries = p.hub.entries;
   sent = p.hub.sent;
-  wires = map (map (λ w. numbers_of w.frames)) p.wires;
+  wires = map (map (λ w. numbers_of w.items)) p.wires;
   logs = map (λ site. site.log) p.sites;
 }
 
 -- a wire of this size holds no more than that
 pub record FitsWire (limit : ℕ) (wire : WireState) : Type 0 where
-  pub size : wire.size ≡ limit
-  pub within : length wire.frames ≤ limit
+  pub size : wire.capacity ≡ limit
+  pub within : length wire.items ≤ limit
 
 -- this is the party of a number, one of so many, within its limit
 pub record IsSiteAt (limits : Bounds) (parties party : ℕ) (site : SiteState) : Type 0 where
@@ -66,7 +82,6 @@ pub record IsSiteAt (limits : Bounds) (parties party : ℕ) (site : SiteState) :
 pub record IsSystem (p : Parts) : Type 0 where
   pub well_formed : IsWellFormed (state_of p)
   pub lawful : IsLawful (state_of p)
-  pub parties_least : 1 ≤ length p.hub.parties
   pub parties_most : length p.hub.parties ≤ PARTIES_LIMIT
   pub window : p.hub.window ≡ p.limits.window
   pub bounds : AreBounds p.limits
@@ -74,7 +89,7 @@ pub record IsSystem (p : Parts) : Type 0 where
   pub wires_square : IsSquare (length p.hub.parties) p.wires
   pub wires_fit : (from to : ℕ) → from < length p.hub.parties → to < length p.hub.parties
       → FitsWire p.limits.wire (wire_at p.wires from to)
-  pub frames : (from to : ℕ) → All (IsFrameOf (items_on p.hub from to)) (wire_at p.wires from to).frames
+  pub frames : (from to : ℕ) → All (IsFrameOf (items_on p.hub from to)) (wire_at p.wires from to).items
 
 -- A party submitted a message, and was told its number, or it refused to for this fault or for want of memory.
 pub record Submits (old : State) (party : ℕ) (message : Message) (refused_for : Option SiteFault) (result : Result ℕ SiteFault) (new : State) : Type 0 where
@@ -95,3 +110,8 @@ pub record OffersFront (old : State) (from to : ℕ) (result : Result Taken Site
   pub err : OnErr result (new ≡ old)
   pub fault : FailsBy SiteMemory (apply_fault (is_uplink_full old to) (site_of old to) from item (look_at (applied_count old from to) number)) result
   pub memory : IsErrOf result SiteMemory → look_at (applied_count old from to) number ≡ Next
+
+-- the reply that tells what a step did, or why it was refused
+abbrev pub reply_of : Result Reply Refusal → Reply
+reply_of (Ok reply) = reply
+reply_of (Err refusal) = Refused refusal

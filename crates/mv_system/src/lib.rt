@@ -18,7 +18,6 @@
 #![tactic(auto)]
 
 mod opening;
-mod wire;
 mod world;
 
 pub use mv_machine::{Limits, LimitsFault, Refusal, Reply, Step};

@@ -7,11 +7,13 @@ ghost use Rattle.mv_machine.specs.Replies.{changes_nothing};
 ghost use Rattle.mv_machine.specs.Runs.{Meets, Allows, Runs};
 ghost use Rattle.mv_machine.specs.Lawful.{IsLawful, IsWellFormed};
 ghost use Rattle.mv_machine.specs.Headline.{HeadlineHolds};
-ghost use Rattle.mv_system.specs.Wire.{new_wire};
+ghost use Rattle.mv_system.specs.World.{new_wire};
 
 use crate::opening::new_sites;
-use crate::wire::Wire;
+use crate::world::steps::reply_of;
+use circular_buffer::HeapCircularBuffer;
 use mv_hub::{Entry, Hub, Parties};
+use mv_link::Frame;
 use mv_machine::{Limits, Reply, Step, refusals_change_nothing, steps_keep_headline};
 use mv_message::{Message, Party, Shared};
 use mv_pack::PackKey;
@@ -36,8 +38,8 @@ pub struct World {
     hub: Hub,
     /// The parties, party 0 first.
     sites: Vec<Site>,
-    /// What is under way on each link.
-    wires: PairTable<Wire>,
+    /// The frames under way on each link, the front first.
+    wires: PairTable<HeapCircularBuffer<Frame>>,
 }
 
 impl Model for World {
@@ -61,9 +63,9 @@ impl World {
         let wires = PairTable::from_fn(
             alloc,
             count,
-            || -> Result<Wire, AllocError>
+            || -> Result<HeapCircularBuffer<Frame>, AllocError>
                 ensures { IfOk result (λ wire. wire ≡ new_wire size) }
-            { Wire::new(alloc, size) },
+            { HeapCircularBuffer::with_capacity(alloc, size as usize) },
         )?;
         let sites = new_sites(alloc, count, limits.submissions())?;
         let hub = Hub::new(alloc, parties, limits.window())?;
@@ -140,7 +142,7 @@ impl World {
         steps_keep_headline();
         // The state is lawful: its record is looked at for that alone.
         let _ = self.record();
-        self.take_step(step)
+        reply_of(self.take_step(step))
     }
 
     /// Asks the other repositories about a pack, without a look at the party's own: the query is the last that the party
@@ -156,7 +158,7 @@ impl World {
         refusals_change_nothing();
         steps_keep_headline();
         let _ = self.record();
-        self.take_query(party, key)
+        reply_of(self.take_query(party, key))
     }
 
     /// Takes steps in order. Refused for want of memory, it has taken none.

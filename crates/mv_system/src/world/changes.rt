@@ -1,16 +1,13 @@
 //! The changes of the system, each one equation on the lists. Only these open the fields of the system to write.
 
-ghost use Rattle.std.specs.Prelude.{◌≡◌, ◌<◌, ◌+◌, ◌∷◌, [], ◌++◌, length, IfOk, IfErr, IsSome};
-ghost use Rattle.std.specs.Prelude.{OnOk, OnErr, IsTrue, slice_get, drop};
+ghost use Rattle.std.specs.Prelude.{◌≡◌, ◌<◌, ◌+◌, ◌∷◌, [], ◌++◌, length, IfOk, IfErr, IsSome, OnOk, OnErr, IsTrue, slice_get, drop};
 ghost use Rattle.mv_message.specs.declared.message.Message.TheVariants.{Query};
 ghost use Rattle.mv_link.specs.Frames.{IsFrameOf};
 ghost use Rattle.mv_link.specs.Fault.{FailsBy};
-ghost use Rattle.mv_hub.specs.Hub.{are_parties, items_on, sent_of};
-ghost use Rattle.mv_hub.specs.Hub.{relay_fault, close_fault, with_relayed, with_closed};
+ghost use Rattle.mv_hub.specs.Hub.{are_parties, items_on, sent_of, relay_fault, close_fault, with_relayed, with_closed};
 ghost use Rattle.mv_hub.specs.Record.{routed_count};
 ghost use Rattle.mv_party.specs.Calls.{submit_fault, ask_fault};
-ghost use Rattle.mv_machine.specs.State.{is_party, is_uplink_full, submissions_of};
-ghost use Rattle.mv_machine.specs.State.{hub_of, with_hub, site_of, wire_of, with_wire};
+ghost use Rattle.mv_machine.specs.State.{is_party, is_uplink_full, submissions_of, hub_of, with_hub, site_of, wire_of, with_wire};
 ghost use Rattle.mv_machine.specs.Steps.{route};
 ghost use Rattle.mv_machine.specs.Replies.{route_refusal_of};
 ghost use Rattle.mv_machine.specs.Runs.{Meets};
@@ -93,7 +90,7 @@ impl World {
             ≡ with_wire self.old from to (wire_of self.old from to ++ frame.number ∷ []) }
     {
         let wire = self.wires.at_mut(from, to);
-        wire.push(frame);
+        let _ = wire.push_back(frame);
     }
 
     /// Closes a link.
@@ -112,7 +109,7 @@ impl World {
         ensures { self.new ≡ with_wire self.old from to (drop 1 (wire_of self.old from to)) }
     {
         let wire = self.wires.at_mut(from, to);
-        wire.drop_front();
+        let _ = wire.pop_front();
     }
 
     /// Offers the frame in front of a wire to its receiver, which takes or refuses it. It stays there.

@@ -3,12 +3,12 @@
 ghost use Rattle.std.specs.Prelude.{◌≡◌, length, IsTrue, slice_get};
 ghost use Rattle.mv_machine.specs.Limits.{AreBounds};
 ghost use Rattle.mv_hub.specs.Hub.{are_parties};
-ghost use Rattle.mv_machine.specs.State.{is_uplink_full, is_party, waiting_of, hub_of};
-ghost use Rattle.mv_machine.specs.State.{wire_of, is_wire_full};
-ghost use Rattle.mv_system.specs.Wire.{numbers_of};
+ghost use Rattle.mv_machine.specs.State.{is_uplink_full, is_party, waiting_of, hub_of, wire_of, is_wire_full};
+ghost use Rattle.mv_system.specs.World.{numbers_of};
 
-use crate::wire::Wire;
 use crate::world::World;
+use circular_buffer::HeapCircularBuffer;
+use mv_link::Frame;
 use mv_machine::Limits;
 use mv_message::Party;
 
@@ -47,10 +47,10 @@ impl World {
 
     /// The wire of a link.
     #[tactic(auto, using(crate::proofs::SystemLemmas::wires_at, crate::proofs::SystemLemmas::wires_len_at))]
-    fn wire(&self, from: Party, to: Party) -> &Wire
+    fn wire(&self, from: Party, to: Party) -> &HeapCircularBuffer<Frame>
         requires { IsTrue (are_parties (hub_of self.now) from to) }
-        ensures numbers { numbers_of result.now.frames ≡ wire_of self.now from to }
-        ensures len { length result.now.frames ≡ length (wire_of self.now from to) }
+        ensures numbers { numbers_of result.now.items ≡ wire_of self.now from to }
+        ensures len { length result.now.items ≡ length (wire_of self.now from to) }
     {
         self.wires.at(from, to)
     }
@@ -65,10 +65,11 @@ impl World {
     }
 
     /// The number of the frame at a place of a wire, the front at 0.
+    #[tactic(auto, using(crate::proofs::SystemLemmas::number_of_frame))]
     pub fn frame_number(&self, from: Party, to: Party, place: usize) -> Option<u32>
         requires { IsTrue (are_parties (hub_of self.now) from to) }
         ensures { result ≡ slice_get (wire_of self.now from to) place }
     {
-        self.wire(from, to).number_at(place)
+        self.wire(from, to).get(place).map(|frame| frame.number)
     }
 }

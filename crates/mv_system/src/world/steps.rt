@@ -1,8 +1,10 @@
 //! The steps: each asks the readers and makes one change. No step opens a field.
 #![tactic(auto, unfolding(mv_machine::specs::Runs::Allows, mv_machine::specs::Runs::Meets, mv_machine::specs::Steps::submit, mv_machine::specs::Steps::verify, mv_machine::specs::Steps::ask, mv_machine::specs::Steps::route, mv_machine::specs::Steps::relay, mv_machine::specs::Steps::apply, mv_machine::specs::Steps::repeat, mv_machine::specs::Steps::close, mv_machine::specs::Steps::lose, mv_machine::specs::Steps::verdict))]
 
+ghost use Rattle.std.specs.Prelude.{◌≡◌, IsTrue, IfErr, OnOk, OnErr, false};
 ghost use Rattle.mv_machine.specs.Runs.{Meets, Allows};
 ghost use Rattle.mv_machine.specs.Steps.{ask};
+ghost use Rattle.mv_system.specs.World.{reply_of};
 
 use crate::world::World;
 use mv_machine::{Refusal, Reply, Step};
@@ -13,8 +15,8 @@ use mv_repository::Local;
 impl World {
     /// Takes one step.
     #[tactic(auto)]
-    pub(super) fn take_step(&mut self, step: &Step) -> Reply
-        ensures { Allows self.old step.now result self.new }
+    pub(super) fn take_step(&mut self, step: &Step) -> Result<Reply, Refusal>
+        ensures { Allows self.old step.now (reply_of result) self.new }
     {
         match step {
             Step::Submit { from, message } => self.submit(*from, message),
@@ -30,151 +32,126 @@ impl World {
     }
 
     /// A party submits a message, and is told its number.
-    fn submit(&mut self, from: Party, message: &Shared<Message>) -> Reply
-        ensures { Allows self.old (Step.Submit from message.now) result self.new }
+    fn submit(&mut self, from: Party, message: &Shared<Message>) -> Result<Reply, Refusal>
+        ensures { Allows self.old (Step.Submit from message.now) (reply_of result) self.new }
     {
-        if !self.is_party(from) {
-            return Reply::Refused(Refusal::Party);
-        }
-        match self.put_submission(from, message) {
-            Ok(k) => Reply::Submitted { k },
-            Err(fault) => Reply::Refused(Refusal::from(fault)),
-        }
+        need(self.is_party(from), Refusal::Party)?;
+        let k = self.put_submission(from, message)?;
+        Ok(Reply::Submitted { k })
     }
 
     /// A party verifies a pack: its own repository gives the verdict where it holds the pack, else the others are asked.
-    fn verify(&mut self, party: Party, key: &PackKey) -> Reply
-        ensures { Allows self.old (Step.Verify party key.now) result self.new }
+    fn verify(&mut self, party: Party, key: &PackKey) -> Result<Reply, Refusal>
+        ensures { Allows self.old (Step.Verify party key.now) (reply_of result) self.new }
     {
-        if !self.is_party(party) {
-            return Reply::Refused(Refusal::Party);
-        }
+        need(self.is_party(party), Refusal::Party)?;
         match self.repository(party).verify(key) {
-            Local::Known(verdict) => Reply::Known(verdict),
+            Local::Known(verdict) => Ok(Reply::Known(verdict)),
             Local::Absent => self.take_query(party, key),
         }
     }
 
     /// Submits a query of a pack, without a look at the party's own repository.
-    pub(super) fn take_query(&mut self, party: Party, key: &PackKey) -> Reply
-        ensures { Meets self.old (ask self.old party key.now) result self.new }
+    pub(super) fn take_query(&mut self, party: Party, key: &PackKey) -> Result<Reply, Refusal>
+        ensures { Meets self.old (ask self.old party key.now) (reply_of result) self.new }
     {
-        if !self.is_party(party) {
-            return Reply::Refused(Refusal::Party);
-        }
-        match self.put_query(party, key) {
-            Ok(q) => Reply::Asked { q },
-            Err(fault) => Reply::Refused(Refusal::from(fault)),
-        }
+        need(self.is_party(party), Refusal::Party)?;
+        let q = self.put_query(party, key)?;
+        Ok(Reply::Asked { q })
     }
 
     /// The hub routes the message in front of an uplink.
-    fn route(&mut self, from: Party) -> Reply
-        ensures { Allows self.old (Step.Route from) result self.new }
+    fn route(&mut self, from: Party) -> Result<Reply, Refusal>
+        ensures { Allows self.old (Step.Route from) (reply_of result) self.new }
     {
-        if !self.is_party(from) {
-            return Reply::Refused(Refusal::Party);
-        }
-        if self.waiting_count(from) == 0 {
-            return Reply::Refused(Refusal::UplinkEmpty);
-        }
-        match self.put_routed(from) {
-            Ok((k, reach)) => Reply::Routed { k, reach },
-            Err(fault) => Reply::Refused(Refusal::from(fault)),
-        }
+        need(self.is_party(from), Refusal::Party)?;
+        need(self.waiting_count(from) > 0, Refusal::UplinkEmpty)?;
+        let (k, reach) = self.put_routed(from)?;
+        Ok(Reply::Routed { k, reach })
     }
 
     /// The next frame of a link goes on its wire.
-    fn relay(&mut self, from: Party, to: Party) -> Reply
-        ensures { Allows self.old (Step.Relay from to) result self.new }
+    fn relay(&mut self, from: Party, to: Party) -> Result<Reply, Refusal>
+        ensures { Allows self.old (Step.Relay from to) (reply_of result) self.new }
     {
-        if !self.are_parties(from, to) {
-            return Reply::Refused(Refusal::Party);
-        }
-        if self.is_wire_full(from, to) {
-            return Reply::Refused(Refusal::WireFull);
-        }
-        match self.next_frame(from, to) {
-            Ok(frame) => {
-                let number = frame.number;
-                self.push_frame(from, to, frame);
-                Reply::Relayed { number }
-            }
-            Err(fault) => Reply::Refused(Refusal::from(fault)),
-        }
+        need(self.are_parties(from, to), Refusal::Party)?;
+        need(!self.is_wire_full(from, to), Refusal::WireFull)?;
+        let frame = self.next_frame(from, to)?;
+        let number = frame.number;
+        self.push_frame(from, to, frame);
+        Ok(Reply::Relayed { number })
     }
 
     /// A party takes the frame in front of a wire. Where it refuses, the frame stays there.
-    fn apply(&mut self, from: Party, to: Party) -> Reply
-        ensures { Allows self.old (Step.Apply from to) result self.new }
+    fn apply(&mut self, from: Party, to: Party) -> Result<Reply, Refusal>
+        ensures { Allows self.old (Step.Apply from to) (reply_of result) self.new }
     {
-        if !self.are_parties(from, to) {
-            return Reply::Refused(Refusal::Party);
-        }
+        need(self.are_parties(from, to), Refusal::Party)?;
         let Some(number) = self.frame_number(from, to, 0) else {
-            return Reply::Refused(Refusal::WireEmpty);
+            return Err(Refusal::WireEmpty);
         };
-        match self.offer_front(from, to) {
-            Ok(taken) => {
-                self.drop_front(from, to);
-                Reply::of_taken(number, taken)
-            }
-            Err(fault) => Reply::Refused(Refusal::from(fault)),
-        }
+        let taken = self.offer_front(from, to)?;
+        self.drop_front(from, to);
+        Ok(Reply::of_taken(number, taken))
     }
 
     /// A frame of a link that was relayed goes on its wire again.
-    fn repeat(&mut self, from: Party, to: Party, number: u32) -> Reply
-        ensures { Allows self.old (Step.Repeat from to number) result self.new }
+    fn repeat(&mut self, from: Party, to: Party, number: u32) -> Result<Reply, Refusal>
+        ensures { Allows self.old (Step.Repeat from to number) (reply_of result) self.new }
     {
-        if !self.are_parties(from, to) {
-            return Reply::Refused(Refusal::Party);
-        }
-        if self.is_wire_full(from, to) {
-            return Reply::Refused(Refusal::WireFull);
-        }
-        match self.hub().repeat(from, to, number) {
-            Ok(frame) => {
-                self.push_frame(from, to, frame);
-                Reply::Repeated { number }
-            }
-            Err(fault) => Reply::Refused(Refusal::from(fault)),
-        }
+        need(self.are_parties(from, to), Refusal::Party)?;
+        need(!self.is_wire_full(from, to), Refusal::WireFull)?;
+        let frame = self.hub().repeat(from, to, number)?;
+        self.push_frame(from, to, frame);
+        Ok(Reply::Repeated { number })
     }
 
     /// A link is closed.
-    fn close(&mut self, from: Party, to: Party) -> Reply
-        ensures { Allows self.old (Step.Close from to) result self.new }
+    fn close(&mut self, from: Party, to: Party) -> Result<Reply, Refusal>
+        ensures { Allows self.old (Step.Close from to) (reply_of result) self.new }
     {
-        match self.put_closed(from, to) {
-            Ok(()) => Reply::Closed,
-            Err(fault) => Reply::Refused(Refusal::from(fault)),
-        }
+        self.put_closed(from, to)?;
+        Ok(Reply::Closed)
     }
 
     /// The frame in front of a wire is lost.
-    fn lose(&mut self, from: Party, to: Party) -> Reply
-        ensures { Allows self.old (Step.Lose from to) result self.new }
+    fn lose(&mut self, from: Party, to: Party) -> Result<Reply, Refusal>
+        ensures { Allows self.old (Step.Lose from to) (reply_of result) self.new }
     {
-        if !self.are_parties(from, to) {
-            return Reply::Refused(Refusal::Party);
-        }
+        need(self.are_parties(from, to), Refusal::Party)?;
         match self.frame_number(from, to, 0) {
-            None => Reply::Refused(Refusal::WireEmpty),
+            None => Err(Refusal::WireEmpty),
             Some(number) => {
                 self.drop_front(from, to);
-                Reply::Lost { number }
+                Ok(Reply::Lost { number })
             }
         }
     }
 
     /// The verdict of all repositories that were asked, on a query of a party.
-    fn verdict(&mut self, party: Party, q: u32) -> Reply
-        ensures { Allows self.old (Step.Verdict party q) result self.new }
+    fn verdict(&mut self, party: Party, q: u32) -> Result<Reply, Refusal>
+        ensures { Allows self.old (Step.Verdict party q) (reply_of result) self.new }
     {
-        if !self.is_party(party) {
-            return Reply::Refused(Refusal::Party);
-        }
-        Reply::Joint(self.repository(party).verdict(q))
+        need(self.is_party(party), Refusal::Party)?;
+        Ok(Reply::Joint(self.repository(party).verdict(q)))
+    }
+}
+
+/// Whether this holds that a step needs; the refusal is that of the step.
+fn need(holds: bool, refusal: Refusal) -> Result<(), Refusal>
+    ensures ok { OnOk result (IsTrue holds) }
+    ensures err { OnErr result (holds ≡ false) }
+    ensures refusal { IfErr result (λ fault. fault ≡ refusal) }
+{
+    if holds { Ok(()) } else { Err(refusal) }
+}
+
+/// The reply that tells what a step did, or why it was refused.
+pub(super) fn reply_of(done: Result<Reply, Refusal>) -> Reply
+    ensures { result ≡ reply_of done }
+{
+    match done {
+        Ok(reply) => reply,
+        Err(refusal) => Reply::Refused(refusal),
     }
 }

@@ -1,6 +1,5 @@
-use Rattle.std.proofs.Common.{◌∙◌, ap, length}
+use Rattle.std.proofs.Common.{◌∙◌, ap, length, List}
 use Rattle.mv_hub.specs.declared.entry.Entry.{Entry}
-use Rattle.std.proofs.Common.{List}
 use Rattle.mv_hub.specs.Record.{routed_count}
 use Rattle.mv_repository.specs.Counts.{counts_of}
 use Rattle.mv_report.proofs.ReportLemmas.{line_ended}

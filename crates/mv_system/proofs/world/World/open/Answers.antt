@@ -14,7 +14,7 @@ opened c =
     let square = rw count.value at c.in_ok-wires.ensures.square in
     let empty = rw c.wire-size.ensures.value at c.in_ok-wires.ensures.each in
     rw (c.in_ok-hub.ensures, c.window.ensures.value, c.in_ok-sites.ensures, count.value, c.submissions.ensures.value)
-    (opening_kept parties limits wires count.some count.few c.wire-size.ensures.bounds square empty, opening_is parties limits wires square empty)
+    (opening_kept parties limits wires count.few c.wire-size.ensures.bounds square empty, opening_is parties limits wires square empty)
 
 pub invariant_of-result : goal.invariant_of-result
 invariant_of-result c = (opened c).0

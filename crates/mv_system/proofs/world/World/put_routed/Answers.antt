@@ -1,7 +1,6 @@
 -- The hub's answer is the row's, since the message that waits is the one that it was given.
-use Rattle.std.proofs.Common.{◌≡◌, ◌<◌, length, Some, refl, sym, ap, ◌∙◌}
+use Rattle.std.proofs.Common.{◌≡◌, ◌<◌, length, Some, refl, sym, ap, ◌∙◌, slice_get}
 use Rattle.mv_system.proofs.Words.{SiteState, next_entry, option_copied, parts_of, routed-sound, routed_count, state_of, submissions_of, with_routed, ⊤}
-use Rattle.std.specs.Prelude.{slice_get}
 use Rattle.mv_system.proofs.SystemLemmas.{sound_of, party-place, site_facts, entered_kept, entries-short, hub_kept}
 use Rattle.mv_system.proofs.RouteLemmas.{routes, route_refused}
 use Rattle.mv_system.proofs.world.World.put_routed.Goals as goal

@@ -1,9 +1,6 @@
 -- The ends of one opening stay such: what the proofs of other crates cite of the ends.
 use Rattle.std.proofs.Common.{◌≡◌, ◌<◌, ℕ, List, length, map, get_or, set, refl, sym, subst}
-use Rattle.mv_ends.specs.declared.repo_end.RepoEnd.{RepoEnd}
-use Rattle.mv_ends.specs.HubEnd.{hub_seat}
-use Rattle.mv_ends.specs.RepoEnd.{repo_seat, SameRepoEnd}
-use Rattle.mv_ends.specs.Whole.{AreSeatsOf}
+use Rattle.mv_ends.proofs.Words.{RepoEnd, hub_seat, repo_seat, SameRepoEnd, AreSeatsOf}
 use Rattle.mv_ends.specs.Laws.{AreSameRepos, EndsStayEnds, IsSameByOne}
 use Rattle.mv_ends.proofs.RingLemmas.{shows_same}
 

@@ -1,37 +1,16 @@
 -- What the ends keep while their lists grow.
-use Rattle.std.proofs.Common.{◌≡◌, ◌≤◌, ◌<◌, ◌+◌, ℕ, List, [], ◌∷◌, ◌++◌, length, arith, true, append-nil, length-append, length-set, ◌-◌}
+use Rattle.std.proofs.Common.{◌≡◌, ◌≤◌, ◌<◌, ◌+◌, ℕ, List, [], ◌∷◌, ◌++◌, length, arith, true, append-nil, length-append, length-set, None, Err}
+use Rattle.mv_ends.proofs.Words.{get_or-set_same, get_or-set_other, common_steps, Message, Item, Frame, IsFrameOf, routed_count, is_open, FailsBy, Refused, route_refusal_of, HubState, items_on, close_fault, nat_tests, IsLawfulRecord, stamps_suffice, record-entered, slice_get-append, cell, put-each, put-each_pair, HubEnd, IsUnchanged, Routes, IsFront, IsFor, with_item, with_frame, TookAll, AreOfLinks, AreWithin}
 use Rattle.std.specs.List.{All}
 use Rattle.std.proofs.lemmas.List.Elements.{All-nil, All-cons, All-head, All-tail}
-use Rattle.std.proofs.lemmas.List.{get_or-set_same, get_or-set_other}
-use Rattle.std.proofs.lemmas.Grind.{common_steps}
-use Rattle.mv_message.specs.declared.message.Message.{Message}
-use Rattle.mv_link.specs.declared.item.Item.{Item}
 use Rattle.mv_link.specs.declared.limits.TheConstants.{PARTIES_LIMIT, NUMBER_LIMIT}
 use Rattle.mv_party.specs.declared.limits.TheConstants.{SUBMISSIONS_LIMIT}
-use Rattle.mv_link.specs.declared.item.Frame.{Frame}
-use Rattle.mv_link.specs.Frames.{IsFrameOf}
 use Rattle.mv_hub.specs.declared.entry.Entry.{Entry}
 use Rattle.mv_hub.specs.declared.entry.Entry.TheVariants.{Routed, Closed}
-use Rattle.mv_hub.specs.Record.{routed_count, is_open}
-use Rattle.std.specs.Prelude.{None, Result, Err, OnOk, OnErr}
-use Rattle.mv_hub.specs.declared.fault.HubFault.{HubFault}
-use Rattle.mv_hub.specs.declared.fault.HubFault.TheVariants as hub_fault
 use Rattle.mv_hub.specs.declared.fault.RouteFault.{RouteFault}
 use Rattle.mv_hub.specs.declared.fault.RouteFault.TheVariants as routing
-use Rattle.mv_link.specs.Fault.{FailsBy}
-use Rattle.mv_machine.specs.declared.reply.Reply.TheVariants.{Refused}
-use Rattle.mv_machine.specs.Replies.{route_refusal_of}
-use Rattle.mv_hub.specs.Hub.{HubState, items_on, route_fault, close_fault, with_closed}
-use Rattle.std.proofs.lemmas.Bool.Decides.{nat_tests}
+use Rattle.mv_hub.specs.Hub.{route_fault}
 use Rattle.mv_hub.proofs.CallerLemmas.{routed_from-append, link_items-push}
-use Rattle.mv_machine.specs.Lawful.{IsLawfulRecord}
-use Rattle.mv_machine.proofs.CallerLemmas.{stamps_suffice, record-entered, slice_get-append}
-use Rattle.mv_pairs.specs.Pairs.{cell}
-use Rattle.mv_pairs.proofs.CallerLemmas.{put-each, put-each_pair}
-use Rattle.mv_ends.specs.declared.hub_end.HubEnd.{HubEnd}
-use Rattle.mv_ends.specs.HubEnd.{IsUnchanged, Routes}
-use Rattle.mv_ends.specs.Rings.{IsFront, IsFor, with_item, with_frame}
-use Rattle.mv_ends.specs.Valid.{TookAll, AreOfLinks, AreWithin}
 
 -- one more entry leaves the frames of a link frames of it
 frames-grow : (items more : List Item) (frames : List Frame) → All (IsFrameOf items) frames → All (IsFrameOf (items ++ more)) frames
@@ -102,8 +81,3 @@ route_refused old new from message fault party unchanged below front fails = gri
 pub closable : (hub : HubState) (sender receiver : ℕ) → close_fault hub sender receiver ≡ None
     → (sender < length hub.parties) × (receiver < length hub.parties) × (is_open hub.entries sender receiver ≡ true)
 closable hub sender receiver e = grind (arith, nat_tests)
-
--- a closing that was made, or refused, keeps what it keeps either way
-pub closed_or_same : (P : HubState → Type 0) (hub new : HubState) (sender receiver : ℕ) (r : Result Unit HubFault) → OnOk r (new ≡ with_closed hub sender receiver) → OnErr r (new ≡ hub)
-    → FailsBy hub_fault.Memory (close_fault hub sender receiver) r → P hub → (close_fault hub sender receiver ≡ None → P (with_closed hub sender receiver)) → P new
-closed_or_same P hub new sender receiver r ok err fails before after = grind (arith, nat_tests)

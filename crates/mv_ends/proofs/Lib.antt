@@ -1,3 +1,4 @@
+pub mod Words
 pub mod RingLemmas
 pub mod EndLemmas
 pub mod SiteEndLemmas

@@ -1,20 +1,7 @@
 -- What is seen of the ends beside one another.
-use Rattle.std.proofs.lemmas.Bool.Decides.{nat_tests}
-use Rattle.std.proofs.Common.{◌≡◌, ◌<◌, ℕ, List, length, map, get_or, refl, sym, subst, arith}
-use Rattle.std.specs.Prelude.{All}
-use Rattle.std.proofs.lemmas.List.{length-map}
-use mathlib.Core.List.{IsPrefix}
-use Rattle.mv_link.specs.declared.item.Item.{Item}
-use Rattle.mv_link.specs.declared.item.Frame.{Frame}
-use Rattle.mv_link.specs.Frames.{IsFrameOf, accepted}
-use Rattle.mv_link.proofs.CallerLemmas.{accepted_front}
+use Rattle.std.proofs.Common.{◌≡◌, ◌<◌, ℕ, List, length, map, get_or, refl, sym, subst, arith, All}
+use Rattle.mv_ends.proofs.Words.{nat_tests, length-map, IsPrefix, Item, Frame, IsFrameOf, accepted, accepted_front, items_from, All-front, RepoEnd, HubSeat, repo_seat, IsSeatOf, AreSeatsOf}
 use Rattle.mv_repository.specs.declared.entry.LogEntry.{LogEntry}
-use Rattle.mv_repository.specs.Log.{items_from}
-use Rattle.mv_machine.proofs.CallerLemmas.{All-front}
-use Rattle.mv_ends.specs.declared.repo_end.RepoEnd.{RepoEnd}
-use Rattle.mv_ends.specs.HubEnd.{HubSeat}
-use Rattle.mv_ends.specs.RepoEnd.{repo_seat}
-use Rattle.mv_ends.specs.Whole.{IsSeatOf, AreSeatsOf}
 use Rattle.mv_ends.proofs.RingLemmas.{shown_at}
 
 -- what was applied is a front of each list whose frames were put, where what was taken is a front of what was put

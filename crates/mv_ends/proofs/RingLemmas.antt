@@ -1,14 +1,7 @@
 -- What ends of rings show as they are called one by one.
-use Rattle.std.proofs.lemmas.Bool.Decides.{nat_tests}
 use Rattle.std.proofs.Common.{◌≡◌, ◌<◌, ◌++◌, ◌∷◌, ◌∙◌, ℕ, List, [], length, map, set, get_or, sym, ap, refl, subst, arith}
+use Rattle.mv_ends.proofs.Words.{nat_tests, get_or-map, length-map, length-set, map-set, get_or-set_same, Global, Vec, sent, producer_capacity, consumer_capacity, SameProducer, SameConsumer, IsPair, cell, Frame, Outlet, Inlet, ring_put, ring_taken, each_row, with_item, with_frame}
 use Rattle.std.proofs.Math.Seq.{map-set_same}
-use Rattle.std.proofs.lemmas.List.{get_or-map, length-map, length-set, map-set, get_or-set_same}
-use Rattle.std.specs.declared.alloc.Global.{Global}
-use Rattle.std.specs.declared.vec.Vec.{Vec}
-use Rattle.rtrb.specs.Ring.{sent, producer_capacity, consumer_capacity, SameProducer, SameConsumer, IsPair}
-use Rattle.mv_pairs.specs.Pairs.{cell}
-use Rattle.mv_link.specs.declared.item.Frame.{Frame}
-use Rattle.mv_ends.specs.Rings.{Outlet, Inlet, ring_put, ring_taken, each_row, with_item, with_frame}
 
 -- an end is of its ring still
 pub put_stays : {T : Type 0} (old new : Outlet T) → SameProducer old new → ring_put new ≡ ring_put old

@@ -1,34 +1,12 @@
 -- What a repository's end keeps as it takes frames.
-use Rattle.std.proofs.Common.{◌≡◌, ◌<◌, ◌+◌, ℕ, List, [], ◌∷◌, ◌++◌, length, arith, true, false, eqb, append-nil, Option, Err}
-use Rattle.std.specs.Prelude.{option_to_list}
-use Rattle.std.proofs.lemmas.Bool.Decides.{nat_tests}
-use Rattle.std.proofs.lemmas.List.{get_or-set_same, get_or-set_other}
-use Rattle.rtrb.specs.Ring.{sent}
-use Rattle.mv_message.specs.declared.message.Message.{Message}
-use Rattle.mv_link.specs.declared.item.Item.{Item}
-use Rattle.mv_link.specs.declared.item.Frame.{Frame}
+use Rattle.std.proofs.Common.{◌≡◌, ◌<◌, ℕ, List, [], ◌∷◌, ◌++◌, length, arith, true, false, eqb, append-nil, Option, Err, option_to_list}
+use Rattle.mv_ends.proofs.Words.{nat_tests, get_or-set_same, get_or-set_other, sent, Message, Item, Frame, accepted, one_more, items_from, SiteState, FailsBy, Taken, apply_fault, with_taken, Submitted, Refused, Memory, refusal_of, reply_to, RepoEnd, IsFront, with_item, answer_by, stands_to, AreAccepted, IsRefusedBy, is_uplink_full, IsRepoUnchanged, Submits, TakesFrame, Applies}
 use Rattle.mv_link.specs.declared.incoming.Look.{Look}
 use Rattle.mv_link.specs.declared.incoming.Look.TheVariants as look
-use Rattle.mv_link.specs.Frames.{accepted}
-use Rattle.mv_link.proofs.CallerLemmas.{one_more}
-use Rattle.mv_repository.specs.Log.{items_from}
 use Rattle.mv_party.specs.declared.fault.SiteFault.{SiteFault}
 use Rattle.mv_party.specs.declared.fault.SiteFault.TheVariants as site_fault
-use Rattle.mv_party.specs.Site.{SiteState}
-use Rattle.mv_link.specs.Fault.{FailsBy}
-use Rattle.mv_party.specs.declared.taken.Taken.{Taken}
-use Rattle.mv_party.specs.Calls.{apply_fault, with_taken}
 use Rattle.mv_party.proofs.CallerLemmas.{items_from-push}
-use Rattle.mv_machine.specs.declared.reply.Reply.TheVariants.{Submitted, Refused}
 use Rattle.mv_machine.specs.declared.reply.Refusal.{Refusal}
-use Rattle.mv_machine.specs.declared.reply.Refusal.TheVariants.{Memory}
-use Rattle.mv_machine.specs.Replies.{refusal_of, reply_to}
-use Rattle.mv_ends.specs.declared.repo_end.RepoEnd.{RepoEnd}
-use Rattle.mv_ends.specs.Rings.{IsFront, with_item}
-use Rattle.mv_ends.specs.Answering.{answer_by, stands_to}
-use Rattle.mv_ends.specs.Valid.{AreAccepted}
-use Rattle.mv_ends.specs.Refusals.{IsRefusedBy}
-use Rattle.mv_ends.specs.RepoEnd.{is_uplink_full, IsRepoUnchanged, Submits, TakesFrame, Applies}
 
 -- a fault of the party calls for its refusal
 pub refused_for : (A : Type 0) (expected : Option SiteFault) (fault : SiteFault) → FailsBy {A = A} site_fault.Memory expected (Err fault)

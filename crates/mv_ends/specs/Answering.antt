@@ -1,12 +1,10 @@
 -- How a frame stands to a party, and what goes on the party's uplink where it takes the frame.
 use Rattle.std.specs.Prelude.{ℕ, Option, None}
-use Rattle.mv_message.specs.declared.message.Message.{Message}
-use Rattle.mv_link.specs.declared.item.Frame.{Frame}
+use Rattle.mv_ends.specs.Words.{Message, Frame, SiteState, entry_from, count_from}
 use Rattle.mv_link.specs.declared.item.Item.{Item}
 use Rattle.mv_link.specs.declared.incoming.Look.{Look}
 use Rattle.mv_link.specs.declared.incoming.Look.TheVariants as look
 use Rattle.mv_repository.specs.Query.{answer_to}
-use Rattle.mv_party.specs.Site.{SiteState, entry_from, count_from}
 use Rattle.mv_link.specs.Receiving.{look_at}
 
 -- the answer that goes on the uplink where a frame from a sender stands so, and bears this item

@@ -1,20 +1,11 @@
 -- What a contract sees of the hub's end, and what its calls leave, by their replies.
 use Rattle.std.specs.Prelude.{◌≡◌, ◌⊎◌, ℕ, ◌+◌, ◌<◌, List, length, Option, Some, None, IsTrue}
-use Rattle.mv_message.specs.declared.message.Message.{Message}
-use Rattle.mv_link.specs.declared.item.Frame.{Frame}
-use Rattle.mv_link.specs.Frames.{IsFrameOf}
+use Rattle.mv_ends.specs.Words.{Message, Frame, IsFrameOf, routed_count, sent_of, items_on, are_parties, relay_fault, repeat_fault, close_fault, with_routed, with_relayed, with_closed, Reply, Routed, Relayed, Repeated, Closed, Refused, Refusal, Party, UplinkEmpty, Busy, WireFull, Memory, Bounds, hub_refusal_of}
 use Rattle.mv_hub.specs.declared.fault.HubFault.{HubFault}
 use Rattle.mv_hub.specs.declared.fault.RouteFault.{RouteFault}
 use Rattle.mv_hub.specs.declared.fault.RouteFault.TheVariants as route
-use Rattle.mv_hub.specs.Record.{routed_count}
 use Rattle.mv_hub.specs.Targets.{reach}
-use Rattle.mv_hub.specs.Hub.{sent_of, items_on, are_parties, route_fault, relay_fault, repeat_fault, close_fault, with_routed, with_relayed, with_closed}
-use Rattle.mv_machine.specs.declared.reply.Reply.{Reply}
-use Rattle.mv_machine.specs.declared.reply.Reply.TheVariants.{Routed, Relayed, Repeated, Closed, Refused}
-use Rattle.mv_machine.specs.declared.reply.Refusal.{Refusal}
-use Rattle.mv_machine.specs.declared.reply.Refusal.TheVariants.{Party, UplinkEmpty, Busy, WireFull, Memory}
-use Rattle.mv_machine.specs.Limits.{Bounds}
-use Rattle.mv_machine.specs.Replies.{hub_refusal_of}
+use Rattle.mv_hub.specs.Hub.{route_fault}
 use Rattle.mv_ends.specs.declared.hub_end.HubEnd.{HubEnd}
 use Rattle.mv_ends.specs.Refusals.{IsRefusedBy}
 use Rattle.mv_ends.specs.Rings.{Ring, IsEmptyFrom, IsFront, HasRoomOn, IsFullOn, with_item, with_frame}

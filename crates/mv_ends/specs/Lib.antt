@@ -1,3 +1,4 @@
+pub mod Words
 pub mod Rings
 pub mod Valid
 pub mod Refusals

@@ -1,10 +1,6 @@
 -- What is seen of a party's end where all ends of one opening are given back.
 use Rattle.std.specs.Prelude.{ℕ, ◌<◌, length}
-use mathlib.Core.List.{IsPrefix}
-use Rattle.mv_hub.specs.Record.{routed_from}
-use Rattle.mv_hub.specs.Hub.{HubState, items_on}
-use Rattle.mv_repository.specs.Log.{items_from}
-use Rattle.mv_party.specs.Site.{SiteState, IsLawfulParty}
+use Rattle.mv_ends.specs.Words.{IsPrefix, routed_from, HubState, items_on, items_from, SiteState, IsLawfulParty}
 
 -- A party is lawful beside a hub: what was routed from it is a front of what it submitted, what it applied from each other is a front
 -- of what the record puts on their link, and the answers among its submissions are those that its log calls for.

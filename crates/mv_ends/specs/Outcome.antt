@@ -1,8 +1,7 @@
 -- All ends of one opening, as the lists of the list machine.
 use Rattle.std.specs.Prelude.{List, map}
-use Rattle.mv_party.specs.Site.{SiteState}
+use Rattle.mv_ends.specs.Words.{SiteState, IsLawful, IsWellFormed}
 use Rattle.mv_machine.specs.State.{State, opening}
-use Rattle.mv_machine.specs.Lawful.{IsLawful, IsWellFormed}
 use Rattle.mv_ends.specs.declared.hub_end.HubEnd.{HubEnd}
 use Rattle.mv_ends.specs.declared.repo_end.RepoEnd.{RepoEnd}
 use Rattle.mv_ends.specs.Whole.{AreEnds}

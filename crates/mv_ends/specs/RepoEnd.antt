@@ -1,19 +1,12 @@
 -- What a contract sees of a repository's end, and what its calls leave, by their replies.
 use Rattle.std.specs.Prelude.{◌≡◌, ℕ, ◌+◌, ◌<◌, [], ◌∷◌, ◌++◌, length, List, Bool, false, None, option_to_list}
-use Rattle.rtrb.specs.Ring.{sent}
+use Rattle.mv_ends.specs.Words.{sent, Message, Frame, with_submission, Reply, Submitted, Known, Asked, Refused, Party, WireEmpty, Memory, refusal_of, reply_to}
 use Rattle.mv_pack.specs.declared.key.PackKey.{PackKey}
-use Rattle.mv_message.specs.declared.message.Message.{Message}
 use Rattle.mv_message.specs.declared.message.Message.TheVariants.{Query}
-use Rattle.mv_link.specs.declared.item.Frame.{Frame}
 use Rattle.mv_link.specs.declared.incoming.Look.TheVariants.{Next}
 use Rattle.mv_repository.specs.declared.verdict.Local.TheVariants.{Known as KnownPack, Absent}
 use Rattle.mv_repository.specs.Verdict.{local_verdict}
-use Rattle.mv_party.specs.Site.{with_submission}
 use Rattle.mv_party.specs.Calls.{ask_fault, submit_fault, apply_fault, taken_by, with_taken}
-use Rattle.mv_machine.specs.declared.reply.Reply.{Reply}
-use Rattle.mv_machine.specs.declared.reply.Reply.TheVariants.{Submitted, Known, Asked, Refused}
-use Rattle.mv_machine.specs.declared.reply.Refusal.TheVariants.{Party, WireEmpty, Memory}
-use Rattle.mv_machine.specs.Replies.{refusal_of, reply_to}
 use Rattle.mv_ends.specs.declared.repo_end.RepoEnd.{RepoEnd}
 use Rattle.mv_ends.specs.Answering.{answer_by, stands_to}
 use Rattle.mv_ends.specs.Refusals.{IsRefusedBy}

@@ -1,15 +1,10 @@
 -- Rings, by what their two ends show of them.
 use Rattle.std.specs.Prelude.{◌≡◌, ◌==◌, ◌<◌, ℕ, List, [], ◌∷◌, ◌++◌, Bool, length, map, slice_index_or, slice_set}
-use mathlib.Core.List.{IsPrefix}
-use Rattle.std.specs.declared.alloc.Global.{Global}
-use Rattle.std.specs.declared.vec.Vec.{Vec}
+use Rattle.mv_ends.specs.Words.{IsPrefix, Global, Vec, sent, received, known_free, known_items, producer_capacity, consumer_capacity, cell, put, Frame}
 use denote.RawPtr.{Ptr}
-use Rattle.rtrb.specs.Ring.{sent, received, known_free, known_items, producer_capacity, consumer_capacity}
 use Rattle.rtrb.specs.declared.producer.Producer.{Producer}
 use Rattle.rtrb.specs.declared.consumer.Consumer.{Consumer}
 use Rattle.rtrb.specs.declared.AnyItems.{AnyItems}
-use Rattle.mv_pairs.specs.Pairs.{cell, put}
-use Rattle.mv_link.specs.declared.item.Frame.{Frame}
 
 -- the end of a ring that is put on, and the one that is taken from
 abbrev pub Outlet : Type 0 → Type 0

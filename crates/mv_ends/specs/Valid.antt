@@ -1,19 +1,11 @@
 -- What the ends keep of their rings, beside the hub and the party.
 use Rattle.std.specs.Prelude.{◌≡◌, ℕ, ◌+◌, ◌<◌, ◌≤◌, true, List, [], length, take, slice_index_or}
-use Rattle.std.specs.List.{All}
-use Rattle.mv_link.specs.Frames.{IsFrameOf, accepted}
+use Rattle.mv_ends.specs.Words.{All, IsFrameOf, accepted, Fits, IsLawfulRecord, routed_from, routed_count, is_open, HubState, items_on, cell, Message, Frame, items_from}
 use Rattle.std.specs.Coded.{×_prop, le_prop, Coded-set, coded_bool}
 use Rattle.std.proofs.Math.Nat.{ℕ_set}
 use Rattle.mv_hub.specs.declared.entry.Entry.{Entry}
 use Rattle.mv_hub.specs.declared.entry.Entry.TheVariants.{Routed, Closed}
-use Rattle.mv_machine.specs.Lawful.{Fits, IsLawfulRecord}
-use Rattle.mv_hub.specs.Record.{routed_from, routed_count, is_open}
-use Rattle.mv_hub.specs.Hub.{HubState, items_on}
-use Rattle.mv_pairs.specs.Pairs.{cell}
-use Rattle.mv_message.specs.declared.message.Message.{Message}
-use Rattle.mv_link.specs.declared.item.Frame.{Frame}
 use Rattle.mv_repository.specs.declared.entry.LogEntry.{LogEntry}
-use Rattle.mv_repository.specs.Log.{items_from}
 
 -- what was taken from each uplink is what was routed from its party, in order
 abbrev pub TookAll : ℕ → List Entry → List (List Message) → Type 0

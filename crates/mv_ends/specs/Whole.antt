@@ -1,9 +1,6 @@
 -- All ends of one opening.
 use Rattle.std.specs.Prelude.{◌≡◌, ℕ, ◌<◌, List, length, map, slice_index_or}
-use Rattle.std.specs.List.{All}
-use Rattle.mv_hub.specs.Hub.{new_hub}
-use Rattle.mv_party.specs.Site.{new_site}
-use Rattle.mv_machine.specs.Limits.{Bounds}
+use Rattle.mv_ends.specs.Words.{All, new_hub, new_site, Bounds}
 use Rattle.mv_ends.specs.declared.hub_end.HubEnd.{HubEnd}
 use Rattle.mv_ends.specs.declared.repo_end.RepoEnd.{RepoEnd}
 use Rattle.mv_ends.specs.Rings.{Ring}

@@ -179,14 +179,15 @@ impl HubEnd {
     ///
     /// Answers `Closed`, or the first of these refusals that holds: S1, one of the parties is none; S12, the link is closed
     /// already; S14, memory was refused.
+    #[tactic(auto, using(crate::proofs::EndLemmas::of_links_entered, crate::proofs::EndLemmas::took_closed, crate::proofs::EndLemmas::within_closed, crate::proofs::EndLemmas::lawful_closed, crate::proofs::EndLemmas::closable))]
     pub fn close(&mut self, from: Party, to: Party) -> Reply
         ensures same { SameHubEnd self.old self.new }
         ensures reply { Closes from to self.old self.new result }
     {
-        if let Err(fault) = self.hub.close(from, to) {
-            return Reply::Refused(Refusal::from(fault));
+        match self.hub.close(from, to) {
+            Ok(()) => Reply::Closed,
+            Err(fault) => Reply::Refused(Refusal::from(fault)),
         }
-        Reply::Closed
     }
 
     /// Looks at both ends of all rings of a party: the party is lawful beside the hub.

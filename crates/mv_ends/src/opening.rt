@@ -1,8 +1,8 @@
 //! The ends of one opening.
 
-ghost use Rattle.std.specs.Prelude.{◌≡◌, IfOk};
+ghost use Rattle.std.specs.Prelude.{IfOk};
 ghost use Rattle.mv_ends.specs.Whole.{AreEnds, AreFresh};
-ghost use Rattle.mv_ends.specs.Opened.{AreLinks, AreOpened};
+ghost use Rattle.mv_ends.specs.Opened.{AreLinks};
 
 use crate::hub_end::HubEnd;
 use crate::inlets::Inlets;
@@ -13,19 +13,8 @@ use mv_hub::Parties;
 use mv_link::Frame;
 use mv_machine::Limits;
 use mv_message::{Message, Shared};
-use rtrb::{Consumer, Producer, RingBuffer};
+use rtrb::{Producer, RingBuffer};
 use std::alloc::{AllocError, Global};
-
-/// What is opened for some parties, in order of party.
-#[derive(Drop)]
-struct Openings {
-    /// The hub's end of each party's uplink.
-    uplinks: Vec<Consumer<Parcel<Shared<Message>>>>,
-    /// The hub's ends of the links to each party.
-    rows: Vec<Vec<Producer<Parcel<Frame>>>>,
-    /// The end of each party's repository.
-    repos: Vec<RepoEnd>,
-}
 
 /// The ends of a system where nothing has happened: the hub's, and that of each repository, in order of party. There is a ring
 /// for the uplink of each party, and one for each ordered pair, of the sizes that the limits give. Refused for want of memory.
@@ -37,25 +26,7 @@ pub fn open(
     ensures ends { IfOk result (λ ends. AreEnds ends.0 ends.1.items) }
     ensures fresh { IfOk result (λ ends. AreFresh parties limits ends.0 ends.1.items) }
 {
-    let Openings {
-        uplinks,
-        rows,
-        repos,
-    } = open_each(alloc, parties.len(), limits)?;
-    let hub = HubEnd::new(
-        alloc,
-        parties,
-        limits,
-        Inlets::new(uplinks),
-        Wires::new(rows),
-    )?;
-    Ok((hub, repos))
-}
-
-/// The ends of the rings of each of so many parties.
-fn open_each(alloc: Global, count: u32, limits: Limits) -> Result<Openings, AllocError>
-    ensures { IfOk result (λ opened. AreOpened count limits count opened.uplinks.items opened.rows.items opened.repos.items) }
-{
+    let count = parties.len();
     let mut uplinks = Vec::new(alloc);
     let mut rows = Vec::new(alloc);
     let mut repos = Vec::new(alloc);
@@ -70,11 +41,9 @@ fn open_each(alloc: Global, count: u32, limits: Limits) -> Result<Openings, Allo
         rows.push(row)?;
         repos.push(repo)?;
     }
-    Ok(Openings {
-        uplinks,
-        rows,
-        repos,
-    })
+    let (uplinks, wires) = (Inlets::new(uplinks), Wires::new(rows));
+    let hub = HubEnd::new(alloc, parties, limits, uplinks, wires)?;
+    Ok((hub, repos))
 }
 
 /// The two ends of the links to one party from so many.

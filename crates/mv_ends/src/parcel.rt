@@ -10,7 +10,7 @@ ghost use Rattle.std.specs.Prelude.{◌≡◌, ◌<◌, [], ◌∷◌, length, I
 ghost use mathlib.Core.List.{IsPrefix};
 ghost use Rattle.rtrb.specs.Ring.{known_items};
 
-use mv_link::{Frame, Item, Reached};
+use mv_link::{Frame, Item};
 use mv_message::{Message, Shared};
 use rtrb::Consumer;
 use std::alloc::{AllocError, Global};
@@ -76,57 +76,27 @@ impl Parcel<Shared<Message>> {
     }
 }
 
-impl Parcel<Item> {
-    /// A receipt, which holds nothing that can be shared.
-    fn receipt(k: u32, reach: Reached, query: bool) -> Parcel<Item>
-        ensures { result ≡ Item.Receipt k reach query }
-    {
-        Parcel {
-            inside: Item::Receipt { k, reach, query },
-        }
-    }
-
-    /// A message that is carried.
-    fn carried(k: u32, stamp: u32, message: Parcel<Shared<Message>>) -> Parcel<Item>
-        ensures { result ≡ Item.Carried k stamp message }
-    {
-        let message = message.open();
-        Parcel {
-            inside: Item::Carried { k, stamp, message },
-        }
-    }
-
-    /// A copy of an item. Refused for want of memory.
-    fn of_item(alloc: Global, item: &Item) -> Result<Parcel<Item>, AllocError>
-        ensures { IfOk result (λ parcel. parcel ≡ item.now) }
-    {
-        match item {
-            Item::Receipt { k, reach, query } => Ok(Parcel::receipt(*k, reach.copy(), *query)),
-            Item::Carried { k, stamp, message } => {
-                let message = Parcel::of_copy(alloc, message.get())?;
-                Ok(Parcel::carried(*k, *stamp, message))
-            }
-        }
-    }
-}
-
 impl Parcel<Frame> {
-    /// A frame of an item.
-    fn framed(number: u32, item: Parcel<Item>) -> Parcel<Frame>
-        ensures { result ≡ record { number = number; item = item } }
-    {
-        let item = item.open();
-        Parcel {
-            inside: Frame { number, item },
-        }
-    }
-
-    /// A copy of a frame. Refused for want of memory.
+    /// A copy of a frame: what a receipt holds can't be shared, and a message that is carried is copied. Refused for want of memory.
     pub(crate) fn of_frame(alloc: Global, frame: &Frame) -> Result<Parcel<Frame>, AllocError>
         ensures { IfOk result (λ parcel. parcel ≡ frame.now) }
     {
-        let item = Parcel::of_item(alloc, &frame.item)?;
-        Ok(Parcel::framed(frame.number, item))
+        let item = match &frame.item {
+            Item::Receipt { k, reach, query } => Item::Receipt {
+                k: *k,
+                reach: reach.copy(),
+                query: *query,
+            },
+            Item::Carried { k, stamp, message } => Item::Carried {
+                k: *k,
+                stamp: *stamp,
+                message: Parcel::of_copy(alloc, message.get())?.open(),
+            },
+        };
+        let number = frame.number;
+        Ok(Parcel {
+            inside: Frame { number, item },
+        })
     }
 }
 

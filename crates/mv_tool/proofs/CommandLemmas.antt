@@ -7,7 +7,7 @@ use Rattle.std.specs.declared.option.Option.{Option}
 use Rattle.clap.specs.Words.{IsAmong}
 use Rattle.clap.specs.declared.error.kind.ErrorKind.{ErrorKind}
 use Rattle.clap.specs.declared.error.kind.ErrorKind.TheVariants.{OutOfMemory}
-use Rattle.mv_words.specs.Words.{Asked, IsMistake}
+use Rattle.mv_words.specs.Words.{IsMistake}
 use Rattle.mv_words.specs.Words as asks
 use Rattle.mv_engine.specs.declared.fault.ServeFault.{ServeFault}
 use Rattle.mv_tool.specs.declared.status.Status.{Status}
@@ -79,9 +79,3 @@ pub ran_explain : (words : List (List ℕ)) (status : Status) (input rest old ne
 ran_explain words Done input rest old new told_old told_new told unread = (unread, told.0, told.1)
 ran_explain words Failed input rest old new told_old told_new told unread = (unread, told.0, told.1)
 ran_explain words Refused input rest old new told_old told_new told unread = (unread, told.2)
-
--- where nothing was read and nothing written, that is what a task came to that was refused
-pub ran_refused : (asked : Asked) (input rest old new told_old told_new : Option (List ℕ)) → Keeps input rest → Keeps old new
-    → Ran asked Refused input rest old new told_old told_new
-ran_refused asks.Steps input rest old new told_old told_new unread unwritten = (unread, unwritten)
-ran_refused _ input rest old new told_old told_new unread unwritten = (unread, unwritten)

@@ -1,6 +1,5 @@
 -- Lemmas on what `work` writes.
-use Rattle.std.proofs.Common.{◌≡◌, ℕ, List, ◌++◌, refl, ap, sym, ◌∙◌, subst, true≢false, ◌⊎◌, inl, inr, string_bytes}
-use Rattle.std.specs.Prelude.{◌↔◌, IsTrue, IfOk, IfErr, IfSome, Option, Some, None, Result, Ok, Err, Bool, true, false}
+use Rattle.std.proofs.Common.{◌≡◌, ℕ, List, ◌++◌, refl, ap, sym, ◌∙◌, subst, true≢false, ◌⊎◌, inl, inr, string_bytes, ◌↔◌, IsTrue, IfOk, IfErr, IfSome, Option, Some, None, Result, Ok, Err, Bool, true, false}
 use Rattle.mv_machine.specs.State.{State}
 use Rattle.mv_workers.specs.declared.plan.Plan.{Plan}
 use Rattle.mv_workers.specs.declared.plan.WorkFault.{WorkFault}
@@ -14,7 +13,7 @@ use Rattle.mv_report.specs.Report.{report_text}
 use Rattle.mv_plan.specs.Planning.{Planned}
 use Rattle.mv_plan.specs.Reading.{IsRead}
 use Rattle.mv_engine.specs.Output.{WrotePart}
-use Rattle.mv_tool.specs.Working.{end_line, parts_of, Written, report_of, output_of, IsReported, IsOutput, IsWorked, Worked, Failed}
+use Rattle.mv_tool.specs.Working.{end_line, parts_of, report_of, output_of, IsReported, IsOutput, IsWorked, Worked, Failed}
 use Rattle.std.specs.Io.KnownBytes.{Appends, Keeps}
 
 -- a plan of parts that can be run can be run
@@ -27,41 +26,33 @@ sound_of plan parts same runs =
 pub reported_of : {E : Type 0} (r : Result Output E) (ran : Result State WorkFault) (outcome : State) (finished : Bool)
     → output_of ran ≡ Ok (report_of finished outcome)
     → IfOk r (λ output. string_bytes output.text ≡ report_text outcome ++ end_line finished) → IfOk r (λ output. output.finished ≡ finished)
-    → IfOk r (λ output. output_of ran ≡ Ok (record { text = string_bytes output.text; finished = output.finished }))
+    → IfOk r (λ output. output_of ran ≡ Ok (string_bytes output.text, output.finished))
 reported_of (Ok output) ran outcome finished same text done = rw (text, done) same
 reported_of (Err e) ran outcome finished same text done = tt
 
--- what is written, where something is
-written_in : Written → Result Written ServeFault → Written
-written_in other (Ok it) = it
-written_in other (Err fault) = other
-
 -- what is written of an outcome of a plan is its report
 reported_as : (output : Output) (plan : Plan) (outcome : State) (finished : Bool) → KeepsPlan plan outcome → IsTrue finished ↔ IsComplete plan outcome
-    → report_of finished outcome ≡ record { text = string_bytes output.text; finished = output.finished }
+    → report_of finished outcome ≡ (string_bytes output.text, output.finished)
     → IsReported (parts_of plan) (string_bytes output.text) output.finished
 reported_as output plan outcome finished keeps complete is =
-    let done : finished ≡ output.finished = ap (λ (it : Written). it.finished) is in
+    let done : finished ≡ output.finished = ap (λ (it : List ℕ × Bool). it.1) is in
     record {
       plan = plan;
       planned = refl;
       outcome = outcome;
       keeps = keeps;
       complete = subst (λ told. IsTrue told ↔ IsComplete plan outcome) done complete;
-      text = sym (ap (λ (it : Written). it.text) is) ∙ ap (λ told. report_text outcome ++ end_line told) done;
+      text = sym (ap (λ (it : List ℕ × Bool). it.0) is) ∙ ap (λ told. report_text outcome ++ end_line told) done;
     }
 
 -- what is written of the run of a plan is the report of an outcome of it
 pub run_reported : (output : Output) (plan : Plan) (ran : Result State WorkFault)
     → IfOk ran (λ outcome. IsSound plan × KeepsPlan plan outcome × IsComplete plan outcome) → IfErr ran (λ fault. Faults plan fault)
-    → output_of ran ≡ Ok (record { text = string_bytes output.text; finished = output.finished })
+    → output_of ran ≡ Ok (string_bytes output.text, output.finished)
     → IsReported (parts_of plan) (string_bytes output.text) output.finished
-unfolding written_in
-run_reported output plan (Ok outcome) kept fails is =
-    reported_as output plan outcome true kept.1 (λ told. kept.2, λ complete. refl) (ap (written_in (report_of true outcome)) is)
+run_reported output plan (Ok outcome) kept fails is = reported_as output plan outcome true kept.1 (λ told. kept.2, λ complete. refl) (cc)
 run_reported output plan (Err (faults.Unfinished outcome)) kept fails is =
-    reported_as output plan outcome false fails.1 (λ told. absurd (true≢false (sym told)), λ complete. absurd (fails.2 complete))
-    (ap (written_in (report_of false outcome)) is)
+    reported_as output plan outcome false fails.1 (λ told. absurd (true≢false (sym told)), λ complete. absurd (fails.2 complete)) (cc)
 run_reported output plan (Err (faults.Memory outcome)) kept fails is = absurd (cc)
 run_reported output plan (Err faults.Start) kept fails is = absurd (cc)
 run_reported output plan (Err faults.Plan) kept fails is = absurd (cc)

@@ -22,17 +22,12 @@ use Rattle.mv_report.specs.Report.{report_text}
 abbrev pub end_line : Bool → List ℕ
 end_line finished = if finished then codes "finished\n" else codes "unfinished\n"
 
--- what is written, and whether the plan was finished
-pub record Written : Type 0 where
-  pub text : List ℕ
-  pub finished : Bool
+-- what is written of an outcome, and whether the plan was finished
+abbrev pub report_of : Bool → State → List ℕ × Bool
+report_of finished outcome = (report_text outcome ++ end_line finished, finished)
 
--- what is written of an outcome
-abbrev pub report_of : Bool → State → Written
-report_of finished outcome = record { text = report_text outcome ++ end_line finished; finished = finished }
-
--- What is written of what a run came to. The run of a plan that can't be run was not started.
-abbrev pub output_of : Result State WorkFault → Result Written ServeFault
+-- The same of what a run came to. The run of a plan that can't be run was not started.
+abbrev pub output_of : Result State WorkFault → Result (List ℕ × Bool) ServeFault
 output_of (Ok outcome) = Ok (report_of true outcome)
 output_of (Err (faults.Unfinished outcome)) = Ok (report_of false outcome)
 output_of (Err (faults.Memory outcome)) = Err Memory

@@ -48,33 +48,10 @@ pub fn command<H: Threads + Wait + Sync, R: Read, W: Write, F: Write>(
     ensures unwritten { result ≡ 2 → Keeps (W.contents writer.old) (W.contents writer.new) }
     ensures quiet { result ≡ 0 → Keeps (F.contents faults.old) (F.contents faults.new) }
 {
-    run(rt, alloc, words.as_slice(), reader, writer, faults).code()
-}
-
-/// Reads the words and runs what they ask for.
-fn run<H: Threads + Wait + Sync, R: Read, W: Write, F: Write>(
-    rt: &H,
-    alloc: Global,
-    words: &[String],
-    reader: &mut R,
-    writer: &mut W,
-    faults: &mut F,
-) -> Status
-    ensures ran { (asked : Asked) → AsksFor asked (map string_bytes words.now)
-        → Ran asked result (R.remaining reader.old) (R.remaining reader.new)
-        (W.contents writer.old) (W.contents writer.new)
-        (F.contents faults.old) (F.contents faults.new) }
-    ensures mistaken { AreMistaken (map string_bytes words.now) → result ≡ Status.Refused }
-    ensures unread { AreNotTaken (map string_bytes words.now)
-        → Keeps (R.remaining reader.old) (R.remaining reader.new) }
-    ensures unwritten { result ≡ Status.Refused
-        → Keeps (W.contents writer.old) (W.contents writer.new) }
-    ensures quiet { result ≡ Status.Done → Keeps (F.contents faults.old) (F.contents faults.new) }
-{
-    match task_of(alloc, words) {
-        Ok(Some(task)) => perform(rt, alloc, task, reader, writer, faults),
-        Ok(None) => Status::Refused,
-        Err(error) => explain(alloc, &error, writer, faults),
+    match task_of(alloc, words.as_slice()) {
+        Ok(Some(task)) => perform(rt, alloc, task, reader, writer, faults).code(),
+        Ok(None) => Status::Refused.code(),
+        Err(error) => explain(alloc, &error, writer, faults).code(),
     }
 }
 

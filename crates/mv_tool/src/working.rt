@@ -108,7 +108,7 @@ fn refusal(text: String) -> Result<Output, ServeFault>
 /// apart.
 fn output_of(alloc: Global, run: Result<Outcome, WorkFault>) -> Result<Output, ServeFault>
     ensures ok { IfOk result (λ output.
-        output_of run ≡ Ok (record { text = string_bytes output.text; finished = output.finished })) }
+        output_of run ≡ Ok (string_bytes output.text, output.finished)) }
     ensures err { IfErr result (λ fault. (fault ≡ ServeFault.Memory) ⊎ (output_of run ≡ Err fault)) }
 {
     match run {
@@ -131,10 +131,17 @@ fn reported(alloc: Global, outcome: Outcome, finished: bool) -> Result<Output, S
     let written = report(alloc, &outcome);
     outcome.leave();
     let mut text = written?;
-    if finished {
-        text.push_str("finished\n")?;
-    } else {
-        text.push_str("unfinished\n")?;
-    }
+    text.push_str(end_line(finished))?;
     Ok(Output { text, finished })
+}
+
+/// The last line of a report.
+fn end_line(finished: bool) -> &'static str
+    ensures { result.now ≡ end_line finished }
+{
+    if finished {
+        "finished\n"
+    } else {
+        "unfinished\n"
+    }
 }

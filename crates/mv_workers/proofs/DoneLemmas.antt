@@ -1,17 +1,11 @@
 -- Lengths decide what is carried out.
 use Rattle.std.proofs.lemmas.Grind.{common_steps}
-use Rattle.std.proofs.lemmas.Bool.Decides.{nat_tests}
+use Rattle.mv_workers.proofs.Words.{nat_tests, count_by, Item, LogEntry, items_from, State, submissions_of, log_of, IsLawful}
 use Rattle.std.proofs.Common.{◌≡◌, ◌<◌, ◌+◌, ℕ, Bool, List, ◌∷◌, length, cond, eqb, sym, refl, ◌∙◌, arith, append-nil, length-append}
-use Rattle.std.specs.List.{count_by}
 use Rattle.std.proofs.lemmas.List.Recursion.{is_count_by}
 use mathlib.Core.List.{IsPrefix}
 use Rattle.mv_hub.specs.Record.{routed_from}
 use Rattle.mv_hub.specs.Links.{link_items}
-use Rattle.mv_link.specs.declared.item.Item.{Item}
-use Rattle.mv_repository.specs.declared.entry.LogEntry.{LogEntry}
-use Rattle.mv_repository.specs.Log.{items_from}
-use Rattle.mv_machine.specs.State.{State, submissions_of, log_of}
-use Rattle.mv_machine.specs.Lawful.{IsLawful}
 
 -- a front that is as long as the whole is the whole
 pub front-whole : {A : Type 0} (front whole : List A) → IsPrefix front whole → length front ≡ length whole → front ≡ whole

@@ -1,3 +1,4 @@
+pub mod Words
 pub mod WorkLemmas
 pub mod TurnLemmas
 pub mod DoneLemmas

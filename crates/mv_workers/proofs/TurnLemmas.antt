@@ -1,24 +1,14 @@
 -- What the tries of a turn leave of what a party submitted of its own.
-use Rattle.std.proofs.lemmas.Bool.Decides.{nat_tests}
-use Rattle.std.proofs.Common.{◌≡◌, ℕ, false, List, [], ◌∷◌, ◌++◌, append-nil, refl, ap, arith}
-use Rattle.std.specs.Prelude.{option_to_list}
+use Rattle.std.proofs.Common.{◌≡◌, ℕ, false, List, [], ◌∷◌, ◌++◌, append-nil, refl, ap, arith, option_to_list}
+use Rattle.mv_workers.proofs.Words.{nat_tests, Message, Query, Item, LogEntry, SiteState, RepoEnd, IsRepoUnchanged, Puts, Submits, Asks, Applies, own_among, own_of}
 use Rattle.mv_pack.specs.declared.key.PackKey.{PackKey}
 use Rattle.mv_message.specs.Kinds.{is_query_or_answer}
-use Rattle.mv_message.specs.declared.message.Message.{Message}
-use Rattle.mv_message.specs.declared.message.Message.TheVariants.{Query}
-use Rattle.mv_link.specs.declared.item.Item.{Item}
 use Rattle.mv_link.specs.declared.incoming.Look.{Look}
-use Rattle.mv_repository.specs.declared.entry.LogEntry.{LogEntry}
 use Rattle.mv_repository.specs.Query.{answer_after}
-use Rattle.mv_party.specs.Site.{SiteState}
 use Rattle.mv_party.specs.Calls.{with_taken}
 use Rattle.mv_party.proofs.CallerLemmas.{submit-free}
 use Rattle.mv_machine.specs.declared.reply.Reply.{Reply}
 use Rattle.mv_machine.specs.declared.reply.Reply.TheVariants.{Submitted, Asked}
-use Rattle.mv_ends.specs.declared.repo_end.RepoEnd.{RepoEnd}
-use Rattle.mv_ends.specs.RepoEnd.{IsRepoUnchanged, Puts, Submits, Asks, Applies}
-use Rattle.mv_workers.specs.Work.{own_among}
-use Rattle.mv_workers.specs.Turns.{own_of}
 use Rattle.mv_workers.proofs.WorkLemmas.{own_among-append}
 
 -- what an item calls for is an answer

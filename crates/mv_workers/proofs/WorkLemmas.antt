@@ -1,17 +1,11 @@
 -- What a party submits of its own, and where one list begins another.
-use Rattle.std.proofs.Common.{◌≡◌, ◌+◌, ◌<◌, get_or, ℕ, Bool, List, [], ◌∷◌, ◌++◌, length, length-append, append-nil, take, not, sym, refl, ap, ◌∙◌, arith}
-use Rattle.std.specs.Prelude.{◌==◌}
+use Rattle.std.proofs.Common.{◌≡◌, ◌+◌, ◌<◌, get_or, ℕ, Bool, List, [], ◌∷◌, ◌++◌, length, length-append, append-nil, take, not, sym, ap, ◌∙◌, arith, ◌==◌, ◌↔◌, IsTrue, false}
+use Rattle.mv_workers.proofs.Words.{list_any, nat_tests, length-map, get_or-map, nil_from_length, Message, Answer, answers_in, lists_of, own_among, is_answer, Begins}
 use Rattle.std.proofs.Math.Seq.{take-append_seam}
-use Rattle.std.proofs.lemmas.Bool.Decides.{nat_tests}
-use Rattle.std.proofs.lemmas.List.{length-map, get_or-map, nil_from_length}
 use Rattle.std.proofs.lemmas.List.Elements.{filter-append}
 use Rattle.std.specs.declared.alloc.Global.{Global}
 use Rattle.std.specs.declared.vec.Vec.{Vec}
-use Rattle.mv_message.specs.declared.message.Message.{Message}
-use Rattle.mv_message.specs.declared.message.Message.TheVariants.{Answer}
-use Rattle.mv_party.specs.Site.{answers_in}
-use Rattle.mv_workers.specs.Work.{lists_of, list_at, own_among, is_answer}
-use Rattle.mv_workers.specs.Turns.{IsBegun}
+use Rattle.mv_workers.specs.Work.{list_at}
 
 pub own_among-append : (xs ys : List Message) → own_among (xs ++ ys) ≡ own_among xs ++ own_among ys
 own_among-append xs ys = filter-append (λ (message : Message). not (is_answer message)) xs ys
@@ -20,11 +14,11 @@ own_among-append xs ys = filter-append (λ (message : Message). not (is_answer m
 abbrev items_of : Vec Message Global → List Message
 items_of list = list.items
 
--- messages are answers and others
-pub answers_and_own : (messages : List Message) → length (answers_in messages) + length (own_among messages) ≡ length messages
-answers_and_own [] = refl
-answers_and_own (Answer asker q key found ∷ xs) = omega (arith, answers_and_own xs)
-answers_and_own (_ ∷ xs) = omega (arith, answers_and_own xs)
+-- no answer is among messages of which none is one
+pub none_answers : (messages : List Message) → (list_any is_answer messages ≡ false) ↔ (answers_in messages ≡ [])
+none_answers [] = grind (arith, nat_tests)
+none_answers (Answer asker q key found ∷ xs) = grind (arith, nat_tests, none_answers xs)
+none_answers (_ ∷ xs) = grind (arith, nat_tests, none_answers xs)
 
 -- there are as many lists as are kept
 pub lists_counted : (lists : List (Vec Message Global)) → length (lists_of lists) ≡ length lists
@@ -36,15 +30,13 @@ pub list_found : (lists : List (Vec Message Global)) (place : ℕ) (list : Vec M
 list_found lists place list below is = get_or-map items_of lists place list [] below ∙ ap items_of (sym is)
 
 -- what was submitted and what is left are the list: so it is begun, and all of it was submitted where nothing is left
-pub begun_of : (own left list was : List Message) (all : Bool) → own ++ left ≡ was ++ list → was ≡ [] → all ≡ (length left == 0) → IsBegun own list all
-begun_of own left list was all kept none over =
-    let whole : own ++ left ≡ list = kept ∙ ap (λ l. l ++ list) none in
-    record {
-      begins = sym (ap (take (length own)) (sym whole) ∙ take-append_seam own left);
-      whole = (
-        λ told. let nothing : length left ≡ 0 = grind (arith, nat_tests, over, told) in
-            sym (append-nil own) ∙ ap (λ l. own ++ l) (sym (nil_from_length left nothing)) ∙ whole,
-        λ same. let nothing : length left ≡ 0 = omega (arith, length-append own left, ap length whole, ap length same) in
-            grind (arith, nat_tests, over, nothing),
-      );
-    }
+pub begun_of : (own left list : List Message) (all : Bool) → own ++ left ≡ list → all ≡ (length left == 0) → Begins own list × (IsTrue all ↔ (own ≡ list))
+begun_of own left list all whole over = (
+  sym (ap (take (length own)) (sym whole) ∙ take-append_seam own left),
+  (
+    λ told. let nothing : length left ≡ 0 = grind (arith, nat_tests, over, told) in
+        sym (append-nil own) ∙ ap (λ l. own ++ l) (sym (nil_from_length left nothing)) ∙ whole,
+    λ same. let nothing : length left ≡ 0 = omega (arith, length-append own left, ap length whole, ap length same) in
+        grind (arith, nat_tests, over, nothing),
+  ),
+)

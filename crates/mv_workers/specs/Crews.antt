@@ -1,56 +1,45 @@
--- What the ends of a run are behind their turns.
-use Rattle.std.specs.Prelude.{◌≡◌, ◌↔◌, ◌<◌, ℕ, Bool, IsTrue, List, [], length, map, slice_index_or, ◌≤◌, vec_len, vec_capacity}
-use Rattle.std.specs.List.{AllZip, list_all}
+-- What the ends of a run are before and behind the turns of their workers.
+use Rattle.std.specs.Prelude.{◌≡◌, ◌↔◌, Bool, IsTrue, List, map}
+use Rattle.std.specs.List.{AllZip}
 use Rattle.std.specs.declared.thread.PromisedHandle.{PromisedHandle}
 use Rattle.mv_message.specs.declared.message.Message.{Message}
 use Rattle.mv_ends.specs.declared.repo_end.RepoEnd.{RepoEnd}
-use Rattle.mv_ends.specs.RepoEnd.{SameRepoEnd}
-use Rattle.mv_workers.specs.declared.crew.RepoBack.{RepoBack}
-use Rattle.mv_workers.specs.declared.crew.RepoPromise.{RepoPromise}
-use Rattle.mv_workers.specs.declared.crew.Room.{Room}
-use Rattle.mv_workers.specs.Work.{Begins}
-use Rattle.mv_workers.specs.Turns.{own_of, IsUnused, IsBegun}
+use Rattle.mv_ends.specs.HubEnd.{SameHubEnd}
+use Rattle.mv_ends.specs.Laws.{AreSameRepos}
+use Rattle.mv_ends.specs.Whole.{AreEnds}
+use Rattle.mv_workers.specs.declared.crew.Crew.{Crew}
+use Rattle.mv_workers.specs.declared.crew.CrewEnds.{CrewEnds}
+use Rattle.mv_workers.specs.declared.crew.DeskPromise.{DeskPromise}
+use Rattle.mv_workers.specs.declared.desk.Desk.{Desk}
+use Rattle.mv_workers.specs.declared.plan.Plan.{Plan}
+use Rattle.mv_workers.specs.Work.{Begins, lists_of}
+use Rattle.mv_workers.specs.Desks.{own_of, work_at}
 
 -- the handle of a repository's worker
 abbrev pub Handle : Type 0
-Handle = PromisedHandle RepoBack RepoPromise
+Handle = PromisedHandle (Desk × Bool) DeskPromise
 
 -- the end that the worker of a handle got
 abbrev pub end_of : Handle → RepoEnd
-end_of handle = handle.promise.was.value
+end_of handle = handle.promise.0.value.end
 
--- what its party is to submit
-abbrev pub list_of : Handle → List Message
-list_of handle = handle.promise.agenda.value
+-- what its party is to submit in all
+abbrev pub work_of : Handle → List Message
+work_of handle = work_at handle.promise.0.value
 
--- nothing was submitted at any of the ends
-abbrev pub AllUnused : List RepoEnd → Type 0
-AllUnused repos = (party : ℕ) (absent : RepoEnd) → party < length repos → IsUnused (slice_index_or repos party absent)
+-- the ends are those of a plan's parties, and what each party is to submit is its list
+pub record IsCrewOf (plan : Plan) (crew : Crew) : Type 0 where
+  pub ends : AreEnds crew.ends.0 crew.ends.1.items
+  pub parties : crew.ends.0.hub.parties ≡ plan.parties
+  pub limits : crew.ends.0.limits ≡ plan.limits
+  pub work : lists_of crew.lists.items ≡ plan.work
 
 -- what each end submitted of its own is where its party's list begins, and it is told whether that is all of each list
 abbrev pub AreBegun : List (List Message) → List RepoEnd → Bool → Type 0
 AreBegun work repos all = AllZip Begins (map own_of repos) work × (IsTrue all ↔ (map own_of repos ≡ work))
 
--- a handle promises an end, at which a list was begun
-abbrev pub IsPromised : RepoEnd → List Message → Handle → Type 0
-IsPromised end list handle = (end_of handle ≡ end) × (list_of handle ≡ list)
-
--- the handles promise these ends, and the lists of their parties
-abbrev pub AllPromised : List RepoEnd → List (List Message) → List Handle → Type 0
-AllPromised repos work handles = (map end_of handles ≡ repos) × (map list_of handles ≡ work)
-
--- what a handle's worker gave back keeps its promise
-abbrev pub KeepsPromise : Handle → RepoBack → Type 0
-KeepsPromise handle back = SameRepoEnd (end_of handle) back.end × IsBegun (own_of back.end) (list_of handle) back.all
-
--- these ends are what workers gave back that kept the promises of their handles, and it is told whether all submitted all
-abbrev pub AllKept : List Handle → List RepoEnd → Bool → Type 0
-AllKept handles repos all = (backs : List RepoBack) × AllZip KeepsPromise handles backs × (repos ≡ map (λ (back : RepoBack). back.end) backs)
-    × (all ≡ list_all (λ (back : RepoBack). back.all) backs)
-
--- there is room for the handles and the ends of so many repositories, and nothing is there yet
-pub record IsRoomFor (count : ℕ) (room : Room) : Type 0 where
-  pub no_handles : room.handles.items ≡ []
-  pub no_repos : vec_len room.repos ≡ 0
-  pub for_handles : count ≤ vec_capacity room.handles
-  pub for_repos : count ≤ vec_capacity room.repos
+-- the ends are those of a crew, behind the turns of its workers
+pub record IsBack (crew : Crew) (back : CrewEnds) : Type 0 where
+  pub hub_is : SameHubEnd crew.ends.0 back.hub
+  pub repos : AreSameRepos crew.ends.1.items back.repos.items
+  pub begun : AreBegun (lists_of crew.lists.items) back.repos.items back.all

@@ -1,5 +1,5 @@
 pub mod Work
-pub mod Turns
+pub mod Desks
 pub mod Done
 pub mod Plans
 pub mod Crews

@@ -50,20 +50,15 @@ fn is_routed(outcome: &Outcome, party: Party) -> bool
     outcome.hub().routed_count(party) as usize == outcome.sub(party).len()
 }
 
-/// Whether all that a party submitted was routed, and it applied all that was routed to it.
-fn is_done(outcome: &Outcome, party: Party) -> bool
-    requires { IsTrue (is_party outcome.now party) }
-    ensures { IsTrue result ↔ IsCarried outcome.now party }
-{
-    is_routed(outcome, party) && has_applied(outcome, party)
-}
-
-/// Whether that holds of each party.
+/// Whether all that was submitted was routed, and each party applied all that was routed to it.
 pub(crate) fn is_carried(outcome: &Outcome) -> bool
     ensures { IsTrue result ↔ ((party : ℕ) → party < length outcome.now.parties → IsCarried outcome.now party) }
 {
     for party in 0..outcome.parties().len() {
-        if !is_done(outcome, party) {
+        if !is_routed(outcome, party) {
+            return false;
+        }
+        if !has_applied(outcome, party) {
             return false;
         }
     }

@@ -1,36 +1,28 @@
-//! What the workers of a run share.
+//! What the workers of a run share: when all may take their first turn, and when nothing more can come.
+//!
+//! A worker rests where each call of its turn was refused, and what a call answers follows from its end and from what is on its
+//! rings. So once every worker has rested, each in a turn that began behind the last move of any, every call would be refused for
+//! ever. No contract speaks of this: a run that ended early is complete or not by what it left.
+//!
+//! Each worker writes its own counts alone, and only one that rests looks at those of all. Counts only grow: where their sum is what
+//! it was, no worker has moved between.
 
-use crate::pause::Pause;
-use crate::standstill::Standstill;
-use crate::start::Start;
 use std::alloc::{AllocError, Global};
-use std::sync::Wait;
+use std::sync::atomic::{AtomicU64, Ordering};
+use std::sync::{Condvar, Mutex, Wait};
 
-/// What came of a worker's turn.
-#[derive(Clone, Copy)]
-pub(crate) enum Turn {
-    /// Something was done.
-    Moved,
-    /// Each call was refused.
-    Rested,
-    /// Memory was refused to a call.
-    Refused,
-}
+/// What stands for a worker that takes no turn any more.
+const GONE: u64 = u64::MAX;
 
-impl Turn {
-    /// By whether something was done, or that memory was refused.
-    pub(crate) fn of(moved: Result<bool, AllocError>) -> Turn {
-        match moved {
-            Ok(true) => Turn::Moved,
-            Ok(false) => Turn::Rested,
-            Err(_) => Turn::Refused,
-        }
-    }
-
-    /// Whether memory was refused.
-    pub(crate) fn is_refused(self) -> bool {
-        matches!(self, Turn::Refused)
-    }
+/// What is noted of a worker.
+#[derive(Drop)]
+struct Notes {
+    /// How many of its turns there were in which something was done.
+    moves: AtomicU64,
+    /// 0, or one more than the moves of all workers that it saw when its last rest began, or [`GONE`].
+    rest: AtomicU64,
+    /// So wide that the notes of two workers never are in one line of a processor's cache.
+    apart: [u64; 6],
 }
 
 /// What the workers of a run share: nothing of what they carry.
@@ -39,62 +31,91 @@ pub(crate) struct Course {
     /// How many parties there are.
     pub parties: u32,
     /// How many turns each worker takes at most.
-    pub turns: u32,
-    /// When all may take their first turn.
-    pub start: Start,
-    /// When nothing more can come.
-    pub standstill: Standstill,
+    turns: u32,
+    /// Whether all workers have started, once that is known.
+    started: Mutex<Option<bool>>,
+    /// Wakes the workers that wait to know it.
+    told: Condvar,
+    /// The notes of each worker: that of each party, and behind them the hub's.
+    notes: Vec<Notes>,
 }
 
 impl Course {
-    /// The course of a run with a worker for the hub and one for each of so many parties. Refused for want of memory.
+    /// The course of a run with a worker for the hub and one for each of so many parties, none of which took a turn yet. Refused for
+    /// want of memory.
     pub(crate) fn new(alloc: Global, parties: u32, turns: u32) -> Result<Course, AllocError> {
+        let mut notes = Vec::new(alloc);
+        for _ in 0..parties.saturating_add(1) {
+            notes.push(Notes {
+                moves: AtomicU64::new(0),
+                rest: AtomicU64::new(0),
+                apart: [0; 6],
+            })?;
+        }
         Ok(Course {
             parties,
             turns,
-            start: Start::new(),
-            standstill: Standstill::new(alloc, parties.saturating_add(1))?,
+            started: Mutex::new(None),
+            told: Condvar::new(),
+            notes,
         })
     }
 
-    /// How many moves of all workers there were before a turn. None where the worker did something in the turn before: it is not
-    /// looked at whether nothing more can come until it rests twice.
-    pub(crate) fn moves_before(&self, pause: &Pause) -> Option<u64> {
-        if pause.is_begun() {
-            return Some(self.standstill.moves());
-        }
-        None
+    /// Tells the workers whether all have started: they take their turns, or end before the first.
+    pub(crate) fn tell(&self, rt: &impl Wait, all: bool) {
+        *self.started.lock(rt) = Some(all);
+        self.told.notify_all();
     }
 
-    /// Notes the turn of a worker, which began behind so many moves, and waits for its next. False where the worker takes no
-    /// further one: memory was refused to it, or no worker can do anything any more.
-    pub(crate) fn goes_on(
-        &self,
-        rt: &impl Wait,
-        worker: u32,
-        moves: Option<u64>,
-        turn: Turn,
-        pause: &mut Pause,
-    ) -> bool {
-        match turn {
-            Turn::Rested => {
-                if moves.is_some_and(|moves| self.standstill.rested(worker, moves)) {
-                    self.standstill.gone(worker);
-                    return false;
-                }
-                pause.wait(rt);
-                true
+    /// How many turns a worker takes at most, once it is told whether all have started: none where they have not.
+    pub(crate) fn turns(&self, rt: &impl Wait) -> u32 {
+        let started = self
+            .told
+            .wait_while(rt, self.started.lock(rt), |all| matches!(*all, None));
+        match *started {
+            Some(true) => self.turns,
+            _ => 0,
+        }
+    }
+
+    /// How many moves there were of all workers.
+    pub(crate) fn moves(&self) -> u64 {
+        let mut moves = 0_u64;
+        for notes in self.notes.iter() {
+            moves = moves.wrapping_add(notes.moves.load(Ordering::SeqCst));
+        }
+        moves
+    }
+
+    /// Notes that a worker did something in a turn, before its next turn begins.
+    pub(crate) fn moved(&self, worker: u32) {
+        if let Some(notes) = self.notes.get(worker as usize) {
+            notes.moves.fetch_add(1, Ordering::SeqCst);
+        }
+    }
+
+    /// Notes that a worker did nothing in a turn that began behind so many moves. True where no worker can do anything any more.
+    pub(crate) fn rested(&self, worker: u32, moves: u64) -> bool {
+        let rest = moves.wrapping_add(1);
+        self.note(worker, rest);
+        for notes in self.notes.iter() {
+            let noted = notes.rest.load(Ordering::SeqCst);
+            if noted != rest && noted != GONE {
+                return false;
             }
-            Turn::Moved => {
-                self.standstill.moved(worker);
-                pause.reset();
-                true
-            }
-            Turn::Refused => {
-                self.standstill.moved(worker);
-                self.standstill.gone(worker);
-                false
-            }
+        }
+        self.moves() == moves
+    }
+
+    /// Notes that a worker takes no turn any more. Its moves are noted before.
+    pub(crate) fn gone(&self, worker: u32) {
+        self.note(worker, GONE);
+    }
+
+    /// Writes down what stands for a worker from now on.
+    fn note(&self, worker: u32, rest: u64) {
+        if let Some(notes) = self.notes.get(worker as usize) {
+            notes.rest.store(rest, Ordering::SeqCst);
         }
     }
 }

@@ -24,16 +24,14 @@
 //! ```
 #![tactic(auto)]
 
-mod agenda;
 mod complete;
 mod course;
 mod crew;
+mod desk;
 mod gate;
-mod pause;
+mod pace;
 mod plan;
 mod run;
-mod standstill;
-mod start;
 mod turns;
 mod waiting;
 mod work;

@@ -1,46 +1,26 @@
 //! A run by a plan.
 
-ghost use Rattle.std.specs.Prelude.{◌≡◌, ◌↔◌, ◌<◌, ℕ, [], length, vec_len, IfOk, IfErr, IfSome, IsTrue, IsFalse};
-ghost use Rattle.mv_ends.specs.HubEnd.{SameHubEnd};
-ghost use Rattle.mv_ends.specs.Laws.{AreSameRepos};
-ghost use Rattle.mv_ends.specs.Whole.{AreEnds, AreFresh};
-ghost use Rattle.mv_party.specs.Site.{answers_in};
-ghost use Rattle.mv_workers.specs.Work.{list_at};
-ghost use Rattle.mv_workers.specs.Crews.{AllUnused, AreBegun, IsRoomFor};
+ghost use Rattle.std.specs.Prelude.{◌↔◌, IfOk, IfErr, IfSome, IsTrue};
+ghost use Rattle.mv_workers.specs.Crews.{IsBack};
 ghost use Rattle.mv_workers.specs.Plans.{IsSound, KeepsPlan, IsComplete, Faults, Leaves};
 
-use crate::agenda::Agenda;
 use crate::complete::is_carried;
 use crate::course::Course;
-use crate::crew::{CrewEnds, Room, Shift, work_in};
+use crate::crew::{Crew, CrewEnds, Shift};
 use crate::gate::Gate;
 use crate::plan::{Plan, WorkFault};
-use crate::work::{Work, own_count};
-use mv_ends::{HubEnd, Outcome, RepoEnd, ends_stay_ends, gather, open};
-use std::alloc::{AllocError, Global};
+use mv_ends::{Outcome, ends_stay_ends, gather};
+use std::alloc::Global;
 use std::marker::Sync;
 use std::sync::Wait;
 use std::thread;
 use std::thread::Threads;
 
-/// Whether no answer is among what parties are to submit.
-fn plans_no_answer(work: &Work) -> bool
-    ensures { IsTrue result ↔ ((party : ℕ) → party < length work.now → answers_in (list_at work.now party) ≡ []) }
-{
-    for party in 0..work.len() {
-        let list = work.list(party);
-        if own_count(list) != list.len() {
-            return false;
-        }
-    }
-    true
-}
-
 /// Whether a plan can be run: it has a list for each party, and no answer is planned.
 fn is_sound(plan: &Plan) -> bool
     ensures { IsTrue result ↔ IsSound plan.now }
 {
-    plan.work.len() == plan.parties.len() as usize && plans_no_answer(&plan.work)
+    plan.work.as_slice().len() == plan.parties.len() as usize && plan.work.has_no_answer()
 }
 
 /// Runs one worker for the hub and one for each repository, each of which takes so many turns at most, and gathers their ends.
@@ -65,97 +45,45 @@ pub fn run_workers<R: Threads + Wait + Sync, G: Gate>(
     if !is_sound(&plan) {
         return Err(WorkFault::Plan);
     }
-    let Ok(ready) = made_ready(alloc, plan, turns) else {
+    let Ok(course) = Course::new(alloc, plan.parties.len(), turns) else {
         return Err(WorkFault::Start);
     };
-    let Ready {
-        course,
-        room,
-        agendas,
-        ends,
-    } = ready;
+    let Ok(crew) = Crew::of(alloc, plan) else {
+        return Err(WorkFault::Start);
+    };
     let shared = &course;
     let back = thread::scope(
         thread::scope_env(),
         rt,
         |scope| -> Option<CrewEnds>
-            requires { (vec_len ends.1 ≡ vec_len agendas) × AllUnused ends.1.items × IsRoomFor (vec_len ends.1) room }
-            ensures { IfSome result (λ back. SameHubEnd ends.0 back.hub
-                × AreSameRepos ends.1.items back.repos.items
-                × AreBegun agendas.items back.repos.items back.all) }
+            ensures { IfSome result (λ back. IsBack crew back) }
         {
             let shift = Shift {
                 rt,
                 gate,
                 course: shared,
             };
-            work_in(scope, &shift, ends, agendas, room)
+            crew.work(scope, &shift)
         },
     );
-    let Some(
-        CrewEnds {
-            hub,
-            repos,
-            all,
-            short,
-        },
-    ) = back
-    else {
+    let Some(back) = back else {
         return Err(WorkFault::Start);
     };
     ends_stay_ends();
-    let outcome = gather(hub, repos);
-    let complete = all & is_carried(&outcome);
-    judged(outcome, complete, short)
+    let outcome = gather(back.hub, back.repos);
+    if back.all & is_carried(&outcome) {
+        return Ok(outcome);
+    }
+    Err(left_fault(outcome, back.short))
 }
 
-/// What a run needs before its workers start.
-#[derive(Drop)]
-struct Ready {
-    /// What the workers share.
-    course: Course,
-    /// Room for their handles and ends.
-    room: Room,
-    /// What each party is to submit.
-    agendas: Vec<Agenda>,
-    /// The ends of the parties of the plan, where nothing has happened.
-    ends: (HubEnd, Vec<RepoEnd>),
-}
-
-/// Gets all that a run by a plan needs. Refused for want of memory.
-fn made_ready(alloc: Global, plan: Plan, turns: u32) -> Result<Ready, AllocError>
-    ensures agendas { IfOk result (λ ready. ready.agendas.items ≡ plan.work) }
-    ensures room { IfOk result (λ ready. IsRoomFor (length plan.parties) ready.room) }
-    ensures ends { IfOk result (λ ready. AreEnds ready.ends.0 ready.ends.1.items) }
-    ensures fresh { IfOk result (λ ready. AreFresh plan.parties plan.limits ready.ends.0 ready.ends.1.items) }
+/// Why a run is not complete that left this outcome, by whether memory was refused to a worker.
+fn left_fault(outcome: Outcome, short: bool) -> WorkFault
+    ensures { Leaves outcome result }
 {
-    let Plan {
-        parties,
-        limits,
-        work,
-    } = plan;
-    let course = Course::new(alloc, parties.len(), turns)?;
-    let room = Room::of(alloc, parties.len())?;
-    let agendas = work.into_agendas(alloc)?;
-    let ends = open(alloc, parties, limits)?;
-    Ok(Ready {
-        course,
-        room,
-        agendas,
-        ends,
-    })
-}
-
-/// What a run came to, by whether its outcome is complete, and whether memory was refused to a worker.
-fn judged(outcome: Outcome, complete: bool, short: bool) -> Result<Outcome, WorkFault>
-    ensures complete { IfOk result (λ it. (it ≡ outcome) × IsTrue complete) }
-    ensures fault { IfErr result (λ fault. Leaves outcome fault × IsFalse complete) }
-{
-    if complete {
-        Ok(outcome)
-    } else if short {
-        Err(WorkFault::Memory(outcome))
+    if short {
+        WorkFault::Memory(outcome)
     } else {
-        Err(WorkFault::Unfinished(outcome))
+        WorkFault::Unfinished(outcome)
     }
 }

@@ -22,8 +22,9 @@ impl Waiting {
 
     /// Whether something may wait on a link.
     pub(crate) fn has(&self, from: Party, to: Party) -> bool {
-        let links = self.links.get(from as usize);
-        links.is_some_and(|links| *links & bit_of(to) != 0)
+        self.links
+            .get(from as usize)
+            .is_some_and(|links| *links & bit_of(to) != 0)
     }
 
     /// Whether something may wait on a link from a party.
@@ -36,25 +37,22 @@ impl Waiting {
     /// Notes what the hub answered as it routed a message of a party: something waits for each party that it reaches, and a receipt
     /// for its sender.
     pub(crate) fn note_routed(&mut self, from: Party, reply: &Reply) {
-        let Reply::Routed { reach, .. } = reply else {
-            return;
-        };
-        let Some(links) = self.links.get_mut(from as usize) else {
-            return;
-        };
-        *links |= bit_of(from);
-        let reached = reach.to_reach();
-        for to in reached.as_slice() {
-            *links |= bit_of(*to);
+        if let Reply::Routed { reach, .. } = reply
+            && let Some(links) = self.links.get_mut(from as usize)
+        {
+            *links |= bit_of(from);
+            let reached = reach.to_reach();
+            for to in reached.as_slice() {
+                *links |= bit_of(*to);
+            }
         }
     }
 
     /// Notes what the hub answered as it relayed on a link: nothing waits there where all was relayed.
     pub(crate) fn note_relayed(&mut self, from: Party, to: Party, reply: &Reply) {
-        if !matches!(reply, Reply::Refused(Refusal::Nothing)) {
-            return;
-        }
-        if let Some(links) = self.links.get_mut(from as usize) {
+        if let Reply::Refused(Refusal::Nothing) = reply
+            && let Some(links) = self.links.get_mut(from as usize)
+        {
             *links &= !bit_of(to);
         }
     }

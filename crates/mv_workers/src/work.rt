@@ -1,10 +1,12 @@
 //! What each party is to submit.
 
-ghost use Rattle.std.specs.Prelude.{◌≡◌, ◌<◌, length, IfOk};
-ghost use Rattle.mv_workers.specs.Work.{lists_of, list_at, own_among, is_answer};
+ghost use Rattle.std.specs.Prelude.{◌≡◌, ◌↔◌, ◌<◌, ℕ, [], length, IfOk, IsTrue};
+ghost use Rattle.std.specs.List.{list_any};
+ghost use Rattle.mv_party.specs.Site.{answers_in};
+ghost use Rattle.mv_workers.specs.Work.{lists_of, list_at, is_answer};
 
-use crate::agenda::Agenda;
-use mv_message::Message;
+use mv_ends::Parcel;
+use mv_message::{Message, Shared};
 use std::alloc::{AllocError, Global};
 use std::marker::Model;
 
@@ -40,33 +42,43 @@ impl Work {
         self.lists.as_slice()
     }
 
-    /// How many lists there are.
-    #[tactic(auto, using(crate::proofs::WorkLemmas::lists_counted))]
-    pub(crate) fn len(&self) -> usize
-        ensures { result ≡ length self.now }
+    /// Whether no answer is among what the parties are to submit.
+    #[tactic(auto, using(crate::proofs::WorkLemmas::list_found, crate::proofs::WorkLemmas::lists_counted, crate::proofs::WorkLemmas::none_answers))]
+    pub(crate) fn has_no_answer(&self) -> bool
+        ensures { IsTrue result ↔ ((party : ℕ) → party < length self.now → answers_in (list_at self.now party) ≡ []) }
     {
-        self.lists.len()
-    }
-
-    /// The list at a place, counted from 0.
-    #[tactic(auto, using(crate::proofs::WorkLemmas::list_found))]
-    pub(crate) fn list(&self, place: usize) -> &[Message]
-        requires { place < length self.now }
-        ensures { result.now ≡ list_at self.now place }
-    {
-        self.lists[place].as_slice()
-    }
-
-    /// The agenda of each party, party 0 first. Refused for want of memory.
-    pub(crate) fn into_agendas(self, alloc: Global) -> Result<Vec<Agenda>, AllocError>
-        ensures { IfOk result (λ agendas. agendas.items ≡ self) }
-    {
-        let mut agendas = Vec::with_capacity(alloc, self.lists.len())?;
-        for list in self.lists {
-            agendas.push_reserved(Agenda::of(alloc, list)?);
+        for party in 0..self.lists.len() {
+            if has_answer(self.lists[party].as_slice()) {
+                return false;
+            }
         }
-        Ok(agendas)
+        true
     }
+
+    /// The messages, each in memory of its own. Refused for want of memory.
+    pub(crate) fn into_parcels(
+        self,
+        alloc: Global,
+    ) -> Result<Vec<Vec<Parcel<Shared<Message>>>>, AllocError>
+        ensures { IfOk result (λ lists. lists_of lists.items ≡ self) }
+    {
+        let mut lists = Vec::with_capacity(alloc, self.lists.len())?;
+        for list in self.lists {
+            lists.push_reserved(parcels_of(alloc, list)?);
+        }
+        Ok(lists)
+    }
+}
+
+/// The messages of a list, each in memory of its own. Refused for want of memory.
+fn parcels_of(alloc: Global, list: Vec<Message>) -> Result<Vec<Parcel<Shared<Message>>>, AllocError>
+    ensures { IfOk result (λ parcels. parcels.items ≡ list.items) }
+{
+    let mut parcels = Vec::with_capacity(alloc, list.len())?;
+    for message in list {
+        parcels.push_reserved(Parcel::of_message(alloc, message)?);
+    }
+    Ok(parcels)
 }
 
 /// Whether a message is the answer to a query.
@@ -76,12 +88,9 @@ fn is_answer(message: &Message) -> bool
     matches!(message, Message::Answer { .. })
 }
 
-/// How many of these messages are no answers.
-pub(crate) fn own_count(messages: &[Message]) -> usize
-    ensures { result ≡ length (own_among messages.now) }
+/// Whether an answer is among messages.
+fn has_answer(messages: &[Message]) -> bool
+    ensures { result ≡ list_any is_answer messages.now }
 {
-    messages
-        .iter()
-        .filter(|message| !is_answer(message))
-        .count()
+    messages.iter().any(is_answer)
 }

@@ -1,6 +1,5 @@
 use Rattle.std.proofs.Common.{vec_items}
-use Rattle.mv_ends.specs.Rings.{inflow_of}
-use Rattle.mv_ends.specs.Opened.{AreLinks}
+use Rattle.mv_ends.proofs.Words.{inflow_of, AreLinks}
 use Rattle.mv_ends.proofs.opening.open_links.Given as goal
 
 -- the rings so far are those of so many links

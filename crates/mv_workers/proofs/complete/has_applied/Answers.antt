@@ -1,5 +1,5 @@
 use Rattle.std.proofs.Common.{ltb-true, rules}
-use Rattle.std.proofs.lemmas.Bool.{cases_lt}
+use Rattle.mv_workers.proofs.Words.{cases_lt}
 use Rattle.mv_workers.proofs.DoneLemmas.{applied_by_count}
 use Rattle.mv_workers.proofs.complete.has_applied.Goals as goal
 

@@ -1,7 +1,6 @@
 use Rattle.std.proofs.Common.{◌≡◌, ◌<◌, ℕ}
+use Rattle.mv_workers.proofs.Words.{items_from, log_of}
 use Rattle.mv_hub.specs.Links.{link_items}
-use Rattle.mv_repository.specs.Log.{items_from}
-use Rattle.mv_machine.specs.State.{log_of}
 use Rattle.mv_workers.proofs.complete.has_applied.Given as goal
 
 abbrev pub invariant-loop-from : goal.invariant-loop-from

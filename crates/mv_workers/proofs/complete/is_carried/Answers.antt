@@ -1,6 +1,5 @@
 use Rattle.std.proofs.Common.{◌≡◌, length, refl, sym, ap, subst, arith, inl, inr, rules}
-use Rattle.std.proofs.lemmas.Bool.{cases_lt}
-use Rattle.mv_workers.specs.Done.{IsCarried}
+use Rattle.mv_workers.proofs.Words.{cases_lt, IsCarried}
 use Rattle.mv_workers.proofs.complete.is_carried.Goals as goal
 
 -- one more party's messages were carried
@@ -11,7 +10,9 @@ loop-party-preserved c = λ party below.
       | inl before ↦ c.loop-party.invariant party before
       | inr after ↦
           let here : party ≡ at = omega arith in
-          subst (IsCarried outcome) (sym here) (let h = c.if-not-is_done.ensures in search rules)
+          let routed = c.if-not-is_routed.ensures in
+          let applied = c.if-not-has_applied.ensures in
+          subst (IsCarried outcome) (sym here) record { routed = search rules; applied = search rules }
     ]
 
 -- all parties were looked at

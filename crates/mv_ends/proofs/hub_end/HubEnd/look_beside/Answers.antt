@@ -1,7 +1,5 @@
 use Rattle.std.proofs.Common.{[], get_or, subst, sym, arith}
-use Rattle.mv_party.specs.Site.{IsLawfulParty}
-use Rattle.mv_hub.specs.Hub.{items_on}
-use Rattle.mv_pairs.specs.Pairs.{cell}
+use Rattle.mv_ends.proofs.Words.{IsLawfulParty, items_on, cell}
 use Rattle.mv_ends.proofs.LookLemmas.{applied_front}
 use Rattle.mv_ends.proofs.hub_end.HubEnd.look_beside.Goals as goal
 

@@ -1,6 +1,5 @@
 use Rattle.std.proofs.Common.{length, sym, subst}
-use Rattle.mv_ends.specs.Rings.{IsFor}
-use Rattle.mv_ends.specs.Valid.{AreOfLinks}
+use Rattle.mv_ends.proofs.Words.{IsFor, AreOfLinks}
 use Rattle.mv_ends.proofs.EndLemmas.{of_links_put, for_put}
 use Rattle.mv_ends.proofs.hub_end.HubEnd.put.Goals as goal
 

@@ -1,9 +1,6 @@
 -- The hub routed what is taken from the uplink.
 use Rattle.std.proofs.Common.{◌≡◌, ◌+◌, sym, subst, length, rules}
-use Rattle.mv_hub.specs.Hub.{HubState}
-use Rattle.mv_hub.specs.Record.{routed_count}
-use Rattle.mv_ends.specs.Rings.{IsFor, with_item}
-use Rattle.mv_ends.specs.Valid.{AreOfLinks, AreWithin}
+use Rattle.mv_ends.proofs.Words.{HubState, routed_count, IsFor, with_item, AreOfLinks, AreWithin}
 use Rattle.mv_ends.proofs.EndLemmas.{of_links_entered, took_routed, within_routed, lawful_routed, route_refused}
 use Rattle.mv_ends.proofs.hub_end.HubEnd.route.Goals as goal
 

@@ -1,5 +1,5 @@
-use Rattle.mv_ends.specs.Outcome.{state_of}
 use Rattle.mv_ends.proofs.OutcomeLemmas.{headline_of}
+use Rattle.mv_ends.proofs.Words.{state_of}
 use Rattle.mv_ends.proofs.outcome.Outcome.new.Goals as goal
 
 pub returns-clause-headline : goal.returns-clause-headline

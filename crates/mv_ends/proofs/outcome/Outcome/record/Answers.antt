@@ -1,7 +1,5 @@
 use Rattle.std.proofs.Common.{subst}
-use Rattle.mv_machine.specs.State.{State, opening}
-use Rattle.mv_machine.specs.Headline.{HeadlineHolds}
-use Rattle.mv_ends.specs.Outcome.{state_of}
+use Rattle.mv_ends.proofs.Words.{State, opening, HeadlineHolds, state_of}
 use Rattle.mv_ends.proofs.OutcomeLemmas.{headline_of}
 use Rattle.mv_ends.proofs.outcome.Outcome.record.Goals as goal
 

@@ -1,5 +1,5 @@
 use Rattle.std.proofs.Common.{◌∙◌, refl}
-use Rattle.mv_ends.specs.HubEnd.{hub_seat}
+use Rattle.mv_ends.proofs.Words.{hub_seat}
 use Rattle.mv_ends.proofs.LookLemmas.{seat_of}
 use Rattle.mv_ends.proofs.OutcomeLemmas.{place_of, shown}
 use Rattle.mv_ends.proofs.outcome.Outcome.repository.Goals as goal

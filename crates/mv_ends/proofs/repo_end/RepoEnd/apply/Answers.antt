@@ -1,16 +1,6 @@
 -- The party took the frame that is taken from the link, and what it answers is on its uplink.
-use Rattle.std.proofs.Common.{◌≡◌, ◌∙◌, refl, sym, subst, ap, rules, ◌++◌}
-use Rattle.std.specs.Prelude.{option_to_list, Err}
-use Rattle.rtrb.specs.Ring.{sent}
-use Rattle.mv_party.specs.declared.taken.Taken.{Taken}
-use Rattle.mv_party.specs.Site.{SiteState}
-use Rattle.mv_party.specs.Calls.{apply_fault}
-use Rattle.mv_machine.specs.declared.reply.Refusal.TheVariants.{Memory}
-use Rattle.mv_machine.specs.Replies.{refusal_of, reply_to}
-use Rattle.mv_ends.specs.Rings.{with_item}
-use Rattle.mv_ends.specs.Answering.{stands_to}
-use Rattle.mv_ends.specs.Valid.{AreAccepted}
-use Rattle.mv_ends.specs.Refusals.{IsRefusedBy}
+use Rattle.std.proofs.Common.{◌≡◌, ◌∙◌, refl, sym, subst, ap, rules, ◌++◌, option_to_list, Err}
+use Rattle.mv_ends.proofs.Words.{sent, Taken, SiteState, apply_fault, Memory, refusal_of, reply_to, with_item, stands_to, AreAccepted, IsRefusedBy}
 use Rattle.mv_ends.proofs.SiteEndLemmas.{apply_refused, apply_taken, memory_told, refused_for, submitted_by, accepted_taken}
 use Rattle.mv_ends.proofs.repo_end.RepoEnd.apply.Goals as goal
 

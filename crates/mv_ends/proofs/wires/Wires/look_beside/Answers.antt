@@ -1,7 +1,5 @@
 use Rattle.std.proofs.Common.{◌≡◌, ◌∙◌, [], get_or, sym, ap, subst, arith, inl, inr}
-use Rattle.std.proofs.lemmas.Bool.{cases_lt}
-use mathlib.Core.List.{IsPrefix}
-use Rattle.mv_pairs.specs.Pairs.{cell}
+use Rattle.mv_ends.proofs.Words.{cases_lt, IsPrefix, cell}
 use Rattle.mv_ends.proofs.wires.Wires.look_beside.Goals as goal
 
 -- one more link was looked at

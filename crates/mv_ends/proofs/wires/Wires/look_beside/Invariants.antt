@@ -1,6 +1,5 @@
 use Rattle.std.proofs.Common.{◌≡◌, ◌<◌, ℕ, [], get_or}
-use mathlib.Core.List.{IsPrefix}
-use Rattle.mv_pairs.specs.Pairs.{cell}
+use Rattle.mv_ends.proofs.Words.{IsPrefix, cell}
 use Rattle.mv_ends.proofs.wires.Wires.look_beside.Given as goal
 
 -- the ends of the links so far were looked at, and show what they showed

@@ -1,6 +1,6 @@
 use Rattle.std.proofs.Common.{◌∙◌}
 use Rattle.mv_workers.proofs.TurnLemmas.{own_applied}
-use Rattle.mv_workers.proofs.turns.apply_each.Goals as goal
+use Rattle.mv_workers.proofs.desk.apply_each.Goals as goal
 
 pub returns-in_err-moved-clause-own : goal.returns-in_err-moved-clause-own
 returns-in_err-moved-clause-own g c =

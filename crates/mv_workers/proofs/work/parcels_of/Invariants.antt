@@ -1,7 +1,6 @@
 use Rattle.std.proofs.Common.{◌≡◌, ◌+◌, ◌≤◌, ◌++◌, vec_len}
-use Rattle.std.specs.Vec.{vec_capacity}
-use Rattle.std.specs.Vec.Iter.{into_iter_items, into_iter_len}
-use Rattle.mv_workers.proofs.agenda.parcels_of.Given as goal
+use Rattle.mv_workers.proofs.Words.{vec_capacity, into_iter_items, into_iter_len}
+use Rattle.mv_workers.proofs.work.parcels_of.Given as goal
 
 -- the parcels so far are the first messages, and there is room for the others
 abbrev pub invariant-loop-message : goal.invariant-loop-message

@@ -1,0 +1,12 @@
+use Rattle.std.proofs.Common.{◌≡◌, ◌+◌, ◌≤◌, ◌++◌, List, length, map, vec_len}
+use Rattle.mv_workers.proofs.Words.{vec_capacity, into_iter_items, into_iter_len, AreSameRepos, AreBegun, Handle, end_of, work_of}
+use Rattle.mv_workers.proofs.crew.Crew.join.Given as goal
+
+-- the ends so far are those of the first handles, and there is room for the others
+abbrev pub invariant-loop-handle : goal.invariant-loop-handle
+invariant-loop-handle g l =
+    let rest = l.handle-iterator in
+    ((done : List Handle) × (done ++ into_iter_items rest ≡ l.fn.handles.items)
+    × AreSameRepos (map end_of done) l.repos.items × AreBegun (map work_of done) l.repos.items l.all)
+    × (length (into_iter_items rest) ≡ into_iter_len rest)
+    × (vec_len l.repos + into_iter_len rest ≤ vec_capacity l.repos)

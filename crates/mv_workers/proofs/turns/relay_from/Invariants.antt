@@ -1,5 +1,0 @@
-use Rattle.mv_ends.specs.HubEnd.{SameHubEnd}
-use Rattle.mv_workers.proofs.turns.relay_from.Given as goal
-
-abbrev pub invariant-loop-to : goal.invariant-loop-to
-invariant-loop-to l = SameHubEnd l.fn.hub l.hub

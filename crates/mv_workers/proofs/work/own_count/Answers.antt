@@ -1,6 +1,0 @@
-use Rattle.std.proofs.Common.{rules}
-use Rattle.std.proofs.lemmas.List.Sums.{length-filter}
-use Rattle.mv_workers.proofs.work.own_count.Goals as goal
-
-pub returns : goal.returns
-returns c = search (rules, length-filter)

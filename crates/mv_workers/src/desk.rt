@@ -1,0 +1,120 @@
+//! What a repository's worker has, and its turn.
+
+ghost use Rattle.std.specs.Prelude.{◌≡◌, ◌==◌, ◌++◌, ◌∷◌, [], length, IfErr, OnOk};
+ghost use Rattle.mv_ends.specs.RepoEnd.{SameRepoEnd};
+ghost use Rattle.mv_workers.specs.Desks.{own_of, IsUnused, left_at, work_at, IsFurther};
+
+use crate::gate::Gate;
+use crate::turns::has_moved;
+use mv_ends::{Parcel, RepoEnd, Unsubmitted, repo_end_stays};
+use mv_machine::Reply;
+use mv_message::{Message, Shared};
+use std::alloc::AllocError;
+use std::vec;
+
+/// A repository's end, with what its party has still to submit there. Each message is in memory of its own: the end takes it by value,
+/// and makes no copy to keep.
+#[derive(Drop)]
+pub(crate) struct Desk {
+    /// The end.
+    end: RepoEnd,
+    /// The next message.
+    next: Option<Parcel<Shared<Message>>>,
+    /// Those behind it.
+    rest: vec::IntoIter<Parcel<Shared<Message>>>,
+}
+
+impl Desk {
+    /// An end where nothing was submitted, and these messages.
+    pub(crate) fn new(end: RepoEnd, list: Vec<Parcel<Shared<Message>>>) -> Desk
+        requires { IsUnused end }
+        ensures end { result.end ≡ end }
+        ensures work { work_at result ≡ list.items }
+    {
+        let mut rest = list.into_iter();
+        let next = rest.next();
+        Desk { end, next, rest }
+    }
+
+    /// The number of its party.
+    pub(crate) fn party(&self) -> u32 {
+        self.end.party()
+    }
+
+    /// A turn: the next message is tried once, and then it is looked once for a frame from each party.
+    pub(crate) fn turn<G: Gate>(&mut self, parties: u32, gate: &G) -> Result<bool, AllocError>
+        ensures { IsFurther self.old self.new }
+    {
+        repo_end_stays();
+        let submitted = self.submit_next()?;
+        let applied = apply_each(&mut self.end, parties, gate)?;
+        Ok(submitted || applied)
+    }
+
+    /// Tries the next message once: a query is asked. It is left where it was refused.
+    fn submit_next(&mut self) -> Result<bool, AllocError>
+        ensures { IsFurther self.old self.new }
+    {
+        repo_end_stays();
+        let Some(message) = self.next.take() else {
+            return Ok(false);
+        };
+        match submit_one(&mut self.end, message) {
+            Ok(()) => {
+                self.next = self.rest.next();
+                Ok(true)
+            }
+            Err(back) => {
+                self.next = Some(back.message);
+                has_moved(&Reply::Refused(back.refusal))
+            }
+        }
+    }
+
+    /// The end, and whether nothing is left to submit.
+    pub(crate) fn into_end(self) -> (RepoEnd, bool)
+        ensures end { result.0 ≡ self.end }
+        ensures over { result.1 ≡ (length (left_at self) == 0) }
+    {
+        let over = self.next.is_none() && self.rest.len() == 0;
+        (self.end, over)
+    }
+}
+
+/// Tries to submit a message once: a query is asked.
+#[tactic(auto, using(crate::proofs::TurnLemmas::own_asked, crate::proofs::TurnLemmas::own_submitted))]
+fn submit_one(end: &mut RepoEnd, message: Parcel<Shared<Message>>) -> Result<(), Unsubmitted>
+    ensures same { SameRepoEnd end.old end.new }
+    ensures ok { OnOk result (own_of end.new ≡ own_of end.old ++ message ∷ []) }
+    ensures refused { IfErr result (λ back. own_of end.new ≡ own_of end.old) }
+    ensures back { IfErr result (λ back. back.message ≡ message) }
+{
+    if let Message::Query { key } = message.message() {
+        return match end.ask(key) {
+            Reply::Asked { .. } => Ok(()),
+            Reply::Refused(refusal) => Err(Unsubmitted { message, refusal }),
+            // `ask` answers nothing else.
+            _ => unreachable!(),
+        };
+    }
+    match end.submit_own(message) {
+        Ok(_) => Ok(()),
+        Err(back) => Err(back),
+    }
+}
+
+/// Passes the gate and looks for a frame, once for each party.
+#[tactic(auto, using(crate::proofs::TurnLemmas::own_applied))]
+fn apply_each<G: Gate>(end: &mut RepoEnd, parties: u32, gate: &G) -> Result<bool, AllocError>
+    ensures same { SameRepoEnd end.old end.new }
+    ensures own { own_of end.new ≡ own_of end.old }
+{
+    repo_end_stays();
+    let party = end.party();
+    let mut moved = false;
+    for from in 0..parties {
+        gate.pass(party);
+        moved |= has_moved(&end.apply(from))?;
+    }
+    Ok(moved)
+}

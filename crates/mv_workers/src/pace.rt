@@ -1,0 +1,93 @@
+//! How a worker goes from turn to turn: one that can do nothing waits, the longer the longer it can't.
+
+use crate::course::Course;
+use std::alloc::AllocError;
+use std::sync::Wait;
+use std::thread;
+use std::thread::Parker;
+use std::time::Duration;
+
+/// Up to so many rests in a row the worker leaves its processor to others. Behind that it sleeps: a worker that looks at its rings again and
+/// again takes them from the cache of the one that puts there.
+const YIELDS: u32 = 4;
+
+/// How long its first sleep is, in microseconds. Each further one is twice as long, up to the longest.
+const FIRST_SLEEP: u64 = 50;
+
+/// How long it sleeps at most, in microseconds.
+const LONGEST_SLEEP: u64 = 12_800;
+
+/// How a worker goes from turn to turn.
+#[derive(Drop)]
+pub(crate) struct Pace {
+    /// The number of the worker: that of its party, or how many parties there are.
+    worker: u32,
+    /// How many moves of all workers there were before its turn. None where it did something in the turn before: it is not looked at
+    /// whether nothing more can come until it rests twice.
+    moves: Option<u64>,
+    /// How many rests in a row there were, up to [`YIELDS`].
+    rests: u32,
+    /// How long the next sleep is, in microseconds.
+    micros: u64,
+    /// What it sleeps on.
+    parker: Parker,
+    /// Whether memory was refused to it.
+    short: bool,
+}
+
+impl Pace {
+    /// That of a worker before its first turn.
+    pub(crate) fn new(worker: u32) -> Pace {
+        Pace {
+            worker,
+            moves: None,
+            rests: 0,
+            micros: FIRST_SLEEP,
+            parker: Parker::new(),
+            short: false,
+        }
+    }
+
+    /// Notes a turn, by whether something was done in it, or that memory was refused, and waits for the next. False where the worker
+    /// takes no further one: memory was refused to it, or no worker can do anything any more.
+    pub(crate) fn goes_on(
+        &mut self,
+        rt: &impl Wait,
+        course: &Course,
+        moved: Result<bool, AllocError>,
+    ) -> bool {
+        if let Ok(false) = moved {
+            let worker = self.worker;
+            if self.moves.is_some_and(|moves| course.rested(worker, moves)) {
+                return false;
+            }
+            self.rest(rt);
+            self.moves = Some(course.moves());
+            return true;
+        }
+        course.moved(self.worker);
+        self.moves = None;
+        self.rests = 0;
+        self.micros = FIRST_SLEEP;
+        self.short = moved.is_err();
+        !self.short
+    }
+
+    /// Waits behind a turn in which nothing was done.
+    fn rest(&mut self, rt: &impl Wait) {
+        if self.rests < YIELDS {
+            self.rests += 1;
+            thread::yield_now();
+        } else {
+            self.parker
+                .park_timeout(rt, Duration::from_micros(self.micros));
+            self.micros = self.micros.saturating_mul(2).min(LONGEST_SLEEP);
+        }
+    }
+
+    /// Notes that the worker takes no further turn. It answers whether memory was refused to it.
+    pub(crate) fn ends(self, course: &Course) -> bool {
+        course.gone(self.worker);
+        self.short
+    }
+}

@@ -1,14 +1,6 @@
 -- Lemmas on an input that comes in parts.
-use Rattle.std.proofs.lemmas.Grind.{common_steps}
-use Rattle.std.proofs.lemmas.Bool.Decides.{nat_tests}
-use Rattle.std.proofs.Common.{◌≡◌, ℕ, ◌+◌, ◌<◌, ◌≤◌, List, [], ◌∷◌, ◌++◌, length, refl, sym, ◌∙◌, ap, subst, arith, append_assoc, append-nil, length-append, rules, inr}
-use Rattle.std.specs.Prelude.{Option}
-use Rattle.std.specs.Io.BufRead.{strip_last}
-use Rattle.mv_engine.specs.declared.fault.ServeFault.{ServeFault}
-use Rattle.mv_engine.specs.Lines.{Line, line_at, line_begun, whole_from, rest_from, lines_from, line_limit, lines_limit, IsUnended, KeepLimits}
-use Rattle.mv_engine.specs.Replies.{GotNoReply}
-use Rattle.mv_engine.specs.Served.{AreAnswered, StopsAt, StopsIn, StoppedAt, LeftBy}
-use Rattle.mv_engine.specs.Taking.{Taken}
+use Rattle.std.proofs.Common.{◌≡◌, ℕ, ◌+◌, ◌<◌, ◌≤◌, List, [], ◌∷◌, ◌++◌, length, refl, sym, ◌∙◌, ap, subst, arith, append_assoc, append-nil, length-append, rules, inr, Option}
+use Rattle.mv_engine.proofs.Words.{common_steps, nat_tests, strip_last, ServeFault, Line, line_at, line_begun, whole_from, rest_from, lines_from, line_limit, lines_limit, IsUnended, KeepLimits, GotNoReply, AreAnswered, StopsAt, StopsIn, StoppedAt, LeftBy, Taken}
 use Rattle.mv_engine.proofs.PartLemmas.{unended_whole, unended_rest, unended_front}
 use Rattle.mv_engine.proofs.RepliesLemmas.{IsReplies-append, IsReplies-nil}
 
@@ -113,8 +105,7 @@ module _ {S : Type 0} (Reply : S → Line → Option (List ℕ) → S → Type 0
   pub line_taken : (kept kept' begun part begun' : List ℕ) (count count' : ℕ) (a b : S) → IsUnended part → begun' ≡ [] → count' ≡ count + 1
       → (out : List ℕ) × (kept' ≡ kept ++ out) × AreAnswered Reply count a ((begun ++ part) ∷ []) b out
       → (out : List ℕ) × (kept' ≡ kept ++ out) × Taken Reply begun count a (part ++ 10 ∷ []) begun' count' b out
-  line_taken kept kept' begun part begun' count count' a b unended none more (out, grown, answered) =
-      grind (arith, rest_from-append, unended_rest, unended_whole, whole_from-append)
+  line_taken kept kept' begun part begun' count count' a b unended none more (out, grown, answered) = search (rest_from-append, unended_rest, unended_whole, whole_from-append)
 
   -- what stopped a later part of the bytes, stopped their taking; `kept` are the replies before
   pub grown_stopped : (kept kept' kept'' : List ℕ) {begun front begun' out back all : List ℕ} {count count' : ℕ} {a b c : S} (fault : ServeFault) (tail : List ℕ)

@@ -1,3 +1,4 @@
+pub mod Words
 pub mod PartLemmas
 pub mod InputLemmas
 pub mod OutputLemmas

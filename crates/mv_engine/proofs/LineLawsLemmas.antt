@@ -1,14 +1,7 @@
 -- The laws of the pieces of an input, and of its lines.
-use Rattle.std.proofs.Common.{◌≡◌, ◌+◌, ℕ, suc, map, List, [], ◌∷◌, ◌++◌, refl, sym, arith, append_assoc, append-nil, inl, inr}
-use Rattle.std.specs.Prelude.{All}
-use Rattle.std.proofs.lemmas.Bool.{cases_eq, eq-eqb, ne_eqb}
-use Rattle.std.proofs.lemmas.Bool.Decides.{nat_tests}
-use Rattle.std.proofs.lemmas.Grind.{common_steps}
-use Rattle.std.proofs.lemmas.List.{map-append}
+use Rattle.std.proofs.Common.{◌≡◌, ◌+◌, ℕ, suc, map, List, [], ◌∷◌, ◌++◌, refl, sym, arith, append_assoc, append-nil, inl, inr, All}
+use Rattle.mv_engine.proofs.Words.{cases_eq, eq-eqb, ne_eqb, nat_tests, common_steps, map-append, strip_last, Line, line_unless_empty, whole_from, rest_from, last_piece, pieces, lines_from, lines_of, IsUnended, text_lines}
 use Rattle.std.proofs.lemmas.List.Elements.{All-nil, All-cons, All-append}
-use Rattle.std.specs.Io.BufRead.{strip_last}
-use Rattle.mv_engine.specs.Lines.{Line, line_unless_empty, whole_from, rest_from, last_piece, pieces, lines_from, lines_of, IsUnended}
-use Rattle.mv_engine.specs.Replies.{text_lines}
 use Rattle.mv_engine.proofs.InputLemmas.{whole_from-append, rest_from-append, lines_from-append}
 use Rattle.mv_engine.proofs.PartLemmas.{unended_nil, unended_whole, unended_rest}
 
@@ -86,8 +79,7 @@ lines_of-append ps qs = grind (arith, nat_tests, lines_bytes, lines_from-append,
 
 -- an empty piece is no line
 first_line : (piece : List ℕ) (ps : List (List ℕ)) → lines_of (piece ∷ ps) ≡ lines_of (last_piece piece) ++ lines_of ps
-first_line [] ps = lines_bytes 1 0 ps
-first_line (x ∷ xs) ps = lines_of-append ((x ∷ xs) ∷ []) ps
+first_line piece ps = grind (arith, lines_bytes)
 
 -- the lines of two parts with a line feed between them
 pub lines_compose : (front back : List ℕ) → lines_of (pieces (front ++ 10 ∷ back)) ≡ lines_of (pieces front) ++ lines_of (pieces back)

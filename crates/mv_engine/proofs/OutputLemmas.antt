@@ -1,11 +1,7 @@
 -- Lemmas on the bytes that were written.
-use Rattle.std.proofs.Common.{◌≡◌, ℕ, ◌+◌, List, length, take, drop, sym, length-drop, ◌-◌}
-use Rattle.std.specs.Prelude.{Option}
-use Rattle.std.specs.Io.KnownBytes.{Appends}
-use Rattle.std.proofs.KnownBytes.{Appends-trans}
-use Rattle.std.proofs.lemmas.List.{take-append-drop}
+use Rattle.std.proofs.Common.{◌≡◌, ℕ, ◌+◌, List, length, take, drop, sym, length-drop, ◌-◌, Option}
+use Rattle.mv_engine.proofs.Words.{Appends, Appends-trans, take-append-drop, WrotePart}
 use Rattle.std.proofs.Math.Seq.{take-add, take-length}
-use Rattle.mv_engine.specs.Output.{WrotePart}
 
 -- all from a place on, as a slice has it
 pub slice_tail : (i : ℕ) (xs : List ℕ) → take (length xs - i) (drop i xs) ≡ drop i xs

@@ -1,14 +1,7 @@
 -- Lemmas on bytes that end no line, and on the place of the first line feed.
-use Rattle.std.proofs.lemmas.Bool.Decides.{nat_tests}
-use Rattle.std.proofs.Common.{◌≡◌, ℕ, ◌+◌, ◌-◌, ◌<◌, ◌≤◌, suc, List, [], ◌∷◌, ◌++◌, length, refl, sym, arith, append_assoc, length-append, Some, None}
-use Rattle.std.proofs.Common.{take, drop, get_or, drop-cons, append-nil}
-use Rattle.std.proofs.lemmas.Bool.{ne_eqb, eq-eqb}
-use Rattle.std.proofs.lemmas.Grind.{common_steps}
-use Rattle.std.proofs.lemmas.List.{take-append-drop, length-take-le}
+use Rattle.std.proofs.Common.{◌≡◌, ℕ, ◌+◌, ◌-◌, ◌<◌, ◌≤◌, suc, List, [], ◌∷◌, ◌++◌, length, refl, sym, arith, append_assoc, length-append, Some, None, take, drop, get_or, drop-cons, append-nil}
+use Rattle.mv_engine.proofs.Words.{nat_tests, ne_eqb, eq-eqb, common_steps, take-append-drop, length-take-le, LineTooLong, whole_from, rest_from, line_limit, lines_limit, IsUnended, StopsIn}
 use Rattle.memchr.specs.Find.{IsFirstByte, is_byte}
-use Rattle.mv_engine.specs.declared.fault.ServeFault.TheVariants.{LineTooLong}
-use Rattle.mv_engine.specs.Lines.{whole_from, rest_from, line_limit, lines_limit, IsUnended}
-use Rattle.mv_engine.specs.Served.{StopsIn}
 
 -- nothing ends no line
 pub unended_nil : IsUnended []

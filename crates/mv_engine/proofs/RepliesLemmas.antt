@@ -1,12 +1,6 @@
 -- Lemmas on replies to lines that come in parts.
-use Rattle.std.proofs.lemmas.Bool.Decides.{nat_tests}
-use Rattle.std.proofs.Common.{◌≡◌, ℕ, ◌+◌, List, [], ◌∷◌, ◌++◌, ◌≢◌, refl, length, take, take_at, sym, ap, subst, append-nil, append_assoc, arith}
-use Rattle.std.specs.Prelude.{Bool, true, false, Option, Some, None}
-use Rattle.std.proofs.lemmas.Grind.{flat_map-append}
-use Rattle.std.specs.Io.BufRead.{strip_last}
-use Rattle.mv_engine.specs.Lines.{Line, KeepLimits, line_at, line_unless_empty}
-use Rattle.mv_engine.specs.Replies.{AreReplies, IsReplies, said, said_texts}
-use Rattle.mv_engine.specs.Served.{AreAnswered}
+use Rattle.std.proofs.Common.{◌≡◌, ℕ, ◌+◌, List, [], ◌∷◌, ◌++◌, ◌≢◌, refl, length, take, take_at, sym, ap, subst, append-nil, append_assoc, arith, Bool, true, false, Option, Some, None}
+use Rattle.mv_engine.proofs.Words.{nat_tests, flat_map-append, strip_last, Line, KeepLimits, line_at, line_unless_empty, AreReplies, IsReplies, said, said_texts, AreAnswered}
 
 -- the texts that there are in two lists
 said_texts-append : (xs ys : List (Option (List ℕ))) → said_texts (xs ++ ys) ≡ said_texts xs ++ said_texts ys

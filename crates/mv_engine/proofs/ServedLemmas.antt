@@ -1,17 +1,6 @@
 -- Lemmas on what a run over lines has written.
-use Rattle.std.proofs.lemmas.Grind.{common_steps}
-use Rattle.std.proofs.lemmas.Bool.Decides.{nat_tests}
-use Rattle.std.proofs.Common.{◌≡◌, ℕ, ◌<◌, ◌≤◌, List, [], ◌++◌, length, sym, ◌∙◌, ap, arith, append_assoc, append-nil, length-append, take, subst}
-use Rattle.std.specs.Prelude.{Option, Result, Ok, Err, OnOk, IfErr}
-use Rattle.std.specs.Io.KnownBytes.{Appends, Consumes}
-use Rattle.std.proofs.KnownBytes.{Appends-trans, Consumes-trans}
-use Rattle.mv_engine.specs.declared.fault.ServeFault.{ServeFault}
-use Rattle.mv_engine.specs.declared.fault.ServeFault.TheVariants.{Read, Write, Start}
-use Rattle.mv_engine.specs.Lines.{whole_from, pieces, last_piece, Line, line_at, line_limit, lines_limit}
-use Rattle.mv_engine.specs.Output.{WrotePart}
-use Rattle.mv_engine.specs.Replies.{GotNoReply}
-use Rattle.mv_engine.specs.Served.{AreAnswered, StoppedAt, WroteAt, Served, EndedAt}
-use Rattle.mv_engine.specs.Taking.{Taken, Halted}
+use Rattle.std.proofs.Common.{◌≡◌, ℕ, ◌<◌, ◌≤◌, List, [], ◌++◌, length, sym, ◌∙◌, ap, arith, append_assoc, append-nil, length-append, take, subst, Option, Result, Ok, Err, OnOk, IfErr}
+use Rattle.mv_engine.proofs.Words.{common_steps, nat_tests, Appends, Consumes, Appends-trans, Consumes-trans, ServeFault, Read, Write, Start, whole_from, pieces, last_piece, Line, line_at, line_limit, lines_limit, WrotePart, GotNoReply, AreAnswered, StoppedAt, WroteAt, Served, EndedAt, Taken, Halted}
 use Rattle.mv_engine.proofs.InputLemmas.{whole_from-append, answered_more, stopped_later}
 
 -- nothing more was read

@@ -1,10 +1,9 @@
 //! The line that is being read, and the replies that are still to be written.
 
-ghost use Rattle.std.specs.Prelude.{◌≡◌, ℕ, ◌+◌, ◌<◌, ◌≤◌, List, [], ◌∷◌, ◌++◌, length, OnOk, IfErr, vec_items};
+ghost use Rattle.std.specs.Prelude.{◌≡◌, ◌+◌, ◌<◌, ◌≤◌, [], ◌∷◌, ◌++◌, length, OnOk, IfErr, vec_items};
 ghost use Rattle.std.specs.Io.BufRead.{strip_last};
 ghost use Rattle.mv_engine.specs.Lines.{IsUnended, last_piece, line_begun, line_limit, lines_limit, whole_from};
 ghost use Rattle.mv_engine.specs.Replies.{GotNoReply, Readied};
-ghost use Rattle.std.specs.Io.KnownBytes.{Appends};
 ghost use Rattle.mv_engine.specs.Served.{AreAnswered, Wrote, StopsIn, StoppedAt};
 ghost use Rattle.mv_engine.specs.Taking.{Taken, Halted};
 

@@ -1,6 +1,5 @@
 -- Lemmas on the first that is there, and the first that is found.
-use Rattle.std.proofs.Common.{◌≡◌, ◌<◌, ◌+◌, ℕ, zero, suc, List, [], ◌∷◌, Bool, true, false, Option, Some, None, refl, ap, ◌∙◌, arith, length, map, option_map, slice_index_or, take}
-use Rattle.std.specs.Prelude.{find}
+use Rattle.std.proofs.Common.{◌≡◌, ◌<◌, ◌+◌, ℕ, zero, suc, List, [], ◌∷◌, Bool, true, false, Option, Some, None, refl, ap, ◌∙◌, arith, length, map, option_map, slice_index_or, take, find}
 use Rattle.std.specs.Option.{option_or}
 
 -- what is seen of the first of two that is there

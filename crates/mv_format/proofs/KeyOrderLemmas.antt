@@ -1,14 +1,11 @@
 -- The keys of replies ascend.
-use Rattle.std.proofs.Common.{◌≡◌, ℕ, true, List, [], ◌∷◌, refl, rules}
-use Rattle.std.specs.Prelude.{None, Some}
+use Rattle.std.proofs.Common.{◌≡◌, ℕ, true, List, [], ◌∷◌, refl, rules, None, Some}
+use Rattle.mv_format.proofs.Words.{Character, object, Members, keys_of, LineFault, field_name}
 use Rattle.std.specs.Ordering.{nat_cmp}
 use Rattle.std.specs.Cmp.Lexicographic.{slice_cmp}
 use Rattle.mv_pack.specs.declared.fault.PackFault.{PackFault}
-use Rattle.mv_pack.specs.declared.fault.PackFault.TheVariants.{Character}
 use Rattle.mv_json.specs.Fields.{field_name as message_field_name}
-use Rattle.serde_json.specs.Data.{object, Members}
 use Rattle.mv_json.specs.Keys.{ItemsKeysAscend, MembersKeysAscend}
-use Rattle.mv_json.specs.Members.{keys_of}
 use Rattle.mv_json.specs.declared.fault.MessageFault.{MessageFault}
 use Rattle.mv_json.specs.declared.fault.MessageFault.TheVariants as message
 use Rattle.mv_json.proofs.OrderLemmas.{rises, strictly_sorted}
@@ -19,9 +16,7 @@ use Rattle.mv_repository.specs.declared.verdict.Verdict.TheVariants.{Authentic, 
 use Rattle.mv_machine.specs.declared.reply.Reply.{Reply}
 use Rattle.mv_machine.specs.declared.reply.Reply.TheVariants as replies
 use Rattle.mv_machine.specs.declared.reply.Refusal.TheVariants.{Busy}
-use Rattle.mv_format.specs.declared.line_fault.LineFault.{LineFault}
 use Rattle.mv_format.specs.declared.line_fault.LineFault.TheVariants as line
-use Rattle.mv_format.specs.Fields.{field_name}
 use Rattle.mv_format.specs.KeyOrder.{IsOrdered, RepliesAreOrdered}
 use Rattle.mv_format.specs.ReplyLines.{wholes, refused_pack, verdict_value, reply_value, message_fault_value, line_fault_value}
 

@@ -1,36 +1,22 @@
 -- What stands in the fields of a line: its tokens, and what it asks.
-use Rattle.std.proofs.lemmas.Bool.Decides.{nat_tests}
-use Rattle.std.proofs.Common.{◌≡◌, ◌<◌, ◌^◌, ℕ, List, [], ◌∷◌, ◌++◌, length, map, ap, subst, refl, arith, lt-ltb}
-use Rattle.std.proofs.lemmas.List.Elements.{All-contains, All-cons, All-map, All-nil, Contains-append_right}
-use Rattle.std.specs.Prelude.{Option, Some, None, Ok, All, Contains, IfSome, IsUtf8, find, bytes_eq, ◌≢◌}
+use Rattle.std.proofs.Common.{◌≡◌, ◌<◌, ◌^◌, ℕ, List, [], ◌∷◌, ◌++◌, length, map, ap, subst, refl, arith, lt-ltb, Option, Some, None, Ok, All, Contains, IfSome, IsUtf8, ◌≢◌}
+use Rattle.mv_format.proofs.Words.{nat_tests, All-contains, All-cons, All-map, All-nil, Contains-append_right, Token, begin_object, end_object, key, Data, string, unsigned, get, as_object, keys_of, HasOnly, whole, none_unknown, LineField, LineKind, LineEntry, Request, Step, field_name, names_of, shape_of, read_line}
 use Rattle.json.specs.Json.{value}
 use Rattle.json.specs.Lex.{tokens}
-use Rattle.json.specs.Token.{Token, begin_object, end_object, key}
 use Rattle.json.specs.Token as token
-use Rattle.serde_json.specs.Data.{Data, string, unsigned}
-use Rattle.serde_json.specs.Find.{get, as_object}
 use Rattle.serde_json.specs.Read.{number_of}
 use Rattle.mv_machine.specs.declared.step.Step.{Step as AnyStep}
-use Rattle.mv_json.specs.Members.{keys_of, HasOnly}
 use Rattle.mv_json.specs.Met.{BeginWith}
 use Rattle.mv_json.specs.Parts.{IsText}
-use Rattle.mv_json.specs.Values.{whole}
-use Rattle.mv_json.proofs.ReadsLemmas.{none_unknown}
 use Rattle.mv_json.proofs.MetLemmas.{AreMet, none_met, one_more_met, all_met, begun_shorter, converted_some, text_begins, whole_begins, weaker}
 use Rattle.mv_json.proofs.ValueLemmas.{utf8_test}
-use Rattle.mv_format.specs.declared.field.LineField.{LineField}
 use Rattle.mv_format.specs.declared.field.LineField.TheVariants as fields
-use Rattle.mv_format.specs.declared.kind.LineKind.{LineKind}
-use Rattle.mv_format.specs.declared.line_part.LineEntry.{LineEntry}
 use Rattle.mv_format.specs.declared.line_part.LinePart.{LinePart}
 use Rattle.mv_format.specs.declared.line_part.LinePart.TheVariants as parts
-use Rattle.mv_format.specs.declared.request.Request.{Request}
-use Rattle.mv_format.specs.declared.request.Request.TheVariants.{Step}
-use Rattle.mv_format.specs.Fields.{field_name}
-use Rattle.mv_format.specs.Kinds.{kind_at, names_of, shape_of}
+use Rattle.mv_format.specs.Kinds.{kind_at}
 use Rattle.mv_format.specs.LineParts.{Asks, BeginWithEntries, BeginWithPart, HasEntries, HasKind, IsPart, Tells, TellsPart, entry, entry_name}
 use Rattle.mv_format.specs.Reading.{message_at, number_at, read_at}
-use Rattle.mv_format.specs.Requests.{read_line, read_request, request_at}
+use Rattle.mv_format.specs.Requests.{read_request, request_at}
 
 -- ---- tokens
 
@@ -45,18 +31,6 @@ pub number_says : (ts rest : List Token) (n : ℕ) (text : List ℕ) → ts ≡ 
 number_says ts rest n text is numbered within = (whole n, rw is (whole_begins 3 n text rest numbered), (refl, within))
 
 -- ---- names
-
-abbrev all_fields : List LineField
-all_fields =
-    fields.Do ∷ fields.From ∷ fields.Gtin ∷ fields.Message ∷ fields.Number ∷ fields.Parties ∷ fields.Party ∷ fields.Q
-    ∷ fields.Serial ∷ fields.Submissions ∷ fields.To ∷ fields.Uplink ∷ fields.Window ∷ fields.Wire ∷ []
-
--- the field of that name
-abbrev field_called : List ℕ → Option LineField
-field_called name = find (λ field. bytes_eq name (field_name field)) all_fields
-
-called : (field : LineField) → field_called (field_name field) ≡ Some field
-called field = grind (arith, nat_tests)
 
 -- two fields have two names
 name_apart : (f g : LineField) → f ≢ g → field_name f ≡ field_name g → ⊥

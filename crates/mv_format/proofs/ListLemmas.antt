@@ -1,21 +1,11 @@
 -- Lemmas on lists of values, and on the lists of markets that they are.
-use Rattle.std.proofs.lemmas.Bool.Decides.{nat_tests}
-use Rattle.std.proofs.Common.{◌≡◌, ℕ, Bool, List, [], ◌∷◌, refl, arith}
-use Rattle.std.specs.Prelude.{cond, is_some, option_and_then, option_map, Option, Some, Result, Ok, Err}
+use Rattle.std.proofs.Common.{◌≡◌, ℕ, Bool, List, [], ◌∷◌, refl, arith, cond, is_some, option_and_then, option_map, Option, Some, Result, Ok, Err}
+use Rattle.mv_format.proofs.Words.{nat_tests, list_all, Data, Items, no_items, item, as_str, view, items_view, read_market, Market, each_of, as_list, market_item, market_list, read_all, LineField, LineFault, Pack}
 use Rattle.std.specs.Result.{is_ok}
-use Rattle.std.specs.List.{list_all}
-use Rattle.serde_json.specs.Data.{Data, Items, no_items, item}
-use Rattle.serde_json.specs.Find.{as_str}
-use Rattle.serde_json.specs.View.{view, items_view}
 use Rattle.serde_json.specs.declared.value.Value.{Value}
-use Rattle.mv_pack.specs.Market.{read_market}
-use Rattle.mv_pack.specs.declared.fault.PackFault.TheVariants.{Market}
-use Rattle.mv_json.specs.Reading.{◌and_then◌, each_of, as_list}
-use Rattle.mv_format.specs.MarketLists.{market_item, market_list, read_all, walked_lists_at}
+use Rattle.mv_json.specs.Reading.{◌and_then◌}
+use Rattle.mv_format.specs.MarketLists.{walked_lists_at}
 use Rattle.mv_format.specs.Reading.{market_lists_at}
-use Rattle.mv_format.specs.declared.field.LineField.{LineField}
-use Rattle.mv_format.specs.declared.line_fault.LineFault.{LineFault}
-use Rattle.mv_format.specs.declared.line_fault.LineFault.TheVariants.{Pack}
 
 -- all values are something where the list of what they are is
 all_some : {A : Type 0} (as_one : Data → Option A) (vs : List Value) → list_all (λ v. is_some (as_one (view v))) vs ≡ is_some (each_of as_one (items_view vs))

@@ -1,35 +1,20 @@
 -- The laws of the line that asks a request: it is read as that request, and what any line asks is legal.
-use Rattle.std.proofs.Common.{◌≡◌, ◌<◌, ℕ, ◌^◌, List, [], ◌∷◌, map, refl, subst, arith, true, lt-ltb}
-use Rattle.std.specs.Prelude.{Bool, ok_or, Option, Some, option_and_then, Result, Ok, Err, IfOk}
-use Rattle.std.specs.List.{AllByRecursion, list_all}
+use Rattle.std.proofs.Common.{◌≡◌, ◌<◌, ℕ, ◌^◌, List, [], ◌∷◌, map, refl, subst, arith, true, lt-ltb, Bool, ok_or, Option, Some, option_and_then, Result, Ok, Err, IfOk}
+use Rattle.mv_format.proofs.Words.{AllByRecursion, list_all, nat_tests, Data, array, string, items_of, as_str, as_number, as_u64, IsMarket, strings, reads_back, read_is_legal, Asking, shape_of, map_err, each_of, as_list, GivesOr, asked_at, LineField, LineKind, LineFault, Unknown, Kind, Memory, Request, Open, Step}
 use Rattle.std.specs.Option.{option_map_or}
 use Rattle.std.proofs.lemmas.Bool.{and_parts}
-use Rattle.std.proofs.lemmas.Bool.Decides.{nat_tests}
-use Rattle.serde_json.specs.Data.{Data, array, string}
-use Rattle.serde_json.specs.View.{items_of}
-use Rattle.serde_json.specs.Find.{as_str, as_number, as_u64}
-use Rattle.mv_pack.specs.Market.{IsMarket}
 use Rattle.mv_pack.proofs.CodeLemmas.{read_code_of, read_code_is_code}
 use Rattle.mv_pack.proofs.GtinLemmas.{read_gtin_of}
 use Rattle.mv_pack.proofs.MarketLemmas.{read_market_of, read_market_is_market}
-use Rattle.mv_json.specs.Shapes.{IsLegal}
-use Rattle.mv_json.specs.Values.{strings}
-use Rattle.mv_json.proofs.ReadsLemmas.{reads_back, read_is_legal}
 use Rattle.mv_machine.specs.declared.step.Step.TheVariants as steps
-use Rattle.mv_format.specs.Kinds.{Asking, shape_of, kind_at}
+use Rattle.mv_format.specs.Kinds.{kind_at}
 use Rattle.mv_format.specs.RequestLaws.{request_value, IsLegalRequest}
 use Rattle.mv_format.specs.Meanings.{AreMarketLists, meaning_of}
-use Rattle.mv_json.specs.Reading.{◌and_then◌, map_err, each_of, as_list, GivesOr}
+use Rattle.mv_json.specs.Reading.{◌and_then◌}
 use Rattle.mv_format.specs.Reading.{member_at, of_32_bits, read_at, number_at, message_at, market_lists_at}
-use Rattle.mv_format.specs.Requests.{asked_at, read_request, request_at}
-use Rattle.mv_format.specs.declared.field.LineField.{LineField}
+use Rattle.mv_format.specs.Requests.{read_request, request_at}
 use Rattle.mv_format.specs.declared.field.LineField.TheVariants as fields
-use Rattle.mv_format.specs.declared.kind.LineKind.{LineKind}
 use Rattle.mv_format.specs.declared.kind.LineKind.TheVariants as kinds
-use Rattle.mv_format.specs.declared.line_fault.LineFault.{LineFault}
-use Rattle.mv_format.specs.declared.line_fault.LineFault.TheVariants.{Unknown, Kind, Memory}
-use Rattle.mv_format.specs.declared.request.Request.{Request}
-use Rattle.mv_format.specs.declared.request.Request.TheVariants.{Open, Step}
 use Rattle.mv_format.proofs.ListLemmas.{is_market, market_lists}
 
 -- each list of markets is a list of texts, and these are markets

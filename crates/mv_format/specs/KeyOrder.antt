@@ -1,11 +1,8 @@
 -- The order of the keys in the objects that replies are.
 use Rattle.std.specs.Prelude.{◌≡◌, ℕ, List, codes}
-use Rattle.serde_json.specs.Data.{Data, object, Members}
+use Rattle.mv_format.specs.Words.{Data, object, Members, MessageFault, Reply, LineFault}
 use Rattle.mv_json.specs.Keys.{KeysAscend}
-use Rattle.mv_json.specs.declared.fault.MessageFault.{MessageFault}
-use Rattle.mv_machine.specs.declared.reply.Reply.{Reply}
 use Rattle.mv_format.specs.ReplyLines.{line_fault_value, message_fault_value, numbered, refused, reply_value}
-use Rattle.mv_format.specs.declared.line_fault.LineFault.{LineFault}
 
 -- an object, whose keys ascend
 abbrev pub IsOrdered : Data → Type 0

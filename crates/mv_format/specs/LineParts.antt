@@ -1,22 +1,14 @@
 -- What stands in the fields of a line, as they are met in its object; and the tokens of JSON that it is read from.
 use Rattle.std.specs.Prelude.{◌≡◌, ◌<◌, ◌^◌, ℕ, List, Contains, Some, Result, Ok}
-use Rattle.json.specs.Token.{Token}
-use Rattle.serde_json.specs.Data.{Data}
+use Rattle.mv_format.specs.Words.{Token, Data, read_code, read_gtin, whole, LineField, LineKind, LineFault, Step as AStep}
 use Rattle.mv_machine.specs.declared.step.Step.{Step}
-use Rattle.mv_pack.specs.Code.{read_code}
-use Rattle.mv_pack.specs.Gtin.{read_gtin}
 use Rattle.mv_json.specs.Messages.{read_message}
 use Rattle.mv_json.specs.Met.{BeginWith, HasMet}
 use Rattle.mv_json.specs.Parts.{IsText}
-use Rattle.mv_json.specs.Values.{whole}
-use Rattle.mv_format.specs.declared.field.LineField.{LineField}
 use Rattle.mv_format.specs.declared.field.LineField.TheVariants as fields
-use Rattle.mv_format.specs.declared.kind.LineKind.{LineKind}
-use Rattle.mv_format.specs.declared.line_fault.LineFault.{LineFault}
 use Rattle.mv_format.specs.declared.line_part.LineEntry.{LineEntry}
 use Rattle.mv_format.specs.declared.line_part.LinePart.{LinePart}
 use Rattle.mv_format.specs.declared.line_part.LinePart.TheVariants as parts
-use Rattle.mv_format.specs.declared.request.Request.TheVariants.{Step as AStep}
 use Rattle.mv_format.specs.Fields.{field_name}
 use Rattle.mv_format.specs.Kinds.{kind_named}
 use Rattle.mv_format.specs.Reading.{message_at, number_at, read_at}

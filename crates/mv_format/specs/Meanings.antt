@@ -1,19 +1,10 @@
 -- What the fields of lines mean.
 use Rattle.std.specs.Prelude.{◌<◌, ◌^◌, ℕ, List, map, Result}
-use Rattle.std.specs.List.{AllByRecursion}
-use Rattle.serde_json.specs.Data.{Data, string, array}
-use Rattle.serde_json.specs.View.{items_of}
-use Rattle.mv_pack.specs.Code.{IsCode, read_code}
-use Rattle.mv_pack.specs.Gtin.{IsGtin, read_gtin}
-use Rattle.mv_pack.specs.Market.{IsMarket}
+use Rattle.mv_format.specs.Words.{AllByRecursion, Data, string, array, items_of, IsCode, read_code, IsGtin, read_gtin, IsMarket, value_of, strings, whole, LineField, LineFault}
 use Rattle.mv_json.specs.Shapes.{IsLegal}
-use Rattle.mv_json.specs.Messages.{value_of}
-use Rattle.mv_json.specs.Values.{strings, whole}
 use Rattle.mv_message.specs.declared.message.Message.{Message}
 use Rattle.mv_format.specs.Reading.{read_at, number_at, message_at, market_lists_at}
-use Rattle.mv_format.specs.declared.field.LineField.{LineField}
 use Rattle.mv_format.specs.declared.field.LineField.TheVariants as fields
-use Rattle.mv_format.specs.declared.line_fault.LineFault.{LineFault}
 
 -- what a field means: the values that it has, how one is read of a line, its JSON value, and which are legal
 pub record Meaning : Type 1 where

@@ -1,7 +1,6 @@
 -- JSON objects, by the keys of their members and the values that these have.
 use Rattle.std.specs.Prelude.{ℕ, List}
-use Rattle.serde_json.specs.Data.{Data, object}
-use Rattle.mv_json.specs.Values.{members_with}
+use Rattle.mv_format.specs.Words.{Data, object, members_with}
 
 -- the object of these members
 abbrev pub object_of : List (List ℕ × Data) → Data

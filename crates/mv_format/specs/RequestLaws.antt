@@ -1,12 +1,8 @@
 -- The laws of the line that asks a request.
 use Rattle.std.specs.Prelude.{◌≡◌, ℕ, List, [], ◌∷◌, map, codes, Ok}
-use Rattle.std.specs.List.{AllByRecursion}
-use Rattle.serde_json.specs.Data.{Data, string}
+use Rattle.mv_format.specs.Words.{AllByRecursion, Data, string, LineField, Request, Open, Step}
 use Rattle.mv_machine.specs.declared.step.Step.TheVariants as steps
-use Rattle.mv_format.specs.declared.field.LineField.{LineField}
 use Rattle.mv_format.specs.declared.field.LineField.TheVariants as fields
-use Rattle.mv_format.specs.declared.request.Request.{Request}
-use Rattle.mv_format.specs.declared.request.Request.TheVariants.{Open, Step}
 use Rattle.mv_format.specs.Fields.{field_name}
 use Rattle.mv_format.specs.Meanings.{meaning_of}
 use Rattle.mv_format.specs.Objects.{object_of}

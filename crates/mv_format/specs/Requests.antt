@@ -1,16 +1,9 @@
 -- What a line asks, or its first fault.
 use Rattle.std.specs.Prelude.{ℕ, List, [], ◌∷◌, Result, Ok, Err, ok_or}
+use Rattle.mv_format.specs.Words.{Data, as_object, json_value, LineField, LineFault, NotJson, NotObject, Unknown, LineKind, Request}
 use Rattle.std.specs.Option.{option_map_or}
-use Rattle.serde_json.specs.Data.{Data}
-use Rattle.serde_json.specs.Find.{as_object}
 use Rattle.mv_json.specs.Members.{first_unknown}
-use Rattle.mv_json.specs.Messages.{json_value}
 use Rattle.mv_json.specs.Reading.{◌and_then◌}
-use Rattle.mv_format.specs.declared.field.LineField.{LineField}
-use Rattle.mv_format.specs.declared.line_fault.LineFault.{LineFault}
-use Rattle.mv_format.specs.declared.line_fault.LineFault.TheVariants.{NotJson, NotObject, Unknown}
-use Rattle.mv_format.specs.declared.kind.LineKind.{LineKind}
-use Rattle.mv_format.specs.declared.request.Request.{Request}
 use Rattle.mv_format.specs.Kinds.{Asking, shape_of, names_of, kind_at}
 use Rattle.mv_format.specs.Meanings.{meaning_of}
 

@@ -1,12 +1,9 @@
 -- What is written of a reply's object.
 use Rattle.std.specs.Prelude.{◌≡◌, ℕ, List, [], ◌∷◌, ◌++◌, codes, IfOk, Option, Some, None, option_map, Result, MatchResult}
-use Rattle.json.specs.Token.{Token, key}
+use Rattle.mv_format.specs.Words.{Token, key, Data, Members, no_members, member, null, string, boolean, array, value_of, whole}
 use Rattle.json.specs.Tree.{json_tokens}
 use Rattle.json.specs.Written.{Written}
-use Rattle.serde_json.specs.Data.{Data, Members, no_members, member, null, string, boolean, array}
 use Rattle.serde_json.specs.Written.{outline, compact_text}
-use Rattle.mv_json.specs.Messages.{value_of}
-use Rattle.mv_json.specs.Values.{whole}
 use Rattle.mv_repository.specs.declared.held.Change.{Change}
 use Rattle.mv_format.specs.Meanings.{markets_value}
 use Rattle.mv_format.specs.Objects.{object_of}

@@ -77,10 +77,5 @@ pub(crate) fn are_among(entries: &[LineEntry], fields: &[LineField]) -> bool
 fn is_one_of(field: LineField, fields: &[LineField]) -> bool
     ensures { IsTrue result → Contains fields.now field }
 {
-    for other in fields {
-        if *other == field {
-            return true;
-        }
-    }
-    false
+    fields.contains(&field)
 }

@@ -1,6 +1,6 @@
 //! Makes the step that the fields which were met in a line tell.
 
-ghost use Rattle.std.specs.Prelude.{◌≡◌, IfSome};
+ghost use Rattle.std.specs.Prelude.{IfSome};
 ghost use Rattle.mv_pack.specs.Code.{read_code};
 ghost use Rattle.mv_pack.specs.Gtin.{read_gtin};
 ghost use Rattle.mv_format.specs.LineParts.{HasKind, Tells};

@@ -30,13 +30,6 @@ impl Model for MarketLists {
 }
 
 impl MarketLists {
-    /// The lists of a vector.
-    pub(crate) fn new(lists: Vec<Vec<Market>>) -> MarketLists
-        ensures { result ≡ map (λ list. list.items) lists.items }
-    {
-        MarketLists { lists }
-    }
-
     /// The lists.
     pub fn into_lists(self) -> Vec<Vec<Market>>
         ensures { map (λ list. list.items) result.items ≡ self }
@@ -61,7 +54,7 @@ pub(crate) fn market_lists_of(
         return Err(LineFault::Kind(field));
     }
     let lists = market_lists_in(alloc, list.as_slice(), field)?;
-    Ok(MarketLists::new(lists))
+    Ok(MarketLists { lists })
 }
 
 /// Whether all values are lists of texts.

@@ -37,6 +37,7 @@ pub fn refusal_text(alloc: Global, code: &'static str) -> Result<String, AllocEr
 }
 
 /// The text of a reply line.
+#[tactic(auto, using(crate::proofs::WritingLemmas::text_written))]
 fn line_text<T: ToJson>(alloc: Global, reply: &T) -> Result<String, AllocError>
     ensures { IfOk result (λ text. string_bytes text ≡ compact_text (T.value reply.now)) }
 {

@@ -1,7 +1,6 @@
 //! What a line asks.
 #![tactic(auto, unfolding(crate::specs::Requests::request_at))]
 
-ghost use Rattle.std.specs.Prelude.{◌≡◌};
 ghost use Rattle.serde_json.specs.View.{view};
 ghost use Rattle.mv_json.specs.Reading.{GivesOr};
 ghost use Rattle.mv_format.specs.Requests.{request_at, read_request, read_line};

@@ -26,6 +26,7 @@ pub trait ToJson {
 }
 
 /// Writes the canonical text of a value behind what the buffer holds. Where memory is refused the buffer is as it was.
+#[tactic(auto, using(crate::proofs::WritingLemmas::text_written))]
 pub fn append_json<T: ToJson>(alloc: Global, out: &mut Vec<u8>, value: &T) -> Result<(), AllocError>
     ensures { Appended result out.old.items out.new.items (T.value value.now) }
 {

@@ -66,6 +66,7 @@ fn take_entries(alloc: Global, reader: &mut Reader<'_>) -> Option<Vec<LineEntry>
 }
 
 /// Takes the rest of an object, behind its opening brace.
+#[tactic(auto, using(crate::proofs::LinePartLemmas::no_entry, crate::proofs::LinePartLemmas::one_more_entry, crate::proofs::LinePartLemmas::all_entries))]
 fn take_members(alloc: Global, reader: &mut Reader<'_>) -> Option<Vec<LineEntry>>
     ensures { IfSome result (λ entries.
         BeginWithEntries (begin_object ∷ reader.old) entries.items reader.new) }

@@ -1,18 +1,13 @@
 -- Lemmas on a text that is written in blocks.
-use Rattle.std.proofs.lemmas.Grind.{common_steps}
-use Rattle.std.proofs.lemmas.Bool.Decides.{nat_tests}
-use Rattle.std.proofs.Common.{◌≡◌, ℕ, ◌+◌, ◌<◌, ◌≤◌, List, [], ◌++◌, length, take, drop, slice_index_or, flat_map, refl, ap, sym, ◌∙◌, subst, append_assoc, append-nil, take-append-drop, add-one, zero-add, arith, rules}
-use Rattle.std.specs.Prelude.{Option, Result, IfErr}
+use Rattle.std.proofs.lemmas.Grind.{common_steps, flat_map-append}
+use Rattle.mv_show.proofs.Words.{nat_tests, Appends-nil, Appends-trans, Passes, lines_text}
+use Rattle.std.proofs.Common.{◌≡◌, ℕ, ◌+◌, ◌<◌, ◌≤◌, List, [], ◌++◌, length, take, drop, slice_index_or, flat_map, refl, ap, sym, ◌∙◌, subst, append_assoc, append-nil, take-append-drop, add-one, zero-add, arith, rules, Option, Result, IfErr}
 use Rattle.std.specs.List.{range_with_len}
 use Rattle.std.proofs.Math.Seq.{take-suc}
-use Rattle.std.proofs.KnownBytes.{Appends-nil, Appends-trans}
 use Rattle.std.proofs.lemmas.List.{map-append, take_all}
 use Rattle.std.proofs.lemmas.List.FromFn.{get_or-range_with_len, length-range_with_len}
-use Rattle.std.proofs.lemmas.Grind.{flat_map-append}
 use Rattle.serde_json.specs.Data.{Data}
 use Rattle.mv_engine.specs.Output.{WrotePart}
-use Rattle.mv_show.specs.Blocks.{Passes}
-use Rattle.mv_show.specs.Shown.{lines_text}
 
 -- the texts of some values, and of others behind them
 pub lines_text-append : (front behind : List Data) → lines_text (front ++ behind) ≡ lines_text front ++ lines_text behind
@@ -24,8 +19,7 @@ passes_nothing w bytes = ([], Appends-nil w, refl)
 
 -- some bytes went out, and then some of what stood ready with more behind it
 pub passes_more : (a b c : Option (List ℕ)) (bytes more mid rest : List ℕ) → Passes a b bytes mid → Passes b c (mid ++ more) rest → Passes a c (bytes ++ more) rest
-passes_more a b c bytes more mid rest (first, went, cut) (second, goes, cut') =
-    search (rules, Appends-trans a b c first second went goes, append_assoc first mid more, append_assoc first second rest)
+passes_more a b c bytes more mid rest (first, went, cut) (second, goes, cut') = grind (arith, Appends-trans a b c first second went goes, append_assoc first mid more, append_assoc first second rest)
 
 -- then a write failed
 pub part_more : (a b c : Option (List ℕ)) (bytes more mid : List ℕ) → Passes a b bytes mid → WrotePart (mid ++ more) b c → WrotePart (bytes ++ more) a c

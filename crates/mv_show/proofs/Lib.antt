@@ -1,3 +1,4 @@
+pub mod Words
 pub mod NamingLemmas
 pub mod PlaceLemmas
 pub mod BlockLemmas

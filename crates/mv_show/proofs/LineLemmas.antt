@@ -1,14 +1,8 @@
 -- The lines of a pack that is held, and of a party itself.
-use Rattle.std.proofs.Common.{◌≡◌, ℕ, List, [], ◌∷◌, ◌++◌, rules}
-use Rattle.std.specs.Prelude.{OnOk, Some, Result}
-use Rattle.mv_pack.specs.declared.key.PackKey.{PackKey}
-use Rattle.mv_repository.specs.declared.entry.LogEntry.{LogEntry}
+use Rattle.std.proofs.Common.{◌≡◌, ℕ, List, [], ◌∷◌, ◌++◌, rules, OnOk, Some, Result}
+use Rattle.mv_show.proofs.Words.{PackKey, LogEntry, State, Subject, Party, party_value, pack_value, pack_values, subject_values, lines_text}
 use Rattle.mv_repository.specs.declared.held.Held.{Held}
 use Rattle.mv_repository.specs.PackState.{pack_state}
-use Rattle.mv_machine.specs.State.{State}
-use Rattle.mv_show.specs.declared.subject.Subject.{Subject}
-use Rattle.mv_show.specs.declared.subject.Subject.TheVariants.{Party}
-use Rattle.mv_show.specs.Shown.{party_value, pack_value, pack_values, subject_values, lines_text}
 
 module _ {E : Type 0} (r : Result (Unit {0}) E) (out old : List ℕ) where
   -- a pack that is held has its line

@@ -1,6 +1,6 @@
 -- What is counted of a log.
 use Rattle.std.proofs.Common.{◌≡◌, ℕ, List, [], ◌∷◌, length, filter, ◌==◌, refl, rules}
-use Rattle.mv_repository.specs.declared.entry.LogEntry.{LogEntry}
+use Rattle.mv_show.proofs.Words.{LogEntry}
 use Rattle.mv_repository.specs.Log.{items_from}
 
 -- as many items of a sender are in a log as entries of it

@@ -1,17 +1,14 @@
 -- Lemmas on an input that was taken, and on what was shown of it.
-use Rattle.std.proofs.lemmas.Bool.Decides.{nat_tests}
-use Rattle.std.proofs.Common.{◌≡◌, ◌≢◌, ℕ, List, [], ◌∷◌, refl, arith, inl, rules}
-use Rattle.std.specs.Prelude.{IfSome, Option, None}
+use Rattle.std.proofs.Common.{◌≡◌, ◌≢◌, ℕ, List, [], ◌∷◌, refl, arith, inl, rules, IfSome, Option}
+use Rattle.mv_show.proofs.Words.{nat_tests}
 use Rattle.std.specs.Io.KnownBytes.{Consumes}
-use Rattle.std.proofs.KnownBytes.{Appends-nil}
 use Rattle.mv_engine.specs.declared.fault.ServeFault.{ServeFault}
 use Rattle.mv_engine.specs.declared.fault.ServeFault.TheVariants.{Read, Write, Memory}
 use Rattle.mv_engine.specs.Lines.{Line}
 use Rattle.mv_engine.specs.Replies.{AreReplies, said_texts}
 use Rattle.mv_engine.specs.Served.{Served, StoppedAt, Ended}
 use Rattle.mv_lines.specs.Sessions.{Open}
-use Rattle.mv_show.specs.Blocks.{EndsWriting}
-use Rattle.mv_show.specs.Showing.{IsPassed, Lead, LeadsTo, Untaken, ShownInPart, Unshown}
+use Rattle.mv_show.specs.Showing.{IsPassed, Lead, LeadsTo, Untaken}
 
 -- lines to which nothing is written lead on
 lead : (before : Open) (lines : List Line) (texts : List (Option (List ℕ))) (after : Open) → AreReplies IsPassed before lines texts after → Lead before lines after
@@ -67,12 +64,3 @@ refused_at_once before input rest bytes took = (
     },
   ),
 )
-
--- where the input was not taken whole, nothing is shown
-pub not_shown : (fault : ServeFault) (input rest writer : Option (List ℕ)) → (bytes : List ℕ) × Consumes input rest bytes × Untaken fault None bytes
-    → Unshown fault input rest writer writer
-not_shown fault input rest writer unread = grind (arith, nat_tests, Appends-nil)
-
--- where the writing ended, a part is shown
-pub shown_in_part : (fault : ServeFault) (input rest old new : Option (List ℕ)) → EndsWriting fault → ShownInPart input old new → Unshown fault input rest old new
-shown_in_part fault input rest old new went part = grind (arith, nat_tests)

@@ -1,8 +1,6 @@
 -- What goes out of a text that is written in blocks.
 use Rattle.std.specs.Prelude.{◌≡◌, ℕ, List, ◌++◌, ◌⊎◌, Option}
-use Rattle.std.specs.Io.KnownBytes.{Appends}
-use Rattle.mv_engine.specs.declared.fault.ServeFault.{ServeFault}
-use Rattle.mv_engine.specs.declared.fault.ServeFault.TheVariants.{Write, Memory}
+use Rattle.mv_show.specs.Words.{Appends, ServeFault, Write, Memory}
 
 -- the first of these bytes went out, and the others stand ready
 abbrev pub Passes : Option (List ℕ) → Option (List ℕ) → List ℕ → List ℕ → Type 0

@@ -1,3 +1,4 @@
+pub mod Words
 pub mod Subjects
 pub mod Shown
 pub mod Blocks

@@ -1,13 +1,10 @@
 -- What a run that shows has read and written.
 use Rattle.std.specs.Prelude.{◌≡◌, ℕ, List, [], ◌∷◌, ◌⊎◌, Option, None, IfSome}
-use Rattle.std.specs.Io.KnownBytes.{Appends, Consumes}
+use Rattle.mv_show.specs.Words.{Appends, Consumes, ServeFault, Read, Write, Memory, Open, IsTaken}
 use Rattle.mv_format.specs.declared.answered.Answered.{Answered}
-use Rattle.mv_engine.specs.declared.fault.ServeFault.{ServeFault}
-use Rattle.mv_engine.specs.declared.fault.ServeFault.TheVariants.{Read, Write, Memory}
 use Rattle.mv_engine.specs.Lines.{Line, lines_from, pieces, KeepLimits}
 use Rattle.mv_engine.specs.Output.{WrotePart}
 use Rattle.mv_engine.specs.Served.{StoppedAt}
-use Rattle.mv_lines.specs.Sessions.{Open, IsTaken}
 use Rattle.mv_show.specs.Shown.{shown_text}
 
 -- the line is taken as `steps` takes it, and nothing is written to it

@@ -1,21 +1,17 @@
 -- The lines that show what stands, as JSON values: their keys stand in byte order.
 use Rattle.std.specs.Prelude.{ℕ, List, [], ◌∷◌, ◌++◌, map, length, codes, Bool, ◌||◌, not, nat_lt, if◌then◌else◌, Option, Some, None, option_to_list}
-use Rattle.std.specs.List.{flat_map, range_with_len}
+use Rattle.mv_show.specs.Words.{flat_map, range_with_len, batch_key, Message, Master, LogEntry, Open, Subject, Party, Product, Pack}
 use Rattle.std.specs.Option.{option_map}
 use Rattle.serde_json.specs.Data.{Data, null, boolean, string, array}
 use Rattle.serde_json.specs.Written.{compact_text}
 use Rattle.mv_pack.specs.declared.key.BatchKey.{BatchKey}
 use Rattle.mv_pack.specs.declared.key.PackKey.{PackKey}
 use Rattle.mv_pack.specs.Expiry.{expiry_text}
-use Rattle.mv_pack.specs.Keys.{batch_key}
-use Rattle.mv_message.specs.declared.message.Message.{Message}
-use Rattle.mv_message.specs.declared.message.Message.TheVariants.{Master}
 use Rattle.mv_message.specs.Standings.{standing_name}
 use Rattle.mv_json.specs.Messages.{value_of}
 use Rattle.mv_json.specs.Values.{whole}
 use Rattle.mv_hub.specs.Hub.{items_on, sent_of}
 use Rattle.mv_hub.specs.Record.{is_open, routed_count}
-use Rattle.mv_repository.specs.declared.entry.LogEntry.{LogEntry}
 use Rattle.mv_repository.specs.declared.held.Change.{Change}
 use Rattle.mv_repository.specs.declared.held.Held.{Held}
 use Rattle.mv_repository.specs.Counts.{counts_of}
@@ -28,10 +24,8 @@ use Rattle.mv_format.specs.Writing.{change_value, national_value}
 use Rattle.mv_format.specs.Openings.{code_of}
 use Rattle.mv_format.specs.ReplyLines.{refused, wholes}
 use Rattle.mv_engine.specs.Replies.{text_lines}
-use Rattle.mv_lines.specs.Sessions.{Open}
 use Rattle.mv_format.specs.declared.open_fault.OpenFault.TheVariants.{NotOpen}
-use Rattle.mv_show.specs.declared.subject.Subject.{Subject}
-use Rattle.mv_show.specs.declared.subject.Subject.TheVariants.{Party, Product, Recall, Pack}
+use Rattle.mv_show.specs.declared.subject.Subject.TheVariants.{Recall}
 use Rattle.mv_show.specs.Subjects.{subjects_of}
 
 -- how much a party has: the counts of its log, what it submitted, and what of that was routed

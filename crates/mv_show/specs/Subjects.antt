@@ -1,17 +1,12 @@
 -- What the log of a repository names, and in which order.
 use Rattle.std.specs.Prelude.{List, [], ◌∷◌, ◌++◌, map, Bool, true, false, bytes_eq}
-use Rattle.std.specs.List.{flat_map}
-use Rattle.mv_pack.specs.Keys.{is_same_pack, is_same_batch, pack_key}
-use Rattle.mv_message.specs.declared.message.Message.{Message}
-use Rattle.mv_message.specs.declared.message.Message.TheVariants.{Master, Upload, Recall as ARecall, Withdraw}
+use Rattle.mv_show.specs.Words.{flat_map, is_same_pack, is_same_batch, pack_key, Message, Master, Upload, Recall as ARecall, Withdraw, LogEntry, Subject, Party, Product, Pack}
 use Rattle.mv_link.specs.declared.item.Item.{Item}
 use Rattle.mv_link.specs.declared.item.Item.TheVariants.{Receipt, Carried}
 use Rattle.mv_hub.specs.Listing.{distinct}
-use Rattle.mv_repository.specs.declared.entry.LogEntry.{LogEntry}
 use Rattle.mv_show.specs.declared.subject.Kind.{Kind}
 use Rattle.mv_show.specs.declared.subject.Kind.TheVariants as kinds
-use Rattle.mv_show.specs.declared.subject.Subject.{Subject}
-use Rattle.mv_show.specs.declared.subject.Subject.TheVariants.{Party, Product, Recall, Pack}
+use Rattle.mv_show.specs.declared.subject.Subject.TheVariants.{Recall}
 
 -- two subjects are one
 abbrev pub is_same_subject : Subject → Subject → Bool

@@ -1,16 +1,8 @@
 -- What is written of an event.
-use Rattle.std.proofs.lemmas.Bool.Decides.{nat_tests}
 use Rattle.std.proofs.Common.{◌≡◌, ℕ, List, length, subst, refl, inr, IfOk, IfErr, Bool, option_map, Some, Result, Ok, Err, arith}
-use Rattle.mv_message.specs.declared.message.Message.{Message}
-use Rattle.mv_hub.specs.declared.entry.Entry.{Entry}
+use Rattle.mv_trail.proofs.Words.{nat_tests, Message, Entry, line_at, GotNoReply, Readied, said, Open, IsTaken, Answered, Event, event_of, last_of, routed, routing, event_text, IsEvent, Says, Tells}
 use Rattle.mv_hub.specs.declared.entry.Entry.TheVariants as entries
-use Rattle.mv_engine.specs.Lines.{line_at}
-use Rattle.mv_engine.specs.Replies.{GotNoReply, Readied, said}
-use Rattle.mv_lines.specs.Sessions.{Open, IsTaken}
-use Rattle.mv_format.specs.declared.answered.Answered.{Answered}
-use Rattle.mv_trail.specs.Events.{Event, event_of, last_of, routed, routing}
 use Rattle.mv_trail.specs.EventValues.{event_value}
-use Rattle.mv_trail.specs.Trail.{event_text, IsEvent, Says, Tells}
 
 -- what was said of a line's event is what may be written to the line
 pub event_answers : {E : Type 0} (r : Result Bool E) (old new : List ℕ) (line : ℕ) (before : Open) (bytes : List ℕ) (answered : Answered) (after : Open)

@@ -1,3 +1,4 @@
+pub mod Words
 pub mod StepLemmas
 pub mod ToldLemmas
 pub mod TrailLemmas

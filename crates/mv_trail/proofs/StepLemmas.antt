@@ -1,29 +1,19 @@
 -- What each step adds to a list that is kept of the state is what its event tells of it.
-use Rattle.std.proofs.lemmas.Bool.Decides.{nat_tests}
 use Rattle.std.proofs.Common.{◌≡◌, ℕ, ◌+◌, ◌<◌, rules, false, List, ◌++◌, length, Option, None, sym, ◌∙◌, append-nil, option_and_then, option_to_list, arith}
-use Rattle.mv_message.specs.declared.message.Message.{Message}
+use Rattle.mv_trail.proofs.Words.{nat_tests, Message, is_query_or_answer, Item, answer_to, Joint, entry_from, answer_number, with_submission, with_applied, Step, Reply, State, is_party, submissions_of, log_of, hub_of, with_hub, site_of, with_site, with_wire, Event, event_of_step}
 use Rattle.mv_message.specs.declared.message.Message.TheVariants.{Query}
-use Rattle.mv_message.specs.Kinds.{is_query_or_answer}
 use Rattle.mv_pack.specs.declared.key.PackKey.{PackKey}
-use Rattle.mv_link.specs.declared.item.Item.{Item}
 use Rattle.mv_link.specs.declared.incoming.Look.{Look}
 use Rattle.mv_hub.specs.Hub.{with_routed, with_closed}
 use Rattle.mv_hub.specs.Record.{routed_count}
 use Rattle.mv_hub.specs.Targets.{reach}
 use Rattle.mv_repository.specs.Effect.{effect_of}
-use Rattle.mv_repository.specs.Query.{answer_to}
-use Rattle.mv_repository.specs.declared.verdict.Joint.{Joint}
 use Rattle.mv_repository.specs.declared.verdict.Verdict.{Verdict as AVerdict}
-use Rattle.mv_party.specs.Site.{entry_from, answer_number, with_submission, with_applied}
-use Rattle.mv_machine.specs.declared.step.Step.{Step}
 use Rattle.mv_machine.specs.declared.step.Step.TheVariants.{Submit, Verify, Route, Apply, Close, Verdict}
-use Rattle.mv_machine.specs.declared.reply.Reply.{Reply}
 use Rattle.mv_machine.specs.declared.reply.Reply.TheVariants as replies
 use Rattle.mv_machine.specs.declared.reply.Refusal.{Refusal}
-use Rattle.mv_machine.specs.State.{State, is_party, submissions_of, log_of, hub_of, with_hub, site_of, with_site, with_wire}
 use Rattle.mv_machine.specs.Steps.{submit, ask, verify, route, relay, apply, apply_by, repeat, close, lose, verdict, outcome}
 use Rattle.mv_machine.specs.Runs.{Meets, Allows}
-use Rattle.mv_trail.specs.Events.{Event, event_of_step}
 
 -- what an event, where there is one, tells
 abbrev pub told : {X : Type 0} → (Event → Option X) → Option Event → List X

@@ -1,25 +1,13 @@
 -- The record, each log and what each party submitted grow by what events tell.
-use Rattle.std.proofs.lemmas.Grind.{common_steps}
-use Rattle.std.proofs.lemmas.Bool.Decides.{nat_tests}
 use Rattle.std.proofs.Common.{◌≡◌, ℕ, ◌+◌, ◌<◌, ◌==◌, false, List, [], ◌∷◌, ◌++◌, map, length, set, get_or, slice_get, Option, Some, None, ap, ◌∙◌, append-nil, arith, option_map, option_to_list, length-append, if◌then◌else◌, get_or-set_same, get_or-set_other, rules}
+use Rattle.mv_trail.proofs.Words.{common_steps, nat_tests, Message, is_query_or_answer, Item, Entry, Joint, answer_after, entry_from, answer_number, slice_get-behind, State, submissions_of, log_of, is_party, Event, last_of, routing, placed, entry_told, applied_told, submission_told, unless_answer}
 use Rattle.std.proofs.lemmas.List.{length-map, map-append, set-get_or}
-use Rattle.mv_message.specs.declared.message.Message.{Message}
-use Rattle.mv_message.specs.Kinds.{is_query_or_answer}
-use Rattle.mv_link.specs.declared.item.Item.{Item}
-use Rattle.mv_hub.specs.declared.entry.Entry.{Entry}
 use Rattle.mv_repository.specs.declared.effect.Effect.{Effect}
 use Rattle.mv_repository.specs.declared.entry.LogEntry.{LogEntry}
-use Rattle.mv_repository.specs.declared.verdict.Joint.{Joint}
-use Rattle.mv_repository.specs.Query.{answer_after}
-use Rattle.mv_party.specs.Site.{entry_from, answer_number}
-use Rattle.mv_machine.proofs.CallerLemmas.{slice_get-behind}
 use Rattle.mv_machine.specs.declared.reply.Reply.TheVariants as replies
 use Rattle.mv_machine.specs.declared.step.Step.TheVariants as steps
-use Rattle.mv_machine.specs.State.{State, submissions_of, log_of, is_party}
 use Rattle.mv_machine.specs.Lawful.{IsWellFormed}
 use Rattle.mv_trail.specs.Events as events
-use Rattle.mv_trail.specs.Events.{Event, last_of, asked_about, routing}
-use Rattle.mv_trail.specs.Laws.{placed, entry_told, applied_told, submission_told, unless_answer}
 use Rattle.mv_trail.proofs.StepLemmas.{told, IsTold, grew}
 
 -- the last of a list that grew by one

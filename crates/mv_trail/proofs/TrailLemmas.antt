@@ -1,26 +1,14 @@
 -- The events of a run tell the record, the logs and the submissions.
-use Rattle.std.proofs.lemmas.Grind.{common_steps}
-use Rattle.std.proofs.lemmas.Bool.Decides.{nat_tests}
 use Rattle.std.proofs.Common.{◌≡◌, ℕ, List, [], ◌∷◌, ◌++◌, map, length, Some, None, refl, sym, ap, ◌∙◌, append-nil, append_assoc, get_or, arith, rules}
+use Rattle.mv_trail.proofs.Words.{common_steps, nat_tests, Step, Reply, State, opening, submissions_of, log_of, IsSound, change-sound, opening-sound, step-changes, Answered, Line, AreReplies, said_texts, Open, IsTaken, Event, event_of, AreTold, events_in, texts_in, placed, entry_told, applied_told, submission_told, unless_answer, EventsAreWritten, RecordIsTold, LogsAreTold, SubmissionsAreTold, IsEvent, event_text}
 use Rattle.std.specs.Prelude.{option_map, option_to_list, Option, replicate, ⊤}
 use Rattle.std.specs.List.{filter_map}
-use Rattle.mv_machine.specs.declared.step.Step.{Step}
-use Rattle.mv_machine.specs.declared.reply.Reply.{Reply}
 use Rattle.mv_machine.specs.Limits.{Bounds}
-use Rattle.mv_machine.specs.State.{State, opening, submissions_of, log_of}
 use Rattle.mv_machine.specs.Runs.{Allows}
-use Rattle.mv_machine.proofs.CallerLemmas.{IsSound, change-sound, opening-sound, step-changes}
-use Rattle.mv_format.specs.declared.answered.Answered.{Answered}
 use Rattle.mv_format.specs.declared.answered.Answered.TheVariants as answers
 use Rattle.mv_format.specs.declared.line_fault.LineFault.{LineFault}
 use Rattle.mv_format.specs.declared.open_fault.OpenFault.{OpenFault}
-use Rattle.mv_engine.specs.Lines.{Line}
-use Rattle.mv_engine.specs.Replies.{AreReplies, said_texts}
-use Rattle.mv_lines.specs.Sessions.{Open, IsTaken}
 use Rattle.mv_trail.specs.Events as events
-use Rattle.mv_trail.specs.Events.{Event, event_of, event_of_step}
-use Rattle.mv_trail.specs.Laws.{AreTold, events_in, texts_in, placed, entry_told, applied_told, submission_told, unless_answer, EventsAreWritten, RecordIsTold, LogsAreTold, SubmissionsAreTold}
-use Rattle.mv_trail.specs.Trail.{IsEvent, event_text}
 use Rattle.mv_trail.proofs.StepLemmas.{told, IsTold, step_grows}
 use Rattle.mv_trail.proofs.ToldLemmas.{record_told, log_told, submissions_told}
 

@@ -1,15 +1,12 @@
 -- The JSON value of each event, with the number of the line that made it: an object, its keys in byte order.
 use Rattle.std.specs.Prelude.{ℕ, List, [], ◌∷◌, codes, Bool, Option, Some, None, option_map}
-use Rattle.serde_json.specs.Data.{Data, boolean, string, array, object, Members, no_members}
+use Rattle.mv_trail.specs.Words.{Data, boolean, string, array, object, Members, no_members, Message, Effect, Verdict}
 use Rattle.mv_json.specs.Messages.{value_of}
 use Rattle.mv_json.specs.Values.{whole}
 use Rattle.mv_link.specs.declared.item.Item.{Item}
 use Rattle.mv_link.specs.declared.item.Item.TheVariants.{Receipt, Carried}
-use Rattle.mv_message.specs.declared.message.Message.{Message}
 use Rattle.mv_repository.specs.Effect.{code_of}
-use Rattle.mv_repository.specs.declared.effect.Effect.{Effect}
 use Rattle.mv_repository.specs.declared.effect.Effect.TheVariants.{Uploaded}
-use Rattle.mv_repository.specs.declared.verdict.Verdict.{Verdict}
 use Rattle.mv_repository.specs.declared.verdict.Verdict.TheVariants.{Authentic, NotAuthentic}
 use Rattle.mv_format.specs.Meanings.{markets_value}
 use Rattle.mv_format.specs.ReplyLines.{wholes}

@@ -1,22 +1,14 @@
 -- What a line did, as an audit trail tells it (Regulation (EU) 2016/161, Article 35(1)).
 use Rattle.std.specs.Prelude.{ℕ, ◌-◌, ◌==◌, List, length, slice_get, if◌then◌else◌, Option, Some, None, option_map}
+use Rattle.mv_trail.specs.Words.{Message, Query, Entry, Effect, LogEntry, Verdict, State, submissions_of, log_of, Open, Answered}
 use Rattle.mv_pack.specs.declared.key.PackKey.{PackKey}
-use Rattle.mv_message.specs.declared.message.Message.{Message}
-use Rattle.mv_message.specs.declared.message.Message.TheVariants.{Query}
-use Rattle.mv_hub.specs.declared.entry.Entry.{Entry}
 use Rattle.mv_hub.specs.declared.entry.Entry.TheVariants as entries
-use Rattle.mv_repository.specs.declared.effect.Effect.{Effect}
-use Rattle.mv_repository.specs.declared.entry.LogEntry.{LogEntry}
 use Rattle.mv_repository.specs.declared.verdict.Joint.TheVariants.{Decided}
-use Rattle.mv_repository.specs.declared.verdict.Verdict.{Verdict}
 use Rattle.mv_machine.specs.declared.step.Step.{Step}
 use Rattle.mv_machine.specs.declared.step.Step.TheVariants as steps
 use Rattle.mv_machine.specs.declared.reply.Reply.{Reply}
 use Rattle.mv_machine.specs.declared.reply.Reply.TheVariants as replies
 use Rattle.mv_machine.specs.Limits.{Bounds}
-use Rattle.mv_machine.specs.State.{State, submissions_of, log_of}
-use Rattle.mv_lines.specs.Sessions.{Open}
-use Rattle.mv_format.specs.declared.answered.Answered.{Answered}
 use Rattle.mv_format.specs.declared.answered.Answered.TheVariants as answers
 
 -- What a line did. Parties are counted from 0, all else from 1; a stamp is the place of an entry in the hub's record.

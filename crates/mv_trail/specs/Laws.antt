@@ -1,17 +1,10 @@
 -- The laws of the trail: what is written are the events of a run, and these are the hub's record, the log of each repository, and what each
 -- party submitted.
 use Rattle.std.specs.Prelude.{◌≡◌, ◌+◌, ◌==◌, ℕ, List, [], ◌∷◌, ◌++◌, map, if◌then◌else◌, option_to_list, Option, Some, None}
+use Rattle.mv_trail.specs.Words.{Message, Query, Answer, Entry, LogEntry, State, submissions_of, log_of, Line, Open, IsTaken, Answered}
 use Rattle.std.specs.List.{filter_map}
-use Rattle.mv_message.specs.declared.message.Message.{Message}
-use Rattle.mv_message.specs.declared.message.Message.TheVariants.{Query, Answer}
-use Rattle.mv_hub.specs.declared.entry.Entry.{Entry}
 use Rattle.mv_hub.specs.declared.entry.Entry.TheVariants as entries
-use Rattle.mv_repository.specs.declared.entry.LogEntry.{LogEntry}
-use Rattle.mv_machine.specs.State.{State, submissions_of, log_of}
-use Rattle.mv_engine.specs.Lines.{Line}
 use Rattle.mv_engine.specs.Replies.{IsReplies, text_lines}
-use Rattle.mv_lines.specs.Sessions.{Open, IsTaken}
-use Rattle.mv_format.specs.declared.answered.Answered.{Answered}
 use Rattle.mv_trail.specs.Events.{Event, submitted, asked, routed, applied, closed, event_of}
 use Rattle.mv_trail.specs.Trail.{IsEvent, event_text}
 

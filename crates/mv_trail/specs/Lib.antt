@@ -1,3 +1,4 @@
+pub mod Words
 pub mod Events
 pub mod EventValues
 pub mod Trail

@@ -1,10 +1,7 @@
 -- What is written to a line: the text of its event, or nothing.
 use Rattle.std.specs.Prelude.{◌≡◌, ℕ, List, [], ◌++◌, Bool, true, is_some, Option, Some, None, option_map, Result, MatchResult}
-use Rattle.serde_json.specs.Data.{Data}
+use Rattle.mv_trail.specs.Words.{Data, Line, Open, IsTaken, Answered}
 use Rattle.serde_json.specs.Written.{compact_text}
-use Rattle.mv_engine.specs.Lines.{Line}
-use Rattle.mv_lines.specs.Sessions.{Open, IsTaken}
-use Rattle.mv_format.specs.declared.answered.Answered.{Answered}
 use Rattle.mv_trail.specs.Events.{Event, event_of}
 use Rattle.mv_trail.specs.EventValues.{event_value}
 

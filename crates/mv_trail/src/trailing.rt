@@ -1,6 +1,6 @@
 //! Writes the event of each line of a run.
 
-ghost use Rattle.std.specs.Prelude.{◌≡◌, ℕ, List, None, OnOk, IfErr, IfSome};
+ghost use Rattle.std.specs.Prelude.{ℕ, List, None, OnOk, IfErr, IfSome};
 ghost use Rattle.std.specs.Io.KnownBytes.{Consumes};
 ghost use Rattle.mv_engine.specs.Served.{Served, Ended};
 ghost use Rattle.mv_lines.specs.Sessions.{Open};

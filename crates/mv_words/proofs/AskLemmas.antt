@@ -1,17 +1,14 @@
 -- Words that the command line takes, and what they ask for.
-use Rattle.std.proofs.Common.{◌≡◌, ◌<◌, ℕ, List, [], ◌∷◌, true, false, None, Some, refl, ap, ◌==◌, inl, inr, length, arith, rules}
-use Rattle.std.specs.Prelude.{slice_get, nat_lt}
-use Rattle.std.specs.Char.{digit_value}
-use Rattle.std.specs.Str.{bytes_eq, chars}
+use Rattle.std.proofs.Common.{◌≡◌, ◌<◌, ℕ, List, [], ◌∷◌, true, false, None, Some, refl, ap, inl, inr, arith}
+use Rattle.std.specs.Str.{bytes_eq}
 use Rattle.std.specs.Str.Parse.{IsNumeral, digits_value, without_leading_plus}
-use Rattle.std.proofs.lemmas.Bool.{lt-ltb, ne_eqb}
-use Rattle.std.proofs.lemmas.Str.Parse.{digit_from_value}
+use Rattle.std.proofs.lemmas.Bool.{ne_eqb}
 use Rattle.clap.specs.Lexer.{strip_byte}
 use Rattle.clap.specs.ValueTests.{accepts}
 use Rattle.clap.specs.declared.builder.value_parser.ValueParser.TheVariants.{Unsigned}
 use Rattle.clap.proofs.ValueTestLemmas.{Accepts-accepts}
 use Rattle.clap.proofs.OnLiterals.{clap_on_literals}
-use Rattle.mv_words.specs.Words.{HasNoMinus, MinusIsMistaken, OptionAsks, WritesTurns}
+use Rattle.mv_words.specs.Words.{HasNoMinus, OptionAsks, WritesTurns}
 
 -- the option takes a number of turns
 turns_pass : (turns : ℕ) (text : List ℕ) → WritesTurns turns text → accepts false (Unsigned 0 4294967295) text ≡ true
@@ -36,24 +33,3 @@ option_asks program text option turns writes (inl two) =
     let plain = no_option text (number_plain text writes.0) in
     rw two (rw (plain.0, plain.1, plain.1, turns_pass turns text writes) refl, _, _, refl, (refl, text, rw (plain.0, plain.1, plain.1) refl, writes))
 option_asks program text option turns writes (inr one) = rw one (rw (turns_pass turns text writes) refl, _, _, refl, (refl, text, refl, writes))
-
--- a digit begins no option and is no minus, and is the first character of its text
-digit_is_plain : (d : ℕ) (ds : List ℕ) → digit_value d < 10
-    → ((d == 45) ≡ false) × (((104 == d) ≡ false) × (slice_get (chars (d ∷ ds)) 0 ≡ Some d))
-unfolding chars
-digit_is_plain d ds digit =
-    let range = digit_from_value d digit in
-    let low : nat_lt d 128 ≡ true = lt-ltb d 128 (omega (arith, range)) in
-    (ne_eqb d 45 (λ is. absurd (omega (arith, range, is))), (ne_eqb 104 d (λ is. absurd (omega (arith, range, is))), first ds low))
-  where
-    first : (ds : List ℕ) → nat_lt d 128 ≡ true → slice_get (chars (d ∷ ds)) 0 ≡ Some d
-    first [] low = rw low refl
-    first (e ∷ es) low = rw low refl
-
--- a number of turns with a minus before it does not pass, and is no option
-pub minus_mistaken : MinusIsMistaken
-unfolding clap_on_literals
-minus_mistaken program [] option numeral gives = absurd (omega (arith, numeral.0))
-minus_mistaken program (d ∷ ds) option numeral (inl two) =
-    let plain = digit_is_plain d ds numeral.1.0 in rw two (rw (plain.0, plain.0, plain.1.1, plain.1.0) (search rules))
-minus_mistaken program digits option numeral (inr one) = rw one (rw (lt-ltb 0 (length (45 ∷ digits)) (omega arith)) (search rules))

@@ -1,9 +1,7 @@
 -- The words of `explain`.
-use Rattle.std.proofs.Common.{◌≡◌, ◌<◌, ◌==◌, ◌++◌, ◌∷◌, ◌^◌, ℕ, List, [], codes, false, None, Some, refl, ap, sym, append-nil, append_assoc, length, arith}
-use Rattle.std.specs.Prelude.{fold}
+use Rattle.std.proofs.Common.{◌≡◌, ◌<◌, ◌++◌, ◌∷◌, ◌^◌, ℕ, List, [], codes, false, None, Some, refl, ap, sym, append-nil, append_assoc, length, arith, fold}
 use Rattle.std.specs.List.{AllByRecursion}
 use Rattle.clap.specs.Lexer.{usize_max}
-use Rattle.std.proofs.lemmas.Bool.{le-ltb, ne_eqb}
 use Rattle.clap.specs.Walk.{Names, Text, Walk, nothing_held, positional, walk, walk_from, walked}
 use Rattle.clap.specs.Faults.{turn_fault, walk_fault}
 use Rattle.clap.specs.Kinds.{range_kinds, values_kinds}
@@ -59,9 +57,7 @@ other_words : (before words : List Text) → AllByRecursion HasNoMinus words
     × (walk_fault explain_shape [] (over_words before) words ≡ [])
 unfolding walk_fault
 other_words before [] all = (ap over_words (sym (append-nil before)), refl)
-other_words before (word ∷ words) (first, rest) =
-    let next = next_word before word first in
-    rw (next.0, next.1) (rw append_assoc at (other_words (before ++ word ∷ []) words rest))
+other_words before (word ∷ words) (first, rest) = grind (arith, other_words (before ++ word ∷ []) words rest, next_word, append_assoc)
 
 -- each word is a value
 values_pass : (words : List Text) → values_kinds false String words ≡ []
@@ -77,9 +73,7 @@ all_words word words (first, rest) = let one = first_word word first in rw (one.
 
 -- so many words may be given
 range_passes : (count : ℕ) → 0 < count → count < 2 ^ 64 → range_kinds 1 usize_max count ≡ []
-range_passes count some few =
-    let given : (count == 0) ≡ false = ne_eqb count 0 (λ none. absurd (omega (arith, none))) in
-    rw (given, le-ltb count 1 (omega arith), le-ltb usize_max count (omega (arith, few))) refl
+range_passes count some few = grind arith
 
 -- so these words ask for `explain`
 pub explain_asks : ExplainAsks

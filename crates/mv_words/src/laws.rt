@@ -1,4 +1,5 @@
 //! Laws over the definitions alone, of the words of the command line.
+#![tactic(auto, using(std::proofs::lemmas::Bool::Decides::nat_tests), unfolding(clap::proofs::OnLiterals::clap_on_literals))]
 
 ghost use Rattle.std.specs.Prelude.{[], ◌∷◌, codes};
 ghost use Rattle.mv_words.specs.Words.{Canon, Check, ExplainAsks, MinusIsMistaken, OptionAsks, Show, Steps, Strict, Trail, WordsAsk};

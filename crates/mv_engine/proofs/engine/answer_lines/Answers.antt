@@ -1,6 +1,5 @@
 use Rattle.std.proofs.Common.{rules}
-use Rattle.std.proofs.KnownBytes.{Consumes-kept, Consumes-whole, Consumes-trans, Appends-trans}
-use Rattle.std.proofs.lemmas.Result.{err_from_is_err_and, IfErr-weaker, MatchResult-weaker}
+use Rattle.mv_engine.proofs.Words.{Consumes-kept, Consumes-whole, Consumes-trans, Appends-trans, err_from_is_err_and, IfErr-weaker, MatchResult-weaker}
 use Rattle.mv_engine.proofs.InputLemmas.{taken_more}
 use Rattle.mv_engine.proofs.ServedLemmas.{unread_at, halted_block, halted_last, served_whole, read_none}
 use Rattle.mv_engine.proofs.engine.answer_lines.Goals as goal

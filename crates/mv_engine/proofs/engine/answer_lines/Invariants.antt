@@ -1,6 +1,5 @@
 use Rattle.std.proofs.Common.{ℕ, List, []}
-use Rattle.std.specs.Io.KnownBytes.{Appends, Consumes}
-use Rattle.mv_engine.specs.Taking.{Taken}
+use Rattle.mv_engine.proofs.Words.{Appends, Consumes, Taken}
 use Rattle.mv_engine.proofs.engine.answer_lines.Given as goal
 
 -- some bytes were read and taken, and the replies to the lines that end in them went out

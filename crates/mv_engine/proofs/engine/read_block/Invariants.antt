@@ -1,5 +1,5 @@
 use Rattle.std.proofs.Common.{◌-◌}
-use Rattle.std.specs.Io.KnownBytes.{Keeps}
+use Rattle.mv_engine.proofs.Words.{Keeps}
 use Rattle.mv_engine.proofs.engine.read_block.Given as goal
 
 -- no byte has come

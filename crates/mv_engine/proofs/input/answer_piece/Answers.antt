@@ -1,6 +1,5 @@
 use Rattle.std.proofs.Common.{rules, arith, ◌≡◌, ◌≢◌, length, ap}
-use Rattle.std.proofs.lemmas.List.{nil_from_length}
-use Rattle.std.specs.Io.BufRead.{strip_last}
+use Rattle.mv_engine.proofs.Words.{nil_from_length, strip_last}
 use Rattle.mv_engine.proofs.InputLemmas.{one_kept, reply_dropped}
 use Rattle.mv_engine.proofs.RepliesLemmas.{nothing_added, reply_added, none_said}
 use Rattle.mv_engine.proofs.input.answer_piece.Goals as goal
@@ -30,5 +29,4 @@ returns-clause-ok g c =
 
 -- there is a reply, and no memory for its line feed
 pub returns-then-is_err-clause-left : goal.returns-then-is_err-clause-left
-returns-then-is_err-clause-left g c =
-    search (rules, reply_dropped g.S.Answering.replies _ c.args.piece.now _ _ _ _ (search rules) c.in_ok-answer.ensures.ok.2)
+returns-then-is_err-clause-left g c = grind (arith, reply_dropped g.S.Answering.replies _ c.args.piece.now _ _ _ _ (search rules) c.in_ok-answer.ensures.ok.2)

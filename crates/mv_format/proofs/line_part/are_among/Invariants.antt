@@ -1,5 +1,4 @@
-use Rattle.std.proofs.Common.{take}
-use Rattle.std.specs.Prelude.{All, Contains}
+use Rattle.std.proofs.Common.{take, All, Contains}
 use Rattle.mv_format.proofs.line_part.are_among.Given as goal
 
 -- those that were passed are each one of the fields

@@ -1,5 +1,4 @@
-use Rattle.std.proofs.Common.{subst}
-use Rattle.std.specs.Prelude.{All, Contains}
+use Rattle.std.proofs.Common.{subst, All, Contains}
 use Rattle.mv_format.proofs.LinePartLemmas.{request_told}
 use Rattle.mv_format.proofs.line_telling.step_told.Goals as goal
 

@@ -1,5 +1,3 @@
-use Rattle.std.proofs.lemmas.Grind.{common_steps}
-use Rattle.std.proofs.Common.{arith}
 use Rattle.mv_json.specs.Messages.{value_of}
 use Rattle.mv_format.proofs.WritingLemmas.{member_added}
 use Rattle.mv_format.proofs.members.write_member.Goals as goal
@@ -8,11 +6,3 @@ use Rattle.mv_format.proofs.members.write_member.Goals as goal
 pub returns-in_ok-key-in-Message-clause-added : goal.returns-in_ok-key-in-Message-clause-added
 returns-in_ok-key-in-Message-clause-added c =
     rw c.in-Message.is (member_added c.write_message.result c.in-Message.key.now (value_of c.in-Message.message.now) _ _ _ c.in_ok-key-in-Message.ensures.ok c.write_message.ensures.added)
-
--- a national number is written behind its key
-pub returns-in_ok-key-in-National-clause-added : goal.returns-in_ok-key-in-National-clause-added
-returns-in_ok-key-in-National-clause-added c = grind (arith, common_steps)
-
--- what changed a pack is written behind its key
-pub returns-in_ok-key-in-Change-clause-added : goal.returns-in_ok-key-in-Change-clause-added
-returns-in_ok-key-in-Change-clause-added c = grind (arith, common_steps)

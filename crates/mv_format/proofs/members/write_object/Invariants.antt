@@ -1,6 +1,5 @@
 use Rattle.std.proofs.Common.{◌≡◌, ◌++◌, ◌∷◌, flat_map, take}
-use Rattle.json.specs.Token.{begin_object}
-use Rattle.mv_format.specs.Writing.{member_tokens}
+use Rattle.mv_format.proofs.Words.{begin_object, member_tokens}
 use Rattle.mv_format.proofs.members.write_object.Given as goal
 
 -- the first members are written

@@ -1,4 +1,4 @@
-use Rattle.std.proofs.Common.{[], rules}
+use Rattle.std.proofs.Common.{rules}
 use Rattle.mv_format.proofs.LinePartLemmas.{maybe_asks}
 use Rattle.mv_format.proofs.token_line.read_step.Goals as goal
 

@@ -1,6 +1,5 @@
 use Rattle.std.proofs.Common.{take}
-use Rattle.mv_show.specs.Blocks.{Passes}
-use Rattle.mv_show.specs.Shown.{links_values, party_numbers}
+use Rattle.mv_show.proofs.Words.{Passes, links_values, party_numbers}
 use Rattle.mv_show.proofs.BlockLemmas.{texts_of}
 use Rattle.mv_show.proofs.blocks.write_links.Given as goal
 

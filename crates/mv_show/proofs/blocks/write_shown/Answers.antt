@@ -1,6 +1,5 @@
-use Rattle.std.proofs.lemmas.Bool.Decides.{nat_tests}
 use Rattle.std.proofs.Common.{◌∙◌, ◌++◌, None, ap, arith}
-use Rattle.mv_show.specs.Shown.{lines_text, shown_of, shown_values}
+use Rattle.mv_show.proofs.Words.{nat_tests, lines_text, shown_of, shown_values}
 use Rattle.mv_show.proofs.BlockLemmas.{err_always, part_all, part_after, passes_all, passes_nothing}
 use Rattle.mv_show.proofs.blocks.write_shown.Goals as goal
 use Rattle.mv_show.proofs.blocks.write_shown.Goals.{in-Some+in_ok-write_world-in-Some, in-None+in_ok-append_not_open-in-None}

@@ -1,6 +1,5 @@
-use Rattle.std.proofs.Common.{flat_map, rules}
+use Rattle.std.proofs.Common.{rules}
 use Rattle.std.proofs.lemmas.Result.{on_ok_weaker}
-use Rattle.mv_show.specs.Shown.{party_values, links_values, party_numbers}
 use Rattle.mv_show.proofs.BlockLemmas.{err_always, err_weaker, part_of_two, passes_two, part_two}
 use Rattle.mv_show.proofs.blocks.write_world.Goals as goal
 
@@ -9,12 +8,8 @@ returns-in_err-write_parties-clause-err g c = search (rules, err_always, part_of
 
 pub returns-clause-ok : goal.returns-clause-ok
 returns-clause-ok g c =
-    let st = c.args.world.now in
-    on_ok_weaker c.write_links.result (λ went. passes_two _ _ _ c.args.ready.now.items _ _ (flat_map (party_values st) (party_numbers st))
-    (flat_map (links_values st) (party_numbers st)) c.in_ok-write_parties.ensures.ok went) c.write_links.ensures.ok
+    on_ok_weaker c.write_links.result (λ went. passes_two _ _ _ c.args.ready.now.items _ _ _ _ c.in_ok-write_parties.ensures.ok went) c.write_links.ensures.ok
 
 pub returns-clause-err : goal.returns-clause-err
 returns-clause-err g c =
-    let st = c.args.world.now in
-    err_weaker c.write_links.result (λ went. part_two _ _ _ c.args.ready.now.items _ (flat_map (party_values st) (party_numbers st))
-    (flat_map (links_values st) (party_numbers st)) c.in_ok-write_parties.ensures.ok went) c.write_links.ensures.err
+    err_weaker c.write_links.result (λ went. part_two _ _ _ c.args.ready.now.items _ _ _ c.in_ok-write_parties.ensures.ok went) c.write_links.ensures.err

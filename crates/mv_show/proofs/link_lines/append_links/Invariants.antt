@@ -1,5 +1,5 @@
 use Rattle.std.proofs.Common.{◌≡◌, take}
-use Rattle.mv_show.specs.Shown.{link_values, party_numbers}
+use Rattle.mv_show.proofs.Words.{link_values, party_numbers}
 use Rattle.mv_show.proofs.BlockLemmas.{texts_of}
 use Rattle.mv_show.proofs.link_lines.append_links.Given as goal
 

@@ -1,5 +1,5 @@
 use Rattle.std.proofs.Common.{◌≡◌, ◌-◌, length, take}
-use Rattle.mv_machine.specs.State.{wire_of}
+use Rattle.mv_show.proofs.Words.{wire_of}
 use Rattle.mv_show.proofs.link_lines.wire_of.Given as goal
 
 -- the first numbers are listed

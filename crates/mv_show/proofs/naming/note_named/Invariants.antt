@@ -1,6 +1,5 @@
 use Rattle.std.proofs.Common.{◌≡◌, take}
-use Rattle.indexmap.specs.IndexSet.{insert_all}
-use Rattle.mv_show.specs.Subjects.{is_same_subject, named_of}
+use Rattle.mv_show.proofs.Words.{insert_all, is_same_subject, named_of}
 use Rattle.mv_show.proofs.naming.note_named.Given as goal
 
 -- what the first entries name is noted

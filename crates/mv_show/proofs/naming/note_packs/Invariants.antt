@@ -1,8 +1,5 @@
 use Rattle.std.proofs.Common.{◌≡◌, map, take}
-use Rattle.mv_pack.specs.Keys.{pack_key}
-use Rattle.indexmap.specs.IndexSet.{insert_all}
-use Rattle.mv_show.specs.declared.subject.Subject.TheVariants.{Pack}
-use Rattle.mv_show.specs.Subjects.{is_same_subject}
+use Rattle.mv_show.proofs.Words.{pack_key, insert_all, Pack, is_same_subject}
 use Rattle.mv_show.proofs.naming.note_packs.Given as goal
 
 -- the first packs are noted

@@ -1,5 +1,5 @@
 use Rattle.std.proofs.Common.{sym, append-nil}
-use Rattle.std.proofs.lemmas.Result.{err_from_is_err_and, MatchResult-weaker}
+use Rattle.mv_engine.proofs.Words.{err_from_is_err_and, MatchResult-weaker}
 use Rattle.mv_engine.proofs.ServedLemmas.{broken}
 use Rattle.mv_engine.proofs.input.Input.answer_block.Goals as goal
 

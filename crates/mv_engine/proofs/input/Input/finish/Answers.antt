@@ -1,6 +1,5 @@
 use Rattle.std.proofs.Common.{[], append-nil}
-use Rattle.std.proofs.lemmas.Result.{err_from_is_err_and}
-use Rattle.mv_engine.specs.declared.fault.ServeFault.TheVariants.{Memory}
+use Rattle.mv_engine.proofs.Words.{err_from_is_err_and, Memory}
 use Rattle.mv_engine.proofs.InputLemmas.{none_added, part_stopped}
 use Rattle.mv_engine.proofs.PartLemmas.{unended_nil}
 use Rattle.mv_engine.proofs.input.Input.finish.Goals as goal

@@ -1,7 +1,5 @@
-use Rattle.std.proofs.lemmas.Grind.{common_steps}
 use Rattle.std.proofs.Common.{arith, refl, [], ◌∷◌}
-use Rattle.std.proofs.lemmas.Result.{err_from_is_err_and}
-use Rattle.mv_engine.specs.declared.fault.ServeFault.TheVariants.{Memory}
+use Rattle.mv_engine.proofs.Words.{common_steps, err_from_is_err_and, Memory}
 use Rattle.mv_engine.proofs.InputLemmas.{none_added, part_stopped, stopped_in, line_taken}
 use Rattle.mv_engine.proofs.input.Input.take_line.Goals as goal
 

@@ -1,6 +1,5 @@
 use Rattle.mv_link.specs.declared.item.Item.TheVariants.{Receipt, Carried}
-use Rattle.mv_party.specs.Site.{entry_from}
-use Rattle.mv_trail.specs.Events.{applied}
+use Rattle.mv_trail.proofs.Words.{entry_from, applied}
 use Rattle.mv_trail.proofs.EventLemmas.{says_tells}
 use Rattle.mv_trail.proofs.event.Teller.tell_applied.Goals as goal
 

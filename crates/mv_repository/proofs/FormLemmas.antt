@@ -1,6 +1,6 @@
 -- What the tables are after one more entry, by its form.
 use Rattle.std.specs.Prelude.{◌≡◌, ◌+◌}
-use Rattle.mv_repository.proofs.Words.{ℕ, List, length, get_or, take, sym, ◌∙◌, true, Option, None, Some, Result, OnOk, OnErr, [], ap, Item, Message, Master, Upload, Status, Recall, Withdraw, Product, Standing, CivilDate, pack_key, BatchKey, PackKey, LogEntry, uploaded_in, uploaded_packs, is_master, AreMastersOf, ordered, IsShelfOf, ShelfTable, shelf_of, StopTables, first_stops, no_entry, message_in, AreStopsOf, AreTablesOf, life_of, Tables, arith, nat_tests}
+use Rattle.mv_repository.proofs.Words.{ℕ, List, length, get_or, take, sym, ◌∙◌, true, Option, None, Some, Result, OnOk, OnErr, [], ap, Item, Message, Master, Upload, Status, Recall, Withdraw, Product, Standing, CivilDate, pack_key, BatchKey, PackKey, LogEntry, uploaded_in, uploaded_packs, is_master, AreMastersOf, ordered, IsShelfOf, ShelfTable, shelf_of, Stops, first_stops, no_entry, message_in, AreStopsOf, AreTablesOf, life_of, Tables, arith, nat_tests}
 use Rattle.mv_repository.proofs.PacksLemmas.{none-named, shelf-stays}
 use Rattle.mv_repository.proofs.ProductLemmas.{masters-noted}
 use Rattle.mv_repository.proofs.StopLemmas.{NoMaster, NoPack}
@@ -13,9 +13,6 @@ on_map r p f = grind (arith, nat_tests)
 
 pub on_err : {A E : Type 0} → (r : Result A E) (P : Type 0) → P → OnErr r P
 on_err r P p = grind (arith, nat_tests)
-
-pub on_both : {A E P Q R : Type 0} → (r : Result A E) → OnOk r P → OnOk r Q → (P → Q → R) → OnOk r R
-on_both r p q f = grind (arith, nat_tests)
 
 pub master-form : (gtin : List ℕ) (item : Item) → is_master gtin item ≡ true → NoPack item × StopsNone item
 master-form gtin item e = grind (arith, nat_tests)
@@ -44,7 +41,7 @@ module _ (whole : List LogEntry) (place : ℕ) (l : length whole ≡ place + 1) 
   pub masters-at : (masters : List (List ℕ × ℕ)) → NoMaster entry.item → AreMastersOf log masters → AreMastersOf whole masters
   masters-at masters none are = at-newest whole place l (λ w n. AreMastersOf w masters) (masters-noted log masters entry are none)
 
-  pub stops-at : (tables : StopTables) → StopsNone entry.item → AreStopsOf log tables → AreStopsOf whole tables
+  pub stops-at : (tables : Stops) → StopsNone entry.item → AreStopsOf log tables → AreStopsOf whole tables
   stops-at tables none are = at-newest whole place l (λ w n. AreStopsOf w tables) (stops-stay log entry tables none are)
 
   pub same-at : StopsNone entry.item → first_stops (ordered whole) ≡ first_stops (ordered log)

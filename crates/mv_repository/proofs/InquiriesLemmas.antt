@@ -6,10 +6,6 @@ use Rattle.mv_repository.proofs.Words.{arith, nat_tests, ℕ, List, [], ◌∙�
 abbrev is_found_so : (Found → Bool) → Option Found → Bool
 is_found_so test finding = option_map_or test finding false
 
--- an item from a sender, as an entry
-abbrev entry_of : ℕ → Item → LogEntry
-entry_of sender item = record { sender = sender; item = item }
-
 -- a log with one more entry
 abbrev with_entry : List LogEntry → ℕ → Item → List LogEntry
 with_entry log sender item = log ++ record { sender = sender; item = item } ∷ []

@@ -1,6 +1,6 @@
 -- The counts of a log that its tables of keys give.
 use Rattle.std.specs.Prelude.{◌≡◌, ◌∷◌, ◌&&◌, ◌||◌}
-use Rattle.mv_repository.proofs.Words.{bytes_eq, ℕ, List, [], length, sym, ◌∙◌, ap, Bool, cond, Option, None, is_some, filter, length-keys_of, length-from_keys, is_some-lookup, IsEquivalence, nat_list_eq_equiv, list_any, flat_map, IsDistinct, last_or, lookup, keys_of, distinct_count, is_member, Item, is_same_batch, BatchKey, LogEntry, mastered_in, recalled_in, is_master, last_in, AreMastersOf, Placed, ordered, is_recall_of, StopTables, AreStopsOf, place_of, arith, nat_tests}
+use Rattle.mv_repository.proofs.Words.{bytes_eq, ℕ, List, [], length, sym, ◌∙◌, ap, Bool, cond, Option, None, is_some, filter, length-keys_of, length-from_keys, is_some-lookup, IsEquivalence, nat_list_eq_equiv, list_any, flat_map, IsDistinct, last_or, lookup, keys_of, distinct_count, is_member, Item, is_same_batch, BatchKey, LogEntry, mastered_in, recalled_in, is_master, last_in, AreMastersOf, Placed, ordered, is_recall_of, Stops, AreStopsOf, place_of, arith, nat_tests}
 use Rattle.mv_repository.proofs.KeptLemmas.{text-sym, text-self, same_batch}
 use Rattle.mv_repository.proofs.UploadedLemmas.{any-ordered, any-flat, found-any, some-map}
 
@@ -35,8 +35,8 @@ batch-equiv = record {
   congr = λ x y z e. ap (λ (q : BatchKey). is_same_batch q z) (same_batch x y e);
 }
 
-pub count-recalled : (log : List LogEntry) (tables : StopTables) → IsDistinct is_same_batch (keys_of tables.recalls) → AreStopsOf log tables → length tables.recalls ≡ distinct_count is_same_batch (flat_map (λ entry. recalled_in entry.item) log)
+pub count-recalled : (log : List LogEntry) (tables : Stops) → IsDistinct is_same_batch (keys_of tables.recalls.entries) → AreStopsOf log tables → length tables.recalls.entries ≡ distinct_count is_same_batch (flat_map (λ entry. recalled_in entry.item) log)
 count-recalled log tables distinct stops =
-    counted-once batch-equiv tables.recalls (flat_map (λ entry. recalled_in entry.item) log) distinct
+    counted-once batch-equiv tables.recalls.entries (flat_map (λ entry. recalled_in entry.item) log) distinct
     (λ batch. ap is_some (stops.recalls.found batch) ∙ found-any (λ placed. is_recall_of batch placed.entry.item) (ordered log) ∙ any-ordered (is_recall_of batch) log
     ∙ sym (any-flat (is_same_batch batch) recalled_in (is_recall_of batch) (recalled-is batch) log))

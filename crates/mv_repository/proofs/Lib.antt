@@ -27,3 +27,4 @@ pub mod AboutLemmas
 pub mod LentLemmas
 pub mod StampsLemmas
 pub mod SameAboutLemmas
+pub mod Lemmas

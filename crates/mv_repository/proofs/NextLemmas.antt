@@ -3,11 +3,6 @@ use Rattle.std.specs.Prelude.{◌≡◌, ◌∷◌}
 use Rattle.mv_repository.proofs.Words.{ℕ, List, [], refl, Bool, true, false, cond, Option, Some, None, fold, AllByRecursion, option_map, PackKey, BatchKey, Standing, Status, Item, Carried, LogEntry, PartySet, batch_key, may_have, IsCovered, BatchStanding, Placed, KnownPack, is_active, is_done, change_effect, pack_made_by, standing_in, change_in, known_at, effect_by, next_by, next_place, FirstStops, standing_at, entry_at, pack_changed, pack_step, pack_grown, arith, nat_tests}
 use Rattle.mv_repository.specs.declared.effect.Effect.TheVariants as effects
 
--- a pack of an upload, as it stands by the item of a sender at a place
-abbrev stood : Option KnownPack → ℕ → ℕ → Item → Option KnownPack
-stood made place sender item =
-    option_map (λ (made : KnownPack). record made { standing = standing_in item; change = change_in place sender item }) made
-
 pub born : (birth : Placed) → known_at birth birth ≡ pack_made_by birth.entry.item
 born birth = grind (arith, nat_tests)
 

@@ -17,9 +17,6 @@ HasNoStampTwice log = (first second stamp : ℕ) → stamp_at log first ≡ Some
 abbrev stamps_of : List LogEntry → List ℕ
 stamps_of log = filter_map (λ entry. option_map (λ (sent : Sent). sent.stamp) (sent_in entry.sender entry.item)) log
 
-same : (a b : ℕ) → nat_eq a b ≡ true → a ≡ b
-same a b e = grind (arith, nat_tests)
-
 apart : (a b : ℕ) → (b ≡ a → ⊥) → nat_eq a b ≡ false
 apart a b other = grind (arith, nat_tests)
 

@@ -1,6 +1,6 @@
 -- What a recall and a withdrawal do: their effects, the tables that find the first, and the packs on which they bear.
 use Rattle.std.specs.Prelude.{◌&&◌, ◌+◌, ◌∷◌, ◌≡◌}
-use Rattle.mv_repository.proofs.Words.{arith, nat_tests, bytes_eq, Bool, IfSome, Option, None, Some, [], ap, cond, false, find, get_or, length, not, refl, sym, take, true, true≢false, ℕ, ◌∙◌, List, same_text, list_any, keys_of, lookup, option_map, insert_key, Item, Carried, Recall, Withdraw, batch_key, is_same_batch, pack_key, BatchKey, PackKey, LogEntry, Own, recalled_in, uploaded_in, effect_after, effect_of, entries_before, lasting_effect, IsShelfOf, ShelfTable, is_listed, lists, made_batch, may_stop, life_batch, option_and_then, is_master, Placed, ordered, KnownPack, is_recall_of, is_recalled_by, is_withdrawal_of, is_withdrawn_by, NamesNone, next_by, pack_made_by, withdrawn_in, AreFirstsOf, AreStopsOf, FirstStops, StopTables, comes_first, earlier_place, first_place, first_stops, is_stop, no_entry, place_of, standing_at, stopped_product, first_upload, is_status_of, is_upload_of, life_of, statuses_of, Stop, common_steps}
+use Rattle.mv_repository.proofs.Words.{arith, nat_tests, bytes_eq, Bool, IfSome, Option, None, Some, [], ap, cond, false, find, get_or, length, not, refl, sym, take, true, true≢false, ℕ, ◌∙◌, List, same_text, list_any, lookup, option_map, Item, Carried, Recall, Withdraw, batch_key, is_same_batch, pack_key, BatchKey, PackKey, LogEntry, Own, recalled_in, uploaded_in, effect_after, effect_of, entries_before, lasting_effect, IsShelfOf, ShelfTable, is_listed, lists, made_batch, may_stop, life_batch, option_and_then, is_master, Placed, ordered, KnownPack, is_recall_of, is_recalled_by, is_withdrawal_of, is_withdrawn_by, NamesNone, next_by, pack_made_by, withdrawn_in, AreFirstsOf, AreStopsOf, FirstStops, HasFirst, Stops, comes_first, first_place, first_stops, is_stop, no_entry, place_of, standing_at, stopped_product, first_upload, is_status_of, is_upload_of, life_of, statuses_of, Stop, common_steps}
 use Rattle.mv_repository.proofs.BeforeLemmas.{any-before}
 use Rattle.mv_repository.proofs.KeptLemmas.{same_batch, batch-self, text-self}
 use Rattle.mv_repository.proofs.OrderLemmas.{ordered-ascends, ordered-below, still-stand}
@@ -35,16 +35,16 @@ lasting : (f : Placed → Bool) (log : List LogEntry) (entry : LogEntry) (place 
     → first ≡ comes_first (longer log entry) (length log) place → lasting_effect (not first) ≡ lasting_effect (list_any f (entries_before log entry))
 lasting f log entry place first e h = grind (arith, nat_tests, any-before f (newest log entry) (ordered log) (ordered-ascends log) (ordered-below log), first-effect)
 
-stop-effect : (log : List LogEntry) (entry : LogEntry) (tables : StopTables) (stop : Stop) (first : Bool) → AreStopsOf log tables → is_stop stop entry.item ≡ true
+stop-effect : (log : List LogEntry) (entry : LogEntry) (tables : Stops) (stop : Stop) (first : Bool) → AreStopsOf log tables → is_stop stop entry.item ≡ true
     → first ≡ comes_first (longer log entry) (length log) (first_place stop tables) → lasting_effect (not first) ≡ effect_of log entry
 stop-effect log entry tables (stops.Recall batch) first are e h =
-    lasting (λ placed. is_recall_of batch.now placed.entry.item) log entry (lookup (is_same_batch batch.now) tables.recalls) first (are.recalls.found batch.now) h ∙ by entry.item e
+    lasting (λ placed. is_recall_of batch.now placed.entry.item) log entry (lookup (is_same_batch batch.now) tables.recalls.entries) first (are.recalls.found batch.now) h ∙ by entry.item e
   where
     by : (item : Item) → is_recall_of batch.now item ≡ true → lasting_effect (is_recalled_by batch.now (entries_before log entry)) ≡ effect_after (entries_before log entry) entry.sender item
     by (Carried k stamp (Recall named at)) e = ap (λ (q : BatchKey). lasting_effect (is_recalled_by q (entries_before log entry))) (sym (same_batch named batch.now e))
     by _ e = absurd (true≢false (sym e))
 stop-effect log entry tables (stops.Withdrawal gtin) first are e h =
-    lasting (λ placed. is_withdrawal_of gtin.now placed.entry.item) log entry (lookup (bytes_eq gtin.now) tables.withdrawals) first (are.withdrawals.found gtin.now) h ∙ by entry.item e
+    lasting (λ placed. is_withdrawal_of gtin.now placed.entry.item) log entry (lookup (bytes_eq gtin.now) tables.withdrawals.entries) first (are.withdrawals.found gtin.now) h ∙ by entry.item e
   where
     by : (item : Item) → is_withdrawal_of gtin.now item ≡ true → lasting_effect (is_withdrawn_by gtin.now (entries_before log entry)) ≡ effect_after (entries_before log entry) entry.sender item
     by (Carried k stamp (Withdraw named at)) e = ap (λ (q : List ℕ). lasting_effect (is_withdrawn_by q (entries_before log entry))) (sym (same_text named gtin.now (sym e)))
@@ -68,24 +68,23 @@ module _ {K : Type 0} (same : K → K → Bool) (is_of : K → Item → Bool) (k
   first-later e k = grind (arith, nat_tests, find-later, find-none, same)
 
   -- the table has the earlier of it and the first so far
-  firsts-more : (places' : List (K × ℕ)) → keys_in entry.item ≡ key ∷ []
-      → ((k : K) → lookup (same k) places' ≡ cond (same key k) (earlier_place (longer log entry) (length log) (lookup (same key) places)) (lookup (same k) places))
-      → keys_of places' ≡ insert_key same (keys_of places) key → AreFirstsOf same is_of keys_in (longer log entry) places'
-  firsts-more places' own looks keys = grind (arith, nat_tests, find-none, find-some, longer, once-one, same)
+  firsts-more : (places' : List (K × ℕ)) → keys_in entry.item ≡ key ∷ [] → HasFirst same (longer log entry) (length log) key places places'
+      → AreFirstsOf same is_of keys_in (longer log entry) places'
+  firsts-more places' own has = grind (arith, nat_tests, has.places, has.keys, find-none, find-some, longer, once-one, same)
 
-stop-later : (log : List LogEntry) (entry : LogEntry) (tables : StopTables) (stop : Stop) → AreStopsOf log tables → is_stop stop entry.item ≡ true
+stop-later : (log : List LogEntry) (entry : LogEntry) (tables : Stops) (stop : Stop) → AreStopsOf log tables → is_stop stop entry.item ≡ true
     → comes_first (longer log entry) (length log) (first_place stop tables) ≡ false → first_stops (ordered (longer log entry)) ≡ first_stops (ordered log)
 stop-later log entry tables (stops.Recall batch) are own e =
     let form = recall-form batch.now entry.item own in
     λ i. record {
-      recall = λ b. first-later is_same_batch is_recall_of recalled_in log entry tables.recalls batch.now (same_batch batch.now) (batch-self batch.now) are.recalls form.0 e b i;
+      recall = λ b. first-later is_same_batch is_recall_of recalled_in log entry tables.recalls.entries batch.now (same_batch batch.now) (batch-self batch.now) are.recalls form.0 e b i;
       withdrawal = λ gtin. find-none (λ placed. is_withdrawal_of gtin placed.entry.item) log entry (form.1 gtin) i;
     }
 stop-later log entry tables (stops.Withdrawal gtin) are own e =
     let form = withdrawal-form gtin.now entry.item own in
     λ i. record {
       recall = λ batch. find-none (λ placed. is_recall_of batch placed.entry.item) log entry (form.1 batch) i;
-      withdrawal = λ g. first-later bytes_eq is_withdrawal_of withdrawn_in log entry tables.withdrawals gtin.now (λ other h. same_text gtin.now other (sym h)) (text-self gtin.now) are.withdrawals form.0 e g i;
+      withdrawal = λ g. first-later bytes_eq is_withdrawal_of withdrawn_in log entry tables.withdrawals.entries gtin.now (λ other h. same_text gtin.now other (sym h)) (text-self gtin.now) are.withdrawals form.0 e g i;
     }
 
 -- first stops that stand the same for the batch of a pack
@@ -139,38 +138,37 @@ module _ (whole : List LogEntry) (place : ℕ) (l : length whole ≡ place + 1) 
   abbrev entry : LogEntry
   entry = get_or whole place no_entry
 
-  pub stop-does : (tables : StopTables) (stop : Stop) (first : Bool) → AreStopsOf log tables → is_stop stop entry.item ≡ true
+  pub stop-does : (tables : Stops) (stop : Stop) (first : Bool) → AreStopsOf log tables → is_stop stop entry.item ≡ true
       → first ≡ comes_first whole place (first_place stop tables) → lasting_effect (not first) ≡ effect_of log entry
   stop-does tables stop first are own = grind (arith, nat_tests, common_steps, stop-effect)
 
-  pub stop-leaves : (tables : StopTables) (stop : Stop) → AreStopsOf log tables → is_stop stop entry.item ≡ true
+  pub stop-leaves : (tables : Stops) (stop : Stop) → AreStopsOf log tables → is_stop stop entry.item ≡ true
       → comes_first whole place (first_place stop tables) ≡ false → first_stops (ordered whole) ≡ first_stops (ordered log)
   stop-leaves tables stop are own = grind (arith, nat_tests, common_steps, stop-later)
 
   -- the tables once it is added
-  pub recall-added : (tables : StopTables) (key : BatchKey) (recalls : List (BatchKey × ℕ)) → AreStopsOf log tables → is_recall_of key entry.item ≡ true
-      → ((batch : BatchKey) → lookup (is_same_batch batch) recalls ≡ cond (is_same_batch key batch) (earlier_place whole place (lookup (is_same_batch key) tables.recalls)) (lookup (is_same_batch batch) tables.recalls))
-      → keys_of recalls ≡ insert_key is_same_batch (keys_of tables.recalls) key → AreStopsOf whole (record tables { recalls = recalls })
+  abbrev pub AreFirsts : List LogEntry → List (BatchKey × ℕ) → List (List ℕ × ℕ) → Type 0
+  AreFirsts w recalls withdrawals = AreFirstsOf is_same_batch is_recall_of recalled_in w recalls × AreFirstsOf bytes_eq is_withdrawal_of withdrawn_in w withdrawals
+
+  pub recall-added : (tables : Stops) (key : BatchKey) (recalls : List (BatchKey × ℕ)) → AreStopsOf log tables → is_recall_of key entry.item ≡ true
+      → HasFirst is_same_batch whole place key tables.recalls.entries recalls → AreFirsts whole recalls tables.withdrawals.entries
   recall-added tables key recalls are own =
       let form = recall-form key entry.item own in
-      at-newest whole place l (λ w n. ((batch : BatchKey) → lookup (is_same_batch batch) recalls ≡ cond (is_same_batch key batch) (earlier_place w n (lookup (is_same_batch key) tables.recalls)) (lookup (is_same_batch batch) tables.recalls))
-      → keys_of recalls ≡ insert_key is_same_batch (keys_of tables.recalls) key → AreStopsOf w (record tables { recalls = recalls }))
-      (λ looks keys. record {
-        recalls = firsts-more is_same_batch is_recall_of recalled_in log entry tables.recalls key (same_batch key) (batch-self key) are.recalls form.0 recalls (one-recall key entry.item own) looks keys;
-        withdrawals = withdrawals-stay log entry tables.withdrawals form.1 are.withdrawals;
-      })
+      at-newest whole place l (λ w n. HasFirst is_same_batch w n key tables.recalls.entries recalls → AreFirsts w recalls tables.withdrawals.entries)
+      (λ has. (
+        firsts-more is_same_batch is_recall_of recalled_in log entry tables.recalls.entries key (same_batch key) (batch-self key) are.recalls form.0 recalls (one-recall key entry.item own) has,
+        withdrawals-stay log entry tables.withdrawals.entries form.1 are.withdrawals,
+      ))
 
-  pub withdrawal-added : (tables : StopTables) (key : List ℕ) (withdrawals : List (List ℕ × ℕ)) → AreStopsOf log tables → is_withdrawal_of key entry.item ≡ true
-      → ((gtin : List ℕ) → lookup (bytes_eq gtin) withdrawals ≡ cond (bytes_eq key gtin) (earlier_place whole place (lookup (bytes_eq key) tables.withdrawals)) (lookup (bytes_eq gtin) tables.withdrawals))
-      → keys_of withdrawals ≡ insert_key bytes_eq (keys_of tables.withdrawals) key → AreStopsOf whole (record tables { withdrawals = withdrawals })
+  pub withdrawal-added : (tables : Stops) (key : List ℕ) (withdrawals : List (List ℕ × ℕ)) → AreStopsOf log tables → is_withdrawal_of key entry.item ≡ true
+      → HasFirst bytes_eq whole place key tables.withdrawals.entries withdrawals → AreFirsts whole tables.recalls.entries withdrawals
   withdrawal-added tables key withdrawals are own =
       let form = withdrawal-form key entry.item own in
-      at-newest whole place l (λ w n. ((gtin : List ℕ) → lookup (bytes_eq gtin) withdrawals ≡ cond (bytes_eq key gtin) (earlier_place w n (lookup (bytes_eq key) tables.withdrawals)) (lookup (bytes_eq gtin) tables.withdrawals))
-      → keys_of withdrawals ≡ insert_key bytes_eq (keys_of tables.withdrawals) key → AreStopsOf w (record tables { withdrawals = withdrawals }))
-      (λ looks keys. record {
-        withdrawals = firsts-more bytes_eq is_withdrawal_of withdrawn_in log entry tables.withdrawals key (λ other h. same_text key other (sym h)) (text-self key) are.withdrawals form.0 withdrawals (one-withdrawal key entry.item own) looks keys;
-        recalls = recalls-stay log entry tables.recalls form.1 are.recalls;
-      })
+      at-newest whole place l (λ w n. HasFirst bytes_eq w n key tables.withdrawals.entries withdrawals → AreFirsts w tables.recalls.entries withdrawals)
+      (λ has. (
+        recalls-stay log entry tables.recalls.entries form.1 are.recalls,
+        firsts-more bytes_eq is_withdrawal_of withdrawn_in log entry tables.withdrawals.entries key (λ other h. same_text key other (sym h)) (text-self key) are.withdrawals form.0 withdrawals (one-withdrawal key entry.item own) has,
+      ))
 
   -- it bears on no pack of another product
   pub stop-away : (stop : Stop) → is_stop stop entry.item ≡ true → (pack : PackKey) → bytes_eq (stopped_product stop) pack.gtin ≡ false → life_of pack whole ≡ life_of pack log

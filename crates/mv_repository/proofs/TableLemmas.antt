@@ -1,6 +1,6 @@
 -- What the tables are after one more entry of the log.
 use Rattle.std.specs.Prelude.{◌≡◌, ◌+◌, ◌∷◌, ◌++◌}
-use Rattle.mv_repository.proofs.Words.{bytes_eq, ℕ, zero, suc, arith, take, List, [], length, get_or, refl, sym, ◌∙◌, ap, Bool, true, false, cond, Option, Some, None, filter, find, map, get_or_push, length-take-le, lookup, option_map, Item, is_same_batch, BatchKey, LogEntry, recalled_in, Placed, passes, put_in, ordered, Ascends, is_recall_of, is_withdrawal_of, withdrawn_in, StopTables, first_stops, stops_in, place_of, no_entry, AreFirstsOf, AreStopsOf, earlier_place, AreFound, put_place, nat_tests}
+use Rattle.mv_repository.proofs.Words.{bytes_eq, ℕ, zero, suc, arith, take, List, [], length, get_or, refl, sym, ◌∙◌, ap, Bool, true, false, cond, Option, Some, None, filter, find, map, get_or_push, length-take-le, lookup, option_map, Item, is_same_batch, BatchKey, LogEntry, recalled_in, Placed, passes, put_in, ordered, Ascends, is_recall_of, is_withdrawal_of, withdrawn_in, Stops, first_stops, stops_in, place_of, no_entry, AreFirstsOf, AreStopsOf, earlier_place, AreFound, put_place, nat_tests}
 use Rattle.mv_repository.proofs.OrderLemmas.{cond_two, StandsBeforeAll, placed_at, ordered-ascends, ordered-push, Stand, still-stand, filter-all}
 use Rattle.mv_repository.proofs.StateLemmas.{find-stand, find-stands}
 use Rattle.mv_repository.proofs.StoppedLemmas.{once-none, no-recall, no-withdrawal}
@@ -89,7 +89,7 @@ pub filter-some : (f : Placed → Bool) (log : List LogEntry) (entry : LogEntry)
 filter-some f log entry h = grind (arith, nat_tests, filter-more, put_place-map (longer log entry) (newest log entry) (filter f (ordered log)) (newest-stands log entry) (filter-stand f (longer log entry) (ordered log) (still-stand log entry)))
 
 -- what the tables of stops find is the first of each kind, also where the log is longer
-pub stops-found : (whole log : List LogEntry) (tables : StopTables) → Stand whole (ordered log) → AreStopsOf log tables → stops_in whole tables ≡ first_stops (ordered log)
+pub stops-found : (whole log : List LogEntry) (tables : Stops) → Stand whole (ordered log) → AreStopsOf log tables → stops_in whole tables ≡ first_stops (ordered log)
 stops-found whole log tables s stops = grind (arith, nat_tests, find-stands)
 
 -- an entry that stops nothing leaves the first stops, and the tables of them
@@ -119,5 +119,5 @@ pub withdrawals-stay : (log : List LogEntry) (entry : LogEntry) (places : List (
     → AreFirstsOf bytes_eq is_withdrawal_of withdrawn_in log places → AreFirstsOf bytes_eq is_withdrawal_of withdrawn_in (longer log entry) places
 withdrawals-stay log entry places none = firsts-stay bytes_eq is_withdrawal_of withdrawn_in log entry places none (no-withdrawal entry.item none)
 
-pub stops-stay : (log : List LogEntry) (entry : LogEntry) (tables : StopTables) → StopsNone entry.item → AreStopsOf log tables → AreStopsOf (longer log entry) tables
+pub stops-stay : (log : List LogEntry) (entry : LogEntry) (tables : Stops) → StopsNone entry.item → AreStopsOf log tables → AreStopsOf (longer log entry) tables
 stops-stay log entry tables none stops = grind (arith, nat_tests, recalls-stay, withdrawals-stay)

@@ -1,6 +1,6 @@
 -- What is kept of a pack, and worked out by places in a log, is what the log means.
 use Rattle.std.specs.Prelude.{◌≡◌, ◌<◌, ◌≤◌, ◌∷◌}
-use Rattle.mv_repository.proofs.Words.{is_same_pack, is_master, uploaded_in, length-map, take-map, drop-map, AllByRecursion, insert, ℕ, zero, suc, List, [], length, get_or, take, drop, refl, sym, ◌∙◌, ap, subst, true, false, cond, cond_both, Option, Some, None, IfSome, is_some, true≢false, fold, map, filter, option_map, option_map_or, unwrap_or, PackKey, BatchKey, Status, Item, Carried, LogEntry, PartySet, Block, batch_key, Effect, BatchStanding, Placed, passes, stands_before, ordered, Ascends, KnownPack, change_effect, is_active, is_done, batch_standing, known_pack, entries_before, effect_after, effect_of, IsCovered, AreBlocks, standing_in, effect_by, effect_on, next_by, next_place, FirstStops, StopTables, first_stops, stops_in, entry_at, place_of, no_entry, standing_at, AreStopsOf, Kept, is_upload_of, is_status_of, first_upload, statuses_of, pack_grown, life_of, start_of, track_of, IsKept, put_place, places_before, IsTrack, arith, nat_tests}
+use Rattle.mv_repository.proofs.Words.{is_same_pack, is_master, uploaded_in, length-map, take-map, drop-map, AllByRecursion, insert, ℕ, zero, suc, List, [], length, get_or, take, drop, refl, sym, ◌∙◌, ap, subst, true, false, cond, cond_both, Option, Some, None, IfSome, is_some, true≢false, fold, map, filter, option_map, option_map_or, unwrap_or, PackKey, BatchKey, Status, Item, Carried, LogEntry, PartySet, Block, batch_key, Effect, BatchStanding, Placed, passes, stands_before, ordered, Ascends, KnownPack, change_effect, is_active, is_done, batch_standing, known_pack, entries_before, effect_after, effect_of, IsCovered, AreBlocks, standing_in, effect_by, effect_on, next_by, next_place, FirstStops, Stops, first_stops, stops_in, entry_at, place_of, no_entry, standing_at, AreStopsOf, Kept, is_upload_of, is_status_of, first_upload, statuses_of, pack_grown, life_of, start_of, track_of, IsKept, put_place, places_before, IsTrack, arith, nat_tests}
 use Rattle.mv_repository.specs.declared.effect.Effect.TheVariants as effects
 use Rattle.mv_repository.proofs.OrderLemmas.{ordered-ascends, ordered-below, ordered-stand, Stand, still-stand}
 use Rattle.mv_repository.proofs.StateLemmas.{entry-stands, map-stands, find-stand}
@@ -93,7 +93,7 @@ start-place : (birth : Option Placed) → unwrap_or (option_map place_of birth) 
 start-place birth = grind (arith, nat_tests)
 
 -- what is kept of a pack is worked out, also by a log that begins with its own
-module _ (whole log : List LogEntry) (tables : StopTables) (pack : PackKey) (stand : Stand whole (ordered log)) (stops : AreStopsOf log tables) where
+module _ (whole log : List LogEntry) (tables : Stops) (pack : PackKey) (stand : Stand whole (ordered log)) (stops : AreStopsOf log tables) where
   abbrev own : List Placed
   own = statuses_of pack (ordered log)
 
@@ -147,7 +147,7 @@ module _ (whole log : List LogEntry) (tables : StopTables) (pack : PackKey) (sta
       }
 
 -- and what is worked out by its own log is what is to be kept
-pub track-is : (log : List LogEntry) (tables : StopTables) (pack : PackKey) (kept : Kept) → AreStopsOf log tables
+pub track-is : (log : List LogEntry) (tables : Stops) (pack : PackKey) (kept : Kept) → AreStopsOf log tables
     → kept.birth ≡ option_map place_of (first_upload pack (ordered log)) → kept.statuses ≡ map place_of (statuses_of pack (ordered log))
     → IsTrack log (stops_in log tables) pack.gtin kept → IsKept (life_of pack log) kept
 track-is log tables pack kept stops = track-means log log tables pack (ordered-stand log) stops kept
@@ -159,7 +159,7 @@ status-form pack (Carried k stamp (Status key to user at)) e = (λ other. (refl,
 status-form pack _ e = absurd (true≢false (sym e))
 
 -- what is kept of a pack, once a status of it is put in
-pub track-status : (log : List LogEntry) (entry : LogEntry) (tables : StopTables) (pack : PackKey) (kept : Kept) → AreStopsOf log tables → is_status_of pack entry.item ≡ true
+pub track-status : (log : List LogEntry) (entry : LogEntry) (tables : Stops) (pack : PackKey) (kept : Kept) → AreStopsOf log tables → is_status_of pack entry.item ≡ true
     → kept.birth ≡ (track_of pack log).birth → kept.statuses ≡ put_place (longer log entry) (length log) (track_of pack log).statuses
     → IsTrack (longer log entry) (stops_in (longer log entry) tables) pack.gtin kept
     → IsKept (life_of pack (longer log entry)) kept
@@ -202,7 +202,7 @@ module _ (log : List LogEntry) (entry : LogEntry) (pack : PackKey) (xs : List Pl
       ∙ elim (passes x birth) as (λ b. cond (is_some (cond b None (Some birth))) (effect (pack_grown S pack (Some birth) xs)) effects.Unknown ≡ effect (pack_grown S pack (cond b None (Some birth)) xs)) [ true ↦ refl | false ↦ refl ]
 
 -- it is what the status does
-pub status-effect : (log : List LogEntry) (entry : LogEntry) (tables : StopTables) (pack : PackKey) (front : List ℕ) → AreStopsOf log tables → is_status_of pack entry.item ≡ true
+pub status-effect : (log : List LogEntry) (entry : LogEntry) (tables : Stops) (pack : PackKey) (front : List ℕ) → AreStopsOf log tables → is_status_of pack entry.item ≡ true
     → front ≡ places_before (longer log entry) (length log) (track_of pack log).statuses
     → effect_on (stops_in (longer log entry) tables) pack.gtin (option_map (entry_at (longer log entry)) (track_of pack log).birth)
     (entry_at (longer log entry) (fold (next_place (longer log entry) (stops_in (longer log entry) tables) pack.gtin (track_of pack log).birth) (unwrap_or (track_of pack log).birth 0) front)) (entry_at (longer log entry) (length log))
@@ -233,7 +233,7 @@ status-effect log entry tables pack front stops own p =
 
 -- a status that is put in
 
-module _ (log : List LogEntry) (entry : LogEntry) (tables : StopTables) (pack : PackKey) (old : Kept) where
+module _ (log : List LogEntry) (entry : LogEntry) (tables : Stops) (pack : PackKey) (old : Kept) where
   pub put-ascend : (whole : List LogEntry) → whole ≡ longer log entry → IsKept (life_of pack log) old → Ascends (map (entry_at whole) old.statuses)
   put-ascend whole e kept = grind (arith, nat_tests, filter-ascends, filter-stand, map-stands, ordered-ascends, still-stand log entry)
 

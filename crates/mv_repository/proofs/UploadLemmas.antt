@@ -1,6 +1,6 @@
 -- An upload in what is kept of one pack.
 use Rattle.std.specs.Prelude.{◌≡◌, ◌+◌, ◌<◌, ◌∷◌, ◌&&◌, ◌||◌}
-use Rattle.mv_repository.proofs.Words.{is_master, bytes_eq, zero, suc, ℕ, List, [], length, get_or, take, refl, sym, ◌∙◌, ap, subst, arith, Bool, true, false, cond, or-false, map, list_any_more, same_text, Item, pack_key, PackKey, LogEntry, ordered, kept_on, IsUploadOf, has, IsPackOf, IsShelfOf, ShelfTable, is_listed, life_batch, made_batch, batch_at, comes_first, option_and_then, option_map, IfSome, Some, Option, Placed, first_upload, lookup, StopTables, first_stops, stops_in, place_of, no_entry, AreStopsOf, earlier_place, Kept, Life, is_upload_of, is_status_of, statuses_of, life_of, track_of, IsKept, IsTrack, nat_tests, or-true}
+use Rattle.mv_repository.proofs.Words.{is_master, bytes_eq, zero, suc, ℕ, List, [], length, get_or, take, refl, sym, ◌∙◌, ap, subst, arith, Bool, true, false, cond, or-false, map, list_any_more, same_text, Item, pack_key, PackKey, LogEntry, ordered, kept_on, IsUploadOf, has, IsPackOf, IsShelfOf, ShelfTable, is_listed, life_batch, made_batch, batch_at, comes_first, option_and_then, option_map, IfSome, Some, Option, Placed, first_upload, lookup, Stops, first_stops, stops_in, place_of, no_entry, AreStopsOf, earlier_place, Kept, Life, is_upload_of, is_status_of, statuses_of, life_of, track_of, IsKept, IsTrack, nat_tests, or-true}
 use Rattle.mv_repository.proofs.KeptLemmas.{text-self}
 use Rattle.mv_repository.proofs.OrderLemmas.{ordered-stand, still-stand}
 use Rattle.mv_repository.proofs.StateLemmas.{find-stand}
@@ -40,7 +40,7 @@ pub batch-there : (log : List LogEntry) (o : Option Placed) → IfSome o (λ x. 
     → option_and_then (batch_at log) (option_map place_of o) ≡ option_and_then (λ (x : Placed). made_batch x.entry.item) o
 batch-there log o h = grind (arith, nat_tests)
 
-module _ (log : List LogEntry) (entry : LogEntry) (tables : StopTables) (gtin : List ℕ) (serials : List (List ℕ))
+module _ (log : List LogEntry) (entry : LogEntry) (tables : Stops) (gtin : List ℕ) (serials : List (List ℕ))
     (stops : AreStopsOf log tables) (upload : IsUploadOf entry.item gtin serials) where
   still : AreStopsOf (longer log entry) tables
   still = stops-stay log entry tables (upload-form entry.item gtin serials upload).1 stops

@@ -18,7 +18,6 @@ pub use Rattle.mv_pack.specs.declared.key.BatchKey.{BatchKey}
 pub use Rattle.mv_pack.specs.declared.key.PackKey.{PackKey}
 pub use Rattle.mv_repository.specs.Agreement.{AgreeOn, HasDistinctStamps, HaveSameAbout, HaveSameEntries, Sent, about, batch_in, bears_on, is_batch_recalled, sent_by, sent_in, unplaced, unplaced_state}
 pub use Rattle.mv_repository.specs.Blocks.{AreBlocks, IsCovered, IsCut, IsFront, IsSummary, may_have, no_block, without}
-pub use Rattle.mv_repository.specs.Changes.{ChangeNamesStatus, NamesStatus}
 pub use Rattle.mv_repository.specs.Counts.{is_held_active, mastered_in, recalled_in, uploaded_in, uploaded_packs}
 pub use Rattle.mv_repository.specs.Effect.{effect_after, effect_of, entries_before, lasting_effect}
 pub use Rattle.mv_repository.specs.History.{AreAt, HaveSameHistory, PackHistory, SentHistory, SentStatus, as_sent, history_at, history_of, sent_of, sent_status}
@@ -27,29 +26,28 @@ pub use Rattle.mv_repository.specs.Log.{items_from}
 pub use Rattle.mv_repository.specs.Masters.{AreMastersOf, comes_late, entry_of, is_master, last_in, product_at, product_in}
 pub use Rattle.mv_repository.specs.Order.{Ascends, IsOrderOf, Placed, ordered, passes, put_in, stands_before}
 pub use Rattle.mv_repository.specs.Pack.{KnownPack, change_effect, is_active, is_done, new_pack}
-pub use Rattle.mv_repository.specs.PackState.{batch_standing, has_pack, held_of, is_recall_of, is_recalled_by, is_withdrawal_of, is_withdrawn, is_withdrawn_by, known_pack, known_pack_from, pack_after_item, pack_state}
-pub use Rattle.mv_repository.specs.Product.{product_under}
-pub use Rattle.mv_repository.specs.Repository.{product_of}
+pub use Rattle.mv_repository.specs.PackState.{ChangeNamesStatus, NamesStatus, batch_standing, has_pack, held_of, is_recall_of, is_recalled_by, is_withdrawal_of, is_withdrawn, is_withdrawn_by, known_pack, known_pack_from, pack_after_item, pack_state}
+pub use Rattle.mv_repository.specs.Repository.{product_of, product_under}
 pub use Rattle.mv_repository.specs.Shelf.{IsAgain, IsPackOf, IsRefreshed, IsShelf, IsShelfOf, IsUploadOf, NamesNone, ShelfTable, has, has_number, is_counted, is_in, is_listed, kept_by, kept_on, life_batch, lists, may_stop, no_shelf, nothing_kept, numbers_in, packs_counted, shelf_of, slots_counted}
 pub use Rattle.mv_repository.specs.State.{batch_at, change_in, effect_by, effect_on, entry_in, known_at, made_batch, next_by, next_in, next_place, pack_made_by, standing_in, start_in}
-pub use Rattle.mv_repository.specs.Stopped.{each_once, withdrawn_in}
-pub use Rattle.mv_repository.specs.Stops.{AreFirstsOf, AreFound, AreStopsOf, FirstStops, StopTables, comes_first, earlier_place, entry_at, first_place, first_stops, is_before, is_stop, message_in, no_entry, place_of, standing_at, stopped_product, stops_in}
+pub use Rattle.mv_repository.specs.Stops.{AreFirstsOf, AreFound, AreStopsOf, FirstStops, HasFirst, comes_first, each_once, earlier_place, entry_at, first_place, first_stops, is_before, is_stop, message_in, no_entry, place_of, standing_at, stopped_product, stops_in, withdrawn_in}
 pub use Rattle.mv_repository.specs.Tables.{AreTablesOf}
 pub use Rattle.mv_repository.specs.Track.{IsKept, IsTrack, Kept, Life, bare, first_upload, is_active_kept, is_status_of, is_upload_of, kept_of, life_of, pack_changed, pack_grown, pack_step, places_before, put_place, start_of, state_by, state_from, statuses_of, track_of}
 pub use Rattle.mv_repository.specs.Verdict.{asked_parties, finding_in, found_active, found_explained, has_answered, has_finding, joint_verdict, joint_verdict_when, query_reach, verdict_when}
 pub use Rattle.mv_repository.specs.declared.blocks.Block.{Block}
 pub use Rattle.mv_repository.specs.declared.blocks.Cut.{Cut}
 pub use Rattle.mv_repository.specs.declared.blocks.TheConstants.{BLOCK}
-pub use Rattle.mv_repository.specs.declared.counted.Counted.{Counted}
+pub use Rattle.mv_repository.specs.declared.shelf.Counted.{Counted}
 pub use Rattle.mv_repository.specs.declared.effect.Effect.{Effect}
 pub use Rattle.mv_repository.specs.declared.entry.LogEntry.{LogEntry}
 pub use Rattle.mv_repository.specs.declared.history.Places.{Places}
 pub use Rattle.mv_repository.specs.declared.inquiries.Inquiries.{Inquiries}
 pub use Rattle.mv_repository.specs.declared.inquiries.Inquiry.{Inquiry}
-pub use Rattle.mv_repository.specs.declared.slot.Slot.TheVariants.{Made, Own}
-pub use Rattle.mv_repository.specs.declared.slot.Slot.{Slot}
+pub use Rattle.mv_repository.specs.declared.shelf.Slot.TheVariants.{Made, Own}
+pub use Rattle.mv_repository.specs.declared.shelf.Slot.{Slot}
 pub use Rattle.mv_repository.specs.declared.stops.BatchStanding.{BatchStanding}
 pub use Rattle.mv_repository.specs.declared.stops.Stop.{Stop}
+pub use Rattle.mv_repository.specs.declared.stops.Stops.{Stops}
 pub use Rattle.mv_repository.specs.declared.tables.Tables.{Tables}
 pub use Rattle.mv_repository.specs.declared.verdict.Joint.TheVariants.{Decided, NotAsked, Pending}
 pub use Rattle.std.proofs.Common.{Bool, IfSome, List, None, OnErr, OnOk, Option, Result, Some, [], ap, append-nil, append_assoc, arith, cond, drop, false, filter, find, fold, get_or, inl, inr, insert, is_some, length, length-append, map, min, nat_eq, nat_lt, not, refl, rules, set, subst, suc, sym, take, true, true≢false, zero, ℕ, ◌∙◌}

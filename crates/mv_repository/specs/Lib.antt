@@ -1,17 +1,14 @@
 pub mod Words
 pub mod Log
 pub mod Order
-pub mod Product
 pub mod Pack
 pub mod PackState
 pub mod Effect
 pub mod Query
 pub mod Verdict
-pub mod Changes
 pub mod Agreement
 pub mod Counts
 pub mod Repository
-pub mod Stopped
 pub mod Stops
 pub mod Masters
 pub mod State
@@ -21,3 +18,4 @@ pub mod Shelf
 pub mod Inquiries
 pub mod Tables
 pub mod History
+pub mod Clauses

@@ -1,6 +1,6 @@
 -- What a log means for one pack, one batch and one product: its entries are read in the order of stamps.
-use Rattle.std.specs.Prelude.{◌∷◌, ◌++◌, ◌&&◌, if◌then◌else◌}
-use Rattle.mv_repository.specs.Words.{ℕ, List, [], Bool, false, Option, Some, None, bytes_eq, list_any, option_map, option_or, PackKey, BatchKey, Upload, Status, Withdraw, Item, Carried, LogEntry, BatchStanding, Recall, Held, is_same_pack, is_same_batch, batch_key}
+use Rattle.std.specs.Prelude.{◌≡◌, ◌∷◌, ◌++◌, ◌&&◌, if◌then◌else◌}
+use Rattle.mv_repository.specs.Words.{ℕ, List, [], Bool, true, false, Option, Some, None, IfSome, slice_get, bytes_eq, list_any, option_map, option_or, PackKey, BatchKey, Standing, Upload, Status, Withdraw, Item, Carried, LogEntry, BatchStanding, Recall, Held, is_same_pack, is_same_batch, batch_key}
 use Rattle.mv_repository.specs.Order.{Placed, ordered}
 use Rattle.mv_repository.specs.Pack.{KnownPack, KnownChange, new_pack, pack_after_status}
 
@@ -76,3 +76,16 @@ is_recalled batch log = is_recalled_by batch (ordered log)
 -- a withdrawal of a product stands in a log
 abbrev pub is_withdrawn : List ℕ → List LogEntry → Bool
 is_withdrawn gtin log = is_withdrawn_by gtin (ordered log)
+
+-- the log has, at the place that a change names, the status of a pack that made it: from the party of the change, to the
+-- standing, by the user and at the moment of the change
+pub record NamesStatus (log : List LogEntry) (pack : PackKey) (standing : Standing) (change : KnownChange) : Type 0 where
+  pub k : ℕ
+  pub stamp : ℕ
+  pub key : PackKey
+  pub same : is_same_pack key pack ≡ true
+  pub there : slice_get log change.entry ≡ Some (record { sender = change.by; item = Carried k stamp (Status key standing change.user change.at) })
+
+-- where a pack was changed, the change names the status that took the pack to its standing
+abbrev pub ChangeNamesStatus : PackKey → List LogEntry → Type 0
+ChangeNamesStatus pack log = IfSome (known_pack pack (ordered log)) (λ held. IfSome held.change (NamesStatus log pack held.standing))

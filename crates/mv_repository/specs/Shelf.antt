@@ -1,7 +1,7 @@
 -- What is kept of each pack of a product: a pack that has no status has a slot alone, and each other a track.
 use Rattle.std.specs.Prelude.{◌≡◌, ◌<◌, ◌==◌, ◌||◌}
 use Rattle.mv_repository.specs.Words.{ℕ, List, [], length, get_or, Bool, true, false, Option, Some, None, IfSome, bytes_eq, lookup, option_and_then, option_map_or, map, filter, is_some, not, flat_map, keys_of, HashSet, Counted, Active, Slot, Made, Own, list_any, Upload, Item, Carried, PackKey, LogEntry, pack_key, unwrap_or, Stop, Withdrawal}
-use Rattle.mv_repository.specs.declared.counted.Counted.TheVariants.{Held}
+use Rattle.mv_repository.specs.declared.shelf.Counted.TheVariants.{Held}
 use Rattle.mv_repository.specs.declared.stops.Stop.TheVariants.{Recall}
 use Rattle.mv_repository.specs.Order.{Placed}
 use Rattle.mv_repository.specs.State.{made_batch}

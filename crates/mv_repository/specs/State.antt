@@ -1,11 +1,12 @@
 -- By which entry a pack stands: by the upload that made it, or by the status that changed it last. The place of that entry is
 -- the whole state of a pack whose upload is known.
 use Rattle.std.specs.Prelude.{if◌then◌else◌}
-use Rattle.mv_repository.specs.Words.{ℕ, List, [], Option, Some, None, option_and_then, option_map, option_map_or, BatchKey, Standing, Message, Upload, Status, Item, LogEntry, Change, Effect, BatchStanding, unwrap_or, Held, batch_key}
+use Rattle.mv_repository.specs.Words.{ℕ, List, [], take, Option, Some, None, option_and_then, option_map, option_map_or, BatchKey, Standing, Message, Upload, Status, Item, LogEntry, Change, Effect, BatchStanding, unwrap_or, Held, batch_key}
 use Rattle.mv_message.specs.declared.standing.Standing.TheVariants as standings
 use Rattle.mv_repository.specs.declared.effect.Effect.TheVariants as effects
 use Rattle.mv_repository.specs.declared.state.Basis.{Basis}
 use Rattle.mv_repository.specs.Order.{Placed, stands_before}
+use Rattle.mv_repository.specs.Effect.{effect_of}
 use Rattle.mv_repository.specs.Pack.{KnownPack, KnownChange, new_pack, is_active, is_done, change_effect}
 use Rattle.mv_repository.specs.PackState.{held_of}
 use Rattle.mv_repository.specs.Stops.{FirstStops, standing_at, entry_at, message_in, stops_in}
@@ -69,6 +70,10 @@ effect_on stops gtin (Some birth) by placed =
     if stands_before birth placed
     then option_map_or (effect_by (standing_at stops placed) placed.entry.sender placed.entry.item gtin) (known_at birth by) effects.Unknown
     else effects.Unknown
+
+-- what the newest entry of a log does, which stands at a place
+abbrev pub newest_effect : List LogEntry → ℕ → Effect
+newest_effect log place = effect_of (take place log) (entry_at log place).entry
 
 -- By which entry the pack stands then: a change is by the status, and a revert leaves the pack as its upload made it.
 abbrev pub next_by : FirstStops → List ℕ → Option Placed → Placed → Placed → Placed

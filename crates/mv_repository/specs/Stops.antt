@@ -1,11 +1,28 @@
--- What stops a batch for ever: its first recall, and the first withdrawal of its product, by the order of stamps.
-use Rattle.std.specs.Prelude.{◌≡◌, if◌then◌else◌}
-use Rattle.mv_repository.specs.Words.{ℕ, List, [], find, get_or, Bool, true, false, Option, Some, None, bytes_eq, flat_map, lookup, keys_of, option_map, BatchKey, Item, Receipt, Carried, Message, LogEntry, BatchStanding, Stop, Withdrawal, is_same_batch}
+-- What stops a batch for ever: its first recall, and the first withdrawal of its product, by the order of stamps; and which
+-- batches a log recalls, and which products it withdraws.
+use Rattle.std.specs.Prelude.{◌≡◌, ◌∷◌, if◌then◌else◌}
+use Rattle.mv_repository.specs.Words.{ℕ, List, [], find, fold, get_or, Bool, true, false, Option, Some, None, bytes_eq, flat_map, lookup, keys_of, option_map, insert_key, BatchKey, Withdraw, Item, Receipt, Carried, Message, LogEntry, BatchStanding, Stop, Stops, Withdrawal, is_same_batch}
 use Rattle.mv_repository.specs.declared.stops.Stop.TheVariants.{Recall}
 use Rattle.mv_repository.specs.Order.{Placed, passes, stands_before, ordered}
 use Rattle.mv_repository.specs.PackState.{is_recall_of, is_withdrawal_of}
 use Rattle.mv_repository.specs.Counts.{recalled_in}
-use Rattle.mv_repository.specs.Stopped.{withdrawn_in, each_once}
+
+-- the products that an item withdraws
+abbrev pub withdrawn_in : Item → List (List ℕ)
+withdrawn_in (Carried k stamp (Withdraw gtin at)) = gtin ∷ []
+withdrawn_in _ = []
+
+-- each of these keys once, as the first of those that are the same
+abbrev pub each_once : {K : Type 0} → (K → K → Bool) → List K → List K
+each_once same keys = fold (insert_key same) [] keys
+
+-- the batches that a log recalls
+abbrev pub recalled_batches : List LogEntry → List BatchKey
+recalled_batches log = each_once is_same_batch (flat_map (λ entry. recalled_in entry.item) log)
+
+-- the products that a log withdraws
+abbrev pub withdrawn_products : List LogEntry → List (List ℕ)
+withdrawn_products log = each_once bytes_eq (flat_map (λ entry. withdrawn_in entry.item) log)
 
 -- an entry that stands nowhere
 abbrev pub no_entry : LogEntry
@@ -51,16 +68,11 @@ standing_at stops placed batch = record {
   withdrawn = is_before (stops.withdrawal batch.gtin) placed;
 }
 
--- the tables of recalls and of withdrawals: for each batch, and for each product, the place of the first in the log
-pub record StopTables : Type 0 where
-  pub recalls : List (BatchKey × ℕ)
-  pub withdrawals : List (List ℕ × ℕ)
-
 -- what the tables find in a log
-abbrev pub stops_in : List LogEntry → StopTables → FirstStops
+abbrev pub stops_in : List LogEntry → Stops → FirstStops
 stops_in log tables = record {
-  recall = λ batch. option_map (entry_at log) (lookup (is_same_batch batch) tables.recalls);
-  withdrawal = λ gtin. option_map (entry_at log) (lookup (bytes_eq gtin) tables.withdrawals);
+  recall = λ batch. option_map (entry_at log) (lookup (is_same_batch batch) tables.recalls.entries);
+  withdrawal = λ gtin. option_map (entry_at log) (lookup (bytes_eq gtin) tables.withdrawals.entries);
 }
 
 -- an item stops packs so
@@ -74,9 +86,9 @@ stopped_product (Recall batch) = batch.now.gtin
 stopped_product (Withdrawal gtin) = gtin.now
 
 -- the place of the first that stops so, by the tables
-abbrev pub first_place : Stop → StopTables → Option ℕ
-first_place (Recall batch) tables = lookup (is_same_batch batch.now) tables.recalls
-first_place (Withdrawal gtin) tables = lookup (bytes_eq gtin.now) tables.withdrawals
+abbrev pub first_place : Stop → Stops → Option ℕ
+first_place (Recall batch) tables = lookup (is_same_batch batch.now) tables.recalls.entries
+first_place (Withdrawal gtin) tables = lookup (bytes_eq gtin.now) tables.withdrawals.entries
 
 -- a table of keys has the place of what is picked of each kind
 abbrev pub AreFound : {K : Type 0} → (K → K → Bool) → (K → Item → Bool) → ((Placed → Bool) → Option Placed) → List (K × ℕ) → Type 0
@@ -88,9 +100,9 @@ pub record AreFirstsOf {K : Type 0} (same : K → K → Bool) (is_of : K → Ite
   pub keys : keys_of places ≡ each_once same (flat_map (λ entry. keys_in entry.item) log)
 
 -- the tables are those of a log
-pub record AreStopsOf (log : List LogEntry) (tables : StopTables) : Type 0 where
-  pub recalls : AreFirstsOf is_same_batch is_recall_of recalled_in log tables.recalls
-  pub withdrawals : AreFirstsOf bytes_eq is_withdrawal_of withdrawn_in log tables.withdrawals
+pub record AreStopsOf (log : List LogEntry) (tables : Stops) : Type 0 where
+  pub recalls : AreFirstsOf is_same_batch is_recall_of recalled_in log tables.recalls.entries
+  pub withdrawals : AreFirstsOf bytes_eq is_withdrawal_of withdrawn_in log tables.withdrawals.entries
 
 -- the newest entry comes first: there is none so far, or it stands before the first so far, which is at that place
 abbrev pub comes_first : List LogEntry → ℕ → Option ℕ → Bool
@@ -100,3 +112,9 @@ comes_first log new (Some first) = passes (entry_at log new) (entry_at log first
 -- the earlier of the first so far and the newest entry, by their places
 abbrev pub earlier_place : List LogEntry → ℕ → Option ℕ → Option ℕ
 earlier_place log new first = if comes_first log new first then Some new else first
+
+-- a table of keys once the newest entry, which is under one of them, is added to it
+pub record HasFirst {K : Type 0} (same : K → K → Bool) (log : List LogEntry) (new : ℕ) (key : K) (before after : List (K × ℕ)) : Type 0 where
+  pub places : (other : K) → lookup (same other) after
+      ≡ (if same key other then earlier_place log new (lookup (same key) before) else lookup (same other) before)
+  pub keys : keys_of after ≡ insert_key same (keys_of before) key

@@ -16,18 +16,19 @@ pub use Rattle.mv_pack.specs.Keys.{batch_key, is_same_batch, is_same_pack, pack_
 pub use Rattle.mv_pack.specs.declared.key.BatchKey.{BatchKey}
 pub use Rattle.mv_pack.specs.declared.key.PackKey.{PackKey, PackKey as APackKey}
 pub use Rattle.mv_repository.specs.declared.blocks.Block.{Block}
-pub use Rattle.mv_repository.specs.declared.counted.Counted.TheVariants.{Active}
-pub use Rattle.mv_repository.specs.declared.counted.Counted.{Counted}
+pub use Rattle.mv_repository.specs.declared.shelf.Counted.TheVariants.{Active}
+pub use Rattle.mv_repository.specs.declared.shelf.Counted.{Counted}
 pub use Rattle.mv_repository.specs.declared.counts.Counts.{Counts}
 pub use Rattle.mv_repository.specs.declared.effect.Effect.{Effect}
 pub use Rattle.mv_repository.specs.declared.entry.LogEntry.{LogEntry, LogEntry as AnEntry}
 pub use Rattle.mv_repository.specs.declared.held.Change.{Change}
 pub use Rattle.mv_repository.specs.declared.held.Held.{Held}
-pub use Rattle.mv_repository.specs.declared.slot.Slot.TheVariants.{Made, Own}
-pub use Rattle.mv_repository.specs.declared.slot.Slot.{Slot}
+pub use Rattle.mv_repository.specs.declared.shelf.Slot.TheVariants.{Made, Own}
+pub use Rattle.mv_repository.specs.declared.shelf.Slot.{Slot}
 pub use Rattle.mv_repository.specs.declared.stops.BatchStanding.{BatchStanding}
 pub use Rattle.mv_repository.specs.declared.stops.Stop.TheVariants.{Withdrawal}
 pub use Rattle.mv_repository.specs.declared.stops.Stop.{Stop}
+pub use Rattle.mv_repository.specs.declared.stops.Stops.{Stops}
 pub use Rattle.mv_repository.specs.declared.verdict.Joint.TheVariants.{Decided, NotAsked, Pending}
 pub use Rattle.mv_repository.specs.declared.verdict.Joint.{Joint}
 pub use Rattle.mv_repository.specs.declared.verdict.Local.TheVariants.{Known}

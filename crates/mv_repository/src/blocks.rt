@@ -3,10 +3,7 @@
 //! active, and whose reverts stand in it, since a pack that another changed goes through as it comes.
 
 ghost use Rattle.std.specs.Prelude.{◌≡◌, ◌≤◌, ◌<◌, ◌+◌, ◌%◌};
-ghost use Rattle.mv_repository.specs.Words.{ℕ, List, length, fold, take, drop, get_or, IfSome, AllByRecursion};
-ghost use Rattle.mv_repository.specs.Blocks.{IsCovered, IsSummary, AreBlocks, IsCut, IsFront, no_block, without};
-ghost use Rattle.mv_repository.specs.State.{entry_in, next_in, start_in};
-ghost use Rattle.mv_repository.specs.Stops.{entry_at};
+ghost use Rattle.mv_repository.specs.Clauses.{AllByRecursion, AreBlocks, IfSome, IsCovered, IsCut, IsFront, IsSummary, List, drop, entry_at, entry_in, fold, get_or, length, next_in, no_block, start_in, take, without, ℕ};
 
 use crate::LogEntry;
 use crate::entry::sender_at;
@@ -214,21 +211,26 @@ fn with_room(blocks: &Vec<Block>, number: usize) -> Option<Block>
     }
 }
 
-/// Works out the blocks again where the status at a place was put in, which is not the last; the place of the entry by which
-/// the pack stands behind all, where it stood by another before.
+/// Works out the blocks again where the status at a place was put in; the place of the entry by which the pack stands behind
+/// all, where it stands by an entry behind that status, and stood by another behind all before.
 pub(crate) fn put_late(
     basis: &Basis<'_>,
     own: &[u32],
     blocks: &mut Vec<Block>,
     at: usize,
+    by: u32,
     standing: u32,
 ) -> u32
-    requires at { at < length own.now }
-    requires was { AreBlocks (entry_in basis.now) (next_in basis.now) (start_in basis.now) (start_in basis.now) blocks.old.items (without own.now at) }
+    requires within { at < length own.now }
+    requires by { by ≡ fold (next_in basis.now) (start_in basis.now) (take (at + 1) own.now) }
+    requires blocks { AreBlocks (entry_in basis.now) (next_in basis.now) (start_in basis.now) (start_in basis.now) blocks.old.items (without own.now at) }
     requires standing { standing ≡ fold (next_in basis.now) (start_in basis.now) (without own.now at) }
     ensures blocks { AreBlocks (entry_in basis.now) (next_in basis.now) (start_in basis.now) (start_in basis.now) blocks.new.items own.now }
     ensures by { result ≡ fold (next_in basis.now) (start_in basis.now) own.now }
 {
+    if at + 1 == own.len() {
+        return by;
+    }
     let cut = cut_at(basis, blocks, at);
     let (_, rest) = own.split_at(cut.start);
     let Some(old) = with_room(blocks, cut.number) else {

@@ -1,6 +1,7 @@
 //! What applying an item does. Each effect has its number, which replies print.
 
 ghost use Rattle.std.specs.Prelude.{◌≡◌};
+ghost use Rattle.mv_repository.specs.Clauses.{code_of};
 
 /// What applying an item did, by the entries that stand before it in the order of stamps.
 #[derive(Clone, Copy, Debug, PartialEq, Eq)]
@@ -34,8 +35,6 @@ pub enum Effect {
 }
 
 impl Effect {
-    ghost use Rattle.mv_repository.specs.Effect.{code_of};
-
     /// The number of the effect, as `E11`.
     pub fn code(self) -> &'static str
         ensures { result.now ≡ code_of self }

@@ -1,14 +1,7 @@
 //! What decides one pack, lent from a repository, and whether two have the same.
 
 ghost use Rattle.std.specs.Prelude.{◌≡◌, ◌↔◌};
-ghost use Rattle.mv_repository.specs.Words.{map, IsTrue, YieldsFirstRef, item_count, lookup, option_copied, option_map, option_and_then};
-ghost use Rattle.mv_pack.specs.Keys.{is_same_batch, batch_key};
-ghost use Rattle.mv_repository.specs.Agreement.{sent_in};
-ghost use Rattle.mv_repository.specs.History.{history_of, history_at, sent_status, as_sent};
-ghost use Rattle.mv_repository.specs.State.{batch_at};
-ghost use Rattle.mv_repository.specs.Masters.{entry_of};
-ghost use Rattle.mv_repository.specs.Stops.{AreStopsOf, entry_at};
-ghost use Rattle.mv_repository.specs.Track.{track_of};
+ghost use Rattle.mv_repository.specs.Clauses.{AreStopsOf, IsTrue, YieldsFirstRef, as_sent, batch_at, batch_key, entry_at, entry_of, history_at, history_of, is_same_batch, item_count, lookup, map, option_and_then, option_copied, option_map, sent_in, sent_status, track_of};
 
 use crate::LogEntry;
 use crate::listing::batch_at;
@@ -108,14 +101,15 @@ fn have_same_statuses(one: &Places<'_>, other: &Places<'_>) -> bool
 
 /// The place of the first recall of the batch of a pack that the upload at a place made.
 fn batch_recall(log: &[LogEntry], stops: &Stops, pack: &PackKey, upload: Option<u32>) -> Option<u32>
-    ensures { result ≡ option_and_then (λ number. lookup (is_same_batch (batch_key pack.now.gtin number)) stops.now.recalls)
+    ensures { result ≡ option_and_then (λ number. lookup (is_same_batch (batch_key pack.now.gtin number)) stops.now.recalls.entries)
         (option_and_then (batch_at log.now) upload) }
 {
     let number = batch_at(log, upload?)?;
-    stops.first_recall(&BatchKey {
+    let batch = BatchKey {
         gtin: pack.gtin,
         batch: number.copy(),
-    })
+    };
+    stops.recalls.get(&batch).copied()
 }
 
 /// What decides a pack: the first upload that names it, its statuses, the first recall of its batch and the first withdrawal
@@ -154,7 +148,7 @@ impl<'a> History<'a> {
             upload,
             statuses,
             recall: batch_recall(log, stops, pack, upload),
-            withdrawal: stops.first_withdrawal(&pack.gtin),
+            withdrawal: stops.withdrawals.get(&pack.gtin).copied(),
         };
         History { places }
     }

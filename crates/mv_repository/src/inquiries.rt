@@ -4,14 +4,10 @@
 //! It stands apart since no other table bears on it: it changes at receipts of queries and at answers alone.
 
 ghost use Rattle.std.specs.Prelude.{◌≡◌, ◌<◌, ◌≤◌, ◌==◌, ◌&&◌, ◌||◌, if◌then◌else◌, ◌∷◌, ◌++◌};
-ghost use Rattle.mv_repository.specs.Words.{not, OnOk, ℕ, List, [], length, filter, map_spare, set_spare, AnEntry};
-ghost use Rattle.mv_repository.specs.Verdict.{found_active, found_explained, joint_verdict};
-ghost use Rattle.mv_repository.specs.Inquiries.{IsInquiriesOf, HasRoomFor, has_reply, inquiry_in, no_inquiry, tells_of_query};
-ghost use Rattle.mv_repository.specs.Inquiries.{with_receipt, with_finding};
+ghost use Rattle.mv_repository.specs.Clauses.{AnEntry, HasRoomFor, IsInquiriesOf, List, OnOk, [], filter, found_active, found_explained, has_reply, inquiry_in, joint_verdict, length, map_spare, no_inquiry, not, set_spare, tells_of_query, with_finding, with_receipt, ℕ};
 
 use crate::Joint;
-use crate::state::is_active;
-use crate::verdict::{is_explained, verdict_when};
+use crate::verdict::{found_active, found_explained, verdict_when};
 use indexmap::{IndexMap, IndexSet};
 use mv_link::{Item, Reached};
 use mv_message::{Found, Message, Party};
@@ -89,7 +85,7 @@ impl Inquiries {
         }
     }
 
-    /// Notes the receipt of a query, which reached these parties.
+    /// Notes the receipt of a query, which reached these parties: the first one counts.
     fn note_receipt(&mut self, query: u32, reach: &Reached)
         requires { 0 < map_spare self.old.inquiries }
         ensures inquiries { (q : ℕ) → inquiry_in self.new q ≡ (if query == q
@@ -99,7 +95,10 @@ impl Inquiries {
         let Ok(inquiry) = self.inquiries.entry(query) else {
             unreachable!();
         };
-        inquiry.or_insert(Inquiry::new()).note_receipt(reach);
+        let inquiry = inquiry.or_insert(Inquiry::new());
+        if inquiry.asked.is_none() {
+            inquiry.asked = Some(reach.copy());
+        }
     }
 
     /// Notes an answer to a query.
@@ -114,7 +113,9 @@ impl Inquiries {
         let Ok(inquiry) = self.inquiries.entry(query) else {
             unreachable!();
         };
-        inquiry.or_insert(Inquiry::new()).note_finding(found);
+        let inquiry = inquiry.or_insert(Inquiry::new());
+        inquiry.active = inquiry.active || found_active(found);
+        inquiry.explained = inquiry.explained || found_explained(found);
         let Ok(_) = self.replies.insert(Reply {
             q: query,
             from: sender,
@@ -148,13 +149,8 @@ impl Inquiries {
         requires { length asked.now ≤ 64 }
         ensures { result ≡ length (filter (λ other. not (has_reply self.now q other)) asked.now) }
     {
-        let mut left = 0;
-        for other in asked {
-            if !self.replies.contains(&Reply { q, from: *other }) {
-                left += 1;
-            }
-        }
-        left
+        let is_left = |other: &&Party| !self.replies.contains(&Reply { q, from: **other });
+        asked.iter().filter(is_left).count() as u32
     }
 }
 
@@ -169,23 +165,6 @@ impl Inquiry {
             explained: false,
         }
     }
-
-    /// Notes a receipt of the query, which names these parties: the first one counts.
-    fn note_receipt(&mut self, reach: &Reached)
-        ensures { self.new ≡ with_receipt reach.now self.old }
-    {
-        if self.asked.is_none() {
-            self.asked = Some(reach.copy());
-        }
-    }
-
-    /// Notes an answer to the query.
-    fn note_finding(&mut self, found: &Found)
-        ensures { self.new ≡ with_finding found.now self.old }
-    {
-        self.active = self.active || found_active(found);
-        self.explained = self.explained || found_explained(found);
-    }
 }
 
 /// Whether an item from a sender tells of a query of the party: it is the receipt of one, or an answer to one.
@@ -198,30 +177,5 @@ fn tells_of_query(party: Party, sender: Party, item: &Item) -> bool
             Message::Answer { asker, .. } => *asker == party,
             _ => false,
         },
-    }
-}
-
-/// Whether a pack was found active.
-fn found_active(found: &Found) -> bool
-    ensures { result ≡ found_active found.now }
-{
-    match found {
-        Found::Present { standing, .. } => is_active(*standing),
-        Found::Absent => false,
-    }
-}
-
-/// Whether a pack was found recalled, withdrawn, or to be destroyed, which explains it.
-fn found_explained(found: &Found) -> bool
-    ensures { result ≡ found_explained found.now }
-{
-    match found {
-        Found::Present {
-            standing,
-            recalled,
-            withdrawn,
-            ..
-        } => is_explained(*recalled, *withdrawn, *standing),
-        Found::Absent => false,
     }
 }

@@ -2,14 +2,7 @@
 //! repository applies has; only that receipts stand behind all else needs stamps of 32 bits.
 
 ghost use Rattle.std.specs.Prelude.{◌≡◌};
-ghost use Rattle.mv_repository.specs.Words.{List, APackKey, AnEntry};
-ghost use Rattle.mv_repository.specs.Agreement.{about, AgreeOn, HasDistinctStamps, HaveSameAbout, HaveSameEntries};
-ghost use Rattle.mv_repository.specs.Changes.{ChangeNamesStatus};
-ghost use Rattle.mv_repository.specs.History.{HaveSameHistory};
-ghost use Rattle.mv_repository.specs.Order.{IsOrderOf, ordered};
-ghost use Rattle.mv_repository.specs.PackState.{known_pack};
-ghost use Rattle.mv_repository.specs.Stops.{first_stops};
-ghost use Rattle.mv_repository.specs.Track.{pack_grown, first_upload, statuses_of};
+ghost use Rattle.mv_repository.specs.Clauses.{APackKey, AgreeOn, AnEntry, ChangeNamesStatus, HasDistinctStamps, HaveSameAbout, HaveSameEntries, HaveSameHistory, IsOrderOf, List, about, first_stops, first_upload, known_pack, ordered, pack_grown, statuses_of};
 
 /// The order has each entry of the log once, by stamp, and those of one stamp as they stand in the log.
 pub fn ordered_is_the_order()

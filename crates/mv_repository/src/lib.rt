@@ -19,7 +19,6 @@
 #![tactic(auto)]
 
 mod blocks;
-mod counted;
 mod counts;
 mod effect;
 mod entry;
@@ -33,7 +32,6 @@ mod order;
 mod repository;
 mod sender;
 mod shelf;
-mod slot;
 mod state;
 mod stops;
 mod tables;

@@ -1,9 +1,7 @@
 //! For each batch of a product the numbers of the tracks that may be of it: what a recall has to look at.
 
 ghost use Rattle.std.specs.Prelude.{◌≡◌};
-ghost use Rattle.mv_repository.specs.Words.{ℕ, List, [], true, OnOk, IfSome, MatchOption, option_and_then, option_copied};
-ghost use Rattle.mv_repository.specs.Shelf.{has_number, is_in, lists, may_stop};
-ghost use Rattle.mv_repository.specs.State.{batch_at};
+ghost use Rattle.mv_repository.specs.Clauses.{IfSome, List, MatchOption, OnOk, [], batch_at, has_number, is_in, lists, may_stop, option_and_then, option_copied, true, ℕ};
 
 use crate::LogEntry;
 use crate::entry::message_at;
@@ -63,10 +61,7 @@ impl Listing {
         ensures added { IfSome (option_and_then (batch_at log.now) birth) (λ batch. lists self.new batch number ≡ true) }
         ensures kept { (batch : List ℕ) (other : ℕ) → lists self.old batch other ≡ true → lists self.new batch other ≡ true }
     {
-        let Some(place) = birth else {
-            return;
-        };
-        let Some(batch) = batch_at(log, place) else {
+        let Some(batch) = birth.and_then(|place| batch_at(log, place)) else {
             return;
         };
         if add_to(self.alloc, &mut self.batches, batch, number).is_err() {
@@ -85,10 +80,8 @@ impl Listing {
         if !self.is_whole {
             return None;
         }
-        match self.batches.get(&key.batch) {
-            Some(numbers) => Some(numbers.as_slice()),
-            None => Some(&[]),
-        }
+        let numbers = self.batches.get(&key.batch);
+        Some(numbers.map_or(&[], |numbers| numbers.as_slice()))
     }
 }
 

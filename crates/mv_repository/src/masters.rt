@@ -1,10 +1,7 @@
 //! The table of products: for each code with a master, the place in the log of the last one by stamp.
 
 ghost use Rattle.std.specs.Prelude.{◌≡◌, ◌+◌};
-ghost use Rattle.mv_repository.specs.Words.{length, take, true, OnOk, OnErr, option_copied};
-ghost use Rattle.mv_repository.specs.Masters.{AreMastersOf, is_master, comes_late, product_at};
-ghost use Rattle.mv_repository.specs.Repository.{product_of};
-ghost use Rattle.mv_repository.specs.Stops.{entry_at};
+ghost use Rattle.mv_repository.specs.Clauses.{AreMastersOf, OnErr, OnOk, entry_at, is_master, length, option_copied, product_of, take, true};
 
 use crate::LogEntry;
 use crate::entry::message_at;
@@ -29,21 +26,11 @@ pub(crate) fn add_master(
     ensures err { OnErr result (masters.new.entries ≡ masters.old.entries) }
 {
     let last = masters.get(&gtin).copied();
-    if comes_late(log, place, last) {
+    if last.is_some_and(|last| passes(log, place, last)) {
         return Ok(());
     }
     masters.insert(gtin, place)?;
     Ok(())
-}
-
-/// Whether the newest entry stands before the last so far.
-fn comes_late(log: &[LogEntry], new: u32, last: Option<u32>) -> bool
-    ensures { result ≡ comes_late log.now new last }
-{
-    match last {
-        Some(last) => passes(log, new, last),
-        None => false,
-    }
 }
 
 /// The product that is known under a code: that of its master with the greatest stamp.
@@ -55,14 +42,7 @@ pub(crate) fn product<'a>(
     requires { AreMastersOf log.now masters.now.entries }
     ensures { option_copied result ≡ product_of log.now gtin.now }
 {
-    product_at(log, *masters.get(gtin)?)
-}
-
-/// The product that the entry at a place describes.
-fn product_at(log: &[LogEntry], place: u32) -> Option<&Product>
-    ensures { option_copied result ≡ product_at log.now place }
-{
-    match message_at(log, place as usize)? {
+    match message_at(log, *masters.get(gtin)? as usize)? {
         Message::Master { product, .. } => Some(product.get()),
         _ => None,
     }

@@ -2,9 +2,7 @@
 //! one behind all stamps, so no function here asks for a place that is there.
 
 ghost use Rattle.std.specs.Prelude.{◌≡◌};
-ghost use Rattle.mv_repository.specs.Words.{option_map};
-ghost use Rattle.mv_repository.specs.Order.{rank, passes, stands_before};
-ghost use Rattle.mv_repository.specs.Stops.{entry_at, is_before, comes_first};
+ghost use Rattle.mv_repository.specs.Clauses.{comes_first, entry_at, is_before, option_map, passes, rank, stands_before};
 
 use crate::LogEntry;
 use mv_link::Item;
@@ -48,18 +46,12 @@ pub(crate) fn is_before(log: &[LogEntry], first: Option<u32>, place: u32) -> boo
     ensures { result
         ≡ is_before (option_map (entry_at log.now) first) (entry_at log.now place) }
 {
-    match first {
-        Some(first) => stands_before(log, first, place),
-        None => false,
-    }
+    first.is_some_and(|first| stands_before(log, first, place))
 }
 
 /// Whether the newest entry comes before the first so far, or is the only one.
 pub(crate) fn comes_first(log: &[LogEntry], new: u32, first: Option<u32>) -> bool
     ensures { result ≡ comes_first log.now new first }
 {
-    match first {
-        Some(first) => passes(log, new, first),
-        None => true,
-    }
+    first.is_none_or(|first| passes(log, new, first))
 }

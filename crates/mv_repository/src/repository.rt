@@ -1,13 +1,13 @@
 //! A national repository: its log, the tables of it, and what it knows of its own queries.
 
 ghost use Rattle.std.specs.Prelude.{◌≡◌};
-ghost use Rattle.mv_repository.specs.Words.{OnOk, OnErr, IfOk, option_copied};
+ghost use Rattle.mv_repository.specs.Clauses.{IfOk, OnErr, OnOk, answer_after, answer_to, counts_of, effect_of, found_of, history_of, is_recalled, is_withdrawn, items_from, joint_verdict, local_verdict, new_repository, option_copied, pack_state, product_of, recalled_batches, with_applied, withdrawn_products};
 
-use crate::counted::Counted;
 use crate::inquiries::Inquiries;
-use crate::state::is_active;
+use crate::shelf::Counted;
+use crate::state::held_at;
 use crate::tables::Tables;
-use crate::verdict::{is_explained, verdict_when};
+use crate::verdict::{found_active, found_explained, verdict_when};
 use crate::{Counts, Effect, FromSender, Held, History, Joint, Local, LogEntry, masters};
 use mv_link::Item;
 use mv_message::{Found, Message, Party, Product, Shared};
@@ -43,16 +43,6 @@ impl Model for Repository {
 }
 
 impl Repository {
-    ghost use Rattle.mv_repository.specs.Log.{items_from};
-    ghost use Rattle.mv_repository.specs.Repository.{new_repository, with_applied, product_of};
-    ghost use Rattle.mv_repository.specs.PackState.{pack_state, is_recalled, is_withdrawn};
-    ghost use Rattle.mv_repository.specs.Effect.{effect_of};
-    ghost use Rattle.mv_repository.specs.History.{history_of};
-    ghost use Rattle.mv_repository.specs.Stopped.{recalled_batches, withdrawn_products};
-    ghost use Rattle.mv_repository.specs.Query.{found_of, answer_after, answer_to};
-    ghost use Rattle.mv_repository.specs.Verdict.{local_verdict, joint_verdict};
-    ghost use Rattle.mv_repository.specs.Counts.{counts_of};
-
     /// The repository of a party, which applied nothing. It takes no memory.
     pub fn new(alloc: Global, party: Party) -> Repository
         ensures { result ≡ new_repository party }
@@ -84,7 +74,10 @@ impl Repository {
     pub fn from_sender(&self, sender: Party) -> FromSender<'_>
         ensures { result ≡ items_from self.now.log sender }
     {
-        FromSender::new(self.log(), sender)
+        FromSender {
+            entries: self.log(),
+            sender,
+        }
     }
 
     /// The product that is known under a code: that of its master with the greatest stamp.
@@ -99,7 +92,8 @@ impl Repository {
         ensures { result ≡ pack_state key.now self.now.log }
     {
         let shelf = self.tables.shelves.get(&key.gtin)?;
-        shelf.state(self.log.as_slice(), &key.serial)
+        let (birth, _, by) = shelf.parts(&key.serial);
+        held_at(self.log.as_slice(), birth?, by)
     }
 
     /// What decides a pack: its first upload, its statuses, and the first recall of its batch and withdrawal of its product.
@@ -110,7 +104,7 @@ impl Repository {
         let Some(shelf) = self.tables.shelves.get(&key.gtin) else {
             return History::new(log, &self.tables.stops, key, None, &[]);
         };
-        let (upload, statuses) = shelf.parts(&key.serial);
+        let (upload, statuses, _) = shelf.parts(&key.serial);
         History::new(log, &self.tables.stops, key, upload, statuses)
     }
 
@@ -118,28 +112,28 @@ impl Repository {
     pub fn recalled(&self, batch: &BatchKey) -> bool
         ensures { result ≡ is_recalled batch.now self.now.log }
     {
-        self.tables.stops.first_recall(batch).is_some()
+        self.tables.stops.recalls.contains_key(batch)
     }
 
     /// Whether a product is withdrawn.
     pub fn withdrawn(&self, gtin: &Gtin) -> bool
         ensures { result ≡ is_withdrawn gtin.now self.now.log }
     {
-        self.tables.stops.first_withdrawal(gtin).is_some()
+        self.tables.stops.withdrawals.contains_key(gtin)
     }
 
     /// The batches that are recalled, each once, in the order in which the first recall of each came.
     pub fn recalled_batches(&self) -> &[BatchKey]
         ensures { result.now ≡ recalled_batches self.now.log }
     {
-        self.tables.stops.recalled()
+        self.tables.stops.recalls.keys().as_slice()
     }
 
     /// The products that are withdrawn, each once, in the order in which the first withdrawal of each came.
     pub fn withdrawn_products(&self) -> &[Gtin]
         ensures { result.now ≡ withdrawn_products self.now.log }
     {
-        self.tables.stops.withdrawn()
+        self.tables.stops.withdrawals.keys().as_slice()
     }
 
     /// How much the repository has, each thing counted once. It goes through the table of packs.
@@ -151,7 +145,7 @@ impl Repository {
             products: self.tables.masters.len(),
             packs: self.tables.count(Counted::Held),
             active: self.tables.count(Counted::Active),
-            recalled: self.tables.stops.recalled_count(),
+            recalled: self.tables.stops.recalls.len(),
         }
     }
 
@@ -182,15 +176,7 @@ impl Repository {
     {
         match self.found(key) {
             Found::Absent => Local::Absent,
-            Found::Present {
-                standing,
-                recalled,
-                withdrawn,
-                ..
-            } => Local::Known(verdict_when(
-                is_active(standing),
-                is_explained(recalled, withdrawn, standing),
-            )),
+            found => Local::Known(verdict_when(found_active(&found), found_explained(&found))),
         }
     }
 
@@ -219,20 +205,6 @@ impl Repository {
         })
     }
 
-    /// The answer that an item from a party calls for, in a block of its own. Refused for want of memory.
-    fn shared_answer(
-        &self,
-        sender: Party,
-        item: &Item,
-    ) -> Result<Option<Shared<Message>>, AllocError>
-        ensures { IfOk result (λ answer. answer ≡ answer_after self.now.log sender item.now) }
-    {
-        match self.answer(sender, item) {
-            Some(answer) => Ok(Some(Shared::new(self.alloc, answer)?)),
-            None => Ok(None),
-        }
-    }
-
     /// Applies an item that came from a party: says what that did, at the item's own place in the order of stamps, and
     /// gives the answer that it calls for, where it is a query. Want of memory leaves all as it was.
     pub fn apply(
@@ -251,7 +223,10 @@ impl Repository {
         if place > u32::MAX as usize {
             return Err(AllocError);
         }
-        let answer = self.shared_answer(sender, item)?;
+        let answer = match self.answer(sender, item) {
+            Some(answer) => Some(Shared::new(self.alloc, answer)?),
+            None => None,
+        };
         let Ok(copy) = item.copy() else {
             return Err(AllocError);
         };

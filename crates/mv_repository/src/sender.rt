@@ -1,8 +1,7 @@
 //! The items of a log that came from one party.
 
 ghost use Rattle.std.specs.Prelude.{◌≡◌, ◌∷◌};
-ghost use Rattle.mv_repository.specs.Words.{[], IfSome, IfNone, YieldsFirstRef, item_count};
-ghost use Rattle.mv_repository.specs.Log.{items_from};
+ghost use Rattle.mv_repository.specs.Clauses.{IfNone, IfSome, YieldsFirstRef, [], item_count, items_from};
 
 use crate::LogEntry;
 use mv_link::Item;
@@ -13,9 +12,9 @@ use std::marker::Model;
 #[derive(Drop)]
 pub struct FromSender<'a> {
     /// What of the log is still to come, of whomever.
-    entries: &'a [LogEntry],
+    pub(crate) entries: &'a [LogEntry],
     /// The party.
-    sender: Party,
+    pub(crate) sender: Party,
 }
 
 impl<'a> Model for FromSender<'a> {
@@ -26,14 +25,6 @@ impl<'a> Model for FromSender<'a> {
     ghost Value = { List AnItem };
 
     ghost view = { λ it. items_from it.entries.now it.sender };
-}
-
-impl<'a> FromSender<'a> {
-    pub(crate) fn new(entries: &'a [LogEntry], sender: Party) -> FromSender<'a>
-        ensures { result ≡ items_from entries.now sender }
-    {
-        FromSender { entries, sender }
-    }
 }
 
 impl<'a> Iterator for FromSender<'a> {

@@ -1,27 +1,37 @@
 //! What is kept of each pack of one product, by serial numbers alone. This file knows no other product.
 
 ghost use Rattle.std.specs.Prelude.{◌≡◌, ◌<◌, ◌≤◌, ◌+◌, ◌==◌};
-ghost use Rattle.mv_repository.specs.Words.{ℕ, List, [], length, get_or, take, Some, true, false, bytes_eq, OnOk, OnErr, IfOk, lookup, keys_of, spare};
-ghost use Rattle.std.specs.List.{IsDistinct};
-ghost use Rattle.mv_repository.specs.Stops.{AreStopsOf, entry_at, is_stop, stopped_product, stops_in, comes_first, earlier_place};
-ghost use Rattle.mv_repository.specs.Shelf.{has_number, may_stop, is_counted, slots_counted, no_shelf, nothing_kept, kept_by, kept_on, is_listed, IsShelf, IsShelfOf, IsUploadOf, IsAgain, IsRefreshed};
-ghost use Rattle.mv_repository.specs.State.{batch_at};
-ghost use Rattle.mv_repository.specs.Track.{IsTrack, is_status_of, state_by};
-ghost use Rattle.mv_repository.specs.Effect.{effect_of};
+ghost use Rattle.mv_repository.specs.Clauses.{AreStopsOf, IfOk, IsAgain, IsDistinct, IsRefreshed, IsShelf, IsShelfOf, IsTrack, IsUploadOf, List, OnErr, OnOk, Some, [], batch_at, bytes_eq, comes_first, earlier_place, newest_effect, entry_at, false, get_or, is_counted, is_listed, is_status_of, is_stop, kept_by, kept_on, keys_of, length, lookup, may_stop, no_shelf, nothing_kept, slots_counted, spare, stopped_product, stops_in, take, true, ℕ};
 
-use crate::counted::Counted;
+use crate::Effect;
 use crate::listing::Listing;
 use crate::order::passes;
-use crate::slot::Slot;
-use crate::state::{Newest, held_at};
+use crate::state::Newest;
 use crate::stops::Stop;
 use crate::track::Track;
-use crate::{Effect, Held, LogEntry};
 use indexmap::IndexMap;
 use indexmap::map::Entry;
 use mv_pack::{Gtin, PackKey, Serial};
 use std::alloc::{AllocError, Global};
 use std::marker::Model;
+
+/// What stands for a pack: the place of its first upload, or the number of its track.
+#[derive(Clone, Copy)]
+pub(crate) enum Slot {
+    /// The pack has no status; the place in the log of the first upload that names it.
+    Made(u32),
+    /// The number of its track.
+    Own(u32),
+}
+
+/// Which packs are counted.
+#[derive(Clone, Copy)]
+pub(crate) enum Counted {
+    /// Those that are held.
+    Held,
+    /// Those that are held, and active.
+    Active,
+}
 
 /// Adds the newest entry, an upload, to what is kept of one pack that it names; whether it is the first such by stamp. Where it is, the
 /// pack's track is listed under its batch.
@@ -88,37 +98,21 @@ fn refresh_track(tracks: &mut Vec<Track>, newest: &Newest<'_>, gtin: &Gtin, numb
     }
 }
 
-/// Works out again all tracks.
-fn refresh_all(tracks: &mut Vec<Track>, newest: &Newest<'_>, gtin: &Gtin)
-    ensures count { length tracks.new.items ≡ length tracks.old.items }
-    ensures tracks { (number : ℕ) → IsRefreshed newest.now.log.now (stops_in newest.now.log.now newest.now.stops.now) gtin.now true
-        (get_or tracks.old.items number nothing_kept) (get_or tracks.new.items number nothing_kept) }
-{
-    for number in 0..tracks.len() {
-        refresh_track(tracks, newest, gtin, number);
-    }
-}
-
-/// Works out again the tracks of these numbers.
-fn refresh_listed(tracks: &mut Vec<Track>, newest: &Newest<'_>, gtin: &Gtin, numbers: &[u32])
-    ensures count { length tracks.new.items ≡ length tracks.old.items }
-    ensures tracks { (number : ℕ) → IsRefreshed newest.now.log.now (stops_in newest.now.log.now newest.now.stops.now) gtin.now (has_number numbers.now number)
-        (get_or tracks.old.items number nothing_kept) (get_or tracks.new.items number nothing_kept) }
-{
-    for number in numbers {
-        refresh_track(tracks, newest, gtin, *number as usize);
-    }
-}
-
 /// Works out again the tracks that a stop may bear on.
 fn refresh_stopped(tracks: &mut Vec<Track>, listing: &Listing, newest: &Newest<'_>, stop: &Stop<'_>)
     ensures count { length tracks.new.items ≡ length tracks.old.items }
     ensures tracks { (number : ℕ) → IsRefreshed newest.now.log.now (stops_in newest.now.log.now newest.now.stops.now) (stopped_product stop.now) (may_stop listing.now stop.now number)
         (get_or tracks.old.items number nothing_kept) (get_or tracks.new.items number nothing_kept) }
 {
-    match listing.of(stop) {
-        Some(numbers) => refresh_listed(tracks, newest, stop.gtin(), numbers),
-        None => refresh_all(tracks, newest, stop.gtin()),
+    let gtin = stop.gtin();
+    let Some(numbers) = listing.of(stop) else {
+        for number in 0..tracks.len() {
+            refresh_track(tracks, newest, gtin, number);
+        }
+        return;
+    };
+    for listed in numbers {
+        refresh_track(tracks, newest, gtin, *listed as usize);
     }
 }
 
@@ -155,38 +149,40 @@ impl Shelf {
         }
     }
 
-    /// What a pack of the product is; none where no upload names it.
-    pub fn state(&self, log: &[LogEntry], serial: &Serial) -> Option<Held>
-        ensures { result ≡ state_by log.now (kept_on self.now.slots self.now.tracks serial.now) }
+    /// What is kept of the pack that a slot stands for: the place of its first upload, its statuses, and the entry by which it
+    /// stands.
+    fn kept(&self, slot: Option<Slot>) -> (Option<u32>, &[u32], u32)
+        ensures birth { result.0 ≡ (kept_by self.now.tracks slot).birth }
+        ensures statuses { result.1.now ≡ (kept_by self.now.tracks slot).statuses }
+        ensures by { result.2 ≡ (kept_by self.now.tracks slot).by }
     {
-        match self.slots.get(serial).copied()? {
-            Slot::Made(first) => held_at(log, first, first),
-            Slot::Own(number) => self.tracks[number as usize].state(log),
+        match slot {
+            Some(Slot::Made(first)) => (Some(first), &[], first),
+            Some(Slot::Own(number)) => match self.tracks.get(number as usize) {
+                Some(track) => track.parts(),
+                None => (None, &[], 0),
+            },
+            None => (None, &[], 0),
         }
     }
 
-    /// The place of the first upload that names a pack of the product, and the pack's statuses.
-    pub fn parts(&self, serial: &Serial) -> (Option<u32>, &[u32])
+    /// The upload that made the pack with a serial number, where one did, its statuses, and the entry by which it stands.
+    pub fn parts(&self, serial: &Serial) -> (Option<u32>, &[u32], u32)
         ensures birth { result.0 ≡ (kept_on self.now.slots self.now.tracks serial.now).birth }
         ensures statuses { result.1.now ≡ (kept_on self.now.slots self.now.tracks serial.now).statuses }
+        ensures by { result.2 ≡ (kept_on self.now.slots self.now.tracks serial.now).by }
     {
-        match self.slots.get(serial).copied() {
-            Some(Slot::Made(first)) => (Some(first), &[]),
-            Some(Slot::Own(number)) => self.tracks[number as usize].parts(),
-            None => (None, &[]),
-        }
+        self.kept(self.slots.get(serial).copied())
     }
 
     /// Whether the pack that a slot stands for is counted.
     fn is_counted(&self, counted: Counted, slot: Slot) -> bool
         ensures { result ≡ is_counted counted (kept_by self.now.tracks (Some slot)) }
     {
-        match slot {
-            Slot::Made(_) => true,
-            Slot::Own(number) => match self.tracks.get(number as usize) {
-                Some(track) => track.is_counted(counted),
-                None => false,
-            },
+        let (birth, _, by) = self.kept(Some(slot));
+        match counted {
+            Counted::Held => birth.is_some(),
+            Counted::Active => birth.is_some_and(|birth| birth == by),
         }
     }
 
@@ -213,7 +209,7 @@ impl Shelf {
         requires upload { IsUploadOf (entry_at newest.now.log.now newest.now.place).entry.item gtin.now serials.now }
         requires shelf { IsShelfOf (take newest.now.place newest.now.log.now) gtin.now self.old }
         ensures ok { OnOk result (IsShelfOf newest.now.log.now gtin.now self.new) }
-        ensures effect { IfOk result (λ effect. effect ≡ effect_of (take newest.now.place newest.now.log.now) (entry_at newest.now.log.now newest.now.place).entry) }
+        ensures effect { IfOk result (λ effect. effect ≡ newest_effect newest.now.log.now newest.now.place) }
         ensures err { OnErr result (IsShelfOf (take newest.now.place newest.now.log.now) gtin.now self.new) }
     {
         self.slots.reserve(serials.len())?;
@@ -249,7 +245,7 @@ impl Shelf {
         requires own { is_status_of pack.now (entry_at newest.now.log.now newest.now.place).entry.item ≡ true }
         requires shelf { IsShelfOf (take newest.now.place newest.now.log.now) pack.now.gtin self.old }
         ensures ok { OnOk result (IsShelfOf newest.now.log.now pack.now.gtin self.new) }
-        ensures effect { IfOk result (λ effect. effect ≡ effect_of (take newest.now.place newest.now.log.now) (entry_at newest.now.log.now newest.now.place).entry) }
+        ensures effect { IfOk result (λ effect. effect ≡ newest_effect newest.now.log.now newest.now.place) }
         ensures err { OnErr result (IsShelfOf (take newest.now.place newest.now.log.now) pack.now.gtin self.new) }
     {
         let birth = match self.slots.get(&pack.serial).copied() {

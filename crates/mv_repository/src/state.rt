@@ -2,35 +2,21 @@
 //! the pack stands then.
 
 ghost use Rattle.std.specs.Prelude.{◌≡◌};
-ghost use Rattle.mv_repository.specs.Words.{ℕ, List, fold, AnOption, option_map};
-ghost use Rattle.mv_repository.specs.Pack.{is_active, is_final, revert_effect};
-ghost use Rattle.mv_repository.specs.State.{standing_in, change_in, user_at, known_change, effect_by, effect_on, held_at};
-ghost use Rattle.mv_repository.specs.State.{entry_in, next_in, start_in, stops_of};
-ghost use Rattle.mv_repository.specs.Stops.{entry_at, standing_at};
+ghost use Rattle.mv_repository.specs.Clauses.{change_in, effect_on, entry_at, entry_in, fold, held_at, is_active, known_change, next_in, option_map, revert_effect, standing_at, standing_in, start_in, stops_of, user_at};
 
 use crate::entry::{message_at, sender_at};
-use crate::held::{REVERT_SECONDS, copy_of};
+use crate::held::REVERT_SECONDS;
 use crate::order::stands_before;
 use crate::stops::{BatchStanding, Stops};
 use crate::{Change, Effect, Held, LogEntry};
 use mv_message::{Message, Party, Standing};
-use mv_pack::{Batch, BatchKey, Expiry, Gtin, Moment};
+use mv_pack::{BatchKey, Expiry, Gtin, Moment};
 
 /// Whether a pack stands active.
 pub(crate) fn is_active(standing: Standing) -> bool
     ensures { result ≡ is_active standing }
 {
     matches!(standing, Standing::Active)
-}
-
-/// Whether a standing is never reverted.
-fn is_final(standing: Standing) -> bool
-    ensures { result ≡ is_final standing }
-{
-    matches!(
-        standing,
-        Standing::Destruction | Standing::Stolen | Standing::Repackaged
-    )
 }
 
 /// The user of the status at a place of a log.
@@ -134,62 +120,38 @@ impl Basis<'_> {
         self.birth.unwrap_or(0)
     }
 
-    /// The effect of the status at a place on a pack of a batch that stands by an entry. The batch is looked up for a
-    /// revert alone.
-    fn status_effect(&self, batch: &Batch, expiry: Expiry, by: u32, place: u32) -> Effect
-        ensures { (national : AnOption (List ℕ)) → result ≡ effect_by
-            (standing_at (stops_of self.now) (entry_in self.now place))
-            (entry_in self.now place).entry.sender (entry_in self.now place).entry.item self.now.gtin.now
-            (record {
-              batch = batch.now;
-              expiry = expiry;
-              national = national;
-              standing = standing_in (entry_in self.now by).entry.item;
-              change = change_in by (entry_in self.now by).entry.sender (entry_in self.now by).entry.item;
-            }) }
-    {
-        let log = self.log;
-        let Some(Message::Status { to, user, at, .. }) = message_at(log, place as usize) else {
-            return Effect::Noted;
-        };
-        let standing = standing_by(log, by);
-        let was_active = is_active(standing);
-        if !is_active(*to) {
-            return if was_active {
-                Effect::Done
-            } else {
-                Effect::NotActive
-            };
-        }
-        if was_active {
-            return Effect::AlreadyActive;
-        }
-        if is_final(standing) {
-            return Effect::Fixed;
-        }
-        let key = BatchKey {
-            gtin: *self.gtin,
-            batch: batch.copy(),
-        };
-        let stands = self.stops.standing_at(log, &key, place);
-        let change = change_by(log, by);
-        let sender = sender_at(log, place as usize);
-        revert_effect(log, change, expiry, stands, sender, user.as_str(), *at)
-    }
-
-    /// The effect of the status at a place on a pack that the upload at another made.
+    /// The effect of the status at a place on a pack that the upload at another made, where it stands by an entry. The batch
+    /// is looked up for a revert alone.
     fn effect_on(&self, birth: u32, by: u32, place: u32) -> Effect
         ensures { result ≡ effect_on (stops_of self.now) self.now.gtin.now
             (Some (entry_in self.now birth)) (entry_in self.now by) (entry_in self.now place) }
     {
-        if !stands_before(self.log, birth, place) {
+        let log = self.log;
+        if !stands_before(log, birth, place) {
             return Effect::Unknown;
         }
-        match message_at(self.log, birth as usize) {
-            Some(Message::Upload { batch, expiry, .. }) => {
-                self.status_effect(batch, *expiry, by, place)
+        let Some(Message::Upload { batch, expiry, .. }) = message_at(log, birth as usize) else {
+            return Effect::Unknown;
+        };
+        let Some(Message::Status { to, user, at, .. }) = message_at(log, place as usize) else {
+            return Effect::Noted;
+        };
+        match (is_active(*to), standing_by(log, by)) {
+            (false, Standing::Active) => Effect::Done,
+            (false, _) => Effect::NotActive,
+            (true, Standing::Active) => Effect::AlreadyActive,
+            (true, Standing::Destruction | Standing::Stolen | Standing::Repackaged) =>
+                Effect::Fixed,
+            (true, _) => {
+                let key = BatchKey {
+                    gtin: *self.gtin,
+                    batch: batch.copy(),
+                };
+                let stands = self.stops.standing_at(log, &key, place);
+                let change = change_by(log, by);
+                let sender = sender_at(log, place as usize);
+                revert_effect(log, change, *expiry, stands, sender, user.as_str(), *at)
             }
-            _ => Effect::Unknown,
         }
     }
 
@@ -242,7 +204,7 @@ pub(crate) fn held_at(log: &[LogEntry], birth: u32, by: u32) -> Option<Held>
     Some(Held {
         batch: batch.copy(),
         expiry: *expiry,
-        national: copy_of(national),
+        national: national.as_ref().map(|national| national.copy()),
         standing: standing_by(log, by),
         change: change_by(log, by),
     })

@@ -1,19 +1,15 @@
 //! What stops a batch for ever: for each batch the place in the log of its first recall by stamp, and for each product
 //! that of its first withdrawal.
 
-ghost use Rattle.std.specs.Prelude.{◌≡◌, ◌+◌, if◌then◌else◌};
-ghost use Rattle.mv_repository.specs.Words.{true, OnOk, OnErr, IfOk, bytes_eq, [], length, take, lookup, keys_of, insert_key};
-ghost use Rattle.std.specs.List.{IsDistinct};
-ghost use Rattle.mv_pack.specs.Keys.{is_same_batch};
-ghost use Rattle.mv_repository.specs.Stops.{AreStopsOf, stops_in, standing_at, entry_at, is_stop, stopped_product, first_place, earlier_place, comes_first};
+ghost use Rattle.std.specs.Prelude.{◌≡◌, ◌+◌};
+ghost use Rattle.mv_repository.specs.Clauses.{AreStopsOf, HasFirst, IfOk, OnErr, OnOk, comes_first, entry_at, first_place, is_stop, length, lookup, standing_at, stopped_product, stops_in, take, true};
 
 use crate::LogEntry;
 use crate::order::{comes_first, is_before};
 use indexmap::IndexMap;
 use mv_pack::{BatchKey, Gtin};
-use std::alloc::{AllocError, Global};
+use std::alloc::AllocError;
 use std::hash::Hash;
-use std::marker::Model;
 
 /// How a batch stands.
 #[derive(Clone, Copy, Debug, PartialEq, Eq)]
@@ -48,80 +44,26 @@ impl<'a> Stop<'a> {
 /// The first recall of each batch and the first withdrawal of each product, by their places in the log.
 #[derive(Drop)]
 pub(crate) struct Stops {
-    /// The place of the first recall of each batch.
-    recalls: IndexMap<BatchKey, u32>,
-    /// The place of the first withdrawal of each product.
-    withdrawals: IndexMap<Gtin, u32>,
-}
-
-impl Model for Stops {
-    ghost use Rattle.mv_repository.specs.Stops.{StopTables};
-
-    ghost Value = { StopTables };
-
-    ghost view = { λ a. record { recalls = a.recalls.entries; withdrawals = a.withdrawals.entries } };
+    /// The place of the first recall of each batch, in the order in which the first of each came.
+    pub recalls: IndexMap<BatchKey, u32>,
+    /// The place of the first withdrawal of each product, in the same order.
+    pub withdrawals: IndexMap<Gtin, u32>,
 }
 
 impl Stops {
-    /// Tables with nothing in them.
-    pub fn new(alloc: Global) -> Stops
-        ensures { result ≡ record { recalls = []; withdrawals = [] } }
-    {
-        Stops {
-            recalls: IndexMap::new(alloc),
-            withdrawals: IndexMap::new(alloc),
-        }
-    }
-
-    /// The place of the first recall of a batch.
-    pub fn first_recall(&self, batch: &BatchKey) -> Option<u32>
-        ensures { result ≡ lookup (is_same_batch batch.now) self.now.recalls }
-    {
-        self.recalls.get(batch).copied()
-    }
-
-    /// The place of the first withdrawal of a product.
-    pub fn first_withdrawal(&self, gtin: &Gtin) -> Option<u32>
-        ensures { result ≡ lookup (bytes_eq gtin.now) self.now.withdrawals }
-    {
-        self.withdrawals.get(gtin).copied()
-    }
-
-    /// How many batches have a recall.
-    pub fn recalled_count(&self) -> usize
-        ensures count { result ≡ length self.now.recalls }
-        ensures distinct { IsDistinct is_same_batch (keys_of self.now.recalls) }
-    {
-        self.recalls.len()
-    }
-
-    /// The batches that have a recall, in the order in which the first recall of each was added.
-    pub fn recalled(&self) -> &[BatchKey]
-        ensures { result.now ≡ keys_of self.now.recalls }
-    {
-        self.recalls.keys().as_slice()
-    }
-
-    /// The products that have a withdrawal, in the order in which the first withdrawal of each was added.
-    pub fn withdrawn(&self) -> &[Gtin]
-        ensures { result.now ≡ keys_of self.now.withdrawals }
-    {
-        self.withdrawals.keys().as_slice()
-    }
-
     /// How a batch stands where an entry stands.
     pub fn standing_at(&self, log: &[LogEntry], batch: &BatchKey, place: u32) -> BatchStanding
         ensures { result
             ≡ standing_at (stops_in log.now self.now) (entry_at log.now place) batch.now }
     {
         BatchStanding {
-            recalled: is_before(log, self.first_recall(batch), place),
-            withdrawn: is_before(log, self.first_withdrawal(&batch.gtin), place),
+            recalled: is_before(log, self.recalls.get(batch).copied(), place),
+            withdrawn: is_before(log, self.withdrawals.get(&batch.gtin).copied(), place),
         }
     }
 
     /// Adds the newest entry, which stops packs for ever; whether it is the first such by stamp. Where memory is refused
-    /// nothing has changed.
+    /// the tables are still those of the log before it.
     pub fn add(&mut self, log: &[LogEntry], stop: &Stop<'_>, place: u32) -> Result<bool, AllocError>
         requires last { length log.now ≡ place + 1 }
         requires stop { is_stop stop.now (entry_at log.now place).entry.item ≡ true }
@@ -129,7 +71,7 @@ impl Stops {
         ensures ok { OnOk result (AreStopsOf log.now self.new) }
         ensures first { IfOk result (λ first. first
             ≡ comes_first log.now place (first_place stop.now self.old)) }
-        ensures err { OnErr result (self.new ≡ self.old) }
+        ensures err { OnErr result (AreStopsOf (take place log.now) self.new) }
     {
         match *stop {
             Stop::Recall(batch) => add_first(&mut self.recalls, log, batch.copy(), place),
@@ -149,11 +91,7 @@ fn add_first<K: Eq + Hash + Drop>(
 ) -> Result<bool, AllocError>
     ensures first { IfOk result (λ first. first
         ≡ comes_first log.now place (lookup (K.eq key) places.old.entries)) }
-    ensures places { OnOk result ((other : K) → lookup (K.eq other) places.new.entries
-        ≡ (if K.eq key other
-        then earlier_place log.now place (lookup (K.eq key) places.old.entries)
-        else lookup (K.eq other) places.old.entries)) }
-    ensures keys { OnOk result (keys_of places.new.entries ≡ insert_key K.eq (keys_of places.old.entries) key) }
+    ensures ok { OnOk result (HasFirst K.eq log.now place key places.old.entries places.new.entries) }
     ensures err { OnErr result (places.new.entries ≡ places.old.entries) }
 {
     let first = places.get(&key).copied();

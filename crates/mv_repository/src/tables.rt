@@ -1,19 +1,11 @@
 //! The tables that a repository keeps of its log, and what one more entry does to them.
 
 ghost use Rattle.std.specs.Prelude.{◌≡◌, ◌+◌};
-ghost use Rattle.mv_repository.specs.Words.{ℕ, List, length, filter, take, [], true, is_some, bytes_eq, lookup, OnOk, OnErr, IfOk, distinct_count, AnEntry};
-ghost use Rattle.mv_pack.specs.Keys.{is_same_pack};
-ghost use Rattle.mv_repository.specs.Counts.{uploaded_packs};
-ghost use Rattle.mv_repository.specs.Effect.{effect_of};
-ghost use Rattle.mv_repository.specs.Shelf.{is_counted, shelf_of, IsUploadOf};
-ghost use Rattle.mv_repository.specs.Stops.{entry_at, is_stop};
-ghost use Rattle.mv_repository.specs.Tables.{AreTablesOf};
-ghost use Rattle.mv_repository.specs.Track.{is_status_of, track_of};
+ghost use Rattle.mv_repository.specs.Clauses.{AnEntry, AreTablesOf, IfOk, IsUploadOf, List, OnErr, OnOk, [], bytes_eq, distinct_count, effect_of, entry_at, filter, is_counted, is_same_pack, is_some, is_status_of, is_stop, length, lookup, newest_effect, shelf_of, take, track_of, true, uploaded_packs, ℕ};
 
-use crate::counted::Counted;
 use crate::entry::message_at;
 use crate::masters::add_master;
-use crate::shelf::Shelf;
+use crate::shelf::{Counted, Shelf};
 use crate::state::Newest;
 use crate::stops::{Stop, Stops};
 use crate::{Effect, LogEntry};
@@ -45,7 +37,10 @@ impl Tables {
         Tables {
             alloc,
             masters: IndexMap::new(alloc),
-            stops: Stops::new(alloc),
+            stops: Stops {
+                recalls: IndexMap::new(alloc),
+                withdrawals: IndexMap::new(alloc),
+            },
             shelves: IndexMap::new(alloc),
             named: 0,
         }
@@ -104,8 +99,7 @@ impl Tables {
         requires upload { IsUploadOf (entry_at log.now place).entry.item gtin.now serials.now }
         requires tables { AreTablesOf (take place log.now) self.old }
         ensures ok { OnOk result (AreTablesOf log.now self.new) }
-        ensures effect { IfOk result (λ effect. effect
-            ≡ effect_of (take place log.now) (entry_at log.now place).entry) }
+        ensures effect { IfOk result (λ effect. effect ≡ newest_effect log.now place) }
         ensures err { OnErr result (AreTablesOf (take place log.now) self.new) }
     {
         if serials.len() > usize::MAX - self.named {
@@ -136,8 +130,7 @@ impl Tables {
         requires own { is_status_of pack.now (entry_at log.now place).entry.item ≡ true }
         requires tables { AreTablesOf (take place log.now) self.old }
         ensures ok { OnOk result (AreTablesOf log.now self.new) }
-        ensures effect { IfOk result (λ effect. effect
-            ≡ effect_of (take place log.now) (entry_at log.now place).entry) }
+        ensures effect { IfOk result (λ effect. effect ≡ newest_effect log.now place) }
         ensures err { OnErr result (AreTablesOf (take place log.now) self.new) }
     {
         add_shelf(self.alloc, &mut self.shelves, pack.gtin)?;
@@ -164,8 +157,7 @@ impl Tables {
         requires stop { is_stop stop.now (entry_at log.now place).entry.item ≡ true }
         requires tables { AreTablesOf (take place log.now) self.old }
         ensures ok { OnOk result (AreTablesOf log.now self.new) }
-        ensures effect { IfOk result (λ effect. effect
-            ≡ effect_of (take place log.now) (entry_at log.now place).entry) }
+        ensures effect { IfOk result (λ effect. effect ≡ newest_effect log.now place) }
         ensures err { OnErr result (AreTablesOf (take place log.now) self.new) }
     {
         if !self.stops.add(log, stop, place)? {

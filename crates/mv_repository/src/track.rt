@@ -2,21 +2,12 @@
 //! which the pack stands behind them. This file knows no other pack.
 
 ghost use Rattle.std.specs.Prelude.{◌≡◌, ◌≤◌, ◌<◌, ◌+◌};
-ghost use Rattle.mv_repository.specs.Words.{[], length, map, insert, take, fold, not, true, OnOk, OnErr, IfOk};
-ghost use Rattle.std.specs.Option.{unwrap_or};
-ghost use Rattle.mv_repository.specs.Blocks.{AreBlocks, without};
-ghost use Rattle.mv_repository.specs.State.{entry_in, next_in, start_in};
-ghost use Rattle.mv_repository.specs.Effect.{effect_of};
-ghost use Rattle.mv_repository.specs.Order.{Ascends, passes};
-ghost use Rattle.mv_repository.specs.Shelf.{is_counted, IsAgain};
-ghost use Rattle.mv_repository.specs.Stops.{AreStopsOf, entry_at, stops_in, comes_first, earlier_place};
-ghost use Rattle.mv_repository.specs.Track.{is_status_of, life_of, IsKept, IsTrack, state_by, put_place, places_before};
+ghost use Rattle.mv_repository.specs.Clauses.{AreBlocks, AreStopsOf, Ascends, IfOk, IsAgain, IsKept, IsTrack, OnErr, OnOk, [], comes_first, earlier_place, newest_effect, entry_at, entry_in, fold, insert, is_status_of, length, life_of, map, next_in, not, passes, places_before, put_place, start_in, stops_in, take, true, unwrap_or};
 
 use crate::blocks::{Block, cut_at, put_late};
-use crate::counted::Counted;
 use crate::order::{comes_first, passes};
-use crate::state::{Basis, Newest, held_at};
-use crate::{Effect, Held, LogEntry};
+use crate::state::{Basis, Newest};
+use crate::{Effect, LogEntry};
 use mv_pack::{Gtin, PackKey};
 use std::alloc::{AllocError, Global};
 use std::marker::Model;
@@ -48,29 +39,6 @@ fn by_before(basis: &Basis<'_>, own: &[u32], blocks: &Vec<Block>, at: usize, sta
     }
     let cut = cut_at(basis, blocks, at);
     basis.after(cut.by, &own[cut.start..at])
-}
-
-/// The place of the entry by which a pack stands behind these statuses, where the one at a place was put in, and what is known
-/// of its blocks: the pack stands by an entry behind that one, and it stood by another behind all.
-fn by_behind(
-    basis: &Basis<'_>,
-    own: &[u32],
-    blocks: &mut Vec<Block>,
-    at: usize,
-    by: u32,
-    standing: u32,
-) -> u32
-    requires within { at < length own.now }
-    requires by { by ≡ fold (next_in basis.now) (start_in basis.now) (take (at + 1) own.now) }
-    requires blocks { AreBlocks (entry_in basis.now) (next_in basis.now) (start_in basis.now) (start_in basis.now) blocks.old.items (without own.now at) }
-    requires standing { standing ≡ fold (next_in basis.now) (start_in basis.now) (without own.now at) }
-    ensures blocks { AreBlocks (entry_in basis.now) (next_in basis.now) (start_in basis.now) (start_in basis.now) blocks.new.items own.now }
-    ensures by { result ≡ fold (next_in basis.now) (start_in basis.now) own.now }
-{
-    if at + 1 == own.len() {
-        return by;
-    }
-    put_late(basis, own, blocks, at, standing)
 }
 
 /// What is kept of a pack.
@@ -107,32 +75,13 @@ impl Track {
         }
     }
 
-    /// What the pack is; none where no upload names it.
-    pub fn state(&self, log: &[LogEntry]) -> Option<Held>
-        ensures { result ≡ state_by log.now self.now }
-    {
-        held_at(log, self.birth?, self.by)
-    }
-
-    /// The place of the first upload that names the pack, and those of its statuses.
-    pub fn parts(&self) -> (Option<u32>, &[u32])
+    /// The place of the first upload that names the pack, those of its statuses, and that of the entry by which it stands.
+    pub fn parts(&self) -> (Option<u32>, &[u32], u32)
         ensures birth { result.0 ≡ self.now.birth }
         ensures statuses { result.1.now ≡ self.now.statuses }
+        ensures by { result.2 ≡ self.now.by }
     {
-        (self.birth, self.statuses.as_slice())
-    }
-
-    /// Whether the pack is counted.
-    pub fn is_counted(&self, counted: Counted) -> bool
-        ensures { result ≡ is_counted counted self.now }
-    {
-        let Some(birth) = self.birth else {
-            return false;
-        };
-        match counted {
-            Counted::Held => true,
-            Counted::Active => birth == self.by,
-        }
+        (self.birth, self.statuses.as_slice(), self.by)
     }
 
     /// Adds a status of the pack, which is the newest entry of the log, and gives its effect where it stands. Where memory
@@ -143,8 +92,7 @@ impl Track {
         requires own { is_status_of pack.now (entry_at newest.now.log.now newest.now.place).entry.item ≡ true }
         requires kept { IsKept (life_of pack.now (take newest.now.place newest.now.log.now)) self.old }
         ensures ok { OnOk result (IsKept (life_of pack.now newest.now.log.now) self.new) }
-        ensures effect { IfOk result (λ effect. effect
-            ≡ effect_of (take newest.now.place newest.now.log.now) (entry_at newest.now.log.now newest.now.place).entry) }
+        ensures effect { IfOk result (λ effect. effect ≡ newest_effect newest.now.log.now newest.now.place) }
         ensures err { OnErr result (self.new ≡ self.old) }
     {
         self.statuses.reserve(1)?;
@@ -161,7 +109,7 @@ impl Track {
         let Ok(()) = self.statuses.insert(at, newest.place) else {
             unreachable!();
         };
-        self.by = by_behind(
+        self.by = put_late(
             &basis,
             self.statuses.as_slice(),
             &mut self.blocks,

@@ -1,9 +1,10 @@
 //! Verdicts on packs: authentic or not.
 
-ghost use Rattle.std.specs.Prelude.{◌≡◌, ◌||◌};
-ghost use Rattle.mv_repository.specs.Verdict.{is_for_destruction, verdict_when};
+ghost use Rattle.std.specs.Prelude.{◌≡◌};
+ghost use Rattle.mv_repository.specs.Clauses.{found_active, found_explained, verdict_when};
 
-use mv_message::Standing;
+use crate::state::is_active;
+use mv_message::{Found, Standing};
 
 /// Whether a pack is authentic.
 #[derive(Clone, Copy, Debug, PartialEq, Eq)]
@@ -34,18 +35,29 @@ pub enum Joint {
     Decided(Verdict),
 }
 
-/// Whether a pack is to be destroyed.
-fn is_for_destruction(standing: Standing) -> bool
-    ensures { result ≡ is_for_destruction standing }
+/// Whether a pack was found active.
+pub(crate) fn found_active(found: &Found) -> bool
+    ensures { result ≡ found_active found.now }
 {
-    matches!(standing, Standing::Destruction)
+    match found {
+        Found::Present { standing, .. } => is_active(*standing),
+        Found::Absent => false,
+    }
 }
 
-/// Whether something other than a falsification explains a pack: it is recalled, withdrawn, or to be destroyed.
-pub(crate) fn is_explained(recalled: bool, withdrawn: bool, standing: Standing) -> bool
-    ensures { result ≡ (recalled || withdrawn || is_for_destruction standing) }
+/// Whether a pack was found recalled, withdrawn, or to be destroyed: something other than a falsification explains it.
+pub(crate) fn found_explained(found: &Found) -> bool
+    ensures { result ≡ found_explained found.now }
 {
-    recalled || withdrawn || is_for_destruction(standing)
+    match found {
+        Found::Present {
+            standing,
+            recalled,
+            withdrawn,
+            ..
+        } => *recalled || *withdrawn || matches!(standing, Standing::Destruction),
+        Found::Absent => false,
+    }
 }
 
 /// The verdict where a pack was found active or not, and explained or not by something other than a falsification.

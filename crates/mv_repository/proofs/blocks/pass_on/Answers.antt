@@ -1,6 +1,5 @@
 -- One block further; from where the pack stands as it did, all is as it was.
-use Rattle.mv_repository.proofs.Words.{rules, arith, take-append-drop, take_all, common_steps}
-use Rattle.mv_repository.proofs.BlockLemmas.{fold-cut, pass-after, pass-behind, pass-front}
+use Rattle.mv_repository.proofs.Lemmas.{rules, arith, take-append-drop, take_all, common_steps, fold-cut, pass-after, pass-behind, pass-front}
 use Rattle.mv_repository.proofs.blocks.pass_on.Goals as goal
 
 pub returns-then-last-before-clause-blocks : goal.returns-then-last-before-clause-blocks

@@ -1,7 +1,6 @@
 -- One status more.
 use Rattle.std.specs.Prelude.{◌≡◌, ◌+◌, ◌%◌, ◌==◌, ◌||◌}
-use Rattle.mv_repository.proofs.Words.{◌∙◌, ℕ, get_or, ap, subst, sym, take, rules, false, true≢false, AllByRecursion, PartySet, PARTIES_LIMIT, has_party, IsCovered, is_active, standing_in, entry_at}
-use Rattle.mv_repository.proofs.BlockLemmas.{has-added, covered-more}
+use Rattle.mv_repository.proofs.Lemmas.{◌∙◌, ℕ, get_or, ap, subst, sym, take, rules, false, true≢false, AllByRecursion, PartySet, PARTIES_LIMIT, has_party, IsCovered, is_active, standing_in, entry_at, has-added, covered-more}
 use Rattle.mv_repository.proofs.blocks.reverters_of.Goals.{then-is_active, else-is_active}
 use Rattle.mv_repository.proofs.blocks.reverters_of.Goals as goal
 

@@ -1,6 +1,4 @@
-use Rattle.mv_repository.proofs.Words.{ordered}
-use Rattle.mv_repository.proofs.OrderLemmas.{ordered-ascends}
-use Rattle.mv_repository.proofs.StateLemmas.{known-grown}
+use Rattle.mv_repository.proofs.Lemmas.{ordered, ordered-ascends, known-grown}
 use Rattle.mv_repository.proofs.laws.pack_is_of_its_own_entries.Goals as goal
 
 pub returns : goal.returns

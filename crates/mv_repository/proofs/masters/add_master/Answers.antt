@@ -1,11 +1,10 @@
 -- A late master leaves the table; any other takes the place of its code.
 use Rattle.std.specs.Prelude.{◌≡◌}
-use Rattle.mv_repository.proofs.Words.{bytes_eq, rules, false, lookup, comes_late}
-use Rattle.mv_repository.proofs.ProductLemmas.{masters-late-at, masters-latest-at}
+use Rattle.mv_repository.proofs.Lemmas.{bytes_eq, rules, false, lookup, comes_late, masters-late-at, masters-latest-at, arith}
 use Rattle.mv_repository.proofs.masters.add_master.Goals as goal
 
-pub returns-then-comes_late-clause-ok : goal.returns-then-comes_late-clause-ok
-returns-then-comes_late-clause-ok c = search (rules, masters-late-at)
+pub returns-then-is_some_and-clause-ok : goal.returns-then-is_some_and-clause-ok
+returns-then-is_some_and-clause-ok c = grind (arith, masters-late-at)
 
 pub returns-clause-ok : goal.returns-clause-ok
 returns-clause-ok c =

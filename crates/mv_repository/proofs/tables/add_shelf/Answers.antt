@@ -1,7 +1,6 @@
 -- A shelf with no pack changes nothing.
 use Rattle.std.specs.Prelude.{◌≡◌}
-use Rattle.mv_repository.proofs.Words.{bytes_eq, rules, None, lookup}
-use Rattle.mv_repository.proofs.ShelvesLemmas.{shelf-none}
+use Rattle.mv_repository.proofs.Lemmas.{bytes_eq, rules, None, lookup, shelf-none}
 use Rattle.mv_repository.proofs.tables.add_shelf.Goals as goal
 
 pub returns-in_ok-insert-clause-same : goal.returns-in_ok-insert-clause-same

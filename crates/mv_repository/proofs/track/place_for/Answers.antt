@@ -1,8 +1,7 @@
 -- The newest goes behind the last that it does not pass.
-use Rattle.mv_repository.proofs.Words.{rules, insert, take, put_place, places_before}
+use Rattle.mv_repository.proofs.Lemmas.{rules, insert, take, put_place, places_before, stays_at, parted, place_cut}
 use Rattle.std.proofs.Common.{of_calls, ◌≡◌}
 use Rattle.std.proofs.lemmas.Fn.{always_returns_same}
-use Rattle.mv_repository.proofs.PlaceLemmas.{stays_at, parted, place_cut}
 use Rattle.mv_repository.proofs.track.place_for.Goals as goal
 
 cut : (c : goal.After-partition_point) → (insert c.args.statuses.now c.partition_point.result c.args.new ≡ put_place c.args.log.now c.args.new c.args.statuses.now)

@@ -1,7 +1,6 @@
 -- Both are the same where each part is.
 use Rattle.std.specs.Prelude.{◌≡◌}
-use Rattle.mv_repository.proofs.Words.{◌∙◌, List, Option, ap, map, sym, true≢false, option_map, option_copied, option_and_then, LogEntry, Placed, sent_in, PackHistory, SentStatus, SentHistory, sent_of, sent_status, entry_of}
-use Rattle.mv_repository.proofs.HistoryLemmas.{same-parts, sent-entry}
+use Rattle.mv_repository.proofs.Lemmas.{◌∙◌, List, Option, ap, map, sym, true≢false, option_map, option_copied, option_and_then, LogEntry, Placed, sent_in, PackHistory, SentStatus, SentHistory, sent_of, sent_status, entry_of, same-parts, sent-entry}
 use Rattle.mv_repository.proofs.history.History.is_same.Goals.{then-is_same_sent, else-is_same_sent, then-have_same_statuses, else-have_same_statuses}
 use Rattle.mv_repository.proofs.history.History.is_same.Goals as goal
 

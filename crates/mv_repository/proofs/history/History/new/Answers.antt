@@ -1,6 +1,5 @@
 -- Each place is that of the first of its kind.
-use Rattle.mv_repository.proofs.Words.{sym, subst, AreAt, rules}
-use Rattle.mv_repository.proofs.LentLemmas.{lent-upload, lent-statuses, lent-recall, lent-withdrawal, history-at}
+use Rattle.mv_repository.proofs.Lemmas.{sym, subst, AreAt, rules, lent-upload, lent-statuses, lent-recall, lent-withdrawal, history-at}
 use Rattle.mv_repository.proofs.history.History.new.Goals as goal
 
 pub returns : goal.returns

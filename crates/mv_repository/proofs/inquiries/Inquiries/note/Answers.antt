@@ -1,5 +1,4 @@
-use Rattle.mv_repository.proofs.Words.{rules}
-use Rattle.mv_repository.proofs.InquiriesLemmas.{known_stays, tells_nothing, receipt_noted, answer_noted}
+use Rattle.mv_repository.proofs.Lemmas.{rules, known_stays, tells_nothing, receipt_noted, answer_noted}
 use Rattle.mv_repository.proofs.inquiries.Inquiries.note.Goals as goal
 
 -- the item tells of no query of the party

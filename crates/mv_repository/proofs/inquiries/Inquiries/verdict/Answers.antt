@@ -1,7 +1,6 @@
 -- All have answered.
 use Rattle.std.specs.Prelude.{◌≡◌}
-use Rattle.mv_repository.proofs.Words.{rules, ap, ◌∙◌, Some, not, filter, length, has_reply, inquiry_in, Decided}
-use Rattle.mv_repository.proofs.InquiriesLemmas.{verdict_known}
+use Rattle.mv_repository.proofs.Lemmas.{rules, ap, ◌∙◌, Some, not, filter, length, has_reply, inquiry_in, Decided, verdict_known}
 use Rattle.mv_repository.proofs.inquiries.Inquiries.verdict.Goals as goal
 
 pub returns-then-left-eq0 : goal.returns-then-left-eq0

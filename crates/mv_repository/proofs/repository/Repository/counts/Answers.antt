@@ -1,9 +1,6 @@
 -- Each table has the things of its kind once.
 use Rattle.std.specs.Prelude.{◌≡◌}
-use Rattle.mv_repository.proofs.Words.{◌∙◌, rules, length}
-use Rattle.mv_repository.proofs.ActiveLemmas.{active-all}
-use Rattle.mv_repository.proofs.CountedLemmas.{held-all}
-use Rattle.mv_repository.proofs.KeyLemmas.{count-products, count-recalled}
+use Rattle.mv_repository.proofs.Lemmas.{◌∙◌, rules, length, active-all, held-all, count-products, count-recalled}
 use Rattle.mv_repository.proofs.repository.Repository.counts.Goals as goal
 
 pub returns : goal.returns
@@ -14,5 +11,5 @@ returns c =
     let products = c.len-2.ensures.len ∙ count-products log c.self.inside.tables.masters.entries c.len-2.ensures.unique tables.masters in
     let packs = c.count.ensures log tables ∙ held-all log in
     let active = c.count-2.ensures log tables ∙ active-all log in
-    let recalled = c.recalled_count.ensures.count ∙ count-recalled log c.self.inside.tables.stops c.recalled_count.ensures.distinct tables.stops in
+    let recalled = c.len-3.ensures.len ∙ count-recalled log c.self.inside.tables.stops c.len-3.ensures.unique tables.stops in
     rw (← c.self.view_is) (λ i. record { entries = entries i; products = products i; packs = packs i; active = active i; recalled = recalled i })

@@ -1,7 +1,6 @@
 -- What is kept of a pack is what the log means.
 use Rattle.std.specs.Prelude.{◌≡◌}
-use Rattle.mv_repository.proofs.Words.{bytes_eq, ◌∙◌, ap, rules, subst, List, LogEntry, None, Some, lookup, AreTablesOf, Kept}
-use Rattle.mv_repository.proofs.PacksLemmas.{kept-found}
+use Rattle.mv_repository.proofs.Lemmas.{bytes_eq, ◌∙◌, ap, rules, subst, List, LogEntry, None, Some, lookup, AreTablesOf, Kept, kept-found}
 use Rattle.mv_repository.proofs.repository.Repository.history.Goals as goal
 
 pub new-requires-clause-track : goal.new-requires-clause-track

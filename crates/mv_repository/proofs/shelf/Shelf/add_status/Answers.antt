@@ -1,9 +1,6 @@
 -- The pack has the status, and no other track is touched.
 use Rattle.std.specs.Prelude.{◌≡◌, ◌++◌, ◌∷◌}
-use Rattle.mv_repository.proofs.Words.{bytes_eq, rules, ◌∙◌, [], ℕ, List, IfSome, length, get_or, take, ap, sym, subst, true, false, refl, Option, Some, None, lookup, option_and_then, get_or_append_left, get_or_default, get_or_push, Slot, Made, Own, batch_at, is_listed, lists, life_batch, IsShelfOf, kept_by, kept_on, nothing_kept, IsKept, Kept, life_of}
-use Rattle.mv_repository.proofs.FormLemmas.{on_map}
-use Rattle.mv_repository.proofs.UploadLemmas.{batch-kept, batch-noted, status-others}
-use Rattle.mv_repository.proofs.shelf.Shelf.add_status.Goals.{in-Some-Made, in-None}
+use Rattle.mv_repository.proofs.Lemmas.{bytes_eq, rules, ◌∙◌, [], ℕ, List, IfSome, length, take, ap, sym, subst, true, false, Option, Some, lookup, option_and_then, get_or_append_left, get_or_default, Slot, Own, batch_at, is_listed, lists, life_batch, IsShelfOf, kept_by, kept_on, nothing_kept, IsKept, Kept, life_of, on_map, batch-kept, batch-noted, status-others, get_or, get_or_push, refl, arith}
 use Rattle.mv_repository.proofs.shelf.Shelf.add_status.Goals as goal
 
 pub add_status-requires-clause-kept : goal.add_status-requires-clause-kept
@@ -32,7 +29,7 @@ returns-in-Some-Own-clause-ok c =
     (λ other e. search rules) (λ other batch e h. h))
 
 made_is : (c : goal.After-track-1) → kept_on c.self.inside.slots.entries c.self.inside.tracks.items c.args.pack.now.serial ≡ c.new-track.result
-made_is c = search rules
+made_is c = grind arith
 
 pub add_status-requires-2-clause-kept : goal.add_status-requires-2-clause-kept
 add_status-requires-2-clause-kept c =
@@ -41,49 +38,28 @@ add_status-requires-2-clause-kept c =
 
 module _ (c : goal.After-push_reserved) where
   items : c.push_reserved.new.self.items ≡ c.self.inside.tracks.items ++ c.add_status-2.new.self ∷ []
-  items = search rules
+  items = grind arith
 
   mine : lookup (bytes_eq c.args.pack.now.serial) c.insert.new.self.entries ≡ Some (Own c.len-number.result)
-  mine = search rules
+  mine = grind arith
 
   number : c.len-number.result ≡ length c.self.inside.tracks.items
-  number = search rules
+  number = grind arith
 
   now : kept_on c.insert.new.self.entries c.push_reserved.new.self.items c.args.pack.now.serial ≡ c.add_status-2.new.self
   now = (λ i. kept_by (items i) (mine i)) ∙ ap (λ (n : ℕ). get_or (c.self.inside.tracks.items ++ c.add_status-2.new.self ∷ []) n nothing_kept) number ∙ get_or_push c.self.inside.tracks.items c.add_status-2.new.self nothing_kept (length c.self.inside.tracks.items) refl
 
   -- the upload of the pack is the one that was kept
   birth_is : c.match-copied.birth ≡ (kept_on c.self.inside.slots.entries c.self.inside.tracks.items c.args.pack.now.serial).birth
-  birth_is = elim c.match-copied.branch [
-    | in-Some-Made w ↦ (
-        let slot : lookup (bytes_eq c.args.pack.now.serial) c.self.inside.slots.entries ≡ Some (Made w.in-Some-Made.first) = search rules in
-        w.birth-is ∙ ap (λ (o : Option Slot). (kept_by c.self.inside.tracks.items o).birth) (sym slot))
-    | in-None w ↦ (
-        let slot : lookup (bytes_eq c.args.pack.now.serial) c.self.inside.slots.entries ≡ None = search rules in
-        w.birth-is ∙ ap (λ (o : Option Slot). (kept_by c.self.inside.tracks.items o).birth) (sym slot))
-  ]
+  birth_is = grind arith
 
   others : (other : List ℕ) → bytes_eq c.args.pack.now.serial other ≡ false
       → kept_on c.insert.new.self.entries c.push_reserved.new.self.items other ≡ kept_on c.self.inside.slots.entries c.self.inside.tracks.items other
-  others other e =
-      let looks : lookup (bytes_eq other) c.insert.new.self.entries ≡ lookup (bytes_eq other) c.self.inside.slots.entries = search rules in
-      (λ i. kept_by (items i) (looks i)) ∙ by (lookup (bytes_eq other) c.self.inside.slots.entries) refl
-    where
-      by : (o : Option Slot) → lookup (bytes_eq other) c.self.inside.slots.entries ≡ o → kept_by (c.self.inside.tracks.items ++ c.add_status-2.new.self ∷ []) o ≡ kept_by c.self.inside.tracks.items o
-      by None h = refl
-      by (Some (Made place)) h = refl
-      by (Some (Own n)) h = get_or_append_left c.self.inside.tracks.items (c.add_status-2.new.self ∷ []) nothing_kept n (c.self.invariant.within other n h)
+  others other e = grind (arith, get_or_append_left)
 
   others_listed : (other batch : List ℕ) → bytes_eq c.args.pack.now.serial other ≡ false
       → is_listed c.self.inside.listing (lookup (bytes_eq other) c.self.inside.slots.entries) batch ≡ true → is_listed c.note.new.self (lookup (bytes_eq other) c.insert.new.self.entries) batch ≡ true
-  others_listed other batch e h =
-      let looks : lookup (bytes_eq other) c.insert.new.self.entries ≡ lookup (bytes_eq other) c.self.inside.slots.entries = search rules in
-      subst (λ (slot : Option Slot). is_listed c.note.new.self slot batch ≡ true) (sym looks) (by (lookup (bytes_eq other) c.self.inside.slots.entries) h)
-    where
-      by : (slot : Option Slot) → is_listed c.self.inside.listing slot batch ≡ true → is_listed c.note.new.self slot batch ≡ true
-      by None h = refl
-      by (Some (Made place)) h = refl
-      by (Some (Own n)) h = c.note.ensures.kept batch n h
+  others_listed other batch e h = grind arith
 
 pub returns-clause-ok : goal.returns-clause-ok
 returns-clause-ok c =

@@ -1,9 +1,6 @@
 -- One serial number more.
 use Rattle.std.specs.Prelude.{◌≡◌, ◌≤◌, ◌+◌}
-use Rattle.mv_repository.proofs.Words.{nat_tests, ◌∙◌, rules, [], ℕ, List, ap, subst, sym, get_or, take, arith, cond, refl, Bool, get_or_default, take_all, kept_on, ShelfTable, no_entry, comes_first, Kept}
-use Rattle.mv_repository.proofs.TableLemmas.{log-split, log-length}
-use Rattle.mv_repository.proofs.UploadedLemmas.{new-more, new_count, upload-does}
-use Rattle.mv_repository.proofs.UploadLemmas.{ArePacksOf, upload-worked, upload-adds, upload-all}
+use Rattle.mv_repository.proofs.Lemmas.{nat_tests, ◌∙◌, rules, [], ℕ, List, ap, subst, sym, get_or, take, arith, cond, refl, Bool, get_or_default, take_all, kept_on, ShelfTable, no_entry, comes_first, Kept, log-split, log-length, new-more, ArePacksOf, upload-worked, upload-adds, upload-all}
 use Rattle.mv_repository.proofs.shelf.Shelf.add_upload.Goals as goal
 
 pub put_upload-is_first-requires-clause-worked : goal.put_upload-is_first-requires-clause-worked
@@ -49,11 +46,3 @@ returns-clause-ok c =
     upload-all (take place whole) (get_or whole place no_entry) c.args.newest.now.stops.now c.args.gtin.now c.args.serials.now c.requires.stops c.requires.upload shelf
     whole place (log-split whole place c.requires.last) (log-length whole place c.requires.last)
     (subst (λ (l : List (List ℕ)). ArePacksOf whole (take place whole) l c.args.gtin.now shelf) all c.loop-serial.invariant.packs)
-
-pub returns-clause-effect : goal.returns-clause-effect
-returns-clause-effect c =
-    let whole = c.args.newest.now.log.now in
-    let place = c.args.newest.now.place in
-    let all : take c.loop-serial.serial-index c.args.serials.now ≡ c.args.serials.now = take_all c.loop-serial.serial-index c.args.serials.now (omega arith) in
-    upload-does (take place whole) (get_or whole place no_entry) c.args.gtin.now c.args.serials.now c.loop-serial.new c.requires.upload
-    (c.loop-serial.invariant.new ∙ ap (new_count (take place whole) (get_or whole place no_entry) c.args.gtin.now) all)

@@ -1,7 +1,5 @@
 use Rattle.std.specs.Prelude.{◌≡◌, ◌≤◌, ◌+◌}
-use Rattle.mv_repository.proofs.Words.{length, take, spare, IsShelf, entry_at}
-use Rattle.mv_repository.proofs.UploadLemmas.{ArePacksOf}
-use Rattle.mv_repository.proofs.UploadedLemmas.{new_count}
+use Rattle.mv_repository.proofs.Lemmas.{length, take, spare, IsShelf, entry_at, ArePacksOf, new_count}
 use Rattle.mv_repository.proofs.shelf.Shelf.add_upload.Given as goal
 
 -- the packs so far have the upload

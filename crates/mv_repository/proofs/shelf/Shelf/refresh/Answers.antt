@@ -1,7 +1,5 @@
 -- The tracks that may be stopped are worked out, and the entry bears on no other pack.
-use Rattle.mv_repository.proofs.Words.{subst, sym, take, get_or, pack_key, may_stop, IsShelfOf, no_entry, stopped_product}
-use Rattle.mv_repository.proofs.AgainLemmas.{shelf-again}
-use Rattle.mv_repository.proofs.StopLemmas.{stop-form, stop-passes}
+use Rattle.mv_repository.proofs.Lemmas.{subst, sym, take, get_or, pack_key, may_stop, IsShelfOf, no_entry, stopped_product, shelf-again, stop-form, stop-passes}
 use Rattle.mv_repository.proofs.shelf.Shelf.refresh.Goals as goal
 
 pub returns : goal.returns

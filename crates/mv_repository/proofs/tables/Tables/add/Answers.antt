@@ -1,6 +1,5 @@
 -- Each form of entry bears on one table.
-use Rattle.mv_repository.proofs.Words.{rules, get_or, no_entry, arith, common_steps}
-use Rattle.mv_repository.proofs.FormLemmas.{none-noted, other-noted, master-form, stops-at, same-at, shelves-at, named-at, tables-noted}
+use Rattle.mv_repository.proofs.Lemmas.{rules, get_or, no_entry, arith, common_steps, none-noted, other-noted, master-form, stops-at, same-at, shelves-at, named-at, tables-noted}
 use Rattle.mv_repository.proofs.tables.Tables.add.Goals as goal
 
 pub returns-in_ok-add_master-in-Master-clause-ok : goal.returns-in_ok-add_master-in-Master-clause-ok

@@ -1,26 +1,12 @@
 -- The shelf of the product has the entry, and no other product is touched.
-use Rattle.std.specs.Prelude.{◌≡◌}
-use Rattle.mv_repository.proofs.Words.{refl, rules, ◌∙◌, ap, bytes_eq, lookup, Option, Some, subst, sym, unwrap_or, get_or, take, no_entry, no_shelf, IsShelfOf, ShelfTable}
-use Rattle.mv_repository.proofs.FormLemmas.{masters-at, on_err, stops-at}
-use Rattle.mv_repository.proofs.PacksLemmas.{status-away, none-named}
-use Rattle.mv_repository.proofs.ShelvesLemmas.{shelved, shelves-follow}
-use Rattle.mv_repository.proofs.TableLemmas.{log-split}
-use Rattle.mv_repository.proofs.TrackLemmas.{status-form}
+use Rattle.mv_repository.proofs.Lemmas.{refl, rules, get_or, take, no_entry, masters-at, on_err, stops-at, status-away, none-named, shelved, shelves-follow, log-split, status-form, arith}
 use Rattle.mv_repository.proofs.tables.Tables.add_status.Goals as goal
 
 pub add_status-requires-clause-shelf : goal.add_status-requires-clause-shelf
-add_status-requires-clause-shelf c =
-    let found : lookup (bytes_eq c.args.pack.now.gtin) c.add_shelf.new.shelves.entries ≡ Some c.in-Some.shelf.now = search rules in
-    subst (IsShelfOf (take c.args.place c.args.log.now) c.args.pack.now.gtin) (sym (c.add_shelf.ensures.same c.args.pack.now.gtin) ∙ ap (λ (o : Option ShelfTable). unwrap_or o no_shelf) found) (c.requires.tables.shelves c.args.pack.now.gtin)
+add_status-requires-clause-shelf c = grind arith
 
 pub returns-in_err-add_shelf-clause-err : goal.returns-in_err-add_shelf-clause-err
-returns-in_err-add_shelf-clause-err c =
-    on_err c.from_residual.result _ (record {
-      masters = c.requires.tables.masters;
-      stops = c.requires.tables.stops;
-      named = c.requires.tables.named;
-      shelves = λ other. subst (IsShelfOf (take c.args.place c.args.log.now) other) (sym (c.add_shelf.ensures.same other)) (c.requires.tables.shelves other);
-    })
+returns-in_err-add_shelf-clause-err c = grind arith
 
 pub returns-in_err-effect-clause-err : goal.returns-in_err-effect-clause-err
 returns-in_err-effect-clause-err c =

@@ -1,10 +1,6 @@
 -- The first works out the packs that it may bear on; any other changes none.
 use Rattle.std.specs.Prelude.{◌≡◌}
-use Rattle.mv_repository.proofs.Words.{bytes_eq, rules, ap, subst, get_or, take, true, false, Option, None, lookup, unwrap_or, pack_key, ShelfTable, IsShelfOf, no_shelf, shelf_of, no_entry, stopped_product}
-use Rattle.mv_repository.proofs.AgainLemmas.{shelf-empty}
-use Rattle.mv_repository.proofs.FormLemmas.{masters-at, shelves-at, named-at}
-use Rattle.mv_repository.proofs.ShelvesLemmas.{IsShelved, shelved-none, shelves-follow}
-use Rattle.mv_repository.proofs.StopLemmas.{stop-form, stop-does, stop-leaves, stop-away}
+use Rattle.mv_repository.proofs.Lemmas.{bytes_eq, rules, ap, subst, get_or, take, true, false, Option, None, lookup, unwrap_or, pack_key, ShelfTable, IsShelfOf, no_shelf, shelf_of, no_entry, stopped_product, shelf-empty, masters-at, shelves-at, named-at, IsShelved, shelved-none, shelves-follow, stop-form, stop-does, stop-leaves, stop-away}
 use Rattle.mv_repository.proofs.tables.Tables.add_stop.Goals as goal
 
 pub returns-then-not-branch-clause-ok : goal.returns-then-not-branch-clause-ok

@@ -1,27 +1,12 @@
 -- The shelf of the product has the entry, and no other product is touched.
-use Rattle.std.specs.Prelude.{◌≡◌}
-use Rattle.mv_repository.proofs.Words.{refl, rules, ◌∙◌, ap, arith, bytes_eq, lookup, Option, Some, subst, sym, unwrap_or, get_or, take, no_entry, no_shelf, IsShelfOf, ShelfTable}
-use Rattle.mv_repository.proofs.FormLemmas.{masters-at, on_err, stops-at}
-use Rattle.mv_repository.proofs.PacksLemmas.{upload-away}
-use Rattle.mv_repository.proofs.ShelvesLemmas.{shelved, shelves-follow}
-use Rattle.mv_repository.proofs.TableLemmas.{log-split}
-use Rattle.mv_repository.proofs.UploadedLemmas.{named-longer, named-upload}
-use Rattle.mv_repository.proofs.UploadLemmas.{upload-form}
+use Rattle.mv_repository.proofs.Lemmas.{refl, rules, arith, get_or, take, no_entry, masters-at, on_err, stops-at, upload-away, shelved, shelves-follow, log-split, named-longer, named-upload, upload-form}
 use Rattle.mv_repository.proofs.tables.Tables.add_upload.Goals as goal
 
 pub add_upload-requires-clause-shelf : goal.add_upload-requires-clause-shelf
-add_upload-requires-clause-shelf c =
-    let found : lookup (bytes_eq c.args.gtin.now) c.add_shelf.new.shelves.entries ≡ Some c.in-Some.shelf.now = search rules in
-    subst (IsShelfOf (take c.args.place c.args.log.now) c.args.gtin.now) (sym (c.add_shelf.ensures.same c.args.gtin.now) ∙ ap (λ (o : Option ShelfTable). unwrap_or o no_shelf) found) (c.requires.tables.shelves c.args.gtin.now)
+add_upload-requires-clause-shelf c = grind arith
 
 pub returns-in_err-add_shelf-clause-err : goal.returns-in_err-add_shelf-clause-err
-returns-in_err-add_shelf-clause-err c =
-    on_err c.from_residual.result _ (record {
-      masters = c.requires.tables.masters;
-      stops = c.requires.tables.stops;
-      named = c.requires.tables.named;
-      shelves = λ other. subst (IsShelfOf (take c.args.place c.args.log.now) other) (sym (c.add_shelf.ensures.same other)) (c.requires.tables.shelves other);
-    })
+returns-in_err-add_shelf-clause-err c = grind arith
 
 pub returns-in_err-effect-clause-err : goal.returns-in_err-effect-clause-err
 returns-in_err-effect-clause-err c =

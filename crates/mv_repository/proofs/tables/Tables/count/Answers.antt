@@ -1,5 +1,4 @@
-use Rattle.mv_repository.proofs.Words.{List, ℕ, length, ap, arith, subst, sym, AllByRecursion, packs_counted, ShelfTable}
-use Rattle.mv_repository.proofs.CountedLemmas.{IsKeyed, counted-whole}
+use Rattle.mv_repository.proofs.Lemmas.{List, ℕ, length, ap, arith, subst, sym, AllByRecursion, packs_counted, ShelfTable, IsKeyed, counted-whole}
 use Rattle.mv_repository.proofs.tables.Tables.count.Goals as goal
 
 -- the packs of one shelf more

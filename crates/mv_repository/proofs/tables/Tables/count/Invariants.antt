@@ -1,6 +1,5 @@
 use Rattle.std.specs.Prelude.{◌≡◌, ◌≤◌, ◌+◌, ◌-◌, ◌^◌}
-use Rattle.mv_repository.proofs.Words.{length, min, AllByRecursion, packs_counted}
-use Rattle.mv_repository.proofs.CountedLemmas.{IsKeyed}
+use Rattle.mv_repository.proofs.Lemmas.{length, min, AllByRecursion, packs_counted, IsKeyed}
 use Rattle.mv_repository.proofs.tables.Tables.count.Given as goal
 
 -- with the packs on the shelves that are left all are counted

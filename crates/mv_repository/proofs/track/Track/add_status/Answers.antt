@@ -1,9 +1,6 @@
 -- The status is put in, and what stands behind it worked out.
 use Rattle.std.specs.Prelude.{◌≡◌, ◌≤◌, ◌+◌, ◌∷◌}
-use Rattle.mv_repository.proofs.Words.{◌∙◌, [], ℕ, List, ap, sym, subst, rules, length, take, insert, get_or, fold, refl, option_map, unwrap_or, fold-append, AreBlocks, without, next_place, effect_on, entry_at, stops_in, no_entry, Kept, IsKept, life_of, put_place, places_before, arith, common_steps}
-use Rattle.mv_repository.proofs.BlockLemmas.{take-insert, without-insert}
-use Rattle.mv_repository.proofs.TableLemmas.{log-split, log-length}
-use Rattle.mv_repository.proofs.TrackLemmas.{put-ascend, put-blocks, put-standing, Done, put-status}
+use Rattle.mv_repository.proofs.Lemmas.{◌∙◌, [], ℕ, List, ap, sym, subst, rules, length, take, insert, get_or, fold, refl, option_map, unwrap_or, fold-append, AreBlocks, without, next_place, effect_on, entry_at, stops_in, no_entry, Kept, IsKept, life_of, put_place, places_before, arith, common_steps, take-insert, without-insert, log-split, log-length, put-ascend, put-blocks, put-standing, Done, put-status}
 use Rattle.mv_repository.proofs.track.Track.add_status.Goals as goal
 
 pub place_for-at-requires : goal.place_for-at-requires
@@ -12,8 +9,8 @@ place_for-at-requires c = grind (arith, common_steps, log-split, put-ascend)
 pub by_before-before-requires : goal.by_before-before-requires
 by_before-before-requires c = grind (arith, common_steps, log-split, put-blocks, put-standing)
 
-pub by_behind-self-inside-requires : goal.by_behind-self-inside-requires
-by_behind-self-inside-requires c =
+pub put_late-self-inside-requires : goal.put_late-self-inside-requires
+put_late-self-inside-requires c =
     let log = take c.args.newest.now.place c.args.newest.now.log.now in
     let entry = get_or c.args.newest.now.log.now c.args.newest.now.place no_entry in
     let old : Kept = record { birth = c.self.inside.birth; statuses = c.self.inside.statuses.items; by = c.self.inside.by; blocks = c.self.inside.blocks.items } in
@@ -40,7 +37,7 @@ by_behind-self-inside-requires c =
 
 is_done : (c : goal.After-self-1) → Done (take c.args.newest.now.place c.args.newest.now.log.now) (get_or c.args.newest.now.log.now c.args.newest.now.place no_entry) c.args.newest.now.stops.now c.args.pack.now
     (record { birth = c.self.inside.birth; statuses = c.self.inside.statuses.items; by = c.self.inside.by; blocks = c.self.inside.blocks.items })
-    c.place_for-at.result (record { birth = c.self.inside.birth; statuses = c.insert.new.self.items; by = c.by_behind-self-inside.result; blocks = c.by_behind-self-inside.new.blocks.items }) c.next-effect.result.0 c.args.newest.now.log.now c.args.newest.now.place
+    c.place_for-at.result (record { birth = c.self.inside.birth; statuses = c.insert.new.self.items; by = c.put_late-self-inside.result; blocks = c.put_late-self-inside.new.blocks.items }) c.next-effect.result.0 c.args.newest.now.log.now c.args.newest.now.place
 is_done c =
     let whole = c.args.newest.now.log.now in
     let place = c.args.newest.now.place in
@@ -53,7 +50,7 @@ is_done c =
     let start = unwrap_or c.self.inside.birth 0 in
     put-status (take c.args.newest.now.place c.args.newest.now.log.now) (get_or c.args.newest.now.log.now c.args.newest.now.place no_entry) c.args.newest.now.stops.now c.args.pack.now
     (record { birth = c.self.inside.birth; statuses = c.self.inside.statuses.items; by = c.self.inside.by; blocks = c.self.inside.blocks.items })
-    at (record { birth = c.self.inside.birth; statuses = c.insert.new.self.items; by = c.by_behind-self-inside.result; blocks = c.by_behind-self-inside.new.blocks.items }) c.next-effect.result.0
+    at (record { birth = c.self.inside.birth; statuses = c.insert.new.self.items; by = c.put_late-self-inside.result; blocks = c.put_late-self-inside.new.blocks.items }) c.next-effect.result.0
     c.requires.stops c.requires.own (subst (IsKept (life_of c.args.pack.now (take c.args.newest.now.place c.args.newest.now.log.now))) (sym c.self.view_is) c.requires.kept)
     whole place (log-split whole place c.requires.last) (log-length whole place c.requires.last)
     (record {
@@ -62,8 +59,8 @@ is_done c =
       birth = refl;
       statuses = search rules;
       worked = record {
-        by = c.by_behind-self-inside.ensures.by ∙ ap (fold next start) slice-3;
-        blocks = subst (AreBlocks (entry_at whole) next start start c.by_behind-self-inside.new.blocks.items) slice-3 c.by_behind-self-inside.ensures.blocks;
+        by = c.put_late-self-inside.ensures.by ∙ ap (fold next start) slice-3;
+        blocks = subst (AreBlocks (entry_at whole) next start start c.put_late-self-inside.new.blocks.items) slice-3 c.put_late-self-inside.ensures.blocks;
       };
       done = c.next-effect.ensures.effect
           ∙ ap (λ (by : ℕ). effect_on (stops_in whole c.args.newest.now.stops.now) c.args.pack.now.gtin (option_map (entry_at whole) c.self.inside.birth) (entry_at whole by) (entry_at whole place))

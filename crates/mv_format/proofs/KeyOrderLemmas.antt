@@ -1,24 +1,24 @@
 -- The keys of replies ascend.
 use Rattle.std.proofs.Common.{◌≡◌, ℕ, true, List, [], ◌∷◌, refl, rules, None, Some}
-use Rattle.mv_format.proofs.Words.{Character, object, Members, keys_of, LineFault, field_name}
+use Rattle.mv_format.proofs.Words.{Character, LineFault, Members, field_name, keys_of, object}
 use Rattle.std.specs.Ordering.{nat_cmp}
 use Rattle.std.specs.Cmp.Lexicographic.{slice_cmp}
 use Rattle.mv_pack.specs.declared.fault.PackFault.{PackFault}
 use Rattle.mv_json.specs.Fields.{field_name as message_field_name}
 use Rattle.mv_json.specs.Keys.{ItemsKeysAscend, MembersKeysAscend}
 use Rattle.mv_json.specs.declared.fault.MessageFault.{MessageFault}
-use Rattle.mv_json.specs.declared.fault.MessageFault.TheVariants as message
 use Rattle.mv_json.proofs.OrderLemmas.{rises, strictly_sorted}
 use Rattle.mv_repository.specs.declared.effect.Effect.TheVariants.{Uploaded}
 use Rattle.mv_repository.specs.declared.verdict.Joint.TheVariants.{Decided}
 use Rattle.mv_repository.specs.declared.verdict.Verdict.{Verdict}
 use Rattle.mv_repository.specs.declared.verdict.Verdict.TheVariants.{Authentic, NotAuthentic}
 use Rattle.mv_machine.specs.declared.reply.Reply.{Reply}
-use Rattle.mv_machine.specs.declared.reply.Reply.TheVariants as replies
 use Rattle.mv_machine.specs.declared.reply.Refusal.TheVariants.{Busy}
-use Rattle.mv_format.specs.declared.line_fault.LineFault.TheVariants as line
 use Rattle.mv_format.specs.KeyOrder.{IsOrdered, RepliesAreOrdered}
 use Rattle.mv_format.specs.ReplyLines.{wholes, refused_pack, verdict_value, reply_value, message_fault_value, line_fault_value}
+use Rattle.mv_json.specs.declared.fault.MessageFault.TheVariants as message
+use Rattle.mv_machine.specs.declared.reply.Reply.TheVariants as replies
+use Rattle.mv_format.specs.declared.line_fault.LineFault.TheVariants as line
 
 -- there is no object in a list of numbers
 wholes_ascend : (ns : List ℕ) → ItemsKeysAscend (wholes ns)

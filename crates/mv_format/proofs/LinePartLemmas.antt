@@ -1,22 +1,20 @@
 -- What stands in the fields of a line: its tokens, and what it asks.
-use Rattle.std.proofs.Common.{◌≡◌, ◌<◌, ◌^◌, ℕ, List, [], ◌∷◌, ◌++◌, length, map, ap, subst, refl, arith, lt-ltb, Option, Some, None, Ok, All, Contains, IfSome, IsUtf8, ◌≢◌}
-use Rattle.mv_format.proofs.Words.{nat_tests, All-contains, All-cons, All-map, All-nil, Contains-append_right, Token, begin_object, end_object, key, Data, string, unsigned, get, as_object, keys_of, HasOnly, whole, none_unknown, LineField, LineKind, LineEntry, Request, Step, field_name, names_of, shape_of, read_line}
+use Rattle.std.proofs.Common.{◌≡◌, ◌<◌, ◌^◌, ℕ, List, [], ◌∷◌, ◌++◌, length, ap, subst, refl, arith, lt-ltb, Option, Some, None, Ok, All, Contains, IfSome, IsUtf8, ◌≢◌}
+use Rattle.mv_format.proofs.Words.{Data, LineField, LineKind, Request, Step, Token, as_object, begin_object, end_object, field_name, get, key, keys_of, kind_at, message_at, names_of, nat_tests, none_unknown, number_at, read_at, read_line, read_request, request_at, shape_of, string, unsigned, whole}
+use Rattle.mv_format.specs.declared.line_part.LineEntry.{LineEntry}
 use Rattle.json.specs.Json.{value}
 use Rattle.json.specs.Lex.{tokens}
-use Rattle.json.specs.Token as token
 use Rattle.serde_json.specs.Read.{number_of}
 use Rattle.mv_machine.specs.declared.step.Step.{Step as AnyStep}
 use Rattle.mv_json.specs.Met.{BeginWith}
 use Rattle.mv_json.specs.Parts.{IsText}
-use Rattle.mv_json.proofs.MetLemmas.{AreMet, none_met, one_more_met, all_met, begun_shorter, converted_some, text_begins, whole_begins, weaker}
+use Rattle.mv_json.proofs.MetLemmas.{AreMet, none_met, one_more_met, all_met, begun_shorter, converted_some, text_begins, whole_begins, stands, known_only}
 use Rattle.mv_json.proofs.ValueLemmas.{utf8_test}
-use Rattle.mv_format.specs.declared.field.LineField.TheVariants as fields
 use Rattle.mv_format.specs.declared.line_part.LinePart.{LinePart}
+use Rattle.mv_format.specs.LineParts.{Asks, BeginWithEntries, BeginWithPart, HasKind, IsPart, Tells, TellsPart, entry, entry_name}
+use Rattle.json.specs.Token as token
+use Rattle.mv_format.specs.declared.field.LineField.TheVariants as fields
 use Rattle.mv_format.specs.declared.line_part.LinePart.TheVariants as parts
-use Rattle.mv_format.specs.Kinds.{kind_at}
-use Rattle.mv_format.specs.LineParts.{Asks, BeginWithEntries, BeginWithPart, HasEntries, HasKind, IsPart, Tells, TellsPart, entry, entry_name}
-use Rattle.mv_format.specs.Reading.{message_at, number_at, read_at}
-use Rattle.mv_format.specs.Requests.{read_request, request_at}
 
 -- ---- tokens
 
@@ -62,46 +60,25 @@ part_shorter ts rest part (found, begins, says) = begun_shorter 3 ts rest found 
 
 -- ---- what a field is read as
 
--- what was met stands in its field
-stands : (value : Data) (entries : List LineEntry) (met : LineEntry) → HasEntries value entries → Contains entries met
-    → (part : Data) × (get (entry_name met) value ≡ Some part) × IsPart part met.part
-stands value entries met has at =
-    All-contains (λ met. (part : Data) × (get (entry_name met) value ≡ Some part) × IsPart part met.part) entries met has.says at
-
 -- so each part tells what its field is read as
 pub part_told : (entries : List LineEntry) (field : LineField) (part : LinePart) → Contains entries (entry field part) → TellsPart entries field part
 unfolding number_at read_at message_at
 part_told entries field (parts.Gtin gtin) met = λ value has.
-    let (there, at, (text, is, read)) = stands value entries (entry field (parts.Gtin gtin)) has met in rw (at, is, read)
+    let (there, at, (text, is, read)) = stands (entry field (parts.Gtin gtin)) has met in rw (at, is, read)
 part_told entries field (parts.Kind kind) met = met
 part_told entries field (parts.Message message) met = λ same value has.
-    let (there, stands_at, read) = stands value entries (entry field (parts.Message message)) has met in
+    let (there, stands_at, read) = stands (entry field (parts.Message message)) has met in
     let found : get (field_name fields.Message) value ≡ Some there = subst (λ (f : LineField). get (field_name f) value ≡ Some there) same stands_at in rw (found, read)
 part_told entries field (parts.Number n) met = λ value has.
-    let (there, at, (is, within)) = stands value entries (entry field (parts.Number n)) has met in rw (at, is, lt-ltb _ _ within)
+    let (there, at, (is, within)) = stands (entry field (parts.Number n)) has met in rw (at, is, lt-ltb _ _ within)
 part_told entries field (parts.Serial serial) met = λ value has.
-    let (there, at, (text, is, read)) = stands value entries (entry field (parts.Serial serial)) has met in rw (at, is, read)
+    let (there, at, (text, is, read)) = stands (entry field (parts.Serial serial)) has met in rw (at, is, read)
 
 kind_told : (entries : List LineEntry) (kind : LineKind) → HasKind entries kind → Tells kind_at entries kind
 unfolding kind_at
-kind_told entries kind met value has = grind (arith, nat_tests, stands value entries (entry fields.Do (parts.Kind kind)) has met)
+kind_told entries kind met value has = grind (arith, nat_tests, stands (entry fields.Do (parts.Kind kind)) has met)
 
 -- ---- what a line asks
-
-named_each : (listed : List LineField) → All (λ field. Contains (map field_name listed) (field_name field)) listed
-named_each [] = All-nil _
-named_each (field ∷ rest) =
-    All-cons (λ f. Contains (map field_name (field ∷ rest)) (field_name f)) field rest (0, omega arith, refl)
-    (λ k d h. Contains-append_right (field_name field ∷ []) (map field_name rest) _ (named_each rest k d h))
-
--- an object whose fields are all among these has no other key
-known_only : (value : Data) (entries : List LineEntry) (listed : List LineField) → HasEntries value entries → All (λ met. Contains listed met.field) entries
-    → HasOnly (map field_name listed) value
-known_only value entries listed has among =
-    let P : List ℕ → Type 0 = Contains (map field_name listed) in
-    let known : All P (map entry_name entries) =
-    All-map P entry_name entries (λ k d h. All-contains (λ field. P (field_name field)) listed _ (named_each listed) (among k d h)) in
-    (has.members, has.is, weaker (Contains (map entry_name entries)) P (λ key h. All-contains P (map entry_name entries) key known h) (keys_of has.members) has.only)
 
 -- a line of that kind, which has no other field, asks what its fields tell
 pub request_told : (entries : List LineEntry) (kind : LineKind) (request : Request) → HasKind entries kind
@@ -109,7 +86,7 @@ pub request_told : (entries : List LineEntry) (kind : LineKind) (request : Reque
     → Tells read_request entries request
 unfolding read_request
 request_told entries kind request named among tells value has =
-    let (members, is_object, known) = known_only value entries (fields.Do ∷ (shape_of kind).others) has among in
+    let (members, is_object, known) = known_only field_name (λ met. met.field) (fields.Do ∷ (shape_of kind).others) has among in
     let opened : as_object value ≡ Some members = ap as_object is_object in
     rw (opened, kind_told entries kind named value has, none_unknown (names_of kind) (keys_of members) known) (tells value has)
 

@@ -1,11 +1,9 @@
 -- Lemmas on lists of values, and on the lists of markets that they are.
 use Rattle.std.proofs.Common.{◌≡◌, ℕ, Bool, List, [], ◌∷◌, refl, arith, cond, is_some, option_and_then, option_map, Option, Some, Result, Ok, Err}
-use Rattle.mv_format.proofs.Words.{nat_tests, list_all, Data, Items, no_items, item, as_str, view, items_view, read_market, Market, each_of, as_list, market_item, market_list, read_all, LineField, LineFault, Pack}
+use Rattle.mv_format.proofs.Words.{Data, Items, LineFault, LineField, Market, Pack, as_str, item, items_view, list_all, market_item, market_list, market_lists_at, nat_tests, no_items, read_all, read_market, view, walked_lists_at}
+use Rattle.mv_json.specs.Reading.{each_of, as_list, ◌and_then◌}
 use Rattle.std.specs.Result.{is_ok}
 use Rattle.serde_json.specs.declared.value.Value.{Value}
-use Rattle.mv_json.specs.Reading.{◌and_then◌}
-use Rattle.mv_format.specs.MarketLists.{walked_lists_at}
-use Rattle.mv_format.specs.Reading.{market_lists_at}
 
 -- all values are something where the list of what they are is
 all_some : {A : Type 0} (as_one : Data → Option A) (vs : List Value) → list_all (λ v. is_some (as_one (view v))) vs ≡ is_some (each_of as_one (items_view vs))

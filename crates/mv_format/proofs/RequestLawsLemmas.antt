@@ -1,21 +1,18 @@
 -- The laws of the line that asks a request: it is read as that request, and what any line asks is legal.
 use Rattle.std.proofs.Common.{◌≡◌, ◌<◌, ℕ, ◌^◌, List, [], ◌∷◌, map, refl, subst, arith, true, lt-ltb, Bool, ok_or, Option, Some, option_and_then, Result, Ok, Err, IfOk}
-use Rattle.mv_format.proofs.Words.{AllByRecursion, list_all, nat_tests, Data, array, string, items_of, as_str, as_number, as_u64, IsMarket, strings, reads_back, read_is_legal, Asking, shape_of, map_err, each_of, as_list, GivesOr, asked_at, LineField, LineKind, LineFault, Unknown, Kind, Memory, Request, Open, Step}
+use Rattle.mv_format.proofs.Words.{AllByRecursion, Asking, Data, IsMarket, Kind, LineFault, LineField, LineKind, Memory, Open, Request, Step, Unknown, array, as_number, as_str, as_u64, asked_at, items_of, kind_at, list_all, market_lists_at, member_at, message_at, nat_tests, number_at, of_32_bits, read_at, read_is_legal, read_request, reads_back, request_at, shape_of, string, strings}
+use Rattle.mv_json.specs.Reading.{map_err, each_of, as_list, GivesOr, ◌and_then◌}
 use Rattle.std.specs.Option.{option_map_or}
 use Rattle.std.proofs.lemmas.Bool.{and_parts}
 use Rattle.mv_pack.proofs.CodeLemmas.{read_code_of, read_code_is_code}
 use Rattle.mv_pack.proofs.GtinLemmas.{read_gtin_of}
 use Rattle.mv_pack.proofs.MarketLemmas.{read_market_of, read_market_is_market}
-use Rattle.mv_machine.specs.declared.step.Step.TheVariants as steps
-use Rattle.mv_format.specs.Kinds.{kind_at}
 use Rattle.mv_format.specs.RequestLaws.{request_value, IsLegalRequest}
 use Rattle.mv_format.specs.Meanings.{AreMarketLists, meaning_of}
-use Rattle.mv_json.specs.Reading.{◌and_then◌}
-use Rattle.mv_format.specs.Reading.{member_at, of_32_bits, read_at, number_at, message_at, market_lists_at}
-use Rattle.mv_format.specs.Requests.{read_request, request_at}
+use Rattle.mv_format.proofs.ListLemmas.{is_market, market_lists}
+use Rattle.mv_machine.specs.declared.step.Step.TheVariants as steps
 use Rattle.mv_format.specs.declared.field.LineField.TheVariants as fields
 use Rattle.mv_format.specs.declared.kind.LineKind.TheVariants as kinds
-use Rattle.mv_format.proofs.ListLemmas.{is_market, market_lists}
 
 -- each list of markets is a list of texts, and these are markets
 each_back : {A : Type 0} (as_one : Data → Option A) (value : A → Data) → ((x : A) → as_one (value x) ≡ Some x) → (xs : List A) → each_of as_one (items_of (map value xs)) ≡ Some xs

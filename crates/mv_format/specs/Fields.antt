@@ -1,6 +1,6 @@
 -- The fields of a line, by the names that they bear in its JSON object.
 use Rattle.std.specs.Prelude.{ℕ, List, codes}
-use Rattle.mv_format.specs.Words.{LineField}
+use Rattle.mv_format.specs.declared.field.LineField.{LineField}
 use Rattle.mv_format.specs.declared.field.LineField.TheVariants as fields
 
 -- the name of a field

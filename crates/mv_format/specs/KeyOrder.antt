@@ -1,6 +1,6 @@
 -- The order of the keys in the objects that replies are.
 use Rattle.std.specs.Prelude.{◌≡◌, ℕ, List, codes}
-use Rattle.mv_format.specs.Words.{Data, object, Members, MessageFault, Reply, LineFault}
+use Rattle.mv_format.specs.Words.{Data, LineFault, Members, MessageFault, Reply, object}
 use Rattle.mv_json.specs.Keys.{KeysAscend}
 use Rattle.mv_format.specs.ReplyLines.{line_fault_value, message_fault_value, numbered, refused, reply_value}
 

@@ -1,18 +1,17 @@
 -- What stands in the fields of a line, as they are met in its object; and the tokens of JSON that it is read from.
 use Rattle.std.specs.Prelude.{◌≡◌, ◌<◌, ◌^◌, ℕ, List, Contains, Some, Result, Ok}
-use Rattle.mv_format.specs.Words.{Token, Data, read_code, read_gtin, whole, LineField, LineKind, LineFault, Step as AStep}
+use Rattle.mv_format.specs.Words.{Data, LineFault, LineField, LineKind, Step as AStep, Token, read_code, read_gtin, read_message, whole}
 use Rattle.mv_machine.specs.declared.step.Step.{Step}
-use Rattle.mv_json.specs.Messages.{read_message}
 use Rattle.mv_json.specs.Met.{BeginWith, HasMet}
 use Rattle.mv_json.specs.Parts.{IsText}
-use Rattle.mv_format.specs.declared.field.LineField.TheVariants as fields
 use Rattle.mv_format.specs.declared.line_part.LineEntry.{LineEntry}
 use Rattle.mv_format.specs.declared.line_part.LinePart.{LinePart}
-use Rattle.mv_format.specs.declared.line_part.LinePart.TheVariants as parts
 use Rattle.mv_format.specs.Fields.{field_name}
 use Rattle.mv_format.specs.Kinds.{kind_named}
 use Rattle.mv_format.specs.Reading.{message_at, number_at, read_at}
 use Rattle.mv_format.specs.Requests.{read_request}
+use Rattle.mv_format.specs.declared.field.LineField.TheVariants as fields
+use Rattle.mv_format.specs.declared.line_part.LinePart.TheVariants as parts
 
 -- what a value says, read by its kind
 abbrev pub IsPart : Data → LinePart → Type 0

@@ -1,7 +1,7 @@
 -- What reading lists of markets gives, one member after the other: words of the inside.
 use Rattle.std.specs.Prelude.{ℕ, if◌then◌else◌, is_some, List, [], ◌∷◌, ◌++◌, Result, Ok, Err, ok_or}
-use Rattle.mv_format.specs.Words.{Data, Items, no_items, item, as_str, as_array, read_market, map_err, each_of, as_list, LineField, LineFault, Kind, Pack}
-use Rattle.mv_json.specs.Reading.{◌and_then◌}
+use Rattle.mv_format.specs.Words.{Data, Items, Kind, LineFault, LineField, Pack, as_array, as_str, item, no_items, read_market}
+use Rattle.mv_json.specs.Reading.{map_err, each_of, as_list, ◌and_then◌}
 use Rattle.mv_format.specs.Reading.{member_at}
 
 -- what each member of a list is read as, in its order, or the fault of the first bad one

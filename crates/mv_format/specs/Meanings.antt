@@ -1,8 +1,7 @@
 -- What the fields of lines mean.
 use Rattle.std.specs.Prelude.{◌<◌, ◌^◌, ℕ, List, map, Result}
-use Rattle.mv_format.specs.Words.{AllByRecursion, Data, string, array, items_of, IsCode, read_code, IsGtin, read_gtin, IsMarket, value_of, strings, whole, LineField, LineFault}
+use Rattle.mv_format.specs.Words.{AllByRecursion, Data, IsCode, IsGtin, IsMarket, LineFault, LineField, Message, array, items_of, read_code, read_gtin, string, strings, value_of, whole}
 use Rattle.mv_json.specs.Shapes.{IsLegal}
-use Rattle.mv_message.specs.declared.message.Message.{Message}
 use Rattle.mv_format.specs.Reading.{read_at, number_at, message_at, market_lists_at}
 use Rattle.mv_format.specs.declared.field.LineField.TheVariants as fields
 

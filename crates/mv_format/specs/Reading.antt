@@ -1,11 +1,10 @@
 -- What reading a field of a line gives: its meaning, or the first fault.
 use Rattle.std.specs.Prelude.{◌^◌, ℕ, nat_lt, if◌then◌else◌, is_ok, List, Option, Some, None, option_and_then, Result, Ok, Err, ok_or}
-use Rattle.mv_format.specs.Words.{list_all, Data, get, as_str, read_market, PackFault, Market, whole_number, map_err, as_list, LineField, LineFault, Missing, Kind, Pack, Message as InMessage}
-use Rattle.mv_json.specs.Messages.{read_message}
-use Rattle.mv_json.specs.Reading.{◌and_then◌}
-use Rattle.mv_message.specs.declared.message.Message.{Message}
-use Rattle.mv_format.specs.declared.field.LineField.TheVariants as fields
+use Rattle.mv_format.specs.Words.{Data, LineFault, LineField, Market, Message, PackFault, as_str, get, list_all, read_market, read_message}
+use Rattle.mv_json.specs.Reading.{whole_number, map_err, as_list, ◌and_then◌}
+use Rattle.mv_format.specs.declared.line_fault.LineFault.TheVariants.{Missing, Kind, Pack, Message as InMessage}
 use Rattle.mv_format.specs.Fields.{field_name}
+use Rattle.mv_format.specs.declared.field.LineField.TheVariants as fields
 
 -- the value of a field, else M3
 abbrev pub member_at : LineField → Data → Result Data LineFault

@@ -1,26 +1,26 @@
 -- The JSON value of each reply. Its text is the value's compact text: no blanks, the keys in byte order.
 use Rattle.std.specs.Prelude.{ℕ, List, [], ◌∷◌, ◌++◌, map, codes, Bool, true, false, Option, Some, None}
-use Rattle.mv_format.specs.Words.{Data, boolean, string, array, Items, items_of, PackFault, Character, whole, MessageFault, Reply, LineFault}
+use Rattle.mv_format.specs.Words.{Character, Data, Items, LineFault, MessageFault, PackFault, Reply, array, boolean, items_of, string, whole}
 use Rattle.mv_pack.specs.Fault.{code_of as pack_code}
 use Rattle.mv_json.specs.Fault.{code_of as message_code}
 use Rattle.mv_json.specs.Fields.{field_name as message_field_name}
-use Rattle.mv_json.specs.declared.fault.MessageFault.TheVariants as message
 use Rattle.mv_repository.specs.Effect.{code_of as effect_code}
 use Rattle.mv_repository.specs.declared.effect.Effect.{Effect}
 use Rattle.mv_repository.specs.declared.effect.Effect.TheVariants.{Uploaded}
 use Rattle.mv_repository.specs.declared.verdict.Joint.TheVariants.{NotAsked, Pending, Decided}
 use Rattle.mv_repository.specs.declared.verdict.Verdict.{Verdict}
 use Rattle.mv_repository.specs.declared.verdict.Verdict.TheVariants.{Authentic, NotAuthentic}
-use Rattle.mv_machine.specs.declared.reply.Reply.TheVariants as replies
 use Rattle.mv_machine.specs.declared.reply.Refusal.{Refusal}
 use Rattle.mv_machine.specs.declared.reply.Refusal.TheVariants.{Busy, Memory}
 use Rattle.mv_machine.specs.Replies.{code_of as refusal_code}
-use Rattle.mv_format.specs.declared.line_fault.LineFault.TheVariants as line
 use Rattle.mv_format.specs.declared.answered.Answered.{Answered}
 use Rattle.mv_format.specs.declared.answered.Answered.TheVariants.{Unread, NotTaken, Opened, Stepped}
 use Rattle.mv_format.specs.Fields.{field_name}
 use Rattle.mv_format.specs.Openings.{code_of as open_code}
 use Rattle.mv_format.specs.Objects.{object_of}
+use Rattle.mv_json.specs.declared.fault.MessageFault.TheVariants as message
+use Rattle.mv_machine.specs.declared.reply.Reply.TheVariants as replies
+use Rattle.mv_format.specs.declared.line_fault.LineFault.TheVariants as line
 
 -- a list of whole numbers
 abbrev pub wholes : List ℕ → Items

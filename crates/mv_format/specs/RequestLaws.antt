@@ -1,12 +1,12 @@
 -- The laws of the line that asks a request.
 use Rattle.std.specs.Prelude.{◌≡◌, ℕ, List, [], ◌∷◌, map, codes, Ok}
-use Rattle.mv_format.specs.Words.{AllByRecursion, Data, string, LineField, Request, Open, Step}
-use Rattle.mv_machine.specs.declared.step.Step.TheVariants as steps
-use Rattle.mv_format.specs.declared.field.LineField.TheVariants as fields
+use Rattle.mv_format.specs.Words.{AllByRecursion, Data, LineField, Open, Request, Step, string}
 use Rattle.mv_format.specs.Fields.{field_name}
 use Rattle.mv_format.specs.Meanings.{meaning_of}
 use Rattle.mv_format.specs.Objects.{object_of}
 use Rattle.mv_format.specs.Requests.{read_request}
+use Rattle.mv_machine.specs.declared.step.Step.TheVariants as steps
+use Rattle.mv_format.specs.declared.field.LineField.TheVariants as fields
 
 -- the line that asks a request: the name of its kind, and its other fields in byte order of their names, each with its value
 abbrev pub line_of : Request → List ℕ × List ((field : LineField) × (meaning_of field).Value)

@@ -1,6 +1,6 @@
 -- What is written of a reply's object.
 use Rattle.std.specs.Prelude.{◌≡◌, ℕ, List, [], ◌∷◌, ◌++◌, codes, IfOk, Option, Some, None, option_map, Result, MatchResult}
-use Rattle.mv_format.specs.Words.{Token, key, Data, Members, no_members, member, null, string, boolean, array, value_of, whole}
+use Rattle.mv_format.specs.Words.{Data, Members, Token, array, boolean, key, member, no_members, null, string, value_of, whole}
 use Rattle.json.specs.Tree.{json_tokens}
 use Rattle.json.specs.Written.{Written}
 use Rattle.serde_json.specs.Written.{outline, compact_text}

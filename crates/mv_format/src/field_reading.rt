@@ -1,10 +1,7 @@
 //! Reads the fields of a line, one at a time, each with its own faults in their order.
 
 ghost use Rattle.std.specs.Prelude.{◌≡◌, option_and_then, MatchResult, Ok, Err};
-ghost use Rattle.serde_json.specs.View.{view};
-ghost use Rattle.mv_pack.specs.Code.{read_code};
-ghost use Rattle.mv_pack.specs.Gtin.{read_gtin};
-ghost use Rattle.mv_json.specs.Reading.{whole_number, GivesOr};
+ghost use Rattle.mv_format.specs.Words.{GivesOr, read_code, read_gtin, view, whole_number};
 ghost use Rattle.mv_format.specs.Reading.{member_at, text_at, read_at, of_32_bits, number_at, message_at};
 
 use crate::{LineFault, LineField};

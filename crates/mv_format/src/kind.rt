@@ -1,10 +1,7 @@
 //! The kinds of lines, and the fields of each.
 
-ghost use Rattle.std.specs.Option.{option_map_or};
 ghost use Rattle.std.specs.Prelude.{◌≡◌, ◌∷◌, Ok, Err};
-ghost use Rattle.serde_json.specs.View.{view, members_view};
-ghost use Rattle.mv_json.specs.Members.{first_unknown};
-ghost use Rattle.mv_json.specs.Reading.{GivesOr};
+ghost use Rattle.mv_format.specs.Words.{GivesOr, first_unknown, members_view, option_map_or, view};
 ghost use Rattle.mv_format.specs.Kinds.{kind_named, kind_at, names_of, shape_of};
 
 use crate::field_reading::text_of;

@@ -1,12 +1,10 @@
 //! Makes the step that the fields which were met in a line tell.
 
 ghost use Rattle.std.specs.Prelude.{IfSome};
-ghost use Rattle.mv_pack.specs.Code.{read_code};
-ghost use Rattle.mv_pack.specs.Gtin.{read_gtin};
+ghost use Rattle.mv_format.specs.Words.{Step as AStep, read_code, read_gtin};
 ghost use Rattle.mv_format.specs.LineParts.{HasKind, Tells};
 ghost use Rattle.mv_format.specs.Reading.{message_at, number_at, read_at};
 ghost use Rattle.mv_format.specs.Requests.{read_request, request_at};
-ghost use Rattle.mv_format.specs.declared.request.Request.TheVariants.{Step as AStep};
 
 use crate::LineField;
 use crate::kind::LineKind;

@@ -1,10 +1,7 @@
 //! The markets that each party serves, as a line lists them.
 
 ghost use Rattle.std.specs.Prelude.{◌≡◌, ◌≢◌, IfOk, IfErr, Ok, Err, map, is_some};
-ghost use Rattle.std.specs.List.{list_all};
-ghost use Rattle.serde_json.specs.Find.{as_str};
-ghost use Rattle.serde_json.specs.View.{view, items_view};
-ghost use Rattle.mv_json.specs.Reading.{as_list, GivesOr};
+ghost use Rattle.mv_format.specs.Words.{GivesOr, as_list, as_str, items_view, list_all, view};
 ghost use Rattle.mv_format.specs.MarketLists.{market_item, market_list, read_all};
 ghost use Rattle.mv_format.specs.Reading.{market_lists_at};
 

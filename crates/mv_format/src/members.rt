@@ -1,8 +1,7 @@
 //! Writes the objects that replies are, member by member.
 
 ghost use Rattle.std.specs.Prelude.{◌≡◌, ◌++◌, IfOk};
-ghost use Rattle.serde_json.specs.Data.{object};
-ghost use Rattle.mv_json.specs.Messages.{value_of};
+ghost use Rattle.mv_format.specs.Words.{object, value_of};
 ghost use Rattle.mv_format.specs.Writing.{Adds, Appended, change_object, change_value, national_value, members_of, member_tokens};
 
 use crate::to_json::write_list;

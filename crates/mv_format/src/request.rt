@@ -1,8 +1,7 @@
 //! What a line asks.
 #![tactic(auto, unfolding(crate::specs::Requests::request_at))]
 
-ghost use Rattle.serde_json.specs.View.{view};
-ghost use Rattle.mv_json.specs.Reading.{GivesOr};
+ghost use Rattle.mv_format.specs.Words.{GivesOr, view};
 ghost use Rattle.mv_format.specs.Requests.{request_at, read_request, read_line};
 
 use crate::field_reading::{gtin_of, message_of, number_of, serial_of};

@@ -1,9 +1,7 @@
 //! What is written as JSON.
 
 ghost use Rattle.std.specs.Prelude.{◌≡◌, map};
-ghost use Rattle.serde_json.specs.Data.{Data, array, string};
-ghost use Rattle.serde_json.specs.View.{items_of};
-ghost use Rattle.mv_json.specs.Values.{strings, whole};
+ghost use Rattle.mv_format.specs.Words.{Data, array, items_of, string, strings, whole};
 ghost use Rattle.mv_format.specs.Writing.{Adds, Appended};
 
 use json::Writer;

@@ -1,12 +1,11 @@
 //! Reads lines by their tokens, with no value in between, their keys in any order.
 
 ghost use Rattle.std.specs.Prelude.{◌≡◌, ◌∷◌, [], Ok, IfSome, MatchOption};
+ghost use Rattle.mv_format.specs.Words.{Step as AStep, begin_object, end_object, key};
 ghost use Rattle.json.specs.Lex.{tokens};
-ghost use Rattle.json.specs.Token.{begin_object, end_object, key};
 ghost use Rattle.mv_format.specs.Fields.{field_name};
 ghost use Rattle.mv_format.specs.LineParts.{Asks, BeginWithEntries, BeginWithPart};
 ghost use Rattle.mv_format.specs.Requests.{read_line};
-ghost use Rattle.mv_format.specs.declared.request.Request.TheVariants.{Step as AStep};
 
 use crate::LineField;
 use crate::kind::kind_called;

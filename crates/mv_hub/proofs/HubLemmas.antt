@@ -1,14 +1,10 @@
 -- What the hub keeps, through a routing and a relay.
 use Rattle.std.proofs.Common.{◌≡◌, ℕ, ◌+◌, ◌<◌, ◌≤◌, Bool, true, false, ◌&&◌, ◌||◌, not, List, [], ◌∷◌, ◌++◌, length, get_or, set, cond, None, sym, refl, ap, ◌∙◌, arith, inl, inr, append-nil, ◌↔◌, length-set, ◌==◌, nat_lt, find, replicate}
+use Rattle.mv_hub.proofs.Words.{All, Carries, Closed, Entry, HasRoom, HubState, IsKept, IsRouting, IsSquare, Item, Message, PartySet, PushesItems, PushesRow, Routed, Sending, busy_party, cases_eq, cell, cell-map, common_steps, elements, eq-eqb, find-none_at, find-those, gain_of, gained, get_or-replicate, get_or_default, has_party, is_busy, is_open, is_query, is_reached, is_target, items_on, length-replicate, link_at, link_items, listed-in, nat_tests, new_hub, new_sending, next_items, parties_in, put, put-map, put-read, reach, routed_count, sent_of, sent_table, table-all, with_relayed}
 use mir.Val.{bool_byte}
-use Rattle.mv_hub.proofs.Words.{All, Carries, Closed, Entry, HasRoom, IsKept, IsRouting, IsSquare, Item, Message, PartySet, PushesItems, PushesRow, Routed, Sending, cases_eq, cell, cell-map, eq-eqb, find-none_at, find-those, gain_of, get_or-replicate, get_or_default, has_party, is_open, length-replicate, link_at, listed-in, nat_tests, new_sending, parties_in, put, put-map, put-read, routed_count, sent_table, table-all}
-use Rattle.std.proofs.lemmas.Grind.{common_steps, elements}
 use Rattle.mv_link.specs.declared.item.Item.TheVariants.{Receipt, Carried}
 use Rattle.mv_link.specs.declared.limits.TheConstants.{PARTIES_LIMIT}
 use Rattle.mv_hub.specs.declared.hub.routing.Routing.{Routing}
-use Rattle.mv_hub.specs.Targets.{reach, is_reached, is_target, is_query}
-use Rattle.mv_hub.specs.Links.{gained, link_items}
-use Rattle.mv_hub.specs.Hub.{HubState, new_hub, sent_of, items_on, next_items, is_busy, busy_party, with_relayed}
 use Rattle.mv_hub.proofs.RecordLemmas.{routed_from-append, is_open-append, link_items-push, gained_other, gained-closed}
 
 -- what the hub is seen as
@@ -96,8 +92,7 @@ module _ {parties : List (List (List ℕ))} {window : ℕ} {entries : List Entry
       → (is_reached parties entries from message to || ((to == from) && is_open entries from from)) ≡ false
       → is_busy (view parties window entries links) from message to ≡ false
   idle from to message is_from is_to none =
-      let facts = link_facts from to is_from is_to in
-      grind (arith, facts.carries.fits, length_next_items (view parties window entries links) from to message, busy_is (view parties window entries links) from to message (link_at links from to) 0 facts)
+      grind (arith, length_next_items (view parties window entries links) from to message, link_facts, busy_is)
 
   -- so the least busy party is the first of those whose links gain something
   pub busy_among : (from : ℕ) (message : Message) (gaining : PartySet) → from < length parties

@@ -1,14 +1,10 @@
 -- Links that gain items.
-use Rattle.std.proofs.lemmas.Grind.{common_steps}
-use Rattle.std.proofs.Common.{◌≡◌, ℕ, ◌<◌, ◌&&◌, not, true, List, [], ◌∷◌, ◌++◌, cond, replicate, refl, arith, inl, inr, append-nil, append_assoc, length-append, ◌==◌}
-use Rattle.mv_hub.proofs.Words.{IsSquare, Item, PartySet, PushesItems, PushesRow, Sending, cases_eq, cell-put_other, cell-put_same, eq-eqb, has_party, link_at, ne_eqb, new_sending, put, put-map_same, replicate_more, same_from_push, square-put}
+use Rattle.std.proofs.Common.{◌≡◌, ℕ, ◌<◌, ◌&&◌, not, true, List, [], ◌∷◌, ◌++◌, cond, replicate, refl, arith, inl, inr, append-nil, ◌==◌}
+use Rattle.mv_hub.proofs.Words.{IsSquare, Item, PartySet, PushesItems, PushesRow, Sending, cases_eq, cell-put_other, cell-put_same, common_steps, eq-eqb, has_party, link_at, ne_eqb, new_sending, put, put-map_same, replicate_more, same_from_push, square-put}
 
--- a link that gains nothing, and one that gains twice
+-- a link that gains nothing
 pub pushes-none : (link : Sending) → PushesItems [] link link
 pushes-none link = record { window = refl; total = omega arith; sent = refl; ends = λ list ends. rw append-nil ends }
-
-pub pushes-then : (xs ys : List Item) (old mid new : Sending) → PushesItems xs old mid → PushesItems ys mid new → PushesItems (xs ++ ys) old new
-pushes-then xs ys old mid new first second = grind (arith, length-append, append_assoc)
 
 -- what is gained first, and then
 pub row-then : {n from : ℕ} {g h : ℕ → List Item} {old mid new : List (List Sending)} → PushesRow n from g old mid → PushesRow n from h mid new

@@ -1,7 +1,7 @@
 -- Texts, batches and listings: when two are the same, the order of batches, and lists that hold each member once.
-use Rattle.std.proofs.Common.{◌≡◌, true, List, ℕ, Bool, false, not, cond, [], ◌∷◌, ◌++◌, filter, Option, Some, None, ◌↔◌, sym, refl, ap, ◌∙◌, append-nil, arith, nat_eq}
+use Rattle.std.proofs.Common.{◌≡◌, true, List, [], ℕ, Bool, false, not, cond, ◌∷◌, ◌++◌, filter, Option, Some, None, ◌↔◌, sym, refl, ap, ◌∙◌, append-nil, arith, nat_eq, rules}
+use Rattle.mv_hub.proofs.Words.{BatchKey, IsAscendingList, Listing, any-filter_same, batch_cmp, bytes_eq-Decides, distinct, filter-append, filter_map, filter_map-append, is_same_batch, is_same_listing, list_any, pointwise}
 use Rattle.std.specs.Cmp.{IsEquivalence, IsTotalOrder}
-use Rattle.mv_hub.proofs.Words.{BatchKey, Decides-and, Decides-eqb, IsAscendingList, Listing, any-filter_same, batch_cmp, bytes_eq-Decides, distinct, filter-append, filter_map, filter_map-append, is_same_batch, is_same_listing, list_any, pointwise}
 use Rattle.std.specs.Ordering.{eq_by_cmp}
 use Rattle.mv_pack.specs.contracts.key.BatchKeyEq.TheImpl.Laws as equal
 use Rattle.mv_pack.specs.contracts.key.BatchKeyOrd.TheImpl.Laws as order
@@ -24,16 +24,10 @@ pub text-same : (a b : List ℕ) → pointwise nat_eq a b ≡ true → a ≡ b
 text-same a b = (bytes_eq-Decides a b).0
 
 pub batch-same : (a b : BatchKey) → is_same_batch a b ≡ true → a ≡ b
-batch-same a b e =
-    let same = (Decides-and _ _ (bytes_eq-Decides a.gtin b.gtin) (bytes_eq-Decides a.batch b.batch)).0 e in
-    λ i. record { gtin = same.0 i; batch = same.1 i }
+batch-same a b e = search rules
 
 pub listing-same : (a b : Listing) → is_same_listing a b ≡ true → a ≡ b
-listing-same a b e =
-    let years = Decides-and _ _ (bytes_eq-Decides a.0 b.0) (Decides-eqb a.1.year b.1.year) in
-    let months = Decides-and _ _ years (Decides-eqb a.1.month b.1.month) in
-    let same = (Decides-and _ _ months (Decides-eqb a.1.day b.1.day)).0 e in
-    λ i. (same.0.0.0 i, record { year = same.0.0.1 i; month = same.0.1 i; day = same.1 i })
+listing-same a b e = search rules
 
 module _ {A : Type 0} (same : A → A → Bool) where
   -- one more member, where there is one, unless it is there
@@ -51,11 +45,9 @@ module _ {A : Type 0} (same : A → A → Bool) where
     -- the members, each once, once one more comes
     pub distinct-push : (xs : List A) (x : A) → distinct same (xs ++ x ∷ []) ≡ add_to (distinct same xs) (Some x)
     distinct-push [] x = refl
-    distinct-push (y ∷ ys) x =
-        let front = distinct same ys in
-        grind (arith, distinct-push ys x, filter-append (λ z. not (same y z)) front (x ∷ []), any-others x y front, laws.symm x y, append-nil {A = A})
+    distinct-push (y ∷ ys) x = grind (arith, distinct-push ys x, filter-append, any-others, append-nil)
 
     -- the members that a list names, each once, once one more stands at its end
     pub distinct-named : {E : Type 0} (named : E → Option A) (entries : List E) (entry : E)
         → distinct same (filter_map named (entries ++ entry ∷ [])) ≡ add_to (distinct same (filter_map named entries)) (named entry)
-    distinct-named named entries entry = grind (arith, filter_map-append named entries (entry ∷ []), append-nil {A = A}, distinct-push (filter_map named entries))
+    distinct-named named entries entry = grind (arith, filter_map-append, append-nil, distinct-push)

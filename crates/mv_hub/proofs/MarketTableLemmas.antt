@@ -1,28 +1,18 @@
 -- The table of the party of each market.
-use Rattle.std.proofs.Common.{◌≡◌, ◌≢◌, ℕ, zero, suc, ◌+◌, ◌-◌, ◌<◌, ◌≤◌, true, false, ◌||◌, ◌&&◌, List, [], ◌∷◌, ◌++◌, length, get_or, set, take, drop, map, replicate, length-set, sym, refl, ◌∙◌, append_assoc, append-nil, arith, inl, inr, true≢false, ◌==◌, bytes_eq}
-use Rattle.mv_hub.proofs.Words.{AreNoted, all_markets, bytes_eq-Decides, cases_eq, cases_lt, eq-eqb, ext_get_or, get_or-replicate, get_or-set_other, get_or-set_same, has_market, has_twice, length-map, length-replicate, length-take-le, list_all_at, list_any-append, map-append, nat_list_eq_equiv, nat_tests, ne_eqb, served_by, take-append-drop, take_more}
+use Rattle.std.proofs.lemmas.Grind.{common_steps}
+use Rattle.std.proofs.Common.{◌≡◌, ◌≢◌, ℕ, zero, suc, ◌+◌, ◌-◌, ◌<◌, true, false, ◌||◌, ◌&&◌, List, [], ◌∷◌, ◌++◌, length, get_or, set, take, drop, map, replicate, sym, refl, ◌∙◌, append_assoc, append-nil, arith, inl, inr, true≢false, ◌==◌, bytes_eq, rules}
+use Rattle.mv_hub.proofs.Words.{AreNoted, all_markets, cases_eq, cases_lt, eq-eqb, get_or-replicate, has_market, has_twice, length-map, length-replicate, length-take-le, list_any-append, map-append, ne_eqb, served_by, take-append-drop, take_more}
 use Rattle.std.proofs.Math.ListN.{get_or-eq_default}
 use Rattle.mv_pack.specs.declared.market.TheConstants.{MARKETS_LIMIT}
-use Rattle.mv_pack.specs.Market.{IsMarket, place_of, is_capital}
-
--- the letters of a market
-letters_within : (m : List ℕ) → IsMarket m → (65 ≤ get_or m 0 0) × (get_or m 0 0 ≤ 90) × (65 ≤ get_or m 1 0) × (get_or m 1 0 ≤ 90)
-letters_within m h = grind (arith, nat_tests, h.0, list_all_at is_capital m 0 0, list_all_at is_capital m 1 0, h.1)
+use Rattle.mv_pack.specs.Market.{IsMarket, place_of}
 
 -- two markets at one place are the same
 same-market : (a b : List ℕ) → IsMarket a → IsMarket b → place_of a ≡ place_of b → a ≡ b
-same-market a b h k e =
-    let left = letters_within a h in
-    let right = letters_within b k in
-    ext_get_or 0 a b (h.0 ∙ sym k.0) (λ i lt. elim (cases_eq i 0) [
-      | inl first ↦ rw first (omega (arith, left, right, e))
-      | inr later ↦ let second : i ≡ 1 = omega (arith, h.0) in rw second (omega (arith, left, right, e))
-    ])
+same-market a b h k e = grind (arith, common_steps)
 
 -- the markets of the first lists, and those of the others
 all_markets-append : (xs ys : List (List (List ℕ))) → all_markets (xs ++ ys) ≡ all_markets xs ++ all_markets ys
-all_markets-append [] ys = refl
-all_markets-append (x ∷ xs) ys = grind (arith, all_markets-append xs ys, append_assoc)
+all_markets-append xs ys = grind (arith, common_steps)
 
 -- and those of one more list
 all_markets-push : (lists : List (List (List ℕ))) (markets : List (List ℕ)) → all_markets (lists ++ markets ∷ []) ≡ all_markets lists ++ markets
@@ -32,7 +22,7 @@ all_markets-push lists markets = rw (all_markets-append lists (markets ∷ []), 
 has_twice-push : (xs : List (List ℕ)) (market : List ℕ)
     → has_twice (xs ++ market ∷ []) ≡ (has_twice xs || has_market xs market)
 has_twice-push [] market = refl
-has_twice-push (x ∷ xs) market = grind (arith, list_any-append (λ m. bytes_eq m x) xs (market ∷ []), nat_list_eq_equiv.symm market x, has_twice-push xs market)
+has_twice-push (x ∷ xs) market = search (rules, has_twice-push xs market, list_any-append)
 
 -- what stands twice does so in a longer list
 has_twice-longer : (xs ys : List (List ℕ)) → has_twice xs ≡ true → has_twice (xs ++ ys) ≡ true
@@ -48,7 +38,7 @@ market-among : (lists : List (List (List ℕ))) (party : ℕ) (market : List ℕ
     → has_market (all_markets lists) market ≡ true
 market-among [] party market has = absurd (true≢false (sym has))
 market-among (x ∷ xs) zero market has = rw (list_any-append, has)
-market-among (x ∷ xs) (suc party) market has = grind (arith, list_any-append (λ m. bytes_eq m market) x (all_markets xs), market-among xs party market has)
+market-among (x ∷ xs) (suc party) market has = grind (arith, common_steps, market-among xs party market has)
 
 market-absent : (lists : List (List (List ℕ))) (market : List ℕ) → ((party : ℕ) → has_market (served_by lists party) market ≡ false)
     → has_market (all_markets lists) market ≡ false
@@ -59,10 +49,7 @@ market-absent (x ∷ xs) market none = grind (arith, list_any-append, none 0, ma
 served-more : (lists : List (List (List ℕ))) (markets : List (List ℕ)) (market other : List ℕ) (party : ℕ)
     → has_market (served_by (lists ++ (markets ++ market ∷ []) ∷ []) party) other
     ≡ (has_market (served_by (lists ++ markets ∷ []) party) other || ((party == length lists) && bytes_eq market other))
-served-more [] markets market other zero = grind (arith, list_any-append (λ m. bytes_eq m other) markets (market ∷ []))
-served-more [] markets market other (suc party) = grind arith
-served-more (x ∷ xs) markets market other zero = grind arith
-served-more (x ∷ xs) markets market other (suc party) = grind (arith, served-more xs markets market other party)
+served-more lists markets market other party = grind (arith, common_steps)
 
 -- no market is noted yet
 pub noted-none : AreNoted [] (replicate MARKETS_LIMIT 0)
@@ -88,17 +75,8 @@ twice-more lists markets market = grind (arith, all_markets-push, append_assoc, 
 pub noted-more : (lists : List (List (List ℕ))) (markets : List (List ℕ)) (market : List ℕ) (noted : List ℕ)
     → AreNoted (lists ++ markets ∷ []) noted → IsMarket market → place_of market < MARKETS_LIMIT → get_or noted (place_of market) 0 ≡ 0
     → AreNoted (lists ++ (markets ++ market ∷ []) ∷ []) (set noted (place_of market) (length lists + 1))
-noted-more lists markets market noted are is within free = record {
-  long = length-set noted (place_of market) (length lists + 1) ∙ are.long;
-  once = rw (twice-more, are.once) (market-absent (lists ++ markets ∷ []) market
-      (λ party. are.parties market party is ∙ rw free (ne_eqb 0 (party + 1) (λ e. absurd (omega arith)))));
-  parties = λ other party is_other.
-      let before = are.parties other party is_other in
-      rw served-more (elim (cases_eq (place_of other) (place_of market)) [
-        | inl same ↦ grind (arith, nat_tests, same-market other market is_other is same, before, free, get_or-set_same, are.long, nat_list_eq_equiv.refl market)
-        | inr apart ↦ grind (arith, before, get_or-set_other, (bytes_eq-Decides market other).0)
-      ]);
-}
+noted-more lists markets market noted are is within free =
+    search (rules, twice-more, market-absent, ne_eqb, served-more, cases_eq, same-market)
 
 -- the market at hand was noted, so it stands twice
 pub noted-twice : (lists : List (List (List ℕ))) (markets : List (List ℕ)) (market : List ℕ) (noted : List ℕ)
@@ -112,7 +90,7 @@ noted-twice lists markets market noted are is taken =
 -- what a front of the last list has twice, all lists have twice
 pub twice-front : (lists : List (List (List ℕ))) (markets : List (List ℕ)) (i : ℕ)
     → has_twice (all_markets (lists ++ take i markets ∷ [])) ≡ true → has_twice (all_markets (lists ++ markets ∷ [])) ≡ true
-twice-front lists markets i twice = grind (arith, all_markets-push, append_assoc, take-append-drop i markets, has_twice-longer (all_markets lists ++ take i markets) (drop i markets))
+twice-front lists markets i twice = grind (arith, common_steps, has_twice-longer (all_markets lists ++ take i markets) (drop i markets))
 
 -- what the first lists have twice, all lists have twice
 pub twice-first : {V : Type 0} (items : V → List (List ℕ)) (lists : List V) (i : ℕ)

@@ -1,13 +1,12 @@
 -- The parties that serve markets.
-use Rattle.std.proofs.Common.{◌≡◌, ℕ, zero, suc, ◌+◌, ◌<◌, true, false, ◌||◌, ◌&&◌, List, [], ◌∷◌, ◌++◌, length, take, get_or, Option, refl, arith, nat_lt, bytes_eq}
-use Rattle.mv_hub.proofs.Words.{has_market, is_found, list_any-append, nat_list_eq_equiv, nat_tests, served_by, serves_one, take_more}
+use Rattle.std.proofs.lemmas.Grind.{common_steps}
+use Rattle.std.proofs.Common.{◌≡◌, ℕ, ◌+◌, ◌<◌, true, false, ◌||◌, ◌&&◌, List, [], ◌∷◌, ◌++◌, length, take, get_or, Option, refl, arith, nat_lt, rules}
+use Rattle.mv_hub.proofs.Words.{has_market, is_found, list_any-append, served_by, serves_one}
 
 -- who serves a market is a party
 pub server_is_party : (parties : List (List (List ℕ))) (party : ℕ) (market : List ℕ) → has_market (served_by parties party) market ≡ true
     → party < length parties
-server_is_party [] party market has = absurd (cc)
-server_is_party (x ∷ parties) zero market has = omega arith
-server_is_party (x ∷ parties) (suc party) market has = omega (arith, server_is_party parties party market has)
+server_is_party parties party market has = grind (arith, common_steps)
 
 -- none serves no market
 pub serves_one_none : (served : List (List ℕ)) → serves_one served [] ≡ false
@@ -18,14 +17,11 @@ serves_one_none (s ∷ served) = serves_one_none served
 serves_one-push : (served markets : List (List ℕ)) (market : List ℕ)
     → serves_one served (markets ++ market ∷ []) ≡ (serves_one served markets || has_market served market)
 serves_one-push [] markets market = refl
-serves_one-push (s ∷ served) markets market =
-    let more = list_any-append (λ m. bytes_eq m s) markets (market ∷ []) in
-    grind (arith, more, nat_list_eq_equiv.symm market s, serves_one-push served markets market)
+serves_one-push (s ∷ served) markets market = search (rules, serves_one-push served markets market, list_any-append)
 
 -- with one more market of a list, for which a look-up found this
 pub serves_more : (parties : List (List (List ℕ))) (markets : List (List ℕ)) (i : ℕ) (market : List ℕ) (party : ℕ) (found : Option ℕ)
     → i < length markets → market ≡ get_or markets i market → has_market (served_by parties party) market ≡ is_found found party
     → ((nat_lt party (length parties) && serves_one (served_by parties party) (take i markets)) || is_found found party)
     ≡ (nat_lt party (length parties) && serves_one (served_by parties party) (take (i + 1) markets))
-serves_more parties markets i market party found lt at is =
-    grind (arith, nat_tests, is, at, take_more markets i market lt, serves_one-push (served_by parties party) (take i markets) market, server_is_party parties party market)
+serves_more parties markets i market party found lt at is = grind (arith, common_steps, serves_one-push)

@@ -1,10 +1,9 @@
 -- What one more entry changes in what the record says of products and batches.
-use Rattle.std.proofs.Common.{◌≡◌, ℕ, List, [], ◌∷◌, ◌++◌, Option, Some, None, refl, arith}
-use Rattle.std.specs.Prelude.{option_to_list, unwrap_or}
-use Rattle.mv_hub.proofs.Words.{AreTables, BatchKey, Entry, LinkTable, Listing, catalogue_in, filter_map-append, is_same_listing, last_or, last_product, link_in, linked_in, linked_to, listing_equiv, catalogue_after, option_or, product_in, no_catalogue}
+use Rattle.std.proofs.Common.{◌≡◌, ℕ, List, [], ◌∷◌, ◌++◌, Option, Some, None, refl, arith, option_to_list, unwrap_or, rules}
+use Rattle.mv_hub.proofs.Words.{AreTables, BatchKey, Entry, LinkTable, Listing, catalogue_after, catalogue_in, filter_map-append, is_same_listing, last_or, last_product, link_in, linked_in, linked_to, listing_equiv, no_catalogue, option_or, product_in}
 use Rattle.mv_message.specs.declared.message.Product.{Product}
 use Rattle.mv_hub.specs.declared.catalogue.Catalogue.{Catalogue}
-use Rattle.mv_hub.specs.Catalogue.{catalogue_with, listing_in, batches_of}
+use Rattle.mv_hub.specs.Catalogue.{listing_in, batches_of}
 use Rattle.mv_hub.proofs.ListingLemmas.{listing-same, add_to, distinct-named}
 
 -- an empty record says nothing
@@ -37,14 +36,9 @@ abbrev pub known : Option Catalogue → Option Product → Option Listing → Op
 known catalogue None None = catalogue
 known catalogue product listing = Some (catalogue_after (unwrap_or catalogue no_catalogue) product listing)
 
-known-with : (old product : Option Product) (batches : List Listing) (listing : Option Listing)
-    → known (catalogue_with old batches) product listing ≡ catalogue_with (option_or product old) (add_to is_same_listing batches listing)
-known-with old product batches listing = grind arith
-
 -- the tables once one more entry stands at the end, where they changed by what that says
 pub tables-push : (entries : List Entry) (entry : Entry) (old new : List (List ℕ × Catalogue)) (old_links new_links : LinkTable)
     → ((gtin : List ℕ) → catalogue_in new gtin ≡ known (catalogue_in old gtin) (product_in gtin entry) (listing_in gtin entry))
     → ((batch : BatchKey) → linked_in new_links batch ≡ linked_in old_links batch ++ option_to_list (link_in batch entry))
     → AreTables entries old old_links → AreTables (entries ++ entry ∷ []) new new_links
-tables-push entries entry old new old_links new_links products links tables =
-    grind (arith, last_product-push, batches-push, links-push, known-with)
+tables-push entries entry old new old_links new_links products links tables = search (rules, last_product-push, batches-push, links-push)

@@ -1,8 +1,8 @@
 -- The faults of the hub: their numbers, and what a call answers where memory may be wanting.
 use Rattle.std.specs.Prelude.{◌≡◌, ℕ, List, codes, IsOk, Result, Ok, Err}
+use Rattle.mv_hub.specs.Words.{HubFault, RouteFault}
 use Rattle.mv_link.specs.declared.fault.LinkFault.{LinkFault}
 use Rattle.mv_link.specs.declared.fault.LinkFault.TheVariants as link
-use Rattle.mv_hub.specs.Words.{HubFault, RouteFault}
 use Rattle.mv_hub.specs.declared.fault.HubFault.TheVariants as hub
 use Rattle.mv_hub.specs.declared.fault.RouteFault.TheVariants as route
 

@@ -1,5 +1,5 @@
 -- What a routing puts on the links of its sender.
-use Rattle.std.specs.Prelude.{◌≡◌, ◌≢◌, ◌<◌, ◌≤◌, ◌+◌, ◌==◌, ◌&&◌, ◌++◌, ◌∷◌, [], ℕ, List, length, if◌then◌else◌}
+use Rattle.std.specs.Prelude.{◌≡◌, ◌≢◌, ◌<◌, ◌≤◌, ◌+◌, ◌==◌, ◌&&◌, ◌++◌, ◌∷◌, ℕ, List, [], length, if◌then◌else◌}
 use Rattle.mv_hub.specs.Words.{Carried, EndsWithHeld, IsSquare, Item, PARTIES_LIMIT, Receipt, Sending, has_party, parties_in}
 use Rattle.mv_hub.specs.declared.hub.routing.Routing.{Routing}
 use Rattle.mv_hub.specs.Record.{routed_count, is_open}

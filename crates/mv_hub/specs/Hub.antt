@@ -1,6 +1,6 @@
 -- What the hub is seen as. Neither links nor tables are part of it: they follow from the record.
 use Rattle.std.specs.Prelude.{ℕ, List, [], ◌∷◌, ◌++◌, ◌+◌, ◌-◌, length, Bool, ◌||◌, ◌&&◌, not, nat_lt, replicate, find, option_map, Option, Some, None, if◌then◌else◌}
-use Rattle.mv_hub.specs.Words.{AlreadyClosed, Closed, Entry, HubFault, Item, Message, NUMBER_LIMIT, RouteFault, Routed, Stranger, again_fault, cell, link_relay_fault, put, range_with_len}
+use Rattle.mv_hub.specs.Words.{AlreadyClosed, Closed, Entry, HubFault, Item, Message, NUMBER_LIMIT, RouteFault, Routed, StrangerParty as Stranger, again_fault, cell, put, range_with_len, relay_fault as link_relay_fault}
 use Rattle.mv_hub.specs.declared.fault.RouteFault.TheVariants.{StrangerParty, Busy}
 use Rattle.mv_hub.specs.Record.{routed_count, is_open}
 use Rattle.mv_hub.specs.Fault.{of_link}

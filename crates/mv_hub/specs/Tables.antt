@@ -1,13 +1,11 @@
 -- What the tables of the hub hold by its record, and how an entry changes them: words of the inside.
 use Rattle.std.specs.Prelude.{List, [], ◌∷◌, ◌++◌, ◌≡◌, ◌↔◌, ◌⊎◌, Contains, Option, Some, None, if◌then◌else◌, ℕ, bytes_eq}
-use Rattle.mv_hub.specs.Words.{BatchKey, Message, Product, Upload, is_same_batch, list_any, nat_list_eq_equiv}
+use Rattle.mv_hub.specs.Words.{BatchKey, IsEquivalence, Product, and_equiv, is_same_batch, list_any, nat_eq_equiv, nat_list_eq_equiv, on_equiv, option_map_or, option_or}
+use Rattle.mv_hub.specs.declared.catalogue.Catalogue.{Catalogue}
 use Rattle.std.specs.Map.{lookup}
-use Rattle.std.specs.Option.{option_map_or, option_or}
 use Rattle.std.specs.declared.alloc.Global.{Global}
 use Rattle.std.specs.declared.vec.Vec.{Vec}
-use Rattle.mv_hub.specs.declared.catalogue.Catalogue.{Catalogue}
 use Rattle.mv_hub.specs.Listing.{Listing, is_same_listing}
-use Rattle.std.specs.Cmp.{IsEquivalence, and_equiv, on_equiv, nat_eq_equiv}
 
 -- the batches after, by the batch before
 abbrev pub LinkTable : Type 0
@@ -25,11 +23,6 @@ pub record Gathers (old more new : List BatchKey) : Type 0 where
 -- nothing is known of a product
 abbrev pub no_catalogue : Catalogue
 no_catalogue = record { product = None; batches = [] }
-
--- the batch and its expiry that a message lists: those of an upload
-abbrev pub listing_of : Message → Option Listing
-listing_of (Upload gtin batch expiry national serials) = Some (batch, expiry)
-listing_of message = None
 
 -- one more listing, where there is one, unless it is there
 abbrev pub with_listing : List Listing → Option Listing → List Listing

@@ -1,10 +1,8 @@
 //! What the hub shows of a product.
 
 ghost use Rattle.std.specs.Prelude.{◌≡◌, ◌∷◌, ◌++◌, [], OnOk, OnErr};
-ghost use Rattle.std.specs.Cmp.{partial_equiv_from_equiv};
-ghost use Rattle.std.specs.Cmp.Lexicographic.{pointwise, lists_equiv, options_equiv};
+ghost use Rattle.mv_hub.specs.Words.{lists_equiv, option_copied, option_eq, options_equiv, partial_equiv_from_equiv, pointwise};
 ghost use Rattle.mv_message.specs.contracts.message.ProductEq.TheImpl.Laws.{laws-law};
-ghost use Rattle.std.specs.Option.{option_copied, option_eq};
 ghost use Rattle.mv_hub.specs.Record.{product_of};
 ghost use Rattle.mv_hub.specs.Listing.{is_same_listing};
 ghost use Rattle.mv_hub.specs.Tables.{listing_equiv};

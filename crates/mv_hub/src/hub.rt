@@ -1,8 +1,7 @@
 //! The hub: its record, a link for each ordered pair of parties, and which links are open.
 
 ghost use Rattle.std.specs.Prelude.{◌≡◌, ◌<◌, ◌≤◌, length, Contains, IfOk, option_map};
-ghost use Rattle.std.specs.Option.{option_copied};
-ghost use Rattle.mv_pairs.specs.Pairs.{IsSquare};
+ghost use Rattle.mv_hub.specs.Words.{IsSquare, option_copied};
 ghost use Rattle.mv_hub.specs.Record.{routed_count, last_markets, is_open};
 ghost use Rattle.mv_hub.specs.Catalogue.{catalogue_of};
 ghost use Rattle.mv_hub.specs.BatchLinks.{linked_to, IsDescendant, IsAscendingList};

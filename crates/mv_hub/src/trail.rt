@@ -2,14 +2,13 @@
 //! walks the record.
 
 ghost use Rattle.std.specs.Prelude.{◌≡◌, ◌++◌, ◌∷◌, [], List, OnOk, OnErr};
-ghost use Rattle.mv_pack.specs.declared.key.BatchKey.{BatchKey as ABatch};
-ghost use Rattle.mv_hub.specs.declared.entry.Entry.{Entry as AnEntry};
+ghost use Rattle.mv_hub.specs.Words.{BatchKey as ABatch, Entry as AnEntry};
 ghost use Rattle.mv_hub.specs.Tables.{linked_in};
 ghost use Rattle.mv_hub.specs.Kept.{AreTables};
 
-use crate::Entry;
 use crate::trail::batch_links::add_link;
 use crate::trail::catalogues::{Listed, note};
+use crate::{Entry, MasterProduct};
 use indexmap::IndexMap;
 use mv_message::Message;
 use mv_pack::{BatchKey, Gtin};
@@ -102,8 +101,19 @@ fn add_to_tables(
         return Ok(());
     };
     match message.get() {
-        Message::Master { gtin, .. } => note(alloc, catalogues, *gtin, message)?,
-        Message::Upload { gtin, .. } => note(alloc, catalogues, *gtin, message)?,
+        Message::Master { gtin, .. } => {
+            let product = MasterProduct::new(Some(message.share()?));
+            note(alloc, catalogues, *gtin, product, None)?
+        }
+        Message::Upload {
+            gtin,
+            batch,
+            expiry,
+            ..
+        } => {
+            let listing = Some((batch.copy(), *expiry));
+            note(alloc, catalogues, *gtin, MasterProduct::new(None), listing)?
+        }
         Message::Repack { before, after, .. } => {
             add_link(alloc, batch_links, before.get(), after.get())?
         }

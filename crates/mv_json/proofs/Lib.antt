@@ -1,3 +1,4 @@
+pub mod Words
 pub mod MembersLemmas
 pub mod ValueLemmas
 pub mod TokenLemmas

@@ -1,10 +1,7 @@
 -- Keys of objects.
 use Rattle.std.proofs.Common.{◌≡◌, ℕ, ◌||◌, not, map, Bool, List, [], ◌∷◌, ap, refl, arith, bytes_eq, option_map, find, String, string_bytes}
+use Rattle.mv_json.proofs.Words.{Value, first_unknown, list_any, members_view}
 use Rattle.std.specs.declared.alloc.Global.{Global}
-use Rattle.std.specs.List.{list_any}
-use Rattle.serde_json.specs.View.{members_view}
-use Rattle.serde_json.specs.declared.value.Value.{Value}
-use Rattle.mv_json.specs.Members.{first_unknown}
 
 -- a test of each image is a test of each element
 pub list_any_of_map : {X Y : Type 0} (p : Y → Bool) (f : X → Y) (xs : List X) → list_any p (map f xs) ≡ list_any (λ x. p (f x)) xs

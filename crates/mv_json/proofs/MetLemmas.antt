@@ -1,19 +1,9 @@
 -- Fields of an object that are met in any order: its tokens are its members, one after the other.
 use Rattle.std.proofs.Common.{◌≡◌, ◌∙◌, ◌≤◌, ◌<◌, ◌-◌, ℕ, suc, List, [], ◌∷◌, ◌++◌, length, map, ap, sym, subst, refl, arith, Option, Some, All, Contains, ◌≢◌}
-use Rattle.std.proofs.lemmas.List.{map-append}
-use Rattle.std.proofs.lemmas.List.Elements.{All-append, All-cons, All-nil, Contains-append_left, Contains-append_right}
-use Rattle.std.specs.List.{AllByRecursion}
-use Rattle.json.specs.Json as json
-use Rattle.json.specs.Json.{value, members, parse_map}
-use Rattle.json.specs.Token.{Token, begin_object, end_object, key}
-use Rattle.json.specs.Token as token
-use Rattle.json.proofs.Grammar.{left, value_is, value-begin_object, skip_value-shorter, members_end, members_more}
+use Rattle.mv_json.proofs.Words.{All-append, All-cons, All-contains, All-map, All-nil, AllByRecursion, BeginWith, Contains-append_left, Contains-append_right, Data, HasMet, HasOnly, Members, Token, begin_object, converted, end_object, get, get_member, get_or-map, key, keys_of, left, length-map, map-append, member, members, members_end, members_more, no_members, number, number_of, object, of_json, of_members, parse_map, put, skip_value-shorter, string, unsigned, value, value-begin_object, value_is}
 use Rattle.serde_json.proofs.Views.{get_member-put, get_member-put_other}
-use Rattle.serde_json.specs.Data.{Data, string, number, object, unsigned, Members, no_members, member, put}
-use Rattle.serde_json.specs.Find.{get_member}
-use Rattle.serde_json.specs.Read.{number_of, of_json, of_members, converted}
-use Rattle.mv_json.specs.Members.{keys_of}
-use Rattle.mv_json.specs.Met.{BeginWith, HasMet}
+use Rattle.json.specs.Json as json
+use Rattle.json.specs.Token as token
 
 -- ---- the grammar, a turn at a time, under the conversion to values
 
@@ -140,3 +130,20 @@ all_met name Says deep start rest all are = (
   come_through deep start rest are.members are.come,
   record { members = are.members; is = refl; says = are.says; only = are.only },
 )
+
+-- what was met stands in its field
+pub stands : {Met : Type 0} {name : Met → List ℕ} {Says : Data → Met → Type 0} {value : Data} {entries : List Met} (met : Met)
+    → HasMet name Says value entries → Contains entries met → (part : Data) × (get (name met) value ≡ Some part) × Says part met
+stands {Met} {name} {Says} {value} {entries} met has at =
+    All-contains (λ met. (part : Data) × (get (name met) value ≡ Some part) × Says part met) entries met has.says at
+
+named_among : {Field : Type 0} (name : Field → List ℕ) (listed : List Field) (field : Field) → Contains listed field → Contains (map name listed) (name field)
+named_among name listed field at = (at.0, omega (arith, length-map listed name, at.1), get_or-map name listed at.0 field (name field) at.1 ∙ ap name at.2)
+
+-- an object whose fields are all among these has no other key
+pub known_only : {Met Field : Type 0} (name : Field → List ℕ) (field_of : Met → Field) {Says : Data → Met → Type 0} {value : Data} {entries : List Met} (listed : List Field)
+    → HasMet (λ met. name (field_of met)) Says value entries → All (λ met. Contains listed (field_of met)) entries → HasOnly (map name listed) value
+known_only name field_of {entries = entries} listed has among =
+    let P : List ℕ → Type 0 = Contains (map name listed) in
+    let known = All-map P (λ met. name (field_of met)) entries (λ k d h. named_among name listed _ (among k d h)) in
+    (has.members, has.is, weaker _ P (λ key h. All-contains P _ key known h) (keys_of has.members) has.only)

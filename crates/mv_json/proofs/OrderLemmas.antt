@@ -1,10 +1,6 @@
 -- Lists that are sorted, by computing.
 use Rattle.std.proofs.Common.{◌≡◌, true, ◌&&◌, Bool, List, [], ◌∷◌, arith}
-use Rattle.std.specs.Ordering.{is_lt}
-use Rattle.std.specs.declared.cmp.Ordering.{Ordering}
-use Rattle.std.specs.declared.cmp.Ordering.TheVariants.{Less}
-use Rattle.std.specs.List.{list_all, AllByRecursion}
-use Rattle.std.specs.List.Sorted.{IsStrictlySortedBy}
+use Rattle.mv_json.proofs.Words.{AllByRecursion, IsStrictlySortedBy, Less, Ordering, is_lt, list_all}
 use Rattle.std.proofs.lemmas.Bool.{and_parts}
 
 is_less : (order : Ordering) → is_lt order ≡ true → order ≡ Less

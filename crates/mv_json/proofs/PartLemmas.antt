@@ -1,37 +1,15 @@
 -- What stands in the fields of a message: its tokens, and what is read of it.
-use Rattle.json.proofs.Grammar.{value_is, value-begin_array}
-use Rattle.json.specs.Json.{value, items}
-use Rattle.json.specs.Json as json
-use Rattle.json.specs.Lex.{tokens}
-use Rattle.json.specs.Token.{Token, begin_array, end_array, key}
-use Rattle.json.specs.Token as token
+use Rattle.mv_json.proofs.Words.{All-map, All-set, AllByRecursion, BeginWith, BeginWithMessage, BeginWithPart, BeginWithTexts, Data, Entry, Field, HasEntries, IsCode, IsMarket, IsPart, IsPlace, IsTaken, IsThere, Message, PackFault, StartWithPart, Token, array, as_bool, as_null, as_str, begin_array, converted, deep_in, end_array, entry, entry_name, field_name, get, items, key, keys_of, list_at, most_markets, most_serials, null, of_items, of_json, read_bytes, read_code, read_market, string, strings, there, tokens, value, value-begin_array, value_is, whole, whole_number}
 use Rattle.mv_json.proofs.MetLemmas.{AreMet, one_more_met, weaker, text_begins, whole_begins}
 use Rattle.mv_json.proofs.ReadingLemmas.{none_named, Inverts, codes_inverted, markets_inverted, list_tells}
 use Rattle.mv_json.proofs.ValueLemmas.{utf8_test}
-use Rattle.mv_json.specs.Fields.{field_name}
-use Rattle.mv_json.specs.Limits.{most_markets, most_serials}
-use Rattle.mv_json.specs.Members.{keys_of, HasOnly}
-use Rattle.mv_json.specs.Messages.{read_bytes}
-use Rattle.mv_json.specs.Met.{BeginWith}
-use Rattle.mv_json.specs.Parts.{BeginWithMessage, BeginWithPart, BeginWithTexts, StartWithPart, entry, entry_name, HasEntries, IsPart, IsPlace, IsTaken, IsThere, deep_in, there}
-use Rattle.mv_json.specs.Reading.{list_at, whole_number}
-use Rattle.mv_json.specs.Values.{strings, whole}
-use Rattle.mv_json.specs.declared.field.Field.{Field}
 use Rattle.mv_json.specs.declared.object.Place.{Place}
-use Rattle.mv_json.specs.declared.part.Entry.{Entry}
 use Rattle.mv_json.specs.declared.part.Part.{Part}
-use Rattle.mv_json.specs.declared.part.Part.TheVariants as parts
-use Rattle.mv_message.specs.declared.message.Message.{Message}
-use Rattle.mv_pack.specs.Code.{IsCode, read_code}
-use Rattle.mv_pack.specs.Market.{IsMarket, read_market}
-use Rattle.mv_pack.specs.declared.fault.PackFault.{PackFault}
-use Rattle.serde_json.specs.Data.{Data, null, boolean, string, array}
-use Rattle.serde_json.specs.Find.{get, as_str, as_bool, as_null}
-use Rattle.serde_json.specs.Read.{of_json, of_items, converted}
-use Rattle.std.proofs.Common.{◌≡◌, ◌∙◌, ◌-◌, ℕ, Bool, true, false, List, [], ◌∷◌, ◌++◌, length, map, set, ap, sym, subst, refl, arith, Option, Some, None, Result, Ok, All, Contains, is_some, IfSome, IsUtf8, ◌≢◌}
+use Rattle.std.proofs.Common.{◌≡◌, ◌∙◌, ℕ, Bool, true, false, List, [], ◌∷◌, ◌++◌, length, map, set, ap, sym, subst, refl, arith, Option, Some, None, Result, Ok, All, Contains, is_some, IfSome, IsUtf8, ◌≢◌}
 use Rattle.std.proofs.Math.Seq.{map-set_same}
-use Rattle.std.proofs.lemmas.List.Elements.{All-contains, All-cons, All-map, All-nil, All-set, Contains-append_right}
-use Rattle.std.specs.List.{AllByRecursion}
+use Rattle.json.specs.Json as json
+use Rattle.json.specs.Token as token
+use Rattle.mv_json.specs.declared.part.Part.TheVariants as parts
 
 -- ---- lists of texts
 
@@ -66,9 +44,7 @@ texts_parsed reader Holds good ts (x ∷ xs) rest (more, (text, is, read), then)
 -- a list of texts, behind the bracket that opens it
 listed : (reader : List ℕ → Result (List ℕ) PackFault) (Holds : List ℕ → Type 0) → Inverts reader (λ t. t) Holds → (ts list rest : List Token) (xs : List (List ℕ)) → ts ≡ begin_array ∷ list
     → BeginWithTexts reader list xs rest → BeginWith 1 ts (array (strings xs)) rest × AllByRecursion Holds xs
-listed reader Holds good ts list rest xs opens has =
-    let m = texts_parsed reader Holds good list xs rest has in
-    (λ depth h. rw opens (ap (converted of_json) (value-begin_array depth list h) ∙ rw (m.parsed (depth - 1), m.is)), m.hold)
+listed reader Holds good ts list rest xs opens has = grind (arith, texts_parsed reader Holds good list xs rest has, value-begin_array)
 
 -- tokens that say a part, which is no object, are a value that says it
 part_starts : (ts rest : List Token) (part : Part) → StartWithPart ts part rest → BeginWithPart 1 ts part rest
@@ -80,13 +56,12 @@ part_starts ts rest (parts.Serials x) (list, opens, has, count) =
     let (begins, hold) = listed read_code IsCode codes_inverted ts list rest x.items opens has in
     (array (strings x.items), begins, (refl, (count.0, count.1, hold)))
 part_starts ts rest (parts.Text x) is = (string x.now, rw is (text_begins 1 x.now rest), refl)
-part_starts ts rest (parts.Truth x) is = (boolean x, rw is (λ depth h. ap (converted of_json) (value_is depth (token.boolean x ∷ rest))), refl)
+part_starts ts rest (parts.Truth x) is = grind (arith, value_is)
 part_starts ts rest (parts.Whole x) (text, is, numbered) = (whole x, rw is (whole_begins 1 x text rest numbered), refl)
 part_starts ts rest part says = absurd says
 
 pub part_begins : (is_inside : Bool) (ts rest : List Token) (part : Part) → StartWithPart ts part rest → BeginWithPart (deep_in is_inside) ts part rest
-part_begins true ts rest part says = part_starts ts rest part says
-part_begins false ts rest part says = let (found, begins, is) = part_starts ts rest part says in (found, λ depth h. begins depth (omega arith), is)
+part_begins is_inside ts rest part says = grind (arith, part_starts)
 
 -- ---- names
 
@@ -168,28 +143,6 @@ not_there field value entries has apart =
 pub is_there : (field : Field) (value found : Data) (place : Place) → get (field_name field) value ≡ Some found → IsPlace found place → IsThere field value place
 unfolding there
 is_there field value found place at is = (rw at refl, rw at is)
-
--- what was met stands in its field
-pub stands : (value : Data) (entries : List Entry) (field : Field) (part : Part) → HasEntries value entries → Contains entries (entry field part)
-    → (found : Data) × (get (field_name field) value ≡ Some found) × IsPart found part
-stands value entries field part has at = All-contains (λ met. (found : Data) × (get (entry_name met) value ≡ Some found) × IsPart found met.part) entries (entry field part) has.says at
-
--- ---- objects that have no fields but some
-
-named_each : (listed : List Field) → All (λ field. Contains (map field_name listed) (field_name field)) listed
-named_each [] = All-nil _
-named_each (field ∷ rest) =
-    All-cons (λ f. Contains (map field_name (field ∷ rest)) (field_name f)) field rest (0, omega arith, refl)
-    (λ k d h. Contains-append_right (field_name field ∷ []) (map field_name rest) _ (named_each rest k d h))
-
--- an object whose fields are all among these has no other key
-pub known_only : (value : Data) (entries : List Entry) (listed : List Field) → HasEntries value entries → All (λ met. Contains listed met.field) entries
-    → HasOnly (map field_name listed) value
-known_only value entries listed has among =
-    let P : List ℕ → Type 0 = Contains (map field_name listed) in
-    let known : All P (map entry_name entries) =
-    All-map P entry_name entries (λ k d h. All-contains (λ field. P (field_name field)) listed _ (named_each listed) (among k d h)) in
-    (has.members, has.is, weaker (Contains (map entry_name entries)) P (λ key h. All-contains P (map entry_name entries) key known h) (keys_of has.members) has.only)
 
 -- ---- whole texts
 

@@ -1,41 +1,18 @@
 -- A value is read as a message exactly where it is a spelling of it; what is read is legal, and the value of what is legal spells it.
+use Rattle.mv_json.proofs.Words.{Absent, AllByRecursion, AreLegal, AreSpelled, Data, Field, Found, Has, HasOnly, IsIn, IsLegal, IsLegalFound, IsStrictlySortedBy, Making, Meaning, Members, Message, MessageFault, One, PackKey, Present, Reads, Spells, SpellsFound, Standing, Two, Unknown, Version, contents_of, field_name, fields_of, first_fault, first_unknown, form_at, form_name, form_named, form_of, found_at, found_of, found_value, found_version, get, keys_of, list_any, made_at, making_of, meaning_of, message_at, message_version, names_in, names_of, nat_cmp, object, option_map_or, option_or, part_of, present_at, present_fields, present_of, read_expiry_text, read_gtin_of, read_message, since_two, string, value_in, value_of, version_at, version_of, whole}
 use Rattle.mv_json.proofs.OrderLemmas.{rises, strictly_sorted}
-use Rattle.mv_json.proofs.ReadingLemmas.{each, made, made_ok, parts_agree, made_read, both_ok, given, ok_or_some, text_tells, same_bytes, found_by_name, unrefused, member_tells}
-use Rattle.mv_json.specs.Fields.{field_name, names_in}
-use Rattle.mv_json.specs.Meanings.{Spells, part_of, Meaning, Making, made_at, first_fault, Has, AreLegal, AreSpelled}
-use Rattle.mv_json.specs.Members.{keys_of, first_unknown, HasOnly}
-use Rattle.mv_json.specs.Messages.{read_message, value_of, value_in, message_version}
-use Rattle.mv_json.specs.Reading.{◌and_then◌, text_at}
-use Rattle.mv_json.specs.Shapes.{IsIn, form_name, forms_of, form_named, form_at, version_of, version_at, form_of, present_fields, found_version, found_value, SpellsFound, IsLegalFound, present_at, present_of, found_of, found_at, meaning_of, fields_of, making_of, names_of, message_at, contents_of, IsLegal, Reads}
-use Rattle.mv_json.specs.Values.{whole, since_two}
-use Rattle.mv_json.specs.declared.fault.MessageFault.{MessageFault}
-use Rattle.mv_json.specs.declared.fault.MessageFault.TheVariants.{Kind, Unknown}
-use Rattle.mv_json.specs.declared.field.Field.{Field}
-use Rattle.mv_json.specs.declared.field.Field.TheVariants as fields
+use Rattle.mv_json.proofs.ReadingLemmas.{each, made, made_ok, parts_agree, made_read, both_ok, given, ok_or_some, same_bytes, unrefused}
+use Rattle.mv_json.specs.Reading.{◌and_then◌}
 use Rattle.mv_json.specs.declared.form.Form.{Form}
-use Rattle.mv_json.specs.declared.form.Form.TheVariants as forms
-use Rattle.mv_json.specs.declared.form.Version.{Version}
-use Rattle.mv_json.specs.declared.form.Version.TheVariants.{One, Two}
-use Rattle.mv_message.specs.declared.found.Found.{Found}
-use Rattle.mv_message.specs.declared.found.Found.TheVariants.{Absent, Present}
-use Rattle.mv_message.specs.declared.message.Message.{Message}
-use Rattle.mv_message.specs.declared.message.Message.TheVariants as messages
-use Rattle.mv_message.specs.declared.standing.Standing.{Standing}
-use Rattle.mv_pack.proofs.ExpiryLemmas.{read_expiry_text}
-use Rattle.mv_pack.proofs.GtinLemmas.{read_gtin_of}
 use Rattle.mv_pack.specs.Expiry.{expiry_text, CivilDate}
 use Rattle.mv_pack.specs.Gtin.{read_gtin, IsGtin}
-use Rattle.mv_pack.specs.declared.key.PackKey.{PackKey}
-use Rattle.serde_json.specs.Data.{Data, object, string, Members, null}
-use Rattle.serde_json.specs.Find.{get, as_object}
-use Rattle.std.proofs.Common.{◌≡◌, ◌∙◌, ℕ, true, false, not, cond, List, [], ◌∷◌, ap, subst, refl, arith, Bool, bytes_eq, Option, Some, None, Result, Ok, Err, find, Contains, is_some}
+use Rattle.std.proofs.Common.{◌≡◌, ◌∙◌, ℕ, true, false, not, cond, List, [], ◌∷◌, ap, subst, refl, arith, Bool, bytes_eq, Option, Some, None, Result, Ok, Err, find, Contains, is_some, rules}
 use Rattle.std.proofs.lemmas.Map.Views.{Contains-from_any, list_any-from_Contains}
 use Rattle.std.specs.Cmp.Lexicographic.{nat_list_eq_equiv, slice_cmp}
-use Rattle.std.specs.List.{AllByRecursion, list_any}
-use Rattle.std.specs.List.Sorted.{IsStrictlySortedBy}
-use Rattle.std.specs.Option.{ok_or, option_map_or, option_or}
-use Rattle.std.specs.Ordering.{nat_cmp}
-use Rattle.std.specs.Result.{result_err, result_ok}
+use Rattle.std.specs.Result.{result_err}
+use Rattle.mv_json.specs.declared.field.Field.TheVariants as fields
+use Rattle.mv_json.specs.declared.form.Form.TheVariants as forms
+use Rattle.mv_message.specs.declared.message.Message.TheVariants as messages
 
 -- ---- the keys, the version and the form of an object, and the fault of its fields
 
@@ -53,9 +30,7 @@ all_known names (k ∷ ks) h = elim (is_among names k) as (λ b. is_among names 
 
 pub none_unknown : (names keys : List (List ℕ)) → AllByRecursion (Contains names) keys → find (λ key. not (is_among names key)) keys ≡ None
 none_unknown names [] h = refl
-none_unknown names (k ∷ ks) h =
-    ap (λ b. cond (not b) (Some k) (find (λ key. not (is_among names key)) ks)) (list_any-from_Contains nat_list_eq_equiv k names h.0)
-    ∙ none_unknown names ks h.1
+none_unknown names (k ∷ ks) h = cc (none_unknown names ks h.1, list_any-from_Contains nat_list_eq_equiv k names h.0)
 
 -- what reading gives, where no key is unknown
 abbrev unless_unknown : {A : Type 0} → Option (List ℕ) → Result A MessageFault → Result A MessageFault
@@ -86,26 +61,14 @@ version_ok d version h = version_of_ok (get (field_name fields.V) d) version h
 
 pub version_read : (d : Data) (version : Version) → IsOfVersion version d → version_at d ≡ Ok version
 unfolding version_at
-version_read d One h = ap version_of h
-version_read d Two h = ap version_of h
-
--- a text that names a form is its name, and the form came with that version, or before it
-pub form_has_name : (version : Version) (t : List ℕ) (form : Form) → form_named version t ≡ Some form → (t ≡ form_name form) × IsIn form version
-form_has_name One t form h = found_by_name form_name (λ f. IsIn f One) t (forms_of One) form (tt, (tt, (tt, (tt, (tt, (tt, (tt, tt))))))) h
-form_has_name Two t form h = found_by_name form_name (λ f. IsIn f Two) t (forms_of Two) form (tt, (tt, (tt, (tt, (tt, (tt, (tt, (tt, tt)))))))) h
+version_read d version h = grind arith
 
 form_is_named : (version : Version) (form : Form) → IsIn form version → form_named version (form_name form) ≡ Some form
-form_is_named One forms.Withdraw h = absurd h
-form_is_named One form h = refl
-form_is_named Two forms.Withdraw h = refl
-form_is_named Two form h = refl
+form_is_named version form h = grind arith
 
 form_ok : (version : Version) (d : Data) (form : Form) → form_at version d ≡ Ok form → Has d fields.Msg (string (form_name form)) × IsIn form version
 unfolding form_at
-form_ok version d form h =
-    let b = both_ok (text_at fields.Msg d) (λ t. ok_or (form_named version t) (Kind fields.Msg)) form h in
-    let named = form_has_name version b.0 form (ok_or_some (Kind fields.Msg) (form_named version b.0) form b.2) in
-    (subst (λ t. Has d fields.Msg (string t)) named.0 ((text_tells fields.Msg).ok d b.0 b.1), named.1)
+form_ok version d form h = search rules
 
 pub form_read : (version : Version) (d : Data) (form : Form) → Has d fields.Msg (string (form_name form)) → IsIn form version → form_at version d ≡ Ok form
 unfolding form_at
@@ -119,20 +82,18 @@ opened d m h = grind (arith, both_ok, unless_ok, ok_or_some, form_ok, version_ok
 -- an object of that version and form, with no other key, is read by its fields
 pub read_by_fields : (d : Data) (version : Version) (form : Form) → version_at d ≡ Ok version → form_at version d ≡ Ok form → HasOnly (names_of version form) d → read_message d ≡ message_at version form d
 unfolding read_message
-read_by_fields d version form of_version of_form (ms, is_object, known) =
-    rw (ap as_object is_object, of_version, of_form, none_unknown (names_of version form) (keys_of ms) known) refl
+read_by_fields d version form of_version of_form (ms, is_object, known) = cc (none_unknown (names_of version form) (keys_of ms) known)
 
 -- an object of that version and form is read as what its fields give
 pub reopened : (d : Data) (m : Message) (version : Version) (form : Form) → IsOfVersion version d → IsOfForm version form d → IsIn form version → message_at version form d ≡ Ok m → read_message d ≡ Ok m
 reopened d m version form of_version (known, name) is_in fields_read =
-    read_by_fields d version form (version_read d version of_version) (form_read version d form name is_in) known ∙ fields_read
+    cc (read_by_fields d version form (version_read d version of_version) (form_read version d form name is_in) known)
 
 -- ---- the fault of a message is that of its first field that has one
 
 -- the fault of a reading, else that of the next, which is the same whatever the first gave
 behind : {A M : Type 0} (a : Result A MessageFault) (next : A → Result M MessageFault) (rest : Option MessageFault) → ((x : A) → result_err (next x) ≡ rest) → result_err (a and_then next) ≡ option_or (result_err a) rest
-behind (Ok x) next rest h = h x
-behind (Err fault) next rest h = refl
+behind a next rest h = grind arith
 
 -- the fault of fields is that of the first of them that has one
 made_fault : (A : Type 0) (meaning : Field → Meaning) (listed : List Field) (makes : Making meaning A listed) (d : Data) → result_err (made_at meaning listed makes d) ≡ first_fault meaning listed d
@@ -149,10 +110,7 @@ first_fault_is_given d version form of_version of_form known = ap result_err (re
 
 names_rise : (version : Version) (form : Form) → rises (slice_cmp nat_cmp) (names_of version form) ≡ true
 unfolding rises
-names_rise One forms.Answer = refl
-names_rise One form = refl
-names_rise Two forms.Answer = refl
-names_rise Two form = refl
+names_rise version form = grind arith
 
 -- the names of the fields of a message are in byte order, each once
 pub fields_are_in_order : (version : Version) (form : Form) → IsStrictlySortedBy (slice_cmp nat_cmp) (names_of version form)
@@ -171,21 +129,14 @@ fields_spelled version part found only h =
     subst (SpellsFound version part) p.2 (only, each (part_of version) _ _ (λ field x h. (parts_agree version field).tells.ok part x h) present_fields p.0 p.1)
 
 none_found : {A : Type 0} (o : Option A) → is_some o ≡ false → o ≡ None
-none_found None h = refl
-none_found (Some x) h = cc
+none_found o h = grind arith
 
 object_spelled : (version : Version) (part : Data) (found : Found) → present_of version part ≡ Ok found → SpellsFound version part found
 unfolding present_of
 object_spelled version part found h = grind (arith, both_ok, unrefused, fields_spelled, all_known, none_found)
 
-present_ok : (r : Result Found MessageFault) (found : Found) → ok_or (result_ok r) (Kind fields.Found) ≡ Ok found → r ≡ Ok found
-present_ok (Ok x) found h = cc
-present_ok (Err e) found h = cc
-
 part_spelled : (version : Version) (part : Data) (found : Found) → found_of version part ≡ Ok found → SpellsFound version part found
-part_spelled version null Absent h = refl
-part_spelled version null (Present batch expiry national standing recalled withdrawn) h = cc
-part_spelled version part found h = object_spelled version part found (present_ok (present_of version part) found h)
+part_spelled version part found h = grind (arith, object_spelled)
 
 -- the field `found` says what was found
 abbrev pub HasFound : Version → Data → Found → Type 0
@@ -199,8 +150,7 @@ found_ok version d found h = grind (arith, part_spelled)
 -- an object that has no other key than the fields of a pack is read as the pack that they give
 pub pack_read : (version : Version) (part : Data) (found : Found) → HasOnly (names_in version present_fields) part → present_at version part ≡ Ok found → found_of version part ≡ Ok found
 unfolding present_of
-pack_read version part found (ms, is_object, known) given =
-    rw (is_object, none_unknown (names_in version present_fields) (keys_of ms) known, rw is_object at given) refl
+pack_read version part found (ms, is_object, known) given = grind (arith, none_unknown (names_in version present_fields) (keys_of ms) known)
 
 part_read : (version : Version) (part : Data) (found : Found) → SpellsFound version part found → found_of version part ≡ Ok found
 part_read version part Absent h = ap (found_of version) h
@@ -211,8 +161,7 @@ part_read version part (Present batch expiry national standing recalled withdraw
 -- a field that spells what was found is read as it
 pub found_read : (version : Version) (d : Data) (found : Found) → HasFound version d found → found_at version d ≡ Ok found
 unfolding found_at
-found_read version d found (part, has, spells) =
-    ap (λ r. r and_then found_of version) ((member_tells fields.Found).read d part has) ∙ part_read version part found spells
+found_read version d found (part, has, spells) = grind (arith, part_read)
 
 -- ---- messages
 
@@ -272,13 +221,12 @@ spelled_is_read d m (version, h) =
 -- ---- what is read is legal, and the value of what is legal spells it
 
 found_in_two : (version : Version) (found : Found) → IsLegalFound version found → IsLegalFound Two found
-found_in_two version Absent h = tt
-found_in_two version (Present batch expiry national standing recalled withdrawn) h = (h.0, (h.1.0, ((λ e. cc, h.1.1.0.1), (tt, (tt, ((λ e. cc, tt), tt))))))
+found_in_two version found h = grind arith
 
 -- what is legal in a version is legal
 in_two : (version : Version) (m : Message) → AreLegal (meaning_of version (form_of m)) (fields_of (form_of m)) (contents_of version m) → IsLegal m
 in_two version (messages.Answer asker q key found) h = (h.0, (found_in_two version found h.1.0, h.1.1))
-in_two version (messages.Upload gtin batch expiry national serials) h = (h.0, (h.1.0, (h.1.1.0, (tt, ((λ e. cc, h.1.1.1.1.0.1), h.1.1.1.1.1)))))
+in_two version (messages.Upload gtin batch expiry national serials) h = grind arith
 in_two version (messages.Withdraw gtin at) h = (h.0, (h.1.0, (tt, h.1.1.1)))
 in_two version m h = h
 
@@ -318,12 +266,9 @@ spelled_two x before said legal = (λ e. said, λ e. cc, legal)
 
 -- what was found is spelled in the version that says all of it
 found_spelled : (found : Found) → IsLegalFound Two found → SpellsFound (found_version found) (found_value (found_version found) found) found
-found_spelled (Present batch expiry None standing recalled false) h =
-    (only (names_in One present_fields) _ refl, ((refl, h.0), ((expiry_text expiry, refl, read_expiry_text expiry h.1.0), (spelled_one _ _ refl h.1.1.0.1, ((refl, tt), ((refl, tt), (spelled_one _ _ refl tt, tt)))))))
-found_spelled (Present batch expiry None standing recalled true) h =
-    (only (names_in Two present_fields) _ refl, ((refl, h.0), ((expiry_text expiry, refl, read_expiry_text expiry h.1.0), (spelled_two _ _ refl h.1.1.0.1, ((refl, tt), ((refl, tt), (spelled_two _ _ refl tt, tt)))))))
-found_spelled (Present batch expiry (Some national) standing recalled withdrawn) h =
-    (only (names_in Two present_fields) _ refl, ((refl, h.0), ((expiry_text expiry, refl, read_expiry_text expiry h.1.0), (spelled_two _ _ refl h.1.1.0.1, ((refl, tt), ((refl, tt), (spelled_two _ _ refl tt, tt)))))))
+found_spelled (Present batch expiry None standing recalled false) h = search (rules, only, read_expiry_text, spelled_one)
+found_spelled (Present batch expiry None standing recalled true) h = search (only, read_expiry_text)
+found_spelled (Present batch expiry (Some national) standing recalled withdrawn) h = search (only, read_expiry_text)
 found_spelled found h = refl
 
 answer_spells : (version : Version) (asker q : ℕ) (key : PackKey) (found : Found) → IsLegal (messages.Answer asker q key found) → SpellsFound version (found_value version found) found → Reads (value_in version (messages.Answer asker q key found)) (messages.Answer asker q key found)

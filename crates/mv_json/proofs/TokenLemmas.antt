@@ -1,24 +1,12 @@
 -- Tokens that are put one after another.
-use Rattle.std.proofs.Common.{◌≡◌, ◌≤◌, ℕ, List, [], ◌∷◌, ◌++◌, length, map, take, refl, subst, ap, ◌∙◌, append_assoc, None, Some, Result, Ok}
-use Rattle.std.proofs.lemmas.List.{take_all}
-use Rattle.std.specs.Option.{option_map_or}
+use Rattle.std.proofs.Common.{◌≡◌, ◌≤◌, ℕ, List, [], ◌∷◌, ◌++◌, length, map, take, refl, subst, ap, ◌∙◌, append_assoc, None, Some, Result, Ok, arith}
+use Rattle.mv_json.proofs.Words.{Data, Field, Puts, PutsValue, Token, Version, array, begin_array, compact_text, end_array, end_object, field_name, items_outline, member, members_of, members_outline, members_put, no_members, option_map_or, print, print-outline, since_two, strings, take_all, tokens_of, version_member, whole}
 use Rattle.std.proofs.lemmas.Result.{on_ok_weaker}
-use Rattle.json.specs.Token as token
-use Rattle.json.specs.Token.{Token, key, begin_array, end_array, end_object}
-use Rattle.json.specs.Print.{print}
 use Rattle.json.specs.Tree.{items_tokens, members_tokens}
 use Rattle.json.specs.Written.{Written, Writes}
-use Rattle.serde_json.specs.Data.{Data, array, member, no_members}
-use Rattle.serde_json.specs.Written.{items_outline, members_outline, compact_text}
-use Rattle.serde_json.proofs.Texts.{print-outline}
-use Rattle.mv_json.specs.Fields.{field_name}
-use Rattle.mv_json.specs.Tokens.{Puts, PutsValue, tokens_of, members_put, said_value, members_of, version_member}
-use Rattle.mv_json.specs.Values.{since_two, strings, whole}
-use Rattle.mv_json.specs.declared.field.Field.TheVariants as fields
-use Rattle.mv_json.specs.declared.form.Version.{Version}
-use Rattle.mv_json.specs.declared.form.Version.TheVariants.{One, Two}
-use Rattle.mv_json.specs.declared.field.Field.{Field}
 use Rattle.mv_json.specs.declared.member.Said.{Said}
+use Rattle.json.specs.Token as token
+use Rattle.mv_json.specs.declared.field.Field.TheVariants as fields
 
 -- a token that was written
 pub one : {E : Type 0} {result : Result (Unit {0}) E} {old new : Written} {token : Token} → Writes result old new token → Puts result old new (token ∷ [])
@@ -48,21 +36,17 @@ module _ {A : Type 0} (text_of : A → List ℕ) where
 
   -- a list that was put to its end
   pub whole_list : (i : ℕ) (values : List A) → length values ≤ i → (begin_array ∷ map (λ value. token.string (text_of value)) (take i values)) ++ end_array ∷ [] ≡ tokens_of (array (strings (map text_of values)))
-  whole_list i values end =
-      ap (λ ts. begin_array ∷ ts) (ap (λ some. map (λ value. token.string (text_of value)) some ++ end_array ∷ []) (take_all i values end) ∙ list_tokens values)
+  whole_list i values end = simp (take_all, list_tokens)
 
 -- members, and the end of their object
 pub members_are : (members : List (Field × Said)) → members_put members ++ end_object ∷ [] ≡ members_tokens (members_outline (members_of members))
 members_are [] = refl
-members_are ((field, said) ∷ members) =
-    append_assoc (key (field_name field) ∷ tokens_of (said_value said)) (members_put members) (end_object ∷ [])
-    ∙ ap (λ ts. (key (field_name field) ∷ tokens_of (said_value said)) ++ ts) (members_are members)
+members_are ((field, said) ∷ members) = search (members_are members, append_assoc)
 
 -- the version, and the end of an object
 pub version_is : (version : Version) → members_put (version_member version) ++ end_object ∷ []
     ≡ members_tokens (members_outline (option_map_or (λ value. member (field_name fields.V) value no_members) (since_two version None (Some (whole 2))) no_members))
-version_is One = refl
-version_is Two = refl
+version_is version = grind arith
 
 -- the text of a value's tokens, put behind none, is its compact text
 pub printed : (value : Data) (start tokens : List Token) → start ≡ [] → tokens ≡ start ++ tokens_of value → print tokens ≡ compact_text value

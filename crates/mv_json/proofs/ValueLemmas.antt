@@ -1,44 +1,24 @@
 -- The values of messages: how deep they nest, their keys in byte order, and their canonical text, which is read as them.
+use Rattle.mv_json.proofs.Words.{Data, Found, HasWords, IsLegal, IsUtf8-from_is_utf8, Message, One, PackKey, Two, Version, compact_text, found_value, found_version, is_utf8-from_IsUtf8, item, items_outline, max_depth, of_items, of_json, outline, print-outline, read, read_bytes, string, strings, tokens, tokens_of, value_in, value_of}
 use Rattle.json.proofs.Printed.Decimals.{IsNumber-decimal}
 use Rattle.json.proofs.Printed.Tokens.{tokens-print}
 use Rattle.json.proofs.Printed.Trees.{value-json_tokens, ArePrintable-json_tokens}
-use Rattle.json.specs.Json as json
-use Rattle.json.specs.Lex.{tokens}
-use Rattle.json.specs.Tree as tree
 use Rattle.mv_json.proofs.OrderLemmas.{rises, strictly_sorted}
 use Rattle.mv_json.proofs.ReadsLemmas.{reads_back}
 use Rattle.mv_json.specs.Keys.{KeysAscend, ItemsKeysAscend}
-use Rattle.mv_json.specs.Messages.{value_of, read_bytes, read_message, value_in}
-use Rattle.mv_json.specs.Reading.{◌and_then◌}
-use Rattle.mv_json.specs.Shapes.{found_version, found_value, HasWords, IsLegal}
-use Rattle.mv_json.specs.Tokens.{tokens_of}
-use Rattle.mv_json.specs.Values.{strings}
-use Rattle.mv_json.specs.declared.fault.MessageFault.TheVariants.{NotJson}
-use Rattle.mv_json.specs.declared.form.Version.{Version}
-use Rattle.mv_json.specs.declared.form.Version.TheVariants.{One, Two}
-use Rattle.mv_message.specs.declared.found.Found.{Found}
-use Rattle.mv_message.specs.declared.found.Found.TheVariants.{Absent, Present}
-use Rattle.mv_message.specs.declared.message.Message.{Message}
-use Rattle.mv_message.specs.declared.message.Message.TheVariants as messages
-use Rattle.mv_pack.specs.declared.key.PackKey.{PackKey}
 use Rattle.serde_json.proofs.Numbers.{number_of-decimal}
-use Rattle.serde_json.proofs.Texts.{print-outline}
-use Rattle.serde_json.specs.Data.{Data, string, item}
-use Rattle.serde_json.specs.Read.{max_depth, read, of_json, of_items}
-use Rattle.serde_json.specs.Written.{outline, items_outline, compact_text}
-use Rattle.std.proofs.Common.{◌≡◌, ◌≤◌, ℕ, sym, arith, rules, true, List, [], ◌∷◌, ap, refl, ◌∙◌, ◌<◌, ◌^◌, max, append-nil, option_and_then, option_map, cond, IsUtf8, Some, None, Ok}
-use Rattle.std.proofs.lemmas.Str.{IsUtf8-from_is_utf8, is_utf8-from_IsUtf8}
-use Rattle.std.specs.Option.{ok_or}
+use Rattle.std.proofs.Common.{◌≡◌, ◌≤◌, ℕ, sym, arith, rules, true, List, [], ◌∷◌, ap, refl, ◌∙◌, ◌<◌, ◌^◌, max, append-nil, option_and_then, option_map, IsUtf8, Some, None, Ok}
 use Rattle.std.specs.Str.{is_utf8}
+use Rattle.json.specs.Json as json
+use Rattle.json.specs.Tree as tree
+use Rattle.mv_message.specs.declared.message.Message.TheVariants as messages
 
 items_flat : (texts : List (List ℕ)) → tree.items_depth (items_outline (strings texts)) ≡ 0
 items_flat [] = refl
 items_flat (text ∷ texts) = ap (λ n. max 0 n) (items_flat texts)
 
 answer_depth : (version : Version) (asker q : ℕ) (key : PackKey) (f : Found) → tree.depth (outline (value_in version (messages.Answer asker q key f))) ≤ max_depth
-answer_depth One asker q key Absent = omega arith
-answer_depth Two asker q key (Present batch expiry None standing recalled withdrawn) = omega arith
-answer_depth version asker q key found = omega arith
+answer_depth version asker q key f = grind arith
 
 -- the value of a message nests two deep
 value_depth : (m : Message) → tree.depth (outline (value_of m)) ≤ max_depth
@@ -60,16 +40,9 @@ texts_ascend : (texts : List (List ℕ)) → ItemsKeysAscend (strings texts)
 texts_ascend [] = tt
 texts_ascend (text ∷ texts) = (tt, texts_ascend texts)
 
-found_ascends : (version : Version) (found : Found) → KeysAscend (found_value version found)
-unfolding rises
-found_ascends One Absent = tt
-found_ascends Two (Present batch expiry None standing recalled withdrawn) = search (rules, strictly_sorted) depth 16 parts 16
-found_ascends version found = search (rules, strictly_sorted) depth 16 parts 16
-
 answer_ascends : (version : Version) (asker q : ℕ) (key : PackKey) (found : Found) → KeysAscend (value_in version (messages.Answer asker q key found))
 unfolding rises
-answer_ascends One asker q key found = search (rules, strictly_sorted, found_ascends) depth 16 parts 16
-answer_ascends version asker q key found = search (rules, strictly_sorted, found_ascends) depth 16 parts 16
+answer_ascends version asker q key found = grind (arith, strictly_sorted)
 
 -- the keys of each object in the value of a message ascend
 pub keys_ascend : (m : Message) → KeysAscend (value_of m)
@@ -102,17 +75,15 @@ texts_same [] = refl
 texts_same (text ∷ texts) = ap (λ o. option_map (item (string text)) o) (texts_same texts)
 
 found_back : (version : Version) (found : Found) → ReadsBack (found_value version found)
-found_back One Absent = record { numbers = tt; same = refl }
-found_back Two (Present batch expiry None standing recalled withdrawn) = record { numbers = search rules depth 16 parts 16; same = refl }
-found_back version found = record { numbers = search rules depth 16 parts 16; same = refl }
+found_back version found = grind arith
 
 answer_back : (version : Version) (asker q : ℕ) (key : PackKey) (found : Found) → asker < 2 ^ 64 → q < 2 ^ 64 → ReadsBack (found_value version found) → ReadsBack (value_in version (messages.Answer asker q key found))
 answer_back One asker q key found small less back = record { numbers = search (rules, IsNumber-decimal, back.numbers) depth 16 parts 16; same = rw (number_of-decimal asker small, back.same, number_of-decimal q less) refl }
 answer_back Two asker q key found small less back = record { numbers = search (rules, IsNumber-decimal, back.numbers) depth 16 parts 16; same = rw (number_of-decimal asker small, back.same, number_of-decimal q less, number_of-decimal 2 (omega arith)) refl }
 
 message_back : (m : Message) → HasWords m → ReadsBack (value_of m)
-message_back (messages.Upload gtin batch expiry None serials) h = record { numbers = search (rules, texts_have_numbers) depth 16 parts 16; same = simp texts_same refl }
-message_back (messages.Answer asker q key found) h = answer_back (found_version found) asker q key found h.0 h.1 (found_back (found_version found) found)
+message_back (messages.Upload gtin batch expiry None serials) h = search (texts_have_numbers, texts_same)
+message_back (messages.Answer asker q key found) h = search (answer_back, found_back)
 message_back (messages.Query key) h = record { numbers = search rules depth 16 parts 16; same = refl }
 message_back m h = record { numbers = search (rules, arith, IsNumber-decimal, texts_have_numbers) depth 16 parts 16; same = simp (texts_same, number_of-decimal, number_of-decimal 2 (omega arith)) refl }
 
@@ -122,8 +93,4 @@ text_reads m h = text_of_value (value_of m) (value_depth m) (message_back m h)
 
 -- the canonical text of a legal message is read back as that message
 pub canonical_reads_back : (m : Message) (t : List ℕ) → IsUtf8 t → t ≡ compact_text (value_of m) → HasWords m → IsLegal m → read_bytes t ≡ Ok m
-canonical_reads_back m t utf8 same words h =
-    let json : read t ≡ Some (value_of m) = ap read same ∙ text_reads m words in
-    ap (λ b. ok_or (cond b (read t) None) NotJson and_then read_message) (utf8_test t utf8)
-    ∙ ap (λ o. ok_or o NotJson and_then read_message) json
-    ∙ reads_back m h
+canonical_reads_back m t utf8 same words h = grind (arith, text_reads, utf8_test, reads_back)

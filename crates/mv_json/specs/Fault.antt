@@ -1,7 +1,6 @@
 -- The numbers by which replies name the faults of messages.
 use Rattle.std.specs.Prelude.{ℕ, List, codes}
-use Rattle.mv_json.specs.declared.fault.MessageFault.{MessageFault}
-use Rattle.mv_json.specs.declared.fault.MessageFault.TheVariants.{NotJson, NotObject, Missing, Unknown, Kind, Pack, Count, TextLength, Memory}
+use Rattle.mv_json.specs.Words.{Count, Kind, Memory, MessageFault, Missing, NotJson, NotObject, Pack, TextLength, Unknown}
 
 -- the number of a fault
 abbrev pub code_of : MessageFault → List ℕ

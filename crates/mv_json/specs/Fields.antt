@@ -1,9 +1,7 @@
 -- The fields of a message, by the names that they bear in its JSON object.
 use Rattle.std.specs.Prelude.{ℕ, Bool, true, false, List, map, filter, codes}
-use Rattle.mv_json.specs.declared.field.Field.{Field}
+use Rattle.mv_json.specs.Words.{Field, One, Version}
 use Rattle.mv_json.specs.declared.field.Field.TheVariants as fields
-use Rattle.mv_json.specs.declared.form.Version.{Version}
-use Rattle.mv_json.specs.declared.form.Version.TheVariants.{One}
 
 -- the name of a field
 abbrev pub field_name : Field → List ℕ

@@ -1,9 +1,6 @@
 -- The keys of objects, which stand in byte order.
 use Rattle.std.specs.Prelude.{⊤}
-use Rattle.std.specs.Ordering.{nat_cmp}
-use Rattle.std.specs.Cmp.Lexicographic.{slice_cmp}
-use Rattle.std.specs.List.Sorted.{IsStrictlySortedBy}
-use Rattle.serde_json.specs.Data.{Data, array, object, Items, no_items, item, Members, no_members, member}
+use Rattle.mv_json.specs.Words.{Data, IsStrictlySortedBy, Items, Members, array, item, member, nat_cmp, no_items, no_members, object, slice_cmp}
 use Rattle.mv_json.specs.Members.{keys_of}
 
 abbrev mutual

@@ -1,18 +1,11 @@
 -- The laws of reading and writing messages.
+use Rattle.mv_json.specs.Words.{Data, Form, IsStrictlySortedBy, Message, Version, nat_cmp, result_err, slice_cmp}
 use Rattle.mv_json.specs.Keys.{KeysAscend}
 use Rattle.mv_json.specs.Meanings.{first_fault}
 use Rattle.mv_json.specs.Members.{HasOnly}
 use Rattle.mv_json.specs.Messages.{read_message, value_of}
 use Rattle.mv_json.specs.Shapes.{form_at, version_at, IsLegal, Reads, meaning_of, fields_of, names_of}
-use Rattle.mv_json.specs.declared.form.Form.{Form}
-use Rattle.mv_json.specs.declared.form.Version.{Version}
-use Rattle.mv_message.specs.declared.message.Message.{Message}
-use Rattle.serde_json.specs.Data.{Data}
-use Rattle.std.specs.Cmp.Lexicographic.{slice_cmp}
-use Rattle.std.specs.List.Sorted.{IsStrictlySortedBy}
-use Rattle.std.specs.Ordering.{nat_cmp}
 use Rattle.std.specs.Prelude.{◌≡◌, ◌↔◌, Ok}
-use Rattle.std.specs.Result.{result_err}
 
 -- each legal message is read back from its value
 abbrev pub ReadsBack : Type 0

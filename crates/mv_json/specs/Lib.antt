@@ -1,3 +1,4 @@
+pub mod Words
 pub mod Limits
 pub mod Fields
 pub mod Fault

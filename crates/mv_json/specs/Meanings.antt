@@ -1,27 +1,12 @@
 -- What a field means: how its values are read, written and spelled, and which are legal; what the fields of an object say; and the table
 -- of what each field means that is no object.
+use Rattle.mv_json.specs.Words.{AllByRecursion, Data, Field, IsCode, IsExpiry, IsGtin, IsMarket, IsMoment, Members, MessageFault, One, PackFault, Two, Version, array, boolean, expiry_text, get, member, no_members, null, object, option_map_or, option_or, read_code, read_expiry, read_gtin, read_market, result_err, standing_name, string}
 use Rattle.mv_json.specs.Fields.{field_name}
 use Rattle.mv_json.specs.Limits.{most_markets, most_serials, most_text_bytes}
 use Rattle.mv_json.specs.Reading.{◌and_then◌, read_at, truth_at, moment_at, number_at, count_at, list_at, standing_at, free_text_at, national_at}
 use Rattle.mv_json.specs.Values.{since_two, strings, whole}
-use Rattle.mv_json.specs.declared.fault.MessageFault.{MessageFault}
-use Rattle.mv_json.specs.declared.field.Field.{Field}
-use Rattle.mv_json.specs.declared.field.Field.TheVariants as fields
-use Rattle.mv_json.specs.declared.form.Version.{Version}
-use Rattle.mv_json.specs.declared.form.Version.TheVariants.{One, Two}
-use Rattle.mv_message.specs.Standings.{standing_name}
-use Rattle.mv_pack.specs.Code.{IsCode, read_code}
-use Rattle.mv_pack.specs.Expiry.{IsExpiry, expiry_text, read_expiry}
-use Rattle.mv_pack.specs.Gtin.{IsGtin, read_gtin}
-use Rattle.mv_pack.specs.Market.{IsMarket, read_market}
-use Rattle.mv_pack.specs.Moment.{IsMoment}
-use Rattle.mv_pack.specs.declared.fault.PackFault.{PackFault}
-use Rattle.serde_json.specs.Data.{Data, string, object, Members, no_members, member, null, boolean, array}
-use Rattle.serde_json.specs.Find.{get}
-use Rattle.std.specs.List.{AllByRecursion}
-use Rattle.std.specs.Option.{option_or, option_map_or}
 use Rattle.std.specs.Prelude.{⊤, ◌≡◌, ℕ, List, [], ◌∷◌, Option, Some, None, Result, Ok, ◌≤◌, ◌<◌, ◌^◌, false, length}
-use Rattle.std.specs.Result.{result_err}
+use Rattle.mv_json.specs.declared.field.Field.TheVariants as fields
 
 -- the field is this value
 abbrev pub Has : Data → Field → Data → Type 0

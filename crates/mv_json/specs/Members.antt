@@ -1,7 +1,6 @@
 -- The keys of a JSON object, in the byte order in which an object holds them.
 use Rattle.std.specs.Prelude.{◌≡◌, ℕ, not, List, [], ◌∷◌, Contains, bytes_eq, find, Option}
-use Rattle.std.specs.List.{AllByRecursion, list_any}
-use Rattle.serde_json.specs.Data.{Data, object, Members, no_members, member}
+use Rattle.mv_json.specs.Words.{AllByRecursion, Data, Members, list_any, member, no_members, object}
 
 -- the keys of an object, in order
 abbrev pub keys_of : Members → List (List ℕ)

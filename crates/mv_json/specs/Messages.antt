@@ -1,22 +1,13 @@
 -- Messages: what reading a value or bytes gives, where that takes memory, and the JSON value of each.
+use Rattle.mv_json.specs.Words.{Data, Form, Message, MessageFault, NotJson, NotObject, One, Two, Unknown, Version, as_object, ok_or, option_map_or, read}
 use Rattle.mv_json.specs.Meanings.{object_of}
 use Rattle.mv_json.specs.Members.{first_unknown}
 use Rattle.mv_json.specs.Reading.{◌and_then◌}
 use Rattle.mv_json.specs.Shapes.{form_of, form_at, version_at, found_version, contents_of, fields_of, meaning_of, names_of, message_at}
-use Rattle.mv_json.specs.declared.fault.MessageFault.{MessageFault}
-use Rattle.mv_json.specs.declared.fault.MessageFault.TheVariants.{NotJson, NotObject, Unknown}
-use Rattle.mv_json.specs.declared.form.Form.{Form}
-use Rattle.mv_json.specs.declared.form.Form.TheVariants as forms
-use Rattle.mv_json.specs.declared.form.Version.{Version}
-use Rattle.mv_json.specs.declared.form.Version.TheVariants.{One, Two}
-use Rattle.mv_message.specs.declared.message.Message.{Message}
-use Rattle.mv_message.specs.declared.message.Message.TheVariants as messages
-use Rattle.serde_json.specs.Data.{Data}
-use Rattle.serde_json.specs.Find.{as_object}
-use Rattle.serde_json.specs.Read.{read}
-use Rattle.std.specs.Option.{ok_or, option_map_or}
 use Rattle.std.specs.Prelude.{ℕ, List, if◌then◌else◌, Option, Some, None, Result, Err, ◌≡◌, Bool, true, false, ◌||◌, is_some, Ok}
 use Rattle.std.specs.Str.{is_utf8}
+use Rattle.mv_json.specs.declared.form.Form.TheVariants as forms
+use Rattle.mv_message.specs.declared.message.Message.TheVariants as messages
 
 -- The message that a value is, or the first fault: M2, M5 of `v`, those of `msg`, M4 with the first key that the form does not have,
 -- then those of each field.

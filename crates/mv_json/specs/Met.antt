@@ -1,12 +1,8 @@
 -- Fields of an object as they are met, one after the other, in any order; and the tokens of JSON that they are read from. What is met,
 -- and what it says of the value that stands there, is left open.
 use Rattle.std.specs.Prelude.{◌≡◌, ◌≤◌, ℕ, List, map, All, Contains, Some}
-use Rattle.std.specs.List.{AllByRecursion}
+use Rattle.mv_json.specs.Words.{AllByRecursion, Data, Members, Token, converted, get, object, of_json}
 use Rattle.json.specs.Json.{value}
-use Rattle.json.specs.Token.{Token}
-use Rattle.serde_json.specs.Data.{Data, object, Members}
-use Rattle.serde_json.specs.Find.{get}
-use Rattle.serde_json.specs.Read.{of_json, converted}
 use Rattle.mv_json.specs.Members.{keys_of}
 
 -- the tokens are this value of JSON, wherever it may nest so deep, then the rest

@@ -1,26 +1,10 @@
 -- What stands in the fields of a message, as they are met in its object; and the tokens of JSON that it is read from.
 use Rattle.std.specs.Prelude.{⊤, Bool, true, false, ◌≡◌, ◌≢◌, ◌≤◌, ◌<◌, ℕ, List, [], ◌∷◌, length, get_or, set, IfErr, IfOk, Some, Result, Ok}
-use Rattle.std.specs.Option.{option_map_or}
-use Rattle.json.specs.Token as token
-use Rattle.json.specs.Token.{Token}
-use Rattle.serde_json.specs.Data.{Data, null, boolean, string, array, object, unsigned, Items, Members}
-use Rattle.serde_json.specs.Find.{get}
-use Rattle.serde_json.specs.Read.{number_of}
-use Rattle.serde_json.specs.View.{view}
-use Rattle.mv_pack.specs.Code.{IsCode, read_code}
-use Rattle.mv_pack.specs.Market.{IsMarket, read_market}
-use Rattle.mv_pack.specs.declared.fault.PackFault.{PackFault}
-use Rattle.mv_message.specs.declared.message.Message.{Message}
-use Rattle.mv_json.specs.declared.fault.MessageFault.{MessageFault}
-use Rattle.mv_json.specs.declared.fault.MessageFault.TheVariants.{Memory}
-use Rattle.mv_json.specs.declared.field.Field.{Field}
+use Rattle.mv_json.specs.Words.{Data, Field, IsCode, IsMarket, Items, Members, Memory, Message, MessageFault, PackFault, Token, array, boolean, get, null, number_of, object, option_map_or, read_code, read_market, string, unsigned, view}
 use Rattle.mv_json.specs.declared.object.Object.{Object}
-use Rattle.mv_json.specs.declared.object.Object.TheVariants as objects
 use Rattle.mv_json.specs.declared.object.Place.{Place}
-use Rattle.mv_json.specs.declared.object.Place.TheVariants as places
 use Rattle.mv_json.specs.declared.part.Entry.{Entry}
 use Rattle.mv_json.specs.declared.part.Part.{Part}
-use Rattle.mv_json.specs.declared.part.Part.TheVariants as parts
 use Rattle.mv_json.specs.Meanings.{IsListOf}
 use Rattle.mv_json.specs.Fields.{field_name}
 use Rattle.mv_json.specs.Shapes.{found_of}
@@ -29,6 +13,10 @@ use Rattle.mv_json.specs.Messages.{read_message}
 use Rattle.mv_json.specs.Met.{BeginWith, HasMet}
 use Rattle.mv_json.specs.Reading.{GivesOr}
 use Rattle.mv_json.specs.Values.{strings, whole}
+use Rattle.json.specs.Token as token
+use Rattle.mv_json.specs.declared.object.Object.TheVariants as objects
+use Rattle.mv_json.specs.declared.object.Place.TheVariants as places
+use Rattle.mv_json.specs.declared.part.Part.TheVariants as parts
 
 -- the tokens are a text of which this holds, then the rest
 abbrev pub BeginWithText : List Token → (List ℕ → Type 0) → List Token → Type 0

@@ -1,20 +1,10 @@
 -- What reading a part of a JSON value gives: its meaning, or the first fault.
+use Rattle.mv_json.specs.Words.{Count, Data, Field, Items, Kind, MessageFault, Missing, Pack, PackFault, TextLength, as_array, as_bool, as_null, as_number, as_str, as_u64, get, item, no_items, ok_or, read_code, read_moment, result_map_both, standing_named}
 use Rattle.mv_json.specs.Fields.{field_name}
 use Rattle.mv_json.specs.Limits.{most_text_bytes}
-use Rattle.mv_json.specs.declared.fault.MessageFault.{MessageFault}
-use Rattle.mv_json.specs.declared.fault.MessageFault.TheVariants.{Missing, Kind, Pack, Count, TextLength}
-use Rattle.mv_json.specs.declared.field.Field.{Field}
-use Rattle.mv_message.specs.Standings.{standing_named}
 use Rattle.mv_message.specs.declared.standing.Standing.{Standing}
-use Rattle.mv_pack.specs.Code.{read_code}
-use Rattle.mv_pack.specs.Moment.{read_moment}
-use Rattle.mv_pack.specs.declared.fault.PackFault.{PackFault}
-use Rattle.serde_json.specs.Data.{Data, Items, no_items, item}
 use Rattle.serde_json.specs.Events.{items_len}
-use Rattle.serde_json.specs.Find.{get, as_null, as_str, as_array, as_bool, as_number, as_u64}
-use Rattle.std.specs.Option.{ok_or}
 use Rattle.std.specs.Prelude.{◌≡◌, ◌≢◌, ℕ, ◌==◌, ◌||◌, nat_lt, if◌then◌else◌, List, [], ◌∷◌, length, is_some, Option, Some, None, option_and_then, option_map, Result, Ok, Err, ◌^◌, Bool, ◌&&◌, not, true}
-use Rattle.std.specs.Result.{result_map_both}
 
 -- the next step on what was read, or the fault that there was
 infixl 10 ◌and_then◌

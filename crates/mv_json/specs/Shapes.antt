@@ -1,28 +1,18 @@
 -- The shape of each form of message: its version and its name, its fields, what each of them means, the message that their values make,
 -- and what they say of it; and that of what was found of a pack.
+use Rattle.mv_json.specs.Words.{Data, Field, Form, Kind, Message, MessageFault, NotObject, One, Two, Version, as_null, as_object, get, null, ok_or, result_ok, string}
 use Rattle.mv_json.specs.Fields.{field_name, names_in}
 use Rattle.mv_json.specs.Meanings.{part_of, made_at, object_of, AreSpelled, AreLegal, Meaning, exactly, Making, Values, Has}
 use Rattle.mv_json.specs.Members.{first_unknown, HasOnly}
 use Rattle.mv_json.specs.Reading.{whole_number, ◌and_then◌, text_at, member_at}
 use Rattle.mv_json.specs.Values.{whole, since_two}
-use Rattle.mv_json.specs.declared.fault.MessageFault.{MessageFault}
-use Rattle.mv_json.specs.declared.fault.MessageFault.TheVariants.{Kind, NotObject}
-use Rattle.mv_json.specs.declared.field.Field.{Field}
-use Rattle.mv_json.specs.declared.field.Field.TheVariants as fields
-use Rattle.mv_json.specs.declared.form.Form.{Form}
-use Rattle.mv_json.specs.declared.form.Form.TheVariants as forms
-use Rattle.mv_json.specs.declared.form.Version.{Version}
-use Rattle.mv_json.specs.declared.form.Version.TheVariants.{One, Two}
 use Rattle.mv_message.specs.declared.found.Found.{Found}
 use Rattle.mv_message.specs.declared.found.Found.TheVariants.{Absent, Present}
-use Rattle.mv_message.specs.declared.message.Message.{Message}
-use Rattle.mv_message.specs.declared.message.Message.TheVariants as messages
 use Rattle.mv_pack.specs.Keys.{pack_key, batch_key}
-use Rattle.serde_json.specs.Data.{Data, null, string}
-use Rattle.serde_json.specs.Find.{get, as_null, as_object}
-use Rattle.std.specs.Option.{ok_or}
 use Rattle.std.specs.Prelude.{⊤, ◌==◌, if◌then◌else◌, Option, Some, None, Result, Ok, Err, ℕ, List, [], ◌∷◌, codes, bytes_eq, find, ◌≡◌, false, is_some, ◌<◌, ◌^◌}
-use Rattle.std.specs.Result.{result_ok}
+use Rattle.mv_json.specs.declared.field.Field.TheVariants as fields
+use Rattle.mv_json.specs.declared.form.Form.TheVariants as forms
+use Rattle.mv_message.specs.declared.message.Message.TheVariants as messages
 
 -- the version, by what stands in `v`: 1 where nothing does; 2 where the whole number 2 does; else M5
 abbrev pub version_of : Option Data → Result Version MessageFault

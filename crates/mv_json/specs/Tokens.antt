@@ -1,19 +1,13 @@
 -- What is written: the members of objects, and the tokens of JSON that a text is written by.
+use Rattle.mv_json.specs.Words.{Data, Field, Members, Token, Version, array, boolean, expiry_text, key, member, no_members, null, option_map_or, outline, string}
 use Rattle.mv_json.specs.Fields.{field_name}
 use Rattle.mv_json.specs.Values.{since_two, strings, whole}
-use Rattle.mv_json.specs.declared.field.Field.{Field}
-use Rattle.mv_json.specs.declared.field.Field.TheVariants as fields
 use Rattle.mv_json.specs.declared.member.Said.{Said}
-use Rattle.mv_json.specs.declared.member.Said.TheVariants as says
-use Rattle.mv_json.specs.declared.form.Version.{Version}
-use Rattle.mv_pack.specs.Expiry.{expiry_text}
-use Rattle.std.specs.Option.{option_map_or}
 use Rattle.std.specs.Prelude.{◌≡◌, List, [], ◌∷◌, ◌++◌, flat_map, Result, OnOk}
-use Rattle.json.specs.Token.{Token, key}
 use Rattle.json.specs.Tree.{json_tokens}
 use Rattle.json.specs.Written.{Written}
-use Rattle.serde_json.specs.Data.{Data, null, boolean, string, array, Members, no_members, member}
-use Rattle.serde_json.specs.Written.{outline}
+use Rattle.mv_json.specs.declared.field.Field.TheVariants as fields
+use Rattle.mv_json.specs.declared.member.Said.TheVariants as says
 
 -- the tokens of a value
 abbrev pub tokens_of : Data → List Token

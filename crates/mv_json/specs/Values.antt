@@ -1,9 +1,6 @@
 -- The JSON values of what fields say, and the members of objects.
 use Rattle.std.specs.Prelude.{ℕ, List, [], ◌∷◌, map}
-use Rattle.serde_json.specs.Data.{Data, number, unsigned, string, Items, Members, no_members, member}
-use Rattle.serde_json.specs.View.{items_of}
-use Rattle.mv_json.specs.declared.form.Version.{Version}
-use Rattle.mv_json.specs.declared.form.Version.TheVariants.{One, Two}
+use Rattle.mv_json.specs.Words.{Data, Items, Members, One, Two, Version, items_of, member, no_members, number, string, unsigned}
 
 -- a list of texts
 abbrev pub strings : List (List ℕ) → Items

@@ -1,8 +1,7 @@
 //! Reads the field `found` of an answer: `null`, or an object of its own.
 
 ghost use Rattle.std.specs.Prelude.{◌≡◌, ◌≢◌, IfErr, IfSome};
-ghost use Rattle.serde_json.specs.Data.{Data};
-ghost use Rattle.serde_json.specs.View.{view};
+ghost use Rattle.mv_json.specs.Words.{Data, view};
 ghost use Rattle.mv_json.specs.Fields.{fields_in};
 ghost use Rattle.mv_json.specs.Shapes.{present_fields, present_at, present_of, found_of, found_at};
 ghost use Rattle.mv_json.specs.Meanings.{part_of};

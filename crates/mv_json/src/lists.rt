@@ -1,15 +1,10 @@
 //! Reads the fields that are lists of texts, and says what such lists hold: serial numbers and markets.
 
 ghost use Rattle.std.specs.Prelude.{◌≡◌, ◌≢◌, IfOk, IfErr, MatchResult, Ok, Err, is_some, ℕ, List, Result};
+ghost use Rattle.mv_json.specs.Words.{PackFault as AFault, as_str, items_view, list_all, read_code, read_market, view};
 ghost use Rattle.mv_json.specs.Limits.{most_markets, most_serials};
-ghost use Rattle.std.specs.List.{list_all};
-ghost use Rattle.serde_json.specs.Find.{as_str};
-ghost use Rattle.serde_json.specs.View.{view, items_view};
-ghost use Rattle.mv_pack.specs.Code.{read_code};
-ghost use Rattle.mv_pack.specs.Market.{read_market};
 ghost use Rattle.mv_json.specs.Reading.{texts_at, read_item, list_at};
 ghost use Rattle.mv_json.specs.Parts.{Takes};
-ghost use Rattle.mv_pack.specs.declared.fault.PackFault.{PackFault as AFault};
 
 use crate::object::Object;
 use crate::part::{Part, take};

@@ -1,10 +1,8 @@
 //! The keys of JSON objects, for every reader of objects: it knows neither messages nor their fields.
 
 ghost use Rattle.std.specs.Prelude.{◌≡◌, ℕ, List, not, find, bytes_eq, map, string_bytes, option_map};
-ghost use Rattle.std.specs.Option.{option_copied};
+ghost use Rattle.mv_json.specs.Words.{list_any, members_view, option_copied};
 ghost use Rattle.std.specs.BTreeMap.{keys};
-ghost use Rattle.std.specs.List.{list_any};
-ghost use Rattle.serde_json.specs.View.{members_view};
 ghost use Rattle.mv_json.specs.Members.{first_unknown};
 
 use serde_json::{Map, Value};

@@ -1,9 +1,8 @@
 //! Reads messages: from the bytes of JSON texts, from JSON values, and by their tokens, with no value in between, their keys in any order.
 
 ghost use Rattle.std.specs.Prelude.{◌≡◌, [], IfErr, IfOk, IfSome, Ok};
+ghost use Rattle.mv_json.specs.Words.{Data, view};
 ghost use Rattle.json.specs.Lex.{tokens};
-ghost use Rattle.serde_json.specs.Data.{Data};
-ghost use Rattle.serde_json.specs.View.{view};
 ghost use Rattle.mv_json.specs.Messages.{MayTakeMemory, read_bytes, read_message};
 ghost use Rattle.mv_json.specs.Parts.{BeginWithMessage, Stands};
 ghost use Rattle.mv_json.specs.Reading.{GivesOr};

@@ -2,8 +2,7 @@
 #![tactic(auto, using(crate::proofs::PartLemmas::part_is))]
 
 ghost use Rattle.std.specs.Prelude.{◌≡◌, All, Contains, IsTrue, MatchOption, None, is_some, map, option_map};
-ghost use Rattle.serde_json.specs.Data.{Data};
-ghost use Rattle.serde_json.specs.Find.{as_bool, as_null, as_str, get};
+ghost use Rattle.mv_json.specs.Words.{Data, as_bool, as_null, as_str, get};
 ghost use Rattle.mv_json.specs.Fields.{field_name};
 ghost use Rattle.mv_json.specs.Reading.{whole_number};
 ghost use Rattle.mv_json.specs.Members.{HasOnly};

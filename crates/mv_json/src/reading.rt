@@ -2,14 +2,10 @@
 #![tactic(auto, unfolding(crate::specs::Reading::read_at, crate::specs::Reading::national_at, crate::specs::Reading::standing_at, crate::specs::Reading::free_text_at, crate::specs::Reading::truth_at, crate::specs::Reading::whole_at, crate::specs::Reading::moment_at, crate::specs::Reading::number_at, crate::specs::Reading::count_at))]
 
 ghost use Rattle.std.specs.Prelude.{◌≡◌, ◌≢◌, IfErr, IsOk, MatchResult, Ok, Err};
-ghost use Rattle.serde_json.specs.Data.{Data};
-ghost use Rattle.mv_pack.specs.Code.{read_code};
-ghost use Rattle.mv_pack.specs.Expiry.{read_expiry};
-ghost use Rattle.mv_pack.specs.Gtin.{read_gtin};
+ghost use Rattle.mv_json.specs.Words.{Data, read_code, read_expiry, read_gtin, standing_named};
 ghost use Rattle.mv_json.specs.Meanings.{part_of};
 ghost use Rattle.mv_json.specs.Reading.{member_at, text_at, read_at, standing_at, free_text_at, national_of, truth_at, whole_at, moment_at, number_at, count_at};
 ghost use Rattle.mv_json.specs.Parts.{Gives, MayGive, IsPlace, Stands, there};
-ghost use Rattle.mv_message.specs.Standings.{standing_named};
 
 use crate::form::Version;
 use crate::object::{Object, Place};

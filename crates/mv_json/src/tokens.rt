@@ -2,9 +2,8 @@
 //! that whoever looked for it reads the text anew in another way.
 
 ghost use Rattle.std.specs.Prelude.{◌≡◌, ◌≢◌, ℕ, List, ◌∷◌, IfSome, IfNone, IsTrue, IsFalse, Some};
+ghost use Rattle.mv_json.specs.Words.{number_of, unsigned};
 ghost use Rattle.json.specs.Token.{Token as AToken, begin_object, string, number};
-ghost use Rattle.serde_json.specs.Data.{unsigned};
-ghost use Rattle.serde_json.specs.Read.{number_of};
 
 use fast_float::Numeral;
 use json::{Reader, Token};

@@ -1,8 +1,7 @@
 //! Writes messages, as JSON values and as texts.
 
 ghost use Rattle.std.specs.Prelude.{◌≡◌, ◌++◌, IfOk, IfErr, OnOk, OnErr, IsUtf8, Ok, string_bytes};
-ghost use Rattle.serde_json.specs.View.{view};
-ghost use Rattle.serde_json.specs.Written.{compact_text};
+ghost use Rattle.mv_json.specs.Words.{compact_text, view};
 ghost use Rattle.mv_json.specs.Messages.{value_of, read_bytes};
 ghost use Rattle.mv_json.specs.Shapes.{HasWords, IsLegal};
 ghost use Rattle.mv_json.specs.Tokens.{Puts, tokens_of};

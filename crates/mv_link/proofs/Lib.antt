@@ -1,3 +1,4 @@
+pub mod Words
 pub mod LinkLemmas
 pub mod NumberLemmas
 pub mod PartySetLemmas

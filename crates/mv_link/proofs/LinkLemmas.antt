@@ -1,18 +1,16 @@
 -- Lemmas on links.
 use Rattle.std.proofs.Common.{◌≡◌, ℕ, ◌+◌, ◌-◌, List, [], ◌∷◌, ◌++◌, length, take, drop, refl, sym, ◌∙◌, ap, arith, append_assoc, append-nil, length-append, Bool, true, false, cond, drop-cons, Some, slice_get, All, ◌==◌}
+use Rattle.mv_link.proofs.Words.{All-tail, eqb-true, nat_tests}
 use Rattle.std.proofs.lemmas.List.{take-append-drop}
-use Rattle.std.proofs.lemmas.List.Elements.{All-tail}
-use Rattle.std.proofs.lemmas.Bool.{eqb-true}
-use Rattle.std.proofs.lemmas.Bool.Decides.{nat_tests}
 use Rattle.std.proofs.lemmas.Grind.{common_steps}
 use Rattle.std.proofs.lemmas.Option.{gets, slice_get_within}
 use Rattle.circular_buffer.proofs.Places.{slice_get-append_left}
 use Rattle.mv_link.specs.declared.item.Item.{Item}
 use Rattle.mv_link.specs.declared.item.Frame.{Frame}
-use Rattle.mv_link.specs.declared.incoming.Look.TheVariants as look
 use Rattle.mv_link.specs.Frames.{IsFrameOf, accepted_after, accepted, OneMoreFrame}
 use Rattle.mv_link.specs.Receiving.{look_at, AcceptsNext}
 use Rattle.mv_link.specs.Sending.{Sending, with_item, EndsWithHeld}
+use Rattle.mv_link.specs.declared.incoming.Look.TheVariants as look
 
 -- the list with one more item ends with what is held then
 pub pushed : (sending : Sending) (list : List Item) (item : Item) → EndsWithHeld sending list
@@ -54,11 +52,7 @@ accepted-push count (first ∷ frames) frame = grind (arith, accepted-push (coun
 
 -- so it is accepted just where its number is the next
 pub one_more : (frames : List Frame) (frame : Frame) → OneMoreFrame frames frame
-one_more frames frame = record {
-  next = λ e. grind (arith, nat_tests, accepted-push 0 frames frame, e);
-  old = λ le. grind (arith, nat_tests, accepted-push 0 frames frame, le, append-nil {A = Item});
-  gap = λ lt. grind (arith, nat_tests, accepted-push 0 frames frame, lt, append-nil {A = Item});
-}
+one_more frames frame = grind (arith, accepted-push, append-nil)
 
 -- a number that is the next
 pub next-number : (count number : ℕ) → look_at count number ≡ look.Next → number ≡ count + 1
@@ -67,4 +61,4 @@ next-number count number next = grind (arith, nat_tests)
 -- the next frame makes one more
 pub accepts_next : (count more : ℕ) → more ≡ count + 1 → AcceptsNext count more
 accepts_next count more is frames frame counted stands =
-    grind (arith, (one_more frames frame).next, next-number count frame.number stands, length-append (accepted frames) (frame.item ∷ []))
+    grind (arith, one_more frames frame, length-append (accepted frames) (frame.item ∷ []))

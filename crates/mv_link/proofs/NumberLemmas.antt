@@ -1,12 +1,7 @@
 -- Searches and filters over the numbers below a count.
 use Rattle.std.proofs.Common.{◌≡◌, ℕ, zero, suc, ◌+◌, ◌-◌, ◌<◌, ◌≤◌, Bool, true, false, not, ◌&&◌, List, [], ◌∷◌, ◌++◌, None, inl, inr, refl, ap, arith, zero-add, append-nil, filter, find, ◌==◌}
-use Rattle.std.specs.List.{range_with_len}
-use Rattle.std.specs.List.Sorted.{IsStrictlyIncreasing}
-use Rattle.std.proofs.lemmas.Bool.{eq-eqb, ne_eqb, cases_eq}
-use Rattle.std.proofs.lemmas.List.Elements.{filter-append}
-use Rattle.std.proofs.lemmas.List.FromFn.{get_or-range_with_len, length-range_with_len}
+use Rattle.mv_link.proofs.Words.{IsStrictlyIncreasing, cases_eq, eq-eqb, filter-append, get_or-range_with_len, length-range_with_len, ne_eqb, range_with_len, those}
 use Rattle.std.proofs.lemmas.List.Kept.{IsStrictlyIncreasing-filter}
-use Rattle.mv_link.specs.PartySets.{those}
 
 -- so many numbers, and then more
 pub range-append : (a m n : ℕ) → range_with_len a (m + n) ≡ range_with_len a m ++ range_with_len (a + m) n

@@ -1,16 +1,11 @@
 -- Sets of parties, by the bits of their words.
 use Rattle.std.proofs.Common.{◌≡◌, ℕ, ◌-◌, ◌*◌, ◌^◌, ◌/◌, ◌%◌, ◌<◌, ◌≤◌, min, max, Bool, true, false, not, ◌&&◌, ◌||◌, [], ◌∷◌, length, w64, bit_and, bit_or, refl, arith, inl, inr, ◌==◌}
+use Rattle.mv_link.proofs.Words.{IsStrictlyIncreasing, cases_eq, cases_lt, eq-eqb, has_party, length-range_with_len, nat_tests, parties_in, range_with_len, those}
 use Rattle.std.specs.Int.{bit_at, trailing_zeros}
-use Rattle.std.specs.List.{range_with_len}
-use Rattle.std.proofs.lemmas.Bool.{cases_eq, cases_lt, eq-eqb}
-use Rattle.std.proofs.lemmas.Bool.Decides.{nat_tests}
 use Rattle.std.proofs.lemmas.Nat.{and_le_l}
 use Rattle.std.proofs.lemmas.Nat.Bits.{bit_at-lt, bit_at-zero, bit_at_and, bit_at_or, bit_at_above, bit_at_set_same, bit_at_set_other, bit_at_clear_same, bit_at_clear_other, bit_at-trailing_zeros, bit_at_ones, shr_and_one}
 use Rattle.std.proofs.lemmas.List.Filters.{length-filter_both}
-use Rattle.std.proofs.lemmas.List.FromFn.{length-range_with_len}
 use Rattle.mv_link.specs.declared.party_set.PartySet.{PartySet}
-use Rattle.std.specs.List.Sorted.{IsStrictlyIncreasing}
-use Rattle.mv_link.specs.PartySets.{those, has_party, parties_in}
 use Rattle.mv_link.proofs.NumberLemmas.{increasing-those, passing-none, passing-first, those-within}
 
 both-bits : (x y : ℕ) → x < 2 → y < 2 → (min x y == 1) ≡ ((x == 1) && (y == 1))
@@ -33,7 +28,7 @@ has_or a b party = grind (arith, bit_at_or, either-bit, bit_at-lt)
 pub has_with : (set : PartySet) (party other : ℕ) → party < 64
     → has_party (record { bits = bit_or set.bits (1 * 2 ^ party % 2 ^ 64) }) other ≡ (has_party set other || (other == party))
 unfolding has_party
-has_with set party other lt = grind (arith, cases_eq other party, bit_at_set_same w64 set.bits party lt, bit_at_set_other w64 set.bits party lt other)
+has_with set party other lt = grind (arith, bit_at_set_same w64 set.bits party lt, bit_at_set_other w64 set.bits party lt other)
 
 pub has_without : (set : PartySet) (party other : ℕ) → party < 64 → set.bits < 2 ^ 64
     → has_party (record { bits = bit_and set.bits (2 ^ 64 - 1 - 1 * 2 ^ party % 2 ^ 64) }) other

@@ -1,7 +1,6 @@
 -- The faults of links: their numbers, and how a call fails where memory may be wanting.
 use Rattle.std.specs.Prelude.{◌≡◌, ℕ, List, codes, unwrap_or, Option, None, Result, Ok, Err}
-use Rattle.mv_link.specs.declared.fault.LinkFault.{LinkFault}
-use Rattle.mv_link.specs.declared.fault.LinkFault.TheVariants.{Nothing, NotSent, Gone, Memory}
+use Rattle.mv_link.specs.Words.{Gone, LinkFault, Memory, NotSent, Nothing}
 
 -- the number of a fault
 abbrev pub code_of : LinkFault → List ℕ

@@ -1,8 +1,7 @@
 -- Frames, the list that they are of, and what is accepted of them.
 use Rattle.std.specs.Prelude.{◌≡◌, ℕ, ◌+◌, ◌-◌, ◌<◌, ◌≤◌, ◌==◌, List, [], ◌∷◌, ◌++◌, length, All, slice_get, Some, if◌then◌else◌}
-use Rattle.mv_link.specs.declared.item.Item.{Item}
+use Rattle.mv_link.specs.Words.{Frame, Item}
 use Rattle.mv_link.specs.declared.item.Item.TheVariants.{Receipt, Carried}
-use Rattle.mv_link.specs.declared.item.Frame.{Frame}
 
 -- the number of the sender's message that an item is about, counted from one
 abbrev pub number_of : Item → ℕ

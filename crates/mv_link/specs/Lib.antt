@@ -1,3 +1,4 @@
+pub mod Words
 pub mod Frames
 pub mod Receiving
 pub mod Sending

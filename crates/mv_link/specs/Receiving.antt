@@ -1,10 +1,9 @@
 -- The receiving end of a link: how a frame stands to what was accepted, and what is accepted with it.
 use Rattle.std.specs.Prelude.{◌≡◌, ℕ, ◌+◌, List, [], ◌∷◌, ◌++◌, length, nat_le, nat_lt, if◌then◌else◌}
-use Rattle.mv_link.specs.declared.item.Item.{Item}
-use Rattle.mv_link.specs.declared.item.Frame.{Frame}
+use Rattle.mv_link.specs.Words.{Frame, Item}
 use Rattle.mv_link.specs.declared.incoming.Look.{Look}
-use Rattle.mv_link.specs.declared.incoming.Look.TheVariants as look
 use Rattle.mv_link.specs.Frames.{accepted}
+use Rattle.mv_link.specs.declared.incoming.Look.TheVariants as look
 
 -- how the number of a frame stands to how many frames were accepted
 abbrev pub look_at : ℕ → ℕ → Look

@@ -1,10 +1,7 @@
 -- What the sending end of a link is seen as.
 use Rattle.std.specs.Prelude.{◌≡◌, ◌==◌, ◌||◌, ℕ, ◌+◌, ◌-◌, ◌≤◌, nat_lt, nat_le, min, List, [], ◌∷◌, ◌++◌, length, Option, Some, None, if◌then◌else◌}
+use Rattle.mv_link.specs.Words.{Frame, Gone, Item, LinkFault, NotSent, Nothing}
 use Rattle.circular_buffer.specs.Buffer.{keep_last}
-use Rattle.mv_link.specs.declared.item.Item.{Item}
-use Rattle.mv_link.specs.declared.item.Frame.{Frame}
-use Rattle.mv_link.specs.declared.fault.LinkFault.{LinkFault}
-use Rattle.mv_link.specs.declared.fault.LinkFault.TheVariants.{Nothing, NotSent, Gone}
 use Rattle.mv_link.specs.declared.limits.TheConstants.{WINDOW_LEAST, WINDOW_LIMIT, NUMBER_LIMIT}
 use Rattle.mv_link.specs.Frames.{IsFrameOf}
 

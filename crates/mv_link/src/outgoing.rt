@@ -1,7 +1,6 @@
 //! The end of a link that items are pushed at. It keeps the last of them in a ring of the window's size.
 
-ghost use Rattle.std.specs.Prelude.{◌≡◌, ◌+◌, ◌-◌, ◌<◌, ◌≤◌, ◌↔◌, List, [], ◌∷◌, ◌++◌, IsTrue};
-ghost use Rattle.std.specs.Prelude.{IsOk, OnOk, OnErr, IfOk, IfErr};
+ghost use Rattle.std.specs.Prelude.{◌≡◌, ◌+◌, ◌-◌, ◌<◌, ◌≤◌, ◌↔◌, List, [], ◌∷◌, ◌++◌, IsTrue, IsOk, OnOk, OnErr, IfOk, IfErr};
 
 use crate::{Frame, Item, LinkFault, NUMBER_LIMIT};
 use circular_buffer::HeapCircularBuffer;

@@ -1,7 +1,6 @@
 //! A set of parties in one machine word. This file alone knows of bits: all else sees which parties a set has.
 
-ghost use Rattle.std.specs.Prelude.{◌≡◌, ◌<◌, ◌==◌, ◌&&◌, ◌||◌, ℕ, [], ◌∷◌, not, true, false};
-ghost use Rattle.std.specs.Prelude.{MatchOption};
+ghost use Rattle.std.specs.Prelude.{◌≡◌, ◌<◌, ◌==◌, ◌&&◌, ◌||◌, ℕ, [], ◌∷◌, not, true, false, MatchOption};
 ghost use Rattle.mv_link.specs.PartySets.{has_party, parties_in};
 
 use crate::{PARTIES_LIMIT, Reach};

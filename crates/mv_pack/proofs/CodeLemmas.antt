@@ -1,16 +1,10 @@
 -- What is read as a serial, batch or national number.
 use Rattle.std.proofs.Common.{◌≡◌, ◌∙◌, ℕ, zero, suc, ◌<◌, ◌≤◌, ◌+◌, ◌-◌, ◌++◌, List, [], ◌∷◌, Bool, true, false, cond, not, ◌&&◌, length, take, drop, replicate, refl, sym, ap, ap₂, subst, arith, IsUtf8, None, Some, Ok, Err}
-use Rattle.std.specs.List.{count_by, list_all, position_from, prefix_len}
-use Rattle.std.proofs.lemmas.Bool.{and_parts}
-use Rattle.std.proofs.lemmas.List.{take_all, take-take, length-take-le, length-drop, length-append, take-append-le, take-append-drop, drop-replicate}
+use Rattle.mv_pack.proofs.Words.{IsCode, IsFilledUp, and_parts, count_by, count_by-le-length, drop-replicate, filled_up, first_wrong, is_code_character, is_filled, is_zero, length-append, length-drop, length-take-le, list_all, list_all-append, most_code_bytes, nat_tests, position_from, prefix_len, read_code, sum_by-append, sum_by-cons, sum_by-replicate, take-append-drop, take-append-le, take-take, take_all, text_before}
 use Rattle.std.proofs.lemmas.Slice.{take-put_mid, drop-put_mid}
-use Rattle.std.proofs.lemmas.List.Sums.{count_by-le-length, sum_by-append, sum_by-cons}
-use Rattle.std.proofs.lemmas.List.Folds.{sum_by-replicate, list_all-append}
 use Rattle.std.proofs.Math.Seq.{take-append_seam, drop-append-add}
 use borrow.Rule.Slice.PartMut.{put_mid}
 use Rattle.mv_pack.proofs.TextLemmas.{text_of_ascii}
-use Rattle.std.proofs.lemmas.Bool.Decides.{nat_tests}
-use Rattle.mv_pack.specs.Code.{is_code_character, is_filled, is_zero, first_wrong, read_code, filled_up, text_before, IsCode, IsFilledUp, most_code_bytes}
 use Rattle.mv_pack.specs.declared.fault.PackFault.{PackFault}
 
 -- where no wrong element is found all are right

@@ -1,14 +1,11 @@
 -- Day numbers of the century 20, and dates as six digits.
-use Rattle.std.proofs.Common.{◌≡◌, ℕ, ◌+◌, ◌-◌, ◌<◌, ◌≤◌, ◌&&◌, ◌==◌, List, length, true, cond, arith, pos, ◌≤ℤ◌, Ok}
-use Rattle.std.proofs.lemmas.Bool.{and_parts}
+use Rattle.std.proofs.Common.{◌≡◌, ℕ, ◌+◌, ◌<◌, ◌≤◌, ◌&&◌, ◌==◌, List, length, true, cond, arith, pos, ◌≤ℤ◌, Ok}
+use Rattle.mv_pack.proofs.Words.{and_parts, is_digit, list_all, nat_tests}
 use Rattle.mv_pack.proofs.TextLemmas.{passes_at, chosen_ok}
-use Rattle.std.specs.List.{list_all}
-use Rattle.std.proofs.lemmas.Bool.Decides.{nat_tests}
 use Rattle.mv_pack.specs.declared.fault.PackFault.TheVariants.{Date}
 use Rattle.jiff_core.specs.Calendar.{days_from_civil}
 use Rattle.jiff_core.proofs.CalendarLemmas.{day_count-lt_year}
 use Rattle.mv_pack.specs.Expiry.{CivilDate, IsExpiry, day_of, dated, two_digits_at, expiry_text, read_expiry}
-use Rattle.mv_pack.specs.Gtin.{is_digit}
 
 -- no day of the range has a negative number
 pub day_from_1970 : (date : CivilDate) → IsExpiry date → pos 0 ≤ℤ day_of date

@@ -1,3 +1,4 @@
+pub mod Words
 pub mod TextLemmas
 pub mod GtinLemmas
 pub mod MarketLemmas

@@ -1,7 +1,7 @@
 -- Texts of capital letters.
-use Rattle.std.proofs.Common.{◌≡◌, ℕ, ◌<◌, ◌≤◌, List, [], ◌∷◌, get_or, true, arith, IsUtf8, Ok}
-use Rattle.std.specs.List.{list_all}
-use Rattle.std.proofs.lemmas.Bool.Decides.{nat_tests}
+use Rattle.std.proofs.lemmas.Grind.{common_steps}
+use Rattle.std.proofs.Common.{◌≡◌, ℕ, ◌<◌, ◌≤◌, List, get_or, true, arith, IsUtf8, Ok}
+use Rattle.mv_pack.proofs.Words.{list_all, nat_tests}
 use Rattle.mv_pack.specs.Market.{is_capital, IsMarket, read_market}
 use Rattle.mv_pack.proofs.TextLemmas.{text_of_ascii}
 
@@ -23,5 +23,4 @@ read_market_of m h = cc
 -- both letters of a market are capitals
 pub letters_within : (m : List ℕ) → IsMarket m
     → (65 ≤ get_or m 0 0) × (get_or m 0 0 ≤ 90) × (65 ≤ get_or m 1 0) × (get_or m 1 0 ≤ 90)
-letters_within (a ∷ []) h = absurd (omega (arith, h.0))
-letters_within m h = grind (arith, nat_tests)
+letters_within m h = grind (arith, common_steps)

@@ -1,10 +1,8 @@
 -- Serial numbers, batch numbers and national numbers, as texts, by the GS1 General Specifications.
 use Rattle.std.specs.Prelude.{◌≡◌, ℕ, ◌+◌, ◌-◌, ◌++◌, replicate, ◌≤◌, ◌==◌, ◌&&◌, ◌||◌, not, Bool, List, length, nat_le, nat_lt, if◌then◌else◌, IsTrue, Option, Some, None, Result, Ok, Err}
-use Rattle.std.specs.List.{before_first, list_all, position_from}
+use Rattle.mv_pack.specs.Words.{Character, Empty, PackFault, TooLong, before_first, list_all, position_from}
 use Rattle.mv_pack.specs.Gtin.{is_digit}
 use Rattle.mv_pack.specs.Market.{is_capital}
-use Rattle.mv_pack.specs.declared.fault.PackFault.{PackFault}
-use Rattle.mv_pack.specs.declared.fault.PackFault.TheVariants.{Empty, TooLong, Character}
 
 -- a byte is one of the letters a to z
 abbrev pub is_small_letter : ℕ → Bool

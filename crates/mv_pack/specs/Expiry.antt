@@ -1,10 +1,8 @@
 -- Expiry dates, as texts of six digits, by the GS1 General Specifications, and as days.
 use Rattle.std.specs.Prelude.{◌≡◌, ℕ, ◌+◌, ◌-◌, ◌*◌, ◌≤◌, ◌==◌, ◌&&◌, Bool, IsTrue, List, [], ◌∷◌, ◌++◌, ◌/◌, ◌%◌, length, nat_le, if◌then◌else◌, Result, Ok, Err, ℤ, pos, int_lt, slice_index}
-use Rattle.std.specs.List.{list_all}
+use Rattle.mv_pack.specs.Words.{Date, PackFault, list_all}
 use Rattle.jiff_core.specs.Calendar.{days_in_month, days_from_civil}
 use Rattle.mv_pack.specs.Gtin.{is_digit}
-use Rattle.mv_pack.specs.declared.fault.PackFault.{PackFault}
-use Rattle.mv_pack.specs.declared.fault.PackFault.TheVariants.{Date}
 
 -- a day of the Gregorian calendar
 pub record CivilDate : Type 0 where

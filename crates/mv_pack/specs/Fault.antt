@@ -1,7 +1,6 @@
 -- The numbers by which replies name the faults of values.
 use Rattle.std.specs.Prelude.{ℕ, List, codes}
-use Rattle.mv_pack.specs.declared.fault.PackFault.{PackFault}
-use Rattle.mv_pack.specs.declared.fault.PackFault.TheVariants.{Length, Digit, CheckDigit, Empty, TooLong, Character, Date, Market, Moment}
+use Rattle.mv_pack.specs.Words.{Character, CheckDigit, Date, Digit, Empty, Length, Market, Moment, PackFault, TooLong}
 
 -- the number of a fault
 abbrev pub code_of : PackFault → List ℕ

@@ -1,3 +1,4 @@
+pub mod Words
 pub mod Gtin
 pub mod Market
 pub mod Code

@@ -1,8 +1,6 @@
 -- Markets: the Member States that a product is sold in, by the two capital letters of ISO 3166-1.
 use Rattle.std.specs.Prelude.{◌≡◌, ℕ, ◌+◌, ◌-◌, ◌*◌, ◌==◌, ◌&&◌, Bool, List, length, slice_index, nat_le, if◌then◌else◌, IsTrue, Result, Ok, Err}
-use Rattle.std.specs.List.{list_all}
-use Rattle.mv_pack.specs.declared.fault.PackFault.{PackFault}
-use Rattle.mv_pack.specs.declared.fault.PackFault.TheVariants.{Market}
+use Rattle.mv_pack.specs.Words.{Market, PackFault, list_all}
 
 -- a byte is one of the letters A to Z
 abbrev pub is_capital : ℕ → Bool

@@ -1,7 +1,6 @@
 -- Moments, in whole seconds since 1970-01-01T00:00:00Z.
 use Rattle.std.specs.Prelude.{ℕ, ◌<◌, nat_lt, if◌then◌else◌, Result, Ok, Err}
-use Rattle.mv_pack.specs.declared.fault.PackFault.{PackFault}
-use Rattle.mv_pack.specs.declared.fault.PackFault.TheVariants.{Moment}
+use Rattle.mv_pack.specs.Words.{Moment, PackFault}
 
 -- the first second of the year 2100: 130 years of 365 days and 32 leap days after 1970-01-01, of 86,400 seconds each
 abbrev pub year_2100 : ℕ

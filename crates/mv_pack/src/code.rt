@@ -3,12 +3,9 @@
 //! The three are one type with a marker, so that reading, equality, order and hash are written once.
 
 ghost use Rattle.std.specs.Prelude.{◌≡◌, ◌<◌, ◌≤◌, ◌↔◌, ◌∷◌, [], length, take, drop, nat_eq, refl, IsOk, IfSome, IsTrue, MatchResult, Ok, Err, Some, None};
-ghost use Rattle.std.specs.Ordering.{nat_cmp};
+ghost use Rattle.mv_pack.specs.Words.{count_by, hashing, nat_cmp, nat_list_cmp_total, nat_list_eq_equiv, pointwise, slice_cmp, texts_po, texts_ties};
 ghost use Rattle.std.specs.Cmp.{partial_equiv_from_equiv};
-ghost use Rattle.std.specs.Cmp.Lexicographic.{pointwise, slice_cmp, nat_list_eq_equiv, nat_list_cmp_total, texts_po, texts_ties};
-ghost use Rattle.std.specs.Cmp.Rules.{hashing};
 ghost use Rattle.std.proofs.Common.{rules};
-ghost use Rattle.std.specs.List.{count_by};
 ghost use Rattle.mv_pack.specs.Code.{is_code_character, is_mark, is_filled, first_wrong, filled_up, most_code_bytes, read_code, text_before, IsCode, IsFilledUp};
 
 use crate::PackFault;

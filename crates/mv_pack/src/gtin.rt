@@ -1,8 +1,7 @@
 //! Product codes.
 
 ghost use Rattle.std.specs.Prelude.{◌≡◌, ◌+◌, ◌*◌, ◌-◌, ◌≤◌, ◌↔◌, [], ◌∷◌, length, map, take, drop, IsOk, IsTrue};
-ghost use Rattle.std.specs.List.{list_all};
-ghost use Rattle.std.specs.Cmp.Rules.{hashing};
+ghost use Rattle.mv_pack.specs.Words.{hashing, list_all};
 ghost use Rattle.std.proofs.Common.{rules};
 ghost use Rattle.mv_pack.specs.Gtin.{is_digit, check_sum, padded, read_gtin, IsGtinText, digit_values};
 

@@ -1,8 +1,7 @@
 //! Laws of the values, a sentence each; what they say holds of every text and of every value.
 
 ghost use Rattle.std.specs.Prelude.{◌≡◌, ◌↔◌, IsTrue};
-ghost use Rattle.std.specs.Ordering.{nat_cmp, ordering_then};
-ghost use Rattle.std.specs.Cmp.Lexicographic.{slice_cmp};
+ghost use Rattle.mv_pack.specs.Words.{nat_cmp, ordering_then, slice_cmp};
 ghost use Rattle.mv_pack.specs.Gtin.{IsGtin, read_gtin};
 ghost use Rattle.mv_pack.specs.Market.{IsMarket, read_market};
 ghost use Rattle.mv_pack.specs.Code.{IsCode, read_code};

@@ -1,11 +1,6 @@
 -- The answers among what a party submits are those that its repository's log calls for.
 use Rattle.std.proofs.Common.{◌≡◌, ℕ, false, List, [], ◌∷◌, ◌++◌, sym, refl, ap, ◌∙◌, append_assoc, append-nil, arith, option_to_list}
-use Rattle.mv_message.specs.declared.message.Message.{Message}
-use Rattle.mv_message.specs.Kinds.{is_query_or_answer}
-use Rattle.mv_link.specs.declared.item.Item.{Item}
-use Rattle.mv_repository.specs.declared.entry.LogEntry.{LogEntry}
-use Rattle.mv_repository.specs.Query.{answer_after, answer_to, answers_from, answers_of}
-use Rattle.mv_party.specs.Site.{answers_in}
+use Rattle.mv_party.proofs.Words.{Item, LogEntry, Message, answer_after, answer_to, answers_from, answers_in, answers_of, is_query_or_answer}
 
 pub answers_in-append : (xs ys : List Message) → answers_in (xs ++ ys) ≡ answers_in xs ++ answers_in ys
 answers_in-append [] ys = refl

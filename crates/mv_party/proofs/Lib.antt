@@ -1,3 +1,4 @@
+pub mod Words
 pub mod AnswerLemmas
 pub mod SiteLemmas
 pub mod CallerLemmas

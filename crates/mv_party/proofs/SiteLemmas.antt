@@ -1,19 +1,12 @@
 -- What a party keeps with one more submission, and with one more item of its repository.
 use Rattle.std.proofs.Common.{◌≡◌, ℕ, ◌+◌, ◌<◌, ◌≤◌, ◌≢◌, Bool, false, List, [], ◌∷◌, ◌++◌, length, cond, set, get_or, length-set, eqb, Option, Some, None, Ok, refl, arith, length-append, option_to_list}
+use Rattle.mv_party.proofs.Words.{IsLawfulParty, IsSite, Item, LogEntry, Message, SiteState, answer_fault, answer_to, answers_in, ask_fault, count_from, entry_from, is_query_or_answer, site_of, submit_fault, unless_fault}
 use Rattle.std.specs.List.{AllByRecursion}
 use Rattle.std.proofs.lemmas.Bool.{cases_eq}
 use Rattle.std.proofs.lemmas.Grind.{elements}
-use Rattle.mv_message.specs.declared.message.Message.{Message}
-use Rattle.mv_message.specs.Kinds.{is_query_or_answer}
-use Rattle.mv_link.specs.declared.item.Item.{Item}
-use Rattle.mv_repository.specs.declared.entry.LogEntry.{LogEntry}
 use Rattle.mv_repository.specs.Log.{items_from}
-use Rattle.mv_repository.specs.Query.{answer_to}
 use Rattle.mv_repository.specs.Repository.{RepositoryState, with_applied as repository_with}
 use Rattle.mv_party.specs.declared.fault.SiteFault.{SiteFault}
-use Rattle.mv_party.specs.Site.{SiteState, entry_from, count_from, answers_in, IsLawfulParty}
-use Rattle.mv_party.specs.Calls.{unless_fault, ask_fault, submit_fault, answer_fault}
-use Rattle.mv_party.specs.Kept.{site_of, IsSite}
 use Rattle.mv_party.proofs.AnswerLemmas.{answers_in-more, answers_in-applied}
 
 -- the items of a party once an entry is last

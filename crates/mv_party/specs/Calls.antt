@@ -1,17 +1,14 @@
 -- What a party answers to each call, and when it refuses one. Whether its uplink has room is for its caller to say.
 use Rattle.std.specs.Prelude.{ℕ, ◌||◌, Bool, Option, Some, None, Result, Ok, Err, if◌then◌else◌, ⊤}
-use Rattle.mv_message.specs.declared.message.Message.{Message}
-use Rattle.mv_message.specs.Kinds.{is_query_or_answer}
-use Rattle.mv_link.specs.declared.item.Item.{Item}
+use Rattle.mv_party.specs.Words.{Item, Message, answer_to, is_query_or_answer}
 use Rattle.mv_link.specs.declared.incoming.Look.{Look}
-use Rattle.mv_link.specs.declared.incoming.Look.TheVariants as look
 use Rattle.mv_repository.specs.Effect.{effect_of}
-use Rattle.mv_repository.specs.Query.{answer_to}
 use Rattle.mv_party.specs.declared.fault.SiteFault.{SiteFault}
 use Rattle.mv_party.specs.declared.fault.SiteFault.TheVariants.{NotYours, UplinkFull, SenderFull, AnswerBusy}
 use Rattle.mv_party.specs.declared.taken.Taken.{Taken}
 use Rattle.mv_party.specs.declared.taken.Taken.TheVariants.{Applied, Old, Gap}
 use Rattle.mv_party.specs.Site.{SiteState, entry_from, answer_number, is_full, with_applied}
+use Rattle.mv_link.specs.declared.incoming.Look.TheVariants as look
 
 -- what a call says that only tells whether there is a fault
 abbrev pub unless_fault : Option SiteFault → Result ⊤ SiteFault

@@ -1,8 +1,7 @@
 -- What a party keeps beside its lists. No public contract cites it.
 use Rattle.std.specs.Prelude.{◌≡◌, ◌<◌, ◌≤◌, ℕ, List, length, slice_index_or}
-use Rattle.mv_message.specs.declared.message.Message.{Message}
+use Rattle.mv_party.specs.Words.{Message, SUBMISSIONS_LIMIT}
 use Rattle.mv_repository.specs.Repository.{RepositoryState}
-use Rattle.mv_party.specs.declared.limits.TheConstants.{SUBMISSIONS_LIMIT}
 use Rattle.mv_party.specs.Site.{SiteState, count_from, IsLawfulParty}
 
 -- the party of these parts, one of so many

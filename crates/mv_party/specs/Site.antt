@@ -1,12 +1,8 @@
 -- What a party is seen as, and when it is lawful. What it accepted of each sender follows from its log.
 use Rattle.std.specs.Prelude.{◌≡◌, ◌<◌, ◌+◌, ◌==◌, ℕ, List, [], ◌∷◌, ◌++◌, length, Bool, Option, Some, None, option_to_list}
+use Rattle.mv_party.specs.Words.{Answer, Item, LogEntry, Message, answer_to, answers_of}
 use Rattle.std.specs.List.{AllByRecursion}
-use Rattle.mv_message.specs.declared.message.Message.{Message}
-use Rattle.mv_message.specs.declared.message.Message.TheVariants.{Answer}
-use Rattle.mv_link.specs.declared.item.Item.{Item}
-use Rattle.mv_repository.specs.declared.entry.LogEntry.{LogEntry}
 use Rattle.mv_repository.specs.Log.{items_from}
-use Rattle.mv_repository.specs.Query.{answer_to, answers_of}
 
 -- one party of a system
 pub record SiteState : Type 0 where

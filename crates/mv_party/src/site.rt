@@ -1,22 +1,14 @@
 //! One party of a system.
 
-ghost use Rattle.std.specs.Prelude.{◌≡◌, ◌<◌, ◌≤◌, ◌+◌, ◌∷◌, [], ◌++◌, List, ℕ, length};
-ghost use Rattle.std.specs.Prelude.{slice_get, vec_capacity, option_to_list, IfOk, OnOk, OnErr};
-ghost use Rattle.std.specs.Prelude.{IsErrOf, is_some, false};
+ghost use Rattle.std.specs.Prelude.{◌≡◌, ◌<◌, ◌≤◌, ◌+◌, ◌∷◌, [], ◌++◌, List, ℕ, length, slice_get, vec_capacity, option_to_list, IfOk, OnOk, OnErr, IsErrOf, is_some, false};
+ghost use Rattle.mv_party.specs.Words.{LogEntry as ALogEntry, Query, SUBMISSIONS_LIMIT, answer_after, is_query_or_answer};
 ghost use Rattle.std.specs.Option.{option_copied};
-ghost use Rattle.mv_message.specs.Kinds.{is_query_or_answer};
-ghost use Rattle.mv_message.specs.declared.message.Message.TheVariants.{Query};
 ghost use Rattle.mv_link.specs.declared.incoming.Look.TheVariants.{Next};
 ghost use Rattle.mv_link.specs.declared.limits.TheConstants.{NUMBER_LIMIT};
 ghost use Rattle.mv_link.specs.Fault.{FailsBy};
 ghost use Rattle.mv_link.specs.Receiving.{look_at};
-ghost use Rattle.mv_party.specs.declared.limits.TheConstants.{SUBMISSIONS_LIMIT};
-ghost use Rattle.mv_repository.specs.declared.entry.LogEntry.{LogEntry as ALogEntry};
-ghost use Rattle.mv_repository.specs.Query.{answer_after};
-ghost use Rattle.mv_party.specs.Site.{new_site, is_full, with_submission, with_applied, count_from};
-ghost use Rattle.mv_party.specs.Site.{answer_number, answers_in, IsLawfulParty};
-ghost use Rattle.mv_party.specs.Calls.{unless_fault, submit_fault, ask_fault, answer_fault};
-ghost use Rattle.mv_party.specs.Calls.{apply_fault, taken_by, with_taken};
+ghost use Rattle.mv_party.specs.Site.{new_site, is_full, with_submission, with_applied, count_from, answer_number, answers_in, IsLawfulParty};
+ghost use Rattle.mv_party.specs.Calls.{unless_fault, submit_fault, ask_fault, answer_fault, apply_fault, taken_by, with_taken};
 
 use crate::{SiteFault, Taken};
 use mv_link::{Frame, Incoming, Item, Look};

@@ -1,9 +1,7 @@
 //! How what a routing puts on the links of its sender is pushed. Nothing of this can fail.
 
 ghost use Rattle.std.specs.Prelude.{◌≡◌, ◌<◌, ℕ, [], ◌∷◌, length, replicate, true};
-ghost use Rattle.mv_link.specs.Sending.{HasRoom};
-ghost use Rattle.mv_pairs.specs.Pairs.{IsSquare};
-ghost use Rattle.mv_link.specs.PartySets.{has_party, parties_in};
+ghost use Rattle.mv_hub.specs.Words.{HasRoom, IsSquare, has_party, parties_in};
 ghost use Rattle.mv_hub.specs.Gains.{PushesItems, PushesRow, receipt_to, gain_of};
 ghost use Rattle.mv_hub.specs.Targets.{is_query};
 ghost use Rattle.mv_hub.specs.Kept.{link_at};

@@ -1,13 +1,11 @@
 //! How a message is routed. Only the links that gain something are looked at: those to the parties that it reaches, and
 //! that of its sender to itself.
 
-ghost use Rattle.std.specs.Prelude.{◌≡◌, ◌+◌, ◌<◌, length, replicate};
-ghost use Rattle.std.specs.Prelude.{IfOk, OnOk, OnErr};
+ghost use Rattle.std.specs.Prelude.{◌≡◌, ◌+◌, ◌<◌, length, replicate, IfOk, OnOk, OnErr};
+ghost use Rattle.mv_hub.specs.Words.{NUMBER_LIMIT, parties_in};
 ghost use Rattle.mv_hub.specs.Record.{routed_count};
 ghost use Rattle.mv_hub.specs.Targets.{reach};
-ghost use Rattle.mv_link.specs.PartySets.{parties_in};
 ghost use Rattle.mv_link.specs.Fault.{FailsBy};
-ghost use Rattle.mv_link.specs.declared.limits.TheConstants.{NUMBER_LIMIT};
 ghost use Rattle.mv_hub.specs.Hub.{is_busy, busy_party, route_fault, with_routed};
 ghost use Rattle.mv_hub.specs.Gains.{IsRouting};
 

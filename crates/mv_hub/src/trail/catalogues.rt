@@ -1,16 +1,13 @@
 //! What the hub knows of each product, by the masters and uploads that it routed.
 
-ghost use Rattle.std.specs.Prelude.{◌≡◌, ℕ, List, None, Some, if◌then◌else◌, bytes_eq};
-ghost use Rattle.std.specs.Prelude.{OnOk, OnErr, unwrap_or};
+ghost use Rattle.std.specs.Prelude.{◌≡◌, ℕ, List, None, Some, if◌then◌else◌, bytes_eq, OnOk, OnErr, unwrap_or};
 ghost use Rattle.std.specs.Option.{option_copied};
 ghost use Rattle.mv_hub.specs.Catalogue.{catalogue_of};
-ghost use Rattle.mv_hub.specs.Record.{product_of};
-ghost use Rattle.mv_hub.specs.Tables.{catalogue_in, no_catalogue, catalogue_after, listing_of};
+ghost use Rattle.mv_hub.specs.Tables.{catalogue_in, no_catalogue, catalogue_after};
 
 use crate::trail::AuditTrail;
 use crate::{Catalogue, MasterProduct, Pairs};
 use indexmap::{IndexMap, IndexSet};
-use mv_message::{Message, Shared};
 use mv_pack::{Batch, Expiry, Gtin};
 use std::alloc::{AllocError, Global};
 use std::marker::Model;
@@ -49,33 +46,34 @@ impl Listed {
         }
     }
 
-    /// Notes what a message says of the product. Where memory is refused nothing has changed.
-    fn note(&mut self, message: &Shared<Message>) -> Result<(), AllocError>
-        ensures ok { OnOk result (self.new
-            ≡ catalogue_after self.old (product_of message.now) (listing_of message.now)) }
+    /// Notes a master, if there is one, and a batch with its expiry, if there is one. Where memory is refused nothing has changed.
+    fn note(
+        &mut self,
+        product: MasterProduct,
+        listing: Option<(Batch, Expiry)>,
+    ) -> Result<(), AllocError>
+        ensures ok { OnOk result (self.new ≡ catalogue_after self.old product listing) }
         ensures err { OnErr result (self.new ≡ self.old) }
     {
-        match message.get() {
-            Message::Master { .. } => {
-                self.catalogue.product = MasterProduct::new(Some(message.share()?));
-            }
-            Message::Upload { batch, expiry, .. } => self.add(batch, *expiry)?,
-            _ => {}
+        if let Some(listing) = listing {
+            self.add(listing)?;
+        }
+        if product.get().is_some() {
+            self.catalogue.product = product;
         }
         Ok(())
     }
 
     /// Puts a batch and its expiry behind the others, unless they are there. Where memory is refused nothing has changed.
-    fn add(&mut self, batch: &Batch, expiry: Expiry) -> Result<(), AllocError>
-        ensures ok { OnOk result (self.new ≡ catalogue_after self.old None (Some (batch.now, expiry))) }
+    fn add(&mut self, listing: (Batch, Expiry)) -> Result<(), AllocError>
+        ensures ok { OnOk result (self.new ≡ catalogue_after self.old None (Some listing)) }
         ensures err { OnErr result (self.new ≡ self.old) }
     {
-        let listing = (batch.copy(), expiry);
         if self.known.contains(&listing) {
             return Ok(());
         }
         self.known.reserve(1)?;
-        self.catalogue.batches.push(batch.copy(), expiry)?;
+        self.catalogue.batches.push(listing.0.copy(), listing.1)?;
         // Nothing fails from here on.
         let Ok(_) = self.known.insert(listing) else {
             unreachable!()
@@ -93,25 +91,27 @@ impl AuditTrail {
     }
 }
 
-/// Notes what a message says of a product. Where memory is refused nothing has changed.
+/// Notes a master of a product, if there is one, and a batch of it with its expiry, if there is one. Where memory is refused nothing
+/// has changed.
 pub(super) fn note(
     alloc: Global,
     catalogues: &mut IndexMap<Gtin, Listed>,
     gtin: Gtin,
-    message: &Shared<Message>,
+    product: MasterProduct,
+    listing: Option<(Batch, Expiry)>,
 ) -> Result<(), AllocError>
     ensures ok { OnOk result ((other : List ℕ) → catalogue_in catalogues.new.entries other
         ≡ (if bytes_eq gtin other
         then Some (catalogue_after (unwrap_or (catalogue_in catalogues.old.entries gtin) no_catalogue)
-        (product_of message.now) (listing_of message.now))
+        product listing)
         else catalogue_in catalogues.old.entries other)) }
     ensures err { OnErr result (catalogues.new.entries ≡ catalogues.old.entries) }
 {
     if let Some(listed) = catalogues.get_mut(&gtin) {
-        return listed.note(message);
+        return listed.note(product, listing);
     }
     let mut listed = Listed::new(alloc);
-    listed.note(message)?;
+    listed.note(product, listing)?;
     catalogues.insert(gtin, listed)?;
     Ok(())
 }

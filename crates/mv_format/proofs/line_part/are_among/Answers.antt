@@ -1,5 +1,6 @@
 use Rattle.std.proofs.Common.{arith, subst, All, Contains}
-use Rattle.mv_format.proofs.Words.{All-more, LineEntry}
+use Rattle.std.proofs.lemmas.List.Elements.{All-more}
+use Rattle.mv_format.specs.declared.line_part.LineEntry.{LineEntry}
 use Rattle.std.proofs.lemmas.List.{take_all}
 use Rattle.mv_format.proofs.line_part.are_among.Goals as goal
 

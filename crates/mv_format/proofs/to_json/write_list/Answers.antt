@@ -1,5 +1,5 @@
 use Rattle.std.proofs.Common.{arith}
-use Rattle.mv_format.proofs.Words.{common_steps}
+use Rattle.std.proofs.lemmas.Grind.{common_steps}
 use Rattle.mv_format.proofs.WritingLemmas.{bracketed, list_is}
 use Rattle.mv_format.proofs.to_json.write_list.Goals as goal
 

@@ -1,6 +1,5 @@
 use Rattle.std.proofs.Common.{◌≡◌, ◌++◌, ◌∷◌, flat_map, take}
-use Rattle.mv_format.proofs.Words.{begin_array}
-use Rattle.mv_format.specs.Writing.{tokens_of}
+use Rattle.mv_format.proofs.Words.{begin_array, tokens_of}
 use Rattle.mv_format.proofs.to_json.write_list.Given as goal
 
 -- the first values are written

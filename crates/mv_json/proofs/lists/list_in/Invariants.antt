@@ -1,6 +1,5 @@
 use Rattle.std.proofs.Common.{◌≡◌, drop}
-use Rattle.serde_json.specs.View.{items_view}
-use Rattle.mv_json.specs.Reading.{read_items}
+use Rattle.mv_json.proofs.Words.{items_view, read_items}
 use Rattle.mv_json.proofs.ReadingLemmas.{with_front}
 use Rattle.mv_json.proofs.lists.list_in.Given as goal
 

@@ -1,7 +1,6 @@
 use Rattle.std.proofs.Common.{◌∷◌, map, take, Ok}
-use Rattle.std.specs.declared.alloc.AllocError.{AllocError}
+use Rattle.mv_json.proofs.Words.{AllocError, Puts}
 use Rattle.json.specs.Token.{string, begin_array}
-use Rattle.mv_json.specs.Tokens.{Puts}
 use Rattle.mv_json.proofs.member.put_list.Given as goal
 
 -- the list as far as it was put

@@ -1,6 +1,5 @@
 use Rattle.std.proofs.Common.{take, Ok}
-use Rattle.std.specs.declared.alloc.AllocError.{AllocError}
-use Rattle.mv_json.specs.Tokens.{Puts, members_put}
+use Rattle.mv_json.proofs.Words.{AllocError, Puts, members_put}
 use Rattle.mv_json.proofs.member.put_members.Given as goal
 
 -- the first members were put

@@ -1,7 +1,5 @@
 use Rattle.std.proofs.Common.{arith, subst, All, Contains}
-use Rattle.std.proofs.lemmas.List.{take_all}
-use Rattle.std.proofs.lemmas.List.Elements.{All-more}
-use Rattle.mv_json.specs.declared.part.Entry.{Entry}
+use Rattle.mv_json.proofs.Words.{All-more, Entry, take_all}
 use Rattle.mv_json.proofs.object.are_among.Goals as goal
 
 pub loop-met-preserved : goal.loop-met-preserved

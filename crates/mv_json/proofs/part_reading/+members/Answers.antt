@@ -1,7 +1,5 @@
-use Rattle.std.proofs.Common.{◌≡◌, [], ◌∷◌, length, sym, subst, ap, arith, rules}
-use Rattle.json.specs.Token.{key, end_object}
-use Rattle.mv_json.specs.Fields.{field_name}
-use Rattle.mv_json.specs.Parts.{deep_in}
+use Rattle.std.proofs.Common.{◌≡◌, ◌∷◌, length, sym, subst, ap, arith, rules, []}
+use Rattle.mv_json.proofs.Words.{deep_in, end_object, field_name, key}
 use Rattle.mv_json.proofs.MetLemmas.{none_met, all_met, begun_shorter}
 use Rattle.mv_json.proofs.PartLemmas.{AreEntries, one_more_entry}
 use Rattle.mv_json.proofs.part_reading.+members.Goals as goal

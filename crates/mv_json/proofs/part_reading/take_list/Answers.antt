@@ -1,7 +1,5 @@
-use Rattle.std.proofs.Common.{◌≡◌, ◌∷◌, [], ◌++◌, subst, append-nil}
-use Rattle.json.specs.Token.{end_array}
-use Rattle.mv_json.specs.Parts.{BeginWithTexts}
-use Rattle.json.proofs.Grammar.{closed_array}
+use Rattle.std.proofs.Common.{◌≡◌, ◌∷◌, ◌++◌, subst, append-nil, []}
+use Rattle.mv_json.proofs.Words.{BeginWithTexts, closed_array, end_array}
 use Rattle.mv_json.proofs.part_reading.take_list.Goals as goal
 
 pub returns-clause-list : goal.returns-clause-list

@@ -1,6 +1,5 @@
 use Rattle.std.proofs.Common.{◌≤◌, List, ◌++◌, length}
-use Rattle.json.specs.Token.{Token}
-use Rattle.mv_json.specs.Parts.{BeginWithTexts}
+use Rattle.mv_json.proofs.Words.{BeginWithTexts, Token}
 use Rattle.mv_json.proofs.part_reading.take_list.Given as goal
 
 -- whatever values come next stand behind those that were taken

@@ -1,7 +1,5 @@
 use Rattle.std.proofs.Common.{◌∙◌, ◌++◌, ap}
-use Rattle.std.proofs.lemmas.Str.{IsUtf8-string_bytes}
-use Rattle.serde_json.specs.Written.{compact_text}
-use Rattle.mv_json.specs.Messages.{value_of}
+use Rattle.mv_json.proofs.Words.{IsUtf8-string_bytes, compact_text, value_of}
 use Rattle.mv_json.proofs.ValueLemmas.{canonical_reads_back}
 use Rattle.mv_json.proofs.writing.text.Goals as goal
 

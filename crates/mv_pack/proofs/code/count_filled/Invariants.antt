@@ -1,6 +1,5 @@
 use Rattle.std.proofs.Common.{◌≡◌, take}
-use Rattle.std.specs.List.{count_by}
-use Rattle.mv_pack.specs.Code.{is_filled}
+use Rattle.mv_pack.proofs.Words.{count_by, is_filled}
 use Rattle.mv_pack.proofs.code.count_filled.Given as goal
 
 abbrev pub invariant-loop-byte : goal.invariant-loop-byte

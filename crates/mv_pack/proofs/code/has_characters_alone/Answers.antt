@@ -1,8 +1,5 @@
 use Rattle.std.proofs.Common.{◌≡◌, ◌∙◌, ◌+◌, ◌-◌, length, take, drop, ap, ap₂, sym, arith}
-use Rattle.std.specs.List.{count_by}
-use Rattle.std.proofs.lemmas.Bool.Decides.{nat_tests}
-use Rattle.std.proofs.lemmas.List.{take_all, length-drop}
-use Rattle.mv_pack.specs.Code.{is_code_character}
+use Rattle.mv_pack.proofs.Words.{count_by, is_code_character, length-drop, nat_tests, take_all}
 use Rattle.mv_pack.proofs.CodeLemmas.{none_wrong_in_pieces}
 use Rattle.mv_pack.proofs.code.has_characters_alone.Goals as goal
 

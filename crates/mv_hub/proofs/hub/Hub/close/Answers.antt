@@ -1,5 +1,5 @@
 use Rattle.std.proofs.Common.{◌<◌, length, arith}
-use Rattle.mv_hub.proofs.Words.{nat_tests}
+use Rattle.std.proofs.lemmas.Bool.Decides.{nat_tests}
 use Rattle.mv_hub.proofs.HubLemmas.{kept_closed}
 use Rattle.mv_hub.proofs.hub.Hub.close.Goals as goal
 

@@ -1,12 +1,10 @@
-use Rattle.std.proofs.Common.{◌<◌, ◌∙◌, length, sym, arith}
+use Rattle.std.proofs.Common.{◌<◌, length, sym, arith}
 use Rattle.mv_hub.proofs.LinksLemmas.{row-same}
 use Rattle.mv_hub.proofs.HubLemmas.{reached_below, rooms, next-gain, kept-routed}
 use Rattle.mv_hub.proofs.hub.Hub.route.Goals as goal
 
 pub put_gains-requires-clause-within : goal.put_gains-requires-clause-within
-put_gains-requires-clause-within c = λ to e.
-    let known = rw (← c.self.view_is) at c.routing-routing.ensures.routing in
-    omega (arith, reached_below _ _ _ _ to (sym (known.reaches to) ∙ e), c.self.invariant.square.rows)
+put_gains-requires-clause-within c = grind (arith, reached_below)
 
 -- no link is busy, so each has room
 pub put_gains-requires-clause-room : goal.put_gains-requires-clause-room

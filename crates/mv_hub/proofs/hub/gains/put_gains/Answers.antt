@@ -1,14 +1,10 @@
-use Rattle.std.proofs.Common.{◌∙◌, ◌++◌, length, sym, ap, append-nil, append_assoc, arith, replicate}
-use Rattle.mv_hub.proofs.Words.{Item, and_parts, carried_by, new_sending, parties_in, receipt_to}
+use Rattle.std.proofs.Common.{◌∙◌, ◌++◌, length, sym, ap, append_assoc, arith, replicate}
+use Rattle.mv_hub.proofs.Words.{and_parts, carried_by, new_sending, parties_in, receipt_to}
 use Rattle.mv_hub.proofs.LinksLemmas.{row-same, row-one, row-then, carried-more, pop-equal}
 use Rattle.mv_hub.proofs.hub.gains.put_gains.Goals as goal
 
 pub loop-to-init : goal.loop-to-init
-loop-to-init c = record {
-  row = row-same (λ to lt. grind (arith, append-nil {A = Item})) c.put_receipt.ensures;
-  left = λ to e. e;
-  each = c.requires.shares;
-}
+loop-to-init c = grind arith
 
 -- the least party of those that are left gets the message
 pub loop-to-preserved : goal.loop-to-preserved

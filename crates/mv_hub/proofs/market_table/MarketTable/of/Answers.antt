@@ -1,4 +1,4 @@
-use Rattle.std.proofs.Common.{◌+◌, ◌∙◌, take, map, ap, arith, take_all}
+use Rattle.std.proofs.Common.{◌+◌, ◌∙◌, take, map, ap}
 use Rattle.std.proofs.lemmas.List.{take_more}
 use Rattle.mv_hub.proofs.MarketTableLemmas.{noted-none, noted-more, noted-twice, twice-front, twice-first, lists-more, lists-count}
 use Rattle.mv_hub.proofs.market_table.MarketTable.of.Goals as goal
@@ -34,12 +34,3 @@ loop-market-preserved c =
     rw (take_more markets i market c.loop-market-test.true, ← c.market-item.is, c.place-place.ensures.value)
     (rw count at (noted-more first (take i markets) market c.loop-market.noted c.loop-market.invariant c.place-place.ensures.market
     (rw c.place-place.ensures.value at c.place-place.ensures.within) (rw c.place-place.ensures.value at c.if-noted-place-ne0.false)))
-
-pub loop-party-preserved : goal.loop-party-preserved
-loop-party-preserved c =
-    let lists = c.args.lists.now in
-    let party = c.loop-party.party in
-    let markets = c.as_slice-markets.result.now in
-    let more = lists-more (λ list. list.items) lists party c.index-lists-party.result c.loop-party-test.true in
-    let last = c.as_slice-markets.ensures.value ∙ ap (λ v. v.items) c.index-lists-party.is in
-    rw (more, ← last) (rw (take_all c.loop-market.market-index markets (omega (arith, c.loop-market-test.false))) at c.loop-market.invariant)

@@ -1,4 +1,4 @@
-use Rattle.std.proofs.Common.{◌++◌, ◌∷◌, [], map, take}
+use Rattle.std.proofs.Common.{◌++◌, ◌∷◌, map, take, []}
 use Rattle.mv_hub.specs.MarketTables.{AreNoted}
 use Rattle.mv_hub.proofs.market_table.MarketTable.of.Given as goal
 

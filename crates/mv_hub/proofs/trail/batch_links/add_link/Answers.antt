@@ -10,12 +10,6 @@ returns-in_err-push-clause-err c =
     rw ((err_from_is_err_and c.from_residual.result c.from_residual.ensures.1).1)
     (λ other. grind (arith, written.0 other, c.in_err-push.ensures.items, c.in-Some.ensures.value, batch-same c.args.before.now other))
 
--- some batch was linked to the batch
-pub returns-in-Some-clause-ok : goal.returns-in-Some-clause-ok
-returns-in-Some-clause-ok c = λ other.
-    let written = (c.get_mut.follows.holds c.push.new.self).3 (subst IsSome c.in-Some.ensures.value refl) in
-    grind (arith, written.0 other, c.in_ok-push.ensures.items, c.copy.ensures, c.in-Some.ensures.value, batch-same c.args.before.now other, append-nil {A = BatchKey})
-
 -- none was
 pub returns-clause-ok : goal.returns-clause-ok
 returns-clause-ok c = λ other.

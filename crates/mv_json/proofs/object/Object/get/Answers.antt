@@ -1,9 +1,11 @@
 use Rattle.mv_json.specs.declared.object.Place.TheVariants as places
-use Rattle.mv_json.proofs.PartLemmas.{is_there, stands}
+use Rattle.mv_json.specs.Parts.{entry}
+use Rattle.mv_json.proofs.MetLemmas.{stands}
+use Rattle.mv_json.proofs.PartLemmas.{is_there}
 use Rattle.mv_json.proofs.object.Object.get.Goals as goal
 
 pub returns-in_ok-find-in-Met : goal.returns-in_ok-find-in-Met
 returns-in_ok-find-in-Met c = λ value is.
     let part = c.in_ok-find-in-Met.field-0 in
-    let (found, at, says) = stands value c.in-Met.entries.items c.args.field part.now (rw c.in-Met.is at is) (rw c.deref.ensures.value at c.in_ok-find-in-Met.ensures) in
+    let (found, at, says) = stands (entry c.args.field part.now) (rw c.in-Met.is at is) (rw c.deref.ensures.value at c.in_ok-find-in-Met.ensures) in
     is_there c.args.field value found (places.Part part) at says

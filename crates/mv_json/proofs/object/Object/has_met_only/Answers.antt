@@ -1,6 +1,7 @@
-use Rattle.mv_json.proofs.PartLemmas.{known_only}
+use Rattle.mv_json.specs.Fields.{field_name}
+use Rattle.mv_json.proofs.MetLemmas.{known_only}
 use Rattle.mv_json.proofs.object.Object.has_met_only.Goals as goal
 
 pub returns-in-Met : goal.returns-in-Met
 returns-in-Met c = λ all value is.
-    known_only value c.in-Met.entries.items c.args.fields.now (rw c.in-Met.is at is) (rw c.deref.ensures.value at (c.are_among.ensures all))
+    known_only field_name (λ met. met.field) c.args.fields.now (rw c.in-Met.is at is) (rw c.deref.ensures.value at (c.are_among.ensures all))

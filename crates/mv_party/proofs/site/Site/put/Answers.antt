@@ -1,7 +1,6 @@
 -- One more submission.
 use Rattle.std.proofs.Common.{◌<◌, ◌++◌, ◌∷◌, [], length, ap, sym, subst, ◌∙◌}
-use Rattle.mv_party.specs.Site.{SiteState}
-use Rattle.mv_party.specs.Kept.{site_of}
+use Rattle.mv_party.proofs.Words.{SiteState, site_of}
 use Rattle.mv_party.proofs.SiteLemmas.{submitted-kept}
 use Rattle.mv_party.proofs.site.Site.put.Goals as goal
 

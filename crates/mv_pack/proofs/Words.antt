@@ -1,0 +1,9 @@
+-- The names of the library, of the definitions, and of the crates below that the proofs cite, passed on from one place. Declares nothing.
+pub use Rattle.mv_pack.specs.Code.{IsCode, IsFilledUp, filled_up, first_wrong, is_code_character, is_filled, is_zero, most_code_bytes, read_code, text_before}
+pub use Rattle.mv_pack.specs.Gtin.{IsGtin, check_sum, is_digit, padded, read_gtin}
+pub use Rattle.std.proofs.lemmas.Bool.{and_parts}
+pub use Rattle.std.proofs.lemmas.Bool.Decides.{nat_tests}
+pub use Rattle.std.proofs.lemmas.List.{at_drop_more, drop-replicate, get_or-map, length-append, length-drop, length-map, length-replicate, length-take-le, take-append-drop, take-append-le, take-take, take_all}
+pub use Rattle.std.proofs.lemmas.List.Folds.{list_all-append, list_all_at, sum_by-replicate}
+pub use Rattle.std.proofs.lemmas.List.Sums.{count_by-le-length, sum_by-append, sum_by-cons}
+pub use Rattle.std.specs.List.{count_by, list_all, position_from, prefix_len}

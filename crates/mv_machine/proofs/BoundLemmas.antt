@@ -1,7 +1,7 @@
 -- How long the record can grow: each sender routes what it submitted, and each link is closed at most once.
 use Rattle.std.proofs.Common.{◌≡◌, ℕ, zero, suc, ◌+◌, ◌*◌, ◌<◌, ◌≤◌, List, [], ◌∷◌, ◌++◌, length, take, length-append, cond, Some, refl, ap, ◌∙◌, subst, append_assoc, append-nil, arith, slice_get}
 use Rattle.std.proofs.Math.Nat.{mul-le-mul_left}
-use Rattle.mv_machine.proofs.Words.{Closed, Entry, Fits, IsLawful, Message, NumbersSuffice, Routed, StampsSuffice, State, cases_eq, eq-eqb, gained, hub_of, is_busy, is_open, is_open-append, items_on, le-ltb, link_items, link_items_after, routed_count, routed_from, routed_from-append, submissions_of}
+use Rattle.mv_machine.proofs.Words.{Closed, Entry, Fits, IsLawful, Message, NumbersSuffice, Routed, StampsSuffice, State, cases_eq, eq-eqb, gained, is_busy, is_open, is_open-append, items_on, le-ltb, link_items, link_items_after, routed_count, routed_from, routed_from-append, submissions_of}
 use Rattle.mv_party.specs.declared.limits.TheConstants.{SUBMISSIONS_LIMIT}
 
 pub routed_count-push : (before after : List Entry) (party : ℕ) → routed_count (before ++ after) party ≡ routed_count before party + routed_count after party
@@ -73,10 +73,10 @@ entries-most count before (Closed sender receiver ∷ entries) fit =
     omega (arith, rest, closed)
 
 -- what was routed from a party is no more than what it submitted
-pub routed_count-few : (st : State) (party : ℕ) → IsLawful st → party < length st.parties → routed_count st.entries party ≤ length (submissions_of st party)
+pub routed_count-few : (st : State) (party : ℕ) → IsLawful st → party < length st.hub.parties → routed_count st.hub.entries party ≤ length (submissions_of st party)
 routed_count-few st party lawful is_party =
-    let order = (lawful.of_link party party is_party is_party).routed in
-    omega (arith, ap length order.1, length-append (routed_from st.entries party) order.0)
+    let order = (lawful.of_party party is_party).routed in
+    omega (arith, ap length order.1, length-append (routed_from st.hub.entries party) order.0)
 
 -- a record of so many parties, from each of whom so many messages were routed at most, is far from having 2 ^ 32 entries
 pub stamps_suffice : StampsSuffice
@@ -104,4 +104,4 @@ items-few parties before (Routed a k m ∷ entries) from to = grind (arith, item
 -- so no link runs out of numbers
 pub numbers_suffice : NumbersSuffice
 unfolding is_busy link_items
-numbers_suffice st from to message lawful is_party few = grind (arith, items-few, gained-few, items_on, hub_of, le-ltb, routed_count-few)
+numbers_suffice st from to message lawful is_party few = grind (arith, items-few, gained-few, items_on, le-ltb, routed_count-few)

@@ -22,12 +22,12 @@ open-before (entry ∷ entries) (suc place) from to k message at open_then = gri
 -- what was applied over a link is about messages that were routed before its closing
 pub nothing_routed_later : (st : State) → IsLawful st → NothingRoutedLater st
 nothing_routed_later st lawful from to from_is_party to_is_party =
-    let count = routed_count (before_closing st.entries from to) from in
-    put-each st.parties st.entries from to (λ item. number_of item ≤ count) 2
+    let count = routed_count (before_closing st.hub.entries from to) from in
+    put-each st.hub.parties st.hub.entries from to (λ item. number_of item ≤ count) 2
     (λ item put. omega (
       arith,
       (lawful.of_record.fits put.place (Routed from (number_of item) put.message) put.routed).1,
-      open-before st.entries put.place from to (number_of item) put.message put.routed put.still_open,
+      open-before st.hub.entries put.place from to (number_of item) put.message put.routed put.still_open,
     ))
     (items_from (log_of st to) from) (log-put st from to lawful from_is_party to_is_party)
 
@@ -43,7 +43,7 @@ before_closing-few (entry ∷ entries) from to party = grind (arith, before_clos
 
 -- the record only grows
 pub follows-same : (st : State) → Follows st st
-follows-same st = record { parties = refl; limits = refl; entries = ([], append-nil st.entries) }
+follows-same st = record { parties = refl; limits = refl; entries = ([], append-nil st.hub.entries) }
 
 -- a later state of a later one
 pub follows_further : (first second third : State) → Follows first second → Follows second third → Follows first third

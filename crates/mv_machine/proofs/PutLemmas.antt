@@ -115,11 +115,11 @@ link-put parties before (entry ∷ entries) from to fit =
     (rw (append_assoc before (entry ∷ []) entries) at (link-put parties (before ++ entry ∷ []) entries from to (rest-fit (length parties) before entry entries fit)))
 
 -- so what was applied over a link was put there
-pub log-put : (st : State) (from to : ℕ) → IsLawful st → from < length st.parties → to < length st.parties → ArePut st.parties st.entries from to 2 (items_from (log_of st to) from)
+pub log-put : (st : State) (from to : ℕ) → IsLawful st → from < length st.hub.parties → to < length st.hub.parties → ArePut st.hub.parties st.hub.entries from to 2 (items_from (log_of st to) from)
 unfolding link_items
 log-put st from to lawful from_is_party to_is_party =
-    let applied = (lawful.of_link from to from_is_party to_is_party).applied in
-    put-front st.parties st.entries from to 2 (items_from (log_of st to) from) applied.0 (rw applied.1 (link-put st.parties [] st.entries from to lawful.of_record.fits))
+    let applied = (lawful.of_party to to_is_party).applied from from_is_party in
+    put-front st.hub.parties st.hub.entries from to 2 (items_from (log_of st to) from) applied.0 (rw applied.1 (link-put st.hub.parties [] st.hub.entries from to lawful.of_record.fits))
 
 -- and each entry of a log was put on the link from its sender, not before the turn of the first
 pub entry-put : (parties : List (List (List ℕ))) (entries : List Entry) (to least : ℕ) (log : List LogEntry) (place : ℕ) (entry : LogEntry) → slice_get log place ≡ Some entry

@@ -60,7 +60,7 @@ module _ (parties : List (List (List ℕ))) (entries : List Entry) (to : ℕ) wh
 pub stamps_distinct : (st : State) → IsLawful st → StampsAreDistinct st
 stamps_distinct st lawful party is_party =
     distinct-stamps (log_of st party)
-    (log-distinct st.parties st.entries party (length st.parties) (log_of st party) (lawful.of_party party is_party).from_parties
+    (log-distinct st.hub.parties st.hub.entries party (length st.hub.parties) (log_of st party) (lawful.of_party party is_party).answers.from_parties
     (λ sender sender_is_party. log-put st sender party lawful sender_is_party is_party))
 
 pub repositories_agree : (st : State) → IsLawful st → RepositoriesAgree st

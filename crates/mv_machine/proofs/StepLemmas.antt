@@ -1,7 +1,7 @@
 -- What a step changes, and what it has seen to before: one lemma for all that every step keeps.
 use Rattle.std.proofs.Common.{◌≡◌, ℕ, ◌+◌, ◌<◌, ◌≤◌, Bool, true, false, List, [], ◌∷◌, ◌++◌, length, Some, None, refl, sym, subst, arith, slice_get, IsTrue}
 use Rattle.mv_pack.specs.declared.key.PackKey.{PackKey}
-use Rattle.mv_machine.proofs.Words.{Allows, InSteps, Item, Meets, Message, Reply, Runs, State, Step, answers_in, apply_fault, ask_fault, hub_of, is_open, is_uplink_full, items_on, next-number, no_answer, route_fault, routed_count, sent_of, site_of, submissions_of, submit-free, wire_of, with_applied, with_closed, with_hub, with_relayed, with_routed, with_site, with_submission, with_wire}
+use Rattle.mv_machine.proofs.Words.{Allows, InSteps, Item, Meets, Message, Reply, Runs, State, Step, answers_in, apply_fault, ask_fault, is_open, is_uplink_full, items_on, next-number, no_answer, route_fault, routed_count, sent_of, site_of, submissions_of, submit-free, wire_of, with_applied, with_closed, with_relayed, with_routed, with_site, with_submission, with_wire}
 use Rattle.mv_link.specs.declared.incoming.Look.TheVariants as look
 use Rattle.mv_machine.specs.declared.step.Step.TheVariants.{Submit, Verify, Route, Relay, Apply, Repeat, Close, Lose, Verdict}
 use Rattle.mv_machine.specs.declared.reply.Reply.TheVariants.{Refused}
@@ -14,20 +14,20 @@ use Rattle.mv_machine.specs.Steps.{Answered, submit, ask, verify, verdict, route
 pub data Change (st : State) : Bool → State → Type 0 where
   nothing : (quiet : Bool) → Change st quiet st
   submitted : (from : ℕ) (message : Message) → answers_in (message ∷ []) ≡ [] → ask_fault (is_uplink_full st from) (site_of st from) ≡ None
-      → Change st false (with_site st (with_submission (site_of st from) message))
-  routed : (from : ℕ) (message : Message) → from < length st.parties → slice_get (submissions_of st from) (routed_count st.entries from) ≡ Some message
-      → route_fault (hub_of st) from message ≡ None → Change st false (with_hub st (with_routed (hub_of st) from message))
-  closed : (from to : ℕ) → from < length st.parties → to < length st.parties → is_open st.entries from to ≡ true
-      → Change st false (with_hub st (with_closed (hub_of st) from to))
-  relayed : (from to : ℕ) → from < length st.parties → to < length st.parties → length (wire_of st from to) < st.limits.wire
-      → (sent_of (hub_of st) from to ≡ length (items_on (hub_of st) from to) → ⊥)
-      → Change st false (with_wire (with_hub st (with_relayed (hub_of st) from to)) from to (wire_of st from to ++ (sent_of (hub_of st) from to + 1) ∷ []))
-  repeated : (from to number : ℕ) → length (wire_of st from to) < st.limits.wire → 1 ≤ number → number ≤ sent_of (hub_of st) from to
+      → Change st false (with_site st from (with_submission (site_of st from) message))
+  routed : (from : ℕ) (message : Message) → from < length st.hub.parties → slice_get (submissions_of st from) (routed_count st.hub.entries from) ≡ Some message
+      → route_fault st.hub from message ≡ None → Change st false (record st { hub = with_routed st.hub from message })
+  closed : (from to : ℕ) → from < length st.hub.parties → to < length st.hub.parties → is_open st.hub.entries from to ≡ true
+      → Change st false (record st { hub = with_closed st.hub from to })
+  relayed : (from to : ℕ) → from < length st.hub.parties → to < length st.hub.parties → length (wire_of st from to) < st.limits.wire
+      → (sent_of st.hub from to ≡ length (items_on st.hub from to) → ⊥)
+      → Change st false (with_wire (record st { hub = with_relayed st.hub from to }) from to (wire_of st from to ++ (sent_of st.hub from to + 1) ∷ []))
+  repeated : (from to number : ℕ) → length (wire_of st from to) < st.limits.wire → 1 ≤ number → number ≤ sent_of st.hub from to
       → Change st false (with_wire st from to (wire_of st from to ++ number ∷ []))
   dropped : (from to number : ℕ) (rest : List ℕ) → wire_of st from to ≡ number ∷ rest → Change st false (with_wire st from to rest)
-  applied : (from to number : ℕ) (rest : List ℕ) (item : Item) → from < length st.parties → wire_of st from to ≡ number ∷ rest
+  applied : (from to number : ℕ) (rest : List ℕ) (item : Item) → from < length st.hub.parties → wire_of st from to ≡ number ∷ rest
       → next_item st from to ≡ Some item → apply_fault (is_uplink_full st to) (site_of st to) from item look.Next ≡ None
-      → Change st false (with_wire (with_site st (with_applied (site_of st to) from item)) from to rest)
+      → Change st false (with_wire (with_site st to (with_applied (site_of st to) from item)) from to rest)
 
 -- so it is of an outcome
 abbrev Changes : State → Answered → Type 0

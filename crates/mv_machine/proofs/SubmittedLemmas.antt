@@ -16,20 +16,20 @@ routed-at (entry ∷ entries) zero from k message at = grind arith
 routed-at (entry ∷ entries) (suc place) from k message at = grind (arith, routed-at entries place from k message at)
 
 -- so it stands under its number among those that its sender submitted
-routed_as : (st : State) (from k place : ℕ) (message : Message) → IsLawful st → from < length st.parties
-    → slice_get st.entries place ≡ Some (Routed from k message) → IsRoutedAt st from k (place + 1) message
+routed_as : (st : State) (from k place : ℕ) (message : Message) → IsLawful st → from < length st.hub.parties
+    → slice_get st.hub.entries place ≡ Some (Routed from k message) → IsRoutedAt st from k (place + 1) message
 routed_as st from k place message lawful is_party at =
     let number = (lawful.of_record.fits place (Routed from k message) at).1 in
-    let before : k - 1 ≡ routed_count (take place st.entries) from = omega (arith, number) in
-    let order = (lawful.of_link from from is_party is_party).routed in
+    let before : k - 1 ≡ routed_count (take place st.hub.entries) from = omega (arith, number) in
+    let order = (lawful.of_party from is_party).routed in
     record {
       numbered = omega (arith, number);
-      submitted = rw (before, ← order.1) (slice_get-append (routed_from st.entries from) order.0 _ message (routed-at st.entries place from k message at));
+      submitted = rw (before, ← order.1) (slice_get-append (routed_from st.hub.entries from) order.0 _ message (routed-at st.hub.entries place from k message at));
       stamped = omega arith;
       routed = grind (arith, at);
     }
 
-of_submission : (st : State) (from to : ℕ) (item : Item) → IsLawful st → from < length st.parties → IsPut st.parties st.entries from to item → IsOfSubmission st from to item
+of_submission : (st : State) (from to : ℕ) (item : Item) → IsLawful st → from < length st.hub.parties → IsPut st.hub.parties st.hub.entries from to item → IsOfSubmission st from to item
 of_submission st from to (Carried k stamp message) lawful is_party put =
     let before : put.place + 1 - 1 ≡ put.place = omega arith in
     rw (put.made.0, put.made.1, before) (routed_as st from k put.place put.message lawful is_party put.routed, put.made.2)
@@ -42,8 +42,8 @@ applied_submitted st lawful party is_party place d within =
     let log = log_of st party in
     let entry = get_or log place d in
     let at : slice_get log place ≡ Some entry = slice_get-get_or log place d within in
-    let sender_is_party = entry-at (λ (entry : LogEntry). entry.sender < length st.parties) log place entry at (lawful.of_party party is_party).from_parties in
-    let put = entry-put st.parties st.entries party 2 log place entry at (log-put st entry.sender party lawful sender_is_party is_party) in
+    let sender_is_party = entry-at (λ (entry : LogEntry). entry.sender < length st.hub.parties) log place entry at (lawful.of_party party is_party).answers.from_parties in
+    let put = entry-put st.hub.parties st.hub.entries party 2 log place entry at (log-put st entry.sender party lawful sender_is_party is_party) in
     (sender_is_party, of_submission st entry.sender party entry.item lawful sender_is_party put.1)
 
 -- numbers that rise from one on
@@ -72,7 +72,7 @@ pub numbers_rise : (st : State) → IsLawful st → NumbersRise st
 numbers_rise st lawful from to from_is_party to_is_party =
     let put = log-put st from to lawful from_is_party to_is_party in
     let items = items_from (log_of st to) from in
-    let rise = kind-rises st.parties st.entries from to in (
+    let rise = kind-rises st.hub.parties st.hub.entries from to in (
       increasing 0 _ (rise is_carried 1 (λ item. grind arith) 0 2 items (omega arith) put),
       increasing 0 _ (rise (λ item. not (is_carried item)) 0 (λ item. grind arith) 0 2 items (omega arith) put),
     )

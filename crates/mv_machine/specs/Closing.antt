@@ -13,11 +13,11 @@ AreAboutFirst count items = All (λ item. number_of item ≤ count) items
 
 -- over no link was applied what was routed after its closing
 abbrev pub NothingRoutedLater : State → Type 0
-NothingRoutedLater st = (from to : ℕ) → from < length st.parties → to < length st.parties
-    → AreAboutFirst (routed_count (before_closing st.entries from to) from) (items_from (log_of st to) from)
+NothingRoutedLater st = (from to : ℕ) → from < length st.hub.parties → to < length st.hub.parties
+    → AreAboutFirst (routed_count (before_closing st.hub.entries from to) from) (items_from (log_of st to) from)
 
 -- over the links that are closed in one state there is applied, in a later one, nothing that was submitted since
 abbrev pub NothingSubmittedLater : State → State → Type 0
-NothingSubmittedLater old new = (from to : ℕ) → from < length old.parties → to < length old.parties
-    → is_open old.entries from to ≡ false
+NothingSubmittedLater old new = (from to : ℕ) → from < length old.hub.parties → to < length old.hub.parties
+    → is_open old.hub.entries from to ≡ false
     → AreAboutFirst (length (submissions_of old from)) (items_from (log_of new to) from)

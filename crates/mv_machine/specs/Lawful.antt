@@ -1,9 +1,8 @@
 -- What holds of every state that a system comes to.
 use Rattle.std.specs.Prelude.{◌≡◌, ◌<◌, ◌+◌, ℕ, List, length, take, Some, true, slice_get}
-use Rattle.mv_machine.specs.Words.{Entry, IsLawfulParty, IsPrefix, IsSquare, LogEntry, Message, is_open, items_from, routed_count, routed_from}
+use Rattle.mv_machine.specs.Words.{Entry, HubState, IsLawfulParty, IsPrefix, IsSquare, SiteState, is_open, items_from, items_on, routed_count, routed_from}
 use Rattle.mv_hub.specs.declared.entry.Entry.TheVariants.{Routed, Closed}
-use Rattle.mv_hub.specs.Links.{link_items}
-use Rattle.mv_machine.specs.State.{State, submissions_of, log_of}
+use Rattle.mv_machine.specs.State.{State, site_of}
 
 -- An entry fits behind others, in a system of so many parties: it names parties alone, a routed message has the number that follows
 -- those of its sender, and only an open link is closed.
@@ -16,23 +15,29 @@ Fits count before (Closed from to) = (from < count) × (to < count) × (is_open 
 pub record IsLawfulRecord (count : ℕ) (entries : List Entry) : Type 0 where
   pub fits : (place : ℕ) (entry : Entry) → slice_get entries place ≡ Some entry → Fits count (take place entries) entry
 
--- A link is lawful: what was routed from its sender is a prefix of what this submitted; and what its receiver applied from the
--- sender is a prefix of what the record puts on the link, in order and each once.
-pub record IsLawfulLink (parties : List (List (List ℕ))) (entries : List Entry) (from to : ℕ) (submissions : List Message) (log : List LogEntry) : Type 0 where
-  pub routed : IsPrefix (routed_from entries from) submissions
-  pub applied : IsPrefix (items_from log from) (link_items parties entries from to)
+-- A party is lawful beside a hub: the answers among its submissions are those that its log calls for; what was routed from it is a prefix
+-- of what it submitted; and what it applied from each sender is a prefix of what the record puts on their link, in order and each once.
+pub record IsLawfulAt (hub : HubState) (party : ℕ) (site : SiteState) : Type 0 where
+  pub answers : IsLawfulParty (length hub.parties) site.submissions site.log
+  pub routed : IsPrefix (routed_from hub.entries party) site.submissions
+  pub applied : (from : ℕ) → from < length hub.parties → IsPrefix (items_from site.log from) (items_on hub from party)
 
--- the state is lawful: its record is, each party is, and each link is
+-- the state is lawful: its record is, and each party is
 pub record IsLawful (st : State) : Type 0 where
-  pub of_record : IsLawfulRecord (length st.parties) st.entries
-  pub of_party : (party : ℕ) → party < length st.parties
-      → IsLawfulParty (length st.parties) (submissions_of st party) (log_of st party)
-  pub of_link : (from to : ℕ) → from < length st.parties → to < length st.parties
-      → IsLawfulLink st.parties st.entries from to (submissions_of st from) (log_of st to)
+  pub of_record : IsLawfulRecord (length st.hub.parties) st.hub.entries
+  pub of_party : (party : ℕ) → party < length st.hub.parties → IsLawfulAt st.hub party (site_of st party)
 
--- there is a list for each party, and one for each link
+-- this is the party of a number, one of so many, which submits so many messages at most
+pub record IsSiteAt (party parties limit : ℕ) (site : SiteState) : Type 0 where
+  pub party_is : site.party ≡ party
+  pub parties_are : site.parties ≡ parties
+  pub limit_is : site.limit ≡ limit
+
+-- the links keep what the limits say, and there is a part for each party, and a list for each link
 pub record IsWellFormed (st : State) : Type 0 where
-  pub submissions_each : length st.submissions ≡ length st.parties
-  pub logs_each : length st.logs ≡ length st.parties
-  pub sent_each : IsSquare (length st.parties) st.sent
-  pub wires_each : IsSquare (length st.parties) st.wires
+  pub window : st.hub.window ≡ st.limits.window
+  pub sites_each : length st.sites ≡ length st.hub.parties
+  pub sites : (party : ℕ) → party < length st.hub.parties
+      → IsSiteAt party (length st.hub.parties) st.limits.submissions (site_of st party)
+  pub sent_each : IsSquare (length st.hub.parties) st.hub.sent
+  pub wires_each : IsSquare (length st.hub.parties) st.wires

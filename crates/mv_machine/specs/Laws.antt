@@ -2,7 +2,7 @@
 use Rattle.std.specs.Prelude.{◌≡◌, ◌<◌, ◌≤◌, ◌+◌, ◌-◌, ℕ, List, length, nat_lt}
 use Rattle.mv_machine.specs.Words.{Entry, Message, PARTIES_LIMIT, PackKey, Reply, SUBMISSIONS_LIMIT, Step, is_busy, items_on, next_items, routed_count, sent_of}
 use Rattle.mv_machine.specs.Limits.{Bounds, most_entries}
-use Rattle.mv_machine.specs.State.{State, submissions_of, hub_of, opening}
+use Rattle.mv_machine.specs.State.{State, submissions_of, opening}
 use Rattle.mv_machine.specs.Steps.{ask}
 use Rattle.mv_machine.specs.Runs.{Meets, Allows, Runs}
 use Rattle.mv_machine.specs.Lawful.{IsLawful, IsLawfulRecord, IsWellFormed}
@@ -38,9 +38,9 @@ StampsSuffice = (count : ℕ) (entries : List Entry) → IsLawfulRecord count en
 -- In a lawful state a link is busy for a message of a party that submitted no more than it may only where its window has no room: a link
 -- carries two items at most for each message, so that their numbers have far fewer than 32 bits.
 abbrev pub NumbersSuffice : Type 0
-NumbersSuffice = (st : State) (from to : ℕ) (message : Message) → IsLawful st → from < length st.parties
-    → length (submissions_of st from) ≤ SUBMISSIONS_LIMIT → let hub = hub_of st in is_busy hub from message to
-    ≡ nat_lt hub.window (length (items_on hub from to) - sent_of hub from to + length (next_items hub from message to))
+NumbersSuffice = (st : State) (from to : ℕ) (message : Message) → IsLawful st → from < length st.hub.parties
+    → length (submissions_of st from) ≤ SUBMISSIONS_LIMIT → is_busy st.hub from message to
+    ≡ nat_lt st.hub.window (length (items_on st.hub from to) - sent_of st.hub from to + length (next_items st.hub from message to))
 
 -- of two lawful states, of which one follows the other, the headline holds; its clause on closed links too
 abbrev pub LawfulStatesKeepHeadline : Type 0

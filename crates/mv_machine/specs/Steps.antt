@@ -13,7 +13,7 @@ use Rattle.mv_link.specs.Receiving.{look_at}
 use Rattle.mv_party.specs.Calls.{ask_fault, submit_fault, apply_fault}
 use Rattle.mv_machine.specs.declared.step.Step.TheVariants.{Submit, Verify, Route, Relay, Apply, Repeat, Close, Lose, Verdict}
 use Rattle.mv_machine.specs.Replies.{refusal_of, hub_refusal_of, route_refusal_of}
-use Rattle.mv_machine.specs.State.{State, is_party, submissions_of, is_uplink_full, wire_of, is_wire_full, log_of, applied_count, hub_of, with_hub, site_of, with_site, with_wire}
+use Rattle.mv_machine.specs.State.{State, is_party, submissions_of, is_uplink_full, wire_of, is_wire_full, log_of, applied_count, site_of, with_site, with_wire}
 
 -- a reply and the state that the step leaves
 pub record Answered : Type 0 where
@@ -37,13 +37,13 @@ unless refusal None st reply new = record { reply = reply; state = new }
 unfoldable pub submit : State → ℕ → Message → Answered
 submit st from message = for_parties (is_party st from) st
     (unless refusal_of (submit_fault (is_uplink_full st from) (site_of st from) message) st
-    (Submitted (length (submissions_of st from) + 1)) (with_site st (with_submission (site_of st from) message)))
+    (Submitted (length (submissions_of st from) + 1)) (with_site st from (with_submission (site_of st from) message)))
 
 -- a party asks the other repositories about a pack: the query is the last of its submissions
 unfoldable pub ask : State → ℕ → PackKey → Answered
 ask st party key = for_parties (is_party st party) st
     (unless refusal_of (ask_fault (is_uplink_full st party) (site_of st party)) st
-    (Asked (length (submissions_of st party) + 1)) (with_site st (with_submission (site_of st party) (Query key))))
+    (Asked (length (submissions_of st party) + 1)) (with_site st party (with_submission (site_of st party) (Query key))))
 
 -- a party verifies a pack, on which its own repository has this verdict: where it has none, the others are asked
 abbrev pub verify_by : State → ℕ → PackKey → Local → Answered
@@ -57,37 +57,37 @@ verify st party key = for_parties (is_party st party) st (verify_by st party key
 -- the hub routes the front of an uplink, where there is one
 abbrev pub route_front : State → ℕ → Option Message → Answered
 route_front st from None = refused UplinkEmpty st
-route_front st from (Some message) = unless route_refusal_of (route_fault (hub_of st) from message) st
-    (Routed (routed_count st.entries from + 1) (reach st.parties st.entries from message)) (with_hub st (with_routed (hub_of st) from message))
+route_front st from (Some message) = unless route_refusal_of (route_fault st.hub from message) st
+    (Routed (routed_count st.hub.entries from + 1) (reach st.hub.parties st.hub.entries from message)) (record st { hub = with_routed st.hub from message })
 
 -- the hub routes the next message of a party
 unfoldable pub route : State → ℕ → Answered
-route st from = for_parties (is_party st from) st (route_front st from (slice_get (submissions_of st from) (routed_count st.entries from)))
+route st from = for_parties (is_party st from) st (route_front st from (slice_get (submissions_of st from) (routed_count st.hub.entries from)))
 
 -- the next frame of a link goes on its wire
 unfoldable pub relay : State → ℕ → ℕ → Answered
-relay st from to = for_parties (are_parties (hub_of st) from to) st
+relay st from to = for_parties (are_parties st.hub from to) st
     (if is_wire_full st from to then refused WireFull st
-    else unless hub_refusal_of (relay_fault (hub_of st) from to) st (Relayed (sent_of (hub_of st) from to + 1))
-    (with_wire (with_hub st (with_relayed (hub_of st) from to)) from to (wire_of st from to ++ (sent_of (hub_of st) from to + 1) ∷ [])))
+    else unless hub_refusal_of (relay_fault st.hub from to) st (Relayed (sent_of st.hub from to + 1))
+    (with_wire (record st { hub = with_relayed st.hub from to }) from to (wire_of st from to ++ (sent_of st.hub from to + 1) ∷ [])))
 
 -- the item that a repository is to apply next from a sender
 abbrev pub next_item : State → ℕ → ℕ → Option Item
-next_item st from to = slice_get (items_on (hub_of st) from to) (applied_count st from to)
+next_item st from to = slice_get (items_on st.hub from to) (applied_count st from to)
 
 -- a repository applies the member of the link that the next frame bears, and its party submits the answer that this calls for, if
 -- it does: both, or neither. A link always has that member; a frame of no member would be dropped, as one behind a gap is
 abbrev pub apply_next : State → ℕ → ℕ → ℕ → List ℕ → Option Item → Answered
 apply_next st from to number rest (Some item) = unless refusal_of (apply_fault (is_uplink_full st to) (site_of st to) from item look.Next) st
     (Applied number (effect_of (log_of st to) (entry_from from item)) (answer_number (submissions_of st to) (answer_to (log_of st to) (entry_from from item))))
-    (with_wire (with_site st (with_applied (site_of st to) from item)) from to rest)
+    (with_wire (with_site st to (with_applied (site_of st to) from item)) from to rest)
 apply_next st from to number rest None = record { reply = Gap number number; state = with_wire st from to rest }
 
 -- a frame is taken that stands so: it is old, it is behind a gap, or it is the next
 abbrev pub apply_by : State → ℕ → ℕ → ℕ → List ℕ → Look → Answered
 apply_by st from to number rest look.Old = record { reply = Old number; state = with_wire st from to rest }
 apply_by st from to number rest (look.Gap expected) = record { reply = Gap number expected; state = with_wire st from to rest }
-apply_by st from to number rest look.Next = apply_next st from to number rest (slice_get (items_on (hub_of st) from to) (number - 1))
+apply_by st from to number rest look.Next = apply_next st from to number rest (slice_get (items_on st.hub from to) (number - 1))
 
 -- the frame in front of a wire is taken
 abbrev pub apply_front : State → ℕ → ℕ → List ℕ → Answered
@@ -96,18 +96,18 @@ apply_front st from to (number ∷ rest) = apply_by st from to number rest (look
 
 -- a repository takes the front frame of a link
 unfoldable pub apply : State → ℕ → ℕ → Answered
-apply st from to = for_parties (are_parties (hub_of st) from to) st (apply_front st from to (wire_of st from to))
+apply st from to = for_parties (are_parties st.hub from to) st (apply_front st from to (wire_of st from to))
 
 -- a frame that was relayed, and whose item its link still keeps, goes on the wire again
 unfoldable pub repeat : State → ℕ → ℕ → ℕ → Answered
-repeat st from to number = for_parties (are_parties (hub_of st) from to) st
+repeat st from to number = for_parties (are_parties st.hub from to) st
     (if is_wire_full st from to then refused WireFull st
-    else unless hub_refusal_of (repeat_fault (hub_of st) from to number) st (Repeated number)
+    else unless hub_refusal_of (repeat_fault st.hub from to number) st (Repeated number)
     (with_wire st from to (wire_of st from to ++ number ∷ [])))
 
 -- a link is closed: that goes into the record
 unfoldable pub close : State → ℕ → ℕ → Answered
-close st from to = unless hub_refusal_of (close_fault (hub_of st) from to) st Closed (with_hub st (with_closed (hub_of st) from to))
+close st from to = unless hub_refusal_of (close_fault st.hub from to) st Closed (record st { hub = with_closed st.hub from to })
 
 -- the frame in front of a wire is lost
 abbrev pub lose_front : State → ℕ → ℕ → List ℕ → Answered
@@ -116,7 +116,7 @@ lose_front st from to (number ∷ rest) = record { reply = Lost number; state = 
 
 -- the front frame of a link is lost
 unfoldable pub lose : State → ℕ → ℕ → Answered
-lose st from to = for_parties (are_parties (hub_of st) from to) st (lose_front st from to (wire_of st from to))
+lose st from to = for_parties (are_parties st.hub from to) st (lose_front st from to (wire_of st from to))
 
 -- a party takes the verdict on a query of its own
 unfoldable pub verdict : State → ℕ → ℕ → Answered

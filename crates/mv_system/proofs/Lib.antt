@@ -1,4 +1,4 @@
 pub mod Words
 pub mod SystemLemmas
-pub mod RouteLemmas
+pub mod RowLemmas
 pub mod OpeningLemmas

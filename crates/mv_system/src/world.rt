@@ -23,7 +23,6 @@ use mv_repository::{LogEntry, Repository};
 use std::alloc::{AllocError, Global};
 use std::marker::Model;
 
-mod changes;
 mod readers;
 mod steps;
 
@@ -44,13 +43,13 @@ pub struct World {
 
 impl Model for World {
     ghost use Rattle.mv_machine.specs.State.{State};
-    ghost use Rattle.mv_system.specs.World.{parts_of, state_of, IsSystem};
+    ghost use Rattle.mv_system.specs.World.{state_of, IsSystem};
 
     ghost Value = { State };
 
-    ghost view = { λ w. state_of (parts_of w.limits w.hub w.sites.items w.wires) };
+    ghost view = { λ w. state_of w.limits w.hub w.sites.items w.wires };
 
-    ghost invariant = { λ w. IsSystem (parts_of w.limits w.hub w.sites.items w.wires) };
+    ghost invariant = { λ w. IsSystem (state_of w.limits w.hub w.sites.items w.wires) w.wires };
 }
 
 impl World {
@@ -95,7 +94,7 @@ impl World {
 
     /// The hub's record, the oldest entry first. Whoever looks at it knows that the state is lawful, as every state of a system is.
     pub fn record(&self) -> &[Entry]
-        ensures entries { result.now ≡ self.now.entries }
+        ensures entries { result.now ≡ self.now.hub.entries }
         ensures well_formed { IsWellFormed self.now }
         ensures lawful { IsLawful self.now }
     {
@@ -121,10 +120,8 @@ impl World {
 
     /// The hub.
     pub fn hub(&self) -> &Hub
-        ensures parties { result.now.parties ≡ self.now.parties }
+        ensures value { result.now ≡ self.now.hub }
         ensures window { result.now.window ≡ self.now.limits.window }
-        ensures entries { result.now.entries ≡ self.now.entries }
-        ensures sent { result.now.sent ≡ self.now.sent }
     {
         &self.hub
     }

@@ -1,5 +1,5 @@
-//! The steps: each asks the readers and makes one change. No step opens a field.
-#![tactic(auto, unfolding(mv_machine::specs::Runs::Allows, mv_machine::specs::Runs::Meets, mv_machine::specs::Steps::submit, mv_machine::specs::Steps::verify, mv_machine::specs::Steps::ask, mv_machine::specs::Steps::route, mv_machine::specs::Steps::relay, mv_machine::specs::Steps::apply, mv_machine::specs::Steps::repeat, mv_machine::specs::Steps::close, mv_machine::specs::Steps::lose, mv_machine::specs::Steps::verdict))]
+//! The steps: each asks what it needs, and makes one change. Only these open the fields of the system to write.
+#![tactic(auto, unfolding(mv_machine::specs::Runs::Allows, mv_machine::specs::Runs::Meets, mv_machine::specs::Steps::submit, mv_machine::specs::Steps::verify, mv_machine::specs::Steps::ask, mv_machine::specs::Steps::route, mv_machine::specs::Steps::relay, mv_machine::specs::Steps::apply, mv_machine::specs::Steps::repeat, mv_machine::specs::Steps::close, mv_machine::specs::Steps::lose, mv_machine::specs::Steps::verdict, mv_hub::specs::Hub::route_fault))]
 
 ghost use Rattle.std.specs.Prelude.{◌≡◌, IsTrue, IfErr, OnOk, OnErr, false};
 ghost use Rattle.mv_machine.specs.Runs.{Meets, Allows};
@@ -36,7 +36,9 @@ impl World {
         ensures { Allows self.old (Step.Submit from message.now) (reply_of result) self.new }
     {
         need(self.is_party(from), Refusal::Party)?;
-        let k = self.put_submission(from, message)?;
+        let uplink_full = self.is_uplink_full(from);
+        let site = &mut self.sites[from as usize];
+        let k = site.submit(message, uplink_full)?;
         Ok(Reply::Submitted { k })
     }
 
@@ -56,7 +58,9 @@ impl World {
         ensures { Meets self.old (ask self.old party key.now) (reply_of result) self.new }
     {
         need(self.is_party(party), Refusal::Party)?;
-        let q = self.put_query(party, key)?;
+        let uplink_full = self.is_uplink_full(party);
+        let site = &mut self.sites[party as usize];
+        let q = site.ask(key, uplink_full)?;
         Ok(Reply::Asked { q })
     }
 
@@ -65,8 +69,12 @@ impl World {
         ensures { Allows self.old (Step.Route from) (reply_of result) self.new }
     {
         need(self.is_party(from), Refusal::Party)?;
-        need(self.waiting_count(from) > 0, Refusal::UplinkEmpty)?;
-        let (k, reach) = self.put_routed(from)?;
+        let place = self.hub.routed_count(from) as usize;
+        let site = &self.sites[from as usize];
+        let Some(message) = site.submission(place) else {
+            return Err(Refusal::UplinkEmpty);
+        };
+        let (k, reach) = self.hub.route(from, message)?;
         Ok(Reply::Routed { k, reach })
     }
 
@@ -76,9 +84,10 @@ impl World {
     {
         need(self.are_parties(from, to), Refusal::Party)?;
         need(!self.is_wire_full(from, to), Refusal::WireFull)?;
-        let frame = self.next_frame(from, to)?;
+        let frame = self.hub.relay(from, to)?;
         let number = frame.number;
-        self.push_frame(from, to, frame);
+        let wire = self.wires.at_mut(from, to);
+        let _ = wire.push_back(frame);
         Ok(Reply::Relayed { number })
     }
 
@@ -87,11 +96,15 @@ impl World {
         ensures { Allows self.old (Step.Apply from to) (reply_of result) self.new }
     {
         need(self.are_parties(from, to), Refusal::Party)?;
-        let Some(number) = self.frame_number(from, to, 0) else {
+        let uplink_full = self.is_uplink_full(to);
+        let Some(frame) = self.wires.at(from, to).front() else {
             return Err(Refusal::WireEmpty);
         };
-        let taken = self.offer_front(from, to)?;
-        self.drop_front(from, to);
+        let number = frame.number;
+        let site = &mut self.sites[to as usize];
+        let taken = site.apply(from, frame, uplink_full)?;
+        let under_way = self.wires.at_mut(from, to);
+        let _ = under_way.pop_front();
         Ok(Reply::of_taken(number, taken))
     }
 
@@ -101,8 +114,9 @@ impl World {
     {
         need(self.are_parties(from, to), Refusal::Party)?;
         need(!self.is_wire_full(from, to), Refusal::WireFull)?;
-        let frame = self.hub().repeat(from, to, number)?;
-        self.push_frame(from, to, frame);
+        let frame = self.hub.repeat(from, to, number)?;
+        let wire = self.wires.at_mut(from, to);
+        let _ = wire.push_back(frame);
         Ok(Reply::Repeated { number })
     }
 
@@ -110,7 +124,7 @@ impl World {
     fn close(&mut self, from: Party, to: Party) -> Result<Reply, Refusal>
         ensures { Allows self.old (Step.Close from to) (reply_of result) self.new }
     {
-        self.put_closed(from, to)?;
+        self.hub.close(from, to)?;
         Ok(Reply::Closed)
     }
 
@@ -122,7 +136,8 @@ impl World {
         match self.frame_number(from, to, 0) {
             None => Err(Refusal::WireEmpty),
             Some(number) => {
-                self.drop_front(from, to);
+                let wire = self.wires.at_mut(from, to);
+                let _ = wire.pop_front();
                 Ok(Reply::Lost { number })
             }
         }

@@ -1,0 +1,58 @@
+-- The rows of the list machine, by what the parts answer where they do what is asked.
+use Rattle.std.proofs.Common.{◌≡◌, ℕ, ◌+◌, ◌-◌, Bool, false, List, [], ◌∷◌, ◌++◌, drop, Some, None, arith, slice_get, IsTrue, unwrap_or}
+use Rattle.mv_system.proofs.Words.{Allows, Apply, Item, Look, Lose, Lost, Meets, Relay, Relayed, Repeat, Repeated, SiteFault, SiteMemory, SiteState, State, apply_fault, are_parties, count_from, is_uplink_full, items_on, look_at, relay_fault, repeat_fault, sent_of, set-get_or, site_of, taken_by, wire_of, with_relayed, with_site, with_taken, with_wire}
+use Rattle.mv_link.specs.declared.incoming.Look.TheVariants as look
+use Rattle.mv_machine.specs.declared.reply.Reply.TheVariants.{Refused}
+use Rattle.mv_machine.specs.declared.reply.Refusal.TheVariants.{WireEmpty}
+use Rattle.mv_machine.specs.Replies.{refusal_of, reply_to}
+use Rattle.mv_machine.specs.State.{is_wire_full}
+use Rattle.mv_machine.specs.Steps.{relay, apply, repeat, lose}
+
+-- a list by its front
+front-rest : (xs : List ℕ) (x : ℕ) → slice_get xs 0 ≡ Some x → xs ≡ x ∷ drop 1 xs
+front-rest [] x front = absurd (cc)
+front-rest (y ∷ xs) x front = cc
+
+front-none : (xs : List ℕ) → slice_get xs 0 ≡ None → xs ≡ []
+front-none [] none = cc
+front-none (x ∷ xs) none = absurd (cc)
+
+module _ (st : State) where
+  pub relay_done : (from to : ℕ) → IsTrue (are_parties st.hub from to) → is_wire_full st from to ≡ false → relay_fault st.hub from to ≡ None
+      → Allows st (Relay from to) (Relayed (sent_of st.hub from to + 1))
+      (with_wire (record st { hub = with_relayed st.hub from to }) from to (wire_of st from to ++ (sent_of st.hub from to + 1) ∷ []))
+  unfolding Allows Meets relay
+  relay_done from to both room none = grind arith
+
+  pub repeat_done : (from to number : ℕ) → IsTrue (are_parties st.hub from to) → is_wire_full st from to ≡ false → repeat_fault st.hub from to number ≡ None
+      → Allows st (Repeat from to number) (Repeated number) (with_wire st from to (wire_of st from to ++ number ∷ []))
+  unfolding Allows Meets repeat
+  repeat_done from to number both room none = grind arith
+
+  pub lose_done : (from to number : ℕ) → IsTrue (are_parties st.hub from to) → slice_get (wire_of st from to) 0 ≡ Some number
+      → Allows st (Lose from to) (Lost number) (with_wire st from to (drop 1 (wire_of st from to)))
+  unfolding Allows Meets lose
+  lose_done from to number both front = grind (arith, front-rest)
+
+  pub apply_empty : (from to : ℕ) → IsTrue (are_parties st.hub from to) → slice_get (wire_of st from to) 0 ≡ None → Allows st (Apply from to) (Refused WireEmpty) st
+  unfolding Allows Meets apply
+  apply_empty from to both empty = grind (arith, front-none)
+
+  -- the frame in front of a wire, which bears this item, is taken as it stands
+  pub apply_done : (from to number : ℕ) (item : Item) (stands : Look) (full : Bool) (site : SiteState) → IsTrue (are_parties st.hub from to)
+      → slice_get (wire_of st from to) 0 ≡ Some number → slice_get (items_on st.hub from to) (number - 1) ≡ Some item
+      → look_at (count_from site.log from) number ≡ stands → full ≡ is_uplink_full st to → site ≡ site_of st to → apply_fault full site from item stands ≡ None
+      → Allows st (Apply from to) (reply_to number (taken_by site from item stands)) (with_wire (with_site st to (with_taken site from item stands)) from to (drop 1 (wire_of st from to)))
+  unfolding Allows Meets apply
+  apply_done from to number item look.Next full site both front member looked full_is here none = grind (arith, front-rest)
+  apply_done from to number item stands full site both front member looked full_is here none = grind (arith, front-rest, set-get_or)
+
+  -- it is refused, for the fault that there is, or for want of memory where it is the next
+  pub apply_refused : (from to number : ℕ) (item : Item) (stands : Look) (full : Bool) (site : SiteState) (refused : SiteFault) → IsTrue (are_parties st.hub from to)
+      → slice_get (wire_of st from to) 0 ≡ Some number → slice_get (items_on st.hub from to) (number - 1) ≡ Some item
+      → look_at (count_from site.log from) number ≡ stands → full ≡ is_uplink_full st to → site ≡ site_of st to
+      → refused ≡ unwrap_or (apply_fault full site from item stands) SiteMemory → (refused ≡ SiteMemory → stands ≡ look.Next)
+      → Allows st (Apply from to) (Refused (refusal_of refused)) st
+  unfolding Allows Meets apply
+  apply_refused from to number item look.Next full site refused both front member looked full_is here fails memory = grind (arith, front-rest)
+  apply_refused from to number item stands full site refused both front member looked full_is here fails memory = grind (arith, fails, memory)

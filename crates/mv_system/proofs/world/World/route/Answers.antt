@@ -1,0 +1,20 @@
+use Rattle.std.proofs.Common.{length, ltb-true, slice_get, sym, ap, ◌∙◌}
+use Rattle.mv_system.proofs.Words.{SiteState, next_entry, option_copied, routed, routed_count}
+use Rattle.mv_system.proofs.SystemLemmas.{changed, entries-short, site_read, wires_entered}
+use Rattle.mv_system.proofs.world.World.route.Goals as goal
+
+pub route-requires : goal.route-requires
+route-requires c = entries-short c.self.invariant
+
+pub invariant_of-self-2 : goal.invariant_of-self-2
+invariant_of-self-2 c =
+    let hub = c.self.inside.hub in
+    let from = c.args.from in
+    let message = c.in-Some.message.now in
+    let site = c.index-site.result.now in
+    let party = rw (c.is_party.ensures, ← c.self.view_is) at c.in_ok-need.ensures.ok in
+    let here = site_read from site c.self.invariant party c.index-site.ensures in
+    let waits = ap (λ (s : SiteState). slice_get s.submissions (routed_count hub.entries from)) (sym here)
+    ∙ ap (slice_get site.submissions) (sym c.routed_count-place.ensures.value) ∙ sym c.submission.ensures ∙ ap option_copied c.in-Some.is in
+    rw c.in_ok-k.ensures.ok (changed (routed from message (ltb-true from (length hub.parties) party) waits c.in_ok-k.ensures.fault) c.self.invariant
+    (wires_entered (next_entry hub from message) c.self.invariant.are_wires))

@@ -2,7 +2,7 @@
 use Rattle.std.proofs.Common.{◌≡◌, ◌≤◌, ◌<◌, ◌+◌, ℕ, List, [], ◌∷◌, ◌++◌, length, arith, true, append-nil, length-append, length-set, None, Err}
 use Rattle.mv_ends.proofs.Words.{get_or-set_same, get_or-set_other, common_steps, Message, Item, Frame, IsFrameOf, routed_count, is_open, FailsBy, Refused, route_refusal_of, HubState, items_on, close_fault, nat_tests, IsLawfulRecord, stamps_suffice, record-entered, slice_get-append, cell, put-each, put-each_pair, HubEnd, IsUnchanged, Routes, IsFront, IsFor, with_item, with_frame, TookAll, AreOfLinks, AreWithin}
 use Rattle.std.specs.List.{All}
-use Rattle.std.proofs.lemmas.List.Elements.{All-nil, All-cons, All-head, All-tail}
+use Rattle.std.proofs.lemmas.List.Elements.{All-push}
 use Rattle.mv_link.specs.declared.limits.TheConstants.{PARTIES_LIMIT, NUMBER_LIMIT}
 use Rattle.mv_party.specs.declared.limits.TheConstants.{SUBMISSIONS_LIMIT}
 use Rattle.mv_hub.specs.declared.entry.Entry.{Entry}
@@ -14,14 +14,7 @@ use Rattle.mv_hub.proofs.CallerLemmas.{routed_from-append, link_items-push}
 
 -- one more entry leaves the frames of a link frames of it
 frames-grow : (items more : List Item) (frames : List Frame) → All (IsFrameOf items) frames → All (IsFrameOf (items ++ more)) frames
-frames-grow items more [] all = All-nil (IsFrameOf (items ++ more))
-frames-grow items more (frame ∷ frames) all =
-    grind (arith, nat_tests, frames-grow items more frames (All-tail (IsFrameOf items) frame frames all), slice_get-append)
-
-frames-push : (items : List Item) (frames : List Frame) (frame : Frame) → All (IsFrameOf items) frames → IsFrameOf items frame → All (IsFrameOf items) (frames ++ frame ∷ [])
-frames-push items [] frame all one = All-cons (IsFrameOf items) frame [] one (All-nil (IsFrameOf items))
-frames-push items (first ∷ frames) frame all one =
-    grind (arith, nat_tests, frames-push items frames frame (All-tail (IsFrameOf items) first frames all) one, All-head)
+frames-grow items more frames all place absent below = grind (arith, nat_tests, slice_get-append, all place absent below)
 
 -- the frames that were put stay those of their links when the record gains an entry
 pub of_links_entered : (hub : HubState) (entry : Entry) (put : List (List (List Frame))) → AreOfLinks hub put → AreOfLinks (record hub { entries = hub.entries ++ entry ∷ [] }) put
@@ -32,7 +25,7 @@ pub of_links_put : (hub : HubState) (put : List (List (List Frame))) (sender rec
     → IsFrameOf (items_on hub sender receiver) frame → AreOfLinks hub put → AreOfLinks hub (with_frame put sender receiver frame)
 of_links_put hub put sender receiver frame one all from to =
     put-each_pair (λ to from frames. All (IsFrameOf (items_on hub from to)) frames) put receiver sender (cell put receiver sender [] ++ frame ∷ []) []
-    (frames-push (items_on hub sender receiver) (cell put receiver sender []) frame (all sender receiver) one) (λ to from. all from to) to from
+    (All-push (IsFrameOf (items_on hub sender receiver)) (cell put receiver sender []) frame (all sender receiver) one) (λ to from. all from to) to from
 
 -- there is a link for each pair still
 pub for_put : (count : ℕ) (put : List (List (List Frame))) (sender receiver : ℕ) (frame : Frame) → IsFor count put → IsFor count (with_frame put sender receiver frame)

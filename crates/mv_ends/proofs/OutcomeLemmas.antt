@@ -1,7 +1,6 @@
 -- What an outcome shows of its ends, and that the ends of one opening make a lawful one.
-use Rattle.std.proofs.Common.{◌≡◌, ◌<◌, ℕ, List, [], length, get_or, slice_index_or, map, set, ◌+◌, inl, inr, sym, ◌∙◌, ap, refl, subst, arith, ltb-true, IsTrue}
-use Rattle.mv_ends.proofs.Words.{common_steps, nat_tests, get_or-map, length-map, cases_lt, IsSquare, square-replicate, SiteState, new_site, State, is_party, opening, IsLawful, IsLawfulRecord, IsWellFormed, HeadlineHolds, headline, opening-sound, HubEnd, RepoEnd, SameHubEnd, IsUnchanged, repo_seat, SameRepoEnd, IsRepoUnchanged, AreEnds, sites_of, state_of, IsOutcome}
-use Rattle.mv_ends.specs.Looking.{IsLawfulAt}
+use Rattle.std.proofs.Common.{◌≡◌, ◌<◌, ℕ, zero, suc, List, [], ◌∷◌, length, get_or, slice_index_or, map, set, ◌+◌, inl, inr, sym, ◌∙◌, ap, refl, subst, arith, ltb-true, IsTrue}
+use Rattle.mv_ends.proofs.Words.{common_steps, nat_tests, get_or-map, length-map, cases_lt, IsSquare, square-replicate, new_site, State, is_party, site_of, opening, IsLawful, IsLawfulAt, IsLawfulRecord, IsSiteAt, IsWellFormed, HeadlineHolds, headline, opening-sound, HubEnd, HubSeat, RepoEnd, RepoSeat, SameHubEnd, IsUnchanged, hub_seat, repo_seat, SameRepoEnd, IsRepoUnchanged, IsSeatOf, AreEnds, sites_of, state_of, IsOutcome}
 use Rattle.mv_ends.proofs.CallerLemmas.{ends_kept, same_but_one}
 use Rattle.mv_ends.proofs.RingLemmas.{shown_at, shows_same}
 
@@ -10,19 +9,16 @@ pub place_of : (hub : HubEnd) (repos : List RepoEnd) (st : State) (party : ℕ) 
 place_of hub repos st party view ends is = grind (arith, nat_tests, length-map, ltb-true)
 
 -- what one end shows of its party is what the state has of it
-pub shown : {A : Type 0} (f : SiteState → List A) (g : State → List (List A)) (hub : HubEnd) (repos : List RepoEnd) (st : State) (party : ℕ) (repo : RepoEnd)
-    → g (state_of hub repos) ≡ map f (sites_of repos) → state_of hub repos ≡ st → AreEnds hub repos → IsTrue (is_party st party)
-    → repo ≡ slice_index_or repos party repo → f repo.site ≡ slice_index_or (g st) party []
-shown f g hub repos st party repo is view ends party_is here =
+pub shown : (hub : HubEnd) (repos : List RepoEnd) (st : State) (party : ℕ) (repo : RepoEnd) → state_of hub repos ≡ st → AreEnds hub repos → IsTrue (is_party st party)
+    → repo ≡ slice_index_or repos party repo → repo.site ≡ site_of st party
+shown hub repos st party repo view ends party_is here =
     let below = place_of hub repos st party view ends party_is in
-    let site = shown_at repos party repo repo below here (λ (r : RepoEnd). r.site) (sites_of repos) refl repo.site in
-    sym (shown_at (sites_of repos) party repo.site repo.site (subst (λ n. party < n) (sym (length-map repos (λ (r : RepoEnd). r.site))) below) (sym site) f (g st)
-    (sym is ∙ ap g view) [])
+    sym (shown_at repos party repo repo below here (λ (r : RepoEnd). r.site) (sites_of repos) refl (new_site 0 0 0)) ∙ ap (λ (it : State). site_of it party) view
 
 -- the headline, from the opening on
-pub headline_of : (st : State) → IsWellFormed st → IsLawful st → HeadlineHolds (opening st.parties st.limits) st
+pub headline_of : (st : State) → IsWellFormed st → IsLawful st → HeadlineHolds (opening st.hub.parties st.limits) st
 headline_of st well_formed lawful =
-    headline (opening st.parties st.limits) st (opening-sound st.parties st.limits).lawful well_formed lawful (record { parties = refl; limits = refl; entries = (st.entries, refl) })
+    headline (opening st.hub.parties st.limits) st (opening-sound st.hub.parties st.limits).lawful well_formed lawful (record { parties = refl; limits = refl; entries = (st.hub.entries, refl) })
 
 -- ends of one opening that show a state, and so many parties that were found lawful beside the hub
 pub record IsGathering (st : State) (hub : HubEnd) (repos : List RepoEnd) (found : ℕ) : Type 0 where
@@ -48,33 +44,32 @@ gathering_more st hub next_hub repos k old new was below here same_hub unchanged
       ];
     }
 
+-- the party of an end is that of its seat
+site_seated : (hub : HubSeat) (party : ℕ) (repos : List RepoEnd) (place : ℕ) → place < length repos → ((absent : RepoSeat) → IsSeatOf hub party (get_or (map repo_seat repos) place absent))
+    → IsSiteAt party (length hub.parties) hub.limits.submissions (get_or (sites_of repos) place (new_site 0 0 0))
+site_seated hub party [] place below seat = absurd (omega (arith, below))
+site_seated hub party (repo ∷ repos) zero below seat =
+    let here = seat (repo_seat repo) in record { party_is = here.party_is; parties_are = here.parties; limit_is = here.limit }
+site_seated hub party (repo ∷ repos) (suc place) below seat = site_seated hub party repos place (omega (arith, below)) seat
+
 -- ends of one opening make an outcome, once all parties were found lawful
 module _ (st : State) (hub : HubEnd) (repos : List RepoEnd) (found : ℕ) (was : IsGathering st hub repos found) (all : found ≡ length hub.hub.parties)
-    (square : IsSquare (length st.parties) st.sent) (lawful : IsLawfulRecord (length hub.hub.parties) hub.hub.entries) where
+    (square : IsSquare (length st.hub.parties) st.hub.sent) (lawful : IsLawfulRecord (length hub.hub.parties) hub.hub.entries) where
   sites_each : length (sites_of repos) ≡ found
   sites_each = length-map repos (λ (repo : RepoEnd). repo.site) ∙ sym (length-map repos repo_seat) ∙ was.ends.each ∙ sym all
 
-  shows : {A : Type 0} (f : SiteState → List A) (party : ℕ) → party < found → get_or (map f (sites_of repos)) party [] ≡ f (get_or (sites_of repos) party (new_site 0 0 0))
-  shows f party below = get_or-map f (sites_of repos) party (new_site 0 0 0) [] (subst (λ n. party < n) (sym sites_each) below)
-
-  each : (party : ℕ) → party < length hub.hub.parties → (party < found) × IsLawfulAt hub.hub party (get_or (sites_of repos) party (new_site 0 0 0))
-  each party below = let within : party < found = omega arith in (within, was.each party within)
+  each : (party : ℕ) → party < length hub.hub.parties → IsLawfulAt hub.hub party (get_or (sites_of repos) party (new_site 0 0 0))
+  each party below = was.each party (omega arith)
 
   pub outcome_of : IsOutcome hub repos
   outcome_of = record {
     ends = was.ends;
-    well_formed =
-        let square_is : IsSquare (length hub.hub.parties) hub.hub.sent = subst (λ (it : State). IsSquare (length it.parties) it.sent) (sym was.shows) square in
-        grind (arith, nat_tests, common_steps, length-map, sites_each, square-replicate, square_is);
-    lawful = record {
-      of_record = lawful;
-      of_party = λ party below. let it = each party below in rw (shows (λ site. site.submissions) party it.0, shows (λ site. site.log) party it.0) it.1.answers;
-      of_link = λ from to from_below to_below.
-          let it = each from from_below in
-          let that = each to to_below in
-          record {
-            routed = rw (shows (λ site. site.submissions) from it.0) it.1.routed;
-            applied = rw (shows (λ site. site.log) to that.0) (that.1.applied from from_below);
-          };
+    well_formed = record {
+      window = hub.window;
+      sites_each = sites_each ∙ all;
+      sites = λ party below. site_seated (hub_seat hub) party repos party (omega (arith, below, all, sites_each, length-map repos (λ (repo : RepoEnd). repo.site))) (λ absent. was.ends.ends party absent (omega (arith, below, was.ends.each)));
+      sent_each = subst (λ (it : State). IsSquare (length it.hub.parties) it.hub.sent) (sym was.shows) square;
+      wires_each = square-replicate (length hub.hub.parties) [];
     };
+    lawful = record { of_record = lawful; of_party = each };
   }

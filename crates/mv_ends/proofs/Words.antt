@@ -19,9 +19,9 @@ pub use Rattle.mv_link.specs.declared.item.Frame.{Frame}
 pub use Rattle.mv_link.specs.declared.item.Item.{Item}
 pub use Rattle.mv_machine.proofs.CallerLemmas.{All-front, headline, opening-sound, record-entered, slice_get-append, stamps_suffice}
 pub use Rattle.mv_machine.specs.Headline.{HeadlineHolds}
-pub use Rattle.mv_machine.specs.Lawful.{IsLawful, IsLawfulRecord, IsWellFormed}
+pub use Rattle.mv_machine.specs.Lawful.{IsLawful, IsLawfulAt, IsLawfulRecord, IsSiteAt, IsWellFormed}
 pub use Rattle.mv_machine.specs.Replies.{refusal_of, reply_to, route_refusal_of}
-pub use Rattle.mv_machine.specs.State.{State, is_party, opening}
+pub use Rattle.mv_machine.specs.State.{State, is_party, opening, site_of}
 pub use Rattle.mv_machine.specs.declared.reply.Refusal.TheVariants.{Memory}
 pub use Rattle.mv_machine.specs.declared.reply.Reply.TheVariants.{Refused, Submitted}
 pub use Rattle.mv_message.specs.declared.message.Message.{Message}

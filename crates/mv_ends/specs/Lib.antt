@@ -6,7 +6,6 @@ pub mod Answering
 pub mod HubEnd
 pub mod RepoEnd
 pub mod Whole
-pub mod Looking
 pub mod Outcome
 pub mod Laws
 pub mod Opened

@@ -12,12 +12,7 @@ sites_of repos = map (λ (repo : RepoEnd). repo.site) repos
 
 -- the lists that all ends have together. Nothing is under way: what was left on the rings is not taken any more.
 abbrev pub state_of : HubEnd → List RepoEnd → State
-state_of end repos = record (opening end.hub.parties end.limits) {
-  submissions = map (λ (site : SiteState). site.submissions) (sites_of repos);
-  entries = end.hub.entries;
-  sent = end.hub.sent;
-  logs = map (λ (site : SiteState). site.log) (sites_of repos);
-}
+state_of end repos = record (opening end.hub.parties end.limits) { hub = end.hub; sites = sites_of repos }
 
 -- what an outcome keeps
 pub record IsOutcome (end : HubEnd) (repos : List RepoEnd) : Type 0 where

@@ -45,15 +45,14 @@ pub struct HubEnd {
 }
 
 impl HubEnd {
-    ghost use Rattle.mv_link.specs.Frames.{IsFrameOf};
+    ghost use Rattle.mv_ends.specs.Words.{IsFrameOf, new_hub, are_parties, items_on};
     ghost use Rattle.mv_hub.specs.declared.fault.HubFault.{HubFault as AFault};
     ghost use Rattle.mv_hub.specs.declared.fault.HubFault.TheVariants.{StrangerParty};
-    ghost use Rattle.mv_hub.specs.Hub.{new_hub, are_parties, items_on};
     ghost use Rattle.mv_ends.specs.Rings.{AreEmpty, HasRoomOn, with_frame};
     ghost use Rattle.mv_ends.specs.HubEnd.{hub_seat, SameHubEnd, IsUnchanged, IsPutRefused, Routes, Relays, Repeats, Closes};
     ghost use Rattle.mv_ends.specs.RepoEnd.{repo_seat, SameRepoEnd, IsRepoUnchanged};
     ghost use Rattle.mv_ends.specs.Whole.{IsSeatOf};
-    ghost use Rattle.mv_ends.specs.Looking.{IsLawfulAt};
+    ghost use Rattle.mv_machine.specs.Lawful.{IsLawfulAt};
 
     /// The end of a hub where nothing has happened, with its ends of rings that were not used yet. Refused for want of memory.
     pub(crate) fn new(
@@ -102,7 +101,7 @@ impl HubEnd {
     /// Answers `Routed`, or the first of these refusals that holds: S1, there is no such party; S5, no message of the party
     /// is there to be routed, or as many of its messages were routed as it may submit; S6, a link has no room; S14, memory was
     /// refused. S5 may be told though a message was just put on the uplink.
-    #[tactic(auto, using(crate::proofs::EndLemmas::room_left))]
+    #[tactic(auto, using(crate::proofs::EndLemmas::room_left, crate::proofs::EndLemmas::lawful_routed))]
     pub fn route(&mut self, from: Party) -> Reply
         ensures same { SameHubEnd self.old self.new }
         ensures reply { Routes from self.old self.new result }
@@ -216,7 +215,8 @@ impl HubEnd {
             → IsPutRefused self.old self.new from to fault refusal) }
         ensures room { result ≡ None → IsTrue (are_parties self.old.hub from to) × HasRoomOn self.new.wires from to }
     {
-        if !self.are_parties(from, to) {
+        let count = self.hub.parties().len();
+        if from >= count || to >= count {
             return Some(Refusal::Party);
         }
         if self.wires.is_full(from, to) {
@@ -236,13 +236,5 @@ impl HubEnd {
         ensures put { self.new.wires.put ≡ with_frame self.old.wires.put from to frame }
     {
         self.wires.put(from, to, frame);
-    }
-
-    /// Whether both are parties.
-    fn are_parties(&self, from: Party, to: Party) -> bool
-        ensures { result ≡ are_parties self.now.hub from to }
-    {
-        let count = self.hub.parties().len();
-        from < count && to < count
     }
 }

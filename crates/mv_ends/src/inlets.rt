@@ -5,7 +5,7 @@
 ghost use Rattle.std.specs.Prelude.{◌≡◌, ◌<◌, [], length, slice_index_or, IsTrue, IsFalse};
 ghost use mathlib.Core.List.{IsPrefix};
 
-use crate::parcel::{Parcel, front_of};
+use crate::parcel::Parcel;
 use mv_message::Party;
 use rtrb::{Consumer, Producer};
 use std::marker::Model;
@@ -44,7 +44,7 @@ impl<T: Drop> Inlets<T> {
     }
 
     /// Whether nothing is seen on the ring from a party. The party may put something there at any time.
-    #[tactic(auto, using(crate::proofs::RingLemmas::has_place, crate::proofs::RingLemmas::shows_same, crate::proofs::RingLemmas::shown_after))]
+    #[tactic(auto, using(crate::proofs::RingLemmas::has_place, crate::proofs::RingLemmas::shows_same, crate::proofs::RingLemmas::taken_stays, crate::proofs::RingLemmas::shown_after))]
     pub(crate) fn is_empty(&mut self, from: Party) -> bool
         requires { from < length self.old.taken }
         ensures same { self.new.rings ≡ self.old.rings }
@@ -61,11 +61,11 @@ impl<T: Drop> Inlets<T> {
         requires some { HasFront self.now from }
         ensures { IsFront self.now from result.now }
     {
-        front_of(&self.ends[from as usize])
+        self.ends[from as usize].peek_known().inside()
     }
 
     /// Takes the parcel at the front of the ring from a party, and opens it.
-    #[tactic(auto, using(crate::proofs::RingLemmas::has_place, crate::proofs::RingLemmas::shows_same, crate::proofs::RingLemmas::shows_more))]
+    #[tactic(auto, using(crate::proofs::RingLemmas::has_place, crate::proofs::RingLemmas::shows_same, crate::proofs::RingLemmas::taken_stays, crate::proofs::RingLemmas::shows_more))]
     pub(crate) fn take(&mut self, from: Party) -> T
         requires from { from < length self.old.taken }
         requires some { HasFront self.old from }
@@ -77,7 +77,7 @@ impl<T: Drop> Inlets<T> {
     }
 
     /// Looks at both ends of the ring from a party: what was taken is a front of what was put.
-    #[tactic(auto, using(crate::proofs::RingLemmas::has_place, crate::proofs::RingLemmas::shows_same, crate::proofs::RingLemmas::put_stays))]
+    #[tactic(auto, using(crate::proofs::RingLemmas::has_place, crate::proofs::RingLemmas::shows_same, crate::proofs::RingLemmas::taken_stays, crate::proofs::RingLemmas::put_stays))]
     pub(crate) fn look_beside(&mut self, from: Party, producer: &mut Producer<Parcel<T>>)
         requires from { from < length self.old.taken }
         requires pair { ring_put producer.old ≡ slice_index_or self.old.rings from (ring_put producer.old) }

@@ -28,7 +28,6 @@
 #![tactic(auto)]
 
 mod answering;
-mod gathering;
 mod hub_end;
 mod inlets;
 mod laws;
@@ -38,12 +37,11 @@ mod parcel;
 mod repo_end;
 mod wires;
 
-pub use gathering::gather;
 pub use hub_end::HubEnd;
 pub use inlets::Inlets;
 pub use laws::{ends_stay_ends, hub_end_stays, repo_end_stays, repo_ends_stay};
 pub use opening::open;
-pub use outcome::Outcome;
+pub use outcome::{Outcome, gather};
 pub use parcel::Parcel;
 pub use repo_end::{RepoEnd, Unsubmitted};
 pub use wires::Wires;

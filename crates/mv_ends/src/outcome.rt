@@ -4,6 +4,8 @@ ghost use Rattle.std.specs.Prelude.{◌≡◌, IsTrue};
 ghost use Rattle.mv_machine.specs.State.{opening, is_party, submissions_of, log_of};
 ghost use Rattle.mv_machine.specs.Lawful.{IsLawful, IsWellFormed};
 ghost use Rattle.mv_machine.specs.Headline.{HeadlineHolds};
+ghost use Rattle.mv_ends.specs.Whole.{AreEnds};
+ghost use Rattle.mv_ends.specs.Outcome.{state_of};
 
 use crate::hub_end::HubEnd;
 use crate::repo_end::RepoEnd;
@@ -36,20 +38,29 @@ impl Model for Outcome {
     ghost invariant = { λ o. IsOutcome o.hub o.repos.items };
 }
 
-impl Outcome {
-    ghost use Rattle.mv_ends.specs.Outcome.{state_of, IsOutcome};
-
-    /// The outcome of these ends.
-    pub(crate) fn new(hub: HubEnd, repos: Vec<RepoEnd>) -> Outcome
-        requires { IsOutcome hub repos.items }
-        ensures value { result ≡ state_of hub repos.items }
-        ensures well_formed { IsWellFormed result }
-        ensures lawful { IsLawful result }
-        ensures headline { HeadlineHolds (opening result.parties result.limits) result }
-    {
-        Outcome { hub, repos }
+/// Gathers all ends of one opening, the repositories in order of party, whatever their calls and however these followed one another:
+/// the outcome has the lists of the ends, unchanged, and is lawful. The headline holds of it, from the opening on: with it, two
+/// repositories that applied the same messages about a pack agree on it. It takes no memory.
+pub fn gather(hub: HubEnd, repos: Vec<RepoEnd>) -> Outcome
+    requires { AreEnds hub repos.items }
+    ensures outcome { result ≡ state_of hub repos.items }
+    ensures well_formed { IsWellFormed result }
+    ensures lawful { IsLawful result }
+    ensures headline { HeadlineHolds (opening result.hub.parties result.limits) result }
+{
+    let mut hub = hub;
+    let mut repos = repos;
+    let count = hub.hub().parties().len();
+    for party in 0..count {
+        hub.look_beside(party, &mut repos[party as usize]);
     }
+    let outcome = Outcome { hub, repos };
+    // It is lawful: its record is looked at for that alone.
+    let _ = outcome.record();
+    outcome
+}
 
+impl Outcome {
     /// Leaves the outcome to the end of the process, which gives all its memory back at once: it is not taken apart. Nothing is
     /// promised of it.
     pub fn leave(self) {
@@ -58,7 +69,7 @@ impl Outcome {
 
     /// The parties.
     pub fn parties(&self) -> &Parties
-        ensures { result.now ≡ self.now.parties }
+        ensures { result.now ≡ self.now.hub.parties }
     {
         self.hub.hub().parties()
     }
@@ -85,10 +96,10 @@ impl Outcome {
     /// was routed after its closing; and two repositories that applied the same messages about a pack, in whatever order these
     /// came, agree on it.
     pub fn record(&self) -> &[Entry]
-        ensures entries { result.now ≡ self.now.entries }
+        ensures entries { result.now ≡ self.now.hub.entries }
         ensures well_formed { IsWellFormed self.now }
         ensures lawful { IsLawful self.now }
-        ensures headline { HeadlineHolds (opening self.now.parties self.now.limits) self.now }
+        ensures headline { HeadlineHolds (opening self.now.hub.parties self.now.limits) self.now }
     {
         self.hub.record()
     }
@@ -112,10 +123,8 @@ impl Outcome {
 
     /// The hub.
     pub fn hub(&self) -> &Hub
-        ensures parties { result.now.parties ≡ self.now.parties }
+        ensures value { result.now ≡ self.now.hub }
         ensures window { result.now.window ≡ self.now.limits.window }
-        ensures entries { result.now.entries ≡ self.now.entries }
-        ensures sent { result.now.sent ≡ self.now.sent }
     {
         self.hub.hub()
     }

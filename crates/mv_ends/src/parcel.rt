@@ -6,13 +6,10 @@
 //! front, and an end that keeps what it is given shares it until the submission is made, or hands it back as the only one that has it.
 //! A message that is given to an end by value is a parcel too, so that no two ends are given the same.
 
-ghost use Rattle.std.specs.Prelude.{◌≡◌, ◌<◌, [], ◌∷◌, length, IfOk};
-ghost use mathlib.Core.List.{IsPrefix};
-ghost use Rattle.rtrb.specs.Ring.{known_items};
+ghost use Rattle.std.specs.Prelude.{◌≡◌, IfOk};
 
 use mv_link::{Frame, Item};
 use mv_message::{Message, Shared};
-use rtrb::Consumer;
 use std::alloc::{AllocError, Global};
 use std::marker::Model;
 
@@ -30,6 +27,13 @@ impl<T> Model for Parcel<T> {
 }
 
 impl<T> Parcel<T> {
+    /// What is in it, for the end that it is given to.
+    pub(crate) fn inside(&self) -> &T
+        ensures { result.now ≡ self.now }
+    {
+        &self.inside
+    }
+
     /// What is in it. It is no parcel any more.
     pub(crate) fn open(self) -> T
         ensures { result ≡ self }
@@ -67,13 +71,6 @@ impl Parcel<Shared<Message>> {
     {
         self.inside.get()
     }
-
-    /// The message, to be shared with lists of the end that the parcel is given to.
-    pub(crate) fn shared(&self) -> &Shared<Message>
-        ensures { result.now ≡ self.now }
-    {
-        &self.inside
-    }
 }
 
 impl Parcel<Frame> {
@@ -98,12 +95,4 @@ impl Parcel<Frame> {
             inside: Frame { number, item },
         })
     }
-}
-
-/// What is in the parcel at the front of a ring, for the end that takes from it.
-pub(crate) fn front_of<T: Drop>(ring: &Consumer<Parcel<T>>) -> &T
-    requires { 0 < length (known_items ring.now) }
-    ensures { IsPrefix (result.now ∷ []) (known_items ring.now) }
-{
-    &ring.peek_known().inside
 }

@@ -2,11 +2,9 @@
 //! from.
 
 ghost use Rattle.std.specs.Prelude.{◌≡◌, [], length, IfOk, IfErr};
-ghost use Rattle.rtrb.specs.Ring.{sent};
+ghost use Rattle.mv_ends.specs.Words.{sent, refusal_of, IsLawfulParty, new_site};
 ghost use Rattle.mv_ends.specs.Valid.{AreAccepted};
 ghost use Rattle.mv_repository.specs.Verdict.{joint_verdict};
-ghost use Rattle.mv_machine.specs.Replies.{refusal_of};
-ghost use Rattle.mv_party.specs.Site.{IsLawfulParty, new_site};
 
 use crate::answering::{answer_parcel, is_full, put_answer};
 use crate::inlets::Inlets;
@@ -159,7 +157,7 @@ impl RepoEnd {
         let Ok(submitted) = Parcel::of_copy(self.alloc, message.message()) else {
             return Err(Unsubmitted::new(message, SiteFault::Memory));
         };
-        match self.site.submit(message.shared(), full) {
+        match self.site.submit(message.inside(), full) {
             Ok(k) => {
                 self.uplink.push_reserved(submitted);
                 Ok(k)

@@ -1,8 +1,7 @@
 //! The hub's ends of all links: a ring for each ordered pair of parties.
 
 ghost use Rattle.std.specs.Prelude.{◌≡◌, ◌<◌, ℕ, [], length, slice_index_or, IsTrue, IsFalse};
-ghost use mathlib.Core.List.{IsPrefix};
-ghost use Rattle.mv_pairs.specs.Pairs.{cell};
+ghost use Rattle.mv_ends.specs.Words.{IsPrefix, cell};
 
 use crate::inlets::Inlets;
 use crate::parcel::Parcel;

@@ -12,17 +12,17 @@ pub front-whole : {A : Type 0} (front whole : List A) → IsPrefix front whole �
 front-whole {A = A} front whole prefix same = grind (arith, nat_tests, common_steps, append-nil, length-append)
 
 -- where as many messages of a party were routed as it submitted, all were
-pub routed_by_count : (outcome : State) (party count : ℕ) → IsLawful outcome → party < length outcome.parties → count ≡ length (routed_from outcome.entries party)
-    → count ≡ length (submissions_of outcome party) → routed_from outcome.entries party ≡ submissions_of outcome party
+pub routed_by_count : (outcome : State) (party count : ℕ) → IsLawful outcome → party < length outcome.hub.parties → count ≡ length (routed_from outcome.hub.entries party)
+    → count ≡ length (submissions_of outcome party) → routed_from outcome.hub.entries party ≡ submissions_of outcome party
 routed_by_count outcome party count lawful below routed submitted =
-    front-whole (routed_from outcome.entries party) (submissions_of outcome party) (lawful.of_link party party below below).routed (sym routed ∙ submitted)
+    front-whole (routed_from outcome.hub.entries party) (submissions_of outcome party) (lawful.of_party party below).routed (sym routed ∙ submitted)
 
 -- where a repository applied as many items of a party as are on the link, it applied all
-pub applied_by_count : (outcome : State) (from to applied total : ℕ) → IsLawful outcome → from < length outcome.parties → to < length outcome.parties
-    → applied ≡ length (items_from (log_of outcome to) from) → total ≡ length (link_items outcome.parties outcome.entries from to) → applied ≡ total
-    → items_from (log_of outcome to) from ≡ link_items outcome.parties outcome.entries from to
+pub applied_by_count : (outcome : State) (from to applied total : ℕ) → IsLawful outcome → from < length outcome.hub.parties → to < length outcome.hub.parties
+    → applied ≡ length (items_from (log_of outcome to) from) → total ≡ length (link_items outcome.hub.parties outcome.hub.entries from to) → applied ≡ total
+    → items_from (log_of outcome to) from ≡ link_items outcome.hub.parties outcome.hub.entries from to
 applied_by_count outcome from to applied total lawful from_below to_below is put same =
-    front-whole (items_from (log_of outcome to) from) (link_items outcome.parties outcome.entries from to) (lawful.of_link from to from_below to_below).applied
+    front-whole (items_from (log_of outcome to) from) (link_items outcome.hub.parties outcome.hub.entries from to) ((lawful.of_party to to_below).applied from from_below)
     (sym is ∙ same ∙ put)
 
 -- the items of a party are as many as the entries that are from it

@@ -1,17 +1,16 @@
 -- What a plan is beside what its run leaves.
 use Rattle.std.proofs.Common.{◌≡◌, ◌∙◌, ◌<◌, ℕ, zero, suc, Bool, true, false, List, [], ◌∷◌, length, map, get_or, refl, sym, ap, subst, arith, ◌↔◌, ◌&&◌, IsTrue, IsFalse}
-use Rattle.mv_workers.proofs.Words.{nat_tests, AllZip, ext_get_or, length-map, Message, SiteState, State, submissions_of, IsLawful, RepoEnd, HubSeat, repo_seat, own_among, Begins, AllUnused, own_of, IsCarried, AreBegun, IsCrewOf, IsBack}
+use Rattle.mv_workers.proofs.Words.{nat_tests, AllZip, ext_get_or, length-map, Message, SiteState, new_site, State, submissions_of, IsLawful, RepoEnd, HubSeat, repo_seat, own_among, Begins, AllUnused, own_of, IsCarried, AreBegun, IsCrewOf, IsBack}
 use Rattle.mv_hub.specs.Hub.{HubState}
 use Rattle.mv_machine.specs.Limits.{Bounds}
 use Rattle.mv_ends.specs.declared.hub_end.HubEnd.{HubEnd}
 use Rattle.mv_ends.specs.Whole.{AreEnds, AreFresh}
 use Rattle.mv_ends.specs.Outcome.{sites_of, state_of}
 use Rattle.mv_workers.specs.declared.plan.Plan.{Plan}
-use Rattle.mv_workers.specs.declared.plan.WorkFault.{WorkFault}
 use Rattle.mv_workers.specs.declared.crew.Crew.{Crew}
 use Rattle.mv_workers.specs.declared.crew.CrewEnds.{CrewEnds}
 use Rattle.mv_workers.specs.Work.{list_at}
-use Rattle.mv_workers.specs.Plans.{IsSound, KeepsPlan, IsComplete, Faults, Leaves}
+use Rattle.mv_workers.specs.Plans.{IsSound, KeepsPlan, IsComplete}
 
 -- nothing was submitted at ends where nothing has happened
 pub fresh_unused : (parties : List (List (List ℕ))) (limits : Bounds) (hub : HubEnd) (repos : List RepoEnd) → AreFresh parties limits hub repos → AllUnused repos
@@ -22,7 +21,7 @@ pub ends_each : (parties : List (List (List ℕ))) (limits : Bounds) (hub : HubE
 ends_each parties limits hub repos ends fresh = sym (length-map repos repo_seat) ∙ ends.each ∙ ap (λ (h : HubState). length h.parties) fresh.hub_is
 
 -- what a state has of a party's own is what was submitted at its end
-own_at : (repos : List RepoEnd) (party : ℕ) → get_or (map own_of repos) party [] ≡ own_among (get_or (map (λ (site : SiteState). site.submissions) (sites_of repos)) party [])
+own_at : (repos : List RepoEnd) (party : ℕ) → get_or (map own_of repos) party [] ≡ own_among (get_or (sites_of repos) party (new_site 0 0 0)).submissions
 own_at [] party = refl
 own_at (repo ∷ repos) zero = refl
 own_at (repo ∷ repos) (suc party) = own_at repos party
@@ -37,10 +36,10 @@ begins_at (own ∷ owns) (list ∷ work) all (suc party) = begins_at owns work a
 
 module _ (plan : Plan) (crew : Crew) (back : CrewEnds) (of_plan : IsCrewOf plan crew) (is_back : IsBack crew back) (outcome : State)
     (is : outcome ≡ state_of back.hub back.repos.items) where
-  parties_kept : outcome.parties ≡ plan.parties
-  parties_kept = ap (λ (it : State). it.parties) is ∙ ap (λ (seat : HubSeat). seat.parties) is_back.hub_is ∙ of_plan.parties
+  parties_kept : outcome.hub.parties ≡ plan.parties
+  parties_kept = ap (λ (it : State). it.hub.parties) is ∙ ap (λ (seat : HubSeat). seat.parties) is_back.hub_is ∙ of_plan.parties
 
-  as_many : length back.repos.items ≡ length outcome.parties
+  as_many : length back.repos.items ≡ length outcome.hub.parties
   as_many =
       sym (length-map back.repos.items repo_seat) ∙ ap length is_back.repos ∙ of_plan.ends.each ∙ ap length (of_plan.parties ∙ sym parties_kept)
 
@@ -60,7 +59,7 @@ module _ (plan : Plan) (crew : Crew) (back : CrewEnds) (of_plan : IsCrewOf plan 
   }
 
   -- they have a complete outcome where all was submitted, and all that was submitted was carried
-  complete_by : IsSound plan → (carried : Bool) → IsTrue carried ↔ ((party : ℕ) → party < length outcome.parties → IsCarried outcome party)
+  complete_by : IsSound plan → (carried : Bool) → IsTrue carried ↔ ((party : ℕ) → party < length outcome.hub.parties → IsCarried outcome party)
       → IsTrue (back.all && carried) ↔ IsComplete plan outcome
   complete_by sound carried means = by back.all begun.1
     where
@@ -79,11 +78,11 @@ module _ (plan : Plan) (crew : Crew) (back : CrewEnds) (of_plan : IsCrewOf plan 
       )
 
   module _ (sound : IsSound plan) (lawful : IsLawful outcome) (carried : Bool)
-      (means : IsTrue carried ↔ ((party : ℕ) → party < length outcome.parties → IsCarried outcome party)) where
+      (means : IsTrue carried ↔ ((party : ℕ) → party < length outcome.hub.parties → IsCarried outcome party)) where
     -- what is judged to be complete is what a run promises
     pub judged_ok : IsTrue (back.all && carried) → IsSound plan × KeepsPlan plan outcome × IsComplete plan outcome
     judged_ok told = (sound, keeps_plan lawful, (complete_by sound carried means).0 told)
 
     -- and what is not leaves one of the faults
-    pub judged_err : IsFalse (back.all && carried) → (fault : WorkFault) → Leaves outcome fault → Faults plan fault
-    judged_err told fault leaves = grind (arith, nat_tests, complete_by, keeps_plan)
+    pub judged_err : IsFalse (back.all && carried) → IsSound plan × KeepsPlan plan outcome × (IsComplete plan outcome → ⊥)
+    judged_err told = grind (arith, nat_tests, complete_by, keeps_plan)

@@ -1,5 +1,5 @@
 -- What a party submits of its own, and where one list begins another.
-use Rattle.std.proofs.Common.{◌≡◌, ◌+◌, ◌<◌, get_or, ℕ, Bool, List, [], ◌∷◌, ◌++◌, length, length-append, append-nil, take, not, sym, ap, ◌∙◌, arith, ◌==◌, ◌↔◌, IsTrue, false}
+use Rattle.std.proofs.Common.{◌≡◌, ◌<◌, get_or, ℕ, Bool, List, [], ◌∷◌, ◌++◌, length, length-append, append-nil, take, not, sym, ap, ◌∙◌, arith, ◌==◌, ◌↔◌, IsTrue, false}
 use Rattle.mv_workers.proofs.Words.{list_any, nat_tests, length-map, get_or-map, nil_from_length, Message, Answer, answers_in, lists_of, own_among, is_answer, Begins}
 use Rattle.std.proofs.Math.Seq.{take-append_seam}
 use Rattle.std.proofs.lemmas.List.Elements.{filter-append}

@@ -1,6 +1,5 @@
 -- What a repository's worker has, and what its turns leave of it.
-use Rattle.std.specs.Prelude.{◌≡◌, ◌++◌, ℕ, ◌<◌, List, [], length, option_to_list, slice_index_or}
-use Rattle.std.specs.Vec.Iter.{into_iter_items}
+use Rattle.std.specs.Prelude.{◌≡◌, ◌++◌, ℕ, ◌<◌, List, [], length, slice_index_or}
 use Rattle.mv_message.specs.declared.message.Message.{Message}
 use Rattle.mv_ends.specs.declared.repo_end.RepoEnd.{RepoEnd}
 use Rattle.mv_ends.specs.RepoEnd.{SameRepoEnd}
@@ -19,13 +18,9 @@ pub record IsUnused (end : RepoEnd) : Type 0 where
 abbrev pub AllUnused : List RepoEnd → Type 0
 AllUnused repos = (party : ℕ) (absent : RepoEnd) → party < length repos → IsUnused (slice_index_or repos party absent)
 
--- what its party has still to submit
-abbrev pub left_at : Desk → List Message
-left_at desk = option_to_list desk.next ++ into_iter_items desk.rest
-
 -- what its party is to submit in all: what it submitted of its own, and what is left
 abbrev pub work_at : Desk → List Message
-work_at desk = own_of desk.end ++ left_at desk
+work_at desk = own_of desk.end ++ desk.list.items
 
 -- the same desk, some calls later
 abbrev pub IsFurther : Desk → Desk → Type 0

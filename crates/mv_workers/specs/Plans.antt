@@ -18,15 +18,15 @@ pub record IsSound (plan : Plan) : Type 0 where
 -- its list begins.
 pub record KeepsPlan (plan : Plan) (outcome : State) : Type 0 where
   pub lawful : IsLawful outcome
-  pub parties : outcome.parties ≡ plan.parties
+  pub parties : outcome.hub.parties ≡ plan.parties
   pub limits : outcome.limits ≡ plan.limits
-  pub submitted : (party : ℕ) → party < length outcome.parties
+  pub submitted : (party : ℕ) → party < length outcome.hub.parties
       → Begins (own_among (submissions_of outcome party)) (list_at plan.work party)
 
 -- An outcome is complete: every planned message was submitted in order, all that was submitted was routed, and all that was routed was
 -- applied.
 abbrev pub IsComplete : Plan → State → Type 0
-IsComplete plan outcome = (party : ℕ) → party < length outcome.parties → IsDone outcome party (list_at plan.work party)
+IsComplete plan outcome = (party : ℕ) → party < length outcome.hub.parties → IsDone outcome party (list_at plan.work party)
 
 -- why a run has no complete outcome
 abbrev pub Faults : Plan → WorkFault → Type 0
@@ -34,9 +34,3 @@ Faults plan (fault.Unfinished outcome) = IsSound plan × KeepsPlan plan outcome 
 Faults plan (fault.Memory outcome) = IsSound plan × KeepsPlan plan outcome × (IsComplete plan outcome → ⊥)
 Faults plan fault.Start = IsSound plan
 Faults plan fault.Plan = IsSound plan → ⊥
-
--- a run that is not complete leaves this outcome
-abbrev pub Leaves : State → WorkFault → Type 0
-Leaves outcome (fault.Unfinished left) = left ≡ outcome
-Leaves outcome (fault.Memory left) = left ≡ outcome
-Leaves outcome fault = ⊥

@@ -7,7 +7,7 @@ ghost use Rattle.std.specs.Prelude.{◌≡◌, ◌↔◌, ◌<◌, ℕ, length, 
 ghost use Rattle.mv_hub.specs.Record.{routed_from};
 ghost use Rattle.mv_hub.specs.Hub.{items_on};
 ghost use Rattle.mv_repository.specs.Log.{items_from};
-ghost use Rattle.mv_machine.specs.State.{is_party, submissions_of, log_of, hub_of};
+ghost use Rattle.mv_machine.specs.State.{is_party, submissions_of, log_of};
 ghost use Rattle.mv_workers.specs.Done.{IsCarried};
 
 use mv_ends::Outcome;
@@ -15,6 +15,7 @@ use mv_message::Party;
 use mv_repository::LogEntry;
 
 /// How many entries of a log came from a party.
+#[tactic(auto, using(crate::proofs::DoneLemmas::from_counted))]
 fn entries_from(log: &[LogEntry], party: Party) -> usize
     ensures { result ≡ length (items_from log.now party) }
 {
@@ -24,8 +25,8 @@ fn entries_from(log: &[LogEntry], party: Party) -> usize
 /// Whether a repository applied all that was routed to it.
 fn has_applied(outcome: &Outcome, party: Party) -> bool
     requires { IsTrue (is_party outcome.now party) }
-    ensures { IsTrue result ↔ ((from : ℕ) → from < length outcome.now.parties
-        → items_from (log_of outcome.now party) from ≡ items_on (hub_of outcome.now) from party) }
+    ensures { IsTrue result ↔ ((from : ℕ) → from < length outcome.now.hub.parties
+        → items_from (log_of outcome.now party) from ≡ items_on outcome.now.hub from party) }
 {
     // The outcome is lawful: its record is looked at for that alone.
     let _ = outcome.record();
@@ -43,7 +44,7 @@ fn has_applied(outcome: &Outcome, party: Party) -> bool
 fn is_routed(outcome: &Outcome, party: Party) -> bool
     requires { IsTrue (is_party outcome.now party) }
     ensures { IsTrue result
-        ↔ (routed_from outcome.now.entries party ≡ submissions_of outcome.now party) }
+        ↔ (routed_from outcome.now.hub.entries party ≡ submissions_of outcome.now party) }
 {
     // The outcome is lawful: its record is looked at for that alone.
     let _ = outcome.record();
@@ -52,7 +53,7 @@ fn is_routed(outcome: &Outcome, party: Party) -> bool
 
 /// Whether all that was submitted was routed, and each party applied all that was routed to it.
 pub(crate) fn is_carried(outcome: &Outcome) -> bool
-    ensures { IsTrue result ↔ ((party : ℕ) → party < length outcome.now.parties → IsCarried outcome.now party) }
+    ensures { IsTrue result ↔ ((party : ℕ) → party < length outcome.now.hub.parties → IsCarried outcome.now party) }
 {
     for party in 0..outcome.parties().len() {
         if !is_routed(outcome, party) {

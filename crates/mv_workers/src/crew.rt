@@ -66,14 +66,10 @@ pub(crate) struct Crew {
     ghost each: { vec_len ends.1 ≡ vec_len lists },
     /// Nothing was submitted.
     ghost unused: { AllUnused ends.1.items },
-    /// No worker has started.
-    ghost no_handles: { handles.items ≡ [] },
-    /// No end has come back.
-    ghost no_repos: { repos.items ≡ [] },
-    /// There is room for the handle of each worker.
-    ghost for_handles: { vec_len ends.1 ≤ vec_capacity handles },
-    /// There is room for each end.
-    ghost for_repos: { vec_len ends.1 ≤ vec_capacity repos },
+    /// No worker has started, and there is room for the handle of each.
+    ghost for_handles: { (handles.items ≡ []) × (vec_len ends.1 ≤ vec_capacity handles) },
+    /// No end has come back, and there is room for each.
+    ghost for_repos: { (repos.items ≡ []) × (vec_len ends.1 ≤ vec_capacity repos) },
 }
 
 /// The ends behind the turns of all workers, and how these ended.
@@ -100,16 +96,11 @@ impl Crew {
         requires { IsSound plan }
         ensures { IfOk result (λ crew. IsCrewOf plan crew) }
     {
-        let Plan {
-            parties,
-            limits,
-            work,
-        } = plan;
-        let count = parties.len() as usize;
+        let count = plan.parties.len() as usize;
         let handles = Vec::with_capacity(alloc, count)?;
         let repos = Vec::with_capacity(alloc, count)?;
-        let lists = work.into_parcels(alloc)?;
-        let ends = open(alloc, parties, limits)?;
+        let lists = plan.work.into_parcels(alloc)?;
+        let ends = open(alloc, plan.parties, plan.limits)?;
         Ok(Crew {
             ends,
             lists,
@@ -127,16 +118,10 @@ impl Crew {
     ) -> Option<CrewEnds>
         ensures { IfSome result (λ back. IsBack self back) }
     {
-        let Crew {
-            ends,
-            lists,
-            handles,
-            repos,
-        } = self;
-        let started = Crew::start(scope, shift, ends, lists, handles);
+        let started = Crew::start(scope, shift, self.ends, self.lists, self.handles);
         shift.course.tell(shift.rt, started.is_some());
         let (hub, handles) = started?;
-        Some(Crew::join(shift.rt, hub, handles, repos))
+        Some(Crew::join(shift.rt, hub, handles, self.repos))
     }
 
     /// Starts all workers, the hub's first, and puts the handles of the others into a list that has room for them. None where one

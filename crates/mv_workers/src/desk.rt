@@ -2,7 +2,7 @@
 
 ghost use Rattle.std.specs.Prelude.{◌≡◌, ◌==◌, ◌++◌, ◌∷◌, [], length, IfErr, OnOk};
 ghost use Rattle.mv_ends.specs.RepoEnd.{SameRepoEnd};
-ghost use Rattle.mv_workers.specs.Desks.{own_of, IsUnused, left_at, work_at, IsFurther};
+ghost use Rattle.mv_workers.specs.Desks.{own_of, IsUnused, work_at, IsFurther};
 
 use crate::gate::Gate;
 use crate::turns::has_moved;
@@ -10,7 +10,7 @@ use mv_ends::{Parcel, RepoEnd, Unsubmitted, repo_end_stays};
 use mv_machine::Reply;
 use mv_message::{Message, Shared};
 use std::alloc::AllocError;
-use std::vec;
+use std::collections::VecDeque;
 
 /// A repository's end, with what its party has still to submit there. Each message is in memory of its own: the end takes it by value,
 /// and makes no copy to keep.
@@ -18,10 +18,8 @@ use std::vec;
 pub(crate) struct Desk {
     /// The end.
     end: RepoEnd,
-    /// The next message.
-    next: Option<Parcel<Shared<Message>>>,
-    /// Those behind it.
-    rest: vec::IntoIter<Parcel<Shared<Message>>>,
+    /// The messages, the next one first.
+    list: VecDeque<Parcel<Shared<Message>>>,
 }
 
 impl Desk {
@@ -31,9 +29,8 @@ impl Desk {
         ensures end { result.end ≡ end }
         ensures work { work_at result ≡ list.items }
     {
-        let mut rest = list.into_iter();
-        let next = rest.next();
-        Desk { end, next, rest }
+        let list = VecDeque::from(list);
+        Desk { end, list }
     }
 
     /// The number of its party.
@@ -41,14 +38,19 @@ impl Desk {
         self.end.party()
     }
 
-    /// A turn: the next message is tried once, and then it is looked once for a frame from each party.
+    /// A turn: the next message is tried once, and then it is looked once for a frame from each party, each time behind the gate.
+    #[tactic(auto, using(crate::proofs::TurnLemmas::own_applied))]
     pub(crate) fn turn<G: Gate>(&mut self, parties: u32, gate: &G) -> Result<bool, AllocError>
         ensures { IsFurther self.old self.new }
     {
         repo_end_stays();
-        let submitted = self.submit_next()?;
-        let applied = apply_each(&mut self.end, parties, gate)?;
-        Ok(submitted || applied)
+        let party = self.end.party();
+        let mut moved = self.submit_next()?;
+        for from in 0..parties {
+            gate.pass(party);
+            moved |= has_moved(&self.end.apply(from))?;
+        }
+        Ok(moved)
     }
 
     /// Tries the next message once: a query is asked. It is left where it was refused.
@@ -56,16 +58,13 @@ impl Desk {
         ensures { IsFurther self.old self.new }
     {
         repo_end_stays();
-        let Some(message) = self.next.take() else {
+        let Some(message) = self.list.pop_front() else {
             return Ok(false);
         };
         match submit_one(&mut self.end, message) {
-            Ok(()) => {
-                self.next = self.rest.next();
-                Ok(true)
-            }
+            Ok(_) => Ok(true),
             Err(back) => {
-                self.next = Some(back.message);
+                self.list.push_front_reserved(back.message);
                 has_moved(&Reply::Refused(back.refusal))
             }
         }
@@ -74,16 +73,15 @@ impl Desk {
     /// The end, and whether nothing is left to submit.
     pub(crate) fn into_end(self) -> (RepoEnd, bool)
         ensures end { result.0 ≡ self.end }
-        ensures over { result.1 ≡ (length (left_at self) == 0) }
+        ensures over { result.1 ≡ (length self.list.items == 0) }
     {
-        let over = self.next.is_none() && self.rest.len() == 0;
-        (self.end, over)
+        (self.end, self.list.is_empty())
     }
 }
 
 /// Tries to submit a message once: a query is asked.
 #[tactic(auto, using(crate::proofs::TurnLemmas::own_asked, crate::proofs::TurnLemmas::own_submitted))]
-fn submit_one(end: &mut RepoEnd, message: Parcel<Shared<Message>>) -> Result<(), Unsubmitted>
+fn submit_one(end: &mut RepoEnd, message: Parcel<Shared<Message>>) -> Result<u32, Unsubmitted>
     ensures same { SameRepoEnd end.old end.new }
     ensures ok { OnOk result (own_of end.new ≡ own_of end.old ++ message ∷ []) }
     ensures refused { IfErr result (λ back. own_of end.new ≡ own_of end.old) }
@@ -91,30 +89,11 @@ fn submit_one(end: &mut RepoEnd, message: Parcel<Shared<Message>>) -> Result<(),
 {
     if let Message::Query { key } = message.message() {
         return match end.ask(key) {
-            Reply::Asked { .. } => Ok(()),
+            Reply::Asked { q } => Ok(q),
             Reply::Refused(refusal) => Err(Unsubmitted { message, refusal }),
             // `ask` answers nothing else.
             _ => unreachable!(),
         };
     }
-    match end.submit_own(message) {
-        Ok(_) => Ok(()),
-        Err(back) => Err(back),
-    }
-}
-
-/// Passes the gate and looks for a frame, once for each party.
-#[tactic(auto, using(crate::proofs::TurnLemmas::own_applied))]
-fn apply_each<G: Gate>(end: &mut RepoEnd, parties: u32, gate: &G) -> Result<bool, AllocError>
-    ensures same { SameRepoEnd end.old end.new }
-    ensures own { own_of end.new ≡ own_of end.old }
-{
-    repo_end_stays();
-    let party = end.party();
-    let mut moved = false;
-    for from in 0..parties {
-        gate.pass(party);
-        moved |= has_moved(&end.apply(from))?;
-    }
-    Ok(moved)
+    end.submit_own(message)
 }

@@ -14,8 +14,8 @@ const YIELDS: u32 = 4;
 /// How long its first sleep is, in microseconds. Each further one is twice as long, up to the longest.
 const FIRST_SLEEP: u64 = 50;
 
-/// How long it sleeps at most, in microseconds.
-const LONGEST_SLEEP: u64 = 12_800;
+/// How often a sleep is twice as long as the one before it: the longest is 12.8 milliseconds.
+const DOUBLINGS: u32 = 8;
 
 /// How a worker goes from turn to turn.
 #[derive(Drop)]
@@ -25,10 +25,8 @@ pub(crate) struct Pace {
     /// How many moves of all workers there were before its turn. None where it did something in the turn before: it is not looked at
     /// whether nothing more can come until it rests twice.
     moves: Option<u64>,
-    /// How many rests in a row there were, up to [`YIELDS`].
+    /// How many rests in a row there were.
     rests: u32,
-    /// How long the next sleep is, in microseconds.
-    micros: u64,
     /// What it sleeps on.
     parker: Parker,
     /// Whether memory was refused to it.
@@ -42,7 +40,6 @@ impl Pace {
             worker,
             moves: None,
             rests: 0,
-            micros: FIRST_SLEEP,
             parker: Parker::new(),
             short: false,
         }
@@ -68,7 +65,6 @@ impl Pace {
         course.moved(self.worker);
         self.moves = None;
         self.rests = 0;
-        self.micros = FIRST_SLEEP;
         self.short = moved.is_err();
         !self.short
     }
@@ -76,13 +72,13 @@ impl Pace {
     /// Waits behind a turn in which nothing was done.
     fn rest(&mut self, rt: &impl Wait) {
         if self.rests < YIELDS {
-            self.rests += 1;
             thread::yield_now();
         } else {
-            self.parker
-                .park_timeout(rt, Duration::from_micros(self.micros));
-            self.micros = self.micros.saturating_mul(2).min(LONGEST_SLEEP);
+            let doublings = (self.rests - YIELDS).min(DOUBLINGS);
+            let micros = FIRST_SLEEP << doublings;
+            self.parker.park_timeout(rt, Duration::from_micros(micros));
         }
+        self.rests = self.rests.saturating_add(1);
     }
 
     /// Notes that the worker takes no further turn. It answers whether memory was refused to it.

@@ -2,7 +2,7 @@
 
 ghost use Rattle.std.specs.Prelude.{◌↔◌, IfOk, IfErr, IfSome, IsTrue};
 ghost use Rattle.mv_workers.specs.Crews.{IsBack};
-ghost use Rattle.mv_workers.specs.Plans.{IsSound, KeepsPlan, IsComplete, Faults, Leaves};
+ghost use Rattle.mv_workers.specs.Plans.{IsSound, KeepsPlan, IsComplete, Faults};
 
 use crate::complete::is_carried;
 use crate::course::Course;
@@ -74,16 +74,8 @@ pub fn run_workers<R: Threads + Wait + Sync, G: Gate>(
     if back.all & is_carried(&outcome) {
         return Ok(outcome);
     }
-    Err(left_fault(outcome, back.short))
-}
-
-/// Why a run is not complete that left this outcome, by whether memory was refused to a worker.
-fn left_fault(outcome: Outcome, short: bool) -> WorkFault
-    ensures { Leaves outcome result }
-{
-    if short {
-        WorkFault::Memory(outcome)
-    } else {
-        WorkFault::Unfinished(outcome)
+    if back.short {
+        return Err(WorkFault::Memory(outcome));
     }
+    Err(WorkFault::Unfinished(outcome))
 }

@@ -1,7 +1,7 @@
 -- The hub routed what is taken from the uplink.
-use Rattle.std.proofs.Common.{◌≡◌, ◌+◌, sym, subst, length, rules}
-use Rattle.mv_ends.proofs.Words.{HubState, routed_count, IsFor, with_item, AreOfLinks, AreWithin}
-use Rattle.mv_ends.proofs.EndLemmas.{of_links_entered, took_routed, within_routed, lawful_routed, route_refused}
+use Rattle.std.proofs.Common.{◌≡◌, ◌+◌, length, rules}
+use Rattle.mv_ends.proofs.Words.{routed_count, with_item}
+use Rattle.mv_ends.proofs.EndLemmas.{of_links_entered, took_routed, within_routed, route_refused}
 use Rattle.mv_ends.proofs.hub_end.HubEnd.route.Goals as goal
 
 pub invariant_of-self-in-Ok-clause-took : goal.invariant_of-self-in-Ok-clause-took
@@ -14,16 +14,11 @@ invariant_of-self-in-Ok-clause-took c =
     (took_routed (length hub.parties) hub.entries c.args.from (routed_count hub.entries c.args.from + 1) message c.args.self.now.uplinks.taken (search rules) c.args.self.now.took)
 
 pub invariant_of-self-in-Ok-clause-of_links : goal.invariant_of-self-in-Ok-clause-of_links
-invariant_of-self-in-Ok-clause-of_links c =
-    subst (λ (h : HubState). AreOfLinks h c.args.self.now.wires.put) (sym c.in-Ok.ensures.ok) (of_links_entered c.args.self.now.hub _ c.args.self.now.wires.put c.args.self.now.of_links)
-
-pub invariant_of-self-in-Ok-clause-lawful : goal.invariant_of-self-in-Ok-clause-lawful
-invariant_of-self-in-Ok-clause-lawful c = search (rules, lawful_routed)
+invariant_of-self-in-Ok-clause-of_links c = rw c.in-Ok.ensures.ok (of_links_entered c.args.self.now.hub _ c.args.self.now.wires.put c.args.self.now.of_links)
 
 pub invariant_of-self-in-Ok-clause-within : goal.invariant_of-self-in-Ok-clause-within
 invariant_of-self-in-Ok-clause-within c =
-    subst (λ (h : HubState). AreWithin c.args.self.now.limits.submissions h) (sym c.in-Ok.ensures.ok)
-    (within_routed c.args.self.now.limits.submissions c.args.self.now.hub c.args.from _ c.front.result.now (search rules) c.args.self.now.within)
+    rw c.in-Ok.ensures.ok (within_routed c.args.self.now.limits.submissions c.args.self.now.hub c.args.from _ c.front.result.now (search rules) c.args.self.now.within)
 
 pub returns-in-Ok-clause-reply : goal.returns-in-Ok-clause-reply
 returns-in-Ok-clause-reply c =
@@ -39,7 +34,7 @@ returns-in-Ok-clause-reply c =
     }
 
 pub invariant_of-self-in-Ok-clause-square : goal.invariant_of-self-in-Ok-clause-square
-invariant_of-self-in-Ok-clause-square c = subst (λ (h : HubState). IsFor (length h.parties) c.args.self.now.wires.put) (sym c.in-Ok.ensures.ok) c.args.self.now.square
+invariant_of-self-in-Ok-clause-square c = rw c.in-Ok.ensures.ok c.args.self.now.square
 
 pub returns-in-Err-clause-reply : goal.returns-in-Err-clause-reply
 returns-in-Err-clause-reply c =

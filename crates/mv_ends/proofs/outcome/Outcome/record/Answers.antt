@@ -1,9 +1,8 @@
-use Rattle.std.proofs.Common.{subst}
-use Rattle.mv_ends.proofs.Words.{State, opening, HeadlineHolds, state_of}
+use Rattle.std.proofs.Common.{sym}
+use Rattle.mv_ends.proofs.Words.{state_of}
 use Rattle.mv_ends.proofs.OutcomeLemmas.{headline_of}
 use Rattle.mv_ends.proofs.outcome.Outcome.record.Goals as goal
 
 pub returns-clause-headline : goal.returns-clause-headline
 returns-clause-headline c =
-    subst (λ (st : State). HeadlineHolds (opening st.parties st.limits) st) c.self.view_is
-    (headline_of (state_of c.self.inside.hub c.self.inside.repos.items) c.self.invariant.well_formed c.self.invariant.lawful)
+    rw (sym c.self.view_is) (headline_of (state_of c.self.inside.hub c.self.inside.repos.items) c.self.invariant.well_formed c.self.invariant.lawful)

@@ -1,5 +1,5 @@
-use Rattle.std.proofs.Common.{◌∙◌, refl}
-use Rattle.mv_ends.proofs.Words.{hub_seat}
+use Rattle.std.proofs.Common.{◌∙◌, ap}
+use Rattle.mv_ends.proofs.Words.{SiteState, hub_seat}
 use Rattle.mv_ends.proofs.LookLemmas.{seat_of}
 use Rattle.mv_ends.proofs.OutcomeLemmas.{place_of, shown}
 use Rattle.mv_ends.proofs.outcome.Outcome.repository.Goals as goal
@@ -14,5 +14,5 @@ returns-clause-party c =
 pub returns-clause-log : goal.returns-clause-log
 returns-clause-log c =
     c.repository.ensures.log
-    ∙ shown (λ s. s.log) (λ st. st.logs) c.self.inside.hub c.self.inside.repos.items c.args.self.now c.args.party c.index.result.now
-    refl c.self.view_is c.self.invariant.ends c.requires c.index.ensures
+    ∙ ap (λ (site : SiteState). site.log) (shown c.self.inside.hub c.self.inside.repos.items c.args.self.now c.args.party c.index.result.now
+    c.self.view_is c.self.invariant.ends c.requires c.index.ensures)

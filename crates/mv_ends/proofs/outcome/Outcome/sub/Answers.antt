@@ -1,9 +1,10 @@
-use Rattle.std.proofs.Common.{◌∙◌, refl}
+use Rattle.std.proofs.Common.{◌∙◌, ap}
+use Rattle.mv_ends.proofs.Words.{SiteState}
 use Rattle.mv_ends.proofs.OutcomeLemmas.{shown}
 use Rattle.mv_ends.proofs.outcome.Outcome.sub.Goals as goal
 
 pub returns : goal.returns
 returns c =
     c.sub.ensures.value
-    ∙ shown (λ s. s.submissions) (λ st. st.submissions) c.self.inside.hub c.self.inside.repos.items c.args.self.now c.args.party c.index.result.now
-    refl c.self.view_is c.self.invariant.ends c.requires c.index.ensures
+    ∙ ap (λ (site : SiteState). site.submissions) (shown c.self.inside.hub c.self.inside.repos.items c.args.self.now c.args.party c.index.result.now
+    c.self.view_is c.self.invariant.ends c.requires c.index.ensures)

@@ -1,31 +1,24 @@
 -- The party took the frame that is taken from the link, and what it answers is on its uplink.
-use Rattle.std.proofs.Common.{◌≡◌, ◌∙◌, refl, sym, subst, ap, rules, ◌++◌, option_to_list, Err}
-use Rattle.mv_ends.proofs.Words.{sent, Taken, SiteState, apply_fault, Memory, refusal_of, reply_to, with_item, stands_to, AreAccepted, IsRefusedBy}
+use Rattle.std.proofs.Common.{◌≡◌, ◌∙◌, refl, sym, ap, rules, ◌++◌, option_to_list, Err}
+use Rattle.mv_ends.proofs.Words.{sent, Taken, SiteState, reply_to, with_item, stands_to}
 use Rattle.mv_ends.proofs.SiteEndLemmas.{apply_refused, apply_taken, memory_told, refused_for, submitted_by, accepted_taken}
 use Rattle.mv_ends.proofs.repo_end.RepoEnd.apply.Goals as goal
 
 pub returns-in_default-clause-reply : goal.returns-in_default-clause-reply
-returns-in_default-clause-reply c =
-    let frame = c.front-frame.result.now in
-    let site = c.args.self.now.site in (
-      search rules,
-      (
-        frame,
-        c.front-frame.ensures,
-        subst (λ full. IsRefusedBy refusal_of (apply_fault full site c.args.from frame.item (stands_to site c.args.from frame)) Memory) c.is_full-full.ensures.value
-            (subst (λ o. IsRefusedBy refusal_of o Memory) (sym c.in_default.ensures.free) refl),
-        λ _. c.in_default.ensures.next,
-      ),
-    )
+returns-in_default-clause-reply c = (
+  search rules,
+  (
+    c.front-frame.result.now,
+    c.front-frame.ensures,
+    rw (sym c.is_full-full.ensures.value, c.in_default.ensures.free) refl,
+    λ _. c.in_default.ensures.next,
+  ),
+)
 
 pub returns-in-Err-clause-reply : goal.returns-in-Err-clause-reply
 returns-in-Err-clause-reply c =
-    let frame = c.front-frame.result.now in
-    let site = c.args.self.now.site in
-    rw c.from.ensures (apply_refused c.args.from c.args.self.now _ frame c.in-Err.fault (search rules)
-    c.front-frame.ensures
-    (subst (λ full. IsRefusedBy refusal_of (apply_fault full site c.args.from frame.item (stands_to site c.args.from frame)) (refusal_of c.in-Err.fault))
-    c.is_full-full.ensures.value (refused_for Taken _ c.in-Err.fault c.in-Err.ensures.fault))
+    rw c.from.ensures (apply_refused c.args.from c.args.self.now _ c.front-frame.result.now c.in-Err.fault (search rules) c.front-frame.ensures
+    (rw (sym c.is_full-full.ensures.value) (refused_for Taken _ c.in-Err.fault c.in-Err.ensures.fault))
     (λ wanting. c.in-Err.ensures.memory (ap Err (memory_told c.in-Err.fault wanting))))
 
 pub invariant_of-self-in-Ok-apply-clause-pushed : goal.invariant_of-self-in-Ok-apply-clause-pushed
@@ -44,8 +37,7 @@ invariant_of-self-in-Ok-apply-clause-accepted c =
     let frame = c.front-frame.result.now in
     let taken : c.take-frame.new.self.taken ≡ with_item c.args.self.now.inlets.taken c.args.from frame =
     rw (c.take-frame.ensures.takes, c.is_empty.ensures.nothing, c.take-frame.ensures.front frame c.front-frame.ensures) in
-    rw taken (subst (λ (s : SiteState). AreAccepted s.parties s.log (with_item c.args.self.now.inlets.taken c.args.from frame)) (sym c.in-Ok-apply.ensures.ok)
-    (accepted_taken site c.args.from frame c.args.self.now.inlets.taken (search rules) c.args.self.now.accepted))
+    rw (taken, c.in-Ok-apply.ensures.ok) (accepted_taken site c.args.from frame c.args.self.now.inlets.taken (search rules) c.args.self.now.accepted)
 
 pub returns-in-Ok-apply-clause-reply : goal.returns-in-Ok-apply-clause-reply
 returns-in-Ok-apply-clause-reply c =

@@ -2,7 +2,7 @@ use Rattle.std.proofs.Common.{◌<◌, ◌∙◌, length, sym, ap, subst, arith}
 use Rattle.mv_ends.proofs.Words.{length-map, IsSquare, HubState, hub_seat, repo_seat}
 use Rattle.mv_ends.proofs.LookLemmas.{seat_of}
 use Rattle.mv_ends.proofs.OutcomeLemmas.{gathering_more, outcome_of}
-use Rattle.mv_ends.proofs.gathering.gather.Goals as goal
+use Rattle.mv_ends.proofs.outcome.gather.Goals as goal
 
 pub look_beside-requires-clause-seat : goal.look_beside-requires-clause-seat
 look_beside-requires-clause-seat c =
@@ -22,8 +22,8 @@ loop-party-preserved c =
           was below c.index_mut.ensures.value look.same look.hub look.repo look.unchanged look.lawful,
     )
 
-pub new-requires : goal.new-requires
-new-requires c =
+pub invariant_of-outcome : goal.invariant_of-outcome
+invariant_of-outcome c =
     outcome_of _ c.loop-party.hub c.loop-party.repos.items c.loop-party.party c.loop-party.invariant.1
     (omega (arith, c.loop-party-test.false, c.loop-party.invariant.0, c.loop-party.auto.party-end))
     (subst (λ (h : HubState). IsSquare (length h.parties) h.sent) c.hub.ensures c.parties.ensures.pairs) c.loop-party.hub.lawful

@@ -1,0 +1,5 @@
+use Rattle.mv_workers.proofs.Words.{IsFurther}
+use Rattle.mv_workers.proofs.desk.Desk.turn.Given as goal
+
+abbrev pub invariant-loop-from : goal.invariant-loop-from
+invariant-loop-from g l = IsFurther l.fn.self l.self

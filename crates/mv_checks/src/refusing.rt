@@ -37,14 +37,11 @@ pub(crate) fn append_refusal(
 fn append_code(alloc: Global, out: &mut Vec<u8>, line: u32, code: &str) -> Result<(), AllocError>
     ensures { Appended result out.old.items out.new.items (with_line line (refused code.now)) }
 {
-    append_object(
-        alloc,
-        out,
-        &[
-            Member::Number("line", u64::from(line)),
-            Member::Text("refused", code),
-        ],
-    )
+    let members = [
+        Member::Number("line", u64::from(line)),
+        Member::Text("refused", code),
+    ];
+    append_object(alloc, out, &members)
 }
 
 /// Writes a refusal that names a field.
@@ -58,15 +55,12 @@ fn append_field<'a>(
     ensures { Appended result out.old.items out.new.items
         (with_line line (refused_field field.now code.now)) }
 {
-    append_object(
-        alloc,
-        out,
-        &[
-            Member::Text("field", field),
-            Member::Number("line", u64::from(line)),
-            Member::Text("refused", code),
-        ],
-    )
+    let members = [
+        Member::Text("field", field),
+        Member::Number("line", u64::from(line)),
+        Member::Text("refused", code),
+    ];
+    append_object(alloc, out, &members)
 }
 
 /// Writes the refusal of a text that is no value (M6). That of P6 has the place of the character.

@@ -85,17 +85,17 @@ fn tallied(untaken: Option<Untaken>, number: u32) -> Untaken
 /// It is the last thing in a process: what is open at the end is not taken apart, since the process gives all its memory back at once.
 pub fn serve_strict<R: Read, W: Write>(alloc: Global, reader: &mut R, writer: &mut W) -> StrictRun
     // The replies are those of `serve`.
-    ensures ok { OnOk result.ended (IfSome (R.remaining reader.old) (λ bytes. (after : Open)
+    ensures served { OnOk result.ended (IfSome (R.remaining reader.old) (λ bytes. (after : Open)
         × Served IsReply None bytes after (W.contents writer.old) (W.contents writer.new))) }
-    // The lines that were not taken are those of these replies.
-    ensures untaken { OnOk result.ended (IfSome (R.remaining reader.old) (λ bytes. (after : Open)
-        × Served IsStrictReply (strict_at None None) bytes (strict_at after result.untaken)
-        (W.contents writer.old) (W.contents writer.new))) }
-    ensures err { IfErr result.ended (λ fault. (bytes : List ℕ)
+    ensures ended { IfErr result.ended (λ fault. (bytes : List ℕ)
         × Consumes (R.remaining reader.old) (R.remaining reader.new) bytes
         × Ended IsReply fault None bytes (W.contents writer.old) (W.contents writer.new)) }
-    // The lines that were not taken are those of the lines that were answered, and of one more where memory was refused for its reply.
-    ensures counted { IfErr result.ended (λ fault. (bytes : List ℕ)
+    // The lines that were not taken are those of these replies.
+    ensures ok { OnOk result.ended (IfSome (R.remaining reader.old) (λ bytes. (after : Open)
+        × Served IsStrictReply (strict_at None None) bytes (strict_at after result.untaken)
+        (W.contents writer.old) (W.contents writer.new))) }
+    // They are those of the lines that were answered, and of one more where memory was refused for its reply.
+    ensures err { IfErr result.ended (λ fault. (bytes : List ℕ)
         × Consumes (R.remaining reader.old) (R.remaining reader.new) bytes × (after : Open)
         × EndedAt IsStrictReply fault (strict_at None None) bytes (strict_at after result.untaken)
         (W.contents writer.old) (W.contents writer.new)) }

@@ -1,16 +1,12 @@
 -- The lines of some codes.
-use Rattle.std.specs.Prelude.{◌≡◌, List, [], ◌∷◌, ◌++◌, ℕ, Bool, Option, Some, None, find, flat_map, is_none, unwrap_or}
+use Rattle.std.specs.Prelude.{◌≡◌, List, [], ◌∷◌, ◌++◌, ℕ, Option, Some, None, find, flat_map, is_none, unwrap_or}
 use Rattle.mv_explain.specs.Sentences.{sentence_of}
 use Rattle.mv_explain.specs.declared.explaining.ExplainFault.{ExplainFault}
 use Rattle.mv_explain.specs.declared.explaining.ExplainFault.TheVariants.{NoCode, Memory}
 
--- the word is no code
-abbrev pub is_unknown : List ℕ → Bool
-is_unknown word = is_none (sentence_of word)
-
 -- the first of these words that is no code
 abbrev pub first_unknown : List (List ℕ) → Option (List ℕ)
-first_unknown words = find is_unknown words
+first_unknown words = find (λ word. is_none (sentence_of word)) words
 
 -- the line of a code: the code, a blank (32), its sentence and a line feed (10)
 abbrev pub line_of : List ℕ → List ℕ

@@ -1,7 +1,7 @@
 //! The lines of some codes.
 
 ghost use Rattle.std.specs.Prelude.{◌≡◌, ◌++◌, IfOk, IfErr, None, map, option_map, string_bytes};
-ghost use Rattle.mv_explain.specs.Explained.{Faults, first_unknown, is_unknown, line_of, lines_of};
+ghost use Rattle.mv_explain.specs.Explained.{Faults, first_unknown, line_of, lines_of};
 
 use crate::sentence;
 use std::alloc::{AllocError, Global};
@@ -24,28 +24,20 @@ pub fn explain<'a>(alloc: Global, words: &[&'a str]) -> Result<String, ExplainFa
 {
     match unknown_in(words) {
         Some(word) => Err(ExplainFault::NoCode(word)),
-        None => match lines(alloc, words) {
-            Ok(text) => Ok(text),
-            Err(_) => Err(ExplainFault::Memory),
-        },
+        None => lines(alloc, words).map_err(|_| ExplainFault::Memory),
     }
 }
 
-/// Whether a word is no code.
-fn is_unknown(word: &str) -> bool
-    ensures { result ≡ is_unknown word.now }
-{
-    sentence(word).is_none()
-}
-
 /// The first of these words that is no code.
-fn unknown_in<'a>(words: &[&'a str]) -> Option<&'a str>
-    ensures { option_map (λ word. word.now) result ≡ first_unknown (map (λ word. word.now) words.now) }
+fn unknown_in<'a>(mut words: &[&'a str]) -> Option<&'a str>
+    ensures { option_map (λ word. word.now) result
+        ≡ first_unknown (map (λ word. word.now) words.entry.now) }
 {
-    for word in words {
-        if is_unknown(word) {
+    while let [word, rest @ ..] = words {
+        if sentence(word).is_none() {
             return Some(word);
         }
+        words = rest;
     }
     None
 }

@@ -4,7 +4,6 @@ use Rattle.std.specs.List.{range_with_len}
 use Rattle.mv_hub.specs.declared.entry.Entry.{Entry}
 use Rattle.mv_hub.specs.declared.entry.Entry.TheVariants.{Routed, Closed}
 use Rattle.mv_hub.specs.Record.{routed_count}
-use Rattle.mv_repository.specs.declared.counts.Counts.{Counts}
 use Rattle.mv_repository.specs.Counts.{counts_of}
 use Rattle.mv_machine.specs.State.{State, submissions_of, log_of}
 
@@ -21,25 +20,22 @@ closed_count entries = length (filter is_closing entries)
 unfoldable pub in_ten_places : ℕ → List ℕ
 in_ten_places number = replicate (10 - length (decimal number)) 32 ++ decimal number
 
--- what the report says of a party, beside its number: how many messages it submitted, how many of these were routed, and what its
+-- the line of a party, ended by a line feed (10): its number, how many messages it submitted, how many of these were routed, and what its
 -- repository has
-abbrev pub numbers_of : ℕ → ℕ → Counts → List ℕ
-numbers_of submitted routed counts =
-    submitted ∷ routed ∷ counts.entries ∷ counts.products ∷ counts.packs ∷ counts.active ∷ counts.recalled ∷ []
-
--- the line of a party, ended by a line feed (10)
 unfoldable pub party_line : State → ℕ → List ℕ
-party_line outcome party = flat_map in_ten_places (party ∷ numbers_of
-    (length (submissions_of outcome party)) (routed_count outcome.entries party) (counts_of (log_of outcome party))) ++ 10 ∷ []
+party_line outcome party =
+    let counts = counts_of (log_of outcome party) in
+    flat_map in_ten_places (
+    party ∷ length (submissions_of outcome party) ∷ routed_count outcome.hub.entries party ∷ counts.entries ∷ counts.products ∷ counts.packs
+    ∷ counts.active ∷ counts.recalled ∷ []
+    ) ++ 10 ∷ []
 
 -- the head line
 abbrev pub head_line : List ℕ
 head_line = codes "     party submitted    routed   applied  products     packs    active  recalled\n"
 
--- the line on closed links
-unfoldable pub closed_line : State → List ℕ
-closed_line outcome = codes "closed links: " ++ decimal (closed_count outcome.entries) ++ 10 ∷ []
-
--- the report
+-- the report: the head line, the line of each party, and a line on closed links
 unfoldable pub report_text : State → List ℕ
-report_text outcome = head_line ++ flat_map (party_line outcome) (range_with_len 0 (length outcome.parties)) ++ closed_line outcome
+report_text outcome =
+    head_line ++ flat_map (party_line outcome) (range_with_len 0 (length outcome.hub.parties))
+    ++ (codes "closed links: " ++ (decimal (closed_count outcome.hub.entries) ++ 10 ∷ []))

@@ -1,12 +1,13 @@
 //! The report of a run, as a table of texts.
 
-ghost use Rattle.std.specs.Prelude.{◌≡◌, ◌++◌, IfOk, IsTrue, flat_map, string_bytes};
+ghost use Rattle.std.specs.Prelude.{◌≡◌, ◌++◌, IfOk, IsTrue, string_bytes};
 ghost use Rattle.mv_machine.specs.State.{is_party};
-ghost use Rattle.mv_report.specs.Report.{closed_count, in_ten_places, is_closing, party_line, report_text};
+ghost use Rattle.mv_report.specs.Report.{closed_count, is_closing, party_line, report_text};
 
 use mv_ends::Outcome;
 use mv_hub::Entry;
 use mv_message::Party;
+use mv_repository::Counts;
 use std::alloc::{AllocError, Global};
 
 /// The first line of a report.
@@ -21,60 +22,33 @@ pub fn report(alloc: Global, outcome: &Outcome) -> Result<String, AllocError>
     let mut text = String::new(alloc);
     text.push_str(HEAD)?;
     for party in 0..outcome.parties().len() {
-        push_party(alloc, &mut text, outcome, party)?;
+        push_party(&mut text, outcome, party)?;
     }
-    let closed = format!(in alloc; "{}", closed_count(outcome.record()))?;
-    text.push_str("closed links: ")?;
-    text.push_str(closed.as_str())?;
-    text.push_str("\n")?;
+    let closed = closed_count(outcome.record());
+    writeln!(text, "closed links: {closed}")?;
     Ok(text)
 }
 
-/// Writes the line of a party.
-fn push_party(
-    alloc: Global,
-    text: &mut String,
-    outcome: &Outcome,
-    party: Party,
-) -> Result<(), AllocError>
+/// Writes the line of a party, each number on the right of ten places; one that is wider is written whole.
+fn push_party(text: &mut String, outcome: &Outcome, party: Party) -> Result<(), AllocError>
     requires { IsTrue (is_party outcome.now party) }
-    ensures { IfOk result (λ _. string_bytes text.new ≡ string_bytes text.old ++ party_line outcome.now party) }
+    ensures { IfOk result (λ _. string_bytes text.new
+        ≡ string_bytes text.old ++ party_line outcome.now party) }
 {
-    let counts = outcome.repository(party).counts();
-    push_numbers(
-        alloc,
+    let submitted = outcome.sub(party).len();
+    let routed = outcome.hub().routed_count(party);
+    let Counts {
+        entries,
+        products,
+        packs,
+        active,
+        recalled,
+    } = outcome.repository(party).counts();
+    writeln!(
         text,
-        &[
-            party as usize,
-            outcome.sub(party).len(),
-            outcome.hub().routed_count(party) as usize,
-            counts.entries,
-            counts.products,
-            counts.packs,
-            counts.active,
-            counts.recalled,
-        ],
-    )?;
-    text.push_str("\n")
-}
-
-/// Writes numbers, each in ten places.
-fn push_numbers(alloc: Global, text: &mut String, numbers: &[usize]) -> Result<(), AllocError>
-    ensures { IfOk result (λ _. string_bytes text.new ≡ string_bytes text.old ++ flat_map in_ten_places numbers.now) }
-{
-    for number in numbers {
-        let entry = in_ten_places(alloc, *number)?;
-        text.push_str(entry.as_str())?;
-    }
-    Ok(())
-}
-
-/// A number on the right of ten places; one that is wider is written whole.
-#[tactic(auto, using(crate::proofs::ReportLemmas::padded_number))]
-fn in_ten_places(alloc: Global, number: usize) -> Result<String, AllocError>
-    ensures { IfOk result (λ text. string_bytes text ≡ in_ten_places number) }
-{
-    format!(in alloc; "{number:>10}")
+        "{party:>10}{submitted:>10}{routed:>10}{entries:>10}{products:>10}{packs:>10}\
+         {active:>10}{recalled:>10}"
+    )
 }
 
 /// How many links a record closes.

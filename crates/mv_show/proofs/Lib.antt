@@ -2,5 +2,4 @@ pub mod Words
 pub mod NamingLemmas
 pub mod PlaceLemmas
 pub mod BlockLemmas
-pub mod LineLemmas
 pub mod ShowingLemmas

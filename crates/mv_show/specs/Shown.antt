@@ -1,5 +1,5 @@
 -- The lines that show what stands, as JSON values: their keys stand in byte order.
-use Rattle.std.specs.Prelude.{ℕ, List, [], ◌∷◌, ◌++◌, map, length, codes, Bool, ◌||◌, not, nat_lt, if◌then◌else◌, Option, Some, None, option_to_list}
+use Rattle.std.specs.Prelude.{ℕ, List, [], ◌∷◌, ◌++◌, map, length, codes, ◌||◌, not, nat_lt, if◌then◌else◌, Option, Some, None, option_to_list}
 use Rattle.mv_show.specs.Words.{flat_map, range_with_len, batch_key, Message, Master, LogEntry, Open, Subject, Party, Product, Pack}
 use Rattle.std.specs.Option.{option_map}
 use Rattle.serde_json.specs.Data.{Data, null, boolean, string, array}
@@ -18,7 +18,7 @@ use Rattle.mv_repository.specs.Counts.{counts_of}
 use Rattle.mv_repository.specs.PackState.{pack_state, is_recalled, is_withdrawn}
 use Rattle.mv_repository.specs.Repository.{product_of}
 use Rattle.mv_repository.specs.State.{user_at}
-use Rattle.mv_machine.specs.State.{State, submissions_of, log_of, wire_of, applied_count, hub_of}
+use Rattle.mv_machine.specs.State.{State, submissions_of, log_of, wire_of, applied_count}
 use Rattle.mv_format.specs.Objects.{object_of}
 use Rattle.mv_format.specs.Writing.{change_value, national_value}
 use Rattle.mv_format.specs.Openings.{code_of}
@@ -35,7 +35,7 @@ party_value st party =
     object_of (
     (codes "active", whole counts.active) ∷ (codes "applied", whole counts.entries) ∷ (codes "packs", whole counts.packs)
     ∷ (codes "party", whole party) ∷ (codes "products", whole counts.products) ∷ (codes "recalled", whole counts.recalled)
-    ∷ (codes "routed", whole (routed_count st.entries party)) ∷ (codes "show", string (codes "party"))
+    ∷ (codes "routed", whole (routed_count st.hub.entries party)) ∷ (codes "show", string (codes "party"))
     ∷ (codes "submitted", whole (length (submissions_of st party))) ∷ []
     )
 
@@ -93,36 +93,29 @@ party_values st party = flat_map (subject_values st party) (subjects_of (log_of 
 -- how far a link is: what its repository applied, what was put on it and relayed, and the numbers of the frames under way
 abbrev pub link_value : State → ℕ → ℕ → Data
 link_value st from to = object_of (
-    (codes "applied", whole (applied_count st from to)) ∷ (codes "closed", boolean (not (is_open st.entries from to)))
-    ∷ (codes "from", whole from) ∷ (codes "put", whole (length (items_on (hub_of st) from to)))
-    ∷ (codes "relayed", whole (sent_of (hub_of st) from to)) ∷ (codes "show", string (codes "link")) ∷ (codes "to", whole to)
+    (codes "applied", whole (applied_count st from to)) ∷ (codes "closed", boolean (not (is_open st.hub.entries from to)))
+    ∷ (codes "from", whole from) ∷ (codes "put", whole (length (items_on st.hub from to)))
+    ∷ (codes "relayed", whole (sent_of st.hub from to)) ∷ (codes "show", string (codes "link")) ∷ (codes "to", whole to)
     ∷ (codes "wire", array (wholes (wire_of st from to))) ∷ []
     )
 
--- a link has a line: something was put on it, or it is closed
-abbrev pub is_link_shown : State → ℕ → ℕ → Bool
-is_link_shown st from to = nat_lt 0 (length (items_on (hub_of st) from to)) || not (is_open st.entries from to)
-
--- the line of a link, if it has one
+-- the line of a link, where something was put on it, or it is closed
 abbrev pub link_values : State → ℕ → ℕ → List Data
-link_values st from to = if is_link_shown st from to then link_value st from to ∷ [] else []
+link_values st from to =
+    if nat_lt 0 (length (items_on st.hub from to)) || not (is_open st.hub.entries from to) then link_value st from to ∷ [] else []
 
 -- the numbers of the parties, in order
 abbrev pub party_numbers : State → List ℕ
-party_numbers st = range_with_len 0 (length st.parties)
+party_numbers st = range_with_len 0 (length st.hub.parties)
 
 -- the lines of the links from a party
 abbrev pub links_values : State → ℕ → List Data
 links_values st from = flat_map (link_values st from) (party_numbers st)
 
--- what stands: party by party, and then link by link
-abbrev pub shown_of : State → List Data
-shown_of st = flat_map (party_values st) (party_numbers st) ++ flat_map (links_values st) (party_numbers st)
-
--- what is shown of a system; where none is open, C1
+-- what is shown of a system: what stands, party by party, and then link by link; where none is open, C1
 abbrev pub shown_values : Open → List Data
 shown_values None = refused (code_of NotOpen) ∷ []
-shown_values (Some st) = shown_of st
+shown_values (Some st) = flat_map (party_values st) (party_numbers st) ++ flat_map (links_values st) (party_numbers st)
 
 -- the canonical texts of values, each ended by a line feed
 abbrev pub lines_text : List Data → List ℕ

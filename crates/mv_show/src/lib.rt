@@ -17,7 +17,7 @@
 #![tactic(auto)]
 
 mod blocks;
-mod line;
+mod lines;
 mod link_lines;
 mod naming;
 mod party_lines;

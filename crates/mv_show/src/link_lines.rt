@@ -2,87 +2,71 @@
 
 ghost use Rattle.std.specs.Prelude.{◌≡◌, ◌==◌, ◌++◌, ◌∷◌, [], filter, length, IfOk, OnOk, IsTrue};
 ghost use Rattle.mv_hub.specs.Hub.{are_parties};
-ghost use Rattle.mv_machine.specs.State.{is_party, applied_count, hub_of, wire_of};
+ghost use Rattle.mv_machine.specs.State.{is_party, applied_count, wire_of};
 ghost use Rattle.mv_show.specs.Shown.{link_value, link_values, links_values, lines_text};
 
-use crate::line::append_line;
+use crate::lines::Lines;
 use mv_lines::Member;
 use mv_message::Party;
 use mv_repository::LogEntry;
 use mv_system::World;
 use std::alloc::{AllocError, Global};
 
-/// Writes the lines of the links from a party behind what the buffer holds.
-pub(crate) fn append_links(
-    alloc: Global,
-    out: &mut Vec<u8>,
-    world: &World,
-    from: Party,
-) -> Result<(), AllocError>
+/// Writes the lines of the links from a party behind those that stand ready.
+pub(crate) fn append_links(lines: &mut Lines, world: &World, from: Party) -> Result<(), AllocError>
     requires { IsTrue (is_party world.now from) }
-    ensures { OnOk result (out.new.items
-        ≡ out.old.items ++ lines_text (links_values world.now from)) }
+    ensures { OnOk result (lines.new
+        ≡ lines.old ++ lines_text (links_values world.now from)) }
 {
     for to in 0..party_count(world) {
-        append_link(alloc, out, world, from, to)?;
+        append_link(lines, world, from, to)?;
     }
     Ok(())
 }
 
 /// How many parties there are.
 pub(crate) fn party_count(world: &World) -> u32
-    ensures { result ≡ length world.now.parties }
+    ensures { result ≡ length world.now.hub.parties }
 {
     world.hub().parties().len()
 }
 
 /// Writes the line of a link, if it has one.
-fn append_link(
-    alloc: Global,
-    out: &mut Vec<u8>,
-    world: &World,
-    from: Party,
-    to: Party,
-) -> Result<(), AllocError>
-    requires { IsTrue (are_parties (hub_of world.now) from to) }
-    ensures { OnOk result (out.new.items
-        ≡ out.old.items ++ lines_text (link_values world.now from to)) }
+fn append_link(lines: &mut Lines, world: &World, from: Party, to: Party) -> Result<(), AllocError>
+    requires { IsTrue (are_parties world.now.hub from to) }
+    ensures { OnOk result (lines.new
+        ≡ lines.old ++ lines_text (link_values world.now from to)) }
 {
     let hub = world.hub();
     if hub.total(from, to) == 0 && hub.is_open(from, to) {
         return Ok(());
     }
-    append_shown_link(alloc, out, world, from, to)
+    append_shown_link(lines, world, from, to)
 }
 
 /// Writes how far a link is.
 fn append_shown_link(
-    alloc: Global,
-    out: &mut Vec<u8>,
+    lines: &mut Lines,
     world: &World,
     from: Party,
     to: Party,
 ) -> Result<(), AllocError>
-    requires { IsTrue (are_parties (hub_of world.now) from to) }
-    ensures { OnOk result (out.new.items
-        ≡ out.old.items ++ lines_text (link_value world.now from to ∷ [])) }
+    requires { IsTrue (are_parties world.now.hub from to) }
+    ensures { OnOk result (lines.new
+        ≡ lines.old ++ lines_text (link_value world.now from to ∷ [])) }
 {
     let hub = world.hub();
-    let wire = wire_of(alloc, world, from, to)?;
-    append_line(
-        alloc,
-        out,
-        &[
-            Member::Number("applied", applied_count(world, from, to) as u64),
-            Member::Flag("closed", !hub.is_open(from, to)),
-            Member::Number("from", u64::from(from)),
-            Member::Number("put", u64::from(hub.total(from, to))),
-            Member::Number("relayed", u64::from(hub.relayed(from, to))),
-            Member::Text("show", "link"),
-            Member::Number("to", u64::from(to)),
-            Member::Numbers("wire", wire.as_slice()),
-        ],
-    )
+    let wire = wire_of(lines.alloc, world, from, to)?;
+    lines.push(&[
+        Member::Number("applied", applied_count(world, from, to) as u64),
+        Member::Flag("closed", !hub.is_open(from, to)),
+        Member::Number("from", u64::from(from)),
+        Member::Number("put", u64::from(hub.total(from, to))),
+        Member::Number("relayed", u64::from(hub.relayed(from, to))),
+        Member::Text("show", "link"),
+        Member::Number("to", u64::from(to)),
+        Member::Numbers("wire", wire.as_slice()),
+    ])
 }
 
 /// How many items of a sender a repository applied.
@@ -103,7 +87,7 @@ fn entries_from(log: &[LogEntry], sender: Party) -> usize
 
 /// The numbers of the frames under way on a link, the front first.
 fn wire_of(alloc: Global, world: &World, from: Party, to: Party) -> Result<Vec<u32>, AllocError>
-    requires { IsTrue (are_parties (hub_of world.now) from to) }
+    requires { IsTrue (are_parties world.now.hub from to) }
     ensures { IfOk result (λ numbers. numbers.items ≡ wire_of world.now from to) }
 {
     let mut numbers = Vec::new(alloc);

@@ -8,7 +8,7 @@ ghost use Rattle.mv_repository.specs.State.{user_at, user_in};
 ghost use Rattle.mv_show.specs.Shown.{subject_values, party_value, product_value, recall_value};
 ghost use Rattle.mv_show.specs.Shown.{user_of, pack_value, pack_values, lines_text};
 
-use crate::line::append_line;
+use crate::lines::Lines;
 use crate::subject::Subject;
 use arrayvec::ArrayString;
 use mv_lines::Member;
@@ -17,153 +17,115 @@ use mv_message::{Boxed, Message, Party};
 use mv_pack::{BatchKey, Gtin, PackKey};
 use mv_repository::{Change, Held, LogEntry, Repository};
 use mv_system::World;
-use std::alloc::{AllocError, Global};
+use std::alloc::AllocError;
 
-/// Writes the line that tells of a subject of a party behind what the buffer holds.
+/// Writes the line that tells of a subject of a party behind those that stand ready.
 pub(crate) fn append_subject(
-    alloc: Global,
-    out: &mut Vec<u8>,
+    lines: &mut Lines,
     world: &World,
     party: Party,
     subject: &Subject,
 ) -> Result<(), AllocError>
     requires { IsTrue (is_party world.now party) }
-    ensures { OnOk result (out.new.items
-        ≡ out.old.items ++ lines_text (subject_values world.now party subject.now)) }
+    ensures { OnOk result (lines.new
+        ≡ lines.old ++ lines_text (subject_values world.now party subject.now)) }
 {
     match subject {
-        Subject::Party => append_party(alloc, out, world, party),
-        Subject::Product(gtin) => append_product(alloc, out, world.repository(party), gtin),
-        Subject::Recall(key) => append_recall(alloc, out, party, key),
-        Subject::Pack(key) => append_pack(alloc, out, world.repository(party), key),
+        Subject::Party => append_party(lines, world, party),
+        Subject::Product(gtin) => append_product(lines, world.repository(party), gtin),
+        Subject::Recall(key) => append_recall(lines, party, key),
+        Subject::Pack(key) => append_pack(lines, world.repository(party), key),
     }
 }
 
 /// Writes how much a party has.
-fn append_party(
-    alloc: Global,
-    out: &mut Vec<u8>,
-    world: &World,
-    party: Party,
-) -> Result<(), AllocError>
+fn append_party(lines: &mut Lines, world: &World, party: Party) -> Result<(), AllocError>
     requires { IsTrue (is_party world.now party) }
-    ensures { OnOk result (out.new.items
-        ≡ out.old.items ++ lines_text (party_value world.now party ∷ [])) }
+    ensures { OnOk result (lines.new
+        ≡ lines.old ++ lines_text (party_value world.now party ∷ [])) }
 {
     let counts = world.repository(party).counts();
     let routed = world.hub().routed_count(party);
     let submitted = world.sub(party).len();
-    append_line(
-        alloc,
-        out,
-        &[
-            Member::Number("active", counts.active as u64),
-            Member::Number("applied", counts.entries as u64),
-            Member::Number("packs", counts.packs as u64),
-            Member::Number("party", u64::from(party)),
-            Member::Number("products", counts.products as u64),
-            Member::Number("recalled", counts.recalled as u64),
-            Member::Number("routed", u64::from(routed)),
-            Member::Text("show", "party"),
-            Member::Number("submitted", submitted as u64),
-        ],
-    )
+    lines.push(&[
+        Member::Number("active", counts.active as u64),
+        Member::Number("applied", counts.entries as u64),
+        Member::Number("packs", counts.packs as u64),
+        Member::Number("party", u64::from(party)),
+        Member::Number("products", counts.products as u64),
+        Member::Number("recalled", counts.recalled as u64),
+        Member::Number("routed", u64::from(routed)),
+        Member::Text("show", "party"),
+        Member::Number("submitted", submitted as u64),
+    ])
 }
 
 /// Writes what a repository knows of a product.
-fn append_product(
-    alloc: Global,
-    out: &mut Vec<u8>,
-    repository: &Repository,
-    gtin: &Gtin,
-) -> Result<(), AllocError>
-    ensures { OnOk result (out.new.items ≡ out.old.items
+fn append_product(lines: &mut Lines, repository: &Repository, gtin: &Gtin) -> Result<(), AllocError>
+    ensures { OnOk result (lines.new ≡ lines.old
         ++ lines_text (product_value repository.now.party repository.now.log gtin.now ∷ [])) }
 {
     match repository.product(gtin) {
         Some(product) => {
             let master = Message::Master {
                 gtin: *gtin,
-                product: Boxed::new(alloc, product.copy(alloc)?)?,
+                product: Boxed::new(lines.alloc, product.copy(lines.alloc)?)?,
             };
-            append_master(alloc, out, repository, gtin, &master)
+            append_master(lines, repository, gtin, &master)
         }
-        None => append_line(
-            alloc,
-            out,
-            &[
-                Member::Text("gtin", gtin.as_str()),
-                Member::Number("party", u64::from(repository.party())),
-                Member::Null("product"),
-                Member::Text("show", "product"),
-                Member::Flag("withdrawn", repository.withdrawn(gtin)),
-            ],
-        ),
+        None => lines.push(&[
+            Member::Text("gtin", gtin.as_str()),
+            Member::Number("party", u64::from(repository.party())),
+            Member::Null("product"),
+            Member::Text("show", "product"),
+            Member::Flag("withdrawn", repository.withdrawn(gtin)),
+        ]),
     }
 }
 
 /// Writes what a repository knows of a product that has this master.
 fn append_master<'a>(
-    alloc: Global,
-    out: &mut Vec<u8>,
+    lines: &mut Lines,
     repository: &'a Repository,
     gtin: &'a Gtin,
     master: &'a Message,
 ) -> Result<(), AllocError>
     requires { Some master.now
         ≡ option_map (Message.Master gtin.now) (product_of repository.now.log gtin.now) }
-    ensures { OnOk result (out.new.items ≡ out.old.items
+    ensures { OnOk result (lines.new ≡ lines.old
         ++ lines_text (product_value repository.now.party repository.now.log gtin.now ∷ [])) }
 {
-    append_line(
-        alloc,
-        out,
-        &[
-            Member::Text("gtin", gtin.as_str()),
-            Member::Number("party", u64::from(repository.party())),
-            Member::Message("product", master),
-            Member::Text("show", "product"),
-            Member::Flag("withdrawn", repository.withdrawn(gtin)),
-        ],
-    )
+    lines.push(&[
+        Member::Text("gtin", gtin.as_str()),
+        Member::Number("party", u64::from(repository.party())),
+        Member::Message("product", master),
+        Member::Text("show", "product"),
+        Member::Flag("withdrawn", repository.withdrawn(gtin)),
+    ])
 }
 
 /// Writes that a batch is recalled.
-fn append_recall(
-    alloc: Global,
-    out: &mut Vec<u8>,
-    party: Party,
-    key: &BatchKey,
-) -> Result<(), AllocError>
-    ensures { OnOk result (out.new.items
-        ≡ out.old.items ++ lines_text (recall_value party key.now ∷ [])) }
+fn append_recall(lines: &mut Lines, party: Party, key: &BatchKey) -> Result<(), AllocError>
+    ensures { OnOk result (lines.new
+        ≡ lines.old ++ lines_text (recall_value party key.now ∷ [])) }
 {
-    append_line(
-        alloc,
-        out,
-        &[
-            Member::Text("batch", key.batch.as_str()),
-            Member::Text("gtin", key.gtin.as_str()),
-            Member::Number("party", u64::from(party)),
-            Member::Text("show", "recall"),
-        ],
-    )
+    lines.push(&[
+        Member::Text("batch", key.batch.as_str()),
+        Member::Text("gtin", key.gtin.as_str()),
+        Member::Number("party", u64::from(party)),
+        Member::Text("show", "recall"),
+    ])
 }
 
 /// Writes what a pack is, where the repository holds it.
-fn append_pack(
-    alloc: Global,
-    out: &mut Vec<u8>,
-    repository: &Repository,
-    key: &PackKey,
-) -> Result<(), AllocError>
-    ensures { OnOk result (out.new.items ≡ out.old.items
+fn append_pack(lines: &mut Lines, repository: &Repository, key: &PackKey) -> Result<(), AllocError>
+    ensures { OnOk result (lines.new ≡ lines.old
         ++ lines_text (pack_values repository.now.party repository.now.log key.now)) }
 {
     match repository.pack(key) {
         Some(held) => {
             let expiry = held.expiry.text();
-            append_held(alloc, out, repository, key, &Dated { held, expiry })
+            append_held(lines, repository, key, &Dated { held, expiry })
         }
         None => Ok(()),
     }
@@ -180,14 +142,13 @@ struct Dated {
 
 /// Writes what a pack is that the repository holds so.
 fn append_held<'a>(
-    alloc: Global,
-    out: &mut Vec<u8>,
+    lines: &mut Lines,
     repository: &'a Repository,
     key: &'a PackKey,
     dated: &'a Dated,
 ) -> Result<(), AllocError>
     requires { dated.now.expiry.bytes ≡ expiry_text dated.now.held.expiry }
-    ensures { OnOk result (out.new.items ≡ out.old.items ++ lines_text
+    ensures { OnOk result (lines.new ≡ lines.old ++ lines_text
         (pack_value repository.now.party repository.now.log key.now dated.now.held ∷ [])) }
 {
     let held = &dated.held;
@@ -196,23 +157,19 @@ fn append_held<'a>(
         batch: held.batch.copy(),
     };
     let user = user_of(repository.log(), &held.change);
-    append_line(
-        alloc,
-        out,
-        &[
-            Member::Text("batch", held.batch.as_str()),
-            Member::Change("change", &held.change, user),
-            Member::Text("expiry", dated.expiry.as_str()),
-            Member::Text("gtin", key.gtin.as_str()),
-            Member::National("national", &held.national),
-            Member::Number("party", u64::from(repository.party())),
-            Member::Flag("recalled", repository.recalled(&batch)),
-            Member::Text("serial", key.serial.as_str()),
-            Member::Text("show", "pack"),
-            Member::Text("standing", held.standing.name()),
-            Member::Flag("withdrawn", repository.withdrawn(&key.gtin)),
-        ],
-    )
+    lines.push(&[
+        Member::Text("batch", held.batch.as_str()),
+        Member::Change("change", &held.change, user),
+        Member::Text("expiry", dated.expiry.as_str()),
+        Member::Text("gtin", key.gtin.as_str()),
+        Member::National("national", &held.national),
+        Member::Number("party", u64::from(repository.party())),
+        Member::Flag("recalled", repository.recalled(&batch)),
+        Member::Text("serial", key.serial.as_str()),
+        Member::Text("show", "pack"),
+        Member::Text("standing", held.standing.name()),
+        Member::Flag("withdrawn", repository.withdrawn(&key.gtin)),
+    ])
 }
 
 /// The user who asked for a change.

@@ -1,10 +1,8 @@
 //! Shows what stands when an input ends.
 
-ghost use Rattle.std.specs.Prelude.{◌≡◌, ℕ, List, None, is_some, IfOk, IfErr, OnOk, IfSome};
-ghost use Rattle.std.specs.Io.KnownBytes.{Appends, Consumes};
-ghost use Rattle.mv_lines.specs.Sessions.{Open};
-ghost use Rattle.mv_show.specs.Shown.{shown_text};
-ghost use Rattle.mv_show.specs.Showing.{LeadsTo, Untaken, Unshown};
+ghost use Rattle.std.specs.Prelude.{ℕ, List, IfOk, IfErr, OnOk, IfSome};
+ghost use Rattle.std.specs.Io.KnownBytes.{Consumes};
+ghost use Rattle.mv_show.specs.Showing.{LeadsTo, Shows, Untaken, Unshown};
 
 use crate::blocks::write_shown;
 use crate::passing::Passing;
@@ -24,9 +22,8 @@ pub fn show<R: Read, W: Write>(
     writer: &mut W,
 ) -> Result<bool, ServeFault>
     // The input was taken whole, and all that stands then went out.
-    ensures ok { IfOk result (λ is_open. (after : Open)
-        × IfSome (R.remaining reader.old) (λ bytes. LeadsTo None bytes after) × (is_open ≡ is_some after)
-        × Appends (W.contents writer.old) (W.contents writer.new) (shown_text after)) }
+    ensures ok { IfOk result (λ is_open. Shows is_open (R.remaining reader.old)
+        (W.contents writer.old) (W.contents writer.new)) }
     // What was read and what went out, the fault says.
     ensures err { IfErr result (λ fault. Unshown fault
         (R.remaining reader.old) (R.remaining reader.new)

@@ -36,14 +36,8 @@ reported_as : (output : Output) (plan : Plan) (outcome : State) (finished : Bool
     → IsReported (parts_of plan) (string_bytes output.text) output.finished
 reported_as output plan outcome finished keeps complete is =
     let done : finished ≡ output.finished = ap (λ (it : List ℕ × Bool). it.1) is in
-    record {
-      plan = plan;
-      planned = refl;
-      outcome = outcome;
-      keeps = keeps;
-      complete = subst (λ told. IsTrue told ↔ IsComplete plan outcome) done complete;
-      text = sym (ap (λ (it : List ℕ × Bool). it.0) is) ∙ ap (λ told. report_text outcome ++ end_line told) done;
-    }
+    let text = sym (ap (λ (it : List ℕ × Bool). it.0) is) ∙ ap (λ told. report_text outcome ++ end_line told) done in
+    (plan, outcome, refl, keeps, subst (λ told. IsTrue told ↔ IsComplete plan outcome) done complete, text)
 
 -- what is written of the run of a plan is the report of an outcome of it
 pub run_reported : (output : Output) (plan : Plan) (ran : Result State WorkFault)
@@ -72,11 +66,8 @@ pub worked_whole : (input : Option (List ℕ)) (planned : Planned) (old new : Op
     → IfSome input (λ bytes. IsRead bytes planned) → IsOutput planned text finished → out ≡ text → Appends old new out
     → IfSome input (λ bytes. Worked bytes finished old new)
 worked_whole None planned old new text out finished read output same written = tt
-worked_whole (Some bytes) planned old new text out finished read output same written = record {
-  out = text;
-  worked = (planned, read, output);
-  written = subst (Appends old new) same written;
-}
+worked_whole (Some bytes) planned old new text out finished read output same written =
+    (text, (planned, read, output), subst (Appends old new) same written)
 
 -- the first bytes of the output of an input that was read went out
 pub worked_part : (input : Option (List ℕ)) (planned : Planned) (old new : Option (List ℕ)) (text out : List ℕ) (finished : Bool)

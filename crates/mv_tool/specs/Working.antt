@@ -39,13 +39,10 @@ abbrev pub parts_of : Plan → Parts
 parts_of plan = record { parties = plan.parties; limits = plan.limits; work = plan.work }
 
 -- The output is the report of an outcome of the plan, and says that it is finished exactly where that is complete.
-pub record IsReported (parts : Parts) (out : List ℕ) (finished : Bool) : Type 0 where
-  pub plan : Plan
-  pub planned : parts_of plan ≡ parts
-  pub outcome : State
-  pub keeps : KeepsPlan plan outcome
-  pub complete : IsTrue finished ↔ IsComplete plan outcome
-  pub text : out ≡ report_text outcome ++ end_line finished
+abbrev pub IsReported : Parts → List ℕ → Bool → Type 0
+IsReported parts out finished =
+    (plan : Plan) × (outcome : State) × (parts_of plan ≡ parts) × KeepsPlan plan outcome × (IsTrue finished ↔ IsComplete plan outcome)
+    × (out ≡ report_text outcome ++ end_line finished)
 
 -- the output of what some lines plan, and whether the plan was finished: a refusal, that no line has opened a plan, or a report
 abbrev pub IsOutput : Planned → List ℕ → Bool → Type 0
@@ -58,10 +55,8 @@ abbrev pub IsWorked : List ℕ → List ℕ → Bool → Type 0
 IsWorked bytes out finished = (planned : Planned) × IsRead bytes planned × IsOutput planned out finished
 
 -- the output of an input went out
-pub record Worked (bytes : List ℕ) (finished : Bool) (old new : Option (List ℕ)) : Type 0 where
-  pub out : List ℕ
-  pub worked : IsWorked bytes out finished
-  pub written : Appends old new out
+abbrev pub Worked : List ℕ → Bool → Option (List ℕ) → Option (List ℕ) → Type 0
+Worked bytes finished old new = (out : List ℕ) × IsWorked bytes out finished × Appends old new out
 
 -- What a run that ended by a fault has written. Where a write failed: the first bytes of an output of the input. Else nothing: the
 -- input was not read, or memory was refused; or, only where the input is a plan, it could not be started.

@@ -1,9 +1,11 @@
 //! The command line: which words run what, and the exit status.
 
-ghost use Rattle.std.specs.Prelude.{◌≡◌, ◌≤◌, map, string_bytes};
+ghost use Rattle.std.specs.Prelude.{◌≡◌, ◌≢◌, ◌≤◌, [], map, string_bytes};
 ghost use Rattle.std.specs.Io.KnownBytes.{Keeps};
 ghost use Rattle.clap.specs.Values.{kind_of};
-ghost use Rattle.mv_words.specs.Words.{Asked, AsksFor, AreNotTaken, AreMistaken, IsMistake};
+ghost use Rattle.clap.specs.Words.{fault_of};
+ghost use Rattle.mv_words.specs.Words.{AsksFor, AreMistaken, IsMistake, command_line};
+ghost use Rattle.mv_words.specs.declared.task.Task.{Task};
 ghost use Rattle.mv_tool.specs.Commands.{Ran};
 ghost use Rattle.mv_tool.specs.Statuses.{status_code};
 ghost use Rattle.mv_tool.specs.declared.status.Status.{Status as AStatus};
@@ -36,14 +38,14 @@ pub fn command<H: Threads + Wait + Sync, R: Read, W: Write, F: Write>(
     faults: &mut F,
 ) -> u8
     ensures few { result ≤ 2 }
-    ensures ran { (asked : Asked) → AsksFor asked (map string_bytes words.items) → (status : AStatus)
+    ensures ran { (task : Task) → AsksFor task (map string_bytes words.items) → (status : AStatus)
         × (result ≡ status_code status)
-        × Ran asked status (R.remaining reader.old) (R.remaining reader.new)
+        × Ran (R.remaining reader.old) (R.remaining reader.new)
         (W.contents writer.old) (W.contents writer.new)
-        (F.contents faults.old) (F.contents faults.new) }
+        (F.contents faults.old) (F.contents faults.new) task status }
     ensures mistaken { AreMistaken (map string_bytes words.items) → result ≡ 2 }
     // Such words are mistaken, or a call for help.
-    ensures unread { AreNotTaken (map string_bytes words.items)
+    ensures unread { fault_of command_line (map string_bytes words.items) ≢ []
         → Keeps (R.remaining reader.old) (R.remaining reader.new) }
     ensures unwritten { result ≡ 2 → Keeps (W.contents writer.old) (W.contents writer.new) }
     ensures quiet { result ≡ 0 → Keeps (F.contents faults.old) (F.contents faults.new) }

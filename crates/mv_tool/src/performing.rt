@@ -2,7 +2,6 @@
 
 ghost use Rattle.std.specs.Prelude.{◌≡◌};
 ghost use Rattle.std.specs.Io.KnownBytes.{Keeps};
-ghost use Rattle.mv_words.specs.Words.{asked_of};
 ghost use Rattle.mv_tool.specs.Commands.{Ran};
 
 use crate::telling::{explain_codes, status_of, status_of_answer, status_of_strict};
@@ -28,9 +27,9 @@ pub(crate) fn perform<H: Threads + Wait + Sync, R: Read, W: Write, F: Write>(
     writer: &mut W,
     faults: &mut F,
 ) -> Status
-    ensures ran { Ran (asked_of task.entry) result (R.remaining reader.old) (R.remaining reader.new)
+    ensures ran { Ran (R.remaining reader.old) (R.remaining reader.new)
         (W.contents writer.old) (W.contents writer.new)
-        (F.contents faults.old) (F.contents faults.new) }
+        (F.contents faults.old) (F.contents faults.new) task.entry result }
     ensures unwritten { result ≡ Status.Refused
         → Keeps (W.contents writer.old) (W.contents writer.new) }
     ensures quiet { result ≡ Status.Done → Keeps (F.contents faults.old) (F.contents faults.new) }

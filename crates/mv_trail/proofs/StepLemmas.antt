@@ -1,6 +1,6 @@
 -- What each step adds to a list that is kept of the state is what its event tells of it.
 use Rattle.std.proofs.Common.{◌≡◌, ℕ, ◌+◌, ◌<◌, rules, false, List, ◌++◌, length, Option, None, sym, ◌∙◌, append-nil, option_and_then, option_to_list, arith}
-use Rattle.mv_trail.proofs.Words.{nat_tests, Message, is_query_or_answer, Item, answer_to, Joint, entry_from, answer_number, with_submission, with_applied, Step, Reply, State, is_party, submissions_of, log_of, hub_of, with_hub, site_of, with_site, with_wire, Event, event_of_step}
+use Rattle.mv_trail.proofs.Words.{nat_tests, Message, is_query_or_answer, Item, answer_to, Joint, entry_from, answer_number, with_submission, with_applied, Step, Reply, State, is_party, submissions_of, log_of, site_of, with_site, with_wire, Event, event_of_step}
 use Rattle.mv_message.specs.declared.message.Message.TheVariants.{Query}
 use Rattle.mv_pack.specs.declared.key.PackKey.{PackKey}
 use Rattle.mv_link.specs.declared.incoming.Look.{Look}
@@ -29,23 +29,23 @@ pub data Grows {X : Type 0} (tell : Event → Option X) (kept : State → List X
 
 -- What has to be shown of a list and of what events tell of it: a line for each kind of change that a step makes.
 pub record IsTold {X : Type 0} (tell : Event → Option X) (kept : State → List X) (st : State) : Type 0 where
-  pub under_way : (sent : List (List ℕ)) (wires : List (List (List ℕ))) → kept (record st { sent = sent; wires = wires }) ≡ kept st
-  pub submits : (from : ℕ) (message : Message) → from < length st.parties → is_query_or_answer message ≡ false
+  pub under_way : (sent : List (List ℕ)) (wires : List (List (List ℕ))) → kept (record st { hub = record st.hub { sent = sent }; wires = wires }) ≡ kept st
+  pub submits : (from : ℕ) (message : Message) → from < length st.hub.parties → is_query_or_answer message ≡ false
       → Grows tell kept st (Submit from message) (replies.Submitted (length (submissions_of st from) + 1))
-      (with_site st (with_submission (site_of st from) message))
-  pub asks : (party : ℕ) (key : PackKey) → party < length st.parties
+      (with_site st from (with_submission (site_of st from) message))
+  pub asks : (party : ℕ) (key : PackKey) → party < length st.hub.parties
       → Grows tell kept st (Verify party key) (replies.Asked (length (submissions_of st party) + 1))
-      (with_site st (with_submission (site_of st party) (Query key)))
+      (with_site st party (with_submission (site_of st party) (Query key)))
   pub knows : (party : ℕ) (key : PackKey) (verdict : AVerdict) → Grows tell kept st (Verify party key) (replies.Known verdict) st
   pub routes : (from : ℕ) (message : Message)
-      → Grows tell kept st (Route from) (replies.Routed (routed_count st.entries from + 1) (reach st.parties st.entries from message))
-      (with_hub st (with_routed (hub_of st) from message))
-  pub applies : (from to number : ℕ) (rest : List ℕ) (item : Item) → to < length st.parties
+      → Grows tell kept st (Route from) (replies.Routed (routed_count st.hub.entries from + 1) (reach st.hub.parties st.hub.entries from message))
+      (record st { hub = with_routed st.hub from message })
+  pub applies : (from to number : ℕ) (rest : List ℕ) (item : Item) → to < length st.hub.parties
       → Grows tell kept st (Apply from to)
       (replies.Applied number (effect_of (log_of st to) (entry_from from item))
       (answer_number (submissions_of st to) (answer_to (log_of st to) (entry_from from item))))
-      (with_wire (with_site st (with_applied (site_of st to) from item)) from to rest)
-  pub closes : (from to : ℕ) → Grows tell kept st (Close from to) replies.Closed (with_hub st (with_closed (hub_of st) from to))
+      (with_wire (with_site st to (with_applied (site_of st to) from item)) from to rest)
+  pub closes : (from to : ℕ) → Grows tell kept st (Close from to) replies.Closed (record st { hub = with_closed st.hub from to })
   pub decides : (party q : ℕ) (joint : Joint) → Grows tell kept st (Verdict party q) (replies.Joint joint) st
 
 module _ {X : Type 0} (tell : Event → Option X) (kept : State → List X) (st : State) (is : IsTold tell kept st) where
@@ -57,14 +57,14 @@ module _ {X : Type 0} (tell : Event → Option X) (kept : State → List X) (st 
 
   -- what is under way may change
   moved : (step : Step) (reply : Reply) (sent : List (List ℕ)) (wires : List (List (List ℕ)))
-      → event_of_step step reply (record st { sent = sent; wires = wires }) ≡ None → Step-grows step reply (record st { sent = sent; wires = wires })
+      → event_of_step step reply (record st { hub = record st.hub { sent = sent }; wires = wires }) ≡ None → Step-grows step reply (record st { hub = record st.hub { sent = sent }; wires = wires })
   moved step reply sent wires silent = grew (rw silent (is.under_way sent wires ∙ sym (append-nil (kept st))))
 
   ask-grows : (party : ℕ) (key : PackKey) → Step-grows (Verify party key) (ask st party key).reply (ask st party key).state
   unfolding ask
   ask-grows party key = search (rules, refusal-grows (Verify party key), is.asks party key)
 
-  by-grows : (from to number : ℕ) (rest : List ℕ) (stands : Look) → to < length st.parties
+  by-grows : (from to number : ℕ) (rest : List ℕ) (stands : Look) → to < length st.hub.parties
       → Step-grows (Apply from to) (apply_by st from to number rest stands).reply (apply_by st from to number rest stands).state
   by-grows from to number rest stands is_party =
       search (rules, refusal-grows (Apply from to), is.applies from to number rest, moved (Apply from to))

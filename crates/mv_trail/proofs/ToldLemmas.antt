@@ -1,7 +1,7 @@
 -- The record, each log and what each party submitted grow by what events tell.
-use Rattle.std.proofs.Common.{◌≡◌, ℕ, ◌+◌, ◌<◌, ◌==◌, false, List, [], ◌∷◌, ◌++◌, map, length, set, get_or, slice_get, Option, Some, None, ap, ◌∙◌, append-nil, arith, option_map, option_to_list, length-append, if◌then◌else◌, get_or-set_same, get_or-set_other, rules}
-use Rattle.mv_trail.proofs.Words.{common_steps, nat_tests, Message, is_query_or_answer, Item, Entry, Joint, answer_after, entry_from, answer_number, slice_get-behind, State, submissions_of, log_of, is_party, Event, last_of, routing, placed, entry_told, applied_told, submission_told, unless_answer}
-use Rattle.std.proofs.lemmas.List.{length-map, map-append, set-get_or}
+use Rattle.std.proofs.Common.{◌≡◌, ℕ, ◌+◌, ◌<◌, ◌==◌, false, List, [], ◌∷◌, ◌++◌, map, length, set, get_or, slice_get, Option, Some, None, refl, sym, ap, ◌∙◌, append-nil, arith, option_map, option_to_list, length-append, if◌then◌else◌, get_or-set_same, get_or-set_other, rules}
+use Rattle.mv_trail.proofs.Words.{common_steps, nat_tests, Message, is_query_or_answer, Item, Entry, Joint, answer_after, entry_from, answer_number, new_site, slice_get-behind, SiteState, State, submissions_of, log_of, site_of, is_party, with_site, Event, last_of, routing, placed, entry_told, applied_told, submission_told, unless_answer}
+use Rattle.std.proofs.lemmas.List.{length-map, map-append, set_past}
 use Rattle.mv_repository.specs.declared.effect.Effect.{Effect}
 use Rattle.mv_repository.specs.declared.entry.LogEntry.{LogEntry}
 use Rattle.mv_machine.specs.declared.reply.Reply.TheVariants as replies
@@ -30,23 +30,31 @@ module _ (st : State) where
       → (party q : ℕ) (joint : Joint) → told tell (events.event_of_step (steps.Verdict party q) (replies.Joint joint) st) ≡ []
   decided-silent tell none party q joint = grind (arith, nat_tests)
 
-  pub record_told : IsTold entry_told (λ st. placed 0 st.entries) st
+  pub record_told : IsTold entry_told (λ st. placed 0 st.hub.entries) st
   record_told = search (rules, grew, placed-pushed, length-append, last-pushed)
 
+-- what is seen of each party is as it was, where one that was written shows the same
+shown-same : {A : Type 0} (shown : SiteState → A) (sites : List SiteState) (by party : ℕ) (site : SiteState) → shown site ≡ shown (get_or sites by (new_site 0 0 0))
+    → shown (get_or (set sites by site) party (new_site 0 0 0)) ≡ shown (get_or sites party (new_site 0 0 0))
+shown-same shown sites by party site same = grind (arith, get_or-set_same, set_past, get_or-set_other)
+
 -- what is told of the last entry of a log that just came into it
-last-told : {X : Type 0} (tell : Event → Option X) (event : LogEntry → Event) (logs : List (List LogEntry)) (to : ℕ) (entry : LogEntry) → to < length logs
-    → told tell (option_map event (last_of (get_or (set logs to (get_or logs to [] ++ entry ∷ [])) to []))) ≡ option_to_list (tell (event entry))
-last-told tell event logs to entry within = grind (arith, nat_tests, get_or-set_same, last-pushed, told)
+last-told : {X : Type 0} (tell : Event → Option X) (event : LogEntry → Event) (sites : List SiteState) (to : ℕ) (site : SiteState) (log : List LogEntry) (entry : LogEntry) → to < length sites
+    → site.log ≡ log ++ entry ∷ []
+    → told tell (option_map event (last_of (get_or (set sites to site) to (new_site 0 0 0)).log)) ≡ option_to_list (tell (event entry))
+last-told tell event sites to site log entry within is = grind (arith, nat_tests, get_or-set_same, last-pushed, told)
 
+-- a party that was written is read
 module _ (party : ℕ) (st : State) (well_formed : IsWellFormed st) where
-  has_log : (to : ℕ) → to < length st.parties → to < length st.logs
-  has_log to is_party = omega (arith, is_party, well_formed.logs_each)
+  has_site : (to : ℕ) → to < length st.hub.parties → to < length st.sites
+  has_site to is_party = omega (arith, is_party, well_formed.sites_each)
 
-  has_submissions : (from : ℕ) → from < length st.parties → from < length st.submissions
-  has_submissions from is_party = omega (arith, is_party, well_formed.submissions_each)
+  -- the log of each party is as it was where one has the same log
+  log-same : (by : ℕ) (site : SiteState) → by < length st.hub.parties → site.log ≡ log_of st by → log_of (with_site st by site) party ≡ log_of st party
+  log-same by site is_party same = shown-same (λ it. it.log) st.sites by party site same
 
   pub log_told : IsTold (applied_told party) (λ st. log_of st party) st
-  log_told = search (rules, append-nil, grew, has_log, last-pushed, get_or-set_same, get_or-set_other, set-get_or)
+  log_told = search (rules, append-nil, grew, has_site, last-pushed, log-same, get_or-set_same, get_or-set_other)
 
 -- what a party submits itself is none
 own-is_none : (message : Message) → is_query_or_answer message ≡ false → unless_answer message ≡ Some message
@@ -56,25 +64,38 @@ own-is_none message e = grind (arith, nat_tests)
 abbrev kept_submissions : List Message → List (ℕ × Option Message)
 kept_submissions messages = placed 0 (map unless_answer messages)
 
+-- of an answer the number alone is kept
+answer-silent : (log : List LogEntry) (sender : ℕ) (item : Item) (answer : Message) → answer_after log sender item ≡ Some answer → unless_answer answer ≡ None
+answer-silent log sender item answer is = grind (arith, nat_tests, is)
+
 -- where a party submitted one more message, what is kept of its own submissions alone grew by it
-submissions-grow : (lists : List (List Message)) (by party : ℕ) (message : Message) (known : Option Message) → unless_answer message ≡ known
-    → by < length lists
-    → kept_submissions (get_or (set lists by (get_or lists by [] ++ message ∷ [])) party [])
-    ≡ kept_submissions (get_or lists party []) ++ option_to_list (if by == party then Some (length (get_or lists by []) + 1, known) else None)
-submissions-grow lists by party message known is within = grind (arith, common_steps, append-nil, length-map, map-append, placed-pushed)
+submissions-grow : (sites : List SiteState) (by party : ℕ) (message : Message) (log : List LogEntry) (known : Option Message) → unless_answer message ≡ known → by < length sites
+    → let here = get_or sites by (new_site 0 0 0) in
+    kept_submissions (get_or (set sites by (record here { submissions = here.submissions ++ message ∷ []; log = log })) party (new_site 0 0 0)).submissions
+    ≡ kept_submissions (get_or sites party (new_site 0 0 0)).submissions ++ option_to_list (if by == party then Some (length here.submissions + 1, known) else None)
+submissions-grow sites by party message log known is within = grind (arith, common_steps, append-nil, length-map, map-append, placed-pushed)
 
 module _ (party : ℕ) (st : State) (well_formed : IsWellFormed st) where
   abbrev kept_here : List (ℕ × Option Message)
   kept_here = kept_submissions (submissions_of st party)
 
   -- what an application adds, by the answer that it calls for
-  applied-grows : (from to number : ℕ) (effect : Effect) (item : Item) → to < length st.parties → (answer : Option Message)
+  applied-grows : (from to number : ℕ) (effect : Effect) (item : Item) → to < length st.hub.parties → (answer : Option Message)
       → answer_after (log_of st to) from item ≡ answer
-      → kept_submissions (get_or (set st.submissions to (submissions_of st to ++ option_to_list answer)) party [])
+      → let site = record (site_of st to) { submissions = submissions_of st to ++ option_to_list answer; log = log_of st to ++ entry_from from item ∷ [] } in
+      kept_submissions (get_or (set st.sites to site) party (new_site 0 0 0)).submissions
       ≡ kept_here ++ told (submission_told party) (option_map (events.applied to number effect (answer_number (submissions_of st to) answer))
-      (last_of (get_or (set st.logs to (log_of st to ++ entry_from from item ∷ [])) to [])))
-  applied-grows from to number effect item is_party answer is =
-      grind (arith, nat_tests, append-nil, has_log, has_submissions, last-told, set-get_or, submissions-grow)
+      (last_of (get_or (set st.sites to site) to (new_site 0 0 0)).log))
+  applied-grows from to number effect item is_party None is =
+      let entry = entry_from from item in
+      let site = record (site_of st to) { submissions = submissions_of st to ++ []; log = log_of st to ++ entry ∷ [] } in
+      rw (last-told (submission_told party) (events.applied to number effect None) st.sites to site (log_of st to) entry (has_site party st well_formed to is_party) refl)
+      (shown-same (λ it. kept_submissions it.submissions) st.sites to party site (ap kept_submissions (append-nil (submissions_of st to))) ∙ sym (append-nil kept_here))
+  applied-grows from to number effect item is_party (Some answer) is =
+      let entry = entry_from from item in
+      let site = record (site_of st to) { submissions = submissions_of st to ++ answer ∷ []; log = log_of st to ++ entry ∷ [] } in
+      rw (last-told (submission_told party) (events.applied to number effect (Some (length (submissions_of st to) + 1))) st.sites to site (log_of st to) entry (has_site party st well_formed to is_party) refl)
+      (submissions-grow st.sites to party answer (log_of st to ++ entry ∷ []) None (answer-silent (log_of st to) from item answer is) (has_site party st well_formed to is_party))
 
   pub submissions_told : IsTold (submission_told party) (λ st. kept_submissions (submissions_of st party)) st
-  submissions_told = search (rules, append-nil, applied-grows, decided-silent, grew, has_submissions, own-is_none, routing-silent, submissions-grow)
+  submissions_told = search (rules, append-nil, applied-grows, decided-silent, grew, has_site, own-is_none, routing-silent, submissions-grow)

@@ -1,8 +1,8 @@
 -- The events of a run tell the record, the logs and the submissions.
-use Rattle.std.proofs.Common.{◌≡◌, ℕ, List, [], ◌∷◌, ◌++◌, map, length, Some, None, refl, sym, ap, ◌∙◌, append-nil, append_assoc, get_or, arith, rules}
-use Rattle.mv_trail.proofs.Words.{common_steps, nat_tests, Step, Reply, State, opening, submissions_of, log_of, IsSound, change-sound, opening-sound, step-changes, Answered, Line, AreReplies, said_texts, Open, IsTaken, Event, event_of, AreTold, events_in, texts_in, placed, entry_told, applied_told, submission_told, unless_answer, EventsAreWritten, RecordIsTold, LogsAreTold, SubmissionsAreTold, IsEvent, event_text}
-use Rattle.std.specs.Prelude.{option_map, option_to_list, Option, replicate, ⊤}
-use Rattle.std.specs.List.{filter_map}
+use Rattle.std.proofs.Common.{◌≡◌, ℕ, zero, suc, ◌+◌, List, [], ◌∷◌, ◌++◌, map, length, Some, None, refl, sym, ap, ◌∙◌, append-nil, append_assoc, get_or, arith, rules}
+use Rattle.mv_trail.proofs.Words.{common_steps, nat_tests, Step, Reply, State, opening, submissions_of, log_of, IsSound, change-sound, opening-sound, step-changes, SiteState, new_site, Answered, Line, AreReplies, said_texts, Open, IsTaken, Event, event_of, AreTold, placed, entry_told, applied_told, submission_told, unless_answer, EventsAreWritten, RecordIsTold, LogsAreTold, SubmissionsAreTold, IsEvent, event_text}
+use Rattle.std.specs.Prelude.{option_map, option_to_list, Option, ⊤}
+use Rattle.std.specs.List.{filter_map, range_with_len}
 use Rattle.mv_machine.specs.Limits.{Bounds}
 use Rattle.mv_machine.specs.Runs.{Allows}
 use Rattle.mv_format.specs.declared.answered.Answered.TheVariants as answers
@@ -21,8 +21,12 @@ data Came (before : Open) : Answered → Open → Type 0 where
   stepped : (old : State) (step : Step) (reply : Reply) (new : State) → before ≡ Some old → Allows old step reply new
       → Came before (answers.Stepped step reply) (Some new)
 
+opened_as : (before after : Open) (parties : List (List (List ℕ))) (limits : Bounds) (count : ℕ) → before ≡ None → after ≡ Some (opening parties limits)
+    → Came before (answers.Opened count) after
+opened_as before after parties limits count none is = rw is (opened parties limits count none)
+
 came : (before : Open) (line : List ℕ) (answered : Answered) (after : Open) → IsTaken before line answered after → Came before answered after
-came before line answered after taken = grind (arith, nat_tests, not_taken, opened, stepped, unread)
+came before line answered after taken = grind (arith, nat_tests, not_taken, opened_as, stepped, unread)
 
 told-first : {X : Type 0} (tell : Event → Option X) (event : Option Event) (rest : List Event)
     → filter_map tell (option_to_list event ++ rest) ≡ told tell event ++ filter_map tell rest
@@ -65,21 +69,33 @@ module _ {X : Type 0} (tell : Event → Option X) (kept : State → List X)
   run-told lines events st are = sym (lines-told lines events None (Some st) tt are)
 
 pub record_is_told : RecordIsTold
-record_is_told = run-told entry_told (λ st. placed 0 st.entries) (λ parties limits. refl) (λ parties limits. refl) (λ st sound. record_told st)
+record_is_told = run-told entry_told (λ st. placed 0 st.hub.entries) (λ parties limits. refl) (λ parties limits. refl) (λ st sound. record_told st)
 
-none-at : {A : Type 0} (count party : ℕ) → ◌≡◌ {A = List A} (get_or (replicate count []) party []) []
-none-at count party = grind (arith, common_steps)
+-- each party begins with nothing
+none-at : {A : Type 0} (shown : SiteState → List A) (make : ℕ → SiteState) → ((party : ℕ) → shown (make party) ≡ []) → shown (new_site 0 0 0) ≡ []
+    → (start count place : ℕ) → shown (get_or (map make (range_with_len start count)) place (new_site 0 0 0)) ≡ []
+none-at shown make each none start zero place = none
+none-at shown make each none start (suc count) zero = each start
+none-at shown make each none start (suc count) (suc place) = none-at shown make each none (start + 1) count place
 
 pub logs_are_told : LogsAreTold
 logs_are_told party =
-    run-told (applied_told party) (λ st. log_of st party) (λ parties limits. none-at (length parties) party) (λ parties limits. refl)
+    run-told (applied_told party) (λ st. log_of st party)
+    (λ parties limits. none-at (λ site. site.log) (λ party. new_site party (length parties) limits.submissions) (λ _. refl) refl 0 (length parties) party) (λ parties limits. refl)
     (λ st sound. log_told party st sound.well_formed)
 
 pub submissions_are_told : SubmissionsAreTold
 submissions_are_told party =
     run-told (submission_told party) (λ st. placed 0 (map unless_answer (submissions_of st party)))
-    (λ parties limits. ap (λ messages. placed 0 (map unless_answer messages)) (none-at (length parties) party)) (λ parties limits. refl)
-    (λ st sound. submissions_told party st sound.well_formed)
+    (λ parties limits. none-at (λ site. placed 0 (map unless_answer site.submissions)) (λ party. new_site party (length parties) limits.submissions) (λ _. refl) refl 0 (length parties) party)
+    (λ parties limits. refl) (λ st sound. submissions_told party st sound.well_formed)
+
+-- the events that are each told with the number of a line, and their texts
+abbrev events_in : List (ℕ × Event) → List Event
+events_in told = map (λ (it : ℕ × Event). it.1) told
+
+abbrev texts_in : List (ℕ × Event) → List (List ℕ)
+texts_in told = map (λ (it : ℕ × Event). event_text it.0 it.1) told
 
 -- an event, where there is one, with the number of its line
 abbrev numbered : ℕ → Option Event → List (ℕ × Event)

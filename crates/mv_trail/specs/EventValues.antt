@@ -23,18 +23,6 @@ text key value = (key, Some (string value))
 abbrev pub number : List ℕ → ℕ → Field
 number key n = (key, Some (whole n))
 
-abbrev pub number_if : List ℕ → Option ℕ → Field
-number_if key n = (key, option_map whole n)
-
-abbrev pub flag_if : List ℕ → Option Bool → Field
-flag_if key flag = (key, option_map boolean flag)
-
-abbrev pub parties : List ℕ → List ℕ → Field
-parties key list = (key, Some (array (wholes list)))
-
-abbrev pub message : Message → Field
-message it = (codes "message", Some (value_of it))
-
 -- the members of fields, but for those that have no value
 abbrev pub members_where : List Field → Members
 members_where [] = no_members
@@ -64,12 +52,12 @@ verdict_name (NotAuthentic falsification) = codes "not authentic"
 abbrev pub applied_fields : ℕ → ℕ → ℕ → Effect → Option ℕ → ℕ → Item → List Field
 applied_fields line to n effect answer from (Receipt k reach query) =
     text (codes "effect") (code_of effect) ∷ text (codes "event") (codes "applied") ∷ number (codes "from") from ∷ number (codes "k") k
-    ∷ number (codes "line") line ∷ number (codes "number") n ∷ flag_if (codes "query") (Some query) ∷ parties (codes "reach") reach
+    ∷ number (codes "line") line ∷ number (codes "number") n ∷ (codes "query", Some (boolean query)) ∷ (codes "reach", Some (array (wholes reach)))
     ∷ number (codes "to") to ∷ []
 applied_fields line to n effect answer from (Carried k stamp carried) =
-    number_if (codes "answer") answer ∷ text (codes "effect") (code_of effect) ∷ text (codes "event") (codes "applied")
-    ∷ number (codes "from") from ∷ number (codes "k") k ∷ number (codes "line") line ∷ message carried
-    ∷ number_if (codes "new") (new_packs effect) ∷ number (codes "number") n ∷ number_if (codes "old") (old_packs effect)
+    (codes "answer", option_map whole answer) ∷ text (codes "effect") (code_of effect) ∷ text (codes "event") (codes "applied")
+    ∷ number (codes "from") from ∷ number (codes "k") k ∷ number (codes "line") line ∷ (codes "message", Some (value_of carried))
+    ∷ (codes "new", option_map whole (new_packs effect)) ∷ number (codes "number") n ∷ (codes "old", option_map whole (old_packs effect))
     ∷ number (codes "stamp") stamp ∷ number (codes "to") to ∷ []
 
 -- the fields of an event that the line of this number made
@@ -80,23 +68,23 @@ fields_of line (opened markets limits) =
     ∷ number (codes "window") limits.window ∷ number (codes "wire") limits.wire ∷ []
 fields_of line (submitted from k submission) =
     text (codes "event") (codes "submitted") ∷ number (codes "from") from ∷ number (codes "k") k ∷ number (codes "line") line
-    ∷ message submission ∷ []
+    ∷ (codes "message", Some (value_of submission)) ∷ []
 fields_of line (asked party key q) =
     text (codes "event") (codes "asked") ∷ text (codes "gtin") key.gtin ∷ number (codes "line") line ∷ number (codes "party") party
     ∷ number (codes "q") q ∷ text (codes "serial") key.serial ∷ []
 fields_of line (verified party key verdict) =
-    text (codes "event") (codes "verified") ∷ flag_if (codes "falsification") (suspicion verdict) ∷ text (codes "gtin") key.gtin
+    text (codes "event") (codes "verified") ∷ (codes "falsification", option_map boolean (suspicion verdict)) ∷ text (codes "gtin") key.gtin
     ∷ number (codes "line") line ∷ number (codes "party") party ∷ text (codes "serial") key.serial
     ∷ text (codes "verdict") (verdict_name verdict) ∷ []
 fields_of line (routed from k submission reach stamp) =
     text (codes "event") (codes "routed") ∷ number (codes "from") from ∷ number (codes "k") k ∷ number (codes "line") line
-    ∷ message submission ∷ parties (codes "reach") reach ∷ number (codes "stamp") stamp ∷ []
+    ∷ (codes "message", Some (value_of submission)) ∷ (codes "reach", Some (array (wholes reach))) ∷ number (codes "stamp") stamp ∷ []
 fields_of line (applied to n effect answer entry) = applied_fields line to n effect answer entry.sender entry.item
 fields_of line (closed from to stamp) =
     text (codes "event") (codes "closed") ∷ number (codes "from") from ∷ number (codes "line") line ∷ number (codes "stamp") stamp
     ∷ number (codes "to") to ∷ []
 fields_of line (decided party q key verdict) =
-    text (codes "event") (codes "verdict") ∷ flag_if (codes "falsification") (suspicion verdict) ∷ text (codes "gtin") key.gtin
+    text (codes "event") (codes "verdict") ∷ (codes "falsification", option_map boolean (suspicion verdict)) ∷ text (codes "gtin") key.gtin
     ∷ number (codes "line") line ∷ number (codes "party") party ∷ number (codes "q") q ∷ text (codes "serial") key.serial
     ∷ text (codes "verdict") (verdict_name verdict) ∷ []
 

@@ -45,16 +45,16 @@ abbrev pub event_of_step : Step → Reply → State → Option Event
 event_of_step (steps.Submit from message) (replies.Submitted k) st = Some (submitted from k message)
 event_of_step (steps.Verify party key) (replies.Asked q) st = Some (asked party key q)
 event_of_step (steps.Verify party key) (replies.Known verdict) st = Some (verified party key verdict)
-event_of_step (steps.Route from) (replies.Routed k reach) st = routing reach (length st.entries) (last_of st.entries)
+event_of_step (steps.Route from) (replies.Routed k reach) st = routing reach (length st.hub.entries) (last_of st.hub.entries)
 event_of_step (steps.Apply from to) (replies.Applied number effect answer) st =
     option_map (applied to number effect answer) (last_of (log_of st to))
-event_of_step (steps.Close from to) replies.Closed st = Some (closed from to (length st.entries))
+event_of_step (steps.Close from to) replies.Closed st = Some (closed from to (length st.hub.entries))
 event_of_step (steps.Verdict party q) (replies.Joint (Decided verdict)) st =
     option_map (λ key. decided party q key verdict) (asked_about (submissions_of st party) q)
 event_of_step step reply st = None
 
 -- the event of a line, by what came of it and what is open after it; none of a line that was refused
 abbrev pub event_of : Answered → Open → Option Event
-event_of (answers.Opened count) (Some st) = Some (opened st.parties st.limits)
+event_of (answers.Opened count) (Some st) = Some (opened st.hub.parties st.limits)
 event_of (answers.Stepped step reply) (Some st) = event_of_step step reply st
 event_of answered after = None

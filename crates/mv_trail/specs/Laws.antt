@@ -15,17 +15,11 @@ AreTold before (line ∷ lines) events after =
     (answered : Answered) × (between : Open) × (rest : List Event) × IsTaken before line answered between
     × (events ≡ option_to_list (event_of answered between) ++ rest) × AreTold between lines rest after
 
--- the events that are each told with the number of a line, and their texts
-abbrev pub events_in : List (ℕ × Event) → List Event
-events_in told = map (λ it. it.1) told
-
-abbrev pub texts_in : List (ℕ × Event) → List (List ℕ)
-texts_in told = map (λ it. event_text it.0 it.1) told
-
 -- What is written to lines by the rule of the trail are the texts of their events, in order, each with a line feed and the number of its line.
 abbrev pub EventsAreWritten : Type 0
 EventsAreWritten = (before : Open) (lines : List Line) (out : List ℕ) (after : Open) → IsReplies IsEvent before lines out after
-    → (told : List (ℕ × Event)) × (out ≡ text_lines (texts_in told)) × AreTold before (map (λ line. line.bytes) lines) (events_in told) after
+    → (told : List (ℕ × Event)) × (out ≡ text_lines (map (λ it. event_text it.0 it.1) told))
+    × AreTold before (map (λ line. line.bytes) lines) (map (λ it. it.1) told) after
 
 -- the members of a list, each with its place, counted from one behind so many others
 abbrev pub placed : {A : Type 0} → ℕ → List A → List (ℕ × A)
@@ -58,7 +52,7 @@ unless_answer message = Some message
 -- the entries that the events of a run tell are the hub's record, in its order, each with its place
 abbrev pub RecordIsTold : Type 0
 RecordIsTold = (lines : List (List ℕ)) (events : List Event) (st : State) → AreTold None lines events (Some st)
-    → filter_map entry_told events ≡ placed 0 st.entries
+    → filter_map entry_told events ≡ placed 0 st.hub.entries
 
 -- the entries that the events of a run tell of a party are the log of its repository, in its order
 abbrev pub LogsAreTold : Type 0

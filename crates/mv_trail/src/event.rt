@@ -28,7 +28,7 @@ pub(crate) fn append_event<'a>(
     line: u32,
     answered: &'a Answered,
     world: Option<&'a World>,
-) -> Result<bool, AllocError>
+) -> Told
     ensures { Tells result out.old.items out.new.items line (event_of answered.now (option_copied world.entry)) }
 {
     let Some(world) = world else {
@@ -41,6 +41,9 @@ pub(crate) fn append_event<'a>(
         Answered::Unread(_) | Answered::NotTaken(_) => Ok(false),
     }
 }
+
+/// Whether there was an event to tell; or memory was refused.
+type Told = Result<bool, AllocError>;
 
 /// Tells the event of a line.
 #[derive(Clone, Copy, Drop)]
@@ -70,32 +73,25 @@ struct AppliedFrame {
 
 impl<'a> Teller<'a> {
     /// Tells that a system was opened: its parties and limits.
-    fn tell_opened(&self, out: &mut Vec<u8>) -> Result<bool, AllocError>
+    fn tell_opened(&self, out: &mut Vec<u8>) -> Told
         ensures { Tells result out.old.items out.new.items self.now.line
-            (Some (opened self.now.world.now.parties self.now.world.now.limits)) }
+            (Some (opened self.now.world.now.hub.parties self.now.world.now.limits)) }
     {
         let limits = self.world.limits();
-        self.say(
-            &[
-                Member::Text("event", "opened"),
-                Member::Number("line", u64::from(self.line)),
-                Member::Markets("parties", self.world.hub().parties().lists()),
-                Member::Number("submissions", u64::from(limits.submissions())),
-                Member::Number("uplink", u64::from(limits.uplink())),
-                Member::Number("window", u64::from(limits.window())),
-                Member::Number("wire", u64::from(limits.wire())),
-            ],
-            out,
-        )
+        let members = [
+            Member::Text("event", "opened"),
+            Member::Number("line", u64::from(self.line)),
+            Member::Markets("parties", self.world.hub().parties().lists()),
+            Member::Number("submissions", u64::from(limits.submissions())),
+            Member::Number("uplink", u64::from(limits.uplink())),
+            Member::Number("window", u64::from(limits.window())),
+            Member::Number("wire", u64::from(limits.wire())),
+        ];
+        self.say(&members, out)
     }
 
     /// Tells what a step did, by its reply.
-    fn tell_step(
-        &self,
-        step: &'a Step,
-        reply: &'a Reply,
-        out: &mut Vec<u8>,
-    ) -> Result<bool, AllocError>
+    fn tell_step(&self, step: &'a Step, reply: &'a Reply, out: &mut Vec<u8>) -> Told
         ensures { Tells result out.old.items out.new.items self.now.line
             (event_of_step step.now reply.now self.now.world.now) }
     {
@@ -111,39 +107,25 @@ impl<'a> Teller<'a> {
     }
 
     /// Tells what a submission did.
-    fn tell_submit(
-        &self,
-        from: Party,
-        message: &Message,
-        reply: &Reply,
-        out: &mut Vec<u8>,
-    ) -> Result<bool, AllocError>
+    fn tell_submit(&self, from: Party, message: &Message, reply: &Reply, out: &mut Vec<u8>) -> Told
         ensures { Tells result out.old.items out.new.items self.now.line
             (event_of_step (Step.Submit from message.now) reply.now self.now.world.now) }
     {
         let Reply::Submitted { k } = reply else {
             return Ok(false);
         };
-        self.say(
-            &[
-                Member::Text("event", "submitted"),
-                Member::Number("from", u64::from(from)),
-                Member::Number("k", u64::from(*k)),
-                Member::Number("line", u64::from(self.line)),
-                Member::Message("message", message),
-            ],
-            out,
-        )
+        let members = [
+            Member::Text("event", "submitted"),
+            Member::Number("from", u64::from(from)),
+            Member::Number("k", u64::from(*k)),
+            Member::Number("line", u64::from(self.line)),
+            Member::Message("message", message),
+        ];
+        self.say(&members, out)
     }
 
     /// Tells what a verification did.
-    fn tell_verify(
-        &self,
-        party: Party,
-        key: &PackKey,
-        reply: &Reply,
-        out: &mut Vec<u8>,
-    ) -> Result<bool, AllocError>
+    fn tell_verify(&self, party: Party, key: &PackKey, reply: &Reply, out: &mut Vec<u8>) -> Told
         ensures { Tells result out.old.items out.new.items self.now.line
             (event_of_step (Step.Verify party key.now) reply.now self.now.world.now) }
     {
@@ -176,12 +158,7 @@ impl<'a> Teller<'a> {
     }
 
     /// Tells what a routing did, by the last entry of the record.
-    fn tell_route(
-        &self,
-        from: Party,
-        reply: &'a Reply,
-        out: &mut Vec<u8>,
-    ) -> Result<bool, AllocError>
+    fn tell_route(&self, from: Party, reply: &'a Reply, out: &mut Vec<u8>) -> Told
         ensures { Tells result out.old.items out.new.items self.now.line
             (event_of_step (Step.Route from) reply.now self.now.world.now) }
     {
@@ -192,28 +169,20 @@ impl<'a> Teller<'a> {
         let Some(Entry::Routed { from, k, message }) = record.last() else {
             return Ok(false);
         };
-        self.say(
-            &[
-                Member::Text("event", "routed"),
-                Member::Number("from", u64::from(*from)),
-                Member::Number("k", u64::from(*k)),
-                Member::Number("line", u64::from(self.line)),
-                Member::Message("message", message.get()),
-                Member::Parties("reach", reach),
-                Member::Number("stamp", record.len() as u64),
-            ],
-            out,
-        )
+        let members = [
+            Member::Text("event", "routed"),
+            Member::Number("from", u64::from(*from)),
+            Member::Number("k", u64::from(*k)),
+            Member::Number("line", u64::from(self.line)),
+            Member::Message("message", message.get()),
+            Member::Parties("reach", reach),
+            Member::Number("stamp", record.len() as u64),
+        ];
+        self.say(&members, out)
     }
 
     /// Tells what the application of a frame did, by the last entry of the log.
-    fn tell_apply(
-        &self,
-        from: Party,
-        to: Party,
-        reply: &Reply,
-        out: &mut Vec<u8>,
-    ) -> Result<bool, AllocError>
+    fn tell_apply(&self, from: Party, to: Party, reply: &Reply, out: &mut Vec<u8>) -> Told
         ensures { Tells result out.old.items out.new.items self.now.line
             (event_of_step (Step.Apply from to) reply.now self.now.world.now) }
     {
@@ -239,12 +208,7 @@ impl<'a> Teller<'a> {
     }
 
     /// Tells that a frame was applied, which bore this item.
-    fn tell_applied(
-        &self,
-        frame: AppliedFrame,
-        item: &Item,
-        out: &mut Vec<u8>,
-    ) -> Result<bool, AllocError>
+    fn tell_applied(&self, frame: AppliedFrame, item: &Item, out: &mut Vec<u8>) -> Told
         ensures { Tells result out.old.items out.new.items self.now.line (Some (applied
             frame.to frame.number frame.effect frame.answer (entry_from frame.from item.now))) }
     {
@@ -284,39 +248,25 @@ impl<'a> Teller<'a> {
     }
 
     /// Tells what a closing did. Its entry is the last of the record.
-    fn tell_close(
-        &self,
-        from: Party,
-        to: Party,
-        reply: &Reply,
-        out: &mut Vec<u8>,
-    ) -> Result<bool, AllocError>
+    fn tell_close(&self, from: Party, to: Party, reply: &Reply, out: &mut Vec<u8>) -> Told
         ensures { Tells result out.old.items out.new.items self.now.line
             (event_of_step (Step.Close from to) reply.now self.now.world.now) }
     {
         let Reply::Closed = reply else {
             return Ok(false);
         };
-        self.say(
-            &[
-                Member::Text("event", "closed"),
-                Member::Number("from", u64::from(from)),
-                Member::Number("line", u64::from(self.line)),
-                Member::Number("stamp", self.world.hub().record().len() as u64),
-                Member::Number("to", u64::from(to)),
-            ],
-            out,
-        )
+        let members = [
+            Member::Text("event", "closed"),
+            Member::Number("from", u64::from(from)),
+            Member::Number("line", u64::from(self.line)),
+            Member::Number("stamp", self.world.hub().record().len() as u64),
+            Member::Number("to", u64::from(to)),
+        ];
+        self.say(&members, out)
     }
 
     /// Tells the verdict of all that were asked.
-    fn tell_verdict(
-        &self,
-        party: Party,
-        q: u32,
-        reply: &Reply,
-        out: &mut Vec<u8>,
-    ) -> Result<bool, AllocError>
+    fn tell_verdict(&self, party: Party, q: u32, reply: &Reply, out: &mut Vec<u8>) -> Told
         ensures { Tells result out.old.items out.new.items self.now.line
             (event_of_step (Step.Verdict party q) reply.now self.now.world.now) }
     {
@@ -326,23 +276,21 @@ impl<'a> Teller<'a> {
         let Some(key) = asked_about(self.world, party, q) else {
             return Ok(false);
         };
-        self.say(
-            &[
-                Member::Text("event", "verdict"),
-                Member::FlagOrNone("falsification", suspicion(*verdict)),
-                Member::Text("gtin", key.gtin.as_str()),
-                Member::Number("line", u64::from(self.line)),
-                Member::Number("party", u64::from(party)),
-                Member::Number("q", u64::from(q)),
-                Member::Text("serial", key.serial.as_str()),
-                Member::Text("verdict", verdict_name(*verdict)),
-            ],
-            out,
-        )
+        let members = [
+            Member::Text("event", "verdict"),
+            Member::FlagOrNone("falsification", suspicion(*verdict)),
+            Member::Text("gtin", key.gtin.as_str()),
+            Member::Number("line", u64::from(self.line)),
+            Member::Number("party", u64::from(party)),
+            Member::Number("q", u64::from(q)),
+            Member::Text("serial", key.serial.as_str()),
+            Member::Text("verdict", verdict_name(*verdict)),
+        ];
+        self.say(&members, out)
     }
 
     /// Writes the object of these members, and says that there is one.
-    fn say(&self, members: &[Member<'_>], out: &mut Vec<u8>) -> Result<bool, AllocError>
+    fn say(&self, members: &[Member<'_>], out: &mut Vec<u8>) -> Told
         ensures { Says result out.old.items out.new.items (object (members_of members.now)) }
     {
         append_object(self.alloc, out, members)?;

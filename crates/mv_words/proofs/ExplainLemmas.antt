@@ -9,7 +9,8 @@ use Rattle.clap.specs.declared.builder.value_parser.ValueParser.TheVariants.{Str
 use Rattle.clap.specs.Simple.{Shape, built, built_leaf, entered, names_of}
 use Rattle.clap.proofs.OnLiterals.{clap_on_literals}
 use Rattle.mv_words.proofs.AskLemmas.{no_option}
-use Rattle.mv_words.specs.Words.{command_line, explain_app, ExplainAsks, HasNoMinus}
+use Rattle.mv_words.specs.Words.{code_rule, command_line, ExplainAsks, HasNoMinus}
+use Rattle.clap.specs.Words.{new_app, with_rule}
 
 -- a walk that stopped at a subcommand
 abbrev stopped_walk : Walk → Text → List Text → Walk
@@ -25,7 +26,7 @@ words_behind s names w name before (word ∷ words) = rw append_assoc at (words_
 
 -- `explain`, as it is built
 abbrev explain_shape : Shape
-explain_shape = built_leaf explain_app.top
+explain_shape = built_leaf (with_rule (new_app (codes "explain")) code_rule).top
 
 -- a walk over the words of `explain`, behind some of them
 abbrev over_words : List Text → Walk

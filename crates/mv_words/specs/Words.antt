@@ -1,5 +1,5 @@
 -- The command line of the program, the words that it takes, and what they ask for.
-use Rattle.std.specs.Prelude.{◌≡◌, ◌≢◌, ◌<◌, ◌^◌, ◌⊎◌, ℕ, Bool, List, [], ◌∷◌, ◌++◌, codes, false, true, fold, Some, if◌then◌else◌, length, map, slice_get}
+use Rattle.std.specs.Prelude.{◌≡◌, ◌≢◌, ◌<◌, ◌^◌, ◌⊎◌, ℕ, Bool, List, [], ◌∷◌, ◌++◌, codes, false, true, fold, Some, if◌then◌else◌, length, slice_get}
 use Rattle.std.specs.List.{AllByRecursion}
 use Rattle.std.specs.Str.Parse.{IsNumeral, digits_value, without_leading_plus}
 use Rattle.clap.specs.Lexer.{usize_max}
@@ -39,46 +39,13 @@ code_rule = record (new_rule (codes "code")) {
   required = true;
 }
 
--- `steps`, `canon`, `work` and `explain`, each with its option or its words
-abbrev pub steps_app : App
-steps_app = with_rule (new_app (codes "steps")) (flag_rule (codes "strict"))
-
-abbrev pub canon_app : App
-canon_app = with_rule (new_app (codes "canon")) (flag_rule (codes "check"))
-
-abbrev pub work_app : App
-work_app = with_rule (new_app (codes "work")) turns_rule
-
-abbrev pub explain_app : App
-explain_app = with_rule (new_app (codes "explain")) code_rule
-
--- the command line: `mvhub` with these six subcommands
+-- the command line: `mvhub` with these six subcommands, of which four have an option or words
 abbrev pub command_line : App
-command_line =
-    fold with_subcommand mvhub
-    (steps_app.top ∷ new_shape (codes "trail") ∷ new_shape (codes "show") ∷ canon_app.top ∷ work_app.top ∷ explain_app.top ∷ [])
-
--- What words may ask for, each by its subcommand, and by its option where it has one: what contracts see of a task.
-pub data Asked : Type 0 where
-  Steps : Asked
-  Strict : Asked
-  Trail : Asked
-  Show : Asked
-  Canon : Asked
-  Check : Asked
-  Work : ℕ → Asked  -- with so many turns
-  Explain : List (List ℕ) → Asked  -- of these words
-
--- what a task was asked for by
-abbrev pub asked_of : Task → Asked
-asked_of tasks.Steps = Steps
-asked_of tasks.Strict = Strict
-asked_of tasks.Trail = Trail
-asked_of tasks.Show = Show
-asked_of tasks.Canon = Canon
-asked_of tasks.Check = Check
-asked_of (tasks.Work turns) = Work turns
-asked_of (tasks.Explain words) = Explain (map (λ word. word.now) words.items)
+command_line = fold with_subcommand mvhub (
+    (with_rule (new_app (codes "steps")) (flag_rule (codes "strict"))).top ∷ new_shape (codes "trail") ∷ new_shape (codes "show")
+    ∷ (with_rule (new_app (codes "canon")) (flag_rule (codes "check"))).top ∷ (with_rule (new_app (codes "work")) turns_rule).top
+    ∷ (with_rule (new_app (codes "explain")) code_rule).top ∷ []
+    )
 
 -- whether an option was given that has no value
 abbrev pub HasFlag : List ℕ → Bool → List Row → Type 0
@@ -89,33 +56,33 @@ abbrev pub WritesTurns : ℕ → List ℕ → Type 0
 WritesTurns turns text = IsNumeral 10 (without_leading_plus text) × (digits_value 10 (without_leading_plus text) ≡ turns) × (turns < 2 ^ 32)
 
 -- a subcommand of this name, with these matches, is for it
-abbrev pub IsFor : Asked → List ℕ → List Row → Type 0
-IsFor Steps name rows = (name ≡ codes "steps") × HasFlag (codes "strict") false rows
-IsFor Strict name rows = (name ≡ codes "steps") × HasFlag (codes "strict") true rows
-IsFor Trail name rows = name ≡ codes "trail"
-IsFor Show name rows = name ≡ codes "show"
-IsFor Canon name rows = (name ≡ codes "canon") × HasFlag (codes "check") false rows
-IsFor Check name rows = (name ≡ codes "canon") × HasFlag (codes "check") true rows
-IsFor (Work turns) name rows = (name ≡ codes "work") × (text : List ℕ) × (one_of (codes "turns") rows ≡ Some text) × WritesTurns turns text
-IsFor (Explain words) name rows = (name ≡ codes "explain") × (all_of (codes "code") rows ≡ Some words)
+abbrev pub IsFor : Task → List ℕ → List Row → Type 0
+IsFor tasks.Steps name rows = (name ≡ codes "steps") × HasFlag (codes "strict") false rows
+IsFor tasks.Strict name rows = (name ≡ codes "steps") × HasFlag (codes "strict") true rows
+IsFor tasks.Trail name rows = name ≡ codes "trail"
+IsFor tasks.Show name rows = name ≡ codes "show"
+IsFor tasks.Canon name rows = (name ≡ codes "canon") × HasFlag (codes "check") false rows
+IsFor tasks.Check name rows = (name ≡ codes "canon") × HasFlag (codes "check") true rows
+IsFor (tasks.Work turns) name rows = (name ≡ codes "work") × (text : List ℕ) × (one_of (codes "turns") rows ≡ Some text) × WritesTurns turns text
+IsFor (tasks.Explain words) name rows = (name ≡ codes "explain") × (all_of (codes "code") rows ≡ Some words)
 
 -- the words ask for this: the command line takes them, and they name a subcommand that is for it
-abbrev pub AsksFor : Asked → List (List ℕ) → Type 0
-AsksFor asked words = (fault_of command_line words ≡ [])
-    × (name : List ℕ) × (rows : List Row) × (subcommand_of command_line words ≡ Some (name, rows)) × IsFor asked name rows
+abbrev pub AsksFor : Task → List (List ℕ) → Type 0
+AsksFor task words = (fault_of command_line words ≡ [])
+    × (name : List ℕ) × (rows : List Row) × (subcommand_of command_line words ≡ Some (name, rows)) × IsFor task name rows
 
 -- the words are the option of `work` with this text: `--turns` and the text, or both in one word with `=` between them
 abbrev pub GiveTurns : List ℕ → List (List ℕ) → Type 0
 GiveTurns text words = (words ≡ codes "--turns" ∷ text ∷ []) ⊎ (words ≡ (codes "--turns=" ++ text) ∷ [])
 
 -- the program's name and these words ask for this
-abbrev pub WordsAsk : Asked → List (List ℕ) → Type 0
-WordsAsk asked words = (program : List ℕ) → AsksFor asked (program ∷ words)
+abbrev pub WordsAsk : Task → List (List ℕ) → Type 0
+WordsAsk task words = (program : List ℕ) → AsksFor task (program ∷ words)
 
 -- the program's name, `work` and its option ask for `work` with the number that the option gives
 abbrev pub OptionAsks : Type 0
 OptionAsks = (program text : List ℕ) (option : List (List ℕ)) (turns : ℕ) → WritesTurns turns text → GiveTurns text option
-    → AsksFor (Work turns) (program ∷ codes "work" ∷ option)
+    → AsksFor (tasks.Work turns) (program ∷ codes "work" ∷ option)
 
 -- the word does not begin with a minus (45)
 abbrev pub HasNoMinus : List ℕ → Type 0
@@ -124,11 +91,7 @@ HasNoMinus word = slice_get word 0 ≢ Some 45
 -- the program's name, `explain` and one word or more, none of which begins with a minus, ask for `explain` with these words
 abbrev pub ExplainAsks : Type 0
 ExplainAsks = (program : List ℕ) (given : List (List ℕ)) → 0 < length given → length given < 2 ^ 64 → AllByRecursion HasNoMinus given
-    → AsksFor (Explain given) (program ∷ codes "explain" ∷ given)
-
--- the command line does not take the words
-abbrev pub AreNotTaken : List (List ℕ) → Type 0
-AreNotTaken words = fault_of command_line words ≢ []
+    → AsksFor (tasks.Explain given) (program ∷ codes "explain" ∷ given)
 
 -- what is wrong is no call for help or for the version
 abbrev pub IsMistake : ErrorKind → Type 0
@@ -136,7 +99,7 @@ IsMistake kind = (kind ≢ DisplayHelp) × (kind ≢ DisplayVersion)
 
 -- the command line does not take the words, by a mistake
 abbrev pub AreMistaken : List (List ℕ) → Type 0
-AreMistaken words = AreNotTaken words × AllByRecursion IsMistake (fault_of command_line words)
+AreMistaken words = (fault_of command_line words ≢ []) × AllByRecursion IsMistake (fault_of command_line words)
 
 -- a number with a minus (45) before it is no number of turns: the command line does not take it
 abbrev pub MinusIsMistaken : Type 0

@@ -2,36 +2,18 @@
 #![tactic(auto, using(std::proofs::lemmas::Bool::Decides::nat_tests), unfolding(clap::proofs::OnLiterals::clap_on_literals))]
 
 ghost use Rattle.std.specs.Prelude.{[], ◌∷◌, codes};
-ghost use Rattle.mv_words.specs.Words.{Canon, Check, ExplainAsks, MinusIsMistaken, OptionAsks, Show, Steps, Strict, Trail, WordsAsk};
+ghost use Rattle.mv_words.specs.Words.{ExplainAsks, MinusIsMistaken, OptionAsks, WordsAsk};
+ghost use Rattle.mv_words.specs.declared.task.Task.TheVariants.{Canon, Check, Show, Steps, Strict, Trail};
 
-/// The words `mvhub steps` ask for `steps`, whatever the program's name is.
-pub fn steps_named()
-    ensures { WordsAsk Steps (codes "steps" ∷ []) }
-{}
-
-/// The words `mvhub steps --strict` ask for `steps` with its option.
-pub fn strict_named()
-    ensures { WordsAsk Strict (codes "steps" ∷ codes "--strict" ∷ []) }
-{}
-
-/// The words `mvhub trail` ask for `trail`.
-pub fn trail_named()
-    ensures { WordsAsk Trail (codes "trail" ∷ []) }
-{}
-
-/// The words `mvhub show` ask for `show`.
-pub fn show_named()
-    ensures { WordsAsk Show (codes "show" ∷ []) }
-{}
-
-/// The words `mvhub canon` ask for `canon`.
-pub fn canon_named()
-    ensures { WordsAsk Canon (codes "canon" ∷ []) }
-{}
-
-/// The words `mvhub canon --check` ask for `canon` with its option.
-pub fn check_named()
-    ensures { WordsAsk Check (codes "canon" ∷ codes "--check" ∷ []) }
+/// Whatever the program's name is, each of these words asks for what it names: `mvhub steps` and `mvhub canon`, without and with
+/// their option, `mvhub trail` and `mvhub show`.
+pub fn commands_named()
+    ensures steps { WordsAsk Steps (codes "steps" ∷ []) }
+    ensures strict { WordsAsk Strict (codes "steps" ∷ codes "--strict" ∷ []) }
+    ensures trail { WordsAsk Trail (codes "trail" ∷ []) }
+    ensures show { WordsAsk Show (codes "show" ∷ []) }
+    ensures canon { WordsAsk Canon (codes "canon" ∷ []) }
+    ensures check { WordsAsk Check (codes "canon" ∷ codes "--check" ∷ []) }
 {}
 
 /// The words `mvhub work --turns N` and `mvhub work --turns=N` ask for `work` with the number that N writes.

@@ -22,4 +22,4 @@ mod task;
 mod texts;
 mod words;
 
-pub use task::{Task, task_of};
+pub use task::{Codes, Task, task_of};

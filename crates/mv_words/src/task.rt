@@ -1,14 +1,16 @@
 //! What the words of the command line ask for.
 
-ghost use Rattle.std.specs.Prelude.{◌≡◌, ℕ, List, [], false, true, MatchResult, IfOk, Some, map, codes, option_map, string_bytes};
+ghost use Rattle.std.specs.Prelude.{◌≡◌, ℕ, List, [], false, true, MatchResult, IfOk, Some, map, codes, string_bytes};
 ghost use Rattle.clap.specs.Words.{all_of, fault_of, FailsBy, found_of, one_of, Row, rows_of, subcommand_of, subcommand_rows_of};
 ghost use Rattle.clap.specs.Values.{kind_of};
 ghost use Rattle.clap.specs.declared.error.kind.ErrorKind.TheVariants.{OutOfMemory};
-ghost use Rattle.mv_words.specs.Words.{command_line, Asked, AsksFor, Explain, HasFlag, IsFor, Work, WritesTurns, asked_of};
+ghost use Rattle.mv_words.specs.Words.{command_line, AsksFor, HasFlag, IsFor, WritesTurns};
+ghost use Rattle.mv_words.specs.declared.task.Task.{Task as Asked};
 
 use crate::words::command_line;
 use clap::{ArgMatches, Error};
 use std::alloc::{AllocError, Global};
+use std::marker::Model;
 
 /// What the words ask for.
 #[derive(Debug, Drop)]
@@ -32,15 +34,41 @@ pub enum Task<'a> {
     },
     /// `explain`: to say what codes mean.
     Explain {
-        /// The words behind `explain`, in their order. There is one at least.
-        codes: Vec<&'a str>,
+        /// The words behind `explain`, one at least.
+        codes: Codes<'a>,
     },
+}
+
+/// The words behind `explain`, in their order, seen as their bytes.
+#[derive(Debug, Drop)]
+pub struct Codes<'a> {
+    /// The words.
+    words: Vec<&'a str>,
+}
+
+impl<'a> Model for Codes<'a> {
+    ghost use Rattle.std.specs.Prelude.{ℕ, List, map};
+
+    ghost Value = { List (List ℕ) };
+
+    ghost view = { λ codes. map (λ word. word.now) codes.words.items };
+}
+
+impl<'a> Codes<'a> {
+    ghost use Rattle.std.specs.Prelude.{◌≡◌, map};
+
+    /// The words, in their order.
+    pub fn as_slice(&self) -> &[&'a str]
+        ensures { map (λ word. word.now) result.now ≡ self.now }
+    {
+        self.words.as_slice()
+    }
 }
 
 /// What the words ask for, or why they ask for nothing.
 pub fn task_of<'a>(alloc: Global, words: &'a [String]) -> Result<Option<Task<'a>>, Error>
     ensures task { (asked : Asked) → AsksFor asked (map string_bytes words.now) → MatchResult result
-        (λ task. option_map asked_of task ≡ Some asked) (λ error. kind_of error ≡ OutOfMemory) }
+        (λ task. task ≡ Some asked) (λ error. kind_of error ≡ OutOfMemory) }
     ensures taken { FailsBy (fault_of command_line (map string_bytes words.now)) result }
 {
     let matches = matches_of(alloc, words)?;
@@ -61,7 +89,7 @@ fn matches_of<'a>(alloc: Global, words: &'a [String]) -> Result<ArgMatches<'a>, 
 fn task_named<'a>(alloc: Global, matches: &ArgMatches<'a>) -> Result<Option<Task<'a>>, AllocError>
     ensures { (asked : Asked) (name : List ℕ) (rows : List Row)
         → subcommand_rows_of matches.now ≡ Some (name, rows) → IsFor asked name rows
-        → IfOk result (λ task. option_map asked_of task ≡ Some asked) }
+        → IfOk result (λ task. task ≡ Some asked) }
 {
     match matches.subcommand() {
         Some((name, given)) => task_by(alloc, name, given),
@@ -76,7 +104,7 @@ fn task_by<'a>(
     given: &ArgMatches<'a>,
 ) -> Result<Option<Task<'a>>, AllocError>
     ensures { (asked : Asked) → IsFor asked name.now (rows_of (found_of given.now))
-        → IfOk result (λ task. option_map asked_of task ≡ Some asked) }
+        → IfOk result (λ task. task ≡ Some asked) }
 {
     match name {
         "steps" if is_given(given, "strict") => Ok(Some(Task::Strict)),
@@ -105,7 +133,7 @@ fn is_given(given: &ArgMatches<'_>, flag: &str) -> bool
 fn work_task<'a>(given: &ArgMatches<'_>) -> Option<Task<'a>>
     ensures { (turns : ℕ) (text : List ℕ)
         → one_of (codes "turns") (rows_of (found_of given.now)) ≡ Some text → WritesTurns turns text
-        → option_map asked_of result ≡ Some (Work turns) }
+        → result ≡ Some (Task.Work turns) }
 {
     Some(Task::Work {
         turns: given.get_one("turns")?,
@@ -116,12 +144,14 @@ fn work_task<'a>(given: &ArgMatches<'_>) -> Option<Task<'a>>
 #[tactic(auto, using(crate::proofs::ParseLemmas::texts_given))]
 fn explain_task<'a>(alloc: Global, given: &ArgMatches<'a>) -> Result<Option<Task<'a>>, AllocError>
     ensures { (words : List (List ℕ)) → all_of (codes "code") (rows_of (found_of given.now)) ≡ Some words
-        → IfOk result (λ task. option_map asked_of task ≡ Some (Explain words)) }
+        → IfOk result (λ task. task ≡ Some (Task.Explain words)) }
 {
     let Some(words) = given.get_strs("code") else {
         return Ok(None);
     };
     let mut codes = Vec::new(alloc);
     codes.extend_from_slice(words)?;
-    Ok(Some(Task::Explain { codes }))
+    Ok(Some(Task::Explain {
+        codes: Codes { words: codes },
+    }))
 }

@@ -1,7 +1,10 @@
-use Rattle.std.proofs.Common.{◌≡◌, None, map, take}
+use Rattle.std.proofs.Common.{◌≡◌, length, map}
 use Rattle.mv_explain.specs.Explained.{first_unknown}
 use Rattle.mv_explain.proofs.explaining.unknown_in.Given as goal
 
 -- the words that were passed are codes
-abbrev pub invariant-loop-word : goal.invariant-loop-word
-invariant-loop-word l = first_unknown (map (λ word. word.now) (take l.word-index l.words)) ≡ None
+abbrev pub invariant-loop-words : goal.invariant-loop-words
+invariant-loop-words l = first_unknown (map (λ word. word.now) l.words) ≡ first_unknown (map (λ word. word.now) l.fn.words)
+
+abbrev pub decreases-loop-words : goal.decreases-loop-words
+decreases-loop-words l = length l.words

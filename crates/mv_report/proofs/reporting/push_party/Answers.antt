@@ -1,12 +1,26 @@
-use Rattle.std.proofs.Common.{◌∙◌, ap, length, List}
-use Rattle.mv_hub.specs.declared.entry.Entry.{Entry}
-use Rattle.mv_hub.specs.Record.{routed_count}
-use Rattle.mv_repository.specs.Counts.{counts_of}
-use Rattle.mv_report.proofs.ReportLemmas.{line_ended}
+use Rattle.std.proofs.Common.{append_assoc}
+use Rattle.mv_report.specs.Report.{party_line}
+use Rattle.mv_report.proofs.ReportLemmas.{line_behind, padded_number}
 use Rattle.mv_report.proofs.reporting.push_party.Goals as goal
 
+-- each number is written in ten places
 pub returns : goal.returns
+unfolding party_line
 returns c =
-    line_ended c.push_str.result c.args.outcome.now c.args.party (length c.sub.result.now) c.routed_count.result c.counts-counts.result _ _ _
-    (ap length c.sub.ensures) (c.routed_count.ensures.value ∙ ap (λ (entries : List Entry). routed_count entries c.args.party) c.hub.ensures.entries)
-    (c.counts-counts.ensures ∙ ap counts_of c.repository.ensures.log) c.in_ok-push_numbers.ensures c.push_str.ensures.bytes
+    line_behind c.writeln.result _ _ _ (party_line c.args.outcome.now c.args.party) c.writeln.ensures.bytes (simp (
+      c.laid_out.ensures,
+      c.laid_out-2.ensures,
+      c.laid_out-3.ensures,
+      c.laid_out-4.ensures,
+      c.laid_out-5.ensures,
+      c.laid_out-6.ensures,
+      c.laid_out-7.ensures,
+      c.laid_out-8.ensures,
+      padded_number,
+      append_assoc,
+      c.sub.ensures,
+      c.routed_count-routed.ensures.value,
+      c.hub.ensures.value,
+      c.counts-entries.ensures,
+      c.repository.ensures.log,
+    ))

@@ -1,4 +1,4 @@
-use Rattle.std.proofs.Common.{◌∙◌, ap, arith, length, decimal}
+use Rattle.std.proofs.Common.{arith, length, ◌∙◌, ap}
 use Rattle.mv_report.specs.Report.{closed_count, head_line, party_line}
 use Rattle.mv_report.proofs.ReportLemmas.{lines_more, report_whole}
 use Rattle.mv_report.proofs.reporting.report.Goals as goal
@@ -8,8 +8,6 @@ loop-party-preserved c = lines_more (party_line c.args.outcome.now) head_line _ 
 
 pub returns : goal.returns
 returns c =
-    report_whole c.args.outcome.now c.loop-party.party _ _ _ _ _
+    report_whole _ _ _ _ _
     (omega (arith, c.loop-party-test.false, c.loop-party.auto.party-end, c.len-party-end.ensures.value, ap length c.parties.ensures))
-    c.loop-party.invariant c.in_ok-push_str-2.ensures.bytes c.in_ok-push_str-3.ensures.bytes
-    (c.as_str.ensures.value ∙ c.in_ok-closed.ensures.ok ∙ ap decimal (c.closed_count.ensures ∙ ap closed_count c.record.ensures.entries))
-    c.in_ok-push_str-4.ensures.bytes
+    (c.closed_count-closed.ensures ∙ ap closed_count c.record.ensures.entries) c.loop-party.invariant c.in_ok-writeln.ensures.bytes

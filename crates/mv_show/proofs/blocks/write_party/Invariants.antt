@@ -1,10 +1,12 @@
-use Rattle.std.proofs.Common.{take}
-use Rattle.mv_show.proofs.Words.{Passes, subject_values}
-use Rattle.mv_show.proofs.BlockLemmas.{texts_of}
+use Rattle.std.proofs.Common.{◌++◌, flat_map, length}
+use Rattle.mv_show.proofs.Words.{Passes, lines_text, party_values, subject_values}
 use Rattle.mv_show.proofs.blocks.write_party.Given as goal
 
--- the lines of the first subjects came, and some of them went out
-abbrev pub invariant-loop-subject : goal.invariant-loop-subject
-invariant-loop-subject g l =
-    Passes (g.W.Write.contents l.fn.writer) (g.W.Write.contents l.writer)
-    (texts_of (subject_values l.world l.party) l.fn.ready.items (take l.subject-index l.subject-items)) l.ready.items
+-- of the text of all lines some first bytes went out, and there are left what stands ready and the lines of the other subjects
+abbrev pub invariant-loop-left : goal.invariant-loop-left
+invariant-loop-left g l =
+    Passes (g.W.Write.contents l.fn.writer) (g.W.Write.contents l.writer) (l.fn.ready ++ lines_text (party_values l.world l.party))
+    (l.ready ++ lines_text (flat_map (subject_values l.world l.party) l.left))
+
+abbrev pub decreases-loop-left : goal.decreases-loop-left
+decreases-loop-left g l = length l.left

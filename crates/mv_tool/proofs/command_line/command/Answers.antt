@@ -1,5 +1,5 @@
 use Rattle.std.proofs.Common.{◌≡◌, ◌∙◌, None, Some, ap, map, option_map, string_bytes, subst, sym}
-use Rattle.mv_words.specs.Words.{AreMistaken, AsksFor, asked_of}
+use Rattle.mv_words.specs.Words.{AreMistaken, AsksFor}
 use Rattle.mv_tool.specs.Statuses.{status_code}
 use Rattle.mv_tool.proofs.CommandLemmas.{kind_mistaken}
 use Rattle.mv_tool.proofs.command_line.command.Goals as goal
@@ -8,16 +8,14 @@ use Rattle.mv_tool.proofs.command_line.command.Goals as goal
 pub returns-in-Ok-Some-clause-ran : goal.returns-in-Ok-Some-clause-ran
 returns-in-Ok-Some-clause-ran g c asked asks =
     let wanted = c.in-Ok-Some.ensures.task asked (subst (AsksFor asked) (sym (ap (map string_bytes) c.as_slice.ensures.value)) asks) in
-    let found : Some asked ≡ Some (asked_of c.in-Ok-Some.task) = sym wanted ∙ ap (option_map asked_of) c.in-Ok-Some.field-0-is in
-    let same : asked ≡ asked_of c.in-Ok-Some.task = cc in
+    let same : asked ≡ c.in-Ok-Some.task = cc (wanted, c.in-Ok-Some.field-0-is) in
     (c.perform.result, c.code.ensures.code, rw same c.perform.ensures.ran)
 
 -- they ask for something, or are mistaken
 pub returns-in-Ok-None-clause-ran : goal.returns-in-Ok-None-clause-ran
 returns-in-Ok-None-clause-ran g c asked asks =
     let wanted = c.in-Ok-None.ensures.task asked (subst (AsksFor asked) (sym (ap (map string_bytes) c.as_slice.ensures.value)) asks) in
-    let none : Some asked ≡ None = sym wanted ∙ ap (option_map asked_of) c.in-Ok-None.field-0-is in
-    absurd (cc)
+    absurd (cc (wanted, c.in-Ok-None.field-0-is))
 
 -- the words are mistaken
 pub returns-clause-mistaken : goal.returns-clause-mistaken

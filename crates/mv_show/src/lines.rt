@@ -1,0 +1,78 @@
+//! Lines that stand ready to be written.
+
+ghost use Rattle.std.specs.Prelude.{◌≡◌, ◌++◌, ◌∷◌, [], IfErr, OnOk};
+ghost use Rattle.serde_json.specs.Data.{object};
+ghost use Rattle.mv_engine.specs.Output.{WrotePart};
+ghost use Rattle.mv_format.specs.Writing.{members_of};
+ghost use Rattle.mv_show.specs.Blocks.{Passes};
+ghost use Rattle.mv_show.specs.Shown.{lines_text};
+
+use mv_lines::{Member, ServeFault, append_object, put_out};
+use std::alloc::{AllocError, Global};
+use std::io::Write;
+use std::marker::Model;
+
+/// The bytes at which what is ready goes out.
+const BLOCK_LEN: usize = 65_536;
+
+/// Lines that stand ready to be written, seen as their text.
+#[derive(Drop)]
+pub(crate) struct Lines {
+    /// What memory is got from.
+    pub(crate) alloc: Global,
+    /// Their text.
+    text: Vec<u8>,
+}
+
+impl Model for Lines {
+    ghost use Rattle.std.specs.Prelude.{ℕ, List};
+
+    ghost Value = { List ℕ };
+
+    ghost view = { λ lines. lines.text.items };
+}
+
+impl Lines {
+    /// No lines yet.
+    pub(crate) fn new(alloc: Global) -> Lines
+        ensures { result ≡ [] }
+    {
+        Lines {
+            alloc,
+            text: Vec::new(alloc),
+        }
+    }
+
+    /// Their text.
+    pub(crate) fn as_slice(&self) -> &[u8]
+        ensures { result.now ≡ self.now }
+    {
+        self.text.as_slice()
+    }
+
+    /// Adds the line that is the object of these members, which come in byte order of their keys.
+    pub(crate) fn push(&mut self, members: &[Member<'_>]) -> Result<(), AllocError>
+        ensures { OnOk result (self.new
+            ≡ self.old ++ lines_text (object (members_of members.now) ∷ [])) }
+    {
+        append_object(self.alloc, &mut self.text, members)?;
+        self.text.push(b'\n')?;
+        Ok(())
+    }
+
+    /// Writes them, where they are a block or more.
+    pub(crate) fn put_full<W: Write>(&mut self, writer: &mut W) -> Result<(), ServeFault>
+        ensures ok { OnOk result (Passes (W.contents writer.old) (W.contents writer.new)
+            self.old self.new) }
+        ensures fault { IfErr result (λ fault. fault ≡ ServeFault.Write) }
+        ensures err { IfErr result (λ _.
+            WrotePart self.old (W.contents writer.old) (W.contents writer.new)) }
+    {
+        if self.text.len() < BLOCK_LEN {
+            return Ok(());
+        }
+        put_out(writer, self.text.as_slice())?;
+        self.text.clear();
+        Ok(())
+    }
+}

@@ -1,6 +1,8 @@
 -- What `==` says of the parts of messages: each test passes exactly where both are the same.
 use denote.Struct.Field.{Field}
 use denote.Struct.Values.{Values}
+use denote.Struct.Cover.{Cover-one}
+use denote.Struct.Declared.{Declared}
 use denote.Enum.Compared.{Each, by}
 use denote.Enum.Declared.{Record, Choice, values_one}
 use denote.Enum.Bare.{same_true, true_same}
@@ -14,6 +16,9 @@ use Rattle.std.proofs.lemmas.Bool.Decides.{Decides-and, Decides-like, Decides-eq
 use Rattle.std.proofs.lemmas.Slice.Eq.{slice_eq-Decides, bytes_eq-Decides}
 use Rattle.mv_pack.specs.Expiry.{CivilDate}
 use Rattle.mv_pack.specs.contracts.expiry.ExpiryPartialEq.TheImpl as expiry
+use Rattle.mv_pack.specs.contracts.key.BatchKey.{the_type as batch_type}
+use Rattle.mv_pack.specs.contracts.key.PackKey.{the_type as pack_type}
+use Rattle.mv_message.specs.contracts.message.Product.{the_type as product_type}
 use Rattle.mv_pack.specs.contracts.key.BatchKeyPartialEq.TheImpl as batch
 use Rattle.mv_pack.specs.contracts.key.PackKeyPartialEq.TheImpl as pack
 use Rattle.mv_pack.specs.declared.key.BatchKey.{BatchKey}
@@ -58,6 +63,19 @@ values_decide N each all x y =
     Decides-like (by false false N.parts each (N.as_values x) (N.as_values y)) (values_one N x y) (λ e. ap N.as_values e)
     (choices_decide N.parts each all (N.as_values x) (N.as_values y))
 
+-- so it does at two values of a struct, where it does at their fields
+fields_decide : (T : Declared) (x y : T.D) {b : Bool} → Decides b (T.as_values x ≡ T.as_values y) → Decides b (x ≡ y)
+fields_decide T x y {b} fields = Decides-like b (Cover-one T.cover T.propositions x y) (λ e. ap T.as_values e) fields
+
+-- the first field and the rest of them
+first_decides : {A B : Type 0} (x y : A × B) {a b : Bool} → Decides a (x.0 ≡ y.0) → Decides b (x.1 ≡ y.1) → Decides (a && b) (x ≡ y)
+first_decides x y {a} {b} first rest =
+    Decides-like (a && b) (λ e. λ i. (e.0 i, e.1 i)) (λ e. (ap (λ z. z.0) e, ap (λ z. z.1) e)) (Decides-and a b first rest)
+
+-- the last field
+last_decides : {A : Type 0} (x y : A × Unit {0}) {a : Bool} → Decides a (x.0 ≡ y.0) → Decides a (x ≡ y)
+last_decides x y {a} last = Decides-like a (λ e. λ i. (e i, tt)) (λ e. ap (λ z. z.0) e) last
+
 dates_decide : (x y : CivilDate) → Decides ((expiry.ghosts).eq x y) (x ≡ y)
 dates_decide x y = Decides-like _ (λ e. λ i. record { year = e.0 i; month = e.1.0 i; day = e.1.1 i })
     (λ e. (ap (λ d. d.year) e, (ap (λ d. d.month) e, ap (λ d. d.day) e)))
@@ -74,30 +92,13 @@ standings_decide : (x y : Standing) → Decides ((standing.ghosts).eq x y) (x �
 standings_decide x y = (same_true the_type (search rules) x y, true_same the_type x y)
 
 pub products_decide : (x y : Product) → Decides ((product.ghosts).eq x y) (x ≡ y)
-products_decide x y = Decides-like _
-    (λ e. λ i. record { scheme = e.0 i; name = e.1.0 i; common = e.1.1.0 i; form = e.1.1.1.0 i; strength = e.1.1.1.1.0 i; pack_type = e.1.1.1.1.1.0 i; pack_size = e.1.1.1.1.1.1.0 i; markets = e.1.1.1.1.1.1.1 i })
-    (λ e. (ap (λ p. p.scheme) e, (ap (λ p. p.name) e, (ap (λ p. p.common) e, (ap (λ p. p.form) e, (ap (λ p. p.strength) e, (ap (λ p. p.pack_type) e, (ap (λ p. p.pack_size) e, ap (λ p. p.markets) e))))))))
-    (Decides-and _ _ (texts_decide x.scheme y.scheme) (Decides-and _ _ (texts_decide x.name y.name) (Decides-and _ _ (texts_decide x.common y.common) (Decides-and _ _ (texts_decide x.form y.form)
-    (Decides-and _ _ (texts_decide x.strength y.strength) (Decides-and _ _ (texts_decide x.pack_type y.pack_type) (Decides-and _ _ (texts_decide x.pack_size y.pack_size) (lists_decide x.markets y.markets))))))))
+products_decide x y = fields_decide product_type x y (search (first_decides, last_decides, texts_decide, lists_decide) depth 16 parts 16)
 
 packs_decide : (x y : PackKey) → Decides ((pack.ghosts).eq x y) (x ≡ y)
-packs_decide x y = Decides-like _ (λ e. λ i. record { gtin = e.0 i; serial = e.1 i })
-    (λ e. (ap (λ k. k.gtin) e, ap (λ k. k.serial) e))
-    (Decides-and _ _ (texts_decide x.gtin y.gtin) (texts_decide x.serial y.serial))
+packs_decide x y = fields_decide pack_type x y (search (first_decides, last_decides, texts_decide))
 
 batches_decide : (x y : BatchKey) → Decides ((batch.ghosts).eq x y) (x ≡ y)
-batches_decide x y = Decides-like _ (λ e. λ i. record { gtin = e.0 i; batch = e.1 i })
-    (λ e. (ap (λ k. k.gtin) e, ap (λ k. k.batch) e))
-    (Decides-and _ _ (texts_decide x.gtin y.gtin) (texts_decide x.batch y.batch))
-
--- the first field of a variant and the rest of them
-first_decides : {A B : Type 0} (x y : A × B) {a b : Bool} → Decides a (x.0 ≡ y.0) → Decides b (x.1 ≡ y.1) → Decides (a && b) (x ≡ y)
-first_decides x y {a} {b} first rest =
-    Decides-like (a && b) (λ e. λ i. (e.0 i, e.1 i)) (λ e. (ap (λ z. z.0) e, ap (λ z. z.1) e)) (Decides-and a b first rest)
-
--- the last field of a variant
-last_decides : {A : Type 0} (x y : A × Unit {0}) {a : Bool} → Decides a (x.0 ≡ y.0) → Decides a (x ≡ y)
-last_decides x y {a} last = Decides-like a (λ e. λ i. (e i, tt)) (λ e. ap (λ z. z.0) e) last
+batches_decide x y = fields_decide batch_type x y (search (first_decides, last_decides, texts_decide))
 
 pub found_decide : (x y : Found) → Decides ((found.ghosts).eq x y) (x ≡ y)
 found_decide x y = values_decide found_enum _

@@ -23,9 +23,7 @@ impl<T: Drop> Boxed<T> {
     pub fn new(alloc: Global, value: T) -> Result<Boxed<T>, AllocError>
         ensures { IfOk result (λ boxed. boxed ≡ value) }
     {
-        let Ok(value) = Box::new(alloc, value) else {
-            return Err(AllocError);
-        };
+        let value = Box::new(alloc, value).map_err(|_| AllocError)?;
         Ok(Boxed { value })
     }
 

@@ -28,7 +28,7 @@ pub fn markets_are_equal(left: &Markets, right: &Markets) -> bool
 }
 
 /// Products are equal exactly where their texts and their markets are.
-#[tactic(auto, using(crate::proofs::EqualityLemmas::lists_decide))]
+#[tactic(auto, using(crate::proofs::EqualityLemmas::products_decide))]
 pub fn products_are_equal(left: &Product, right: &Product) -> bool
     ensures { IsTrue result ↔ (left.now ≡ right.now) }
 {
@@ -36,6 +36,7 @@ pub fn products_are_equal(left: &Product, right: &Product) -> bool
 }
 
 /// What was found is equal exactly where both are nothing, or all that was found of both packs is the same.
+#[tactic(auto, using(crate::proofs::EqualityLemmas::found_decide))]
 pub fn found_are_equal(left: &Found, right: &Found) -> bool
     ensures { IsTrue result ↔ (left.now ≡ right.now) }
 {
@@ -43,7 +44,7 @@ pub fn found_are_equal(left: &Found, right: &Found) -> bool
 }
 
 /// Messages are equal exactly where they are of one kind and hold the same.
-#[tactic(auto, using(crate::proofs::EqualityLemmas::lists_decide))]
+#[tactic(auto, using(crate::proofs::EqualityLemmas::messages_decide))]
 pub fn messages_are_equal(left: &Message, right: &Message) -> bool
     ensures { IsTrue result ↔ (left.now ≡ right.now) }
 {

@@ -23,9 +23,7 @@ impl<T: Drop> Shared<T> {
     pub fn new(alloc: Global, value: T) -> Result<Shared<T>, AllocError>
         ensures { IfOk result (λ shared. shared ≡ value) }
     {
-        let Ok(value) = Arc::new(alloc, value) else {
-            return Err(AllocError);
-        };
+        let value = Arc::new(alloc, value).map_err(|_| AllocError)?;
         Ok(Shared { value })
     }
 

@@ -1,6 +1,7 @@
 -- The search for the batches that chains of links lead to.
+use Rattle.std.proofs.lemmas.Grind.{elements}
 use Rattle.std.proofs.Common.{◌≡◌, ◌<◌, ◌≤◌, ◌+◌, ℕ, Bool, true, false, cond, List, [], ◌∷◌, ◌++◌, length, get_or, take, take_all, Contains, ◌↔◌, ◌⊎◌, inl, inr, subst, sym, refl, ap, ◌∙◌, arith, append_assoc, length-append}
-use Rattle.mv_hub.proofs.Words.{BatchKey, Contains-append_left, Contains-from_any, Contains-push, Contains-push_cases, Gathers, IsChain, IsReachedFrom, is_same_batch, list_any, take-append-le, take_more}
+use Rattle.mv_hub.proofs.Words.{BatchKey, Contains-from_any, Contains-push_cases, Gathers, IsChain, IsReachedFrom, is_same_batch, list_any, take-append-le, take_more}
 use Rattle.indexmap.specs.IndexSet.{insert_key}
 use Rattle.mv_hub.proofs.ListingLemmas.{batch-same}
 
@@ -8,8 +9,7 @@ none-in : (batch : BatchKey) → Contains [] batch → ⊥
 none-in batch (k, below, at) = omega (arith, below)
 
 pub one-more : (xs : List BatchKey) (x batch : BatchKey) → Contains (xs ++ x ∷ []) batch ↔ (Contains xs batch ⊎ (x ≡ batch))
-one-more xs x batch =
-    (Contains-push_cases xs x batch, elim [ inl h ↦ Contains-append_left xs (x ∷ []) batch h | inr e ↦ subst (Contains (xs ++ x ∷ [])) e (Contains-push xs x) ])
+one-more xs x batch = grind (arith, elements)
 
 pub one-link : (xs : List BatchKey) (x batch : BatchKey) → Contains (insert_key is_same_batch xs x) batch ↔ (Contains xs batch ⊎ (x ≡ batch))
 one-link xs x batch = by (list_any (is_same_batch x) xs) refl

@@ -1,7 +1,6 @@
 pub mod Words
 pub mod Record
 pub mod Parties
-pub mod MarketTables
 pub mod Targets
 pub mod Links
 pub mod Listing
@@ -11,4 +10,3 @@ pub mod Tables
 pub mod Fault
 pub mod Hub
 pub mod Kept
-pub mod Gains

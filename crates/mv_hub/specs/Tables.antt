@@ -1,11 +1,14 @@
 -- What the tables of the hub hold by its record, and how an entry changes them: words of the inside.
-use Rattle.std.specs.Prelude.{List, [], ◌∷◌, ◌++◌, ◌≡◌, ◌↔◌, ◌⊎◌, Contains, Option, Some, None, if◌then◌else◌, ℕ, bytes_eq}
+use Rattle.std.specs.Prelude.{List, [], ◌∷◌, ◌++◌, ◌+◌, ◌==◌, ◌≡◌, ◌↔◌, ◌⊎◌, Contains, Option, Some, None, Bool, false, if◌then◌else◌, ℕ, bytes_eq, length, slice_index}
 use Rattle.mv_hub.specs.Words.{BatchKey, IsEquivalence, Product, and_equiv, is_same_batch, list_any, nat_eq_equiv, nat_list_eq_equiv, on_equiv, option_map_or, option_or}
 use Rattle.mv_hub.specs.declared.catalogue.Catalogue.{Catalogue}
 use Rattle.std.specs.Map.{lookup}
 use Rattle.std.specs.declared.alloc.Global.{Global}
 use Rattle.std.specs.declared.vec.Vec.{Vec}
 use Rattle.mv_hub.specs.Listing.{Listing, is_same_listing}
+use Rattle.mv_pack.specs.Market.{IsMarket, place_of}
+use Rattle.mv_pack.specs.declared.market.TheConstants.{MARKETS_LIMIT}
+use Rattle.mv_hub.specs.Parties.{has_market, has_twice, served_by, all_markets}
 
 -- the batches after, by the batch before
 abbrev pub LinkTable : Type 0
@@ -42,3 +45,16 @@ pub listing_equiv : IsEquivalence is_same_listing
 listing_equiv =
     and_equiv (and_equiv (and_equiv (on_equiv (λ (p : Listing). p.0) nat_list_eq_equiv) (on_equiv (λ (p : Listing). p.1.year) nat_eq_equiv))
     (on_equiv (λ (p : Listing). p.1.month) nat_eq_equiv)) (on_equiv (λ (p : Listing). p.1.day) nat_eq_equiv)
+
+-- a look-up found this party
+abbrev pub is_found : Option ℕ → ℕ → Bool
+is_found None party = false
+is_found (Some found) party = party == found
+
+-- of lists in which no market stands twice a table has at the place of each market one more than the number of its party, and 0 where
+-- no list has it
+pub record AreNoted (lists : List (List (List ℕ))) (noted : List ℕ) : Type 0 where
+  pub long : length noted ≡ MARKETS_LIMIT
+  pub once : has_twice (all_markets lists) ≡ false
+  pub parties : (market : List ℕ) (party : ℕ) → IsMarket market
+      → has_market (served_by lists party) market ≡ (slice_index noted (place_of market) == (party + 1))

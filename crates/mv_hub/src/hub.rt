@@ -140,8 +140,7 @@ impl Hub {
         ensures { option_map (λ markets. markets.now) result
             ≡ last_markets self.now.entries gtin.now }
     {
-        let catalogue = self.catalogue(gtin)?;
-        let product = catalogue.product.get()?;
+        let product = self.catalogue(gtin)?.product.get()?;
         Some(product.markets.as_slice())
     }
 

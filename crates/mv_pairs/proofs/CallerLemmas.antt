@@ -1,11 +1,13 @@
 -- Reads of a table that was written: what the proofs of other crates cite of tables.
 use Rattle.std.proofs.lemmas.Grind.{common_steps}
 use Rattle.std.proofs.Common.{◌≡◌, ◌≢◌, ℕ, zero, suc, ◌<◌, List, [], ◌∷◌, length, map, get_or, set, sym, refl, ap, ◌∙◌, subst, arith, ◌⊎◌, get_or-set_same, get_or-set_other, rules, replicate}
-use Rattle.std.proofs.lemmas.List.Elements.{All-nil}
-use Rattle.std.proofs.lemmas.List.{get_or_past, get_or_default, set_past, get_or-replicate, length-replicate, set-get_or, length-map, map-set}
+use Rattle.std.proofs.lemmas.List.{get_or_default, set_past, get_or-replicate, length-replicate, set-get_or, length-map, length-set, map-set, get_or-map as get_or-map-within}
 use Rattle.std.proofs.Math.ListN.{get_or-map}
 use Rattle.std.specs.List.{All}
-use Rattle.mv_pairs.specs.Pairs.{cell, put, IsSquare}
+use Rattle.std.specs.declared.alloc.Global.{Global}
+use Rattle.std.specs.declared.vec.Vec.{Vec}
+use Rattle.std.specs.Vec.{with_item}
+use Rattle.mv_pairs.specs.Pairs.{cell, put, rows_of, IsSquare}
 
 -- what holds at each place, and of the new value at its own, holds at each place after the write
 pub put-each : {A : Type 0} (P : ℕ → A → Type 0) (xs : List A) (i : ℕ) (v d : A) → P i v → ((j : ℕ) → P j (get_or xs j d)) → (j : ℕ) → P j (get_or (set xs i v) j d)
@@ -66,9 +68,20 @@ cell-all P n t s r d h a p q = a s [] (subst (λ k. s < k) (sym h.rows) p) r d (
 pub put-read : {A : Type 0} (t : List (List A)) (s r : ℕ) (v d : A) → v ≡ cell t s r d → put t s r v ≡ t
 put-read t s r v d e = ap (put t s r) e ∙ put-cell t s r d
 
--- what holds of all values, and of the default, holds at each place
-pub read-any : {A : Type 0} (P : A → Type 0) (xs : List A) (i : ℕ) (d : A) → All P xs → P d → P (get_or xs i d)
-read-any P xs i d a p = grind (arith, get_or_past)
+-- one row of a table, and a write in it
+abbrev items_of : {A : Type 0} → Vec A Global → List A
+items_of row = row.items
 
-pub cell-any : {A : Type 0} (P : A → Type 0) (t : List (List A)) (s r : ℕ) (d : A) → All (All P) t → P d → P (cell t s r d)
-cell-any P t s r d a p = read-any P (get_or t s []) r d (read-any (All P) t s [] a (All-nil P)) p
+module _ {A : Type 0} (rows : List (Vec A Global)) (from to : ℕ) (row : Vec A Global) (is_from : from < length rows) (here : row ≡ get_or rows from row) where
+  pub row_shown : get_or (rows_of rows) from [] ≡ row.items
+  row_shown = get_or-map-within items_of rows from row [] is_from ∙ ap items_of (sym here)
+
+  pub rows_put : (w : A) → rows_of (set rows from (with_item row to w)) ≡ put (rows_of rows) from to w
+  rows_put w = grind (arith, map-set items_of rows from, row_shown)
+
+  module _ (square : IsSquare (length rows) (rows_of rows)) where
+    pub row_wide : to < length rows → to < length row.items
+    row_wide is_to = subst (λ n. to < n) (sym (square.row from is_from) ∙ ap length row_shown) is_to
+
+    pub square_kept : (w : A) → IsSquare (length (set rows from (with_item row to w))) (rows_of (set rows from (with_item row to w)))
+    square_kept w = grind (arith, rows_put w, length-set, square-put (length rows) (rows_of rows) from to w square)

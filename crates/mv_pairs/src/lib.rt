@@ -18,7 +18,6 @@
 //! ```
 #![tactic(auto)]
 
-mod row;
 mod table;
 
 pub use table::PairTable;

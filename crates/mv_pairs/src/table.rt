@@ -3,9 +3,8 @@
 ghost use Rattle.std.specs.Prelude.{◌≡◌, ◌<◌, length, IfOk, Ok};
 ghost use Rattle.std.specs.List.{All};
 ghost use Rattle.std.specs.Borrow.{sem};
-ghost use Rattle.mv_pairs.specs.Pairs.{cell, put, IsSquare};
+ghost use Rattle.mv_pairs.specs.Pairs.{cell, put, rows_of, IsSquare};
 
-use crate::row::Row;
 use std::alloc::{AllocError, Global};
 use std::marker::Model;
 
@@ -13,18 +12,18 @@ use std::marker::Model;
 #[derive(Drop)]
 pub struct PairTable<T> {
     /// The row of each party, that from which the pair goes.
-    rows: Vec<Row<T>>,
+    rows: Vec<Vec<T>>,
 }
 
 impl<T> Model for PairTable<T> {
     ghost use Rattle.std.specs.Prelude.{List, length};
-    ghost use Rattle.mv_pairs.specs.Pairs.{IsSquare};
+    ghost use Rattle.mv_pairs.specs.Pairs.{rows_of, IsSquare};
 
     ghost Value = { List (List T) };
 
-    ghost view = { λ t. t.rows.items };
+    ghost view = { λ t. rows_of t.rows.items };
 
-    ghost invariant = { λ t. IsSquare (length t.rows.items) t.rows.items };
+    ghost invariant = { λ t. IsSquare (length t.rows.items) (rows_of t.rows.items) };
 }
 
 impl<T> PairTable<T> {
@@ -40,16 +39,17 @@ impl<T> PairTable<T> {
     }
 
     /// The value of a pair.
+    #[tactic(auto, using(crate::proofs::CallerLemmas::row_wide))]
     pub fn at(&self, from: u32, to: u32) -> &T
         requires from { from < length self.now }
         requires to { to < length self.now }
         ensures { (default : T) → cell self.now from to default ≡ result.now }
     {
-        let row = &self.rows[from as usize];
-        row.at(to)
+        &self.rows[from as usize][to as usize]
     }
 
     /// The place of a pair. What is written there is put into the table.
+    #[tactic(auto, using(crate::proofs::CallerLemmas::row_wide, crate::proofs::CallerLemmas::square_kept))]
     pub fn at_mut(&mut self, from: u32, to: u32) -> &mut T
         requires from { from < length self.old }
         requires to { to < length self.old }
@@ -57,7 +57,7 @@ impl<T> PairTable<T> {
         ensures value { (default : T) → cell self.old from to default ≡ result.now }
     {
         let row = &mut self.rows[from as usize];
-        row.at_mut(to)
+        &mut row[to as usize]
     }
 }
 
@@ -73,8 +73,11 @@ impl<T: Drop> PairTable<T> {
         ensures each { IfOk result (λ table. All (All (λ value. F.post make (Ok value))) table) }
     {
         let mut rows = Vec::new(alloc);
-        for _ in 0..count {
-            let row = Row::from_fn(alloc, count, &make)?;
+        for _from in 0..count {
+            let mut row = Vec::new(alloc);
+            for _to in 0..count {
+                row.push(make()?)?;
+            }
             rows.push(row)?;
         }
         Ok(PairTable { rows })

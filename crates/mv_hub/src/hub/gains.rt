@@ -2,9 +2,8 @@
 
 ghost use Rattle.std.specs.Prelude.{◌≡◌, ◌<◌, ℕ, [], ◌∷◌, length, replicate, true};
 ghost use Rattle.mv_hub.specs.Words.{HasRoom, IsSquare, has_party, parties_in};
-ghost use Rattle.mv_hub.specs.Gains.{PushesItems, PushesRow, receipt_to, gain_of};
+ghost use Rattle.mv_hub.specs.Kept.{PushesItems, PushesRow, gain_of, link_at, receipt_to};
 ghost use Rattle.mv_hub.specs.Targets.{is_query};
-ghost use Rattle.mv_hub.specs.Kept.{link_at};
 
 use crate::hub::routing::Routing;
 use mv_link::{Item, Outgoing, Reached};

@@ -48,8 +48,7 @@ impl AuditTrail {
         ensures { IfOk result (λ list.
             IsAscendingList list.items (Contains (linked_to self.now batch.now))) }
     {
-        let list = copies(self.alloc, self.links_of(batch))?;
-        Ok(ascending(list))
+        ascending(self.alloc, self.links_of(batch))
     }
 
     /// The batches to which a chain of one or more links leads from a batch, ascending. Refused for want of memory.
@@ -58,8 +57,7 @@ impl AuditTrail {
             IsAscendingList list.items (IsDescendant self.now batch.now)) }
     {
         let reached = self.reached(batch)?;
-        let list = copies(self.alloc, reached.as_slice())?;
-        Ok(ascending(list))
+        ascending(self.alloc, reached.as_slice())
     }
 
     /// The batches to which a chain of one or more links leads from a batch. Each is looked at once, in the order in which
@@ -90,18 +88,12 @@ fn add_all(set: &mut IndexSet<BatchKey>, batches: &[BatchKey]) -> Result<(), All
     Ok(())
 }
 
-/// The same batches, in a list of its own.
-fn copies(alloc: Global, batches: &[BatchKey]) -> Result<Vec<BatchKey>, AllocError>
-    ensures { IfOk result (λ list. list.items ≡ batches.now) }
+/// The same batches in a list of its own, ascending and each once. Refused for want of memory.
+fn ascending(alloc: Global, batches: &[BatchKey]) -> Result<Vec<BatchKey>, AllocError>
+    ensures { IfOk result (λ list. IsAscendingList list.items (Contains batches.now)) }
 {
-    batches.iter().map(|batch| batch.copy()).collect(alloc)
-}
-
-/// The batches, ascending and each once.
-fn ascending(mut batches: Vec<BatchKey>) -> Vec<BatchKey>
-    ensures { IsAscendingList result.items (Contains batches.items) }
-{
-    batches.sort_unstable();
-    batches.dedup();
-    batches
+    let mut list: Vec<BatchKey> = batches.iter().map(|batch| batch.copy()).collect(alloc)?;
+    list.sort_unstable();
+    list.dedup();
+    Ok(list)
 }

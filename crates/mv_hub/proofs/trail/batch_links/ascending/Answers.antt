@@ -1,3 +1,4 @@
+use Rattle.std.proofs.Common.{◌≡◌, sym, rules}
 use Rattle.std.proofs.lemmas.List.Filters.{dedup_is}
 use Rattle.std.proofs.lemmas.List.Kept.{Contains-dedup, Contains-from_dedup, IsStrictlySortedBy-dedup}
 use Rattle.std.proofs.lemmas.List.Sorted.{Contains-permutation, IsPermutation-sym}
@@ -6,8 +7,9 @@ use Rattle.mv_hub.proofs.trail.batch_links.ascending.Goals as goal
 
 pub returns : goal.returns
 returns c =
+    let same : c.in_ok-list.list.items ≡ c.args.batches.now = search rules in
     let moved = c.sort_unstable.ensures.permutation in
-    rw (dedup_is _ _ _ c.dedup.ensures.filtered) (record {
+    rw (dedup_is _ _ _ c.dedup.ensures.filtered, sym same) (record {
       order = IsStrictlySortedBy-dedup batch_order batch_ties _ c.sort_unstable.ensures.sorted;
       members = λ batch. (
         λ h. Contains-permutation _ _ batch (IsPermutation-sym _ _ moved) (Contains-from_dedup _ _ batch h),

@@ -3,4 +3,4 @@ pub use Rattle.mv_party.specs.Words.{Item, LogEntry, Message, is_query_or_answer
 pub use Rattle.mv_party.specs.Calls.{answer_fault, ask_fault, submit_fault, unless_fault}
 pub use Rattle.mv_party.specs.Kept.{IsSite, site_of}
 pub use Rattle.mv_party.specs.Site.{IsLawfulParty, SiteState, answers_in, count_from, entry_from}
-pub use Rattle.mv_repository.specs.Query.{answer_after, answer_to, answers_from, answers_of}
+pub use Rattle.mv_repository.specs.Verdict.{answer_after, answer_to, answers_from, answers_of}

@@ -1,6 +1,6 @@
 -- What is kept of a pack says what it is, and whether it is active.
 use Rattle.std.specs.Prelude.{◌≡◌, ◌∷◌, ◌==◌, ◌⊎◌}
-use Rattle.mv_repository.proofs.Words.{ℕ, List, [], refl, sym, ◌∙◌, ap, arith, true, false, cond, cond_both, Option, Some, None, IfSome, filter, fold, inl, inr, get_or, nat_tests, option_map, option_map_or, unwrap_or, PackKey, LogEntry, distinct_count, is_same_pack, is_held_active, uploaded_packs, Placed, ordered, is_active, is_done, pack_state, held_of, standing_in, known_at, effect_on, next_by, FirstStops, first_stops, entry_at, place_of, no_entry, is_upload_of, is_status_of, statuses_of, pack_grown, track_of, state_from, state_by, is_active_kept}
+use Rattle.mv_repository.proofs.Words.{ℕ, List, [], refl, sym, ◌∙◌, ap, arith, true, false, cond, cond_both, Option, Some, None, IfSome, filter, fold, inl, inr, get_or, nat_tests, option_map, option_map_or, unwrap_or, PackKey, LogEntry, distinct_count, is_same_pack, is_held_active, uploaded_packs, Placed, ordered, is_active, is_done, pack_state, held_of, standing_in, known_at, effect_on, next_by, FirstStops, first_stops, entry_at, place_of, no_entry, is_upload_of, is_status_of, statuses_of, pack_grown, track_of, held_at, option_and_then, is_active_kept}
 use Rattle.mv_repository.proofs.OrderLemmas.{Stand, find-true, ordered-ascends, ordered-stand}
 use Rattle.mv_repository.proofs.StateLemmas.{known-grown, entry-stands, find-stand}
 use Rattle.mv_repository.proofs.TableLemmas.{filter-stand}
@@ -29,7 +29,7 @@ module _ (log : List LogEntry) (pack : PackKey) where
   last birth = (fold (next_by S pack.gtin birth) (unwrap_or birth (entry_at [] 0)) own).place
 
   of-birth : (birth : Option Placed) → IfSome birth (λ x. get_or log x.place no_entry ≡ x.entry)
-      → state_from log (option_map place_of birth) (last birth) ≡ option_map held_of (pack_grown S pack birth own)
+      → option_and_then (λ (first : ℕ). held_at log first (last birth)) (option_map place_of birth) ≡ option_map held_of (pack_grown S pack birth own)
   of-birth None s = refl
   of-birth (Some y) s =
       let by = fold (next_by S pack.gtin (Some y)) y own in
@@ -37,7 +37,7 @@ module _ (log : List LogEntry) (pack : PackKey) where
       ∙ ap (option_map held_of) (sym (grown-by S pack y own))
 
   -- a pack is what stands by its last step
-  pub track-state : state_by log (track_of pack log) ≡ pack_state pack log
+  pub track-state : option_and_then (λ (birth : ℕ). held_at log birth (track_of pack log).by) (track_of pack log).birth ≡ pack_state pack log
   track-state = grind (arith, nat_tests, find-stand, known-grown, of-birth, ordered-ascends, ordered-stand)
 
   active-birth : (birth : Option Placed) → IfSome birth (λ x. get_or log x.place no_entry ≡ x.entry) → IfSome birth (λ x. is_upload_of pack x.entry.item ≡ true)

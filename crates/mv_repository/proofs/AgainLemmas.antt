@@ -1,7 +1,7 @@
 -- Tracks that are worked out again, also without need.
 use Rattle.std.specs.Prelude.{◌≡◌, ◌+◌}
-use Rattle.mv_repository.proofs.Words.{arith, nat_tests, bytes_eq, Bool, None, Option, Some, [], ap, false, get_or, length, map, refl, subst, sym, take, true, true≢false, ℕ, ◌∙◌, List, lookup, IfSome, option_and_then, option_map, made_batch, pack_key, LogEntry, Slot, Made, Own, Placed, Stops, stops_in, ordered, IsAgain, IsRefreshed, IsShelfOf, ShelfTable, NamesNone, is_listed, kept_by, no_shelf, nothing_kept, AreStopsOf, no_entry, place_of, IsKept, Kept, Life, first_upload, statuses_of, life_of}
-use Rattle.mv_repository.proofs.TableLemmas.{filter-none, find-none, log-split}
+use Rattle.mv_repository.proofs.Words.{arith, nat_tests, bytes_eq, Bool, None, Option, Some, [], ap, false, get_or, length, map, refl, subst, sym, take, true, true≢false, ℕ, ◌∙◌, List, lookup, IfSome, option_and_then, option_map, made_batch, pack_key, LogEntry, Slot, Made, Own, Placed, Stops, stops_in, ordered, IsAgain, IsRefreshed, IsShelfOf, ShelfTable, is_listed, kept_by, no_shelf, nothing_kept, AreStopsOf, no_entry, place_of, IsKept, Kept, Life, first_upload, statuses_of, life_of}
+use Rattle.mv_repository.proofs.TableLemmas.{NamesNone, filter-none, find-none, log-split}
 use Rattle.mv_repository.proofs.TrackLemmas.{track-is}
 
 module _ (whole : List LogEntry) (place : ℕ) (tables : Stops) (gtin : List ℕ) (l : length whole ≡ place + 1) (stops : AreStopsOf whole tables)

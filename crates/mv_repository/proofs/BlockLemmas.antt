@@ -1,6 +1,7 @@
 -- Blocks of statuses, over any places and any rule by which a pack goes from one to the next.
-use Rattle.std.specs.Prelude.{◌≡◌, ◌+◌, ◌<◌, ◌≤◌, ◌∷◌, ◌++◌, ◌||◌, ◌==◌}
-use Rattle.mv_repository.proofs.Words.{ℕ, zero, suc, List, [], length, get_or, take, drop, fold, insert, set, refl, sym, ◌∙◌, ap, subst, true, arith, append_assoc, nat_tests, take-add, at_drop_more, drop-drop, drop_at, get_or_default, length-take-le, take-append-drop, take-append-le, take_at, take_more_set, drop-append-le, length-drop, length-append, fold-append, AllByRecursion, has_party, PartySet, Block, Cut, may_have, IsCovered, IsSummary, AreBlocks, IsFront, IsCut, no_block, without, Placed, common_steps}
+use Rattle.std.proofs.lemmas.Grind.{elements}
+use Rattle.std.specs.Prelude.{◌≡◌, ◌+◌, ◌-◌, ◌<◌, ◌≤◌, ◌∷◌, ◌++◌, ◌||◌, ◌==◌}
+use Rattle.mv_repository.proofs.Words.{ℕ, zero, suc, List, [], length, get_or, take, drop, fold, insert, set, sym, ◌∙◌, ap, subst, true, arith, append-nil, append_assoc, nat_tests, take-add, at_drop_more, drop-drop, drop_at, drop_of_length-le, get_or_default, length-take-le, take-append-drop, take-append-le, take_all, take_at, take_more, take_more_set, drop-append-le, length-drop, length-append, fold-append, AllByRecursion, has_party, PartySet, Block, Cut, may_have, IsCovered, IsSummary, AreBlocks, IsFront, IsCut, without, Placed, common_steps}
 
 -- lists that are cut
 cut-take : {A : Type 0} (n : ℕ) (xs ys : List A) → n ≤ length xs → take n (take n xs ++ ys) ≡ take n xs
@@ -16,24 +17,13 @@ got-drop : {A : Type 0} (xs : List A) (i : ℕ) (d : A) → i < length xs → dr
 got-drop xs i d l = at_drop_more (λ t. t) xs i d l
 
 pub take-without : (xs : List ℕ) (at n : ℕ) → n ≤ at → at < length xs → take n (without xs at) ≡ take n xs
-take-without [] at n m l = absurd (omega arith)
-take-without (x ∷ xs) at zero m l = refl
-take-without (x ∷ xs) zero (suc n) m l = absurd (omega arith)
-take-without (x ∷ xs) (suc at) (suc n) m l = grind (arith, nat_tests, take-without xs at n (omega arith) (omega arith))
+take-without xs at n h1 h2 = grind (arith, elements)
 
 pub drop-without : (xs : List ℕ) (at n : ℕ) → at ≤ n → at < length xs → drop n (without xs at) ≡ drop (n + 1) xs
-drop-without [] at n m l = absurd (omega arith)
-drop-without (x ∷ xs) zero n m l = let e : suc n ≡ n + 1 = omega arith in ap (λ (k : ℕ). drop k (x ∷ xs)) e
-drop-without (x ∷ xs) (suc at) zero m l = absurd (omega arith)
-drop-without (x ∷ xs) (suc at) (suc n) m l = grind (arith, nat_tests, drop-without xs at n (omega arith) (omega arith))
-
-pub take-insert : (xs : List ℕ) (at p : ℕ) → at ≤ length xs → take (at + 1) (insert xs at p) ≡ take at xs ++ p ∷ []
-take-insert xs at p l = grind (arith, nat_tests, cut-drop, cut-take, take-add)
+drop-without xs at n h1 h2 = grind (arith, elements)
 
 pub without-insert : (xs : List ℕ) (at p : ℕ) → at ≤ length xs → without (insert xs at p) at ≡ xs
-without-insert xs at p l =
-    (λ i. cut-take at xs (p ∷ drop at xs) l i ++ (sym (drop-drop 1 at (take at xs ++ p ∷ drop at xs)) ∙ ap (drop 1) (cut-drop at xs (p ∷ drop at xs) l)) i)
-    ∙ take-append-drop at xs
+without-insert xs at p l = grind (arith, elements)
 
 -- one that is written
 set-take : {A : Type 0} (xs more : List A) (i : ℕ) (y : A) → i < length xs → take (i + 1) (set xs i y) ++ more ≡ take i xs ++ y ∷ more
@@ -52,6 +42,13 @@ covered-more entry reverters more (x ∷ xs) (suc i) l m new c =
     let e : suc (i + 1) ≡ suc i + 1 = omega arith in
     subst (λ (n : ℕ). AllByRecursion (λ place. IsCovered more (entry place)) (take n (x ∷ xs))) e (λ a. m (entry x).entry.sender (c.0 a), covered-more entry reverters more xs i (omega arith) m new c.1)
 
+-- a block is worked out again, and what stands behind it
+pub record Renewed (entry : ℕ → Placed) (next : ℕ → ℕ → ℕ) (start : ℕ) (bs : List Block) (own : List ℕ) (cut : Cut) (was : ℕ) (old new : Block) (behind : List ℕ) : Type 0 where
+  pub blocks : AreBlocks entry next start old.after (drop (cut.number + 1) (set bs cut.number new)) behind
+  pub standing : was ≡ fold next old.after behind
+  pub front : IsFront entry next start (take (cut.number + 1) (set bs cut.number new)) own new.after behind
+  pub by : fold next new.after behind ≡ fold next start own
+
 -- over one rule
 module _ (entry : ℕ → Placed) (next : ℕ → ℕ → ℕ) (start : ℕ) (is : (n : ℕ) → (entry n).place ≡ n) where
   -- the statuses behind do not matter
@@ -60,7 +57,7 @@ module _ (entry : ℕ → Placed) (next : ℕ → ℕ → ℕ) (start : ℕ) (is
   blocks-longer by (b ∷ bs) xs ys h = grind (arith, nat_tests, blocks-longer (fold next by (take b.count xs)) bs (drop b.count xs) ys h.3, drop-append-le, length-append, take-append-le)
 
   -- a cut one block further
-  pub cut-next : (bs : List Block) (own : List ℕ) (cut : Cut) (b : Block) → cut.number < length bs → b ≡ get_or bs cut.number no_block → IsCut entry next start bs own cut
+  pub cut-next : (bs : List Block) (own : List ℕ) (cut : Cut) (b : Block) → cut.number < length bs → b ≡ get_or bs cut.number b → IsCut entry next start bs own cut
       → IsCut entry next start bs own (record { number = cut.number + 1; start = cut.start + b.count; by = b.after })
   cut-next bs own cut b l read c = grind (arith, nat_tests, append_assoc, cut-drop, cut-length, cut-take, drop-drop, fold-append, got-drop, length-drop, take-add)
 
@@ -96,17 +93,39 @@ module _ (entry : ℕ → Placed) (next : ℕ → ℕ → ℕ) (start : ℕ) (is
           subst (λ (n : ℕ). AreBlocks entry next start n more (drop b.count rest)) by h,
         )))
 
-  -- a status is put in
+  -- a status is put in, and is the last
+  module _ (own : List ℕ) (at : ℕ) (l : at + 1 ≡ length own) where
+    pub last-without : without own at ≡ take at own
+    last-without = ap (λ (t : List ℕ). take at own ++ t) (drop_of_length-le own (omega arith)) ∙ append-nil (take at own)
+
+    pub last-fold : next (fold next start (without own at)) (get_or own at 0) ≡ fold next start own
+    last-fold =
+        ap (λ (t : List ℕ). next (fold next start t) (get_or own at 0)) last-without ∙ sym (fold-append next start (take at own) (get_or own at 0 ∷ []))
+        ∙ ap (fold next start) (sym (take_more own at 0 (omega arith)) ∙ take_all (at + 1) own (omega arith))
+
+    pub last-blocks : (bs : List Block) → AreBlocks entry next start start bs (without own at) → AreBlocks entry next start start bs own
+    last-blocks bs h =
+        subst (AreBlocks entry next start start bs) (ap (λ (t : List ℕ). t ++ drop at own) last-without ∙ take-append-drop at own) (blocks-longer start bs (without own at) (drop at own) h)
+
+  -- it stands before others
   module _ (bs : List Block) (own : List ℕ) (at : ℕ) (cut : Cut) (l : at < length own) (le : cut.start ≤ at) (c : IsCut entry next start bs (without own at) cut) where
+    -- how the pack stands in front of it
+    pub late-before : fold next cut.by (take (at - cut.start) (drop cut.start own)) ≡ fold next start (take at own)
+    late-before =
+        let whole : cut.start + (at - cut.start) ≡ at = omega arith in
+        ap (λ (n : ℕ). fold next n (take (at - cut.start) (drop cut.start own))) (c.by ∙ ap (fold next start) (take-without own at cut.start le l))
+        ∙ sym (fold-append next start (take cut.start own) (take (at - cut.start) (drop cut.start own)))
+        ∙ ap (fold next start) (sym (take-add cut.start (at - cut.start) own) ∙ ap (λ (n : ℕ). take n own) whole)
+
     pub late-front : IsFront entry next start (take cut.number bs) own cut.by (drop cut.start own)
     late-front = grind (arith, nat_tests, take-append-drop, take-without)
 
     pub late-fold : fold next cut.by (drop cut.start own) ≡ fold next start own
     late-fold = ap (λ (n : ℕ). fold next n (drop cut.start own)) (c.by ∙ ap (fold next start) (take-without own at cut.start le l)) ∙ sym (fold-cut start cut.start own)
 
-    module _ (b : Block) (within : cut.number < length bs) (read : b ≡ get_or bs cut.number no_block) (inside : at < cut.start + b.count) where
+    module _ (b : Block) (is_in : (cut.number < length bs) × (b ≡ get_or bs cut.number b) × (at < cut.start + b.count)) where
       late-here : AreBlocks entry next start cut.by (b ∷ drop (cut.number + 1) bs) (drop cut.start (without own at))
-      late-here = subst (λ (t : List Block). AreBlocks entry next start cut.by t (drop cut.start (without own at))) (got-drop bs cut.number no_block within ∙ ap (λ (x : Block). x ∷ drop (cut.number + 1) bs) (sym read)) c.behind
+      late-here = subst (λ (t : List Block). AreBlocks entry next start cut.by t (drop cut.start (without own at))) (got-drop bs cut.number b is_in.0 ∙ ap (λ (x : Block). x ∷ drop (cut.number + 1) bs) (sym is_in.1)) c.behind
 
       late-rest : drop b.count (drop cut.start (without own at)) ≡ drop (b.count + 1) (drop cut.start own)
       late-rest = grind (arith, nat_tests, drop-drop, drop-without)
@@ -132,18 +151,20 @@ module _ (entry : ℕ → Placed) (next : ℕ → ℕ → ℕ) (start : ℕ) (is
 
       -- it is worked out again
       module _ (new : Block) (rest some behind : List ℕ) (r : rest ≡ drop cut.start own) (s : some ≡ take (b.count + 1) rest) (t : behind ≡ drop (b.count + 1) rest)
-          (a : new.after ≡ fold next cut.by some) where
-        pub renewed-was : AreBlocks entry next start b.after (drop (cut.number + 1) (set bs cut.number new)) behind
-        renewed-was = subst (AreBlocks entry next start b.after (drop (cut.number + 1) (set bs cut.number new))) (sym (t ∙ ap (drop (b.count + 1)) r)) (late-was new)
-
-        pub renewed-standing : (standing : ℕ) → standing ≡ fold next start (without own at) → standing ≡ fold next b.after behind
-        renewed-standing standing e = e ∙ late-standing ∙ ap (fold next b.after) (sym (t ∙ ap (drop (b.count + 1)) r))
+          (a : new.after ≡ fold next cut.by some) (standing : ℕ) (e : standing ≡ fold next start (without own at)) (n : new.count ≡ b.count + 1) (m : IsSummary entry next start new some) where
+        behind-is : behind ≡ drop (b.count + 1) (drop cut.start own)
+        behind-is = t ∙ ap (drop (b.count + 1)) r
 
         renewed-after : new.after ≡ fold next cut.by (take (b.count + 1) (drop cut.start own))
         renewed-after = a ∙ ap (fold next cut.by) (s ∙ ap (take (b.count + 1)) r)
 
-        pub renewed-front : new.count ≡ b.count + 1 → IsSummary entry next start new some → IsFront entry next start (take (cut.number + 1) (set bs cut.number new)) own new.after behind
-        renewed-front n m = grind (arith, nat_tests, late-block)
+        renewed-front : IsFront entry next start (take (cut.number + 1) (set bs cut.number new)) own new.after behind
+        renewed-front = grind (arith, nat_tests, late-block)
 
-        pub renewed-done : fold next new.after behind ≡ fold next start own
-        renewed-done = ap (fold next new.after) (t ∙ ap (drop (b.count + 1)) r) ∙ late-done new.after renewed-after
+        pub renewed : Renewed entry next start bs own cut standing b new behind
+        renewed = record {
+          blocks = subst (AreBlocks entry next start b.after (drop (cut.number + 1) (set bs cut.number new))) (sym behind-is) (late-was new);
+          standing = e ∙ late-standing ∙ ap (fold next b.after) (sym behind-is);
+          front = renewed-front;
+          by = ap (fold next new.after) behind-is ∙ late-done new.after renewed-after;
+        }

@@ -1,16 +1,18 @@
 -- How many packs of a table are counted.
+use Rattle.std.proofs.Common.{rules}
+use Rattle.std.proofs.lemmas.Grind.{common_steps}
 use Rattle.std.specs.Prelude.{◌^◌, ◌≡◌, ◌-◌, ◌<◌, ◌∷◌, ◌++◌, ◌&&◌, ◌||◌}
-use Rattle.mv_repository.proofs.Words.{nat_tests, bytes_eq, ℕ, List, [], length, map, filter, not, min, refl, sym, ◌∙◌, ap, arith, Bool, true, false, cond, Option, Some, None, is_some, or-false, list_any-append, lookup-filter-values, option_filter, IsDistinct-cons, IsDistinct-head, IsDistinct-tail, IsDistinct-keys_filter, distinct_count-le, is_member-filter, is_some-lookup, length-from_keys, IsEquivalence, nat_list_eq_equiv, same_text, AllByRecursion, IsDistinct, lookup, keys_of, unwrap_or, distinct_count, is_member, is_same_pack, pack_key, PackKey, LogEntry, Slot, is_counted, slots_counted, packs_counted, uploaded_packs, ShelfTable, kept_by, kept_on, no_shelf, shelf_of, AreTablesOf, Kept, bare, track_of, Counted, Tables}
+use Rattle.mv_repository.proofs.Words.{nat_tests, bytes_eq, ℕ, List, [], length, map, filter, not, min, refl, sym, ◌∙◌, ap, arith, Bool, true, false, cond, Option, Some, None, is_some, or-false, list_any-append, lookup-filter-values, option_filter, IsDistinct-cons, IsDistinct-head, IsDistinct-tail, IsDistinct-keys_filter, distinct_count-le, is_member-filter, is_some-lookup, length-from_keys, IsEquivalence, nat_list_eq_equiv, same_text, AllByRecursion, IsDistinct, lookup, keys_of, unwrap_or, distinct_count, is_member, is_same_pack, pack_key, PackKey, LogEntry, Slot, is_counted, slots_counted, flat_map, uploaded_packs, ShelfTable, kept_by, kept_in, no_shelf, shelf_of, AreTablesOf, Kept, bare, track_of, Counted, Tables}
 use Rattle.std.proofs.lemmas.List.Filters.{length-filter_both}
 use Rattle.mv_repository.proofs.KeptLemmas.{same_pack, pack-self, pack-sym}
 use Rattle.mv_repository.proofs.UploadedLemmas.{uploaded-found}
 
+-- the packs that are counted, shelf by shelf
+abbrev pub packs_counted : Counted → List (List ℕ × ShelfTable) → List PackKey
+packs_counted counted shelves = flat_map (λ shelf. map (pack_key shelf.0) (keys_of (slots_counted counted shelf.1))) shelves
+
 pack-equiv : IsEquivalence is_same_pack
-pack-equiv = record {
-  refl = pack-self;
-  symm = pack-sym;
-  congr = λ x y z e. ap (λ (q : PackKey). is_same_pack q z) (same_pack x y e);
-}
+pack-equiv = search (rules, pack-sym)
 
 -- the blocks don't matter
 counted-bare : (counted : Counted) (k : Kept) → is_counted counted k ≡ is_counted counted (bare k)
@@ -25,8 +27,7 @@ absent key [] h = refl
 absent key (e ∷ es) h = ap (λ b. cond b (Some e.1) (lookup (bytes_eq key) es)) h.0 ∙ absent key es h.1
 
 all-append : {K : Type 0} → (P : K → Type 0) (xs ys : List K) → AllByRecursion P xs → AllByRecursion P ys → AllByRecursion P (xs ++ ys)
-all-append P [] ys h k = k
-all-append P (x ∷ xs) ys h k = (h.0, all-append P xs ys h.1 k)
+all-append P xs ys h1 h2 = grind (arith, common_steps)
 
 -- a key that is in no list is equal to none of it
 apart : (x : PackKey) (ys : List PackKey) → is_member is_same_pack ys x ≡ false → AllByRecursion (λ y. is_same_pack x y ≡ false) ys
@@ -59,7 +60,7 @@ abbrev pub IsKeyed : ShelfTable → Type 0
 IsKeyed shelf = IsDistinct bytes_eq (keys_of shelf.slots)
 
 module _ (counted : Counted) where
-  on-shelf : (shelf : ShelfTable) → IsKeyed shelf → (serial : List ℕ) → is_member bytes_eq (keys_of (slots_counted counted shelf)) serial ≡ is_counted counted (kept_on shelf.slots shelf.tracks serial)
+  on-shelf : (shelf : ShelfTable) → IsKeyed shelf → (serial : List ℕ) → is_member bytes_eq (keys_of (slots_counted counted shelf)) serial ≡ is_counted counted (kept_in shelf serial)
   on-shelf shelf keyed serial =
       sym (is_some-lookup (bytes_eq serial) (filter (λ slot. test slot.1) shelf.slots))
       ∙ ap is_some (lookup-filter-values nat_list_eq_equiv test serial shelf.slots keyed)
@@ -73,11 +74,11 @@ module _ (counted : Counted) where
 
   -- a pack on no shelf is not counted
   off-shelves : (gtin serial : List ℕ) (shelves : List (List ℕ × ShelfTable)) → AllByRecursion (λ y. bytes_eq gtin y ≡ false) (keys_of shelves)
-      → is_counted counted (kept_on (shelf_of gtin shelves).slots (shelf_of gtin shelves).tracks serial) ≡ false
+      → is_counted counted (kept_in (shelf_of gtin shelves) serial) ≡ false
   off-shelves gtin serial shelves h = grind (arith, nat_tests, absent)
 
   in-shelves : (shelves : List (List ℕ × ShelfTable)) → IsDistinct bytes_eq (keys_of shelves) → AllByRecursion (λ shelf. IsKeyed shelf.1) shelves → (q : PackKey)
-      → is_member is_same_pack (packs_counted counted shelves) q ≡ is_counted counted (kept_on (shelf_of q.gtin shelves).slots (shelf_of q.gtin shelves).tracks q.serial)
+      → is_member is_same_pack (packs_counted counted shelves) q ≡ is_counted counted (kept_in (shelf_of q.gtin shelves) q.serial)
   in-shelves [] d keyed q = grind (arith, nat_tests)
   in-shelves (s ∷ rest) d keyed q =
       list_any-append (is_same_pack q) (map (pack_key s.0) (keys_of (slots_counted counted s.1))) (packs_counted counted rest)
@@ -85,15 +86,10 @@ module _ (counted : Counted) where
       ∙ by (bytes_eq q.gtin s.0) refl
     where
       by : (b : Bool) → bytes_eq q.gtin s.0 ≡ b
-          → ((b && is_member bytes_eq (keys_of (slots_counted counted s.1)) q.serial) || is_counted counted (kept_on (shelf_of q.gtin rest).slots (shelf_of q.gtin rest).tracks q.serial))
-          ≡ is_counted counted (kept_on (unwrap_or (cond b (Some s.1) (lookup (bytes_eq q.gtin) rest)) no_shelf).slots (unwrap_or (cond b (Some s.1) (lookup (bytes_eq q.gtin) rest)) no_shelf).tracks q.serial)
+          → ((b && is_member bytes_eq (keys_of (slots_counted counted s.1)) q.serial) || is_counted counted (kept_in (shelf_of q.gtin rest) q.serial))
+          ≡ is_counted counted (kept_in (unwrap_or (cond b (Some s.1) (lookup (bytes_eq q.gtin) rest)) no_shelf) q.serial)
       by false e = refl
-      by true e =
-          (λ i. on-shelf s.1 keyed.0 q.serial i || off-shelves q.gtin q.serial rest other i)
-          ∙ or-false (is_counted counted (kept_on s.1.slots s.1.tracks q.serial))
-        where
-          other : AllByRecursion (λ y. bytes_eq q.gtin y ≡ false) (keys_of rest)
-          other = rw (same_text q.gtin s.0 (sym e)) (IsDistinct-head bytes_eq s.0 (keys_of rest) d)
+      by true e = search (rules, same_text q.gtin s.0 (sym e), on-shelf, off-shelves, or-false, IsDistinct-head)
 
   in-distinct : (shelves : List (List ℕ × ShelfTable)) → IsDistinct bytes_eq (keys_of shelves) → AllByRecursion (λ shelf. IsKeyed shelf.1) shelves → IsDistinct is_same_pack (packs_counted counted shelves)
   unfolding IsDistinct
@@ -113,7 +109,7 @@ module _ (counted : Counted) where
       → length (packs_counted counted tables.shelves.entries) ≡ distinct_count is_same_pack (filter (λ pack. is_counted counted (track_of pack log)) (uploaded_packs log))
   all-counted log tables are d keyed =
       length-from_keys pack-equiv (packs_counted counted tables.shelves.entries) (filter test (uploaded_packs log)) (in-distinct tables.shelves.entries d keyed)
-      (λ q. in-shelves tables.shelves.entries d keyed q ∙ counted-bare counted (kept_on (shelf_of q.gtin tables.shelves.entries).slots (shelf_of q.gtin tables.shelves.entries).tracks q.serial)
+      (λ q. in-shelves tables.shelves.entries d keyed q ∙ counted-bare counted (kept_in (shelf_of q.gtin tables.shelves.entries) q.serial)
       ∙ ap (is_counted counted) (are.shelves q.gtin q.serial).kept.bare
       ∙ sym (is_member-filter pack-equiv test q (λ y e. ap test (same_pack q y e)) (uploaded_packs log) ∙ ap (λ b. b && test q) (sym (uploaded-found log q)) ∙ there q (test q) refl))
     where

@@ -11,6 +11,9 @@ use Rattle.mv_repository.proofs.UploadLemmas.{life-same}
 pub on_map : {A E P Q : Type 0} → (r : Result A E) → OnOk r P → (P → Q) → OnOk r Q
 on_map r p f = grind (arith, nat_tests)
 
+pub map_err : {A E P Q : Type 0} → (r : Result A E) → OnErr r P → (P → Q) → OnErr r Q
+map_err r p f = grind (arith, nat_tests)
+
 pub on_err : {A E : Type 0} → (r : Result A E) (P : Type 0) → P → OnErr r P
 on_err r P p = grind (arith, nat_tests)
 

@@ -1,6 +1,6 @@
 -- Two logs that have the same history of a pack agree on it.
 use Rattle.std.specs.Prelude.{◌≡◌, ◌∷◌}
-use Rattle.mv_repository.proofs.Words.{ℕ, List, [], refl, sym, ◌∙◌, ap, Bool, true, false, cond, Option, Some, None, IfSome, is_some, find, fold, map, option_map, option_and_then, PackKey, BatchKey, batch_key, Upload, Item, Receipt, Carried, LogEntry, BatchStanding, Placed, ordered, KnownPack, new_pack, is_recall_of, is_withdrawal_of, is_withdrawn, Sent, sent_in, unplaced, unplaced_state, is_batch_recalled, AgreeOn, made_batch, entry_of, pack_made_by, FirstStops, first_stops, is_before, first_upload, statuses_of, pack_changed, pack_step, pack_grown, PackHistory, SentStatus, SentHistory, sent_of, sent_status, history_of, as_sent, HaveSameHistory, arith, nat_tests, batch_in}
+use Rattle.mv_repository.proofs.Words.{ℕ, List, [], refl, sym, ◌∙◌, ap, Bool, true, false, cond, Option, Some, None, IfSome, is_some, find, fold, map, option_map, option_and_then, PackKey, BatchKey, batch_key, Upload, Item, Receipt, Carried, LogEntry, BatchStanding, Placed, ordered, KnownPack, known_pack, new_pack, is_recall_of, is_withdrawal_of, is_withdrawn, Sent, sent_in, unplaced, is_batch_recalled, AgreeOn, made_batch, entry_of, pack_made_by, FirstStops, first_stops, is_before, first_upload, statuses_of, pack_changed, pack_step, pack_grown, SentStatus, SentHistory, sent_of, history_of, as_sent, HaveSameHistory, arith, nat_tests, batch_in}
 use Rattle.mv_repository.proofs.OrderLemmas.{find-true, ordered-ascends}
 use Rattle.mv_repository.proofs.StateLemmas.{known-grown}
 use Rattle.mv_repository.proofs.BeforeLemmas.{any-find}
@@ -68,7 +68,7 @@ module _ (stops : FirstStops) (pack : PackKey) where
       by (Receipt k reach query) = refl
       by (Carried k stamp message) = refl
 
-state-sent : (pack : PackKey) (log : List LogEntry) → unplaced_state pack log ≡ state_of pack (as_sent (history_of pack log))
+state-sent : (pack : PackKey) (log : List LogEntry) → option_map unplaced (known_pack pack (ordered log)) ≡ state_of pack (as_sent (history_of pack log))
 state-sent pack log =
     let stops = first_stops (ordered log) in
     let upload = first_upload pack (ordered log) in
@@ -77,16 +77,9 @@ state-sent pack log =
     ∙ ap (λ (batch : Option (List ℕ)). option_map (λ held. fold (step_of pack) held (map (status stops pack upload batch) (statuses_of pack (ordered log)))) (made_of (option_and_then sent_of upload)))
     (sym (batch-upload pack log))
 
--- two histories were sent alike, where each part was
-pub same-parts : (a b : PackHistory) → option_and_then sent_of a.upload ≡ option_and_then sent_of b.upload
-    → map (sent_status a) a.statuses ≡ map (sent_status b) b.statuses
-    → option_and_then sent_of a.recall ≡ option_and_then sent_of b.recall
-    → option_and_then sent_of a.withdrawal ≡ option_and_then sent_of b.withdrawal → as_sent a ≡ as_sent b
-same-parts a b upload statuses recall withdrawal = grind (arith, nat_tests)
-
 -- an entry that is lent is sent as it stands
-pub sent-entry : (o : Option Placed) → option_and_then (λ (entry : LogEntry). sent_in entry.sender entry.item) (option_map entry_of o) ≡ option_and_then sent_of o
-sent-entry o = grind (arith, nat_tests)
+pub sent_entry : (o : Option Placed) → option_and_then (λ (entry : LogEntry). sent_in entry.sender entry.item) (option_map entry_of o) ≡ option_and_then sent_of o
+sent_entry o = grind (arith, nat_tests)
 
 -- what was found was sent, where no receipt passes the test
 found-sent : (test : Item → Bool) → ((k : ℕ) (reach : List ℕ) (query : Bool) → test (Receipt k reach query) ≡ false)

@@ -1,6 +1,6 @@
 -- Lemmas on what a log says of its party's queries.
 use Rattle.std.specs.Prelude.{◌≡◌, ◌∷◌, ◌++◌, ◌&&◌, ◌||◌, ◌==◌}
-use Rattle.mv_repository.proofs.Words.{arith, nat_tests, ℕ, List, [], ◌∙◌, ap, Bool, true, false, cond, Option, Some, None, is_some, length, list_any, option_or, option_map_or, or-false, list_any-append, Answer, Found, Item, Receipt, Carried, PackKey, LogEntry, Inquiries, Inquiry, asked_parties, finding_in, has_answered, found_active, found_explained, joint_verdict, joint_verdict_when, has_finding, sym, tells_of_query, inquiry_in, with_receipt, with_finding, has_reply, inquiry_of, IsInquiriesOf, query_reach, verdict_when, not, filter, Decided, Pending}
+use Rattle.mv_repository.proofs.Words.{arith, nat_tests, ℕ, List, [], ◌∙◌, ap, Bool, false, cond, Option, Some, None, is_some, length, list_any, option_or, option_map_or, or-false, list_any-append, Found, Message, Item, Receipt, Carried, LogEntry, Inquiries, Inquiry, asked_parties, finding_in, has_answered, found_active, found_explained, joint_verdict, sym, query_of, inquiry_after, inquiry_in, has_reply, inquiry_of, IsInquiriesOf, query_reach, verdict_when, not, filter, Decided}
 
 -- there is a finding, and it is so
 abbrev is_found_so : (Found → Bool) → Option Found → Bool
@@ -43,7 +43,7 @@ replies-more party log sender item q other = grind (arith, nat_tests, any-more)
 abbrev pub TellsNothing : ℕ → ℕ → Item → ℕ → Type 0
 TellsNothing party sender item q = (asked_in party sender item q ≡ None) × (finding_in party q item ≡ None)
 
-pub tells_nothing : (party sender : ℕ) (item : Item) → tells_of_query party sender item ≡ false → (q : ℕ) → TellsNothing party sender item q
+pub tells_nothing : (party sender : ℕ) (item : Item) → query_of party sender item ≡ None → (q : ℕ) → TellsNothing party sender item q
 tells_nothing party sender item e q = grind (arith, nat_tests)
 
 -- an entry that tells nothing of any query leaves what is known
@@ -51,19 +51,20 @@ pub known_stays : (party : ℕ) (log : List LogEntry) (sender : ℕ) (item : Ite
     → IsInquiriesOf party log known → IsInquiriesOf party (with_entry log sender item) known
 known_stays party log sender item known nothing is = grind (arith, nat_tests, inquiry-more, or-false, replies-more)
 
-pub receipt_noted : (party : ℕ) (log : List LogEntry) (sender k : ℕ) (reach : List ℕ) (query : Bool) (known known' : Inquiries)
-    → tells_of_query party sender (Receipt k reach query) ≡ true
-    → ((q : ℕ) → inquiry_in known' q ≡ cond (k == q) (with_receipt reach (inquiry_in known q)) (inquiry_in known q))
+-- an item that tells of a query: its receipt, and an answer to it
+pub receipt_noted : (party : ℕ) (log : List LogEntry) (sender : ℕ) (item : Item) (asked : ℕ) (known known' : Inquiries) (k : ℕ) (reach : List ℕ) (query : Bool)
+    → item ≡ Receipt k reach query → query_of party sender item ≡ Some asked
+    → ((q : ℕ) → inquiry_in known' q ≡ cond (asked == q) (inquiry_after item (inquiry_in known q)) (inquiry_in known q))
     → ((q other : ℕ) → has_reply known' q other ≡ has_reply known q other)
-    → IsInquiriesOf party log known → IsInquiriesOf party (with_entry log sender (Receipt k reach query)) known'
-receipt_noted party log sender k reach query known known' told inquiries replies is = grind (arith, nat_tests, inquiry-more, replies-more)
+    → IsInquiriesOf party log known → IsInquiriesOf party (with_entry log sender item) known'
+receipt_noted party log sender item asked known known' k reach query form told inquiries replies is = grind (arith, nat_tests, inquiry-more, replies-more)
 
-pub answer_noted : (party : ℕ) (log : List LogEntry) (sender k stamp asker asked : ℕ) (key : PackKey) (found : Found) (known known' : Inquiries)
-    → (asker == party) ≡ true
-    → ((q : ℕ) → inquiry_in known' q ≡ cond (asked == q) (with_finding found (inquiry_in known q)) (inquiry_in known q))
+pub answer_noted : (party : ℕ) (log : List LogEntry) (sender : ℕ) (item : Item) (asked : ℕ) (known known' : Inquiries) (k stamp : ℕ) (message : Message)
+    → item ≡ Carried k stamp message → query_of party sender item ≡ Some asked
+    → ((q : ℕ) → inquiry_in known' q ≡ cond (asked == q) (inquiry_after item (inquiry_in known q)) (inquiry_in known q))
     → ((q other : ℕ) → has_reply known' q other ≡ (((asked == q) && (sender == other)) || has_reply known q other))
-    → IsInquiriesOf party log known → IsInquiriesOf party (with_entry log sender (Carried k stamp (Answer asker asked key found))) known'
-answer_noted party log sender k stamp asker asked key found known known' told inquiries replies is = grind (arith, nat_tests, inquiry-more, replies-more)
+    → IsInquiriesOf party log known → IsInquiriesOf party (with_entry log sender item) known'
+answer_noted party log sender item asked known known' k stamp message form told inquiries replies is = grind (arith, nat_tests, inquiry-more, replies-more)
 
 -- what is known decides the verdict, once all have answered
 pub verdict_known : (party : ℕ) (log : List LogEntry) (known : Inquiries) (q : ℕ) (inquiry : Inquiry) (parties : List ℕ) → IsInquiriesOf party log known → inquiry_in known q ≡ inquiry
@@ -71,6 +72,4 @@ pub verdict_known : (party : ℕ) (log : List LogEntry) (known : Inquiries) (q :
 verdict_known party log known q inquiry parties is same e none =
     let of : inquiry ≡ inquiry_of party log q = sym same ∙ is.inquiries q in
     let left : length (filter (λ other. not (has_answered party log q other)) parties) ≡ 0 = sym (λ i. length (filter (λ other. not (is.replies q other i)) parties)) ∙ none in
-    (λ i. Decided (verdict_when (of i).active (of i).explained))
-    ∙ sym (ap (joint_verdict_when party log q) (sym (ap (λ (known : Inquiry). known.asked) of) ∙ e)
-    ∙ ap (λ (n : ℕ). cond (n == 0) (Decided (verdict_when (has_finding found_active party log q) (has_finding found_explained party log q))) (Pending n)) left)
+    cc

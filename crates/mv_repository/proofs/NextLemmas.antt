@@ -1,6 +1,6 @@
 -- What `next` gives is one step of the pack's state, so the place of one entry is all that has to be kept of it.
 use Rattle.std.specs.Prelude.{◌≡◌, ◌∷◌}
-use Rattle.mv_repository.proofs.Words.{ℕ, List, [], refl, Bool, true, false, cond, Option, Some, None, fold, AllByRecursion, option_map, PackKey, BatchKey, Standing, Status, Item, Carried, LogEntry, PartySet, batch_key, may_have, IsCovered, BatchStanding, Placed, KnownPack, is_active, is_done, change_effect, pack_made_by, standing_in, change_in, known_at, effect_by, next_by, next_place, FirstStops, standing_at, entry_at, pack_changed, pack_step, pack_grown, arith, nat_tests}
+use Rattle.mv_repository.proofs.Words.{ℕ, List, [], refl, Bool, true, false, cond, Option, Some, None, fold, AllByRecursion, option_map, PackKey, BatchKey, Standing, Status, Item, Carried, LogEntry, PartySet, batch_key, may_have, IsCovered, BatchStanding, Placed, KnownPack, is_active, is_done, change_effect, pack_made_by, standing_in, change_in, known_at, effect_from, message_in, next_by, next_place, FirstStops, standing_at, entry_at, pack_changed, pack_step, pack_grown, arith, nat_tests}
 use Rattle.mv_repository.specs.declared.effect.Effect.TheVariants as effects
 
 pub born : (birth : Placed) → known_at birth birth ≡ pack_made_by birth.entry.item
@@ -8,7 +8,7 @@ born birth = grind (arith, nat_tests)
 
 module _ (stops : FirstStops) (pack : PackKey) (birth by placed : Placed) (made : KnownPack) (is : pack_made_by birth.entry.item ≡ Some made) where
   abbrev held : KnownPack
-  held = record made { standing = standing_in by.entry.item; change = change_in by.place by.entry.sender by.entry.item }
+  held = record made { standing = standing_in by.entry.item; change = change_in by }
 
   abbrev standing : BatchKey → BatchStanding
   standing = standing_at stops placed
@@ -19,7 +19,7 @@ module _ (stops : FirstStops) (pack : PackKey) (birth by placed : Placed) (made 
   done key k stamp to user at e d a h = grind (arith, nat_tests)
 
   stepped : (b : Bool) (item : Item) → placed.entry.item ≡ item
-      → known_at birth (cond (is_done (cond b (effect_by standing placed.entry.sender item pack.gtin held) effects.Unknown)) (cond (is_active (standing_in item)) birth placed) by)
+      → known_at birth (cond (is_done (cond b (effect_from standing placed.entry.sender (message_in item) pack.gtin held) effects.Unknown)) (cond (is_active (standing_in item)) birth placed) by)
       ≡ Some (cond b (pack_changed standing placed.place placed.entry.sender item pack held) held)
   stepped false item e = grind (arith, nat_tests)
   stepped true (Carried k stamp (Status key to user at)) e = done key k stamp to user at e (is_done (change_effect held (standing (batch_key pack.gtin made.batch)) to placed.entry.sender user at)) (is_active to) refl

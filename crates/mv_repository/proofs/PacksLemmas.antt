@@ -1,6 +1,6 @@
 -- What is kept of all packs, by what is kept of those of each product.
 use Rattle.std.specs.Prelude.{◌≡◌, ◌+◌, ◌&&◌}
-use Rattle.mv_repository.proofs.Words.{bytes_eq, ℕ, List, [], length, get_or, take, sym, ◌∙◌, ap, arith, subst, true, false, Option, lookup, unwrap_or, Item, pack_key, PackKey, LogEntry, uploaded_in, uploaded_packs, ShelfTable, kept_on, IsPackOf, IsShelfOf, IsUploadOf, no_shelf, shelf_of, no_entry, Life, is_upload_of, is_status_of, life_of, track_of, bare, nat_tests, common_steps}
+use Rattle.mv_repository.proofs.Words.{bytes_eq, ℕ, List, [], length, get_or, take, sym, ◌∙◌, ap, arith, subst, true, false, Option, lookup, unwrap_or, Item, pack_key, PackKey, LogEntry, uploaded_in, uploaded_packs, ShelfTable, kept_in, IsPackOf, IsShelfOf, IsUploadOf, no_shelf, shelf_of, no_entry, Life, is_upload_of, is_status_of, life_of, track_of, bare, nat_tests, common_steps}
 use Rattle.mv_repository.proofs.TableLemmas.{longer, log-split}
 use Rattle.mv_repository.proofs.TrackLemmas.{status-form}
 use Rattle.mv_repository.proofs.UploadLemmas.{upload-form, untouched}
@@ -12,7 +12,7 @@ shelf-stays whole before gtin shelf same of serial = subst (λ (l : Life). IsPac
 
 -- what is kept of a pack, on the shelf of its product if it has one
 pub kept-found : (log : List LogEntry) (shelves : List (List ℕ × ShelfTable)) (pack : PackKey) (shelf : Option ShelfTable) → lookup (bytes_eq pack.gtin) shelves ≡ shelf
-    → IsShelfOf log pack.gtin (shelf_of pack.gtin shelves) → bare (kept_on (unwrap_or shelf no_shelf).slots (unwrap_or shelf no_shelf).tracks pack.serial) ≡ track_of pack log
+    → IsShelfOf log pack.gtin (shelf_of pack.gtin shelves) → bare (kept_in (unwrap_or shelf no_shelf) pack.serial) ≡ track_of pack log
 kept-found log shelves pack shelf e of = grind (arith, nat_tests)
 
 -- an upload, and a status, of one product bears on no other

@@ -1,8 +1,24 @@
 -- Lemmas on the last master of a code, and on the table that finds it.
+use Rattle.std.proofs.Common.{rules}
 use Rattle.std.specs.Prelude.{◌≡◌, ◌+◌, ◌∷◌}
-use Rattle.mv_repository.proofs.Words.{bytes_eq, ℕ, List, [], length, get_or, take, refl, sym, ◌∙◌, ap, Bool, true, false, cond, cond_both, true≢false, Option, Some, None, IfSome, filter, same_text, filter_map, last_or, cons_option, lookup, option_map, option_and_then, Item, Carried, Master, Product, LogEntry, is_master, product_in, product_at, last_in, comes_late, AreMastersOf, Placed, passes, put_in, ordered, Ascends, product_under, product_of, place_of, no_entry, arith, nat_tests}
+use Rattle.mv_repository.proofs.Words.{bytes_eq, ℕ, List, [], length, get_or, take, refl, sym, ◌∙◌, ap, Bool, true, false, cond, cond_both, Option, Some, None, IfSome, filter, same_text, filter_map, last_or, cons_option, lookup, option_map, option_and_then, Item, Master, Product, LogEntry, is_master, last_in, AreMastersOf, Message, message_in, entry_at, Placed, passes, put_in, ordered, Ascends, product_under, product_of, place_of, no_entry, arith, nat_tests, option_map_or}
 use Rattle.mv_repository.proofs.OrderLemmas.{still-stand, passes_behind, ordered-ascends, ordered-stand, last-all}
 use Rattle.mv_repository.proofs.TableLemmas.{longer, newest, newest-stands, at-newest, filter-ascends, filter-more, filter-none, filter-stand, found-more}
+
+-- the product that a message describes, that an item does, and that the entry at a place does
+abbrev product_of_message : Message → Option Product
+product_of_message (Master named product) = Some product
+product_of_message _ = None
+
+abbrev pub product_in : Item → Option Product
+product_in item = option_and_then product_of_message (message_in item)
+
+abbrev product_at : List LogEntry → ℕ → Option Product
+product_at log place = product_in (entry_at log place).entry.item
+
+-- the newest entry stands before the last so far, by their places
+abbrev pub comes_late : List LogEntry → ℕ → Option ℕ → Bool
+comes_late log new last = option_map_or (λ one. passes (entry_at log new) (entry_at log one)) last false
 
 -- the last of x, which came last, and the last before
 abbrev later : Placed → Option Placed → Option Placed
@@ -54,7 +70,7 @@ product_of_last gtin last (y ∷ ys) =
     by b h o e r = grind (arith, nat_tests)
 
 -- what the table finds is the last master
-pub product_found : (log : List LogEntry) (masters : List (List ℕ × ℕ)) (gtin : List ℕ) → AreMastersOf log masters → option_and_then (product_at log) (lookup (bytes_eq gtin) masters) ≡ product_of log gtin
+pub product_found : (log : List LogEntry) (masters : List (List ℕ × ℕ)) (gtin : List ℕ) → AreMastersOf log masters → option_and_then (λ place. product_in (entry_at log place).entry.item) (lookup (bytes_eq gtin) masters) ≡ product_of log gtin
 product_found log masters gtin places = grind (arith, nat_tests, last-all (λ y. get_or log y.place no_entry ≡ y.entry) None (filter (λ placed. is_master gtin placed.entry.item) (ordered log)) tt (filter-stand (λ placed. is_master gtin placed.entry.item) log (ordered log) (ordered-stand log)), product_of_last gtin None (ordered log))
 
 -- an entry that is no master leaves the table as it should be
@@ -63,8 +79,7 @@ pub masters-noted : (log : List LogEntry) (masters : List (List ℕ × ℕ)) (en
 masters-noted log masters entry places none gtin = grind (arith, nat_tests, last-none)
 
 master_names : (gtin : List ℕ) (item : Item) → is_master gtin item ≡ true → (other : List ℕ) → is_master other item ≡ bytes_eq gtin other
-master_names gtin (Carried k stamp (Master named product)) e other = ap (λ (g : List ℕ). bytes_eq g other) (same_text named gtin (sym e))
-master_names gtin _ e other = absurd (true≢false (sym e))
+master_names gtin item h1 other = search rules
 
 -- a table that has the place of the last master of the code of the newest
 masters-more : (log : List LogEntry) (entry : LogEntry) (gtin : List ℕ) (masters masters' : List (List ℕ × ℕ)) → is_master gtin entry.item ≡ true → AreMastersOf log masters
@@ -95,8 +110,7 @@ module _ (whole : List LogEntry) (place : ℕ) (masters : List (List ℕ × ℕ)
       (sym (ap (λ b. cond b (lookup (bytes_eq gtin) masters) (Some (length (take place whole)))) late)))
     where
       by : (other : List ℕ) (b : Bool) → bytes_eq gtin other ≡ b → lookup (bytes_eq other) masters ≡ cond b (lookup (bytes_eq gtin) masters) (lookup (bytes_eq other) masters)
-      by other true h = ap (λ (g : List ℕ). lookup (bytes_eq g) masters) (sym (same_text gtin other (sym h)))
-      by other false h = refl
+      by other b h1 = search rules
 
   -- any other takes the place of its code
   pub masters-latest-at : (masters' : List (List ℕ × ℕ)) → comes_late whole place (lookup (bytes_eq gtin) masters) ≡ false

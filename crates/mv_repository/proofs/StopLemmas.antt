@@ -1,12 +1,13 @@
 -- What a recall and a withdrawal do: their effects, the tables that find the first, and the packs on which they bear.
+use Rattle.std.proofs.Common.{rules}
 use Rattle.std.specs.Prelude.{◌&&◌, ◌+◌, ◌∷◌, ◌≡◌}
-use Rattle.mv_repository.proofs.Words.{arith, nat_tests, bytes_eq, Bool, IfSome, Option, None, Some, [], ap, cond, false, find, get_or, length, not, refl, sym, take, true, true≢false, ℕ, ◌∙◌, List, same_text, list_any, lookup, option_map, Item, Carried, Recall, Withdraw, batch_key, is_same_batch, pack_key, BatchKey, PackKey, LogEntry, Own, recalled_in, uploaded_in, effect_after, effect_of, entries_before, lasting_effect, IsShelfOf, ShelfTable, is_listed, lists, made_batch, may_stop, life_batch, option_and_then, is_master, Placed, ordered, KnownPack, is_recall_of, is_recalled_by, is_withdrawal_of, is_withdrawn_by, NamesNone, next_by, pack_made_by, withdrawn_in, AreFirstsOf, AreStopsOf, FirstStops, HasFirst, Stops, comes_first, first_place, first_stops, is_stop, no_entry, place_of, standing_at, stopped_product, first_upload, is_status_of, is_upload_of, life_of, statuses_of, Stop, common_steps}
+use Rattle.mv_repository.proofs.Words.{arith, nat_tests, bytes_eq, Bool, IfSome, Option, Some, [], ap, cond, false, find, get_or, length, not, sym, take, true, true≢false, ℕ, ◌∙◌, List, same_text, list_any, lookup, option_map, Item, batch_key, is_same_batch, pack_key, BatchKey, PackKey, LogEntry, Own, recalled_in, uploaded_in, effect_after, effect_of, entries_before, lasting_effect, IsShelfOf, ShelfTable, is_listed, lists, made_batch, may_stop, life_batch, option_and_then, is_master, Placed, ordered, KnownPack, is_recall_of, is_recalled_by, is_withdrawal_of, is_withdrawn_by, next_by, pack_made_by, withdrawn_in, AreFirstsOf, AreStopsOf, FirstStops, HasFirst, Stops, comes_first, first_place, first_stops, is_stop, no_entry, place_of, standing_at, stopped_product, first_upload, is_status_of, is_upload_of, life_of, statuses_of, Stop, common_steps}
 use Rattle.mv_repository.proofs.BeforeLemmas.{any-before}
 use Rattle.mv_repository.proofs.KeptLemmas.{same_batch, batch-self, text-self}
 use Rattle.mv_repository.proofs.OrderLemmas.{ordered-ascends, ordered-below, still-stand}
 use Rattle.mv_repository.proofs.StateLemmas.{find-stand}
 use Rattle.mv_repository.proofs.StoppedLemmas.{once-one, one-recall, one-withdrawal}
-use Rattle.mv_repository.proofs.TableLemmas.{at-newest, earlier, filter-none, find-more, find-none, find-some, log-split, longer, newest, newest-stands, recalls-stay, withdrawals-stay}
+use Rattle.mv_repository.proofs.TableLemmas.{NamesNone, at-newest, earlier, filter-none, find-more, find-none, find-some, log-split, longer, newest, newest-stands, recalls-stay, withdrawals-stay}
 use Rattle.mv_repository.proofs.UploadedLemmas.{first-effect}
 use Rattle.mv_repository.specs.declared.stops.Stop.TheVariants as stops
 
@@ -19,13 +20,11 @@ NoMaster item = (gtin : List ℕ) → is_master gtin item ≡ false
 
 recall-form : (key : BatchKey) (item : Item) → is_recall_of key item ≡ true
     → ((batch : BatchKey) → is_recall_of batch item ≡ is_same_batch key batch) × ((gtin : List ℕ) → is_withdrawal_of gtin item ≡ false) × NoPack item × NoMaster item
-recall-form key (Carried k stamp (Recall named at)) e = grind (arith, nat_tests, same_batch named key e)
-recall-form key _ e = absurd (true≢false (sym e))
+recall-form key item h1 = search rules
 
 withdrawal-form : (gtin : List ℕ) (item : Item) → is_withdrawal_of gtin item ≡ true
     → ((code : List ℕ) → is_withdrawal_of code item ≡ bytes_eq gtin code) × ((batch : BatchKey) → is_recall_of batch item ≡ false) × NoPack item × NoMaster item
-withdrawal-form gtin (Carried k stamp (Withdraw named at)) e = grind (arith, nat_tests, same_text named gtin (sym e))
-withdrawal-form gtin _ e = absurd (true≢false (sym e))
+withdrawal-form gtin item h1 = search rules
 
 pub stop-form : (stop : Stop) (item : Item) → is_stop stop item ≡ true → NoPack item × NoMaster item
 stop-form stop item e = grind (arith, nat_tests)
@@ -41,14 +40,12 @@ stop-effect log entry tables (stops.Recall batch) first are e h =
     lasting (λ placed. is_recall_of batch.now placed.entry.item) log entry (lookup (is_same_batch batch.now) tables.recalls.entries) first (are.recalls.found batch.now) h ∙ by entry.item e
   where
     by : (item : Item) → is_recall_of batch.now item ≡ true → lasting_effect (is_recalled_by batch.now (entries_before log entry)) ≡ effect_after (entries_before log entry) entry.sender item
-    by (Carried k stamp (Recall named at)) e = ap (λ (q : BatchKey). lasting_effect (is_recalled_by q (entries_before log entry))) (sym (same_batch named batch.now e))
-    by _ e = absurd (true≢false (sym e))
+    by item h1 = search rules
 stop-effect log entry tables (stops.Withdrawal gtin) first are e h =
     lasting (λ placed. is_withdrawal_of gtin.now placed.entry.item) log entry (lookup (bytes_eq gtin.now) tables.withdrawals.entries) first (are.withdrawals.found gtin.now) h ∙ by entry.item e
   where
     by : (item : Item) → is_withdrawal_of gtin.now item ≡ true → lasting_effect (is_withdrawn_by gtin.now (entries_before log entry)) ≡ effect_after (entries_before log entry) entry.sender item
-    by (Carried k stamp (Withdraw named at)) e = ap (λ (q : List ℕ). lasting_effect (is_withdrawn_by q (entries_before log entry))) (sym (same_text named gtin.now (sym e)))
-    by _ e = absurd (true≢false (sym e))
+    by item h1 = search rules
 
 -- an entry of a kind that is not the first of the kind leaves the first
 find-later : (f : Placed → Bool) (log : List LogEntry) (entry : LogEntry) → comes_first (longer log entry) (length log) (option_map place_of (find f (ordered log))) ≡ false
@@ -194,11 +191,7 @@ module _ (whole : List LogEntry) (place : ℕ) (l : length whole ≡ place + 1) 
       other : (o : Option (List ℕ)) → IfSome o (λ batch. is_listed shelf.listing (lookup (bytes_eq serial) shelf.slots) batch ≡ true)
           → ((batch : List ℕ) → is_recall_of (batch_key key.gtin batch) entry.item ≡ is_same_batch key (batch_key key.gtin batch))
           → IfSome o (λ batch. is_recall_of (batch_key key.gtin batch) entry.item ≡ false)
-      other None h f = tt
-      other (Some batch) h f = f batch ∙ by (bytes_eq key.batch batch) refl
-        where
-          by : (c : Bool) → bytes_eq key.batch batch ≡ c → is_same_batch key (batch_key key.gtin batch) ≡ false
-          by c e = grind (arith, nat_tests, found, h, none, same_text key.batch batch)
+      other o h1 h2 = search rules
 
   -- a stop bears on no pack whose track is not one that it may bear on
   pub stop-passes : (stop : Stop) → is_stop stop entry.item ≡ true → (shelf : ShelfTable) → IsShelfOf log (stopped_product stop) shelf

@@ -1,6 +1,6 @@
 -- What the tables are after one more entry of the log.
 use Rattle.std.specs.Prelude.{◌≡◌, ◌+◌, ◌∷◌, ◌++◌}
-use Rattle.mv_repository.proofs.Words.{bytes_eq, ℕ, zero, suc, arith, take, List, [], length, get_or, refl, sym, ◌∙◌, ap, Bool, true, false, cond, Option, Some, None, filter, find, map, get_or_push, length-take-le, lookup, option_map, Item, is_same_batch, BatchKey, LogEntry, recalled_in, Placed, passes, put_in, ordered, Ascends, is_recall_of, is_withdrawal_of, withdrawn_in, Stops, first_stops, stops_in, place_of, no_entry, AreFirstsOf, AreStopsOf, earlier_place, AreFound, put_place, nat_tests}
+use Rattle.mv_repository.proofs.Words.{bytes_eq, ℕ, zero, suc, arith, take, List, [], length, get_or, refl, sym, ◌∙◌, ap, Bool, true, false, cond, Option, Some, None, filter, find, map, get_or_push, length-take-le, lookup, option_map, Item, is_same_batch, BatchKey, LogEntry, recalled_in, Placed, passes, put_in, ordered, Ascends, is_recall_of, is_withdrawal_of, withdrawn_in, Stops, first_stops, stops_in, place_of, no_entry, AreFirstsOf, AreStopsOf, earlier_place, AreFound, put_place, PackKey, is_upload_of, is_status_of, nat_tests}
 use Rattle.mv_repository.proofs.OrderLemmas.{cond_two, StandsBeforeAll, placed_at, ordered-ascends, ordered-push, Stand, still-stand, filter-all}
 use Rattle.mv_repository.proofs.StateLemmas.{find-stand, find-stands}
 use Rattle.mv_repository.proofs.StoppedLemmas.{once-none, no-recall, no-withdrawal}
@@ -91,6 +91,10 @@ filter-some f log entry h = grind (arith, nat_tests, filter-more, put_place-map 
 -- what the tables of stops find is the first of each kind, also where the log is longer
 pub stops-found : (whole log : List LogEntry) (tables : Stops) → Stand whole (ordered log) → AreStopsOf log tables → stops_in whole tables ≡ first_stops (ordered log)
 stops-found whole log tables s stops = grind (arith, nat_tests, find-stands)
+
+-- an item is no upload and no status of a pack
+abbrev pub NamesNone : PackKey → Item → Type 0
+NamesNone pack item = (is_upload_of pack item ≡ false) × (is_status_of pack item ≡ false)
 
 -- an entry that stops nothing leaves the first stops, and the tables of them
 abbrev pub StopsNone : Item → Type 0

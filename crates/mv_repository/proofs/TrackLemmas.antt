@@ -1,6 +1,8 @@
 -- What is kept of a pack, and worked out by places in a log, is what the log means.
+use Rattle.std.proofs.Common.{rules}
+use Rattle.std.proofs.lemmas.Grind.{common_steps}
 use Rattle.std.specs.Prelude.{◌≡◌, ◌<◌, ◌≤◌, ◌∷◌}
-use Rattle.mv_repository.proofs.Words.{is_same_pack, is_master, uploaded_in, length-map, take-map, drop-map, AllByRecursion, insert, ℕ, zero, suc, List, [], length, get_or, take, drop, refl, sym, ◌∙◌, ap, subst, true, false, cond, cond_both, Option, Some, None, IfSome, is_some, true≢false, fold, map, filter, option_map, option_map_or, unwrap_or, PackKey, BatchKey, Status, Item, Carried, LogEntry, PartySet, Block, batch_key, Effect, BatchStanding, Placed, passes, stands_before, ordered, Ascends, KnownPack, change_effect, is_active, is_done, batch_standing, known_pack, entries_before, effect_after, effect_of, IsCovered, AreBlocks, standing_in, effect_by, effect_on, next_by, next_place, FirstStops, Stops, first_stops, stops_in, entry_at, place_of, no_entry, standing_at, AreStopsOf, Kept, is_upload_of, is_status_of, first_upload, statuses_of, pack_grown, life_of, start_of, track_of, IsKept, put_place, places_before, IsTrack, arith, nat_tests}
+use Rattle.mv_repository.proofs.Words.{is_same_pack, is_master, uploaded_in, length-map, take_at, length-take-le, get_or-insert_at, take-map, drop-map, AllByRecursion, insert, ℕ, List, [], length, get_or, take, drop, refl, sym, ◌∙◌, ap, subst, true, false, cond, cond_both, Option, Some, None, IfSome, is_some, true≢false, fold, map, filter, option_map, option_map_or, unwrap_or, PackKey, BatchKey, Status, Item, Carried, LogEntry, PartySet, Block, batch_key, Effect, BatchStanding, Placed, passes, stands_before, ordered, Ascends, KnownPack, change_effect, is_active, is_done, batch_standing, known_pack, entries_before, effect_after, effect_of, IsCovered, AreBlocks, standing_in, effect_from, message_in, effect_on, next_by, next_place, FirstStops, Stops, first_stops, stops_in, entry_at, place_of, no_entry, standing_at, AreStopsOf, Kept, is_upload_of, is_status_of, first_upload, statuses_of, pack_grown, life_of, start_of, track_of, IsKept, put_place, places_before, IsTrack, arith, nat_tests}
 use Rattle.mv_repository.specs.declared.effect.Effect.TheVariants as effects
 use Rattle.mv_repository.proofs.OrderLemmas.{ordered-ascends, ordered-below, ordered-stand, Stand, still-stand}
 use Rattle.mv_repository.proofs.StateLemmas.{entry-stands, map-stands, find-stand}
@@ -36,8 +38,7 @@ stands-all log stops gtin birth by (x ∷ xs) b s = grind (arith, nat_tests, sta
 
 next-place : (log : List LogEntry) (stops : FirstStops) (gtin : List ℕ) (birth : Option Placed) (by x : Placed) → StandsBy log birth by → Stands log x
     → next_place log stops gtin (option_map place_of birth) by.place x.place ≡ (next_by stops gtin birth by x).place
-next-place log stops gtin None by x b s = refl
-next-place log stops gtin (Some birth) by x b s = λ i. (next_by stops gtin (Some (entry-stands log birth b.0 i)) (entry-stands log by b.1 i) (entry-stands log x s i)).place
+next-place log stops gtin birth by x h1 h2 = grind (arith, entry-stands)
 
 -- by which entry it stands behind its statuses
 pub fold-places : (log : List LogEntry) (stops : FirstStops) (gtin : List ℕ) (birth : Option Placed) (by : Placed) (xs : List Placed) → StandsBy log birth by → Stand log xs
@@ -51,14 +52,10 @@ covered-places log reverters [] s = refl
 covered-places log reverters (x ∷ xs) s = λ i. IsCovered reverters (entry-stands log x s.0 i) × covered-places log reverters xs s.1 i
 
 stand-take : (log : List LogEntry) (n : ℕ) (xs : List Placed) → Stand log xs → Stand log (take n xs)
-stand-take log zero xs s = tt
-stand-take log (suc n) [] s = tt
-stand-take log (suc n) (x ∷ xs) s = (s.0, stand-take log n xs s.1)
+stand-take log n xs h1 = grind (arith, common_steps)
 
 stand-drop : (log : List LogEntry) (n : ℕ) (xs : List Placed) → Stand log xs → Stand log (drop n xs)
-stand-drop log zero xs s = s
-stand-drop log (suc n) [] s = tt
-stand-drop log (suc n) (x ∷ xs) s = stand-drop log n xs s.1
+stand-drop log n xs h1 = grind (arith, common_steps)
 
 -- what its blocks are
 pub blocks-places : (log : List LogEntry) (stops : FirstStops) (gtin : List ℕ) (birth : Option Placed) (start by : Placed) (bs : List Block) (xs : List Placed)
@@ -125,26 +122,13 @@ module _ (whole log : List LogEntry) (tables : Stops) (pack : PackKey) (stand : 
   At b own blocks = AreBlocks (entry_at whole) (N (stops_in whole tables) b) (unwrap_or b 0) (unwrap_or b 0) blocks own
 
   blocks-same : (blocks : List Block) → At birth (map place_of own) blocks ≡ AreBlocks (λ placed. placed) (life_of pack log).next start start blocks own
-  blocks-same blocks =
-      (λ i. AreBlocks (entry_at whole) (N (found i) birth) (start-place first i) (start-place first i) blocks (map place_of own))
-      ∙ blocks-places whole (first_stops (ordered log)) pack.gtin first start start blocks own start-stands start-stands own-stand
+  blocks-same blocks = search (found, start-place, blocks-places, start-stands, own-stand)
 
   pub track-worked : (kept : Kept) → IsKept (life_of pack log) kept → IsTrack whole (stops_in whole tables) pack.gtin kept
-  track-worked kept k =
-      let b : birth ≡ kept.birth = sym (ap (λ (k : Kept). k.birth) k.bare) in
-      let s : map place_of own ≡ kept.statuses = sym (ap (λ (k : Kept). k.statuses) k.bare) in
-      record {
-        by = ap (λ (k : Kept). k.by) k.bare ∙ sym by-same ∙ (λ i. fold (N (stops_in whole tables) (b i)) (unwrap_or (b i) 0) (s i));
-        blocks = subst (λ (T : Type 0). T) (sym (blocks-same kept.blocks) ∙ (λ i. At (b i) (s i) kept.blocks)) k.blocks;
-      }
+  track-worked kept k = grind (arith, by-same, blocks-same)
 
   pub track-means : (kept : Kept) → kept.birth ≡ birth → kept.statuses ≡ map place_of own → IsTrack whole (stops_in whole tables) pack.gtin kept → IsKept (life_of pack log) kept
-  track-means kept b s t =
-      let by : kept.by ≡ (track_of pack log).by = t.by ∙ (λ i. fold (N (stops_in whole tables) (b i)) (unwrap_or (b i) 0) (s i)) ∙ by-same in
-      record {
-        bare = λ i. record { birth = b i; statuses = s i; by = by i; blocks = [] };
-        blocks = subst (λ (T : Type 0). T) ((λ i. At (b i) (s i) kept.blocks) ∙ blocks-same kept.blocks) t.blocks;
-      }
+  track-means kept b s t = grind (arith, by-same, blocks-same)
 
 -- and what is worked out by its own log is what is to be kept
 pub track-is : (log : List LogEntry) (tables : Stops) (pack : PackKey) (kept : Kept) → AreStopsOf log tables
@@ -155,8 +139,7 @@ track-is log tables pack kept stops = track-means log log tables pack (ordered-s
 -- a status is of one pack, and no other thing
 pub status-form : (pack : PackKey) (item : Item) → is_status_of pack item ≡ true
     → ((other : PackKey) → (is_upload_of other item ≡ false) × (is_status_of other item ≡ is_same_pack pack other)) × StopsNone item × ((gtin : List ℕ) → is_master gtin item ≡ false) × (uploaded_in item ≡ [])
-status-form pack (Carried k stamp (Status key to user at)) e = (λ other. (refl, ap (λ (q : PackKey). is_same_pack q other) (same_pack key pack e)), (λ batch. refl, λ gtin. refl), λ gtin. refl, refl)
-status-form pack _ e = absurd (true≢false (sym e))
+status-form pack item h1 = search rules
 
 -- what is kept of a pack, once a status of it is put in
 pub track-status : (log : List LogEntry) (entry : LogEntry) (tables : Stops) (pack : PackKey) (kept : Kept) → AreStopsOf log tables → is_status_of pack entry.item ≡ true
@@ -184,7 +167,7 @@ module _ (log : List LogEntry) (entry : LogEntry) (pack : PackKey) (xs : List Pl
   whole = longer log entry
 
   abbrev effect : Option KnownPack → Effect
-  effect known = option_map_or (effect_by (standing_at S x) entry.sender entry.item pack.gtin) known effects.Unknown
+  effect known = option_map_or (effect_from (standing_at S x) entry.sender (message_in entry.item) pack.gtin) known effects.Unknown
 
   effect-front : (birth : Option Placed) → IfSome birth (λ y. get_or whole y.place no_entry ≡ y.entry) → IfSome birth (λ y. y.place < length log)
       → effect_on S pack.gtin (option_map (entry_at whole) (option_map place_of birth))
@@ -224,7 +207,7 @@ status-effect log entry tables pack front stops own p =
     ∙ by entry.item own
   where
     by : (item : Item) → is_status_of pack item ≡ true
-        → option_map_or (effect_by (standing_at (first_stops (ordered log)) (newest log entry)) entry.sender item pack.gtin) (known_pack pack (entries_before log entry)) effects.Unknown
+        → option_map_or (effect_from (standing_at (first_stops (ordered log)) (newest log entry)) entry.sender (message_in item) pack.gtin) (known_pack pack (entries_before log entry)) effects.Unknown
         ≡ effect_after (entries_before log entry) entry.sender item
     by (Carried k stamp (Status key to user at)) e =
         ap (λ (f : BatchKey → BatchStanding). option_map_or (λ (held : KnownPack). change_effect held (f (batch_key pack.gtin held.batch)) to entry.sender user at) (known_pack pack (entries_before log entry)) effects.Unknown) (sym (standing-before log entry))
@@ -251,20 +234,24 @@ module _ (log : List LogEntry) (entry : LogEntry) (tables : Stops) (pack : PackK
   module _ (at : ℕ) (now : Kept) (effect : Effect) where
     -- what was found for it, and what was done behind it
     pub record IsPut (whole : List LogEntry) (place : ℕ) : Type 0 where
+      pub within : at ≤ length old.statuses
       pub put : insert old.statuses at place ≡ put_place whole place old.statuses
       pub before : take at old.statuses ≡ places_before whole place old.statuses
       pub birth : now.birth ≡ old.birth
       pub statuses : now.statuses ≡ insert old.statuses at place
       pub worked : IsTrack whole (stops_in whole tables) pack.gtin now
       pub done : effect ≡ effect_on (stops_in whole tables) pack.gtin (option_map (entry_at whole) old.birth)
-          (entry_at whole (fold (next_place whole (stops_in whole tables) pack.gtin old.birth) (unwrap_or old.birth 0) (take at old.statuses))) (entry_at whole place)
+          (entry_at whole (fold (next_place whole (stops_in whole tables) pack.gtin old.birth) (unwrap_or old.birth 0) (take at now.statuses))) (entry_at whole (get_or now.statuses at 0))
 
     abbrev pub Done : List LogEntry → ℕ → Type 0
     Done whole place = IsKept (life_of pack whole) now × (effect ≡ effect_of log entry)
 
     module _ (stops : AreStopsOf log tables) (own : is_status_of pack entry.item ≡ true) (kept : IsKept (life_of pack log) old) where
       put_newest : IsPut (longer log entry) (length log) → Done (longer log entry) (length log)
-      put_newest p = grind (arith, nat_tests, status-effect, track-status)
+      put_newest p =
+          let front : take at now.statuses ≡ take at old.statuses = ap (take at) p.statuses ∙ take_at (take at old.statuses) (length log ∷ drop at old.statuses) at (length-take-le at old.statuses p.within) in
+          let there : get_or now.statuses at 0 ≡ length log = ap (λ (l : List ℕ). get_or l at 0) p.statuses ∙ get_or-insert_at old.statuses at (length log) 0 p.within in
+          grind (arith, nat_tests, status-effect, track-status)
 
       pub put-status : (whole : List LogEntry) (place : ℕ) → whole ≡ longer log entry → place ≡ length log → IsPut whole place → Done whole place
       put-status whole place e n =

@@ -1,11 +1,16 @@
 -- An upload in what is kept of one pack.
-use Rattle.std.specs.Prelude.{◌≡◌, ◌+◌, ◌<◌, ◌∷◌, ◌&&◌, ◌||◌}
-use Rattle.mv_repository.proofs.Words.{is_master, bytes_eq, zero, suc, ℕ, List, [], length, get_or, take, refl, sym, ◌∙◌, ap, subst, arith, Bool, true, false, cond, or-false, map, list_any_more, same_text, Item, pack_key, PackKey, LogEntry, ordered, kept_on, IsUploadOf, has, IsPackOf, IsShelfOf, ShelfTable, is_listed, life_batch, made_batch, batch_at, comes_first, option_and_then, option_map, IfSome, Some, Option, Placed, first_upload, lookup, Stops, first_stops, stops_in, place_of, no_entry, AreStopsOf, earlier_place, Kept, Life, is_upload_of, is_status_of, statuses_of, life_of, track_of, IsKept, IsTrack, nat_tests, or-true}
+use Rattle.std.proofs.lemmas.Grind.{common_steps}
+use Rattle.std.specs.Prelude.{◌≡◌, ◌+◌, ◌<◌, ◌&&◌, ◌||◌}
+use Rattle.mv_repository.proofs.Words.{is_master, bytes_eq, ℕ, List, [], length, get_or, take, refl, sym, ◌∙◌, ap, subst, arith, Bool, true, false, cond, or-false, map, list_any_more, same_text, Item, pack_key, PackKey, LogEntry, ordered, kept_in, IsUploadOf, list_any, IsPackOf, IsShelfOf, ShelfTable, is_listed, life_batch, made_batch, batch_at, comes_first, option_and_then, option_map, IfSome, Some, Option, Placed, first_upload, lookup, Stops, first_stops, stops_in, place_of, no_entry, AreStopsOf, earlier_place, Kept, Life, is_upload_of, is_status_of, statuses_of, life_of, track_of, IsKept, IsTrack, nat_tests, or-true}
 use Rattle.mv_repository.proofs.KeptLemmas.{text-self}
 use Rattle.mv_repository.proofs.OrderLemmas.{ordered-stand, still-stand}
 use Rattle.mv_repository.proofs.StateLemmas.{find-stand}
 use Rattle.mv_repository.proofs.TableLemmas.{earlier, longer, newest, newest-stands, find-more, find-none, find-some, filter-none, stops-stay, StopsNone, log-split, first-same}
 use Rattle.mv_repository.proofs.TrackLemmas.{status-form, track-worked, track-is}
+
+-- a serial number is among these
+abbrev pub has : List (List ℕ) → List ℕ → Bool
+has serials serial = list_any (λ one. bytes_eq one serial) serials
 
 pub upload-form : (item : Item) (gtin : List ℕ) (serials : List (List ℕ)) → IsUploadOf item gtin serials → ((pack : PackKey) → is_status_of pack item ≡ false) × StopsNone item × ((code : List ℕ) → is_master code item ≡ false)
 upload-form item gtin serials u = grind (arith, nat_tests)
@@ -15,9 +20,7 @@ upload-has item gtin serials u serial = grind (arith, nat_tests, text-self)
 
 -- a serial number is among those it is taken from
 pub has-own : (xs : List (List ℕ)) (i : ℕ) → i < length xs → has xs (get_or xs i []) ≡ true
-has-own [] i l = absurd (omega arith)
-has-own (x ∷ xs) zero l = ap (λ b. b || has xs x) (text-self x)
-has-own (x ∷ xs) (suc i) l = elim (bytes_eq x (get_or xs i [])) as (λ b. (b || has xs (get_or xs i [])) ≡ true) [ true ↦ refl | false ↦ has-own xs i (omega arith) ]
+has-own xs i h1 = grind (arith, common_steps, text-self)
 
 -- what is kept of a pack whose entries and first stops are as they were
 pub life-same : (log : List LogEntry) (entry : LogEntry) (pack : PackKey) → is_upload_of pack entry.item ≡ false → is_status_of pack entry.item ≡ false
@@ -87,21 +90,21 @@ module _ (log : List LogEntry) (entry : LogEntry) (tables : Stops) (gtin : List 
 
   module _ (old : ShelfTable) where
     abbrev pub Uploads : List LogEntry → ℕ → List (List ℕ) → Type 0
-    Uploads whole place done = ArePacksOf whole log done gtin old → (serial : List ℕ) → IsTrack whole (stops_in whole tables) gtin (kept_on old.slots old.tracks serial)
+    Uploads whole place done = ArePacksOf whole log done gtin old → (serial : List ℕ) → IsTrack whole (stops_in whole tables) gtin (kept_in old serial)
 
     worked_newest : (done : List (List ℕ)) → Uploads (longer log entry) (length log) done
-    worked_newest done are serial = worked_in serial (has done serial) (kept_on old.slots old.tracks serial) (are serial).kept
+    worked_newest done are serial = worked_in serial (has done serial) (kept_in old serial) (are serial).kept
 
     -- one serial number more
     abbrev pub Adds : List LogEntry → ℕ → List (List ℕ) → ℕ → ShelfTable → List ℕ → Type 0
     Adds whole place all at new serial =
         all ≡ serials → at < length all → serial ≡ get_or all at [] → ArePacksOf whole log (take at all) gtin old
-        → (kept_on new.slots new.tracks serial).birth ≡ earlier_place whole place (kept_on old.slots old.tracks serial).birth
-        → (kept_on new.slots new.tracks serial).statuses ≡ (kept_on old.slots old.tracks serial).statuses
-        → IsTrack whole (stops_in whole tables) gtin (kept_on new.slots new.tracks serial)
-        → ((other : List ℕ) → bytes_eq serial other ≡ false → kept_on new.slots new.tracks other ≡ kept_on old.slots old.tracks other)
+        → (kept_in new serial).birth ≡ earlier_place whole place (kept_in old serial).birth
+        → (kept_in new serial).statuses ≡ (kept_in old serial).statuses
+        → IsTrack whole (stops_in whole tables) gtin (kept_in new serial)
+        → ((other : List ℕ) → bytes_eq serial other ≡ false → kept_in new other ≡ kept_in old other)
         → ((other batch : List ℕ) → is_listed old.listing (lookup (bytes_eq other) old.slots) batch ≡ true → is_listed new.listing (lookup (bytes_eq other) new.slots) batch ≡ true)
-        → (comes_first whole place (kept_on old.slots old.tracks serial).birth ≡ true → (batch : List ℕ) → batch_at whole place ≡ Some batch → is_listed new.listing (lookup (bytes_eq serial) new.slots) batch ≡ true)
+        → (comes_first whole place (kept_in old serial).birth ≡ true → (batch : List ℕ) → batch_at whole place ≡ Some batch → is_listed new.listing (lookup (bytes_eq serial) new.slots) batch ≡ true)
         → ArePacksOf whole log (take (at + 1) all) gtin new
 
     adds_newest : (all : List (List ℕ)) (at : ℕ) (new : ShelfTable) (serial : List ℕ) → Adds (longer log entry) (length log) all at new serial
@@ -114,8 +117,8 @@ module _ (log : List LogEntry) (entry : LogEntry) (tables : Stops) (gtin : List 
 
         mine : IsPackOf (life_of (pack_key gtin serial) (longer log entry)) new serial
         mine = record {
-          kept = is_uploaded serial among (has (take at all) serial) (kept_on old.slots old.tracks serial) (kept_on new.slots new.tracks serial) (are serial).kept b p w;
-          listed = is_listed_now serial among (has (take at all) serial) (is_listed new.listing (lookup (bytes_eq serial) new.slots)) (kept_on old.slots old.tracks serial).birth
+          kept = is_uploaded serial among (has (take at all) serial) (kept_in old serial) (kept_in new serial) (are serial).kept b p w;
+          listed = is_listed_now serial among (has (take at all) serial) (is_listed new.listing (lookup (bytes_eq serial) new.slots)) (kept_in old serial).birth
               (ap (λ (k : Kept). k.birth) (are serial).kept.bare) (if-some _ (are serial).listed (listed serial)) made;
         }
 
@@ -163,7 +166,7 @@ module _ (whole : List LogEntry) (place : ℕ) (pack : PackKey) (l : length whol
   batch-noted = grind (arith, nat_tests, first-stays, batch-there whole (first_upload pack (ordered whole)) (find-stand (λ placed. is_upload_of pack placed.entry.item) whole (ordered whole) (ordered-stand whole)))
 
   pub status-others : (old new : ShelfTable) → IsShelfOf before pack.gtin old → IsPackOf (life_of pack whole) new pack.serial
-      → ((other : List ℕ) → bytes_eq pack.serial other ≡ false → kept_on new.slots new.tracks other ≡ kept_on old.slots old.tracks other)
+      → ((other : List ℕ) → bytes_eq pack.serial other ≡ false → kept_in new other ≡ kept_in old other)
       → ((other batch : List ℕ) → bytes_eq pack.serial other ≡ false → is_listed old.listing (lookup (bytes_eq other) old.slots) batch ≡ true → is_listed new.listing (lookup (bytes_eq other) new.slots) batch ≡ true)
       → IsShelfOf whole pack.gtin new
   status-others old new are now others listed serial = by (bytes_eq pack.serial serial) refl

@@ -1,13 +1,12 @@
 -- Uploads: which packs a log names, and how many of those that an upload names are new.
-use Rattle.std.specs.Prelude.{◌≡◌, ◌+◌, ◌-◌, ◌<◌, ◌∷◌, ◌++◌, ◌&&◌, ◌||◌}
-use Rattle.mv_repository.proofs.Words.{nat_tests, bytes_eq, ℕ, List, [], length, take, get_or, refl, sym, ◌∙◌, ap, arith, subst, append-nil, length-append, Bool, true, false, cond, not, Option, IfSome, is_some, find, filter, map, or-false, flat_map-append, length-map, take_more, filter-append, list_any-append, is_member-filter, IsEquivalence, same_text, nat_list_eq_equiv, list_any, flat_map, option_map, distinct_count, is_member, Item, Carried, Upload, is_same_pack, pack_key, PackKey, LogEntry, uploaded_in, uploaded_packs, effect_of, entries_before, Placed, put_in, ordered, has_pack, known_pack, IsUploadOf, has, first_stops, is_before, place_of, no_entry, comes_first, earlier_place, is_upload_of, first_upload, statuses_of, pack_grown, track_of, and-true, list_any-IsPermutation}
-use Rattle.mv_repository.specs.declared.effect.Effect.TheVariants as effects
+use Rattle.std.specs.Prelude.{◌≡◌, ◌+◌, ◌<◌, ◌∷◌, ◌++◌, ◌&&◌, ◌||◌}
+use Rattle.mv_repository.proofs.Words.{nat_tests, bytes_eq, ℕ, List, [], length, take, get_or, refl, sym, ◌∙◌, ap, arith, subst, append-nil, length-append, Bool, true, false, cond, not, Option, IfSome, is_some, find, filter, map, or-false, flat_map-append, length-map, take_more, filter-append, list_any-append, is_member-filter, IsEquivalence, same_text, nat_list_eq_equiv, list_any, flat_map, option_map, distinct_count, is_member, Item, Carried, Upload, is_same_pack, pack_key, PackKey, LogEntry, uploaded_in, uploaded_packs, entries_before, Placed, put_in, ordered, has_pack, known_pack, IsUploadOf, first_stops, is_before, place_of, no_entry, comes_first, earlier_place, is_upload_of, first_upload, statuses_of, pack_grown, track_of, and-true, list_any-IsPermutation}
 use Rattle.mv_repository.proofs.BeforeLemmas.{stays_before, counted, counted-before, find-below, known-before, any-find}
 use Rattle.mv_repository.proofs.KeptLemmas.{text-sym}
 use Rattle.mv_repository.proofs.OrderLemmas.{placed_after, put_in-permutes, find-true, ordered-below, still-stand}
 use Rattle.mv_repository.proofs.StateLemmas.{find-stand}
 use Rattle.mv_repository.proofs.TableLemmas.{longer, newest, newest-stands, find-some}
-use Rattle.mv_repository.proofs.UploadLemmas.{upload-has, has-own}
+use Rattle.mv_repository.proofs.UploadLemmas.{has, upload-has, has-own}
 
 -- the order of stamps has one of a kind where the log has
 
@@ -88,10 +87,6 @@ module _ {K : Type 0} (eq : K → K → Bool) (laws : IsEquivalence eq) where
 -- how many of these serial numbers, each counted once, are of packs that no entry makes that stands before the newest
 abbrev pub new_count : List LogEntry → LogEntry → List ℕ → List (List ℕ) → ℕ
 new_count log entry gtin serials = distinct_count bytes_eq (filter (λ serial. not (is_some (known_pack (pack_key gtin serial) (entries_before log entry)))) serials)
-
-pub upload-does : (log : List LogEntry) (entry : LogEntry) (gtin : List ℕ) (serials : List (List ℕ)) (new : ℕ) → IsUploadOf entry.item gtin serials → new ≡ new_count log entry gtin serials
-    → effects.Uploaded new (length serials - new) ≡ effect_of log entry
-upload-does log entry gtin serials new upload e = grind (arith, nat_tests)
 
 -- one serial number more
 module _ (log : List LogEntry) (entry : LogEntry) (gtin : List ℕ) (serials : List (List ℕ)) (upload : IsUploadOf entry.item gtin serials) where

@@ -1,55 +1,32 @@
 -- The names of the library and of the crates below that proofs cite, passed on from one place. Declares nothing.
 pub use Rattle.indexmap.proofs.SetLemmas.{keys_insert_entry}
 pub use Rattle.indexmap.specs.IndexMap.{insert_entry, spare}
-pub use Rattle.indexmap.specs.IndexSet.{insert_key}
 pub use Rattle.mv_link.specs.PartySets.{has_party}
-pub use Rattle.mv_link.specs.declared.item.Item.TheVariants.{Carried, Receipt}
-pub use Rattle.mv_link.specs.declared.item.Item.{Item}
-pub use Rattle.mv_link.specs.declared.limits.TheConstants.{PARTIES_LIMIT}
-pub use Rattle.mv_link.specs.declared.party_set.PartySet.{PartySet}
-pub use Rattle.mv_message.specs.declared.found.Found.{Found}
-pub use Rattle.mv_message.specs.declared.message.Message.TheVariants.{Answer, Master, Recall, Status, Upload, Withdraw}
-pub use Rattle.mv_message.specs.declared.message.Message.{Message}
-pub use Rattle.mv_message.specs.declared.message.Product.{Product}
-pub use Rattle.mv_message.specs.declared.standing.Standing.{Standing}
 pub use Rattle.mv_pack.specs.Expiry.{CivilDate}
 pub use Rattle.mv_pack.specs.Keys.{batch_key, is_same_batch, is_same_pack, pack_key}
 pub use Rattle.mv_pack.specs.declared.key.BatchKey.{BatchKey}
 pub use Rattle.mv_pack.specs.declared.key.PackKey.{PackKey}
-pub use Rattle.mv_repository.specs.Agreement.{AgreeOn, HasDistinctStamps, HaveSameAbout, HaveSameEntries, Sent, about, batch_in, bears_on, is_batch_recalled, sent_by, sent_in, unplaced, unplaced_state}
-pub use Rattle.mv_repository.specs.Blocks.{AreBlocks, IsCovered, IsCut, IsFront, IsSummary, may_have, no_block, without}
+pub use Rattle.mv_repository.specs.Agreement.{AgreeOn, AreAt, HasDistinctStamps, HaveSameAbout, HaveSameEntries, HaveSameHistory, Sent, SentHistory, SentStatus, about, as_sent, batch_in, bears_on, history_at, history_of, is_batch_recalled, sent_by, sent_in, sent_of, sent_status, unplaced}
 pub use Rattle.mv_repository.specs.Counts.{is_held_active, mastered_in, recalled_in, uploaded_in, uploaded_packs}
 pub use Rattle.mv_repository.specs.Effect.{effect_after, effect_of, entries_before, lasting_effect}
-pub use Rattle.mv_repository.specs.History.{AreAt, HaveSameHistory, PackHistory, SentHistory, SentStatus, as_sent, history_at, history_of, sent_of, sent_status}
-pub use Rattle.mv_repository.specs.Inquiries.{IsInquiriesOf, has_reply, inquiry_in, inquiry_of, tells_of_query, with_finding, with_receipt}
+pub use Rattle.mv_repository.specs.Inquiries.{IsInquiriesOf, has_reply, inquiry_after, inquiry_in, inquiry_of, query_of}
 pub use Rattle.mv_repository.specs.Log.{items_from}
-pub use Rattle.mv_repository.specs.Masters.{AreMastersOf, comes_late, entry_of, is_master, last_in, product_at, product_in}
 pub use Rattle.mv_repository.specs.Order.{Ascends, IsOrderOf, Placed, ordered, passes, put_in, stands_before}
-pub use Rattle.mv_repository.specs.Pack.{KnownPack, change_effect, is_active, is_done, new_pack}
-pub use Rattle.mv_repository.specs.PackState.{ChangeNamesStatus, NamesStatus, batch_standing, has_pack, held_of, is_recall_of, is_recalled_by, is_withdrawal_of, is_withdrawn, is_withdrawn_by, known_pack, known_pack_from, pack_after_item, pack_state}
+pub use Rattle.mv_repository.specs.Pack.{ChangeNamesStatus, KnownPack, NamesStatus, batch_standing, change_effect, has_pack, held_of, is_active, is_done, is_recall_of, is_recalled_by, is_withdrawal_of, is_withdrawn, is_withdrawn_by, known_pack, known_pack_from, new_pack, pack_after_item, pack_state}
 pub use Rattle.mv_repository.specs.Repository.{product_of, product_under}
-pub use Rattle.mv_repository.specs.Shelf.{IsAgain, IsPackOf, IsRefreshed, IsShelf, IsShelfOf, IsUploadOf, NamesNone, ShelfTable, has, has_number, is_counted, is_in, is_listed, kept_by, kept_on, life_batch, lists, may_stop, no_shelf, nothing_kept, numbers_in, packs_counted, shelf_of, slots_counted}
-pub use Rattle.mv_repository.specs.State.{batch_at, change_in, effect_by, effect_on, entry_in, known_at, made_batch, next_by, next_in, next_place, pack_made_by, standing_in, start_in}
-pub use Rattle.mv_repository.specs.Stops.{AreFirstsOf, AreFound, AreStopsOf, FirstStops, HasFirst, comes_first, each_once, earlier_place, entry_at, first_place, first_stops, is_before, is_stop, message_in, no_entry, place_of, standing_at, stopped_product, stops_in, withdrawn_in}
-pub use Rattle.mv_repository.specs.Tables.{AreTablesOf}
-pub use Rattle.mv_repository.specs.Track.{IsKept, IsTrack, Kept, Life, bare, first_upload, is_active_kept, is_status_of, is_upload_of, kept_of, life_of, pack_changed, pack_grown, pack_step, places_before, put_place, start_of, state_by, state_from, statuses_of, track_of}
-pub use Rattle.mv_repository.specs.Verdict.{asked_parties, finding_in, found_active, found_explained, has_answered, has_finding, joint_verdict, joint_verdict_when, query_reach, verdict_when}
-pub use Rattle.mv_repository.specs.declared.blocks.Block.{Block}
+pub use Rattle.mv_repository.specs.Shelf.{IsAgain, IsPackOf, IsRefreshed, IsShelfOf, IsUploadOf, ShelfTable, has_number, is_counted, is_in, is_listed, kept_by, kept_in, life_batch, lists, may_stop, no_shelf, nothing_kept, numbers_in, shelf_of, slots_counted}
+pub use Rattle.mv_repository.specs.State.{batch_at, change_in, effect_from, effect_in, effect_on, entry_in, held_at, known_at, made_batch, next_by, next_in, next_place, pack_made_by, standing_in, start_in}
+pub use Rattle.mv_repository.specs.Stops.{AreFirstsOf, AreFound, AreStopsOf, FirstStops, HasFirst, comes_first, each_once, earlier_place, entry_at, entry_of, first_place, first_stops, is_before, is_stop, message_in, no_entry, place_of, standing_at, stopped_product, stops_in, withdrawn_in}
+pub use Rattle.mv_repository.specs.Tables.{AreMastersOf, AreTablesOf, is_master, last_in}
+pub use Rattle.mv_repository.specs.Track.{AreBlocks, IsCovered, IsCut, IsFront, IsKept, IsSummary, IsTrack, Kept, Life, bare, first_upload, is_active_kept, is_status_of, is_upload_of, life_of, may_have, pack_changed, pack_grown, pack_step, places_before, put_place, start_of, statuses_of, track_of, without}
+pub use Rattle.mv_repository.specs.Verdict.{asked_parties, finding_in, found_active, found_explained, has_answered, joint_verdict, query_reach, verdict_when}
+pub use Rattle.mv_repository.specs.Words.{BatchStanding, Block, Carried, Counted, Decided, Effect, Found, HashSet, Held, Item, LogEntry, Made, Master, Message, Own, PARTIES_LIMIT, PartySet, Product, Recall, Receipt, Slot, Standing, Status, Stop, Stops, Upload, Withdraw, bytes_eq, insert_key, keys_of, lookup, option_and_then, option_map, option_map_or, option_or, slice_get, unwrap_or}
 pub use Rattle.mv_repository.specs.declared.blocks.Cut.{Cut}
 pub use Rattle.mv_repository.specs.declared.blocks.TheConstants.{BLOCK}
-pub use Rattle.mv_repository.specs.declared.shelf.Counted.{Counted}
-pub use Rattle.mv_repository.specs.declared.effect.Effect.{Effect}
-pub use Rattle.mv_repository.specs.declared.entry.LogEntry.{LogEntry}
 pub use Rattle.mv_repository.specs.declared.history.Places.{Places}
 pub use Rattle.mv_repository.specs.declared.inquiries.Inquiries.{Inquiries}
 pub use Rattle.mv_repository.specs.declared.inquiries.Inquiry.{Inquiry}
-pub use Rattle.mv_repository.specs.declared.shelf.Slot.TheVariants.{Made, Own}
-pub use Rattle.mv_repository.specs.declared.shelf.Slot.{Slot}
-pub use Rattle.mv_repository.specs.declared.stops.BatchStanding.{BatchStanding}
-pub use Rattle.mv_repository.specs.declared.stops.Stop.{Stop}
-pub use Rattle.mv_repository.specs.declared.stops.Stops.{Stops}
 pub use Rattle.mv_repository.specs.declared.tables.Tables.{Tables}
-pub use Rattle.mv_repository.specs.declared.verdict.Joint.TheVariants.{Decided, NotAsked, Pending}
 pub use Rattle.std.proofs.Common.{Bool, IfSome, List, None, OnErr, OnOk, Option, Result, Some, [], ap, append-nil, append_assoc, arith, cond, drop, false, filter, find, fold, get_or, inl, inr, insert, is_some, length, length-append, map, min, nat_eq, nat_lt, not, refl, rules, set, subst, suc, sym, take, true, true≢false, zero, ℕ, ◌∙◌}
 pub use Rattle.std.proofs.Math.Bool.{and-true, or-false, or-true}
 pub use Rattle.std.proofs.Math.ListN.{drop_of_length-le}
@@ -59,6 +36,7 @@ pub use Rattle.std.proofs.lemmas.Bool.{and_parts, cond_both}
 pub use Rattle.std.proofs.lemmas.Grind.{common_steps, flat_map-append}
 pub use Rattle.std.proofs.lemmas.List.Elements.{All-contains, All-from_recursion, filter-append}
 pub use Rattle.std.proofs.lemmas.List.Folds.{list_any-append, list_any_more}
+pub use Rattle.std.proofs.lemmas.List.Edits.{get_or-insert_at}
 pub use Rattle.std.proofs.lemmas.List.Sorted.{Contains-permutation, IsPermutation-cons, IsPermutation-middle, IsPermutation-trans, list_any-IsPermutation}
 pub use Rattle.std.proofs.lemmas.List.Sums.{fold-append}
 pub use Rattle.std.proofs.lemmas.List.{at_drop_more, drop-append-le, drop-drop, drop-map, drop_at, get_or_append_left, get_or_default, get_or_push, length-drop, length-map, length-take-le, take-append-drop, take-append-le, take-map, take_all, take_at, take_more, take_more_set}
@@ -69,11 +47,7 @@ pub use Rattle.std.proofs.lemmas.Option.{get_or_from_slice_get, slice_get-get_or
 pub use Rattle.std.specs.Bool.{⊤}
 pub use Rattle.std.specs.Cmp.Lexicographic.{nat_list_eq_equiv, same_text}
 pub use Rattle.std.specs.Cmp.{IsEquivalence}
-pub use Rattle.std.specs.HashSet.{HashSet}
 pub use Rattle.std.specs.List.Sorted.{IsPartitionPoint, IsPartitionedBy, IsPermutation}
 pub use Rattle.std.specs.List.{AllByRecursion, Contains, cons_option, filter_map, flat_map, last_or, list_any}
-pub use Rattle.std.specs.Map.{keys_of, lookup}
-pub use Rattle.std.specs.Option.{option_and_then, option_copied, option_map, option_map_or, option_or, unwrap_or}
-pub use Rattle.std.specs.Prelude.{bytes_eq, slice_get}
 pub use Rattle.std.specs.Set.{distinct_count, is_member}
 unfoldable pub use Rattle.std.specs.List.{IsDistinct}

@@ -1,10 +1,12 @@
--- What of a log bears on one pack, and what two logs agree on that have the same of it.
+-- What of a log bears on one pack, and what decides the pack; and what two logs agree on that have the same of it.
 use Rattle.std.specs.Prelude.{◌≡◌, ◌↔◌}
-use Rattle.mv_repository.specs.Words.{ℕ, nat_eq, List, Bool, false, filter, Option, Some, None, bytes_eq, filter_map, Contains, option_map, option_map_or, PackKey, Message, Upload, Status, Withdraw, Item, Receipt, Carried, LogEntry, IsDistinct, Recall, is_same_pack, is_same_batch, batch_key}
+use Rattle.mv_repository.specs.Words.{ℕ, nat_eq, List, Bool, false, filter, Option, Some, None, bytes_eq, filter_map, Contains, option_map, option_map_or, PackKey, Message, Upload, Status, Withdraw, Item, Receipt, Carried, LogEntry, IsDistinct, Recall, is_same_pack, is_same_batch, batch_key, map, IfSome, slice_get, AllByRecursion, option_and_then, BatchStanding}
+use Rattle.mv_repository.specs.declared.history.Places.{Places}
 use Rattle.mv_repository.specs.Order.{Placed, ordered}
-use Rattle.mv_repository.specs.Pack.{KnownChange, KnownPack}
-use Rattle.mv_repository.specs.PackState.{has_pack, known_pack, pack_state, is_recalled, is_withdrawn}
+use Rattle.mv_repository.specs.Pack.{KnownChange, KnownPack, has_pack, known_pack, pack_state, is_recalled, is_withdrawn}
 use Rattle.mv_repository.specs.Verdict.{local_verdict}
+use Rattle.mv_repository.specs.Stops.{first_stops, is_before, entry_at}
+use Rattle.mv_repository.specs.Track.{first_upload, statuses_of}
 
 -- a message that was carried, with its sender and its stamp
 pub record Sent : Type 0 where
@@ -42,17 +44,13 @@ about pack log = filter (λ sent. bears_on pack (batch_in pack log) sent.message
 abbrev pub unplaced : KnownPack → KnownPack
 unplaced pack = record pack { change = option_map (λ (change : KnownChange). record change { entry = 0 }) pack.change }
 
--- a pack by a log, whatever the places in that log
-abbrev pub unplaced_state : PackKey → List LogEntry → Option KnownPack
-unplaced_state pack log = option_map unplaced (known_pack pack (ordered log))
-
 -- a log recalls this batch of a product, where there is one
 abbrev pub is_batch_recalled : List ℕ → Option (List ℕ) → List LogEntry → Bool
 is_batch_recalled gtin batch log = option_map_or (λ number. is_recalled (batch_key gtin number) log) batch false
 
 -- two logs agree on a pack: on its state, the recall of its batch, the withdrawal of its product, and the verdict
 pub record AgreeOn (pack : PackKey) (one other : List LogEntry) : Type 0 where
-  pub state : unplaced_state pack one ≡ unplaced_state pack other
+  pub state : option_map unplaced (known_pack pack (ordered one)) ≡ option_map unplaced (known_pack pack (ordered other))
   pub recall : is_batch_recalled pack.gtin (batch_in pack one) one ≡ is_batch_recalled pack.gtin (batch_in pack other) other
   pub withdrawal : is_withdrawn pack.gtin one ≡ is_withdrawn pack.gtin other
   pub verdict : local_verdict pack one ≡ local_verdict pack other
@@ -69,3 +67,76 @@ HaveSameAbout pack one other = (sent : Sent) → Contains (about pack one) sent 
 -- two logs have the same entries, in whatever order and however often
 abbrev pub HaveSameEntries : List LogEntry → List LogEntry → Type 0
 HaveSameEntries one other = (entry : LogEntry) → Contains one entry ↔ Contains other entry
+
+-- the entries of a log that decide a pack, each with its place
+pub record PackHistory : Type 0 where
+  pub upload : Option Placed  -- the first upload that names the pack
+  pub statuses : List Placed  -- its statuses, in the order of stamps
+  pub recall : Option Placed  -- the first recall of its batch
+  pub withdrawal : Option Placed  -- the first withdrawal of its product
+
+-- what decides a pack in a log
+abbrev pub history_of : PackKey → List LogEntry → PackHistory
+history_of pack log = record {
+  upload = first_upload pack (ordered log);
+  statuses = statuses_of pack (ordered log);
+  recall = option_and_then (λ number. (first_stops (ordered log)).recall (batch_key pack.gtin number)) (batch_in pack log);
+  withdrawal = (first_stops (ordered log)).withdrawal pack.gtin;
+}
+
+-- an entry as it was sent
+abbrev pub sent_of : Placed → Option Sent
+sent_of placed = sent_in placed.entry.sender placed.entry.item
+
+-- a status as it was sent, and what stands before it: the upload, and the recall and the withdrawal
+pub record SentStatus : Type 0 where
+  pub sent : Option Sent
+  pub is_uploaded : Bool
+  pub batch : BatchStanding
+
+-- a status of a history as it was sent
+abbrev pub sent_status : PackHistory → Placed → SentStatus
+sent_status history placed = record {
+  sent = sent_of placed;
+  is_uploaded = is_before history.upload placed;
+  batch = record { recalled = is_before history.recall placed; withdrawn = is_before history.withdrawal placed };
+}
+
+-- a history as it was sent: no place in a log is left
+pub record SentHistory : Type 0 where
+  pub upload : Option Sent
+  pub statuses : List SentStatus
+  pub recall : Option Sent
+  pub withdrawal : Option Sent
+
+abbrev pub as_sent : PackHistory → SentHistory
+as_sent history = record {
+  upload = option_and_then sent_of history.upload;
+  statuses = map (sent_status history) history.statuses;
+  recall = option_and_then sent_of history.recall;
+  withdrawal = option_and_then sent_of history.withdrawal;
+}
+
+-- two logs have the same history of a pack: the same was sent that decides it
+abbrev pub HaveSameHistory : PackKey → List LogEntry → List LogEntry → Type 0
+HaveSameHistory pack one other = as_sent (history_of pack one) ≡ as_sent (history_of pack other)
+
+-- an entry is the one at its place in a log
+abbrev pub IsAt : List LogEntry → Placed → Type 0
+IsAt log placed = slice_get log placed.place ≡ Some placed.entry
+
+-- so is each of a history
+pub record AreAt (log : List LogEntry) (history : PackHistory) : Type 0 where
+  pub upload : IfSome history.upload (IsAt log)
+  pub statuses : AllByRecursion (IsAt log) history.statuses
+  pub recall : IfSome history.recall (IsAt log)
+  pub withdrawal : IfSome history.withdrawal (IsAt log)
+
+-- a history by its places in a log
+abbrev pub history_at : Places → PackHistory
+history_at places = record {
+  upload = option_map (entry_at places.log.now) places.upload;
+  statuses = map (entry_at places.log.now) places.statuses.now;
+  recall = option_map (entry_at places.log.now) places.recall;
+  withdrawal = option_map (entry_at places.log.now) places.withdrawal;
+}

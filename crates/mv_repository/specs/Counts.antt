@@ -1,8 +1,7 @@
 -- How much a repository has: five numbers, each thing counted once.
 use Rattle.std.specs.Prelude.{◌∷◌}
 use Rattle.mv_repository.specs.Words.{ℕ, List, [], map, filter, length, Bool, false, Option, bytes_eq, flat_map, option_map_or, distinct_count, PackKey, BatchKey, Master, Upload, Item, Carried, LogEntry, Counts, Recall, Held, is_same_pack, is_same_batch, pack_key}
-use Rattle.mv_repository.specs.Pack.{is_active}
-use Rattle.mv_repository.specs.PackState.{pack_state}
+use Rattle.mv_repository.specs.Pack.{is_active, pack_state}
 
 -- the product codes that an item has a master of
 abbrev pub mastered_in : Item → List (List ℕ)

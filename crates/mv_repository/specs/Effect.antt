@@ -3,8 +3,7 @@ use Rattle.std.specs.Prelude.{◌-◌, if◌then◌else◌}
 use Rattle.mv_repository.specs.Words.{ℕ, List, length, filter, not, Bool, is_some, codes, bytes_eq, option_map_or, distinct_count, Master, Upload, Status, Withdraw, Item, Carried, Effect, LogEntry, Recall, pack_key, batch_key}
 use Rattle.mv_repository.specs.declared.effect.Effect.TheVariants as effects
 use Rattle.mv_repository.specs.Order.{Placed, passes, ordered}
-use Rattle.mv_repository.specs.Pack.{change_effect}
-use Rattle.mv_repository.specs.PackState.{is_recalled_by, is_withdrawn_by, batch_standing, known_pack}
+use Rattle.mv_repository.specs.Pack.{change_effect, is_recalled_by, is_withdrawn_by, batch_standing, known_pack}
 
 -- The entries of a log that stand before one that comes last, in the order of stamps: all but those that it passes.
 abbrev pub entries_before : List LogEntry → LogEntry → List Placed

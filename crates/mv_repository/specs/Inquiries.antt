@@ -1,15 +1,15 @@
 -- The table of a repository's own queries.
-use Rattle.std.specs.Prelude.{◌≡◌, ◌<◌, ◌&&◌, ◌||◌, ◌==◌, unwrap_or}
-use Rattle.mv_repository.specs.Words.{ℕ, Bool, true, false, nat_eq, List, Some, None, list_any, option_or, lookup, map_spare, set_spare, Answer, Found, Item, Receipt, Carried, LogEntry}
+use Rattle.std.specs.Prelude.{◌≡◌, ◌<◌, ◌&&◌, ◌||◌, ◌==◌, if◌then◌else◌, unwrap_or}
+use Rattle.mv_repository.specs.Words.{ℕ, Bool, false, nat_eq, List, Option, Some, None, list_any, option_or, lookup, map_spare, set_spare, Answer, Item, Receipt, Carried, LogEntry}
 use Rattle.mv_repository.specs.declared.inquiries.Inquiries.{Inquiries}
 use Rattle.mv_repository.specs.declared.inquiries.Inquiry.{Inquiry}
 use Rattle.mv_repository.specs.Verdict.{asked_parties, has_answered, has_finding, found_active, found_explained}
 
--- an item from a sender tells of a query of the party: it is the receipt of one, or an answer to one
-abbrev pub tells_of_query : ℕ → ℕ → Item → Bool
-tells_of_query party sender (Receipt k reach query) = query && (sender == party)
-tells_of_query party sender (Carried k stamp (Answer asker q key found)) = asker == party
-tells_of_query party sender _ = false
+-- the query of the party that an item from a sender tells of: it is the receipt of one, or an answer to one
+abbrev pub query_of : ℕ → ℕ → Item → Option ℕ
+query_of party sender (Receipt k reach query) = if query && (sender == party) then Some k else None
+query_of party sender (Carried k stamp (Answer asker q key found)) = if asker == party then Some q else None
+query_of party sender _ = None
 
 -- nothing is known of a query
 abbrev pub no_inquiry : Inquiry
@@ -21,23 +21,18 @@ inquiry_in known q = unwrap_or (lookup (nat_eq q) known.inquiries.entries) no_in
 
 -- it is kept that a party has answered a query
 abbrev pub has_reply : Inquiries → ℕ → ℕ → Bool
-has_reply known q other = list_any (λ reply. (q == reply.q) && (other == reply.from)) known.replies.keys
+has_reply known q other = list_any (λ reply. (q == reply.0) && (other == reply.1)) known.replies.keys
 
--- a query once a receipt of it names these parties: the first one counts
-abbrev pub with_receipt : List ℕ → Inquiry → Inquiry
-with_receipt reach inquiry = record inquiry { asked = option_or inquiry.asked (Some reach) }
+-- a query once an item tells of it: the first receipt names the parties that were asked, and each answer what it found
+abbrev pub inquiry_after : Item → Inquiry → Inquiry
+inquiry_after (Receipt k reach query) inquiry = record inquiry { asked = option_or inquiry.asked (Some reach) }
+inquiry_after (Carried k stamp (Answer asker q key found)) inquiry =
+    record inquiry { active = inquiry.active || found_active found; explained = inquiry.explained || found_explained found }
+inquiry_after _ inquiry = inquiry
 
--- a query once an answer to it has come
-abbrev pub with_finding : Found → Inquiry → Inquiry
-with_finding found inquiry = record inquiry {
-  active = inquiry.active || found_active found;
-  explained = inquiry.explained || found_explained found;
-}
-
--- there is room for what an item from a sender tells of a query of the party
-abbrev pub HasRoomFor : Inquiries → ℕ → ℕ → Item → Type 0
-HasRoomFor known party sender item =
-    tells_of_query party sender item ≡ true → (0 < map_spare known.inquiries) × (0 < set_spare known.replies)
+-- there is room for one more query, and for one more answer
+abbrev pub HasRoom : Inquiries → Type 0
+HasRoom known = (0 < map_spare known.inquiries) × (0 < set_spare known.replies)
 
 -- what a log says of a party's query
 abbrev pub inquiry_of : ℕ → List LogEntry → ℕ → Inquiry

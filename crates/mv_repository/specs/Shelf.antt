@@ -1,12 +1,12 @@
 -- What is kept of each pack of a product: a pack that has no status has a slot alone, and each other a track.
 use Rattle.std.specs.Prelude.{◌≡◌, ◌<◌, ◌==◌, ◌||◌}
-use Rattle.mv_repository.specs.Words.{ℕ, List, [], length, get_or, Bool, true, false, Option, Some, None, IfSome, bytes_eq, lookup, option_and_then, option_map_or, map, filter, is_some, not, flat_map, keys_of, HashSet, Counted, Active, Slot, Made, Own, list_any, Upload, Item, Carried, PackKey, LogEntry, pack_key, unwrap_or, Stop, Withdrawal}
+use Rattle.mv_repository.specs.Words.{ℕ, List, [], length, get_or, Bool, true, false, Option, Some, None, IfSome, bytes_eq, lookup, option_and_then, option_map_or, map, filter, is_some, not, HashSet, Counted, Active, Slot, Made, Own, list_any, Upload, Item, Carried, LogEntry, pack_key, unwrap_or, Stop, Withdrawal}
 use Rattle.mv_repository.specs.declared.shelf.Counted.TheVariants.{Held}
 use Rattle.mv_repository.specs.declared.stops.Stop.TheVariants.{Recall}
 use Rattle.mv_repository.specs.Order.{Placed}
 use Rattle.mv_repository.specs.State.{made_batch}
 use Rattle.mv_repository.specs.Stops.{FirstStops}
-use Rattle.mv_repository.specs.Track.{Kept, Life, life_of, IsKept, IsTrack, is_active_kept, is_upload_of, is_status_of}
+use Rattle.mv_repository.specs.Track.{Kept, Life, life_of, IsKept, IsTrack, is_active_kept}
 
 -- nothing is kept
 abbrev pub nothing_kept : Kept
@@ -17,10 +17,6 @@ abbrev pub kept_by : List Kept → Option Slot → Kept
 kept_by tracks None = nothing_kept
 kept_by tracks (Some (Made place)) = record { birth = Some place; statuses = []; by = place; blocks = [] }
 kept_by tracks (Some (Own number)) = get_or tracks number nothing_kept
-
--- what is kept of the pack with a serial number
-abbrev pub kept_on : List (List ℕ × Slot) → List Kept → List ℕ → Kept
-kept_on slots tracks serial = kept_by tracks (lookup (bytes_eq serial) slots)
 
 -- each number is that of a track, and no two packs have one track
 pub record IsShelf (slots : List (List ℕ × Slot)) (tracks : List Kept) : Type 0 where
@@ -46,15 +42,16 @@ pub record ShelfTable : Type 0 where
   pub slots : List (List ℕ × Slot)
   pub tracks : List Kept
   pub listing : ListingTable
+  pub room : ℕ  -- for so many packs more, whatever the log has
+
+-- what is kept of a pack of the product, by its serial number
+abbrev pub kept_in : ShelfTable → List ℕ → Kept
+kept_in shelf serial = kept_by shelf.tracks (lookup (bytes_eq serial) shelf.slots)
 
 -- an item is an upload of these packs of a product
 abbrev pub IsUploadOf : Item → List ℕ → List (List ℕ) → Type 0
 IsUploadOf (Carried k stamp (Upload named batch expiry national packs)) gtin serials = (named ≡ gtin) × (packs ≡ serials)
 IsUploadOf _ gtin serials = ⊥
-
--- a serial number is among these
-abbrev pub has : List (List ℕ) → List ℕ → Bool
-has serials serial = list_any (λ one. bytes_eq one serial) serials
 
 -- a number is in the set of a batch
 abbrev pub is_in : {S : Type 0} → List (List ℕ × HashSet ℕ S) → List ℕ → ℕ → Bool
@@ -74,14 +71,18 @@ abbrev pub is_listed : ListingTable → Option Slot → List ℕ → Bool
 is_listed listing (Some (Own number)) batch = lists listing batch number
 is_listed listing _ batch = true
 
+-- the same by the serial number of the pack
+abbrev pub is_listed_in : ShelfTable → List ℕ → List ℕ → Bool
+is_listed_in shelf serial batch = is_listed shelf.listing (lookup (bytes_eq serial) shelf.slots) batch
+
 -- the batch of the upload that made a pack
 abbrev pub life_batch : Life → Option (List ℕ)
 life_batch life = option_and_then (λ (placed : Placed). made_batch placed.entry.item) life.birth
 
 -- a pack is kept on a shelf as a log means it, and its track is listed under its batch
 pub record IsPackOf (life : Life) (shelf : ShelfTable) (serial : List ℕ) : Type 0 where
-  pub kept : IsKept life (kept_on shelf.slots shelf.tracks serial)
-  pub listed : IfSome (life_batch life) (λ batch. is_listed shelf.listing (lookup (bytes_eq serial) shelf.slots) batch ≡ true)
+  pub kept : IsKept life (kept_in shelf serial)
+  pub listed : IfSome (life_batch life) (λ batch. is_listed_in shelf serial batch ≡ true)
 
 -- a shelf is that of a product by a log
 abbrev pub IsShelfOf : List LogEntry → List ℕ → ShelfTable → Type 0
@@ -89,7 +90,7 @@ IsShelfOf log gtin shelf = (serial : List ℕ) → IsPackOf (life_of (pack_key g
 
 -- a shelf with no pack
 abbrev pub no_shelf : ShelfTable
-no_shelf = record { slots = []; tracks = []; listing = record { is_whole = true; numbers = [] } }
+no_shelf = record { slots = []; tracks = []; listing = record { is_whole = true; numbers = [] }; room = 0 }
 
 -- the shelf of a product
 abbrev pub shelf_of : List ℕ → List (List ℕ × ShelfTable) → ShelfTable
@@ -106,10 +107,6 @@ abbrev pub IsRefreshed : List LogEntry → FirstStops → List ℕ → Bool → 
 IsRefreshed log stops gtin true old new = IsAgain log stops gtin old.birth old new
 IsRefreshed log stops gtin false old new = new ≡ old
 
--- an item is no upload and no status of a pack
-abbrev pub NamesNone : PackKey → Item → Type 0
-NamesNone pack item = (is_upload_of pack item ≡ false) × (is_status_of pack item ≡ false)
-
 -- a pack that is kept so is counted
 abbrev pub is_counted : Counted → Kept → Bool
 is_counted Held kept = is_some kept.birth
@@ -118,7 +115,3 @@ is_counted Active kept = is_active_kept kept
 -- the slots of the packs on a shelf that are counted
 abbrev pub slots_counted : Counted → ShelfTable → List (List ℕ × Slot)
 slots_counted counted shelf = filter (λ slot. is_counted counted (kept_by shelf.tracks (Some slot.1))) shelf.slots
-
--- the packs that are counted, shelf by shelf
-abbrev pub packs_counted : Counted → List (List ℕ × ShelfTable) → List PackKey
-packs_counted counted shelves = flat_map (λ shelf. map (pack_key shelf.0) (keys_of (slots_counted counted shelf.1))) shelves

@@ -1,14 +1,13 @@
 -- By which entry a pack stands: by the upload that made it, or by the status that changed it last. The place of that entry is
 -- the whole state of a pack whose upload is known.
 use Rattle.std.specs.Prelude.{if◌then◌else◌}
-use Rattle.mv_repository.specs.Words.{ℕ, List, [], take, Option, Some, None, option_and_then, option_map, option_map_or, BatchKey, Standing, Message, Upload, Status, Item, LogEntry, Change, Effect, BatchStanding, unwrap_or, Held, batch_key}
+use Rattle.mv_repository.specs.Words.{ℕ, List, [], take, Option, Some, None, option_and_then, option_map, option_map_or, BatchKey, Standing, Message, Upload, Status, Item, Carried, LogEntry, Effect, BatchStanding, unwrap_or, Held, batch_key}
 use Rattle.mv_message.specs.declared.standing.Standing.TheVariants as standings
 use Rattle.mv_repository.specs.declared.effect.Effect.TheVariants as effects
 use Rattle.mv_repository.specs.declared.state.Basis.{Basis}
 use Rattle.mv_repository.specs.Order.{Placed, stands_before}
 use Rattle.mv_repository.specs.Effect.{effect_of}
-use Rattle.mv_repository.specs.Pack.{KnownPack, KnownChange, new_pack, is_active, is_done, change_effect}
-use Rattle.mv_repository.specs.PackState.{held_of}
+use Rattle.mv_repository.specs.Pack.{KnownPack, KnownChange, new_pack, is_active, is_done, change_effect, held_of}
 use Rattle.mv_repository.specs.Stops.{FirstStops, standing_at, entry_at, message_in, stops_in}
 
 -- the pack that an upload makes; none where a message is no upload
@@ -39,14 +38,14 @@ abbrev pub change_of : ℕ → ℕ → Message → Option KnownChange
 change_of place sender (Status key to user at) = Some (record { by = sender; user = user; at = at; entry = place })
 change_of place sender _ = None
 
-abbrev pub change_in : ℕ → ℕ → Item → Option KnownChange
-change_in place sender item = option_and_then (change_of place sender) (message_in item)
+abbrev pub change_in : Placed → Option KnownChange
+change_in placed = option_and_then (change_of placed.place placed.entry.sender) (message_in placed.entry.item)
 
 -- the pack that an upload made, where it stands by an entry
 abbrev pub known_at : Placed → Placed → Option KnownPack
 known_at birth by =
     option_map
-    (λ (made : KnownPack). record made { standing = standing_in by.entry.item; change = change_in by.place by.entry.sender by.entry.item })
+    (λ (made : KnownPack). record made { standing = standing_in by.entry.item; change = change_in by })
     (pack_made_by birth.entry.item)
 
 -- the same by places in a log, as a repository shows it
@@ -59,16 +58,13 @@ effect_from standing sender (Some (Status key to user at)) gtin held =
     change_effect held (standing (batch_key gtin held.batch)) to sender user at
 effect_from standing sender _ gtin held = effects.Noted
 
-abbrev pub effect_by : (BatchKey → BatchStanding) → ℕ → Item → List ℕ → KnownPack → Effect
-effect_by standing sender item gtin held = effect_from standing sender (message_in item) gtin held
-
 -- the effect of a status on a pack of a product, by its first upload and by the entry by which it stands; none stands
 -- before that upload
 abbrev pub effect_on : FirstStops → List ℕ → Option Placed → Placed → Placed → Effect
 effect_on stops gtin None by placed = effects.Unknown
 effect_on stops gtin (Some birth) by placed =
     if stands_before birth placed
-    then option_map_or (effect_by (standing_at stops placed) placed.entry.sender placed.entry.item gtin) (known_at birth by) effects.Unknown
+    then option_map_or (effect_from (standing_at stops placed) placed.entry.sender (message_in placed.entry.item) gtin) (known_at birth by) effects.Unknown
     else effects.Unknown
 
 -- what the newest entry of a log does, which stands at a place
@@ -99,20 +95,18 @@ entry_in basis = entry_at basis.log.now
 abbrev pub start_in : Basis → ℕ
 start_in basis = unwrap_or basis.birth 0
 
+-- the effect of the status at a place, where the pack stands by an entry
+abbrev pub effect_in : Basis → ℕ → ℕ → Effect
+effect_in basis by place =
+    effect_on (stops_of basis) basis.gtin.now (option_map (entry_in basis) basis.birth) (entry_in basis by) (entry_in basis place)
+
 abbrev pub next_in : Basis → ℕ → ℕ → ℕ
 next_in basis = next_place basis.log.now (stops_of basis) basis.gtin.now basis.birth
 
--- what took a pack from active, with the user, who stands in the log
-abbrev pub user_of : Option Message → List ℕ
-user_of (Some (Status key to user at)) = user
-user_of _ = []
-
+-- the user of a status; none of another item
 abbrev pub user_in : Item → List ℕ
-user_in item = user_of (message_in item)
+user_in (Carried k stamp (Status key to user at)) = user
+user_in _ = []
 
 abbrev pub user_at : List LogEntry → ℕ → List ℕ
 user_at log place = user_in (entry_at log place).entry.item
-
-abbrev pub known_change : List LogEntry → Change → KnownChange
-known_change log change =
-    record { by = change.by; user = user_at log change.entry; at = change.at; entry = change.entry }

@@ -1,10 +1,10 @@
 -- What stops a batch for ever: its first recall, and the first withdrawal of its product, by the order of stamps; and which
 -- batches a log recalls, and which products it withdraws.
 use Rattle.std.specs.Prelude.{◌≡◌, ◌∷◌, if◌then◌else◌}
-use Rattle.mv_repository.specs.Words.{ℕ, List, [], find, fold, get_or, Bool, true, false, Option, Some, None, bytes_eq, flat_map, lookup, keys_of, option_map, insert_key, BatchKey, Withdraw, Item, Receipt, Carried, Message, LogEntry, BatchStanding, Stop, Stops, Withdrawal, is_same_batch}
+use Rattle.mv_repository.specs.Words.{ℕ, List, [], find, fold, get_or, Bool, true, false, Option, Some, None, bytes_eq, flat_map, lookup, keys_of, option_map, option_map_or, insert_key, BatchKey, Withdraw, Item, Receipt, Carried, Message, LogEntry, BatchStanding, Stop, Stops, Withdrawal, is_same_batch}
 use Rattle.mv_repository.specs.declared.stops.Stop.TheVariants.{Recall}
 use Rattle.mv_repository.specs.Order.{Placed, passes, stands_before, ordered}
-use Rattle.mv_repository.specs.PackState.{is_recall_of, is_withdrawal_of}
+use Rattle.mv_repository.specs.Pack.{is_recall_of, is_withdrawal_of}
 use Rattle.mv_repository.specs.Counts.{recalled_in}
 
 -- the products that an item withdraws
@@ -36,6 +36,10 @@ entry_at log place = record { place = place; entry = get_or log place no_entry }
 abbrev pub place_of : Placed → ℕ
 place_of placed = placed.place
 
+-- the entry that stands there
+abbrev pub entry_of : Placed → LogEntry
+entry_of placed = placed.entry
+
 -- the message that an item carries; none of a receipt
 abbrev pub message_in : Item → Option Message
 message_in (Carried k stamp message) = Some message
@@ -58,8 +62,7 @@ first_stops entries = record {
 
 -- an entry, if there is one, stands before another
 abbrev pub is_before : Option Placed → Placed → Bool
-is_before None placed = false
-is_before (Some first) placed = stands_before first placed
+is_before first placed = option_map_or (λ one. stands_before one placed) first false
 
 -- how a batch stands where an entry stands
 abbrev pub standing_at : FirstStops → Placed → BatchKey → BatchStanding
@@ -106,8 +109,7 @@ pub record AreStopsOf (log : List LogEntry) (tables : Stops) : Type 0 where
 
 -- the newest entry comes first: there is none so far, or it stands before the first so far, which is at that place
 abbrev pub comes_first : List LogEntry → ℕ → Option ℕ → Bool
-comes_first log new None = true
-comes_first log new (Some first) = passes (entry_at log new) (entry_at log first)
+comes_first log new first = option_map_or (λ one. passes (entry_at log new) (entry_at log one)) first true
 
 -- the earlier of the first so far and the newest entry, by their places
 abbrev pub earlier_place : List LogEntry → ℕ → Option ℕ → Option ℕ

@@ -1,12 +1,12 @@
--- What is kept of one pack: its first upload, its statuses in the order of stamps, and the entry by which the pack stands
--- behind them.
-use Rattle.std.specs.Prelude.{◌≡◌, ◌∷◌, ◌==◌, if◌then◌else◌}
-use Rattle.mv_repository.specs.Words.{ℕ, List, [], map, fold, filter, find, not, Bool, false, Option, Some, None, option_map, option_map_or, PackKey, BatchKey, Upload, Status, Item, Carried, LogEntry, BatchStanding, unwrap_or, Block, is_same_pack, batch_key, Held}
+-- What is kept of one pack: its first upload, its statuses in the order of stamps, the entry by which the pack stands behind
+-- them, and what many of them do that stand one behind the other.
+use Rattle.std.specs.Prelude.{◌≡◌, ◌≤◌, ◌+◌, ◌%◌, ◌∷◌, ◌++◌, ◌==◌, if◌then◌else◌}
+use Rattle.mv_repository.specs.Words.{⊤, ℕ, List, [], length, take, drop, true, AllByRecursion, PARTIES_LIMIT, PartySet, map, fold, filter, find, not, Bool, false, Option, Some, None, option_map, option_map_or, PackKey, BatchKey, Upload, Status, Item, Carried, LogEntry, BatchStanding, unwrap_or, Block, is_same_pack, batch_key}
+use Rattle.mv_link.specs.PartySets.{has_party}
+use Rattle.mv_repository.specs.declared.blocks.Cut.{Cut}
 use Rattle.mv_repository.specs.Order.{Placed, passes, stands_before, ordered}
-use Rattle.mv_repository.specs.Pack.{KnownPack, pack_after_status}
-use Rattle.mv_repository.specs.PackState.{has_pack}
-use Rattle.mv_repository.specs.Blocks.{AreBlocks}
-use Rattle.mv_repository.specs.State.{pack_made_by, next_by, next_place, held_at}
+use Rattle.mv_repository.specs.Pack.{KnownPack, has_pack, is_active, pack_after_status}
+use Rattle.mv_repository.specs.State.{next_by, next_place, pack_made_by, standing_in}
 use Rattle.mv_repository.specs.Stops.{FirstStops, entry_at, place_of, first_stops, standing_at}
 
 -- an item is an upload that names a pack
@@ -44,6 +44,44 @@ abbrev pub pack_grown : FirstStops → PackKey → Option Placed → List Placed
 pack_grown stops pack None statuses = None
 pack_grown stops pack (Some birth) statuses =
     option_map (λ held. fold (pack_step stops pack birth) held statuses) (pack_made_by birth.entry.item)
+
+-- a set may have a sender: it seems to have all whose numbers differ from that of one by the greatest number of parties
+abbrev pub may_have : PartySet → ℕ → Bool
+may_have senders sender = has_party senders (sender % PARTIES_LIMIT)
+
+-- an entry is no revert, or its sender is among these
+abbrev pub IsCovered : PartySet → Placed → Type 0
+IsCovered reverters placed = is_active (standing_in placed.entry.item) ≡ true → may_have reverters placed.entry.sender ≡ true
+
+-- What is known of a block by the statuses in it: what they leave of a pack that comes to them active, and whose reverts are
+-- among them. Of too many senders is right, of too few is not.
+abbrev pub IsSummary : {A : Type 0} → (A → Placed) → (A → A → A) → A → Block → List A → Type 0
+IsSummary entry next start block own =
+    (block.of_active ≡ (entry (fold next start own)).place) × AllByRecursion (λ status. IsCovered block.reverters (entry status)) own
+
+-- blocks are those of the first of these statuses, of a pack that comes to them by an entry
+abbrev pub AreBlocks : {A : Type 0} → (A → Placed) → (A → A → A) → A → A → List Block → List A → Type 0
+AreBlocks entry next start by [] own = ⊤
+AreBlocks entry next start by (block ∷ rest) own =
+    (block.count ≤ length own) × (block.after ≡ (entry (fold next by (take block.count own))).place)
+    × IsSummary entry next start block (take block.count own)
+    × AreBlocks entry next start (fold next by (take block.count own)) rest (drop block.count own)
+
+-- blocks that are right in front of others, where these go by the rest of the statuses, to which the pack comes by an entry
+abbrev pub IsFront : (ℕ → Placed) → (ℕ → ℕ → ℕ) → ℕ → List Block → List ℕ → ℕ → List ℕ → Type 0
+IsFront entry next start blocks own by rest =
+    (more : List Block) → AreBlocks entry next start by more rest → AreBlocks entry next start start (blocks ++ more) own
+
+-- some of these blocks end at a cut
+pub record IsCut (entry : ℕ → Placed) (next : ℕ → ℕ → ℕ) (start : ℕ) (blocks : List Block) (own : List ℕ) (cut : Cut) : Type 0 where
+  pub within : cut.start ≤ length own
+  pub by : cut.by ≡ fold next start (take cut.start own)
+  pub front : (rest : List ℕ) → IsFront entry next start (take cut.number blocks) (take cut.start own ++ rest) cut.by rest
+  pub behind : AreBlocks entry next start cut.by (drop cut.number blocks) (drop cut.start own)
+
+-- statuses but for the one at a place
+abbrev pub without : List ℕ → ℕ → List ℕ
+without own at = take at own ++ drop (at + 1) own
 
 -- what a log means for a pack: its first upload, its statuses, and by which entry it stands behind one of them, where it
 -- stood by another
@@ -106,14 +144,6 @@ pub record IsTrack (log : List LogEntry) (stops : FirstStops) (gtin : List ℕ) 
   pub by : kept.by ≡ fold (next_place log stops gtin kept.birth) (unwrap_or kept.birth 0) kept.statuses
   pub blocks : AreBlocks (entry_at log) (next_place log stops gtin kept.birth) (unwrap_or kept.birth 0) (unwrap_or kept.birth 0)
       kept.blocks kept.statuses
-
--- what a pack is that is kept so
-abbrev pub state_from : List LogEntry → Option ℕ → ℕ → Option Held
-state_from log None by = None
-state_from log (Some birth) by = held_at log birth by
-
-abbrev pub state_by : List LogEntry → Kept → Option Held
-state_by log kept = state_from log kept.birth kept.by
 
 -- a pack is held, and active: it stands by its upload
 abbrev pub is_active_kept : Kept → Bool

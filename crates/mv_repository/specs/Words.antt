@@ -1,12 +1,11 @@
 -- The names of the library, and of the types of these crates, that the definitions cite, passed on from one
 -- place. Declares nothing.
-pub use Rattle.indexmap.specs.IndexMap.{spare, spare as map_spare}
+pub use Rattle.indexmap.specs.IndexMap.{spare as map_spare}
 pub use Rattle.indexmap.specs.IndexSet.{insert_key, spare as set_spare}
 pub use Rattle.mv_link.specs.declared.item.Item.TheVariants.{Carried, Receipt}
 pub use Rattle.mv_link.specs.declared.item.Item.{Item}
 pub use Rattle.mv_link.specs.declared.limits.TheConstants.{PARTIES_LIMIT}
 pub use Rattle.mv_link.specs.declared.party_set.PartySet.{PartySet}
-pub use Rattle.mv_message.specs.declared.found.Found.TheVariants.{Absent, Present}
 pub use Rattle.mv_message.specs.declared.found.Found.{Found}
 pub use Rattle.mv_message.specs.declared.message.Message.TheVariants.{Answer, Master, Query, Recall, Status, Upload, Withdraw}
 pub use Rattle.mv_message.specs.declared.message.Message.{Message}
@@ -21,7 +20,6 @@ pub use Rattle.mv_repository.specs.declared.shelf.Counted.{Counted}
 pub use Rattle.mv_repository.specs.declared.counts.Counts.{Counts}
 pub use Rattle.mv_repository.specs.declared.effect.Effect.{Effect}
 pub use Rattle.mv_repository.specs.declared.entry.LogEntry.{LogEntry, LogEntry as AnEntry}
-pub use Rattle.mv_repository.specs.declared.held.Change.{Change}
 pub use Rattle.mv_repository.specs.declared.held.Held.{Held}
 pub use Rattle.mv_repository.specs.declared.shelf.Slot.TheVariants.{Made, Own}
 pub use Rattle.mv_repository.specs.declared.shelf.Slot.{Slot}
@@ -31,15 +29,13 @@ pub use Rattle.mv_repository.specs.declared.stops.Stop.{Stop}
 pub use Rattle.mv_repository.specs.declared.stops.Stops.{Stops}
 pub use Rattle.mv_repository.specs.declared.verdict.Joint.TheVariants.{Decided, NotAsked, Pending}
 pub use Rattle.mv_repository.specs.declared.verdict.Joint.{Joint}
-pub use Rattle.mv_repository.specs.declared.verdict.Local.TheVariants.{Known}
 pub use Rattle.mv_repository.specs.declared.verdict.Local.{Local}
 pub use Rattle.mv_repository.specs.declared.verdict.Verdict.TheVariants.{Authentic, NotAuthentic}
 pub use Rattle.mv_repository.specs.declared.verdict.Verdict.{Verdict}
-pub use Rattle.std.specs.Bool.{⊤}
 pub use Rattle.std.specs.HashSet.{HashSet}
 pub use Rattle.std.specs.Iterator.{YieldsFirstRef, item_count}
 pub use Rattle.std.specs.List.{AllByRecursion, Contains, IsDistinct, filter_map, flat_map, last_or, list_any}
 pub use Rattle.std.specs.Map.{keys_of, lookup}
 pub use Rattle.std.specs.Option.{option_and_then, option_copied, option_map, option_map_or, option_or, unwrap_or}
-pub use Rattle.std.specs.Prelude.{Bool, IfNone, IfOk, IfSome, IsTrue, List, MatchOption, None, OnErr, OnOk, Option, Option as AnOption, Some, [], bytes_eq, codes, drop, false, filter, find, fold, get_or, insert, is_some, length, map, nat_eq, nat_lt, not, option_to_list, slice_get, suc, take, true, ℕ}
+pub use Rattle.std.specs.Prelude.{Bool, IfOk, IfSome, IsTrue, List, MatchOption, None, OnErr, OnOk, Option, Some, [], bytes_eq, codes, drop, false, filter, find, fold, get_or, insert, is_some, length, map, nat_eq, nat_lt, not, option_to_list, slice_get, take, true, ⊤, ℕ}
 pub use Rattle.std.specs.Set.{distinct_count}

@@ -3,11 +3,11 @@
 //! active, and whose reverts stand in it, since a pack that another changed goes through as it comes.
 
 ghost use Rattle.std.specs.Prelude.{◌≡◌, ◌≤◌, ◌<◌, ◌+◌, ◌%◌};
-ghost use Rattle.mv_repository.specs.Clauses.{AllByRecursion, AreBlocks, IfSome, IsCovered, IsCut, IsFront, IsSummary, List, drop, entry_at, entry_in, fold, get_or, length, next_in, no_block, start_in, take, without, ℕ};
+ghost use Rattle.mv_repository.specs.Clauses.{AllByRecursion, AreBlocks, IfSome, IsCovered, IsCut, IsFront, IsSummary, List, drop, effect_in, entry_at, entry_in, fold, get_or, length, next_in, start_in, take, without, ℕ};
 
-use crate::LogEntry;
 use crate::entry::sender_at;
 use crate::state::{Basis, is_active, standing_by};
+use crate::{Effect, LogEntry};
 use mv_link::{PARTIES_LIMIT, PartySet};
 use mv_message::Party;
 
@@ -87,7 +87,7 @@ impl Block {
 
 /// Where some blocks end.
 #[derive(Clone, Copy)]
-pub(crate) struct Cut {
+struct Cut {
     /// How many they are.
     pub number: usize,
     /// How many statuses stand in them.
@@ -96,12 +96,14 @@ pub(crate) struct Cut {
     pub by: u32,
 }
 
-/// The blocks that end in front of a place among the statuses, or at it.
-pub(crate) fn cut_at(basis: &Basis<'_>, blocks: &Vec<Block>, at: usize) -> Cut
-    ensures at { result.start ≤ at }
-    ensures inside { result.number < length blocks.now.items → at < result.start + (get_or blocks.now.items result.number no_block).count }
+/// The blocks that end in front of a place among the statuses, or at it, and the block in which the place stands, if there is one with
+/// room for one status more.
+fn cut_at(basis: &Basis<'_>, blocks: &Vec<Block>, at: usize) -> (Cut, Option<Block>)
+    ensures at { result.0.start ≤ at }
+    ensures inside { IfSome result.1 (λ block. (result.0.number < length blocks.now.items) × (block ≡ get_or blocks.now.items result.0.number block)
+        × (at < result.0.start + block.count)) }
     ensures cut { (own : List ℕ) → AreBlocks (entry_in basis.now) (next_in basis.now) (start_in basis.now) (start_in basis.now) blocks.now.items own
-        → IsCut (entry_in basis.now) (next_in basis.now) (start_in basis.now) blocks.now.items own result }
+        → IsCut (entry_in basis.now) (next_in basis.now) (start_in basis.now) blocks.now.items own result.0 }
 {
     let mut cut = Cut {
         number: 0,
@@ -111,7 +113,7 @@ pub(crate) fn cut_at(basis: &Basis<'_>, blocks: &Vec<Block>, at: usize) -> Cut
     while cut.number < blocks.len() {
         let block = blocks[cut.number];
         if at - cut.start < block.count {
-            return cut;
+            return (cut, (block.count < 2 * BLOCK).then_some(block));
         }
         cut = Cut {
             number: cut.number + 1,
@@ -119,7 +121,7 @@ pub(crate) fn cut_at(basis: &Basis<'_>, blocks: &Vec<Block>, at: usize) -> Cut
             by: block.after,
         };
     }
-    cut
+    (cut, None)
 }
 
 /// Of how many of these statuses the first block is made: of a few more than it must be, where a pack that comes to them
@@ -199,43 +201,33 @@ fn pass_on(
     extend(basis, rest, blocks, last)
 }
 
-/// The block of a number, where it has room for one status more.
-fn with_room(blocks: &Vec<Block>, number: usize) -> Option<Block>
-    ensures { IfSome result (λ block. (number < length blocks.now.items) × (block ≡ get_or blocks.now.items number no_block)) }
-{
-    let block = blocks.get(number)?;
-    if block.count < 2 * BLOCK {
-        Some(*block)
-    } else {
-        None
-    }
-}
-
-/// Works out the blocks again where the status at a place was put in; the place of the entry by which the pack stands behind
-/// all, where it stands by an entry behind that status, and stood by another behind all before.
+/// Works out the blocks again where the status at a place was put in: its effect, and the place of the entry by which the pack stands
+/// behind all, where that by which it stood behind all before is known.
 pub(crate) fn put_late(
     basis: &Basis<'_>,
     own: &[u32],
     blocks: &mut Vec<Block>,
     at: usize,
-    by: u32,
     standing: u32,
-) -> u32
+) -> (Effect, u32)
     requires within { at < length own.now }
-    requires by { by ≡ fold (next_in basis.now) (start_in basis.now) (take (at + 1) own.now) }
     requires blocks { AreBlocks (entry_in basis.now) (next_in basis.now) (start_in basis.now) (start_in basis.now) blocks.old.items (without own.now at) }
     requires standing { standing ≡ fold (next_in basis.now) (start_in basis.now) (without own.now at) }
+    ensures effect { result.0 ≡ effect_in basis.now (fold (next_in basis.now) (start_in basis.now) (take at own.now)) (get_or own.now at 0) }
     ensures blocks { AreBlocks (entry_in basis.now) (next_in basis.now) (start_in basis.now) (start_in basis.now) blocks.new.items own.now }
-    ensures by { result ≡ fold (next_in basis.now) (start_in basis.now) own.now }
+    ensures by { result.1 ≡ fold (next_in basis.now) (start_in basis.now) own.now }
 {
+    let place = own[at];
     if at + 1 == own.len() {
-        return by;
+        return basis.next(standing, place);
     }
-    let cut = cut_at(basis, blocks, at);
+    let (cut, block) = cut_at(basis, blocks, at);
+    let before = basis.after(cut.by, &own[cut.start..at]);
+    let (effect, _) = basis.next(before, place);
     let (_, rest) = own.split_at(cut.start);
-    let Some(old) = with_room(blocks, cut.number) else {
+    let Some(old) = block else {
         blocks.truncate(cut.number);
-        return extend(basis, rest, blocks, cut.by);
+        return (effect, extend(basis, rest, blocks, cut.by));
     };
     let (some, behind) = rest.split_at(old.count + 1);
     let block = Block::of(basis, cut.by, some);
@@ -245,5 +237,6 @@ pub(crate) fn put_late(
         start: cut.start + block.count,
         by: block.after,
     };
-    pass_on(basis, behind, blocks, next, old.after, standing)
+    let by = pass_on(basis, behind, blocks, next, old.after, standing);
+    (effect, by)
 }

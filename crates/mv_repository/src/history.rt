@@ -1,54 +1,39 @@
 //! What decides one pack, lent from a repository, and whether two have the same.
 
 ghost use Rattle.std.specs.Prelude.{◌≡◌, ◌↔◌};
-ghost use Rattle.mv_repository.specs.Clauses.{AreStopsOf, IsTrue, YieldsFirstRef, as_sent, batch_at, batch_key, entry_at, entry_of, history_at, history_of, is_same_batch, item_count, lookup, map, option_and_then, option_copied, option_map, sent_in, sent_status, track_of};
+ghost use Rattle.mv_repository.specs.Clauses.{IsTrue, YieldsFirstRef, as_sent, entry_at, entry_of, history_at, item_count, map, option_and_then, option_copied, option_map, sent_in, sent_status};
 
 use crate::LogEntry;
-use crate::listing::batch_at;
 use crate::order::is_before;
-use crate::stops::Stops;
 use mv_link::Item;
 use mv_message::laws::messages_are_equal;
 use mv_message::{Message, Party};
-use mv_pack::{BatchKey, PackKey};
 use std::marker::Model;
 
 /// The places of what decides a pack, in their log.
 #[derive(Clone, Copy)]
-struct Places<'a> {
+pub(crate) struct Places<'a> {
     /// The log.
-    log: &'a [LogEntry],
+    pub log: &'a [LogEntry],
     /// The first upload that names the pack.
-    upload: Option<u32>,
+    pub upload: Option<u32>,
     /// The statuses, in the order of stamps.
-    statuses: &'a [u32],
+    pub statuses: &'a [u32],
     /// The first recall of the pack's batch.
-    recall: Option<u32>,
+    pub recall: Option<u32>,
     /// The first withdrawal of the pack's product.
-    withdrawal: Option<u32>,
+    pub withdrawal: Option<u32>,
 }
 
-/// A message that was carried, with its sender and its stamp.
-#[derive(Clone, Copy)]
-struct Sent<'a> {
-    sender: Party,
-    stamp: u32,
-    message: &'a Message,
-}
-
-/// An entry as it was sent; none of a receipt.
-fn sent_of(entry: &LogEntry) -> Option<Sent<'_>>
-    ensures { option_map (λ sent. record { sender = sent.sender; stamp = sent.stamp; message = sent.message.now }) result
+/// The sender, the stamp and the message of an entry; none of a receipt.
+fn sent_of(entry: &LogEntry) -> Option<(Party, u32, &Message)>
+    ensures { option_map (λ sent. record { sender = sent.0; stamp = sent.1; message = sent.2.now }) result
         ≡ sent_in entry.now.sender entry.now.item }
 {
-    let Item::Carried { stamp, message, .. } = &entry.item else {
-        return None;
-    };
-    Some(Sent {
-        sender: entry.sender,
-        stamp: *stamp,
-        message: message.get(),
-    })
+    match &entry.item {
+        Item::Carried { stamp, message, .. } => Some((entry.sender, *stamp, message.get())),
+        Item::Receipt { .. } => None,
+    }
 }
 
 /// Whether the same was sent by two entries, if there are any.
@@ -58,9 +43,7 @@ fn is_same_sent(one: Option<&LogEntry>, other: Option<&LogEntry>) -> bool
 {
     match (one.and_then(sent_of), other.and_then(sent_of)) {
         (Some(one), Some(other)) => {
-            one.sender == other.sender
-                && one.stamp == other.stamp
-                && messages_are_equal(one.message, other.message)
+            one.0 == other.0 && one.1 == other.1 && messages_are_equal(one.2, other.2)
         }
         (None, None) => true,
         _ => false,
@@ -84,32 +67,12 @@ fn have_same_statuses(one: &Places<'_>, other: &Places<'_>) -> bool
     ensures { IsTrue result ↔ (map (sent_status (history_at one.now)) (history_at one.now).statuses
         ≡ map (sent_status (history_at other.now)) (history_at other.now).statuses) }
 {
-    let mut mine = one.statuses;
-    let mut theirs = other.statuses;
-    while let Some((first, rest)) = mine.split_first() {
-        let Some((second, others)) = theirs.split_first() else {
-            return false;
-        };
-        if !is_same_status(one, *first, other, *second) {
+    for (mine, theirs) in one.statuses.iter().zip(other.statuses) {
+        if !is_same_status(one, *mine, other, *theirs) {
             return false;
         }
-        mine = rest;
-        theirs = others;
     }
-    theirs.is_empty()
-}
-
-/// The place of the first recall of the batch of a pack that the upload at a place made.
-fn batch_recall(log: &[LogEntry], stops: &Stops, pack: &PackKey, upload: Option<u32>) -> Option<u32>
-    ensures { result ≡ option_and_then (λ number. lookup (is_same_batch (batch_key pack.now.gtin number)) stops.now.recalls.entries)
-        (option_and_then (batch_at log.now) upload) }
-{
-    let number = batch_at(log, upload?)?;
-    let batch = BatchKey {
-        gtin: pack.gtin,
-        batch: number.copy(),
-    };
-    stops.recalls.get(&batch).copied()
+    one.statuses.len() == other.statuses.len()
 }
 
 /// What decides a pack: the first upload that names it, its statuses, the first recall of its batch and the first withdrawal
@@ -117,11 +80,11 @@ fn batch_recall(log: &[LogEntry], stops: &Stops, pack: &PackKey, upload: Option<
 #[derive(Drop)]
 pub struct History<'a> {
     /// Where in the log each stands.
-    places: Places<'a>,
+    pub(crate) places: Places<'a>,
 }
 
 impl<'a> Model for History<'a> {
-    ghost use Rattle.mv_repository.specs.History.{PackHistory, AreAt, history_at};
+    ghost use Rattle.mv_repository.specs.Agreement.{PackHistory, AreAt, history_at};
 
     ghost Value = { PackHistory };
 
@@ -131,28 +94,6 @@ impl<'a> Model for History<'a> {
 }
 
 impl<'a> History<'a> {
-    /// The history of a pack, of which this is kept.
-    pub(crate) fn new(
-        log: &'a [LogEntry],
-        stops: &Stops,
-        pack: &PackKey,
-        upload: Option<u32>,
-        statuses: &'a [u32],
-    ) -> History<'a>
-        requires stops { AreStopsOf log.now stops.now }
-        requires track { (upload ≡ (track_of pack.now log.now).birth) × (statuses.now ≡ (track_of pack.now log.now).statuses) }
-        ensures { result ≡ history_of pack.now log.now }
-    {
-        let places = Places {
-            log,
-            upload,
-            statuses,
-            recall: batch_recall(log, stops, pack, upload),
-            withdrawal: stops.withdrawals.get(&pack.gtin).copied(),
-        };
-        History { places }
-    }
-
     /// The first upload that names the pack; none where it is not held.
     pub fn upload(&self) -> Option<&'a LogEntry>
         ensures { option_copied result ≡ option_map entry_of self.now.upload }
@@ -186,6 +127,7 @@ impl<'a> History<'a> {
 
     /// Whether two histories are the same: what decides the packs was sent alike, and each status stands alike behind the
     /// upload, the recall and the withdrawal.
+    #[tactic(auto, using(crate::proofs::HistoryLemmas::sent_entry))]
     pub fn is_same(&self, other: &History<'_>) -> bool
         ensures { IsTrue result ↔ (as_sent self.now ≡ as_sent other.now) }
     {
@@ -206,12 +148,9 @@ pub struct Statuses<'a> {
 }
 
 impl<'a> Model for Statuses<'a> {
-    ghost use Rattle.std.specs.Prelude.{List, map};
-    ghost use Rattle.std.specs.List.{AllByRecursion};
-    ghost use Rattle.mv_repository.specs.declared.entry.LogEntry.{LogEntry as AnEntry};
-    ghost use Rattle.mv_repository.specs.History.{IsAt};
-    ghost use Rattle.mv_repository.specs.Masters.{entry_of};
-    ghost use Rattle.mv_repository.specs.Stops.{entry_at};
+    ghost use Rattle.mv_repository.specs.Words.{AllByRecursion, AnEntry, List, map};
+    ghost use Rattle.mv_repository.specs.Agreement.{IsAt};
+    ghost use Rattle.mv_repository.specs.Stops.{entry_at, entry_of};
 
     ghost Value = { List AnEntry };
 

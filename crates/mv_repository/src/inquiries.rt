@@ -3,14 +3,14 @@
 //!
 //! It stands apart since no other table bears on it: it changes at receipts of queries and at answers alone.
 
-ghost use Rattle.std.specs.Prelude.{◌≡◌, ◌<◌, ◌≤◌, ◌==◌, ◌&&◌, ◌||◌, if◌then◌else◌, ◌∷◌, ◌++◌};
-ghost use Rattle.mv_repository.specs.Clauses.{AnEntry, HasRoomFor, IsInquiriesOf, List, OnOk, [], filter, found_active, found_explained, has_reply, inquiry_in, joint_verdict, length, map_spare, no_inquiry, not, set_spare, tells_of_query, with_finding, with_receipt, ℕ};
+ghost use Rattle.std.specs.Prelude.{◌≡◌, ◌≤◌, ◌∷◌, ◌++◌};
+ghost use Rattle.mv_repository.specs.Clauses.{AnEntry, HasRoom, IsInquiriesOf, List, OnOk, [], filter, has_reply, inquiry_after, joint_verdict, length, no_inquiry, not, query_of, ℕ};
 
 use crate::Joint;
 use crate::verdict::{found_active, found_explained, verdict_when};
 use indexmap::{IndexMap, IndexSet};
 use mv_link::{Item, Reached};
-use mv_message::{Found, Message, Party};
+use mv_message::{Message, Party};
 use std::alloc::{AllocError, Global};
 
 /// What is known of a query.
@@ -24,22 +24,13 @@ struct Inquiry {
     explained: bool,
 }
 
-/// A party has answered a query.
-#[derive(Clone, Copy, Debug, PartialEq, Eq, Hash)]
-struct Reply {
-    /// The number of the query among the messages of the party that asked.
-    q: u32,
-    /// Who answered.
-    from: Party,
-}
-
 /// What a repository knows of the queries of its own party.
 #[derive(Drop)]
 pub struct Inquiries {
     /// What is known of each query, by its number among the messages of the party.
     inquiries: IndexMap<u32, Inquiry>,
-    /// Which party has answered which query.
-    replies: IndexSet<Reply>,
+    /// Which query was answered, by its number, and by which party.
+    replies: IndexSet<(u32, Party)>,
 }
 
 impl Inquiries {
@@ -53,76 +44,38 @@ impl Inquiries {
         }
     }
 
-    /// Gets room for what an item from a sender tells of a query of the party. Refused for want of memory; either way
-    /// it is known what was known.
-    pub fn reserve(&mut self, party: Party, sender: Party, item: &Item) -> Result<(), AllocError>
-        ensures room { OnOk result (HasRoomFor self.new party sender item.now) }
-        ensures same { (log : List AnEntry) → IsInquiriesOf party log self.old
+    /// Gets room for one more query and one more answer. Refused for want of memory; either way it is known what was known.
+    pub fn reserve(&mut self) -> Result<(), AllocError>
+        ensures room { OnOk result (HasRoom self.new) }
+        ensures same { (party : ℕ) (log : List AnEntry) → IsInquiriesOf party log self.old
             → IsInquiriesOf party log self.new }
     {
-        if tells_of_query(party, sender, item) {
-            self.inquiries.reserve(1)?;
-            self.replies.reserve(1)?;
-        }
+        self.inquiries.reserve(1)?;
+        self.replies.reserve(1)?;
         Ok(())
     }
 
     /// Notes an item from a sender, which comes last in the log of the party.
     pub fn note(&mut self, party: Party, sender: Party, item: &Item)
-        requires room { HasRoomFor self.old party sender item.now }
+        requires { HasRoom self.old }
         ensures { (log : List AnEntry) → IsInquiriesOf party log self.old
             → IsInquiriesOf party (log ++ record { sender = sender; item = item.now } ∷ []) self.new }
     {
-        if !tells_of_query(party, sender, item) {
+        let Some(query) = query_of(party, sender, item) else {
             return;
-        }
+        };
+        let Ok(inquiry) = self.inquiries.entry(query) else {
+            unreachable!();
+        };
+        inquiry.or_insert(Inquiry::new()).note(item);
         match item {
-            Item::Receipt { k, reach, .. } => self.note_receipt(*k, reach),
-            Item::Carried { message, .. } => match message.get() {
-                Message::Answer { q, found, .. } => self.note_answer(sender, *q, found),
-                _ => (),
-            },
+            Item::Receipt { .. } => (),
+            Item::Carried { .. } => {
+                let Ok(_) = self.replies.insert((query, sender)) else {
+                    unreachable!();
+                };
+            }
         }
-    }
-
-    /// Notes the receipt of a query, which reached these parties: the first one counts.
-    fn note_receipt(&mut self, query: u32, reach: &Reached)
-        requires { 0 < map_spare self.old.inquiries }
-        ensures inquiries { (q : ℕ) → inquiry_in self.new q ≡ (if query == q
-            then with_receipt reach.now (inquiry_in self.old q) else inquiry_in self.old q) }
-        ensures replies { (q other : ℕ) → has_reply self.new q other ≡ has_reply self.old q other }
-    {
-        let Ok(inquiry) = self.inquiries.entry(query) else {
-            unreachable!();
-        };
-        let inquiry = inquiry.or_insert(Inquiry::new());
-        if inquiry.asked.is_none() {
-            inquiry.asked = Some(reach.copy());
-        }
-    }
-
-    /// Notes an answer to a query.
-    fn note_answer(&mut self, sender: Party, query: u32, found: &Found)
-        requires inquiries_room { 0 < map_spare self.old.inquiries }
-        requires replies_room { 0 < set_spare self.old.replies }
-        ensures inquiries { (q : ℕ) → inquiry_in self.new q ≡ (if query == q
-            then with_finding found.now (inquiry_in self.old q) else inquiry_in self.old q) }
-        ensures replies { (q other : ℕ) → has_reply self.new q other
-            ≡ (((query == q) && (sender == other)) || has_reply self.old q other) }
-    {
-        let Ok(inquiry) = self.inquiries.entry(query) else {
-            unreachable!();
-        };
-        let inquiry = inquiry.or_insert(Inquiry::new());
-        inquiry.active = inquiry.active || found_active(found);
-        inquiry.explained = inquiry.explained || found_explained(found);
-        let Ok(_) = self.replies.insert(Reply {
-            q: query,
-            from: sender,
-        })
-        else {
-            unreachable!();
-        };
     }
 
     /// The verdict on the query that was the `q`-th message of the party, by what is kept of its log. It takes no memory.
@@ -149,7 +102,7 @@ impl Inquiries {
         requires { length asked.now ≤ 64 }
         ensures { result ≡ length (filter (λ other. not (has_reply self.now q other)) asked.now) }
     {
-        let is_left = |other: &&Party| !self.replies.contains(&Reply { q, from: **other });
+        let is_left = |other: &&Party| !self.replies.contains(&(q, **other));
         asked.iter().filter(is_left).count() as u32
     }
 }
@@ -165,17 +118,34 @@ impl Inquiry {
             explained: false,
         }
     }
+
+    /// Notes an item that tells of the query: the first receipt counts, and each answer.
+    fn note(&mut self, item: &Item)
+        ensures { self.new ≡ inquiry_after item.now self.old }
+    {
+        match item {
+            Item::Receipt { reach, .. } => {
+                self.asked.get_or_insert(reach.copy());
+            }
+            Item::Carried { message, .. } => {
+                if let Message::Answer { found, .. } = message.get() {
+                    self.active = self.active || found_active(found);
+                    self.explained = self.explained || found_explained(found);
+                }
+            }
+        }
+    }
 }
 
-/// Whether an item from a sender tells of a query of the party: it is the receipt of one, or an answer to one.
-fn tells_of_query(party: Party, sender: Party, item: &Item) -> bool
-    ensures { result ≡ tells_of_query party sender item.now }
+/// The number of the query of the party that an item from a sender tells of: it is the receipt of one, or an answer to one.
+fn query_of(party: Party, sender: Party, item: &Item) -> Option<u32>
+    ensures { result ≡ query_of party sender item.now }
 {
     match item {
-        Item::Receipt { query, .. } => *query && sender == party,
+        Item::Receipt { k, query, .. } => (*query && sender == party).then_some(*k),
         Item::Carried { message, .. } => match message.get() {
-            Message::Answer { asker, .. } => *asker == party,
-            _ => false,
+            Message::Answer { asker, q, .. } => (*asker == party).then_some(*q),
+            _ => None,
         },
     }
 }

@@ -95,12 +95,7 @@ fn add_to(
     ensures added { OnOk result (is_in batches.new.entries batch.now number ≡ true) }
     ensures kept { (other : List ℕ) (one : ℕ) → is_in batches.old.entries other one ≡ true → is_in batches.new.entries other one ≡ true }
 {
-    if !batches.contains_key(batch) {
-        batches.insert(batch.copy(), IndexSet::new(alloc))?;
-    }
-    let Some(numbers) = batches.get_mut(batch) else {
-        unreachable!();
-    };
+    let numbers = batches.entry(batch.copy())?.or_insert(IndexSet::new(alloc));
     numbers.insert(number)?;
     Ok(())
 }

@@ -14,13 +14,8 @@ const RECEIPT_RANK: u64 = 1 << 32;
 fn rank_at(log: &[LogEntry], place: u32) -> u64
     ensures { result ≡ rank (entry_at log.now place).entry.item }
 {
-    match log.get(place as usize) {
-        Some(
-            LogEntry {
-                item: Item::Carried { stamp, .. },
-                ..
-            },
-        ) => u64::from(*stamp),
+    match log.get(place as usize).map(|entry| &entry.item) {
+        Some(Item::Carried { stamp, .. }) => u64::from(*stamp),
         _ => RECEIPT_RANK,
     }
 }
@@ -36,9 +31,7 @@ pub(crate) fn passes(log: &[LogEntry], later: u32, earlier: u32) -> bool
 pub(crate) fn stands_before(log: &[LogEntry], first: u32, second: u32) -> bool
     ensures { result ≡ stands_before (entry_at log.now first) (entry_at log.now second) }
 {
-    let first_rank = rank_at(log, first);
-    let second_rank = rank_at(log, second);
-    first_rank < second_rank || (first_rank == second_rank && first < second)
+    (rank_at(log, first), first) < (rank_at(log, second), second)
 }
 
 /// Whether an entry, if there is one, stands before another.

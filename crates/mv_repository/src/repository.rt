@@ -1,14 +1,16 @@
 //! A national repository: its log, the tables of it, and what it knows of its own queries.
 
 ghost use Rattle.std.specs.Prelude.{◌≡◌};
-ghost use Rattle.mv_repository.specs.Clauses.{IfOk, OnErr, OnOk, answer_after, answer_to, counts_of, effect_of, found_of, history_of, is_recalled, is_withdrawn, items_from, joint_verdict, local_verdict, new_repository, option_copied, pack_state, product_of, recalled_batches, with_applied, withdrawn_products};
+ghost use Rattle.mv_repository.specs.Clauses.{IfOk, OnErr, OnOk, [], answer_after, answer_to, batch_key, counts_of, effect_of, found_of, history_of, is_recalled, is_withdrawn, items_from, joint_verdict, local_verdict, new_repository, option_copied, pack_state, product_of, recalled_batches, track_of, with_applied, withdrawn_products};
 
+use crate::entry::message_at;
+use crate::history::Places;
 use crate::inquiries::Inquiries;
 use crate::shelf::Counted;
 use crate::state::held_at;
 use crate::tables::Tables;
 use crate::verdict::{found_active, found_explained, verdict_when};
-use crate::{Counts, Effect, FromSender, Held, History, Joint, Local, LogEntry, masters};
+use crate::{Counts, Effect, FromSender, Held, History, Joint, Local, LogEntry};
 use mv_link::Item;
 use mv_message::{Found, Message, Party, Product, Shared};
 use mv_pack::{BatchKey, Gtin, PackKey};
@@ -84,15 +86,28 @@ impl Repository {
     pub fn product(&self, gtin: &Gtin) -> Option<&Product>
         ensures { option_copied result ≡ product_of self.now.log gtin.now }
     {
-        masters::product(&self.tables.masters, self.log.as_slice(), gtin)
+        let place = *self.tables.masters.get(gtin)?;
+        match message_at(self.log.as_slice(), place as usize)? {
+            Message::Master { product, .. } => Some(product.get()),
+            _ => None,
+        }
+    }
+
+    /// What is kept of a pack: its first upload, its statuses in the order of stamps, and the entry by which it stands.
+    fn kept(&self, key: &PackKey) -> (Option<u32>, &[u32], u32)
+        ensures { record { birth = result.0; statuses = result.1.now; by = result.2; blocks = [] } ≡ track_of key.now self.now.log }
+    {
+        match self.tables.shelves.get(&key.gtin) {
+            Some(shelf) => shelf.parts(&key.serial),
+            None => (None, &[], 0),
+        }
     }
 
     /// What a pack is; none where no upload names it.
     pub fn pack(&self, key: &PackKey) -> Option<Held>
         ensures { result ≡ pack_state key.now self.now.log }
     {
-        let shelf = self.tables.shelves.get(&key.gtin)?;
-        let (birth, _, by) = shelf.parts(&key.serial);
+        let (birth, _, by) = self.kept(key);
         held_at(self.log.as_slice(), birth?, by)
     }
 
@@ -100,12 +115,20 @@ impl Repository {
     pub fn history(&self, key: &PackKey) -> History<'_>
         ensures { result ≡ history_of key.now self.now.log }
     {
-        let log = self.log.as_slice();
-        let Some(shelf) = self.tables.shelves.get(&key.gtin) else {
-            return History::new(log, &self.tables.stops, key, None, &[]);
+        let stops = &self.tables.stops;
+        let (upload, statuses, _) = self.kept(key);
+        let recall = match self.pack(key) {
+            Some(held) => stops.recalls.get(&batch_of(key, &held)).copied(),
+            None => None,
         };
-        let (upload, statuses, _) = shelf.parts(&key.serial);
-        History::new(log, &self.tables.stops, key, upload, statuses)
+        let places = Places {
+            log: self.log.as_slice(),
+            upload,
+            statuses,
+            recall,
+            withdrawal: stops.withdrawals.get(&key.gtin).copied(),
+        };
+        History { places }
     }
 
     /// Whether a batch is recalled.
@@ -156,10 +179,7 @@ impl Repository {
         let Some(held) = self.pack(key) else {
             return Found::Absent;
         };
-        let batch = BatchKey {
-            gtin: key.gtin,
-            batch: held.batch.copy(),
-        };
+        let batch = batch_of(key, &held);
         Found::Present {
             batch: held.batch,
             expiry: held.expiry,
@@ -230,7 +250,7 @@ impl Repository {
         let Ok(copy) = item.copy() else {
             return Err(AllocError);
         };
-        self.inquiries.reserve(self.party, sender, item)?;
+        self.inquiries.reserve()?;
         self.log.reserve(1)?;
         self.log.push_reserved(LogEntry { sender, item: copy });
         match self.tables.add(self.log.as_slice(), place as u32) {
@@ -243,5 +263,15 @@ impl Repository {
                 Err(refused)
             }
         }
+    }
+}
+
+/// The batch of a pack that is held.
+fn batch_of(key: &PackKey, held: &Held) -> BatchKey
+    ensures { result ≡ batch_key key.now.gtin held.now.batch }
+{
+    BatchKey {
+        gtin: key.gtin,
+        batch: held.batch.copy(),
     }
 }

@@ -1,7 +1,6 @@
 //! The items of a log that came from one party.
 
-ghost use Rattle.std.specs.Prelude.{◌≡◌, ◌∷◌};
-ghost use Rattle.mv_repository.specs.Clauses.{IfNone, IfSome, YieldsFirstRef, [], item_count, items_from};
+ghost use Rattle.mv_repository.specs.Clauses.{YieldsFirstRef, item_count};
 
 use crate::LogEntry;
 use mv_link::Item;
@@ -18,8 +17,7 @@ pub struct FromSender<'a> {
 }
 
 impl<'a> Model for FromSender<'a> {
-    ghost use Rattle.std.specs.Prelude.{List};
-    ghost use Rattle.mv_link.specs.declared.item.Item.{Item as AnItem};
+    ghost use Rattle.mv_repository.specs.Words.{List, Item as AnItem};
     ghost use Rattle.mv_repository.specs.Log.{items_from};
 
     ghost Value = { List AnItem };
@@ -35,24 +33,12 @@ impl<'a> Iterator for FromSender<'a> {
     ghost remaining = { item_count (λ it. it) };
 
     fn next(&mut self) -> Option<&'a Item> {
-        let (item, rest) = split_first_from(self.entries, self.sender)?;
-        self.entries = rest;
-        Some(item)
-    }
-}
-
-/// The first item from a party, and the entries behind it.
-fn split_first_from(log: &[LogEntry], sender: Party) -> Option<(&Item, &[LogEntry])>
-    ensures first { IfSome result (λ first.
-        items_from log.now sender ≡ first.0.now ∷ items_from first.1.now sender) }
-    ensures none { IfNone result (items_from log.now sender ≡ []) }
-{
-    let mut entries = log;
-    while let Some((entry, rest)) = entries.split_first() {
-        if entry.sender == sender {
-            return Some((&entry.item, rest));
+        while let Some((entry, rest)) = self.entries.split_first() {
+            self.entries = rest;
+            if entry.sender == self.sender {
+                return Some(&entry.item);
+            }
         }
-        entries = rest;
+        None
     }
-    None
 }

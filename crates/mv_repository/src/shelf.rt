@@ -1,7 +1,7 @@
 //! What is kept of each pack of one product, by serial numbers alone. This file knows no other product.
 
 ghost use Rattle.std.specs.Prelude.{◌≡◌, ◌<◌, ◌≤◌, ◌+◌, ◌==◌};
-ghost use Rattle.mv_repository.specs.Clauses.{AreStopsOf, IfOk, IsAgain, IsDistinct, IsRefreshed, IsShelf, IsShelfOf, IsTrack, IsUploadOf, List, OnErr, OnOk, Some, [], batch_at, bytes_eq, comes_first, earlier_place, newest_effect, entry_at, false, get_or, is_counted, is_listed, is_status_of, is_stop, kept_by, kept_on, keys_of, length, lookup, may_stop, no_shelf, nothing_kept, slots_counted, spare, stopped_product, stops_in, take, true, ℕ};
+ghost use Rattle.mv_repository.specs.Clauses.{AreStopsOf, IfOk, IsAgain, IsDistinct, IsRefreshed, IsShelfOf, IsTrack, IsUploadOf, List, OnErr, OnOk, Some, [], bare, batch_at, bytes_eq, comes_first, earlier_place, newest_effect, entry_at, false, get_or, is_counted, is_status_of, is_stop, kept_by, kept_in, keys_of, length, is_listed_in, may_stop, no_shelf, nothing_kept, slots_counted, stopped_product, stops_in, take, true, ℕ};
 
 use crate::Effect;
 use crate::listing::Listing;
@@ -31,60 +31,6 @@ pub(crate) enum Counted {
     Held,
     /// Those that are held, and active.
     Active,
-}
-
-/// Adds the newest entry, an upload, to what is kept of one pack that it names; whether it is the first such by stamp. Where it is, the
-/// pack's track is listed under its batch.
-fn put_upload(
-    slots: &mut IndexMap<Serial, Slot>,
-    tracks: &mut Vec<Track>,
-    listing: &mut Listing,
-    newest: &Newest<'_>,
-    gtin: &Gtin,
-    serial: &Serial,
-) -> bool
-    requires room { 0 < spare slots.old }
-    requires shelf { IsShelf slots.old.entries tracks.old.items }
-    requires worked { IsTrack newest.now.log.now (stops_in newest.now.log.now newest.now.stops.now) gtin.now (kept_on slots.old.entries tracks.old.items serial.now) }
-    ensures room { spare slots.old ≤ spare slots.new + 1 }
-    ensures shelf { IsShelf slots.new.entries tracks.new.items }
-    ensures again { IsAgain newest.now.log.now (stops_in newest.now.log.now newest.now.stops.now) gtin.now (earlier_place newest.now.log.now newest.now.place (kept_on slots.old.entries tracks.old.items serial.now).birth)
-        (kept_on slots.old.entries tracks.old.items serial.now) (kept_on slots.new.entries tracks.new.items serial.now) }
-    ensures others { (other : List ℕ) → bytes_eq serial.now other ≡ false
-        → kept_on slots.new.entries tracks.new.items other ≡ kept_on slots.old.entries tracks.old.items other }
-    ensures first { result ≡ comes_first newest.now.log.now newest.now.place (kept_on slots.old.entries tracks.old.items serial.now).birth }
-    ensures listed { (other batch : List ℕ) → is_listed listing.old (lookup (bytes_eq other) slots.old.entries) batch ≡ true
-        → is_listed listing.new (lookup (bytes_eq other) slots.new.entries) batch ≡ true }
-    ensures made { result ≡ true → (batch : List ℕ) → batch_at newest.now.log.now newest.now.place ≡ Some batch
-        → is_listed listing.new (lookup (bytes_eq serial.now) slots.new.entries) batch ≡ true }
-{
-    let Ok(entry) = slots.entry(serial.copy()) else {
-        unreachable!();
-    };
-    let made = Slot::Made(newest.place);
-    match entry {
-        Entry::Vacant(entry) => {
-            entry.insert(made);
-            true
-        }
-        Entry::Occupied(mut entry) => match *entry.get() {
-            Slot::Own(number) => {
-                let track = &mut tracks[number as usize];
-                let is_first = track.add_upload(newest, gtin);
-                if is_first {
-                    listing.note(newest.log, Some(newest.place), number);
-                }
-                is_first
-            }
-            Slot::Made(first) => {
-                let is_first = passes(newest.log, newest.place, first);
-                if is_first {
-                    entry.insert(made);
-                }
-                is_first
-            }
-        },
-    }
 }
 
 /// Works out again the track of a number, where there is one.
@@ -129,10 +75,11 @@ pub(crate) struct Shelf {
 
 impl Model for Shelf {
     ghost use Rattle.mv_repository.specs.Shelf.{ShelfTable, IsShelf};
+    ghost use Rattle.indexmap.specs.IndexMap.{spare};
 
     ghost Value = { ShelfTable };
 
-    ghost view = { λ a. record { slots = a.slots.entries; tracks = a.tracks.items; listing = a.listing } };
+    ghost view = { λ a. record { slots = a.slots.entries; tracks = a.tracks.items; listing = a.listing; room = spare a.slots } };
 
     ghost invariant = { λ a. IsShelf a.slots.entries a.tracks.items };
 }
@@ -140,7 +87,7 @@ impl Model for Shelf {
 impl Shelf {
     /// No pack.
     pub fn new(alloc: Global) -> Shelf
-        ensures { result ≡ no_shelf }
+        ensures { result ≡ record no_shelf { room = result.room } }
     {
         Shelf {
             slots: IndexMap::new(alloc),
@@ -152,9 +99,7 @@ impl Shelf {
     /// What is kept of the pack that a slot stands for: the place of its first upload, its statuses, and the entry by which it
     /// stands.
     fn kept(&self, slot: Option<Slot>) -> (Option<u32>, &[u32], u32)
-        ensures birth { result.0 ≡ (kept_by self.now.tracks slot).birth }
-        ensures statuses { result.1.now ≡ (kept_by self.now.tracks slot).statuses }
-        ensures by { result.2 ≡ (kept_by self.now.tracks slot).by }
+        ensures { record { birth = result.0; statuses = result.1.now; by = result.2; blocks = [] } ≡ bare (kept_by self.now.tracks slot) }
     {
         match slot {
             Some(Slot::Made(first)) => (Some(first), &[], first),
@@ -168,9 +113,7 @@ impl Shelf {
 
     /// The upload that made the pack with a serial number, where one did, its statuses, and the entry by which it stands.
     pub fn parts(&self, serial: &Serial) -> (Option<u32>, &[u32], u32)
-        ensures birth { result.0 ≡ (kept_on self.now.slots self.now.tracks serial.now).birth }
-        ensures statuses { result.1.now ≡ (kept_on self.now.slots self.now.tracks serial.now).statuses }
-        ensures by { result.2 ≡ (kept_on self.now.slots self.now.tracks serial.now).by }
+        ensures { record { birth = result.0; statuses = result.1.now; by = result.2; blocks = [] } ≡ bare (kept_in self.now serial.now) }
     {
         self.kept(self.slots.get(serial).copied())
     }
@@ -197,6 +140,48 @@ impl Shelf {
             .count()
     }
 
+    /// Adds the newest entry, an upload, to what is kept of one pack that it names; whether it is the first such by stamp. Where it is,
+    /// the pack's track is listed under its batch.
+    fn put_upload(&mut self, newest: &Newest<'_>, gtin: &Gtin, serial: &Serial) -> bool
+        requires room { 0 < self.old.room }
+        requires worked { IsTrack newest.now.log.now (stops_in newest.now.log.now newest.now.stops.now) gtin.now (kept_in self.old serial.now) }
+        ensures room { self.old.room ≤ self.new.room + 1 }
+        ensures again { IsAgain newest.now.log.now (stops_in newest.now.log.now newest.now.stops.now) gtin.now
+            (earlier_place newest.now.log.now newest.now.place (kept_in self.old serial.now).birth) (kept_in self.old serial.now) (kept_in self.new serial.now) }
+        ensures others { (other : List ℕ) → bytes_eq serial.now other ≡ false → kept_in self.new other ≡ kept_in self.old other }
+        ensures first { result ≡ comes_first newest.now.log.now newest.now.place (kept_in self.old serial.now).birth }
+        ensures listed { (other batch : List ℕ) → is_listed_in self.old other batch ≡ true → is_listed_in self.new other batch ≡ true }
+        ensures made { result ≡ true → (batch : List ℕ) → batch_at newest.now.log.now newest.now.place ≡ Some batch → is_listed_in self.new serial.now batch ≡ true }
+    {
+        let Ok(entry) = self.slots.entry(serial.copy()) else {
+            unreachable!();
+        };
+        let made = Slot::Made(newest.place);
+        match entry {
+            Entry::Vacant(entry) => {
+                entry.insert(made);
+                true
+            }
+            Entry::Occupied(mut entry) => match *entry.get() {
+                Slot::Own(number) => {
+                    let track = &mut self.tracks[number as usize];
+                    let is_first = track.add_upload(newest, gtin);
+                    if is_first {
+                        self.listing.note(newest.log, Some(newest.place), number);
+                    }
+                    is_first
+                }
+                Slot::Made(first) => {
+                    let is_first = passes(newest.log, newest.place, first);
+                    if is_first {
+                        entry.insert(made);
+                    }
+                    is_first
+                }
+            },
+        }
+    }
+
     /// Adds the newest entry, an upload; its effect where it stands. Where memory is refused nothing has changed.
     pub fn add_upload(
         &mut self,
@@ -204,7 +189,6 @@ impl Shelf {
         gtin: &Gtin,
         serials: &[Serial],
     ) -> Result<Effect, AllocError>
-        requires last { length newest.now.log.now ≡ newest.now.place + 1 }
         requires stops { AreStopsOf (take newest.now.place newest.now.log.now) newest.now.stops.now }
         requires upload { IsUploadOf (entry_at newest.now.log.now newest.now.place).entry.item gtin.now serials.now }
         requires shelf { IsShelfOf (take newest.now.place newest.now.log.now) gtin.now self.old }
@@ -216,14 +200,7 @@ impl Shelf {
         // All room is got: nothing fails from here on. A track that finds no memory to be listed by makes the listing not whole.
         let mut new = 0;
         for serial in serials {
-            let is_first = put_upload(
-                &mut self.slots,
-                &mut self.tracks,
-                &mut self.listing,
-                newest,
-                gtin,
-                serial,
-            );
+            let is_first = self.put_upload(newest, gtin, serial);
             new = if is_first { new + 1 } else { new };
         }
         Ok(Effect::Uploaded {
@@ -240,7 +217,6 @@ impl Shelf {
         newest: &Newest<'_>,
         pack: &PackKey,
     ) -> Result<Effect, AllocError>
-        requires last { length newest.now.log.now ≡ newest.now.place + 1 }
         requires stops { AreStopsOf (take newest.now.place newest.now.log.now) newest.now.stops.now }
         requires own { is_status_of pack.now (entry_at newest.now.log.now newest.now.place).entry.item ≡ true }
         requires shelf { IsShelfOf (take newest.now.place newest.now.log.now) pack.now.gtin self.old }
@@ -272,7 +248,6 @@ impl Shelf {
 
     /// Works out again the packs that may be stopped by the newest entry, which stops packs of the product.
     pub fn refresh(&mut self, newest: &Newest<'_>, stop: &Stop<'_>)
-        requires last { length newest.now.log.now ≡ newest.now.place + 1 }
         requires stops { AreStopsOf newest.now.log.now newest.now.stops.now }
         requires stop { is_stop stop.now (entry_at newest.now.log.now newest.now.place).entry.item ≡ true }
         requires shelf { IsShelfOf (take newest.now.place newest.now.log.now) (stopped_product stop.now) self.old }

@@ -1,8 +1,8 @@
 //! The one place that decides what a status does: its effect on a pack that stands by an entry of the log, and by which entry
 //! the pack stands then.
 
-ghost use Rattle.std.specs.Prelude.{◌≡◌};
-ghost use Rattle.mv_repository.specs.Clauses.{change_in, effect_on, entry_at, entry_in, fold, held_at, is_active, known_change, next_in, option_map, revert_effect, standing_at, standing_in, start_in, stops_of, user_at};
+ghost use Rattle.std.specs.Prelude.{◌≡◌, ◌+◌, length};
+ghost use Rattle.mv_repository.specs.Clauses.{KnownChange, change_in, effect_in, effect_on, entry_at, entry_in, fold, held_at, is_active, next_in, option_map, revert_effect, standing_at, standing_in, start_in, stops_of};
 
 use crate::entry::{message_at, sender_at};
 use crate::held::REVERT_SECONDS;
@@ -19,16 +19,6 @@ pub(crate) fn is_active(standing: Standing) -> bool
     matches!(standing, Standing::Active)
 }
 
-/// The user of the status at a place of a log.
-fn user_at(log: &[LogEntry], place: usize) -> &str
-    ensures { result.now ≡ user_at log.now place }
-{
-    match message_at(log, place) {
-        Some(Message::Status { user, .. }) => user.as_str(),
-        _ => "",
-    }
-}
-
 /// How a pack stands that stands by the entry at a place.
 pub(crate) fn standing_by(log: &[LogEntry], by: u32) -> Standing
     ensures { result ≡ standing_in (entry_at log.now by).entry.item }
@@ -41,8 +31,8 @@ pub(crate) fn standing_by(log: &[LogEntry], by: u32) -> Standing
 
 /// What took it from active.
 fn change_by(log: &[LogEntry], by: u32) -> Option<Change>
-    ensures { option_map (known_change log.now) result
-        ≡ change_in by (entry_at log.now by).entry.sender (entry_at log.now by).entry.item }
+    ensures { result ≡ option_map (λ (change : KnownChange). record { by = change.by; at = change.at; entry = change.entry })
+        (change_in (entry_at log.now by)) }
 {
     match message_at(log, by as usize)? {
         Message::Status { at, .. } => Some(Change {
@@ -54,24 +44,30 @@ fn change_by(log: &[LogEntry], by: u32) -> Option<Change>
     }
 }
 
-/// What a revert does to a pack that was changed.
+/// What a revert does to a pack that stands by an entry.
 fn revert_effect(
     log: &[LogEntry],
-    change: Option<Change>,
+    by: u32,
     expiry: Expiry,
     batch: BatchStanding,
     sender: Party,
     user: &str,
     at: Moment,
 ) -> Effect
-    ensures { result
-        ≡ revert_effect expiry batch (option_map (known_change log.now) change) sender user.now at }
+    ensures { result ≡ revert_effect expiry batch (change_in (entry_at log.now by)) sender user.now at }
 {
-    let Some(change) = change else {
+    let Some(
+        Message::Status {
+            user: changer,
+            at: changed,
+            ..
+        },
+    ) = message_at(log, by as usize)
+    else {
         return Effect::OtherUser;
     };
-    let changed_at = change.at.seconds();
-    if change.by != sender || user_at(log, change.entry) != user {
+    let changed_at = changed.seconds();
+    if sender_at(log, by as usize) != sender || changer.as_str() != user {
         Effect::OtherUser
     } else if at.seconds() < changed_at {
         Effect::TooEarly
@@ -97,6 +93,8 @@ pub(crate) struct Newest<'a> {
     pub stops: &'a Stops,
     /// The place of the entry in the log.
     pub place: u32,
+    /// The entry is the last of the log.
+    ghost last: { length log.now ≡ place + 1 },
 }
 
 /// By what the statuses of a pack are worked out.
@@ -148,9 +146,8 @@ impl Basis<'_> {
                     batch: batch.copy(),
                 };
                 let stands = self.stops.standing_at(log, &key, place);
-                let change = change_by(log, by);
                 let sender = sender_at(log, place as usize);
-                revert_effect(log, change, *expiry, stands, sender, user.as_str(), *at)
+                revert_effect(log, by, *expiry, stands, sender, user.as_str(), *at)
             }
         }
     }
@@ -158,21 +155,18 @@ impl Basis<'_> {
     /// What the status at a place does to the pack, where it stands by an entry: its effect, and the place of the entry by
     /// which the pack stands then.
     pub fn next(&self, by: u32, place: u32) -> (Effect, u32)
-        ensures effect { result.0 ≡ effect_on (stops_of self.now) self.now.gtin.now
-            (option_map (entry_in self.now) self.now.birth) (entry_in self.now by) (entry_in self.now place) }
+        ensures effect { result.0 ≡ effect_in self.now by place }
         ensures by { result.1 ≡ next_in self.now by place }
     {
         let Some(birth) = self.birth else {
             return (Effect::Unknown, by);
         };
         let effect = self.effect_on(birth, by, place);
-        if effect != Effect::Done {
-            return (effect, by);
+        match effect {
+            Effect::Done if is_active(standing_by(self.log, place)) => (effect, birth),
+            Effect::Done => (effect, place),
+            _ => (effect, by),
         }
-        if is_active(standing_by(self.log, place)) {
-            return (effect, birth);
-        }
-        (effect, place)
     }
 
     /// The place of the entry by which the pack stands behind these statuses, where it stands by one in front of them.

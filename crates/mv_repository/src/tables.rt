@@ -1,7 +1,7 @@
 //! The tables that a repository keeps of its log, and what one more entry does to them.
 
 ghost use Rattle.std.specs.Prelude.{◌≡◌, ◌+◌};
-ghost use Rattle.mv_repository.specs.Clauses.{AnEntry, AreTablesOf, IfOk, IsUploadOf, List, OnErr, OnOk, [], bytes_eq, distinct_count, effect_of, entry_at, filter, is_counted, is_same_pack, is_some, is_status_of, is_stop, length, lookup, newest_effect, shelf_of, take, track_of, true, uploaded_packs, ℕ};
+ghost use Rattle.mv_repository.specs.Clauses.{AnEntry, AreTablesOf, IfOk, List, OnErr, OnOk, [], distinct_count, entry_at, filter, is_counted, is_same_pack, is_stop, length, newest_effect, take, track_of, true, uploaded_packs};
 
 use crate::entry::message_at;
 use crate::masters::add_master;
@@ -11,7 +11,7 @@ use crate::stops::{Stop, Stops};
 use crate::{Effect, LogEntry};
 use indexmap::IndexMap;
 use mv_message::Message;
-use mv_pack::{Gtin, PackKey, Serial};
+use mv_pack::Gtin;
 use std::alloc::{AllocError, Global};
 
 /// What is found in a log without a search.
@@ -65,10 +65,14 @@ impl Tables {
         requires last { length log.now ≡ place + 1 }
         requires tables { AreTablesOf (take place log.now) self.old }
         ensures ok { OnOk result (AreTablesOf log.now self.new) }
-        ensures effect { IfOk result (λ effect. effect
-            ≡ effect_of (take place log.now) (entry_at log.now place).entry) }
+        ensures effect { IfOk result (λ effect. effect ≡ newest_effect log.now place) }
         ensures err { OnErr result (AreTablesOf (take place log.now) self.new) }
     {
+        let newest = Newest {
+            log,
+            stops: &self.stops,
+            place,
+        };
         let Some(message) = message_at(log, place as usize) else {
             return Ok(Effect::Noted);
         };
@@ -78,72 +82,25 @@ impl Tables {
                 Ok(Effect::Done)
             }
             Message::Upload { gtin, serials, .. } => {
-                self.add_upload(log, gtin, serials.as_slice(), place)
+                let serials = serials.as_slice();
+                if serials.len() > usize::MAX - self.named {
+                    return Err(AllocError);
+                }
+                let shelf = self.shelves.entry(*gtin)?;
+                let shelf = shelf.or_insert(Shelf::new(self.alloc));
+                let effect = shelf.add_upload(&newest, gtin, serials)?;
+                self.named += serials.len();
+                Ok(effect)
             }
-            Message::Status { key, .. } => self.add_status(log, key, place),
+            Message::Status { key, .. } => {
+                let shelf = self.shelves.entry(key.gtin)?;
+                let shelf = shelf.or_insert(Shelf::new(self.alloc));
+                shelf.add_status(self.alloc, &newest, key)
+            }
             Message::Recall { key, .. } => self.add_stop(log, &Stop::Recall(key), place),
             Message::Withdraw { gtin, .. } => self.add_stop(log, &Stop::Withdrawal(gtin), place),
             _ => Ok(Effect::Noted),
         }
-    }
-
-    /// Adds the newest entry, an upload of packs of a product.
-    fn add_upload(
-        &mut self,
-        log: &[LogEntry],
-        gtin: &Gtin,
-        serials: &[Serial],
-        place: u32,
-    ) -> Result<Effect, AllocError>
-        requires last { length log.now ≡ place + 1 }
-        requires upload { IsUploadOf (entry_at log.now place).entry.item gtin.now serials.now }
-        requires tables { AreTablesOf (take place log.now) self.old }
-        ensures ok { OnOk result (AreTablesOf log.now self.new) }
-        ensures effect { IfOk result (λ effect. effect ≡ newest_effect log.now place) }
-        ensures err { OnErr result (AreTablesOf (take place log.now) self.new) }
-    {
-        if serials.len() > usize::MAX - self.named {
-            return Err(AllocError);
-        }
-        add_shelf(self.alloc, &mut self.shelves, *gtin)?;
-        let Some(shelf) = self.shelves.get_mut(gtin) else {
-            unreachable!();
-        };
-        let newest = Newest {
-            log,
-            stops: &self.stops,
-            place,
-        };
-        let effect = shelf.add_upload(&newest, gtin, serials)?;
-        self.named += serials.len();
-        Ok(effect)
-    }
-
-    /// Adds the newest entry, a status of a pack.
-    fn add_status(
-        &mut self,
-        log: &[LogEntry],
-        pack: &PackKey,
-        place: u32,
-    ) -> Result<Effect, AllocError>
-        requires last { length log.now ≡ place + 1 }
-        requires own { is_status_of pack.now (entry_at log.now place).entry.item ≡ true }
-        requires tables { AreTablesOf (take place log.now) self.old }
-        ensures ok { OnOk result (AreTablesOf log.now self.new) }
-        ensures effect { IfOk result (λ effect. effect ≡ newest_effect log.now place) }
-        ensures err { OnErr result (AreTablesOf (take place log.now) self.new) }
-    {
-        add_shelf(self.alloc, &mut self.shelves, pack.gtin)?;
-        let Some(shelf) = self.shelves.get_mut(&pack.gtin) else {
-            unreachable!();
-        };
-        let newest = Newest {
-            log,
-            stops: &self.stops,
-            place,
-        };
-        let effect = shelf.add_status(self.alloc, &newest, pack)?;
-        Ok(effect)
     }
 
     /// Adds the newest entry, which stops packs for ever. The first such by stamp bears on packs; any other bears on none.
@@ -174,19 +131,4 @@ impl Tables {
         shelf.refresh(&newest, stop);
         Ok(Effect::Done)
     }
-}
-
-/// Gives a product a shelf, where it has none; what is kept of packs stays the same.
-fn add_shelf(
-    alloc: Global,
-    shelves: &mut IndexMap<Gtin, Shelf>,
-    gtin: Gtin,
-) -> Result<(), AllocError>
-    ensures shelf { OnOk result (is_some (lookup (bytes_eq gtin) shelves.new.entries) ≡ true) }
-    ensures same { (other : List ℕ) → shelf_of other shelves.new.entries ≡ shelf_of other shelves.old.entries }
-{
-    if !shelves.contains_key(&gtin) {
-        shelves.insert(gtin, Shelf::new(alloc))?;
-    }
-    Ok(())
 }

@@ -1,10 +1,10 @@
 //! What is kept of one pack: the place in the log of its first upload, its statuses in the order of stamps, and the entry by
 //! which the pack stands behind them. This file knows no other pack.
 
-ghost use Rattle.std.specs.Prelude.{◌≡◌, ◌≤◌, ◌<◌, ◌+◌};
-ghost use Rattle.mv_repository.specs.Clauses.{AreBlocks, AreStopsOf, Ascends, IfOk, IsAgain, IsKept, IsTrack, OnErr, OnOk, [], comes_first, earlier_place, newest_effect, entry_at, entry_in, fold, insert, is_status_of, length, life_of, map, next_in, not, passes, places_before, put_place, start_in, stops_in, take, true, unwrap_or};
+ghost use Rattle.std.specs.Prelude.{◌≡◌, ◌≤◌};
+ghost use Rattle.mv_repository.specs.Clauses.{AreStopsOf, Ascends, IfOk, IsAgain, IsKept, IsTrack, OnErr, OnOk, [], bare, comes_first, earlier_place, newest_effect, entry_at, insert, is_status_of, length, life_of, map, not, passes, places_before, put_place, stops_in, take, true, unwrap_or};
 
-use crate::blocks::{Block, cut_at, put_late};
+use crate::blocks::{Block, put_late};
 use crate::order::{comes_first, passes};
 use crate::state::{Basis, Newest};
 use crate::{Effect, LogEntry};
@@ -24,21 +24,6 @@ fn place_for(log: &[LogEntry], statuses: &[u32], new: u32) -> usize
             ensures { result ≡ not (passes (entry_at log.entry.now new) (entry_at log.entry.now place.now)) }
         { !passes(log, new, *place) },
     )
-}
-
-/// The place of the entry by which a pack stands in front of the status at a place among these, where it is known how it
-/// stands behind all.
-fn by_before(basis: &Basis<'_>, own: &[u32], blocks: &Vec<Block>, at: usize, standing: u32) -> u32
-    requires within { at ≤ length own.now }
-    requires blocks { AreBlocks (entry_in basis.now) (next_in basis.now) (start_in basis.now) (start_in basis.now) blocks.now.items own.now }
-    requires standing { standing ≡ fold (next_in basis.now) (start_in basis.now) own.now }
-    ensures { result ≡ fold (next_in basis.now) (start_in basis.now) (take at own.now) }
-{
-    if at == own.len() {
-        return standing;
-    }
-    let cut = cut_at(basis, blocks, at);
-    basis.after(cut.by, &own[cut.start..at])
 }
 
 /// What is kept of a pack.
@@ -77,9 +62,7 @@ impl Track {
 
     /// The place of the first upload that names the pack, those of its statuses, and that of the entry by which it stands.
     pub fn parts(&self) -> (Option<u32>, &[u32], u32)
-        ensures birth { result.0 ≡ self.now.birth }
-        ensures statuses { result.1.now ≡ self.now.statuses }
-        ensures by { result.2 ≡ self.now.by }
+        ensures { record { birth = result.0; statuses = result.1.now; by = result.2; blocks = [] } ≡ bare self.now }
     {
         (self.birth, self.statuses.as_slice(), self.by)
     }
@@ -87,7 +70,6 @@ impl Track {
     /// Adds a status of the pack, which is the newest entry of the log, and gives its effect where it stands. Where memory
     /// is refused nothing has changed.
     pub fn add_status(&mut self, newest: &Newest<'_>, pack: &PackKey) -> Result<Effect, AllocError>
-        requires last { length newest.now.log.now ≡ newest.now.place + 1 }
         requires stops { AreStopsOf (take newest.now.place newest.now.log.now) newest.now.stops.now }
         requires own { is_status_of pack.now (entry_at newest.now.log.now newest.now.place).entry.item ≡ true }
         requires kept { IsKept (life_of pack.now (take newest.now.place newest.now.log.now)) self.old }
@@ -104,19 +86,12 @@ impl Track {
             birth: self.birth,
         };
         let at = place_for(newest.log, self.statuses.as_slice(), newest.place);
-        let before = by_before(&basis, self.statuses.as_slice(), &self.blocks, at, self.by);
-        let (effect, by) = basis.next(before, newest.place);
         let Ok(()) = self.statuses.insert(at, newest.place) else {
             unreachable!();
         };
-        self.by = put_late(
-            &basis,
-            self.statuses.as_slice(),
-            &mut self.blocks,
-            at,
-            by,
-            self.by,
-        );
+        let statuses = self.statuses.as_slice();
+        let (effect, by) = put_late(&basis, statuses, &mut self.blocks, at, self.by);
+        self.by = by;
         Ok(effect)
     }
 

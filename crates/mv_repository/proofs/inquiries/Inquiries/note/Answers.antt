@@ -1,14 +1,18 @@
-use Rattle.mv_repository.proofs.Lemmas.{rules, known_stays, tells_nothing, receipt_noted, answer_noted}
+use Rattle.mv_repository.proofs.Lemmas.{arith, rules, refl, known_stays, tells_nothing, receipt_noted, answer_noted}
 use Rattle.mv_repository.proofs.inquiries.Inquiries.note.Goals as goal
 
 -- the item tells of no query of the party
-pub returns-then-not-tells_of_query : goal.returns-then-not-tells_of_query
-returns-then-not-tells_of_query c log = search (rules, known_stays, tells_nothing)
+pub returns-in_default : goal.returns-in_default
+returns-in_default c log = search (rules, known_stays, tells_nothing)
 
 -- the item is the receipt of a query of the party
 pub returns-in-Receipt : goal.returns-in-Receipt
-returns-in-Receipt c log = search (rules, receipt_noted)
+returns-in-Receipt c log =
+    receipt_noted c.args.party log c.args.sender c.args.item.now c.in-Some.query c.args.self.now _ _ _ _ c.in-Receipt.is (search rules)
+    (λ q. search rules) (λ q other. refl)
 
 -- the item is an answer to a query of the party
-pub returns-in-Answer : goal.returns-in-Answer
-returns-in-Answer c log = search (rules, answer_noted)
+pub returns-in-Ok-insert : goal.returns-in-Ok-insert
+returns-in-Ok-insert c log =
+    answer_noted c.args.party log c.args.sender c.args.item.now c.in-Some.query c.args.self.now _ _ _ _ c.in-Carried.is (search rules)
+    (λ q. search rules) (λ q other. grind (arith, c.in-Ok-insert.ensures.updates.0 (q, other)))

@@ -1,22 +1,18 @@
--- What is kept of a pack is what the log means.
+-- Each place is that of the first of its kind.
 use Rattle.std.specs.Prelude.{◌≡◌}
-use Rattle.mv_repository.proofs.Lemmas.{bytes_eq, ◌∙◌, ap, rules, subst, List, LogEntry, None, Some, lookup, AreTablesOf, Kept, kept-found}
+use Rattle.mv_repository.proofs.Lemmas.{List, LogEntry, ap, sym, subst, ◌∙◌, AreAt, AreStopsOf, history_of, pack_state, rules, track_of, history-at, lent-places}
 use Rattle.mv_repository.proofs.repository.Repository.history.Goals as goal
 
-pub new-requires-clause-track : goal.new-requires-clause-track
-new-requires-clause-track c =
-    let shelves = c.self.inside.tables.shelves.entries in
-    let none : lookup (bytes_eq c.args.key.now.gtin) shelves ≡ None = search rules in
-    let slice : c.self.inside.log.items ≡ c.as_slice-log.result.now = search rules in
-    let tables = subst (λ (log : List LogEntry). AreTablesOf log c.self.inside.tables) slice c.self.invariant.0 in
-    let kept = kept-found c.as_slice-log.result.now shelves c.args.key.now None none (tables.shelves c.args.key.now.gtin) in
-    (ap (λ (k : Kept). k.birth) kept, ap (λ (k : Kept). k.statuses) kept)
+pub returns : goal.returns
+returns c =
+    let log = c.as_slice.result.now in
+    let same : c.args.self.now.log ≡ log = search rules in
+    lent-places log c.args.key.now c.self.inside.tables.stops _ _ _ c.pack.result _ _
+    (subst (λ (log : List LogEntry). AreStopsOf log c.self.inside.tables.stops) (sym c.as_slice.ensures.value) c.self.invariant.0.stops)
+    (c.kept-upload.ensures ∙ ap (track_of c.args.key.now) same) (c.pack.ensures ∙ ap (pack_state c.args.key.now) same) (search rules) (search rules)
+    ∙ ap (history_of c.args.key.now) (sym same)
 
-pub new-requires-2-clause-track : goal.new-requires-2-clause-track
-new-requires-2-clause-track c =
-    let shelves = c.self.inside.tables.shelves.entries in
-    let found : lookup (bytes_eq c.args.key.now.gtin) shelves ≡ Some c.in-Some.shelf.now = search rules in
-    let slice : c.self.inside.log.items ≡ c.as_slice-log.result.now = search rules in
-    let tables = subst (λ (log : List LogEntry). AreTablesOf log c.self.inside.tables) slice c.self.invariant.0 in
-    let kept = kept-found c.as_slice-log.result.now shelves c.args.key.now (Some c.in-Some.shelf.now) found (tables.shelves c.args.key.now.gtin) in
-    (c.parts-upload.ensures.birth ∙ ap (λ (k : Kept). k.birth) kept, c.parts-upload.ensures.statuses ∙ ap (λ (k : Kept). k.statuses) kept)
+pub invariant_of-result : goal.invariant_of-result
+invariant_of-result c =
+    let same : c.args.self.now.log ≡ c.as_slice.result.now = search rules in
+    subst (AreAt c.as_slice.result.now) (sym (returns c ∙ ap (history_of c.args.key.now) same)) (history-at c.as_slice.result.now c.args.key.now)

@@ -1,13 +1,13 @@
 -- One serial number more.
 use Rattle.std.specs.Prelude.{◌≡◌, ◌≤◌, ◌+◌}
-use Rattle.mv_repository.proofs.Lemmas.{nat_tests, ◌∙◌, rules, [], ℕ, List, ap, subst, sym, get_or, take, arith, cond, refl, Bool, get_or_default, take_all, kept_on, ShelfTable, no_entry, comes_first, Kept, log-split, log-length, new-more, ArePacksOf, upload-worked, upload-adds, upload-all}
+use Rattle.mv_repository.proofs.Lemmas.{nat_tests, ◌∙◌, rules, [], ℕ, List, ap, subst, sym, get_or, take, arith, cond, refl, Bool, get_or_default, take_all, kept_in, no_entry, comes_first, Kept, log-split, log-length, new-more, ArePacksOf, upload-worked, upload-adds, upload-all}
 use Rattle.mv_repository.proofs.shelf.Shelf.add_upload.Goals as goal
 
 pub put_upload-is_first-requires-clause-worked : goal.put_upload-is_first-requires-clause-worked
 put_upload-is_first-requires-clause-worked c =
     upload-worked (take c.args.newest.now.place c.args.newest.now.log.now) (get_or c.args.newest.now.log.now c.args.newest.now.place no_entry) c.args.newest.now.stops.now c.args.gtin.now c.args.serials.now c.requires.stops c.requires.upload
-    (record { slots = c.loop-serial.self-inside.slots.entries; tracks = c.loop-serial.self-inside.tracks.items; listing = c.loop-serial.self-inside.listing })
-    c.args.newest.now.log.now c.args.newest.now.place (log-split c.args.newest.now.log.now c.args.newest.now.place c.requires.last) (log-length c.args.newest.now.log.now c.args.newest.now.place c.requires.last)
+    c.loop-serial.self
+    c.args.newest.now.log.now c.args.newest.now.place (log-split c.args.newest.now.log.now c.args.newest.now.place c.args.newest.now.last) (log-length c.args.newest.now.log.now c.args.newest.now.place c.args.newest.now.last)
     (take c.loop-serial.serial-index c.args.serials.now) c.loop-serial.invariant.packs c.serial-item.result
 
 pub loop-serial-preserved : goal.loop-serial-preserved
@@ -15,21 +15,20 @@ loop-serial-preserved c =
     let whole = c.args.newest.now.log.now in
     let place = c.args.newest.now.place in
     let at = c.loop-serial.serial-index in
-    let old : ShelfTable = record { slots = c.loop-serial.self-inside.slots.entries; tracks = c.loop-serial.self-inside.tracks.items; listing = c.loop-serial.self-inside.listing } in
-    let now : ShelfTable = record { slots = c.put_upload-is_first.new.slots.entries; tracks = c.put_upload-is_first.new.tracks.items; listing = c.put_upload-is_first.new.listing } in
+    let old = c.loop-serial.self in
+    let now = c.put_upload-is_first.new.self in
     let done = c.put_upload-is_first.ensures in
-    let split = log-split whole place c.requires.last in
+    let split = log-split whole place c.args.newest.now.last in
     let serial : c.serial-item.result ≡ get_or c.args.serials.now at [] = c.serial-item.is ∙ get_or_default c.args.serials.now at _ [] c.loop-serial-test.true in
     let counted : c.if-is_first.new ≡ cond c.put_upload-is_first.result (c.loop-serial.new + 1) c.loop-serial.new = search rules in
     record {
       room = omega (arith, c.loop-serial.invariant.room, done.room);
-      shelf = done.shelf;
       packs = upload-adds (take place whole) (get_or whole place no_entry) c.args.newest.now.stops.now c.args.gtin.now c.args.serials.now c.requires.stops c.requires.upload old
-          whole place split (log-length whole place c.requires.last) c.args.serials.now at now c.serial-item.result refl c.loop-serial-test.true serial c.loop-serial.invariant.packs
+          whole place split (log-length whole place c.args.newest.now.last) c.args.serials.now at now c.serial-item.result refl c.loop-serial-test.true serial c.loop-serial.invariant.packs
           done.again.birth done.again.statuses done.again.worked done.others done.listed (λ first. done.made (done.first ∙ first));
-      new = counted ∙ new-more (take place whole) (get_or whole place no_entry) c.args.gtin.now c.args.serials.now c.requires.upload whole place split (log-length whole place c.requires.last)
+      new = counted ∙ new-more (take place whole) (get_or whole place no_entry) c.args.gtin.now c.args.serials.now c.requires.upload whole place split (log-length whole place c.args.newest.now.last)
           at c.loop-serial.new c.put_upload-is_first.result c.loop-serial-test.true
-          (done.first ∙ ap (λ (one : List ℕ). comes_first whole place (kept_on old.slots old.tracks one).birth) serial ∙ ap (λ (k : Kept). comes_first whole place k.birth) (c.loop-serial.invariant.packs (get_or c.args.serials.now at [])).kept.bare)
+          (done.first ∙ ap (λ (one : List ℕ). comes_first whole place (kept_in old one).birth) serial ∙ ap (λ (k : Kept). comes_first whole place k.birth) (c.loop-serial.invariant.packs (get_or c.args.serials.now at [])).kept.bare)
           c.loop-serial.invariant.new;
       least = subst (λ (n : ℕ). n ≤ at + 1) (sym counted) (grow c.put_upload-is_first.result c.loop-serial.new at c.loop-serial.invariant.least);
     }
@@ -41,8 +40,8 @@ pub returns-clause-ok : goal.returns-clause-ok
 returns-clause-ok c =
     let whole = c.args.newest.now.log.now in
     let place = c.args.newest.now.place in
-    let shelf : ShelfTable = record { slots = c.loop-serial.self-inside.slots.entries; tracks = c.loop-serial.self-inside.tracks.items; listing = c.loop-serial.self-inside.listing } in
+    let shelf = c.loop-serial.self in
     let all : take c.loop-serial.serial-index c.args.serials.now ≡ c.args.serials.now = take_all c.loop-serial.serial-index c.args.serials.now (omega arith) in
     upload-all (take place whole) (get_or whole place no_entry) c.args.newest.now.stops.now c.args.gtin.now c.args.serials.now c.requires.stops c.requires.upload shelf
-    whole place (log-split whole place c.requires.last) (log-length whole place c.requires.last)
+    whole place (log-split whole place c.args.newest.now.last) (log-length whole place c.args.newest.now.last)
     (subst (λ (l : List (List ℕ)). ArePacksOf whole (take place whole) l c.args.gtin.now shelf) all c.loop-serial.invariant.packs)

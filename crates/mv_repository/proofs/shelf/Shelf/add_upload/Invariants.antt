@@ -1,14 +1,12 @@
 use Rattle.std.specs.Prelude.{◌≡◌, ◌≤◌, ◌+◌}
-use Rattle.mv_repository.proofs.Lemmas.{length, take, spare, IsShelf, entry_at, ArePacksOf, new_count}
+use Rattle.mv_repository.proofs.Lemmas.{length, take, entry_at, ArePacksOf, new_count}
 use Rattle.mv_repository.proofs.shelf.Shelf.add_upload.Given as goal
 
 -- the packs so far have the upload
 abbrev pub invariant-loop-serial : goal.invariant-loop-serial
 invariant-loop-serial l = record {
-  room : length l.serials ≤ spare l.self-inside.slots + l.serial-index;
-  shelf : IsShelf l.self-inside.slots.entries l.self-inside.tracks.items;
-  packs : ArePacksOf l.newest.log.now (take l.newest.place l.newest.log.now) (take l.serial-index l.serials) l.gtin
-      (record { slots = l.self-inside.slots.entries; tracks = l.self-inside.tracks.items; listing = l.self-inside.listing });
+  room : length l.serials ≤ l.self.room + l.serial-index;
+  packs : ArePacksOf l.newest.log.now (take l.newest.place l.newest.log.now) (take l.serial-index l.serials) l.gtin l.self;
   new : l.new ≡ new_count (take l.newest.place l.newest.log.now) (entry_at l.newest.log.now l.newest.place).entry l.gtin (take l.serial-index l.serials);
   least : l.new ≤ l.serial-index;
 }

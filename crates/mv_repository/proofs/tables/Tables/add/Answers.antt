@@ -1,12 +1,85 @@
--- Each form of entry bears on one table.
-use Rattle.mv_repository.proofs.Lemmas.{rules, get_or, no_entry, arith, common_steps, none-noted, other-noted, master-form, stops-at, same-at, shelves-at, named-at, tables-noted}
+-- Each form of entry bears on one table; an upload and a status bear on the shelf of one product.
+use Rattle.mv_repository.proofs.Lemmas.{refl, rules, get_or, take, no_entry, arith, common_steps, none-noted, other-noted, master-form, masters-at, stops-at, same-at, shelves-at, named-at, tables-noted, IsUploadOf, is_status_of, true, on_err, on_map, map_err, upload-away, upload-form, status-away, status-form, shelf-there, shelves-follow, log-split, named-longer, named-upload}
+use Rattle.std.specs.Prelude.{◌≡◌}
 use Rattle.mv_repository.proofs.tables.Tables.add.Goals as goal
 
 pub returns-in_ok-add_master-in-Master-clause-ok : goal.returns-in_ok-add_master-in-Master-clause-ok
-returns-in_ok-add_master-in-Master-clause-ok c = search (rules, master-form c.in-Master.gtin (get_or c.args.log.now c.args.place no_entry).item (search rules), named-at c.args.log.now c.args.place c.requires.last c.args.self.now.named (master-form c.in-Master.gtin (get_or c.args.log.now c.args.place no_entry).item (search rules)).0.1 c.requires.tables.named, same-at c.args.log.now c.args.place c.requires.last (master-form c.in-Master.gtin (get_or c.args.log.now c.args.place no_entry).item (search rules)).1, shelves-at c.args.log.now c.args.place c.requires.last c.args.self.now.shelves.entries (master-form c.in-Master.gtin (get_or c.args.log.now c.args.place no_entry).item (search rules)).0 (same-at c.args.log.now c.args.place c.requires.last (master-form c.in-Master.gtin (get_or c.args.log.now c.args.place no_entry).item (search rules)).1) c.requires.tables.shelves, stops-at c.args.log.now c.args.place c.requires.last c.args.self.now.stops (master-form c.in-Master.gtin (get_or c.args.log.now c.args.place no_entry).item (search rules)).1 c.requires.tables.stops)
+returns-in_ok-add_master-in-Master-clause-ok c =
+    let form = master-form c.in-Master.gtin (get_or c.args.log.now c.args.place no_entry).item (search rules) in
+    let same = same-at c.args.log.now c.args.place c.requires.last form.1 in
+    record {
+      masters = search rules;
+      stops = stops-at c.args.log.now c.args.place c.requires.last c.args.self.now.stops form.1 c.requires.tables.stops;
+      shelves = shelves-at c.args.log.now c.args.place c.requires.last c.args.self.now.shelves.entries form.0 same c.requires.tables.shelves;
+      named = named-at c.args.log.now c.args.place c.requires.last c.args.self.now.named form.0.1 c.requires.tables.named;
+    }
+
+pub add_upload-requires-clause-shelf : goal.add_upload-requires-clause-shelf
+add_upload-requires-clause-shelf c = shelf-there (take c.args.place c.args.log.now) c.in-Upload.gtin c.args.self.now.shelves.entries c.new.result.room _ (search rules) (c.requires.tables.shelves c.in-Upload.gtin)
+
+pub add_status-requires-clause-shelf : goal.add_status-requires-clause-shelf
+add_status-requires-clause-shelf c = shelf-there (take c.args.place c.args.log.now) c.in-Status.key.gtin c.args.self.now.shelves.entries c.new-in-Status.result.room _ (search rules) (c.requires.tables.shelves c.in-Status.key.gtin)
+
+pub returns-in_err-effect-in-Upload-clause-err : goal.returns-in_err-effect-in-Upload-clause-err
+returns-in_err-effect-in-Upload-clause-err c =
+    let before = take c.args.place c.args.log.now in
+    on_err c.from_residual-in_err-effect-in-Upload.result _ (record {
+      masters = c.requires.tables.masters;
+      stops = c.requires.tables.stops;
+      named = c.requires.tables.named;
+      shelves = shelves-follow c.args.self.now.shelves.entries _ c.in-Upload.gtin c.add_upload.new.self (λ other. search (rules, (c.in_ok-shelf-in-Upload.ensures.update.0 c.add_upload.new.self).0 other))
+          before before c.requires.tables.shelves c.in_err-effect-in-Upload.ensures.err (λ other serial e. refl);
+    })
+
+-- the entry is the upload
+uploaded : (c : goal.After-self-in-Upload-3-1) → IsUploadOf (get_or c.args.log.now c.args.place no_entry).item c.in-Upload.gtin c.as_slice-serials.result.now
+uploaded c = search rules
+
+pub returns-in_ok-effect-in-Upload-clause-ok : goal.returns-in_ok-effect-in-Upload-clause-ok
+returns-in_ok-effect-in-Upload-clause-ok c = record {
+  masters = masters-at c.args.log.now c.args.place c.requires.last c.args.self.now.masters.entries (upload-form (get_or c.args.log.now c.args.place no_entry).item c.in-Upload.gtin c.as_slice-serials.result.now (uploaded c)).2 c.requires.tables.masters;
+  stops = stops-at c.args.log.now c.args.place c.requires.last c.args.self.now.stops (upload-form (get_or c.args.log.now c.args.place no_entry).item c.in-Upload.gtin c.as_slice-serials.result.now (uploaded c)).1 c.requires.tables.stops;
+  shelves = shelves-follow c.args.self.now.shelves.entries c.self-in-Upload-2-1.given.0.entries c.in-Upload.gtin c.add_upload.new.self (λ other. grind (arith, common_steps, (c.in_ok-shelf-in-Upload.ensures.update.0 c.add_upload.new.self).0 other))
+      c.args.log.now (take c.args.place c.args.log.now) c.requires.tables.shelves c.in_ok-effect-in-Upload.ensures.ok
+      (upload-away c.args.log.now c.args.place c.in-Upload.gtin c.as_slice-serials.result.now c.requires.last (uploaded c));
+  named =
+      let more = named-longer (take c.args.place c.args.log.now) (get_or c.args.log.now c.args.place no_entry) c.args.log.now (log-split c.args.log.now c.args.place c.requires.last) in
+      let size = named-upload c.in-Upload.gtin c.as_slice-serials.result.now (get_or c.args.log.now c.args.place no_entry).item (uploaded c) in
+      let was = c.requires.tables.named in
+      omega (arith, more, size, was);
+}
+
+-- the entry is the status
+own : (c : goal.After-self-in-Status-2-1) → is_status_of c.in-Status.key (get_or c.args.log.now c.args.place no_entry).item ≡ true
+own c = search rules
+
+pub returns-in_ok-shelf-in-Status-clause-ok : goal.returns-in_ok-shelf-in-Status-clause-ok
+returns-in_ok-shelf-in-Status-clause-ok c =
+    on_map c.add_status.result c.add_status.ensures.ok (λ now. record {
+      masters = masters-at c.args.log.now c.args.place c.requires.last c.args.self.now.masters.entries (status-form c.in-Status.key (get_or c.args.log.now c.args.place no_entry).item (own c)).2 c.requires.tables.masters;
+      stops = stops-at c.args.log.now c.args.place c.requires.last c.args.self.now.stops (status-form c.in-Status.key (get_or c.args.log.now c.args.place no_entry).item (own c)).1 c.requires.tables.stops;
+      shelves = shelves-follow c.args.self.now.shelves.entries _ c.in-Status.key.gtin c.add_status.new.self (λ other. grind (arith, common_steps, (c.in_ok-shelf-in-Status.ensures.update.0 c.add_status.new.self).0 other))
+          c.args.log.now (take c.args.place c.args.log.now) c.requires.tables.shelves now (status-away c.args.log.now c.args.place c.in-Status.key c.requires.last (own c));
+      named = named-at c.args.log.now c.args.place c.requires.last c.args.self.now.named (status-form c.in-Status.key (get_or c.args.log.now c.args.place no_entry).item (own c)).3 c.requires.tables.named;
+    })
+
+pub returns-in_ok-shelf-in-Status-clause-err : goal.returns-in_ok-shelf-in-Status-clause-err
+returns-in_ok-shelf-in-Status-clause-err c =
+    let before = take c.args.place c.args.log.now in
+    map_err c.add_status.result c.add_status.ensures.err (λ now. record {
+      masters = c.requires.tables.masters;
+      stops = c.requires.tables.stops;
+      named = c.requires.tables.named;
+      shelves = shelves-follow c.args.self.now.shelves.entries _ c.in-Status.key.gtin c.add_status.new.self (λ other. grind (arith, common_steps, (c.in_ok-shelf-in-Status.ensures.update.0 c.add_status.new.self).0 other))
+          before before c.requires.tables.shelves now (λ other serial e. refl);
+    })
 
 pub returns-in_default-clause-ok : goal.returns-in_default-clause-ok
-returns-in_default-clause-ok c = grind (arith, common_steps, none-noted (get_or c.args.log.now c.args.place no_entry).item (search rules), tables-noted c.args.log.now c.args.place c.requires.last c.args.self.now (none-noted (get_or c.args.log.now c.args.place no_entry).item (search rules)) c.requires.tables)
+returns-in_default-clause-ok c =
+    tables-noted c.args.log.now c.args.place c.requires.last c.args.self.now (none-noted (get_or c.args.log.now c.args.place no_entry).item (search rules)) c.requires.tables
 
 pub returns-in_default-message-clause-ok : goal.returns-in_default-message-clause-ok
-returns-in_default-message-clause-ok c = grind (arith, common_steps, other-noted (get_or c.args.log.now c.args.place no_entry).item c.in-Some.message.now (search rules) (c.in_default-message).not-Master (c.in_default-message).not-Upload (c.in_default-message).not-Status (c.in_default-message).not-Recall (c.in_default-message).not-Withdraw, tables-noted c.args.log.now c.args.place c.requires.last c.args.self.now (other-noted (get_or c.args.log.now c.args.place no_entry).item c.in-Some.message.now (search rules) (c.in_default-message).not-Master (c.in_default-message).not-Upload (c.in_default-message).not-Status (c.in_default-message).not-Recall (c.in_default-message).not-Withdraw) c.requires.tables)
+returns-in_default-message-clause-ok c =
+    tables-noted c.args.log.now c.args.place c.requires.last c.args.self.now
+    (other-noted (get_or c.args.log.now c.args.place no_entry).item c.in-Some.message.now (search rules) c.in_default-message.not-Master c.in_default-message.not-Upload c.in_default-message.not-Status c.in_default-message.not-Recall c.in_default-message.not-Withdraw)
+    c.requires.tables

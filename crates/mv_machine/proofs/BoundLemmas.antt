@@ -74,9 +74,7 @@ entries-most count before (Closed sender receiver ∷ entries) fit =
 
 -- what was routed from a party is no more than what it submitted
 pub routed_count-few : (st : State) (party : ℕ) → IsLawful st → party < length st.hub.parties → routed_count st.hub.entries party ≤ length (submissions_of st party)
-routed_count-few st party lawful is_party =
-    let order = (lawful.of_party party is_party).routed in
-    omega (arith, ap length order.1, length-append (routed_from st.hub.entries party) order.0)
+routed_count-few st party lawful is_party = grind (arith, length-append)
 
 -- a record of so many parties, from each of whom so many messages were routed at most, is far from having 2 ^ 32 entries
 pub stamps_suffice : StampsSuffice
@@ -84,8 +82,7 @@ unfolding open_from
 stamps_suffice count entries lawful parties_few short =
     let all = entries-most count [] entries lawful.fits in
     let links = sum_below-most count (count * 1) (open_from count []) (λ from lt. sum_below-most count 1 _ (λ to below. omega arith)) in
-    let messages = sum_below-most count SUBMISSIONS_LIMIT (routed_count entries) short in
-    omega (arith, all, links, messages, mul-le-mul_left count parties_few)
+    omega (arith, all, links, sum_below-most count SUBMISSIONS_LIMIT (routed_count entries) short, mul-le-mul_left count parties_few)
 
 -- an entry puts at most two items on a link
 gained-few : (parties : List (List (List ℕ))) (before : List Entry) (sender k : ℕ) (message : Message) (from to : ℕ)

@@ -1,11 +1,11 @@
 -- Nothing that is routed after the closing of a link goes over it, and the record only grows.
-use Rattle.std.proofs.Common.{◌≡◌, ℕ, zero, suc, ◌+◌, ◌≤◌, Bool, true, false, List, [], ◌∷◌, ◌++◌, take, cond, Some, refl, append_assoc, append-nil, arith, slice_get}
+use Rattle.std.proofs.Common.{◌≡◌, ℕ, zero, suc, ◌+◌, ◌≤◌, true, false, List, [], ◌∷◌, ◌++◌, take, cond, Some, refl, append_assoc, append-nil, arith, slice_get}
 use Rattle.std.proofs.lemmas.List.Sums.{take_while-cons}
 use Rattle.mv_machine.proofs.Words.{Entry, Follows, IsLawful, Message, Reply, Routed, Runs, State, Step, is_open, items_from, log_of, number_of, routed_count}
 use Rattle.mv_machine.specs.Closing.{before_closing, NothingRoutedLater, NothingSubmittedLater}
 use Rattle.mv_machine.proofs.PutLemmas.{put-each, log-put}
 use Rattle.mv_machine.proofs.BoundLemmas.{routed_count-few}
-use Rattle.mv_machine.proofs.StepLemmas.{Change, routed, run-keeps}
+use Rattle.mv_machine.proofs.StepLemmas.{Change, run-keeps}
 
 -- what stands before the closing of a link goes on behind an entry that does not close it
 before_closing-next : (entry : Entry) (entries : List Entry) (from to : ℕ)
@@ -50,13 +50,13 @@ pub follows_further : (first second third : State) → Follows first second → 
 follows_further first second third a b = grind (arith, append_assoc)
 
 -- each change goes on with the record
-pub change-follows : (old new : State) (quiet : Bool) → Change old quiet new → Follows old new
-change-follows st new quiet h3 = grind (arith, append-nil)
+pub change-follows : (old new : State) (step : Step) (reply : Reply) → Change old step reply new → Follows old new
+change-follows old new step reply change = grind (arith, append-nil)
 
 -- and so does each run
 pub run-follows : (old : State) (steps : List Step) (replies : List Reply) (new : State) → Runs old steps replies new → Follows old new
 run-follows old steps replies new run =
-    run-keeps (Follows old) (λ between later quiet change before. follows_further old between later before (change-follows between later quiet change)) old steps replies new run (follows-same old)
+    run-keeps (Follows old) (λ between later step reply change before. follows_further old between later before (change-follows between later step reply change)) old steps replies new run (follows-same old)
 
 -- where a link is closed in one state, nothing that was submitted since is applied over it in a later one
 pub nothing_submitted_later : (old new : State) → IsLawful old → IsLawful new → Follows old new → NothingSubmittedLater old new

@@ -1,28 +1,26 @@
 -- The headline follows from two lawful states of which one follows the other.
-use Rattle.std.proofs.Common.{arith, Bool}
-use Rattle.mv_machine.proofs.Words.{ClosedLinksStayClosed, Follows, HeadlineHolds, InSteps, IsLawful, IsWellFormed, State}
+use Rattle.std.proofs.Common.{arith}
+use Rattle.mv_machine.proofs.Words.{Reply, Step, ClosedLinksStayClosed, Follows, HeadlineHolds, InSteps, IsLawful, IsWellFormed, State}
 use Rattle.mv_machine.proofs.LawfulLemmas.{change-sound, opening-sound, run-sound}
 use Rattle.mv_machine.proofs.ClosingLemmas.{nothing_routed_later, nothing_submitted_later, follows-same, follows_further, change-follows, run-follows}
 use Rattle.mv_machine.proofs.StampLemmas.{repositories_agree}
 use Rattle.mv_machine.proofs.SubmittedLemmas.{applied_submitted, numbers_rise}
+use Rattle.mv_machine.specs.declared.step.Step.TheVariants.{Verify}
 use Rattle.mv_machine.proofs.StepLemmas.{Change, step-changes, asked-changes}
 
 pub headline : (old new : State) → IsLawful old → IsWellFormed new → IsLawful new → Follows old new → HeadlineHolds old new
 headline old new began well_formed lawful follows =
-    assumption (
-      applied_submitted new lawful,
-      numbers_rise new lawful,
-      nothing_submitted_later old new began lawful follows,
-      nothing_routed_later new lawful,
-      repositories_agree new lawful,
-    )
+    search (applied_submitted, numbers_rise, nothing_submitted_later, nothing_routed_later, repositories_agree)
 
 -- over a change, where the state before it is lawful
-change-headline : (old new : State) (quiet : Bool) → Change old quiet new → IsWellFormed old → IsLawful old → HeadlineHolds old new
-change-headline old new quiet change well_formed lawful = grind (arith, change-sound, headline, change-follows)
+change-headline : (old new : State) (step : Step) (reply : Reply) → Change old step reply new → IsWellFormed old → IsLawful old → HeadlineHolds old new
+change-headline old new step reply change well_formed lawful = grind (arith, change-sound, headline, change-follows)
 
 pub steps_keep_headline : InSteps (λ old reply new. IsWellFormed old → IsLawful old → HeadlineHolds old new)
-steps_keep_headline = grind (arith, change-headline, step-changes, asked-changes)
+steps_keep_headline = (
+  λ old step reply new allowed. change-headline old new step reply (step-changes old step reply new allowed),
+  λ old party key reply new met. change-headline old new (Verify party key) reply (asked-changes old party key reply new met),
+)
 
 -- where nothing happened
 pub headline-same : (st : State) → IsWellFormed st → IsLawful st → HeadlineHolds st st
@@ -34,5 +32,4 @@ headline_further first second third a b = search (headline, follows_further)
 -- over two runs, both states are lawful, and the record of the first goes on in the second
 pub closed_links_stay_closed : ClosedLinksStayClosed
 closed_links_stay_closed parties limits first first_replies between ran_first second second_replies new ran_second =
-    let old = run-sound _ first first_replies between (opening-sound parties limits) ran_first in
-    grind (arith, run-sound, nothing_submitted_later, run-follows, nothing_routed_later)
+    grind (arith, run-sound, opening-sound, nothing_submitted_later, run-follows, nothing_routed_later)

@@ -1,9 +1,10 @@
 -- Each step keeps a state well formed and lawful, and so does each run.
-use Rattle.std.proofs.Common.{◌≡◌, ℕ, ◌+◌, ◌<◌, Bool, true, List, [], ◌∷◌, ◌++◌, length, Some, refl, ◌∙◌, subst, append-nil, arith, length-set, eqb, eqb-true, slice_get, option_to_list}
-use Rattle.mv_machine.proofs.Words.{Allows, Bounds, Closed, Entry, Fits, InRuns, IsLawful, IsLawfulAt, IsLawfulRecord, IsSiteAt, IsPrefix, IsSquare, IsWellFormed, Item, LogEntry, Message, Reply, Runs, SiteState, State, Step, answer_to, answers_in, entry_from, gained, get_or-map-range_with_len, is_open, items_from, items_from-push, items_on, length-map, length-range_with_len, link_items-push, log_of, new_hub, new_site, next_entry, opening, party-applied, party-submitted, put-each, range_with_len, routed_count, routed_from, routed_from-append, sent_of, site_of, square-put, square-replicate, submissions_of, with_applied, with_closed, with_relayed, with_routed, with_site, with_submission, with_wire}
+use Rattle.std.proofs.lemmas.Grind.{elements}
+use Rattle.std.proofs.Common.{◌≡◌, ℕ, ◌+◌, ◌<◌, true, List, [], ◌∷◌, ◌++◌, length, Some, refl, ◌∙◌, subst, append-nil, arith, length-set, eqb, eqb-true, slice_get, option_to_list}
+use Rattle.mv_machine.proofs.Words.{Query, Allows, Bounds, Closed, Entry, Fits, InRuns, IsLawful, IsLawfulAt, IsLawfulRecord, IsSiteAt, IsPrefix, IsWellFormed, Item, Message, Reply, Runs, SiteState, State, Step, answer_to, answers_in, entry_from, gained, get_or-map-range_with_len, is_open, items_from, items_from-push, items_on, length-map, length-range_with_len, link_items-push, log_of, new_hub, new_site, next_entry, opening, party-applied, party-submitted, put-each, range_with_len, routed_count, routed_from, routed_from-append, sent_of, site_of, square-put, square-replicate, submissions_of, with_applied, with_closed, with_relayed, with_routed, with_site, with_submission, with_wire}
 use Rattle.mv_machine.specs.Steps.{next_item}
 use Rattle.mv_machine.proofs.PrefixLemmas.{prefix-grows, prefix-maybe, each-push}
-use Rattle.mv_machine.proofs.StepLemmas.{Change, nothing, submitted, routed, closed, relayed, repeated, dropped, applied, run-keeps}
+use Rattle.mv_machine.proofs.StepLemmas.{Change, nothing, submitted, asked, routed, closed, relayed, repeated, dropped, applied, run-keeps}
 
 -- well formed and lawful
 pub record IsSound (st : State) : Type 0 where
@@ -26,13 +27,7 @@ site-sound st party site sound same lawful =
 -- a party submitted one more message
 submitted-sound : (st : State) (from : ℕ) (message : Message) → IsSound st → answers_in (message ∷ []) ≡ []
     → IsSound (with_site st from (with_submission (site_of st from) message))
-submitted-sound st from message sound none =
-    site-sound st from (with_submission (site_of st from) message) sound (λ is_party. assumption (sound.well_formed.sites from is_party)) (λ is_party.
-    let was = sound.lawful.of_party from is_party in record {
-      answers = party-submitted (length st.hub.parties) (submissions_of st from) (log_of st from) message was.answers none;
-      routed = prefix-grows (routed_from st.hub.entries from) (submissions_of st from) (message ∷ []) was.routed;
-      applied = was.applied;
-    })
+submitted-sound st from message sound none = grind (arith, elements, site-sound, party-submitted, routed, prefix-grows)
 
 -- a repository applied the next item of a sender, and its party submitted the answer that it calls for
 applied-sound : (st : State) (from to : ℕ) (item : Item) → IsSound st → from < length st.hub.parties
@@ -84,26 +79,25 @@ closed-sound st from to sound from_is_party to_is_party still_open =
     (λ party is_party. rw append-nil (sound.lawful.of_party party is_party).routed)
 
 -- whatever a step changes
-pub change-sound : (old new : State) (quiet : Bool) → Change old quiet new → IsSound old → IsSound new
-change-sound st _ _ (nothing quiet) sound = sound
-change-sound st _ _ (submitted from message none free) sound = submitted-sound st from message sound none
-change-sound st _ _ (routed from message is_party next free) sound = routed-sound st from message sound is_party next
-change-sound st _ _ (closed from to from_is_party to_is_party still_open) sound = closed-sound st from to sound from_is_party to_is_party still_open
-change-sound st _ _ (relayed from to from_is_party to_is_party room some) sound =
+pub change-sound : (old new : State) (step : Step) (reply : Reply) → Change old step reply new → IsSound old → IsSound new
+change-sound st _ _ _ (nothing step reply quiet) sound = sound
+change-sound st _ _ _ (submitted from message is_party none free) sound = submitted-sound st from message sound none
+change-sound st _ _ _ (asked party key is_party free) sound = submitted-sound st party (Query key) sound refl
+change-sound st _ _ _ (routed from message is_party next free) sound = routed-sound st from message sound is_party next
+change-sound st _ _ _ (closed from to from_is_party to_is_party still_open) sound = closed-sound st from to sound from_is_party to_is_party still_open
+change-sound st _ _ _ (relayed from to from_is_party to_is_party room some) sound =
     let sent_each = square-put (length st.hub.parties) st.hub.sent from to (sent_of st.hub from to + 1) sound.well_formed.sent_each in
     let of_party : (party : ℕ) → party < length st.hub.parties → IsLawfulAt (with_relayed st.hub from to) party (site_of st party) =
     λ party is_party. assumption (sound.lawful.of_party party is_party) in
-    let relayed_sound : IsSound (record st { hub = with_relayed st.hub from to }) = assumption (sent_each, of_party, sound) in
-    with_wire-sound (record st { hub = with_relayed st.hub from to }) from to _ relayed_sound
-change-sound st _ _ (repeated from to number room least most) sound = with_wire-sound st from to _ sound
-change-sound st _ _ (dropped from to number rest front) sound = with_wire-sound st from to rest sound
-change-sound st _ _ (applied from to number rest item is_party front next free) sound = with_wire-sound _ from to rest (applied-sound st from to item sound is_party next)
+    search with_wire-sound
+change-sound st _ _ _ (repeated from to number room least most) sound = with_wire-sound st from to _ sound
+change-sound st _ _ _ (dropped step reply from to number rest drops front) sound = with_wire-sound st from to rest sound
+change-sound st _ _ _ (applied from to number rest item is_party to_is_party front next free) sound = with_wire-sound _ from to rest (applied-sound st from to item sound is_party next)
 
 -- a party of the opening
 pub opening-site : (parties : List (List (List ℕ))) (limits : Bounds) (party : ℕ) → party < length parties
     → site_of (opening parties limits) party ≡ new_site party (length parties) limits.submissions
-opening-site parties limits party is_party =
-    get_or-map-range_with_len (λ party. new_site party (length parties) limits.submissions) 0 (length parties) party party (new_site 0 0 0) is_party (omega arith)
+opening-site parties limits party is_party = grind (arith, get_or-map-range_with_len)
 
 -- where a system opens, it is sound
 pub opening-sound : (parties : List (List (List ℕ))) (limits : Bounds) → IsSound (opening parties limits)

@@ -1,5 +1,5 @@
 -- Prefixes of lists that grow at their end.
-use Rattle.std.proofs.Common.{◌≡◌, ℕ, zero, suc, Bool, true, false, List, [], ◌∷◌, ◌++◌, length, take, cond, sym, refl, ap, ◌∙◌, subst, append_assoc, append-nil, arith, All, Some, slice_get}
+use Rattle.std.proofs.Common.{◌≡◌, ℕ, zero, suc, Bool, true, List, [], ◌∷◌, ◌++◌, length, take, cond, sym, ap, ◌∙◌, subst, append_assoc, append-nil, arith, All, Some, slice_get}
 use Rattle.mv_machine.proofs.Words.{All-take, IsPrefix, common_steps, gets, take-append_seam}
 
 -- what is a prefix stays one when the whole grows
@@ -17,8 +17,7 @@ prefix-push {A} xs ys x p h = by p.0 p.1
 -- a prefix, and the member behind it where there is one more
 pub prefix-maybe : {A : Type 0} (xs ys : List A) (more : Bool) (x : A) → IsPrefix xs ys → (more ≡ true → slice_get ys (length xs) ≡ Some x)
     → IsPrefix (xs ++ cond more (x ∷ []) []) ys
-prefix-maybe xs ys true x p next = prefix-push xs ys x p (next refl)
-prefix-maybe xs ys false x p next = rw append-nil p
+prefix-maybe xs ys more x h1 h2 = grind (arith, prefix-push, append-nil)
 
 -- a member of a front is one of the whole
 pub slice_get-append : {A : Type 0} (xs ys : List A) (i : ℕ) (x : A) → slice_get xs i ≡ Some x → slice_get (xs ++ ys) i ≡ Some x

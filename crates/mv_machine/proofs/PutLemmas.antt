@@ -1,6 +1,6 @@
 -- Which entry of the record put each item on a link: the items of a link are put there in the order of the record.
-use Rattle.std.proofs.Common.{◌≡◌, ℕ, zero, suc, ◌+◌, ◌<◌, ◌≤◌, Bool, true, false, List, [], ◌∷◌, ◌++◌, length, take, cond, eqb, Some, refl, ap, ◌∙◌, append_assoc, arith, All, slice_get, ◌&&◌, IsTrue, nat_lt}
-use Rattle.mv_machine.proofs.Words.{All-cons, All-nil, Carried, Closed, Entry, Fits, IsLawful, Item, LogEntry, Message, Receipt, Routed, State, and_parts, eq-eqb, eqb-true, gained, is_open, items_from, link_items, link_items_after, log_of, number_of, routed_count, take-append_seam}
+use Rattle.std.proofs.Common.{◌≡◌, ℕ, zero, suc, ◌+◌, ◌<◌, ◌≤◌, Bool, true, false, List, [], ◌∷◌, ◌++◌, length, take, cond, eqb, Some, refl, append_assoc, arith, All, slice_get, ◌&&◌, IsTrue, nat_lt}
+use Rattle.mv_machine.proofs.Words.{All-cons, All-nil, Carried, Closed, Entry, Fits, IsLawful, Item, LogEntry, Message, Receipt, Routed, State, and_parts, eqb-true, gained, is_open, items_from, link_items, link_items_after, log_of, number_of, routed_count, take-append_seam}
 use Rattle.mv_hub.specs.Targets.{is_reached, is_target, reach, is_query}
 use Rattle.mv_machine.proofs.PrefixLemmas.{slice_get-behind}
 use Rattle.mv_machine.proofs.BoundLemmas.{AllFit, first-fits, rest-fit, routed_count-push}
@@ -44,8 +44,7 @@ module _ (parties : List (List (List ℕ))) (entries : List Entry) (from to : �
   -- one more item in front, where there is one
   put-maybe : (more : Bool) (least : ℕ) (item : Item) (items : List Item) → least ≤ turn item → (more ≡ true → IsPut parties entries from to item)
       → ArePut parties entries from to (turn item + 1) items → ArePut parties entries from to least (cond more (item ∷ []) [] ++ items)
-  put-maybe true least item items le is later = (le, is refl, later)
-  put-maybe false least item items le is later = put-weaker least (turn item + 1) items (omega (arith, le)) later
+  put-maybe more least item items h1 h2 h3 = grind (arith, put-weaker)
 
   -- what holds of an item that was put holds of each
   pub put-each : (P : Item → Type 0) (least : ℕ) → ((item : Item) → IsPut parties entries from to item → P item) → (items : List Item) → ArePut parties entries from to least items → All P items
@@ -66,8 +65,7 @@ gained-put : (parties : List (List (List ℕ))) (before : List Entry) (entry : E
     → ArePut parties (before ++ entry ∷ entries) from to (next_turn (before ++ entry ∷ []) from) items
     → ArePut parties (before ++ entry ∷ entries) from to (next_turn before from) (gained parties before entry from to ++ items)
 unfolding gained
-gained-put parties before (Closed sender receiver) entries from to items fits later =
-    put-weaker parties _ from to _ _ items (omega (arith, routed_count-push before (Closed sender receiver ∷ []) from)) later
+gained-put parties before (Closed sender receiver) entries from to items fits later = grind (arith, routed_count-push)
 gained-put parties before (Routed sender k message) entries from to items fits later =
     by (eqb sender from) refl (rw (routed_count-push before (Routed sender k message ∷ []) from) at later)
   where
@@ -84,13 +82,7 @@ gained-put parties before (Routed sender k message) entries from to items fits l
         → IsPut parties whole from to item
     put same item number still_open made =
         let front = take-append_seam before (Routed sender k message ∷ entries) in
-        record {
-          place = length before;
-          message = message;
-          routed = rw number (slice_get-behind before (Routed sender k message) entries ∙ ap (λ party. Some (Routed party k message)) (eqb-true sender from same));
-          still_open = rw front still_open;
-          made = rw front made;
-        }
+        grind (arith, slice_get-behind)
 
     by : (a : Bool) → eqb sender from ≡ a
         → (let count = routed_count before from + length (cond a (message ∷ []) []) in ArePut parties whole from to (count + count + 2) items)
@@ -102,9 +94,7 @@ gained-put parties before (Routed sender k message) entries from to items fits l
         let own = λ (e : (eqb to from && is_open before from from) ≡ true).
         let parts = and_parts _ _ e in put same receipt refl (rw (eqb-true to from parts.0) parts.1) (refl, refl) in
         let reached = λ (e : is_reached parties before from message to ≡ true). put same carried refl (reached_open parties before from message to e) (refl, refl, e) in
-        rw append_assoc
-        (put-maybe parties whole from to _ _ receipt _ (omega (arith, number)) own
-        (put-maybe parties whole from to _ _ carried items (omega arith) reached (put-weaker parties whole from to _ _ items (omega (arith, number)) later)))
+        grind (arith, put-maybe)
 
 -- what the entries of a record put on a link, where others stand before them
 link-put : (parties : List (List (List ℕ))) (before entries : List Entry) (from to : ℕ) → AllFit (length parties) before entries
@@ -125,8 +115,7 @@ log-put st from to lawful from_is_party to_is_party =
 pub entry-put : (parties : List (List (List ℕ))) (entries : List Entry) (to least : ℕ) (log : List LogEntry) (place : ℕ) (entry : LogEntry) → slice_get log place ≡ Some entry
     → ArePut parties entries entry.sender to least (items_from log entry.sender) → (least ≤ turn entry.item) × IsPut parties entries entry.sender to entry.item
 entry-put parties entries to least [] place entry at put = absurd (cc)
-entry-put parties entries to least (first ∷ log) zero entry at put =
-    let same : first ≡ entry = cc at in let here = rw (same, eq-eqb entry.sender entry.sender refl) at put in (here.0, here.1)
+entry-put parties entries to least (first ∷ log) zero entry at put = grind arith
 entry-put parties entries to least (first ∷ log) (suc place) entry at put = entry-put parties entries to least log place entry at (rest (eqb first.sender entry.sender) put)
   where
     rest : (b : Bool) → ArePut parties entries entry.sender to least (cond b (first.item ∷ items_from log entry.sender) (items_from log entry.sender)) → ArePut parties entries entry.sender to least (items_from log entry.sender)

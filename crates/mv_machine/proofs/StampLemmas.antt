@@ -1,7 +1,7 @@
 -- The stamps of a log name places of the record, each of which has one sender; and the turns of the items on one link rise. So no stamp
 -- stands twice in a log.
 use Rattle.std.proofs.Common.{◌≡◌, ℕ, zero, suc, ◌+◌, ◌<◌, List, [], ◌∷◌, length, None, Option, Some, refl, ap, subst, arith, option_and_then, slice_get}
-use Rattle.mv_machine.proofs.Words.{AllByRecursion, Carried, Entry, IsLawful, Item, LogEntry, Receipt, State, eq-eqb, items_from, log_of}
+use Rattle.mv_machine.proofs.Words.{AllByRecursion, Entry, IsLawful, Item, LogEntry, State, eq-eqb, items_from, log_of}
 use Rattle.mv_repository.proofs.SameAboutLemmas.{same_about}
 use Rattle.mv_repository.proofs.StampsLemmas.{stamp_in, stamp_at, HasNoStampTwice, distinct-stamps}
 use Rattle.mv_machine.specs.Stamps.{StampsAreDistinct, RepositoriesAgree}
@@ -25,13 +25,7 @@ module _ (parties : List (List (List ℕ))) (entries : List Entry) (to : ℕ) wh
   -- two items with one stamp are of one sender and of one turn
   same-turn : (from other : ℕ) (one two : Item) (stamp : ℕ) → stamp_in one ≡ Some stamp → stamp_in two ≡ Some stamp → IsPut parties entries from to one → IsPut parties entries other to two
       → (from ≡ other) × (turn one ≡ turn two)
-  same-turn from other (Receipt k reached query) two stamp first second put later = absurd (cc)
-  same-turn from other one (Receipt k reached query) stamp first second put later = absurd (cc)
-  same-turn from other (Carried k given message) (Carried l sent copy) stamp first second put later =
-      let given_is : given ≡ sent = cc (first, second) in
-      let place : put.place ≡ later.place = omega (arith, put.made.0, later.made.0, given_is) in
-      let number : k ≡ l = cc (place, put.routed, later.routed) in
-      (cc (place, put.routed, later.routed), omega (arith, number))
+  same-turn from other one two stamp h1 h2 h3 h4 = grind arith
 
   -- no stamp stands at the first place of a log and at another
   first-alone : (count : ℕ) (entry : LogEntry) (log : List LogEntry) (place stamp : ℕ) → AllByRecursion (λ (entry : LogEntry). entry.sender < count) log → IsPutLog count (entry ∷ log) → entry.sender < count
@@ -64,5 +58,4 @@ stamps_distinct st lawful party is_party =
     (λ sender sender_is_party. log-put st sender party lawful sender_is_party is_party))
 
 pub repositories_agree : (st : State) → IsLawful st → RepositoriesAgree st
-repositories_agree st lawful pack one other one_is_party other_is_party same =
-    same_about pack (log_of st one) (log_of st other) (stamps_distinct st lawful one one_is_party) (stamps_distinct st lawful other other_is_party) same
+repositories_agree st lawful pack one other one_is_party other_is_party same = search (same_about, stamps_distinct)

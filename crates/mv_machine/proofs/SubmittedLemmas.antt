@@ -3,7 +3,7 @@
 use Rattle.std.proofs.Common.{◌≡◌, ℕ, zero, suc, ◌+◌, ◌-◌, ◌<◌, List, [], ◌∷◌, get_or, length, take, Some, arith, inl, inr, slice_get, filter, map, not, Bool, true}
 use Rattle.std.proofs.lemmas.Option.{slice_get-get_or}
 use Rattle.std.specs.List.Sorted.{IsStrictlyIncreasing}
-use Rattle.mv_machine.proofs.Words.{AppliedIsSubmitted, Carried, Entry, IsLawful, IsOfSubmission, IsRoutedAt, Item, LogEntry, Message, NumbersRise, Receipt, Routed, State, cases_Bool, is_carried, items_from, log_of, number_of, routed_count, routed_from}
+use Rattle.mv_machine.proofs.Words.{AppliedIsSubmitted, Entry, IsLawful, IsOfSubmission, IsRoutedAt, Item, LogEntry, Message, NumbersRise, Routed, State, cases_Bool, is_carried, items_from, log_of, number_of, routed_count, routed_from}
 use Rattle.mv_machine.proofs.PrefixLemmas.{slice_get-append}
 use Rattle.mv_machine.proofs.StampLemmas.{entry-at}
 use Rattle.mv_machine.proofs.PutLemmas.{IsPut, ArePut, turn, put-rest, log-put, entry-put}
@@ -20,22 +20,10 @@ routed_as : (st : State) (from k place : ℕ) (message : Message) → IsLawful s
     → slice_get st.hub.entries place ≡ Some (Routed from k message) → IsRoutedAt st from k (place + 1) message
 routed_as st from k place message lawful is_party at =
     let number = (lawful.of_record.fits place (Routed from k message) at).1 in
-    let before : k - 1 ≡ routed_count (take place st.hub.entries) from = omega (arith, number) in
-    let order = (lawful.of_party from is_party).routed in
-    record {
-      numbered = omega (arith, number);
-      submitted = rw (before, ← order.1) (slice_get-append (routed_from st.hub.entries from) order.0 _ message (routed-at st.hub.entries place from k message at));
-      stamped = omega arith;
-      routed = grind (arith, at);
-    }
+    grind (arith, slice_get-append, routed-at)
 
 of_submission : (st : State) (from to : ℕ) (item : Item) → IsLawful st → from < length st.hub.parties → IsPut st.hub.parties st.hub.entries from to item → IsOfSubmission st from to item
-of_submission st from to (Carried k stamp message) lawful is_party put =
-    let before : put.place + 1 - 1 ≡ put.place = omega arith in
-    rw (put.made.0, put.made.1, before) (routed_as st from k put.place put.message lawful is_party put.routed, put.made.2)
-of_submission st from to (Receipt k reached query) lawful is_party put =
-    let before : put.place + 1 - 1 ≡ put.place = omega arith in
-    (put.place + 1, put.message, routed_as st from k put.place put.message lawful is_party put.routed, rw before put.made.0, put.made.1)
+of_submission st from to item h1 h2 h3 = grind (arith, routed_as)
 
 pub applied_submitted : (st : State) → IsLawful st → AppliedIsSubmitted st
 applied_submitted st lawful party is_party place d within =
@@ -63,8 +51,7 @@ module _ (parties : List (List (List ℕ))) (entries : List Entry) (from to : �
   kind-rises P kind turns least first [] le put = tt
   kind-rises P kind turns least first (item ∷ items) le put = elim (cases_Bool (P item)) [
     | inl e ↦
-        let here = turns item e in
-        rw e (omega (arith, le, put.0, here), kind-rises P kind turns (number_of item) (turn item + 1) items (omega (arith, here)) put.2)
+        rw e (omega (arith, le, put.0), kind-rises P kind turns (number_of item) (turn item + 1) items (omega (arith)) put.2)
     | inr e ↦ rw e (kind-rises P kind turns least first items le (put-rest parties entries from to first item items put))
   ]
 

@@ -1,6 +1,6 @@
 -- The names of the library, of the definitions, and of the crates below that the proofs cite, passed on from one place. Declares nothing.
 pub use Rattle.mv_hub.proofs.CallerLemmas.{gained_other, is_open-append, link_items-push, routed_from-append}
-pub use Rattle.mv_hub.specs.Hub.{items_on, new_hub, next_entry, next_items, sent_of, with_closed, with_relayed, with_routed}
+pub use Rattle.mv_hub.specs.Hub.{items_on, new_hub, next_entry, sent_of, with_closed, with_relayed, with_routed}
 unfoldable pub use Rattle.mv_hub.specs.Hub.{busy_party, is_busy, route_fault}
 pub use Rattle.mv_hub.specs.Links.{link_items_after}
 unfoldable pub use Rattle.mv_hub.specs.Links.{gained, link_items}
@@ -20,20 +20,21 @@ unfoldable pub use Rattle.mv_machine.specs.Runs.{Allows, Meets}
 pub use Rattle.mv_machine.specs.State.{State, is_party, is_uplink_full, log_of, opening, site_of, submissions_of, wire_of, with_site, with_wire}
 pub use Rattle.mv_machine.specs.declared.reply.Reply.{Reply}
 pub use Rattle.mv_machine.specs.declared.step.Step.{Step}
+pub use Rattle.mv_message.specs.declared.message.Message.TheVariants.{Query}
 pub use Rattle.mv_message.specs.declared.message.Message.{Message}
-pub use Rattle.mv_pairs.proofs.CallerLemmas.{cell-put_same, put-each, put-each_pair, square-put, square-replicate}
-pub use Rattle.mv_pairs.specs.Pairs.{IsSquare, cell, put}
-pub use Rattle.mv_party.proofs.CallerLemmas.{answer-free, ask-free, items_from-push, no_answer, party-applied, party-submitted, submit-free}
-pub use Rattle.mv_party.specs.Calls.{answer_fault, apply_fault, ask_fault}
-pub use Rattle.mv_party.specs.Site.{IsLawfulParty, SiteState, answers_in, entry_from, new_site, with_applied, with_submission}
+pub use Rattle.mv_pairs.proofs.CallerLemmas.{put-each, put-each_pair, square-put, square-replicate}
+pub use Rattle.mv_party.proofs.CallerLemmas.{items_from-push, no_answer, party-applied, party-submitted, submit-free}
+pub use Rattle.mv_party.specs.Calls.{apply_fault, ask_fault}
+pub use Rattle.mv_party.specs.Site.{SiteState, answers_in, entry_from, new_site, with_applied, with_submission}
 pub use Rattle.mv_repository.specs.Log.{items_from}
-pub use Rattle.mv_repository.specs.Query.{answer_to}
+pub use Rattle.mv_repository.specs.Verdict.{answer_to}
 pub use Rattle.mv_repository.specs.declared.entry.LogEntry.{LogEntry}
 pub use Rattle.std.proofs.Math.Seq.{take-append_seam}
 pub use Rattle.std.proofs.lemmas.Bool.{and_parts, cases_Bool, cases_eq, eq-eqb, eqb-true, le-ltb}
+pub use Rattle.std.proofs.lemmas.Bool.Decides.{nat_tests}
 pub use Rattle.std.proofs.lemmas.Grind.{common_steps, elements}
 pub use Rattle.std.proofs.lemmas.List.{get_or-replicate, length-map}
-pub use Rattle.std.proofs.lemmas.List.Elements.{All-cons, All-nil, All-push, All-tail, All-take, All-weaker}
+pub use Rattle.std.proofs.lemmas.List.Elements.{All-cons, All-nil, All-push, All-tail, All-take}
 pub use Rattle.std.proofs.lemmas.List.FromFn.{get_or-map-range_with_len, length-range_with_len}
 pub use Rattle.std.proofs.lemmas.Option.{gets}
 pub use Rattle.std.specs.List.{AllByRecursion, range_with_len}

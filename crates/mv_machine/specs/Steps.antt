@@ -7,8 +7,7 @@ use Rattle.mv_link.specs.declared.incoming.Look.TheVariants as look
 use Rattle.mv_repository.specs.declared.verdict.Local.{Local}
 use Rattle.mv_repository.specs.declared.verdict.Local.TheVariants.{Known as KnownPack, Absent}
 use Rattle.mv_repository.specs.Effect.{effect_of}
-use Rattle.mv_repository.specs.Query.{answer_to}
-use Rattle.mv_repository.specs.Verdict.{local_verdict, joint_verdict}
+use Rattle.mv_repository.specs.Verdict.{answer_to, local_verdict, joint_verdict}
 use Rattle.mv_link.specs.Receiving.{look_at}
 use Rattle.mv_party.specs.Calls.{ask_fault, submit_fault, apply_fault}
 use Rattle.mv_machine.specs.declared.step.Step.TheVariants.{Submit, Verify, Route, Relay, Apply, Repeat, Close, Lose, Verdict}

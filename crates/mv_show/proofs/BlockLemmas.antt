@@ -1,7 +1,7 @@
 -- Lemmas on a text that is written in blocks.
 use Rattle.std.proofs.lemmas.Grind.{common_steps, flat_map-append}
 use Rattle.mv_show.proofs.Words.{State, nat_tests, Appends-nil, Appends-trans, Passes, lines_text, links_values, party_numbers, party_values}
-use Rattle.std.proofs.Common.{◌≡◌, ℕ, ◌+◌, ◌-◌, ◌<◌, ◌≤◌, List, [], ◌∷◌, ◌++◌, length, refl, ◌∙◌, append_assoc, append-nil, add-one, ap, subst, sym, drop, slice_index_or, take, take_all, arith, flat_map, rules, Option, Result, IfErr}
+use Rattle.std.proofs.Common.{◌≡◌, ℕ, ◌+◌, ◌-◌, ◌<◌, ◌≤◌, List, [], ◌∷◌, ◌++◌, length, ◌∙◌, append_assoc, append-nil, add-one, ap, subst, sym, drop, slice_index_or, take, take_all, arith, flat_map, rules, Option, Result, IfErr}
 use Rattle.std.specs.List.{range_with_len}
 use Rattle.std.proofs.lemmas.List.{map-append}
 use Rattle.std.specs.Io.KnownBytes.{Appends}
@@ -47,20 +47,17 @@ module _ (front behind : List Data) (all : List Data) (is : all ≡ front ++ beh
 
   -- or some of it, and then a write failed or memory was refused
   pub part_more : WrotePart full b c → WrotePart whole a c
-  part_more (out, left, cut, goes) =
-      (went.0 ++ out, left ++ lines_text behind, cut_more out left cut, Appends-trans a b c went.0 out went.1 goes)
+  part_more (out, left, cut, goes) = search (cut_more, Appends-trans)
 
 -- a list has its first member and the rest, or nothing
 pub nothing_left : {A : Type 0} (xs : List A) → length xs < 1 → xs ≡ []
-nothing_left [] none = refl
-nothing_left (x ∷ xs) none = absurd (omega (arith, none))
+nothing_left xs h1 = grind (arith, common_steps)
 
 abbrev pub rest_of : {A : Type 0} → List A → List A
 rest_of xs = take (length xs - 1) (drop 1 xs)
 
 pub first_rest : {A : Type 0} (xs : List A) (x : A) → 1 ≤ length xs → x ≡ slice_index_or xs 0 x → xs ≡ x ∷ rest_of xs
-first_rest [] x some is = absurd (omega (arith, some))
-first_rest (y ∷ ys) x some is = grind (arith, common_steps, take_all)
+first_rest xs x h1 h2 = grind (arith, take_all)
 
 module _ {A : Type 0} (values : A → List Data) (left : List A) (none : left ≡ []) (a b : Option (List ℕ)) (whole ready : List ℕ)
     (went : Passes a b whole (ready ++ lines_text (flat_map values left))) where

@@ -1,11 +1,11 @@
 -- Subjects that are noted one after another stand as the list of them that has each once.
-use Rattle.std.proofs.Common.{◌≡◌, List, [], ◌∷◌, ◌++◌, Bool, true, refl, ap, sym, append_assoc, append-nil, true≢false, rules, arith}
-use Rattle.mv_show.proofs.Words.{Decides-and, PackKey, is_same_pack, insert_all, LogEntry, Subject, Party, Product, Recall, Pack, is_same_subject, named_of, subjects_of}
+use Rattle.std.proofs.Common.{◌≡◌, List, [], ◌∷◌, ◌++◌, Bool, true, ap, sym, append_assoc, append-nil, rules, arith}
+use Rattle.mv_show.proofs.Words.{Decides-and, PackKey, is_same_pack, insert_all, LogEntry, Subject, Party, is_same_subject, named_of, subjects_of}
 use Rattle.std.specs.Cmp.{IsEquivalence}
 use Rattle.std.proofs.lemmas.Cmp.{nat_list_eq_equiv}
 use Rattle.std.proofs.lemmas.Slice.Eq.{bytes_eq-Decides}
 use Rattle.std.proofs.lemmas.List.Sums.{fold-append}
-use Rattle.mv_hub.proofs.CallerLemmas.{distinct-push, text-same, batch-same}
+use Rattle.mv_hub.proofs.CallerLemmas.{distinct-push}
 use Rattle.mv_hub.specs.Listing.{distinct}
 use Rattle.mv_show.specs.declared.subject.Kind.TheVariants as kinds
 
@@ -20,11 +20,7 @@ pack-same a b e = search (rules, Decides-and, bytes_eq-Decides)
 
 -- subjects that are one are equal
 subject-same : (first second : Subject) → is_same_subject first second ≡ true → first ≡ second
-subject-same Party Party e = refl
-subject-same (Product first) (Product second) e = ap Product (text-same first second e)
-subject-same (Recall first) (Recall second) e = ap Recall (batch-same first second e)
-subject-same (Pack first) (Pack second) e = ap Pack (pack-same first second e)
-subject-same _ _ e = absurd (true≢false (sym e))
+subject-same first second h1 = search (rules, pack-same)
 
 subject-self : (subject : Subject) → is_same_subject subject subject ≡ true
 subject-self subject = grind (arith, nat_list_eq_equiv)

@@ -5,9 +5,9 @@ pub use Rattle.mv_pack.specs.Keys.{is_same_pack, pack_key}
 pub use Rattle.mv_pack.specs.declared.key.PackKey.{PackKey}
 pub use Rattle.mv_repository.specs.declared.entry.LogEntry.{LogEntry}
 pub use Rattle.mv_show.specs.Blocks.{Passes}
-pub use Rattle.mv_show.specs.Shown.{lines_text, link_values, links_values, pack_value, pack_values, party_numbers, party_value, party_values, shown_text, subject_values}
+pub use Rattle.mv_show.specs.Shown.{lines_text, link_values, links_values, party_numbers, party_values, shown_text, subject_values}
 pub use Rattle.mv_show.specs.Subjects.{is_same_subject, named_of, subjects_of}
-pub use Rattle.mv_show.specs.declared.subject.Subject.TheVariants.{Pack, Party, Product, Recall}
+pub use Rattle.mv_show.specs.declared.subject.Subject.TheVariants.{Pack, Party}
 pub use Rattle.mv_show.specs.declared.subject.Subject.{Subject}
 pub use Rattle.std.proofs.KnownBytes.{Appends-nil, Appends-trans}
 pub use Rattle.std.proofs.lemmas.Bool.Decides.{Decides-and, nat_tests}

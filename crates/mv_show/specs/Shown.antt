@@ -15,7 +15,7 @@ use Rattle.mv_hub.specs.Record.{is_open, routed_count}
 use Rattle.mv_repository.specs.declared.held.Change.{Change}
 use Rattle.mv_repository.specs.declared.held.Held.{Held}
 use Rattle.mv_repository.specs.Counts.{counts_of}
-use Rattle.mv_repository.specs.PackState.{pack_state, is_recalled, is_withdrawn}
+use Rattle.mv_repository.specs.Pack.{pack_state, is_recalled, is_withdrawn}
 use Rattle.mv_repository.specs.Repository.{product_of}
 use Rattle.mv_repository.specs.State.{user_at}
 use Rattle.mv_machine.specs.State.{State, submissions_of, log_of, wire_of, applied_count}

@@ -1,6 +1,6 @@
 -- The system where nothing has happened.
-use Rattle.std.proofs.Common.{◌≡◌, ℕ, ◌≤◌, List, [], length, map, sym, refl, ap, subst}
-use Rattle.mv_system.proofs.Words.{All, All-nil, IsFrameOf, IsSquare, IsSystem, PARTIES_LIMIT, State, WireState, cell-all, items_on, new_hub, new_site, new_wire, numbers_of, opening, opening-keeps, opening-sound, range_with_len, state_of, table-all}
+use Rattle.std.proofs.Common.{arith, ◌≡◌, ℕ, ◌≤◌, List, [], length, map, ap}
+use Rattle.mv_system.proofs.Words.{All, IsSquare, IsSystem, PARTIES_LIMIT, State, WireState, new_hub, new_site, new_wire, numbers_of, opening, opening-keeps, opening-sound, range_with_len, state_of, table-all}
 use Rattle.mv_machine.specs.Limits.{Bounds, AreBounds}
 
 -- the state that a system opens with, whose wires are as they were made
@@ -13,18 +13,4 @@ pub opened : (parties : List (List (List ℕ))) (limits : Bounds) (wires : List 
     → (opening_with parties limits wires ≡ opening parties limits) × IsSystem (opening_with parties limits wires) wires
 opened parties limits wires few bounds square empty =
     let none = table-all (λ w. numbers_of w.items) [] (length parties) wires square (λ k d lt j e below. ap (λ (w : WireState). numbers_of w.items) (empty k d lt j e below)) in
-    let is : opening_with parties limits wires ≡ opening parties limits = ap {B = State} (λ numbers. record (opening parties limits) { wires = numbers }) none in
-    let sound = opening-sound parties limits in
-    let kept : IsSystem (opening parties limits) wires = record {
-      well_formed = sound.well_formed;
-      lawful = sound.lawful;
-      within = opening-keeps parties limits;
-      parties_most = few;
-      bounds = bounds;
-      are_wires = record {
-        square = square;
-        each = λ from to from_lt to_lt. rw (cell-all (λ w. w ≡ new_wire limits.wire) (length parties) wires from to (new_wire 0) square empty from_lt to_lt)
-            (record { size_is = refl; frames = All-nil (IsFrameOf (items_on (new_hub parties limits.window) from to)) });
-      };
-    } in
-    (is, subst (λ (st : State). IsSystem st wires) (sym is) kept)
+    grind (arith, opening-sound parties limits, opening-keeps)

@@ -1,5 +1,6 @@
 -- The rows of the list machine, by what the parts answer where they do what is asked.
-use Rattle.std.proofs.Common.{◌≡◌, ℕ, ◌+◌, ◌-◌, Bool, false, List, [], ◌∷◌, ◌++◌, drop, Some, None, arith, slice_get, IsTrue, unwrap_or}
+use Rattle.std.proofs.lemmas.Grind.{elements}
+use Rattle.std.proofs.Common.{rules, ◌≡◌, ℕ, ◌+◌, ◌-◌, Bool, false, List, [], ◌∷◌, ◌++◌, drop, Some, None, arith, slice_get, IsTrue, unwrap_or}
 use Rattle.mv_system.proofs.Words.{Allows, Apply, Item, Look, Lose, Lost, Meets, Relay, Relayed, Repeat, Repeated, SiteFault, SiteMemory, SiteState, State, apply_fault, are_parties, count_from, is_uplink_full, items_on, look_at, relay_fault, repeat_fault, sent_of, set-get_or, site_of, taken_by, wire_of, with_relayed, with_site, with_taken, with_wire}
 use Rattle.mv_link.specs.declared.incoming.Look.TheVariants as look
 use Rattle.mv_machine.specs.declared.reply.Reply.TheVariants.{Refused}
@@ -10,12 +11,10 @@ use Rattle.mv_machine.specs.Steps.{relay, apply, repeat, lose}
 
 -- a list by its front
 front-rest : (xs : List ℕ) (x : ℕ) → slice_get xs 0 ≡ Some x → xs ≡ x ∷ drop 1 xs
-front-rest [] x front = absurd (cc)
-front-rest (y ∷ xs) x front = cc
+front-rest xs x h1 = grind arith
 
 front-none : (xs : List ℕ) → slice_get xs 0 ≡ None → xs ≡ []
-front-none [] none = cc
-front-none (x ∷ xs) none = absurd (cc)
+front-none xs h1 = grind (arith, elements)
 
 module _ (st : State) where
   pub relay_done : (from to : ℕ) → IsTrue (are_parties st.hub from to) → is_wire_full st from to ≡ false → relay_fault st.hub from to ≡ None
@@ -44,8 +43,7 @@ module _ (st : State) where
       → look_at (count_from site.log from) number ≡ stands → full ≡ is_uplink_full st to → site ≡ site_of st to → apply_fault full site from item stands ≡ None
       → Allows st (Apply from to) (reply_to number (taken_by site from item stands)) (with_wire (with_site st to (with_taken site from item stands)) from to (drop 1 (wire_of st from to)))
   unfolding Allows Meets apply
-  apply_done from to number item look.Next full site both front member looked full_is here none = grind (arith, front-rest)
-  apply_done from to number item stands full site both front member looked full_is here none = grind (arith, front-rest, set-get_or)
+  apply_done from to number item stands full site h1 h2 h3 h4 h5 h6 h7 = grind (arith, set-get_or)
 
   -- it is refused, for the fault that there is, or for want of memory where it is the next
   pub apply_refused : (from to number : ℕ) (item : Item) (stands : Look) (full : Bool) (site : SiteState) (refused : SiteFault) → IsTrue (are_parties st.hub from to)
@@ -54,5 +52,4 @@ module _ (st : State) where
       → refused ≡ unwrap_or (apply_fault full site from item stands) SiteMemory → (refused ≡ SiteMemory → stands ≡ look.Next)
       → Allows st (Apply from to) (Refused (refusal_of refused)) st
   unfolding Allows Meets apply
-  apply_refused from to number item look.Next full site refused both front member looked full_is here fails memory = grind (arith, front-rest)
-  apply_refused from to number item stands full site refused both front member looked full_is here fails memory = grind (arith, fails, memory)
+  apply_refused from to number item stands full site refused h1 h2 h3 h4 h5 h6 h7 h8 = search rules

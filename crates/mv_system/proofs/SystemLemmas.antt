@@ -1,11 +1,10 @@
 -- What each change of a part keeps, and what the list machine sees of it.
-use Rattle.std.proofs.Common.{◌≡◌, ℕ, ◌+◌, ◌-◌, ◌<◌, ◌≤◌, Bool, true, false, not, List, [], ◌∷◌, ◌++◌, length, get_or, set, sym, ap, ◌∙◌, subst, arith, length-append, drop, ltb-true, IsTrue, slice_get, option_map, Some, None, Option}
-use Rattle.mv_system.proofs.Words.{All-drop, All-get_or, All-push, All-weaker, Allows, AreWiresOf, Change, Entry, Frame, HubState, IsFrameOf, IsSystem, IsWireOf, Message, NUMBER_LIMIT, Reply, SiteState, State, Step, WireState, and_parts, answers_in, are_parties, ask_fault, cell, cell-map, change-follows, change-keeps, change-sound, close_fault, get_or_read, is_open, is_party, is_uplink_full, items_on, length-map, map-append, new_site, new_wire, numbers_of, numbers_on, put, put-each_pair, put-map, routed_count-few, set-get_or, site_of, square-put, stamps_suffice, state_of, step-changes, submitted, wire_at, wire_of, with_submission}
+use Rattle.std.proofs.Common.{rules, ◌≡◌, ℕ, ◌+◌, ◌-◌, ◌<◌, Bool, true, false, not, List, [], ◌∷◌, ◌++◌, length, get_or, set, sym, ap, ◌∙◌, arith, length-append, drop, ltb-true, IsTrue, slice_get, option_map, Some, None, Option}
+use Rattle.mv_system.proofs.Words.{All-drop, All-push, Allows, AreWiresOf, Change, Entry, Frame, HubState, IsFrameOf, IsSystem, IsWireOf, Message, NUMBER_LIMIT, Reply, SiteState, State, Step, WireState, answers_in, are_parties, ask_fault, cell, cell-map, change-follows, change-keeps, change-sound, close_fault, get_or_read, is_open, is_party, is_uplink_full, items_on, length-map, map-append, new_site, new_wire, numbers_of, numbers_on, put, put-map, routed_count-few, set-get_or, site_of, square-put, stamps_suffice, state_of, step-changes, submitted, wire_at, wire_of, with_submission}
 use Rattle.std.specs.List.{drop-map}
 use Rattle.std.proofs.lemmas.Option.{slice_get-map, slice_get_within, get_or_from_slice_get}
 use Rattle.std.proofs.lemmas.Bool.Decides.{nat_tests}
 use Rattle.mv_link.proofs.CallerLemmas.{of_longer}
-use Rattle.mv_hub.specs.Links.{link_items}
 use Rattle.mv_hub.proofs.CallerLemmas.{link_items-push}
 use Rattle.mv_machine.specs.Limits.{Bounds}
 use Rattle.mv_machine.specs.State.{is_wire_full}
@@ -16,8 +15,7 @@ pub ruleset number_of_frame = (slice_get-map)
 
 -- a list that is not too long is kept whole
 keep_all : {A : Type 0} (n : ℕ) (xs : List A) (x : A) → length xs < n → keep_last n (xs ++ x ∷ []) ≡ xs ++ x ∷ []
-keep_all n xs x short =
-    let none : length (xs ++ x ∷ []) - n ≡ 0 = omega (arith, length-append xs (x ∷ [])) in ap (λ k. drop k (xs ++ x ∷ [])) none
+keep_all n xs x short = grind (arith, length-append)
 
 -- the numbers under way on a link are those of the frames on its wire
 pub wires_at : (wires : List (List WireState)) (from to : ℕ) → cell (numbers_on wires) from to [] ≡ numbers_of (wire_at wires from to).items
@@ -27,20 +25,9 @@ pub wires_len_at : (wires : List (List WireState)) (from to : ℕ) → length (c
 wires_len_at wires from to = ap length (wires_at wires from to) ∙ length-map (wire_at wires from to).items (λ f. f.number)
 
 -- a change of the list machine leaves a system, where the wires are as they are to be
-pub changed : {old new : State} {quiet : Bool} {before after : List (List WireState)} → Change old quiet new → IsSystem old before → AreWiresOf new.limits.wire new.hub after
+pub changed : {old new : State} {step : Step} {reply : Reply} {before after : List (List WireState)} → Change old step reply new → IsSystem old before → AreWiresOf new.limits.wire new.hub after
     → IsSystem new after
-changed {old} {new} {quiet} change k wires =
-    let sound = change-sound old new quiet change (record { well_formed = k.well_formed; lawful = k.lawful }) in
-    let within = change-keeps old new quiet change (record { well_formed = k.well_formed; lawful = k.lawful }) k.within in
-    let follows = change-follows old new quiet change in
-    record {
-      well_formed = sound.well_formed;
-      lawful = sound.lawful;
-      within = within;
-      parties_most = rw follows.parties k.parties_most;
-      bounds = rw follows.limits k.bounds;
-      are_wires = wires;
-    }
+changed {old} {new} {step} {reply} change k wires = grind (arith, change-sound, change-keeps, change-follows)
 
 -- a step is allowed, and leaves a system
 abbrev pub Leaves : State → Step → Reply → Bounds → HubState → List SiteState → List (List WireState) → Type 0
@@ -58,15 +45,7 @@ wires_relayed sent k = record { square = k.square; each = k.each }
 -- the wires are those of the hub where its record has one more entry
 pub wires_entered : {size : ℕ} {hub : HubState} {wires : List (List WireState)} (entry : Entry) → AreWiresOf size hub wires
     → AreWiresOf size (record hub { entries = hub.entries ++ entry ∷ [] }) wires
-wires_entered {size} {hub} {wires} entry k = record {
-  square = k.square;
-  each = λ from to from_is_party to_is_party.
-      let was = k.each from to from_is_party to_is_party in record {
-        size_is = was.size_is;
-        frames = All-weaker (IsFrameOf (items_on hub from to)) (IsFrameOf (link_items hub.parties (hub.entries ++ entry ∷ []) from to))
-            (λ frame of. rw (link_items-push hub.parties hub.entries entry from to) (of_longer _ _ frame of)) _ was.frames;
-      };
-}
+wires_entered {size} {hub} {wires} entry k = grind (arith, link_items-push, of_longer)
 
 -- where the hub closes a link, that is open and between parties
 pub close_told : (hub : HubState) (from to : ℕ) → close_fault hub from to ≡ None
@@ -86,32 +65,26 @@ site_back sites party site read = ap (set sites party) read ∙ set-get_or sites
 pub submitted_kept : {limits : Bounds} {hub : HubState} {sites : List SiteState} {wires : List (List WireState)} {st : State} (party : ℕ) (message : Message) (full : Bool) (site new : SiteState)
     → IsSystem (state_of limits hub sites wires) wires → state_of limits hub sites wires ≡ st → IsTrue (is_party st party) → full ≡ is_uplink_full st party → site ≡ get_or sites party site
     → new ≡ with_submission site message → answers_in (message ∷ []) ≡ [] → ask_fault full site ≡ None → IsSystem (state_of limits hub (set sites party new) wires) wires
-submitted_kept party message full site new k view there full_is read ok none free =
+submitted_kept {hub = hub} party message full site new k view there full_is read ok none free =
     let here = site_read party site k (rw (← view) at there) read in
-    rw (ok, here) (changed (submitted party message none (rw (here, full_is, ← view) at free)) k k.are_wires)
+    rw (ok, here) (changed (submitted party message (ltb-true party (length hub.parties) (rw (← view) at there)) none (rw (here, full_is, ← view) at free)) k k.are_wires)
 
 -- a wire that is not full has room
 pub wire_room : {st : State} {wires : List (List WireState)} → IsSystem st wires → (from to : ℕ) (full : Bool) → full ≡ is_wire_full st from to → IsTrue (not full)
     → (is_wire_full st from to ≡ false) × (length (wire_of st from to) < st.limits.wire)
-wire_room k from to true is room = absurd (cc)
-wire_room k from to false is room = (sym is, grind (arith, nat_tests))
+wire_room h1 from to full h2 h3 = grind arith
 
 -- one wire is written
 module _ {size : ℕ} {hub : HubState} {wires : List (List WireState)} (k : AreWiresOf size hub wires) (from to : ℕ) (both : IsTrue (are_parties hub from to))
     (old : WireState) (read : (d : WireState) → cell wires from to d ≡ old) where
   old_is : IsWireOf size (items_on hub from to) old
-  old_is =
-      let parts = and_parts _ _ both in
-      subst (IsWireOf size (items_on hub from to)) (read (new_wire 0)) (k.each from to (ltb-true from (length hub.parties) parts.0) (ltb-true to (length hub.parties) parts.1))
+  old_is = grind arith
 
   seen : cell (numbers_on wires) from to [] ≡ numbers_of old.items
   seen = wires_at wires from to ∙ ap (λ (w : WireState). numbers_of w.items) (read (new_wire 0))
 
   written : (new : WireState) → IsWireOf size (items_on hub from to) new → AreWiresOf size hub (put wires from to new)
-  written new fits = record {
-    square = square-put (length hub.parties) wires from to new k.square;
-    each = put-each_pair (λ i j w. i < length hub.parties → j < length hub.parties → IsWireOf size (items_on hub i j) w) wires from to new (new_wire 0) (λ _ _. fits) k.each;
-  }
+  written new fits = search (rules, square-put)
 
   -- a frame of the link is put on it
   pub frame_pushed : (frame : Frame) (new : WireState) → new ≡ buffer (keep_last old.capacity (old.items ++ frame ∷ [])) old.capacity → IsFrameOf (items_on hub from to) frame
@@ -142,15 +115,8 @@ module _ {size : ℕ} {hub : HubState} {wires : List (List WireState)} (k : AreW
 
   -- the frame in front of it bears the item of its number
   pub front_item : (frame : Frame) → slice_get old.items 0 ≡ Some frame → slice_get (items_on hub from to) (frame.number - 1) ≡ Some frame.item
-  front_item frame front =
-      let of = All-get_or (IsFrameOf (items_on hub from to)) old.items 0 frame (slice_get_within old.items 0 frame front) old_is.frames in
-      (rw (get_or_from_slice_get old.items 0 frame frame front) at of).1
+  front_item frame front = grind (arith, slice_get_within, old_is, get_or_from_slice_get)
 
 -- the record is short enough for one more entry
 pub entries-short : {st : State} {wires : List (List WireState)} → IsSystem st wires → length st.hub.entries < NUMBER_LIMIT
-entries-short {st} k =
-    omega (
-      arith,
-      stamps_suffice (length st.hub.parties) st.hub.entries k.lawful.of_record k.parties_most
-          (λ party lt. omega (arith, routed_count-few st party k.lawful lt, k.within.submitted party lt, k.bounds.submissions_most)),
-    )
+entries-short {st} k = grind (arith, stamps_suffice, routed_count-few)

@@ -1,14 +1,13 @@
 -- The record, each log and what each party submitted grow by what events tell.
-use Rattle.std.proofs.Common.{◌≡◌, ℕ, ◌+◌, ◌<◌, ◌==◌, false, List, [], ◌∷◌, ◌++◌, map, length, set, get_or, slice_get, Option, Some, None, refl, sym, ap, ◌∙◌, append-nil, arith, option_map, option_to_list, length-append, if◌then◌else◌, get_or-set_same, get_or-set_other, rules}
-use Rattle.mv_trail.proofs.Words.{common_steps, nat_tests, Message, is_query_or_answer, Item, Entry, Joint, answer_after, entry_from, answer_number, new_site, slice_get-behind, SiteState, State, submissions_of, log_of, site_of, is_party, with_site, Event, last_of, routing, placed, entry_told, applied_told, submission_told, unless_answer}
+use Rattle.std.proofs.lemmas.Grind.{elements}
+use Rattle.std.proofs.Common.{◌≡◌, ℕ, ◌+◌, ◌<◌, ◌==◌, false, List, [], ◌∷◌, ◌++◌, map, length, set, get_or, slice_get, Option, Some, None, refl, ap, ◌∙◌, append-nil, arith, option_map, option_to_list, length-append, if◌then◌else◌, get_or-set_same, get_or-set_other, rules}
+use Rattle.mv_trail.proofs.Words.{submitted_change, asked_change, routed_change, closed_change, relayed, repeated, applied_change, dropped, nothing, common_steps, nat_tests, Message, is_query_or_answer, Item, answer_after, entry_from, answer_number, new_site, slice_get-behind, SiteState, State, submissions_of, log_of, site_of, is_party, with_site, Event, last_of, placed, entry_told, applied_told, submission_told, unless_answer}
 use Rattle.std.proofs.lemmas.List.{length-map, map-append, set_past}
 use Rattle.mv_repository.specs.declared.effect.Effect.{Effect}
 use Rattle.mv_repository.specs.declared.entry.LogEntry.{LogEntry}
-use Rattle.mv_machine.specs.declared.reply.Reply.TheVariants as replies
-use Rattle.mv_machine.specs.declared.step.Step.TheVariants as steps
 use Rattle.mv_machine.specs.Lawful.{IsWellFormed}
 use Rattle.mv_trail.specs.Events as events
-use Rattle.mv_trail.proofs.StepLemmas.{told, IsTold, grew}
+use Rattle.mv_trail.proofs.StepLemmas.{told, Grows, quiet-silent, drop-silent}
 
 -- the last of a list that grew by one
 last-pushed : {A : Type 0} (xs : List A) (x : A) → last_of (xs ++ x ∷ []) ≡ Some x
@@ -19,19 +18,16 @@ placed-pushed : {A : Type 0} (count place : ℕ) (xs : List A) (x : A) → place
 placed-pushed count place [] x is = ap (λ k. (k, x) ∷ []) (omega (arith, is))
 placed-pushed count place (y ∷ ys) x is = ap (λ l. (count + 1, y) ∷ l) (placed-pushed (count + 1) place ys x (omega (arith, is)))
 
--- nothing is told of a routing, where nothing is told of routings
-routing-silent : {X : Type 0} (tell : Event → Option X)
-    → ((from k : ℕ) (message : Message) (reach : List ℕ) (stamp : ℕ) → tell (events.routed from k message reach stamp) ≡ None)
-    → (reach : List ℕ) (count : ℕ) (entry : Option Entry) → told tell (routing reach count entry) ≡ []
-routing-silent tell none reach count entry = grind (arith, nat_tests)
-
-module _ (st : State) where
-  decided-silent : {X : Type 0} (tell : Event → Option X) → ((party q : ℕ) → (key : _) → (verdict : _) → tell (events.decided party q key verdict) ≡ None)
-      → (party q : ℕ) (joint : Joint) → told tell (events.event_of_step (steps.Verdict party q) (replies.Joint joint) st) ≡ []
-  decided-silent tell none party q joint = grind (arith, nat_tests)
-
-  pub record_told : IsTold entry_told (λ st. placed 0 st.hub.entries) st
-  record_told = search (rules, grew, placed-pushed, length-append, last-pushed)
+pub record_told : (st : State) → Grows entry_told (λ st. placed 0 st.hub.entries) st
+record_told st _ _ _ (nothing step reply quiet) = rw (quiet-silent entry_told (λ _ _ _. refl) (λ _ _ _ _. refl) step reply st quiet, append-nil) refl
+record_told st _ _ _ (submitted_change from message is_party none free) = search (rules, append-nil, placed-pushed, last-pushed, length-append)
+record_told st _ _ _ (asked_change party key is_party free) = search (rules, append-nil, placed-pushed, last-pushed, length-append)
+record_told st _ _ _ (routed_change from message is_party next free) = search (rules, append-nil, placed-pushed, last-pushed, length-append)
+record_told st _ _ _ (closed_change from to from_is_party to_is_party still_open) = search (rules, append-nil, placed-pushed, last-pushed, length-append)
+record_told st _ _ _ (relayed from to from_is_party to_is_party room some) = search (rules, append-nil, placed-pushed, last-pushed, length-append)
+record_told st _ _ _ (repeated from to number room least most) = search (rules, append-nil, placed-pushed, last-pushed, length-append)
+record_told st _ _ _ (applied_change from to number rest item from_is_party to_is_party front next free) = search (rules, append-nil, placed-pushed, last-pushed, length-append)
+record_told st _ _ _ (dropped step reply from to number rest gone front) = rw (drop-silent step reply _ gone, append-nil) refl
 
 -- what is seen of each party is as it was, where one that was written shows the same
 shown-same : {A : Type 0} (shown : SiteState → A) (sites : List SiteState) (by party : ℕ) (site : SiteState) → shown site ≡ shown (get_or sites by (new_site 0 0 0))
@@ -53,8 +49,16 @@ module _ (party : ℕ) (st : State) (well_formed : IsWellFormed st) where
   log-same : (by : ℕ) (site : SiteState) → by < length st.hub.parties → site.log ≡ log_of st by → log_of (with_site st by site) party ≡ log_of st party
   log-same by site is_party same = shown-same (λ it. it.log) st.sites by party site same
 
-  pub log_told : IsTold (applied_told party) (λ st. log_of st party) st
-  log_told = search (rules, append-nil, grew, has_site, last-pushed, log-same, get_or-set_same, get_or-set_other)
+  pub log_told : Grows (applied_told party) (λ st. log_of st party) st
+  log_told _ _ _ (nothing step reply quiet) = rw (quiet-silent (applied_told party) (λ _ _ _. refl) (λ _ _ _ _. refl) step reply st quiet, append-nil) refl
+  log_told _ _ _ (submitted_change from message is_party none free) = search (rules, append-nil, has_site, last-pushed, log-same, get_or-set_same, get_or-set_other)
+  log_told _ _ _ (asked_change by key is_party free) = search (rules, append-nil, has_site, last-pushed, log-same, get_or-set_same, get_or-set_other)
+  log_told _ _ _ (routed_change from message is_party next free) = search (rules, append-nil, has_site, last-pushed, log-same, get_or-set_same, get_or-set_other)
+  log_told _ _ _ (closed_change from to from_is_party to_is_party still_open) = search (rules, append-nil, has_site, last-pushed, log-same, get_or-set_same, get_or-set_other)
+  log_told _ _ _ (relayed from to from_is_party to_is_party room some) = search (rules, append-nil, has_site, last-pushed, log-same, get_or-set_same, get_or-set_other)
+  log_told _ _ _ (repeated from to number room least most) = search (rules, append-nil, has_site, last-pushed, log-same, get_or-set_same, get_or-set_other)
+  log_told _ _ _ (applied_change from to number rest item from_is_party to_is_party front next free) = search (rules, append-nil, has_site, last-pushed, log-same, get_or-set_same, get_or-set_other)
+  log_told _ _ _ (dropped step reply from to number rest gone front) = rw (drop-silent step reply _ gone, append-nil) refl
 
 -- what a party submits itself is none
 own-is_none : (message : Message) → is_query_or_answer message ≡ false → unless_answer message ≡ Some message
@@ -63,10 +67,6 @@ own-is_none message e = grind (arith, nat_tests)
 -- what is kept of some submissions
 abbrev kept_submissions : List Message → List (ℕ × Option Message)
 kept_submissions messages = placed 0 (map unless_answer messages)
-
--- of an answer the number alone is kept
-answer-silent : (log : List LogEntry) (sender : ℕ) (item : Item) (answer : Message) → answer_after log sender item ≡ Some answer → unless_answer answer ≡ None
-answer-silent log sender item answer is = grind (arith, nat_tests, is)
 
 -- where a party submitted one more message, what is kept of its own submissions alone grew by it
 submissions-grow : (sites : List SiteState) (by party : ℕ) (message : Message) (log : List LogEntry) (known : Option Message) → unless_answer message ≡ known → by < length sites
@@ -86,16 +86,16 @@ module _ (party : ℕ) (st : State) (well_formed : IsWellFormed st) where
       kept_submissions (get_or (set st.sites to site) party (new_site 0 0 0)).submissions
       ≡ kept_here ++ told (submission_told party) (option_map (events.applied to number effect (answer_number (submissions_of st to) answer))
       (last_of (get_or (set st.sites to site) to (new_site 0 0 0)).log))
-  applied-grows from to number effect item is_party None is =
-      let entry = entry_from from item in
-      let site = record (site_of st to) { submissions = submissions_of st to ++ []; log = log_of st to ++ entry ∷ [] } in
-      rw (last-told (submission_told party) (events.applied to number effect None) st.sites to site (log_of st to) entry (has_site party st well_formed to is_party) refl)
-      (shown-same (λ it. kept_submissions it.submissions) st.sites to party site (ap kept_submissions (append-nil (submissions_of st to))) ∙ sym (append-nil kept_here))
-  applied-grows from to number effect item is_party (Some answer) is =
-      let entry = entry_from from item in
-      let site = record (site_of st to) { submissions = submissions_of st to ++ answer ∷ []; log = log_of st to ++ entry ∷ [] } in
-      rw (last-told (submission_told party) (events.applied to number effect (Some (length (submissions_of st to) + 1))) st.sites to site (log_of st to) entry (has_site party st well_formed to is_party) refl)
-      (submissions-grow st.sites to party answer (log_of st to ++ entry ∷ []) None (answer-silent (log_of st to) from item answer is) (has_site party st well_formed to is_party))
+  applied-grows from to number effect item h1 answer h2 =
+      grind (arith, elements, last-told, has_site, shown-same, append-nil, submissions-grow)
 
-  pub submissions_told : IsTold (submission_told party) (λ st. kept_submissions (submissions_of st party)) st
-  submissions_told = search (rules, append-nil, applied-grows, decided-silent, grew, has_site, own-is_none, routing-silent, submissions-grow)
+  pub submissions_told : Grows (submission_told party) (λ st. kept_submissions (submissions_of st party)) st
+  submissions_told _ _ _ (nothing step reply quiet) = rw (quiet-silent (submission_told party) (λ _ _ _. refl) (λ _ _ _ _. refl) step reply st quiet, append-nil) refl
+  submissions_told _ _ _ (submitted_change from message is_party none free) = search (rules, append-nil, applied-grows, has_site, own-is_none, submissions-grow)
+  submissions_told _ _ _ (asked_change by key is_party free) = search (rules, append-nil, applied-grows, has_site, own-is_none, submissions-grow)
+  submissions_told _ _ _ (routed_change from message is_party next free) = search (rules, append-nil, applied-grows, has_site, own-is_none, submissions-grow)
+  submissions_told _ _ _ (closed_change from to from_is_party to_is_party still_open) = search (rules, append-nil, applied-grows, has_site, own-is_none, submissions-grow)
+  submissions_told _ _ _ (relayed from to from_is_party to_is_party room some) = search (rules, append-nil, applied-grows, has_site, own-is_none, submissions-grow)
+  submissions_told _ _ _ (repeated from to number room least most) = search (rules, append-nil, applied-grows, has_site, own-is_none, submissions-grow)
+  submissions_told _ _ _ (applied_change from to number rest item from_is_party to_is_party front next free) = search (rules, append-nil, applied-grows, has_site, own-is_none, submissions-grow)
+  submissions_told _ _ _ (dropped step reply from to number rest gone front) = rw (drop-silent step reply _ gone, append-nil) refl

@@ -1,6 +1,6 @@
 -- The events of a run tell the record, the logs and the submissions.
 use Rattle.std.proofs.Common.{◌≡◌, ℕ, zero, suc, ◌+◌, List, [], ◌∷◌, ◌++◌, map, length, Some, None, refl, sym, ap, ◌∙◌, append-nil, append_assoc, get_or, arith, rules}
-use Rattle.mv_trail.proofs.Words.{common_steps, nat_tests, Step, Reply, State, opening, submissions_of, log_of, IsSound, change-sound, opening-sound, step-changes, SiteState, new_site, Answered, Line, AreReplies, said_texts, Open, IsTaken, Event, event_of, AreTold, placed, entry_told, applied_told, submission_told, unless_answer, EventsAreWritten, RecordIsTold, LogsAreTold, SubmissionsAreTold, IsEvent, event_text}
+use Rattle.mv_trail.proofs.Words.{nat_tests, Step, Reply, State, opening, submissions_of, log_of, IsSound, change-sound, opening-sound, step-changes, SiteState, new_site, Answered, Line, AreReplies, said_texts, Open, IsTaken, Event, event_of, AreTold, placed, entry_told, applied_told, submission_told, unless_answer, EventsAreWritten, RecordIsTold, LogsAreTold, SubmissionsAreTold, IsEvent, event_text}
 use Rattle.std.specs.Prelude.{option_map, option_to_list, Option, ⊤}
 use Rattle.std.specs.List.{filter_map, range_with_len}
 use Rattle.mv_machine.specs.Limits.{Bounds}
@@ -9,7 +9,7 @@ use Rattle.mv_format.specs.declared.answered.Answered.TheVariants as answers
 use Rattle.mv_format.specs.declared.line_fault.LineFault.{LineFault}
 use Rattle.mv_format.specs.declared.open_fault.OpenFault.{OpenFault}
 use Rattle.mv_trail.specs.Events as events
-use Rattle.mv_trail.proofs.StepLemmas.{told, IsTold, step_grows}
+use Rattle.mv_trail.proofs.StepLemmas.{told, Grows}
 use Rattle.mv_trail.proofs.ToldLemmas.{record_told, log_told, submissions_told}
 
 -- What came of a line: it was refused, it opened a system, or a step was taken.
@@ -38,10 +38,7 @@ OfOpen P None = ⊤
 OfOpen P (Some st) = P st
 
 came-sound : (before : Open) (answered : Answered) (after : Open) → Came before answered after → OfOpen IsSound before → OfOpen IsSound after
-came-sound before _ _ (unread fault) sound = sound
-came-sound before _ _ (not_taken fault) sound = sound
-came-sound before _ _ (opened parties limits count none) sound = opening-sound parties limits
-came-sound before _ _ (stepped old step reply new is allowed) sound = search (rules, IsSound, change-sound, step-changes)
+came-sound before answered after h1 h2 = grind (arith, opening-sound, change-sound, step-changes)
 
 -- what a state keeps, of what is open; nothing, before something is
 abbrev kept_of : {X : Type 0} → (State → List X) → Open → List X
@@ -51,10 +48,10 @@ kept_of kept (Some st) = kept st
 module _ {X : Type 0} (tell : Event → Option X) (kept : State → List X)
     (begins : (parties : List (List (List ℕ))) (limits : Bounds) → kept (opening parties limits) ≡ [])
     (silent : (parties : List (List (List ℕ))) (limits : Bounds) → tell (events.opened parties limits) ≡ None)
-    (grows : (st : State) → IsSound st → IsTold tell kept st) where
+    (grows : (st : State) → IsSound st → Grows tell kept st) where
   line-told : (before : Open) (answered : Answered) (after : Open) → Came before answered after → OfOpen IsSound before
       → kept_of kept after ≡ kept_of kept before ++ told tell (event_of answered after)
-  line-told before answered after came sound = grind (arith, nat_tests, IsSound, append-nil, step_grows)
+  line-told before answered after came sound = grind (arith, nat_tests, IsSound, append-nil, grows, step-changes)
 
   lines-told : (lines : List (List ℕ)) (events : List Event) (before after : Open) → OfOpen IsSound before → AreTold before lines events after
       → kept_of kept after ≡ kept_of kept before ++ filter_map tell events

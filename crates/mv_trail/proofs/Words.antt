@@ -5,15 +5,14 @@ pub use Rattle.mv_format.specs.declared.answered.Answered.{Answered}
 pub use Rattle.mv_hub.specs.declared.entry.Entry.{Entry}
 pub use Rattle.mv_lines.specs.Sessions.{IsTaken, Open}
 pub use Rattle.mv_link.specs.declared.item.Item.{Item}
-pub use Rattle.mv_machine.proofs.CallerLemmas.{IsSound, change-sound, opening-sound, slice_get-behind, step-changes}
-pub use Rattle.mv_machine.specs.State.{State, is_party, log_of, opening, site_of, submissions_of, with_site, with_wire}
+pub use Rattle.mv_machine.proofs.CallerLemmas.{Change, IsSound, applied as applied_change, asked as asked_change, change-sound, closed as closed_change, dropped, drops, nothing, opening-sound, relayed, repeated, routed as routed_change, slice_get-behind, step-changes, submitted as submitted_change}
+pub use Rattle.mv_machine.specs.State.{State, is_party, log_of, opening, site_of, submissions_of, with_site}
 pub use Rattle.mv_machine.specs.declared.reply.Reply.{Reply}
 pub use Rattle.mv_machine.specs.declared.step.Step.{Step}
 pub use Rattle.mv_message.specs.Kinds.{is_query_or_answer}
 pub use Rattle.mv_message.specs.declared.message.Message.{Message}
-pub use Rattle.mv_party.specs.Site.{SiteState, answer_number, entry_from, new_site, with_applied, with_submission}
-pub use Rattle.mv_repository.specs.Query.{answer_after, answer_to}
-pub use Rattle.mv_repository.specs.declared.verdict.Joint.{Joint}
+pub use Rattle.mv_party.specs.Site.{SiteState, answer_number, entry_from, new_site}
+pub use Rattle.mv_repository.specs.Verdict.{answer_after}
 pub use Rattle.mv_trail.specs.Events.{Event, applied, event_of, event_of_step, last_of, routed, routing}
 pub use Rattle.mv_trail.specs.Laws.{AreTold, EventsAreWritten, LogsAreTold, RecordIsTold, SubmissionsAreTold, applied_told, entry_told, placed, submission_told, unless_answer}
 pub use Rattle.mv_trail.specs.Trail.{IsEvent, Says, Tells, event_text}

@@ -1,5 +1,5 @@
 -- What is said of lines that are only checked.
-use Rattle.std.proofs.Common.{◌≡◌, ◌∷◌, ◌&&◌, ℕ, List, [], Bool, true, false, IfSome, refl, ◌∙◌, map, arith}
+use Rattle.std.proofs.Common.{◌≡◌, ◌∷◌, ◌&&◌, ℕ, List, [], Bool, true, IfSome, refl, map, arith}
 use Rattle.std.specs.declared.option.Option.{Option}
 use Rattle.std.specs.List.{list_all}
 use Rattle.std.specs.Io.KnownBytes.{Appends}
@@ -8,30 +8,19 @@ use Rattle.mv_engine.specs.Replies.{AreReplies}
 use Rattle.mv_engine.specs.Served.{Served}
 use Rattle.mv_checks.specs.Checks.{IsChecked, are_messages, checked, is_message, lines_in, refusals_of}
 
--- one more line is a message or not
-and_more : (before first rest : Bool) → ((before && first) && rest) ≡ (before && (first && rest))
-and_more true first rest = refl
-and_more false first rest = refl
-
-and_all : (before : Bool) → before ≡ (before && true)
-and_all true = refl
-and_all false = refl
-
 -- the texts are what is said of the lines
 checked_texts : (before after : Bool) (lines : List Line) (texts : List (Option (List ℕ))) → AreReplies IsChecked before lines texts after
     → texts ≡ map checked lines
 checked_texts before after [] [] is = refl
-checked_texts before after [] (text ∷ texts) is = absurd is
-checked_texts before after (line ∷ lines) [] is = absurd is
 checked_texts before after (line ∷ lines) (text ∷ texts) (between, said, rest) = search (checked_texts between after lines texts rest)
+checked_texts before after lines texts is = absurd is
 
 -- and at the end it is known whether each is a message
 checked_lines : (before after : Bool) (lines : List Line) (texts : List (Option (List ℕ))) → AreReplies IsChecked before lines texts after
     → after ≡ (before && list_all is_message lines)
-checked_lines before after [] [] is = is ∙ and_all before
-checked_lines before after [] (text ∷ texts) is = absurd is
-checked_lines before after (line ∷ lines) [] is = absurd is
+checked_lines before after [] [] is = grind arith
 checked_lines before after (line ∷ lines) (text ∷ texts) (between, said, rest) = grind (arith, checked_lines between after lines texts rest)
+checked_lines before after lines texts is = absurd is
 
 -- the refusals of an input went out
 refusals_written : (bytes : List ℕ) (after : Bool) (old new : Option (List ℕ)) → Served IsChecked true bytes after old new

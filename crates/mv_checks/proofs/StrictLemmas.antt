@@ -17,10 +17,9 @@ use Rattle.mv_checks.specs.declared.strict.Untaken.{Untaken}
 replies_uncounted : (before after : Strict) (lines : List Line) (texts : List (Option (List ℕ))) → AreReplies IsStrictReply before lines texts after
     → AreReplies IsReply before.world lines texts after.world
 replies_uncounted before after [] [] is = ap (λ (s : Strict). s.world) is
-replies_uncounted before after [] (text ∷ texts) is = absurd is
-replies_uncounted before after (line ∷ lines) [] is = absurd is
 replies_uncounted before after (line ∷ lines) (text ∷ texts) (between, (answered, taken, text_is, counted), rest) =
     (between.world, (answered, taken, text_is), replies_uncounted between after lines texts rest)
+replies_uncounted before after lines texts is = absurd is
 
 uncounted : {before after : Strict} {count : ℕ} {ps : List (List ℕ)} {out : List ℕ} → AreAnswered IsStrictReply count before ps after out
     → AreAnswered IsReply count before.world ps after.world out

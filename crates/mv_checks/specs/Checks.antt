@@ -1,34 +1,18 @@
 -- What is said of messages that are only checked: the refusal of each that is refused, with the number of its line.
-use Rattle.std.specs.Prelude.{◌≡◌, ◌&&◌, ℕ, List, map, codes, Bool, Option, Some, None, Result, Ok, Err, is_ok, if◌then◌else◌}
+use Rattle.std.specs.Prelude.{◌≡◌, ◌&&◌, ℕ, List, map, Bool, Option, Some, None, Result, Ok, Err, is_ok}
 use Rattle.std.specs.List.{list_all}
-use Rattle.std.specs.Ordering.{nat_cmp, is_lt}
-use Rattle.std.specs.Cmp.Lexicographic.{slice_cmp}
-use Rattle.serde_json.specs.Data.{Data, object, Members, no_members, member}
 use Rattle.serde_json.specs.Written.{compact_text}
 use Rattle.mv_json.specs.Messages.{read_bytes}
-use Rattle.mv_json.specs.Values.{whole}
 use Rattle.mv_json.specs.declared.fault.MessageFault.{MessageFault}
 use Rattle.mv_message.specs.declared.message.Message.{Message}
 use Rattle.mv_engine.specs.Lines.{Line, lines_from, pieces}
 use Rattle.mv_engine.specs.Replies.{said_texts, text_lines}
 use Rattle.mv_format.specs.ReplyLines.{message_fault_value}
 
--- members whose keys ascend, with one more at its place
-abbrev pub with_member : List ℕ → Data → Members → Members
-with_member key value no_members = member key value no_members
-with_member key value (member other held members) =
-    if is_lt (slice_cmp nat_cmp key other) then member key value (member other held members)
-    else member other held (with_member key value members)
-
--- an object, with the number of a line as one more member
-abbrev pub with_line : ℕ → Data → Data
-with_line number (object members) = object (with_member (codes "line") (whole number) members)
-with_line number value = value
-
 -- what is said of a line by what reading it gives: nothing of a message, else its refusal with the number of the line
 abbrev pub check_text : ℕ → Result Message MessageFault → Option (List ℕ)
 check_text number (Ok message) = None
-check_text number (Err fault) = Some (compact_text (with_line number (message_fault_value fault)))
+check_text number (Err fault) = Some (compact_text (message_fault_value (Some number) fault))
 
 -- what is said of a line
 abbrev pub checked : Line → Option (List ℕ)

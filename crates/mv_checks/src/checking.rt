@@ -2,16 +2,13 @@
 
 ghost use Rattle.std.specs.Prelude.{◌≡◌, ℕ, List, true, IfOk, IfErr, IfSome};
 ghost use Rattle.std.specs.Io.KnownBytes.{Appends, Consumes};
-ghost use Rattle.mv_json.specs.Messages.{read_bytes};
-ghost use Rattle.mv_json.specs.Reading.{GivesOr};
 ghost use Rattle.mv_engine.specs.Served.{Served, Ended};
 ghost use Rattle.mv_checks.specs.Checks.{IsChecked, are_messages, refusals_of};
 
-use crate::refusing::append_refusal;
 use json::Scratch;
+use mv_format::append_refusal;
 use mv_json::MessageFault;
 use mv_lines::{Answering, ServeFault, answer_lines};
-use mv_message::Message;
 use std::alloc::{AllocError, Global};
 use std::io::{Read, Write};
 use std::marker::Model;
@@ -39,27 +36,14 @@ impl Answering for Checker {
     ghost replies = { IsChecked };
 
     fn answer(&mut self, number: u32, line: &[u8], out: &mut Vec<u8>) -> Result<bool, AllocError> {
-        match self.read(line) {
+        match mv_json::read_in(self.alloc, &mut self.scratch, line) {
             Ok(_) => Ok(false),
             Err(MessageFault::Memory) => Err(AllocError),
             Err(fault) => {
-                append_refusal(self.alloc, out, &fault, number)?;
+                append_refusal(self.alloc, out, &fault, Some(number))?;
                 self.all_messages = false;
                 Ok(true)
             }
-        }
-    }
-}
-
-impl Checker {
-    /// Reads a message: by its tokens, and what these give no message of by its value.
-    fn read(&mut self, line: &[u8]) -> Result<Message, MessageFault>
-        ensures read { GivesOr result (read_bytes line.now) MessageFault.Memory }
-        ensures same { self.new ≡ self.old }
-    {
-        match mv_json::read_by_tokens(self.alloc, &mut self.scratch, line) {
-            Some(message) => Ok(message),
-            None => mv_json::read(self.alloc, line),
         }
     }
 }

@@ -17,7 +17,6 @@
 #![tactic(auto)]
 
 mod checking;
-mod refusing;
 mod strict;
 
 pub use checking::check;

@@ -1,5 +1,5 @@
 -- The keys of replies ascend.
-use Rattle.std.proofs.Common.{◌≡◌, ℕ, true, List, [], ◌∷◌, refl, rules, None, Some}
+use Rattle.std.proofs.Common.{◌≡◌, ℕ, true, List, [], ◌∷◌, refl, rules, Option, None, Some}
 use Rattle.mv_format.proofs.Words.{Character, LineFault, Members, field_name, keys_of, object}
 use Rattle.std.specs.Ordering.{nat_cmp}
 use Rattle.std.specs.Cmp.Lexicographic.{slice_cmp}
@@ -29,22 +29,25 @@ wholes_ascend (n ∷ ns) = (tt, wholes_ascend ns)
 ordered : (members : Members) → rises (slice_cmp nat_cmp) (keys_of members) ≡ true → MembersKeysAscend members → IsOrdered (object members)
 ordered members up each = (members, refl, (strictly_sorted (slice_cmp nat_cmp) (keys_of members) up, each))
 
-pack_ordered : (fault : PackFault) (field : List ℕ) → IsOrdered (refused_pack fault field)
+pack_ordered : (line : Option ℕ) (fault : PackFault) (field : List ℕ) → IsOrdered (refused_pack line fault field)
 unfolding rises
-pack_ordered (Character place) field = ordered _ refl (search rules)
-pack_ordered fault field = ordered _ refl (search rules)
+pack_ordered None (Character place) field = ordered _ refl (search rules)
+pack_ordered None fault field = ordered _ refl (search rules)
+pack_ordered (Some n) (Character place) field = ordered _ refl (search rules)
+pack_ordered (Some n) fault field = ordered _ refl (search rules)
 
 -- the value of the refusal of a message
-message_fault_ordered : (fault : MessageFault) → IsOrdered (message_fault_value fault)
+message_fault_ordered : (line : Option ℕ) (fault : MessageFault) → IsOrdered (message_fault_value line fault)
 unfolding rises
-message_fault_ordered (message.Pack field fault) = pack_ordered fault (message_field_name field)
-message_fault_ordered fault = ordered _ refl (search rules)
+message_fault_ordered line (message.Pack field fault) = pack_ordered line fault (message_field_name field)
+message_fault_ordered None fault = ordered _ refl (search rules)
+message_fault_ordered (Some n) fault = ordered _ refl (search rules)
 
 -- the value of the refusal of a line
 line_fault_ordered : (fault : LineFault) → IsOrdered (line_fault_value fault)
 unfolding rises
-line_fault_ordered (line.Pack field fault) = pack_ordered fault (field_name field)
-line_fault_ordered (line.Message fault) = message_fault_ordered fault
+line_fault_ordered (line.Pack field fault) = pack_ordered None fault (field_name field)
+line_fault_ordered (line.Message fault) = message_fault_ordered None fault
 line_fault_ordered fault = ordered _ refl (search rules)
 
 verdict_ordered : (verdict : Verdict) → IsOrdered (verdict_value verdict)

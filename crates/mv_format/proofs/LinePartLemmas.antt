@@ -1,27 +1,20 @@
 -- What stands in the fields of a line: its tokens, and what it asks.
-use Rattle.std.proofs.Common.{◌≡◌, ◌<◌, ◌^◌, ℕ, List, [], ◌∷◌, ◌++◌, length, ap, subst, refl, arith, lt-ltb, Option, Some, None, Ok, All, Contains, IfSome, IsUtf8, ◌≢◌}
-use Rattle.mv_format.proofs.Words.{Data, LineField, LineKind, Request, Step, Token, as_object, begin_object, end_object, field_name, get, key, keys_of, kind_at, message_at, names_of, nat_tests, none_unknown, number_at, read_at, read_line, read_request, request_at, shape_of, string, unsigned, whole}
+use Rattle.std.proofs.Common.{◌≡◌, ◌<◌, ◌^◌, ℕ, List, [], ◌∷◌, ◌++◌, length, ap, subst, refl, arith, lt-ltb, Some, Ok, All, Contains, IsUtf8, ◌≢◌}
+use Rattle.mv_format.proofs.Words.{Data, LineField, LineKind, Request, Token, as_object, begin_object, end_object, field_name, get, key, keys_of, kind_at, message_at, names_of, nat_tests, none_unknown, number_at, read_line, read_request, request_at, shape_of, unsigned, whole}
 use Rattle.mv_format.specs.declared.line_part.LineEntry.{LineEntry}
 use Rattle.json.specs.Json.{value}
 use Rattle.json.specs.Lex.{tokens}
 use Rattle.serde_json.specs.Read.{number_of}
-use Rattle.mv_machine.specs.declared.step.Step.{Step as AnyStep}
-use Rattle.mv_json.specs.Met.{BeginWith}
-use Rattle.mv_json.specs.Parts.{IsText}
-use Rattle.mv_json.proofs.MetLemmas.{AreMet, none_met, one_more_met, all_met, begun_shorter, converted_some, text_begins, whole_begins, stands, known_only}
+use Rattle.mv_json.specs.Met.{IsOneOf}
+use Rattle.mv_json.proofs.MetLemmas.{AreMet, none_met, one_more_met, all_met, begun_shorter, converted_some, whole_begins, stands, known_only}
 use Rattle.mv_json.proofs.ValueLemmas.{utf8_test}
 use Rattle.mv_format.specs.declared.line_part.LinePart.{LinePart}
-use Rattle.mv_format.specs.LineParts.{Asks, BeginWithEntries, BeginWithPart, HasKind, IsPart, Tells, TellsPart, entry, entry_name}
+use Rattle.mv_format.specs.LineParts.{Asks, BeginWithEntries, BeginWithPart, HasEntries, IsPart, TellsPart, entry, entry_name}
 use Rattle.json.specs.Token as token
 use Rattle.mv_format.specs.declared.field.LineField.TheVariants as fields
 use Rattle.mv_format.specs.declared.line_part.LinePart.TheVariants as parts
 
 -- ---- tokens
-
--- a value that is a text of which this holds
-pub text_says : (Holds : List ℕ → Type 0) (ts rest : List Token) (text : List ℕ) → ts ≡ token.string text ∷ rest → Holds text
-    → (found : Data) × BeginWith 3 ts found rest × IsText found Holds
-text_says Holds ts rest text is holds = (string text, rw is (text_begins 3 text rest), (text, refl, holds))
 
 -- a value that is a whole number of 32 bits
 pub number_says : (ts rest : List Token) (n : ℕ) (text : List ℕ) → ts ≡ token.number text ∷ rest → number_of text ≡ Some (unsigned n) → n < 2 ^ 32
@@ -62,40 +55,27 @@ part_shorter ts rest part (found, begins, says) = begun_shorter 3 ts rest found 
 
 -- so each part tells what its field is read as
 pub part_told : (entries : List LineEntry) (field : LineField) (part : LinePart) → Contains entries (entry field part) → TellsPart entries field part
-unfolding number_at read_at message_at
-part_told entries field (parts.Gtin gtin) met = λ value has.
-    let (there, at, (text, is, read)) = stands (entry field (parts.Gtin gtin)) has met in rw (at, is, read)
-part_told entries field (parts.Kind kind) met = met
+unfolding number_at message_at
 part_told entries field (parts.Message message) met = λ same value has.
     let (there, stands_at, read) = stands (entry field (parts.Message message)) has met in
     let found : get (field_name fields.Message) value ≡ Some there = subst (λ (f : LineField). get (field_name f) value ≡ Some there) same stands_at in rw (found, read)
 part_told entries field (parts.Number n) met = λ value has.
     let (there, at, (is, within)) = stands (entry field (parts.Number n)) has met in rw (at, is, lt-ltb _ _ within)
-part_told entries field (parts.Serial serial) met = λ value has.
-    let (there, at, (text, is, read)) = stands (entry field (parts.Serial serial)) has met in rw (at, is, read)
-
-kind_told : (entries : List LineEntry) (kind : LineKind) → HasKind entries kind → Tells kind_at entries kind
-unfolding kind_at
-kind_told entries kind met value has = grind (arith, nat_tests, stands (entry fields.Do (parts.Kind kind)) has met)
+part_told entries field (parts.Text text) met = λ value has.
+    let (there, at, is) = stands (entry field (parts.Text text)) has met in rw (at, is)
 
 -- ---- what a line asks
 
--- a line of that kind, which has no other field, asks what its fields tell
-pub request_told : (entries : List LineEntry) (kind : LineKind) (request : Request) → HasKind entries kind
-    → All (λ met. Contains (fields.Do ∷ (shape_of kind).others) met.field) entries → Tells (request_at kind) entries request
-    → Tells read_request entries request
+-- an object that has no other field than those of its kind asks what they do
+pub request_read : (value : Data) (entries : List LineEntry) (kind : LineKind) (request : Request) → HasEntries value entries
+    → All (λ met. IsOneOf (fields.Do ∷ (shape_of kind).others) met.field) entries → kind_at value ≡ Ok kind
+    → request_at kind value ≡ Ok request → read_request value ≡ Ok request
 unfolding read_request
-request_told entries kind request named among tells value has =
+request_read value entries kind request has among named asks =
     let (members, is_object, known) = known_only field_name (λ met. met.field) (fields.Do ∷ (shape_of kind).others) has among in
     let opened : as_object value ≡ Some members = ap as_object is_object in
-    rw (opened, kind_told entries kind named value has, none_unknown (names_of kind) (keys_of members) known) (tells value has)
+    rw (opened, named, none_unknown (names_of kind) (keys_of members) known) asks
 
--- the line asks the step that its tokens ask
-line_asks : (s : List ℕ) (step : AnyStep) → IsUtf8 s → Asks (tokens s) step [] → read_line s ≡ Ok (Step step)
-line_asks s step utf8 (found, begins, asks) = grind (arith, nat_tests, converted_some, utf8_test)
-
--- the same of a step that there may be
-pub maybe_asks : (s : List ℕ) (step : Option AnyStep) → IsUtf8 s → IfSome step (λ asked. Asks (tokens s) asked [])
-    → IfSome step (λ asked. read_line s ≡ Ok (Step asked))
-maybe_asks s None utf8 are = tt
-maybe_asks s (Some step) utf8 are = line_asks s step utf8 are
+-- the line asks what its tokens ask
+pub line_asks : (s : List ℕ) (request : Request) → IsUtf8 s → Asks (tokens s) request [] → read_line s ≡ Ok request
+line_asks s request utf8 (found, begins, asks) = grind (arith, nat_tests, converted_some, utf8_test)

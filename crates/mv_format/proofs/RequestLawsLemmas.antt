@@ -1,7 +1,7 @@
 -- The laws of the line that asks a request: it is read as that request, and what any line asks is legal.
 use Rattle.std.proofs.Common.{◌≡◌, ◌<◌, ℕ, ◌^◌, List, [], ◌∷◌, map, refl, subst, arith, true, lt-ltb, Bool, ok_or, Option, Some, option_and_then, Result, Ok, Err, IfOk}
-use Rattle.mv_format.proofs.Words.{AllByRecursion, Asking, Data, IsMarket, Kind, LineFault, LineField, LineKind, Memory, Open, Request, Step, Unknown, array, as_number, as_str, as_u64, asked_at, items_of, kind_at, list_all, market_lists_at, member_at, message_at, nat_tests, number_at, of_32_bits, read_at, read_is_legal, read_request, reads_back, request_at, shape_of, string, strings}
-use Rattle.mv_json.specs.Reading.{map_err, each_of, as_list, GivesOr, ◌and_then◌}
+use Rattle.mv_format.proofs.Words.{AllByRecursion, Asking, Data, IsMarket, Kind, LineFault, LineField, LineKind, Open, Request, Step, Unknown, array, as_number, as_str, as_u64, asked_at, items_of, kind_at, list_all, market_lists_at, member_at, message_at, nat_tests, number_at, of_32_bits, read_at, read_is_legal, read_request, reads_back, request_at, shape_of, string, strings}
+use Rattle.mv_json.specs.Reading.{map_err, each_of, as_list, ◌and_then◌}
 use Rattle.std.specs.Option.{option_map_or}
 use Rattle.std.proofs.lemmas.Bool.{and_parts}
 use Rattle.mv_pack.proofs.CodeLemmas.{read_code_of, read_code_is_code}
@@ -119,12 +119,6 @@ request_gave kind value = asked_gave (shape_of kind).others (shape_of kind).asks
 -- what reading gives, where no key is unknown
 abbrev unless_unknown : {A : Type 0} → Option (List ℕ) → Result A LineFault → Result A LineFault
 unless_unknown o reading = option_map_or (λ key. Err (Unknown key)) o reading
-
--- whoever takes the kind, where no key is unknown, and then reads the fields by it, reads them where no key is unknown
-pub known_gives : (result : Result Request LineFault) (o : Option (List ℕ)) (kind known : LineKind) (value : Data)
-    → unless_unknown o (Ok kind) ≡ Ok known → GivesOr result (request_at known value) Memory
-    → GivesOr result (unless_unknown o (request_at kind value)) Memory
-known_gives result o kind known value taken gives = grind (arith, nat_tests)
 
 known_gave : (o : Option (List ℕ)) (reading : Result Request LineFault) → IfOk reading IsLegalRequest → IfOk (unless_unknown o reading) IsLegalRequest
 known_gave o reading gave = grind (arith, nat_tests)

@@ -12,7 +12,7 @@ pub use Rattle.mv_format.specs.Requests.{asked_at, read_line}
 unfoldable pub use Rattle.mv_format.specs.Requests.{read_request, request_at}
 pub use Rattle.mv_format.specs.Writing.{entry_of, entry_tokens, member_tokens, member_where, members_of}
 unfoldable pub use Rattle.mv_format.specs.Writing.{tokens_of}
-pub use Rattle.mv_format.specs.declared.line_fault.LineFault.TheVariants.{Kind, Memory, Pack, Unknown}
+pub use Rattle.mv_format.specs.declared.line_fault.LineFault.TheVariants.{Kind, Pack, Unknown}
 pub use Rattle.mv_json.proofs.ReadsLemmas.{none_unknown, read_is_legal, reads_back}
 pub use Rattle.mv_json.specs.Members.{keys_of}
 pub use Rattle.serde_json.specs.Data.{Data, Items, Members, array, item, no_items, object, string, unsigned}

@@ -1,25 +1,22 @@
 -- What stands in the fields of a line, as they are met in its object; and the tokens of JSON that it is read from.
-use Rattle.std.specs.Prelude.{◌≡◌, ◌<◌, ◌^◌, ℕ, List, Contains, Some, Result, Ok}
-use Rattle.mv_format.specs.Words.{Data, LineFault, LineField, LineKind, Step as AStep, Token, read_code, read_gtin, read_message, whole}
-use Rattle.mv_machine.specs.declared.step.Step.{Step}
+use Rattle.std.specs.Prelude.{◌≡◌, ◌<◌, ◌^◌, ℕ, List, Result, Ok}
+use Rattle.mv_format.specs.Words.{Data, GivesOr, LineFault, LineField, Memory, Request, Token, read_message, string, view, whole}
 use Rattle.mv_json.specs.Met.{BeginWith, HasMet}
-use Rattle.mv_json.specs.Parts.{IsText}
 use Rattle.mv_format.specs.declared.line_part.LineEntry.{LineEntry}
+use Rattle.mv_format.specs.declared.line_part.LineObject.{LineObject}
 use Rattle.mv_format.specs.declared.line_part.LinePart.{LinePart}
 use Rattle.mv_format.specs.Fields.{field_name}
-use Rattle.mv_format.specs.Kinds.{kind_named}
-use Rattle.mv_format.specs.Reading.{message_at, number_at, read_at}
+use Rattle.mv_format.specs.Reading.{message_at, number_at, text_at}
 use Rattle.mv_format.specs.Requests.{read_request}
 use Rattle.mv_format.specs.declared.field.LineField.TheVariants as fields
+use Rattle.mv_format.specs.declared.line_part.LineObject.TheVariants as objects
 use Rattle.mv_format.specs.declared.line_part.LinePart.TheVariants as parts
 
--- what a value says, read by its kind
+-- what a value says
 abbrev pub IsPart : Data → LinePart → Type 0
-IsPart found (parts.Gtin gtin) = IsText found (λ text. read_gtin text ≡ Ok gtin)
-IsPart found (parts.Kind kind) = IsText found (λ text. kind_named text ≡ Some kind)
 IsPart found (parts.Message message) = read_message found ≡ Ok message
 IsPart found (parts.Number number) = (found ≡ whole number) × (number < 2 ^ 32)
-IsPart found (parts.Serial serial) = IsText found (λ text. read_code text ≡ Ok serial)
+IsPart found (parts.Text text) = found ≡ string text.now
 
 -- a field, and what stands there
 abbrev pub entry : LineField → LinePart → LineEntry
@@ -32,10 +29,6 @@ entry_name met = field_name met.field
 -- an object has these fields, and no other
 abbrev pub HasEntries : Data → List LineEntry → Type 0
 HasEntries found entries = HasMet entry_name (λ part met. IsPart part met.part) found entries
-
--- among the fields is the one that names this kind
-abbrev pub HasKind : List LineEntry → LineKind → Type 0
-HasKind entries kind = Contains entries (entry fields.Do (parts.Kind kind))
 
 -- the tokens are a value that says this part, then the rest
 abbrev pub BeginWithPart : List Token → LinePart → List Token → Type 0
@@ -51,12 +44,19 @@ Tells reading entries x = (value : Data) → HasEntries value entries → readin
 
 -- what an object that has these fields tells of this one, in which this part was met
 abbrev pub TellsPart : List LineEntry → LineField → LinePart → Type 0
-TellsPart entries field (parts.Gtin gtin) = Tells (read_at read_gtin field) entries gtin
-TellsPart entries field (parts.Kind kind) = Contains entries (entry field (parts.Kind kind))
 TellsPart entries field (parts.Message message) = (field ≡ fields.Message) → Tells message_at entries message
 TellsPart entries field (parts.Number number) = Tells (number_at field) entries number
-TellsPart entries field (parts.Serial serial) = Tells (read_at read_code field) entries serial
+TellsPart entries field (parts.Text text) = Tells (text_at field) entries text.now
 
--- the tokens are an object that asks this step, then the rest
-abbrev pub Asks : List Token → Step → List Token → Type 0
-Asks ts step rest = (found : Data) × BeginWith 4 ts found rest × (read_request found ≡ Ok (AStep step))
+-- the object is that value
+abbrev pub Stands : Data → LineObject → Type 0
+Stands value (objects.Met entries) = HasEntries value entries.now
+Stands value (objects.Value said) = value ≡ view said.now
+
+-- a reading of the object gives this, or want of memory stands in its place
+abbrev pub MayGive : {A : Type 0} → (Data → Result A LineFault) → LineObject → Result A LineFault → Type 0
+MayGive reading object result = (value : Data) → Stands value object → GivesOr result (reading value) Memory
+
+-- the tokens are an object that asks this, then the rest
+abbrev pub Asks : List Token → Request → List Token → Type 0
+Asks ts request rest = (found : Data) × BeginWith 4 ts found rest × (read_request found ≡ Ok request)

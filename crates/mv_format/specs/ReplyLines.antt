@@ -34,40 +34,51 @@ numbered key n = object_of ((key, whole n) ∷ [])
 abbrev pub refused : List ℕ → Data
 refused code = object_of ((codes "refused", string code) ∷ [])
 
--- a refusal that names a field
-abbrev pub refused_field : List ℕ → List ℕ → Data
-refused_field field code = object_of ((codes "field", string field) ∷ (codes "refused", string code) ∷ [])
+-- a whole number under a key, where there is one
+abbrev pub number_where : List ℕ → Option ℕ → List (List ℕ × Data)
+number_where key None = []
+number_where key (Some n) = (key, whole n) ∷ []
 
--- where in a text the character is that is none of a code (P6)
-abbrev pub place_of : PackFault → List (List ℕ × Data)
-place_of (Character place) = (codes "place", whole place) ∷ []
-place_of fault = []
+-- a refusal by its number, with the number of a line, where that is said
+abbrev pub refused_at : Option ℕ → List ℕ → Data
+refused_at line code = object_of (number_where (codes "line") line ++ (codes "refused", string code) ∷ [])
+
+-- a refusal that names a field
+abbrev pub refused_field : Option ℕ → List ℕ → List ℕ → Data
+refused_field line field code =
+    object_of ((codes "field", string field) ∷ number_where (codes "line") line ++ (codes "refused", string code) ∷ [])
+
+-- of a text with a wrong character (P6) the place of that
+abbrev pub place_of : PackFault → Option ℕ
+place_of (Character place) = Some place
+place_of fault = None
 
 -- the refusal of a text that is no value (M6): why it is none, and its field
-abbrev pub refused_pack : PackFault → List ℕ → Data
-refused_pack fault field = object_of (
-    (codes "fault", string (pack_code fault)) ∷ (codes "field", string field) ∷ place_of fault ++ (codes "refused", string (codes "M6")) ∷ []
+abbrev pub refused_pack : Option ℕ → PackFault → List ℕ → Data
+refused_pack line fault field = object_of (
+    (codes "fault", string (pack_code fault)) ∷ (codes "field", string field) ∷ number_where (codes "line") line
+    ++ number_where (codes "place") (place_of fault) ++ (codes "refused", string (codes "M6")) ∷ []
     )
 
--- the refusal of a fault of a message
-abbrev pub message_fault_value : MessageFault → Data
-message_fault_value (message.Missing field) = refused_field (message_field_name field) (codes "M3")
-message_fault_value (message.Unknown key) = refused_field key (codes "M4")
-message_fault_value (message.Kind field) = refused_field (message_field_name field) (codes "M5")
-message_fault_value (message.Pack field fault) = refused_pack fault (message_field_name field)
-message_fault_value (message.Count field) = refused_field (message_field_name field) (codes "M7")
-message_fault_value (message.TextLength field) = refused_field (message_field_name field) (codes "M8")
-message_fault_value fault = refused (message_code fault)
+-- the refusal of a fault of a message, with the number of its line, where that is said
+abbrev pub message_fault_value : Option ℕ → MessageFault → Data
+message_fault_value line (message.Missing field) = refused_field line (message_field_name field) (codes "M3")
+message_fault_value line (message.Unknown key) = refused_field line key (codes "M4")
+message_fault_value line (message.Kind field) = refused_field line (message_field_name field) (codes "M5")
+message_fault_value line (message.Pack field fault) = refused_pack line fault (message_field_name field)
+message_fault_value line (message.Count field) = refused_field line (message_field_name field) (codes "M7")
+message_fault_value line (message.TextLength field) = refused_field line (message_field_name field) (codes "M8")
+message_fault_value line fault = refused_at line (message_code fault)
 
 -- the refusal of a fault of a line
 abbrev pub line_fault_value : LineFault → Data
 line_fault_value line.NotJson = refused (codes "M1")
 line_fault_value line.NotObject = refused (codes "M2")
-line_fault_value (line.Missing field) = refused_field (field_name field) (codes "M3")
-line_fault_value (line.Unknown key) = refused_field key (codes "M4")
-line_fault_value (line.Kind field) = refused_field (field_name field) (codes "M5")
-line_fault_value (line.Pack field fault) = refused_pack fault (field_name field)
-line_fault_value (line.Message fault) = message_fault_value fault
+line_fault_value (line.Missing field) = refused_field None (field_name field) (codes "M3")
+line_fault_value (line.Unknown key) = refused_field None key (codes "M4")
+line_fault_value (line.Kind field) = refused_field None (field_name field) (codes "M5")
+line_fault_value (line.Pack field fault) = refused_pack None fault (field_name field)
+line_fault_value (line.Message fault) = message_fault_value None fault
 line_fault_value line.Memory = refused (codes "M9")
 
 -- the refusal of a step: S6 names the party whose link has no room
@@ -86,11 +97,6 @@ abbrev pub counts_of : Effect → List (List ℕ × Data)
 counts_of (Uploaded new old) = (codes "new", whole new) ∷ (codes "old", whole old) ∷ []
 counts_of effect = []
 
--- the answer that was called for
-abbrev pub answer_of : Option ℕ → List (List ℕ × Data)
-answer_of None = []
-answer_of (Some k) = (codes "answer", whole k) ∷ []
-
 -- the reply to a step
 abbrev pub reply_value : Reply → Data
 reply_value (replies.Submitted k) = numbered (codes "submitted") k
@@ -99,7 +105,9 @@ reply_value (replies.Relayed n) = numbered (codes "relayed") n
 reply_value (replies.Known verdict) = verdict_value verdict
 reply_value (replies.Asked q) = numbered (codes "asked") q
 reply_value (replies.Applied n effect answer) =
-    object_of (answer_of answer ++ (codes "applied", whole n) ∷ (codes "effect", string (effect_code effect)) ∷ counts_of effect)
+    object_of (
+    number_where (codes "answer") answer ++ (codes "applied", whole n) ∷ (codes "effect", string (effect_code effect)) ∷ counts_of effect
+    )
 reply_value (replies.Old n) = numbered (codes "old") n
 reply_value (replies.Gap n expected) = object_of ((codes "expected", whole expected) ∷ (codes "gap", whole n) ∷ [])
 reply_value (replies.Repeated n) = numbered (codes "repeated") n

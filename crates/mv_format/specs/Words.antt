@@ -3,7 +3,7 @@ pub use Rattle.json.specs.Token.{Token, begin_object, end_object, key}
 pub use Rattle.mv_format.specs.declared.field.LineField.{LineField}
 pub use Rattle.mv_format.specs.declared.kind.LineKind.{LineKind}
 pub use Rattle.mv_format.specs.declared.line_fault.LineFault.{LineFault}
-pub use Rattle.mv_format.specs.declared.line_fault.LineFault.TheVariants.{Kind, NotJson, NotObject, Pack, Unknown}
+pub use Rattle.mv_format.specs.declared.line_fault.LineFault.TheVariants.{Kind, Memory, NotJson, NotObject, Pack, Unknown}
 pub use Rattle.mv_format.specs.declared.request.Request.{Request}
 pub use Rattle.mv_format.specs.declared.request.Request.TheVariants.{Open, Step}
 pub use Rattle.mv_json.specs.Members.{first_unknown}
@@ -20,6 +20,6 @@ pub use Rattle.mv_pack.specs.declared.fault.PackFault.{PackFault}
 pub use Rattle.mv_pack.specs.declared.fault.PackFault.TheVariants.{Character, Market}
 pub use Rattle.serde_json.specs.Data.{Data, Items, Members, array, boolean, item, member, no_items, no_members, null, object, string}
 pub use Rattle.serde_json.specs.Find.{as_array, as_object, as_str, get}
-pub use Rattle.serde_json.specs.View.{items_of, items_view, members_view, view}
+pub use Rattle.serde_json.specs.View.{items_of, items_view, view}
 pub use Rattle.std.specs.List.{AllByRecursion, list_all}
 pub use Rattle.std.specs.Option.{option_map_or}

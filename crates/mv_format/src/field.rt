@@ -1,7 +1,5 @@
 //! The fields of a line.
 
-ghost use Rattle.std.specs.Prelude.{◌≡◌};
-
 use mv_json::members::Named;
 
 /// A field of a line, other than those of the message that it holds.
@@ -43,17 +41,6 @@ impl Named for LineField {
     ghost name = { field_name };
 
     fn name(&self) -> &'static str {
-        self.as_str()
-    }
-}
-
-impl LineField {
-    ghost use Rattle.mv_format.specs.Fields.{field_name};
-
-    /// The name of the field.
-    pub(crate) fn as_str(self) -> &'static str
-        ensures { result.now ≡ field_name self }
-    {
         match self {
             LineField::Do => "do",
             LineField::From => "from",

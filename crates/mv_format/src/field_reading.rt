@@ -1,12 +1,15 @@
 //! Reads the fields of a line, one at a time, each with its own faults in their order.
 
-ghost use Rattle.std.specs.Prelude.{◌≡◌, option_and_then, MatchResult, Ok, Err};
-ghost use Rattle.mv_format.specs.Words.{GivesOr, read_code, read_gtin, view, whole_number};
+ghost use Rattle.std.specs.Prelude.{◌≡◌, ◌≢◌, option_and_then, MatchResult, Ok, Err};
+ghost use Rattle.mv_format.specs.Words.{Data, GivesOr, read_code, read_gtin, view, whole_number};
+ghost use Rattle.mv_format.specs.LineParts.{MayGive, Stands};
 ghost use Rattle.mv_format.specs.Reading.{member_at, text_at, read_at, of_32_bits, number_at, message_at};
 
+use crate::line_part::{LineObject, LinePart, find};
 use crate::{LineFault, LineField};
 use mv_json::MessageFault;
-use mv_message::Message;
+use mv_json::members::Named;
+use mv_message::{Message, Shared};
 use mv_pack::{Gtin, Serial};
 use serde_json::Value;
 use std::alloc::Global;
@@ -17,42 +20,56 @@ pub(crate) fn member_of(value: &Value, field: LineField) -> Result<&Value, LineF
         (λ member. member_at field (view value.now) ≡ Ok (view member.now))
         (λ fault. member_at field (view value.now) ≡ Err fault) }
 {
-    value.get(field.as_str()).ok_or(LineFault::Missing(field))
+    value.get(field.name()).ok_or(LineFault::Missing(field))
 }
 
 /// The text of a field: M3, M5.
-pub(crate) fn text_of(value: &Value, field: LineField) -> Result<&str, LineFault>
-    ensures { MatchResult result
-        (λ text. text_at field (view value.now) ≡ Ok text.now)
-        (λ fault. text_at field (view value.now) ≡ Err fault) }
+pub(crate) fn text_of<'a>(object: LineObject<'a>, field: LineField) -> Result<&'a str, LineFault>
+    ensures { (value : Data) → Stands value object.entry → MatchResult result
+        (λ text. text_at field value ≡ Ok text.now)
+        (λ fault. fault ≢ LineFault.Memory → text_at field value ≡ Err fault) }
 {
-    member_of(value, field)?
-        .as_str()
-        .ok_or(LineFault::Kind(field))
+    match object {
+        LineObject::Met(entries) => match find(entries, field) {
+            Some(LinePart::Text(text)) => Ok(text),
+            _ => Err(LineFault::Memory),
+        },
+        LineObject::Value(value) => member_of(value, field)?
+            .as_str()
+            .ok_or(LineFault::Kind(field)),
+    }
 }
 
 /// The product code of a field: M3, M5, M6.
 #[tactic(auto, unfolding(crate::specs::Reading::read_at))]
-pub(crate) fn gtin_of(value: &Value, field: LineField) -> Result<Gtin, LineFault>
-    ensures { result ≡ read_at read_gtin field (view value.now) }
+pub(crate) fn gtin_of(object: LineObject<'_>, field: LineField) -> Result<Gtin, LineFault>
+    ensures { MayGive (read_at read_gtin field) object.entry result }
 {
-    Gtin::read(text_of(value, field)?).map_err(|fault| LineFault::Pack(field, fault))
+    Gtin::read(text_of(object, field)?).map_err(|fault| LineFault::Pack(field, fault))
 }
 
 /// The serial number of a field: M3, M5, M6.
 #[tactic(auto, unfolding(crate::specs::Reading::read_at))]
-pub(crate) fn serial_of(value: &Value, field: LineField) -> Result<Serial, LineFault>
-    ensures { result ≡ read_at read_code field (view value.now) }
+pub(crate) fn serial_of(object: LineObject<'_>, field: LineField) -> Result<Serial, LineFault>
+    ensures { MayGive (read_at read_code field) object.entry result }
 {
-    Serial::read(text_of(value, field)?).map_err(|fault| LineFault::Pack(field, fault))
+    Serial::read(text_of(object, field)?).map_err(|fault| LineFault::Pack(field, fault))
 }
 
 /// The whole number of a field, up to 4,294,967,295: M3, M5.
 #[tactic(auto, unfolding(crate::specs::Reading::number_at))]
-pub(crate) fn number_of(value: &Value, field: LineField) -> Result<u32, LineFault>
-    ensures { result ≡ number_at field (view value.now) }
+pub(crate) fn number_of(object: LineObject<'_>, field: LineField) -> Result<u32, LineFault>
+    ensures { MayGive (number_at field) object.entry result }
 {
-    whole_number(member_of(value, field)?).ok_or(LineFault::Kind(field))
+    match object {
+        LineObject::Met(entries) => match find(entries, field) {
+            Some(LinePart::Number(number)) => Ok(*number),
+            _ => Err(LineFault::Memory),
+        },
+        LineObject::Value(value) => {
+            whole_number(member_of(value, field)?).ok_or(LineFault::Kind(field))
+        }
+    }
 }
 
 /// The whole number of 32 bits that a value is.
@@ -63,8 +80,24 @@ fn whole_number(value: &Value) -> Option<u32>
 }
 
 /// The message of a line: M3, then the message's own faults.
+pub(crate) fn message_of(
+    alloc: Global,
+    object: LineObject<'_>,
+) -> Result<Shared<Message>, LineFault>
+    ensures { MayGive message_at object.entry result }
+{
+    match object {
+        LineObject::Met(entries) => match find(entries, LineField::Message) {
+            Some(LinePart::Message(message)) => Ok(message.share()?),
+            _ => Err(LineFault::Memory),
+        },
+        LineObject::Value(value) => Ok(Shared::new(alloc, message_in(alloc, value)?)?),
+    }
+}
+
+/// The message of a line that is a value.
 #[tactic(auto, unfolding(crate::specs::Reading::message_at))]
-pub(crate) fn message_of(alloc: Global, value: &Value) -> Result<Message, LineFault>
+fn message_in(alloc: Global, value: &Value) -> Result<Message, LineFault>
     ensures { GivesOr result (message_at (view value.now)) LineFault.Memory }
 {
     match mv_json::from_value(alloc, member_of(value, LineField::Message)?) {

@@ -1,15 +1,12 @@
 //! The kinds of lines, and the fields of each.
 
-ghost use Rattle.std.specs.Prelude.{◌≡◌, ◌∷◌, Ok, Err};
-ghost use Rattle.mv_format.specs.Words.{GivesOr, first_unknown, members_view, option_map_or, view};
-ghost use Rattle.mv_format.specs.Kinds.{kind_named, kind_at, names_of, shape_of};
+ghost use Rattle.std.specs.Prelude.{◌≡◌, ◌∷◌};
+ghost use Rattle.mv_format.specs.Kinds.{kind_named, kind_at, shape_of};
+ghost use Rattle.mv_format.specs.LineParts.{MayGive};
 
 use crate::field_reading::text_of;
+use crate::line_part::LineObject;
 use crate::{LineFault, LineField};
-use mv_json::members::first_unknown;
-use mv_message::Text;
-use serde_json::{Map, Value};
-use std::alloc::Global;
 
 /// What a line asks, which its field `do` names.
 #[derive(Clone, Copy, Debug, PartialEq, Eq)]
@@ -41,33 +38,15 @@ impl LineKind {
     pub(crate) fn fields(self) -> &'static [LineField]
         ensures { result.now ≡ LineField.Do ∷ (shape_of self).others }
     {
+        use LineField::*;
         match self {
-            LineKind::Open => &[
-                LineField::Do,
-                LineField::Parties,
-                LineField::Submissions,
-                LineField::Uplink,
-                LineField::Window,
-                LineField::Wire,
-            ],
-            LineKind::Submit => &[LineField::Do, LineField::From, LineField::Message],
-            LineKind::Route => &[LineField::Do, LineField::From],
-            LineKind::Relay | LineKind::Apply | LineKind::Close | LineKind::Lose => {
-                &[LineField::Do, LineField::From, LineField::To]
-            }
-            LineKind::Repeat => &[
-                LineField::Do,
-                LineField::From,
-                LineField::Number,
-                LineField::To,
-            ],
-            LineKind::Verify => &[
-                LineField::Do,
-                LineField::Gtin,
-                LineField::Party,
-                LineField::Serial,
-            ],
-            LineKind::Verdict => &[LineField::Do, LineField::Party, LineField::Q],
+            Self::Open => &[Do, Parties, Submissions, Uplink, Window, Wire],
+            Self::Submit => &[Do, From, Message],
+            Self::Route => &[Do, From],
+            Self::Relay | Self::Apply | Self::Close | Self::Lose => &[Do, From, To],
+            Self::Repeat => &[Do, From, Number, To],
+            Self::Verify => &[Do, Gtin, Party, Serial],
+            Self::Verdict => &[Do, Party, Q],
         }
     }
 }
@@ -93,23 +72,8 @@ pub(crate) fn kind_called(name: &str) -> Option<LineKind>
 
 /// The kind of an object: M3, M5.
 #[tactic(auto, unfolding(crate::specs::Kinds::kind_at))]
-pub(crate) fn kind_of(value: &Value) -> Result<LineKind, LineFault>
-    ensures { result ≡ kind_at (view value.now) }
+pub(crate) fn kind_of(object: LineObject<'_>) -> Result<LineKind, LineFault>
+    ensures { MayGive kind_at object.entry result }
 {
-    kind_called(text_of(value, LineField::Do)?).ok_or(LineFault::Kind(LineField::Do))
-}
-
-/// The kind, where its lines have all keys of the object; else M4 with the first other one.
-pub(crate) fn known_kind(
-    alloc: Global,
-    members: &Map<String, Value>,
-    kind: LineKind,
-) -> Result<LineKind, LineFault>
-    ensures { GivesOr result (option_map_or (λ key. Err (LineFault.Unknown key))
-        (first_unknown (names_of kind) (members_view members.now.entries)) (Ok kind)) LineFault.Memory }
-{
-    match first_unknown(members, kind.fields()) {
-        Some(key) => Err(LineFault::Unknown(Text::new(String::from_str(alloc, key)?))),
-        None => Ok(kind),
-    }
+    kind_called(text_of(object, LineField::Do)?).ok_or(LineFault::Kind(LineField::Do))
 }

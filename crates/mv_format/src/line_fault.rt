@@ -5,6 +5,7 @@ ghost use Rattle.mv_format.specs.declared.line_fault.LineFault.TheVariants.{Memo
 
 use crate::LineField;
 use mv_json::MessageFault;
+use mv_json::members::Named;
 use mv_message::Text;
 use mv_pack::PackFault;
 use std::alloc::{AllocError, AllocFailed};
@@ -20,21 +21,21 @@ pub enum LineFault {
     #[error("the line is no JSON object")]
     NotObject,
     /// M3: the field is absent.
-    #[error("the field `{name}` is missing", name = .0.as_str())]
+    #[error("the field `{name}` is missing", name = .0.name())]
     Missing(LineField),
     /// M4: the line has a key that lines of its kind do not have: the first, in byte order.
     #[error("lines of this kind have no field `{name}`", name = .0.as_str())]
     Unknown(Text),
     /// M5: the field is of another kind.
-    #[error("the field `{name}` is of another kind", name = .0.as_str())]
+    #[error("the field `{name}` is of another kind", name = .0.name())]
     Kind(LineField),
     /// M6: a text of the field is no value.
-    #[error("the field `{name}`: {1}", name = .0.as_str())]
+    #[error("the field `{name}`: {1}", name = .0.name())]
     Pack(LineField, PackFault),
     /// The message that the line holds has a fault.
     #[error(transparent)]
     Message(MessageFault),
-    /// Memory was refused.
+    /// Memory was refused. Inside, also that the fields which were met do not tell what the line asks; then it is read by its value.
     #[error("out of memory")]
     Memory,
 }

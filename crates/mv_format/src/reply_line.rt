@@ -1,14 +1,17 @@
 //! The replies, each written as the canonical text of one JSON object.
 
-ghost use Rattle.std.specs.Prelude.{◌≡◌, IfOk, string_bytes};
+ghost use Rattle.std.specs.Prelude.{◌≡◌, IfOk, None, string_bytes};
 ghost use Rattle.serde_json.specs.Written.{compact_text};
-ghost use Rattle.mv_format.specs.Writing.{Adds};
-ghost use Rattle.mv_format.specs.ReplyLines.{answer_value, numbered, refused, refused_field, refused_pack, message_fault_value, line_fault_value, refusal_value, verdict_value, reply_value};
+ghost use Rattle.mv_format.specs.Writing.{Adds, Appended};
+ghost use Rattle.mv_format.specs.ReplyLines.{answer_value, numbered, place_of, refused, refused_at, refused_field, refused_pack, message_fault_value, line_fault_value, refusal_value, verdict_value, reply_value};
 
-use crate::members::{Member, Object, write_object};
+use crate::members::Member::{Flag, Number, NumberOrNone, Parties, Text};
+use crate::members::{Object, write_object};
+use crate::to_json::USUAL_LEN;
 use crate::{Answered, LineFault, ToJson};
 use json::Writer;
 use mv_json::MessageFault;
+use mv_json::members::Named;
 use mv_machine::{Refusal, Reply};
 use mv_pack::PackFault;
 use mv_repository::{Effect, Joint, Verdict};
@@ -32,7 +35,7 @@ pub fn fault_text(alloc: Global, fault: &LineFault) -> Result<String, AllocError
 pub fn refusal_text(alloc: Global, code: &'static str) -> Result<String, AllocError>
     ensures { IfOk result (λ text. string_bytes text ≡ compact_text (refused code.now)) }
 {
-    let members = [Member::Text("refused", code)];
+    let members = [Text("refused", code)];
     line_text(alloc, &Object { members: &members })
 }
 
@@ -56,7 +59,7 @@ impl ToJson for Answered {
     fn write(&self, writer: &mut Writer) -> Result<(), AllocError> {
         match self {
             Answered::Unread(fault) => fault.write(writer),
-            Answered::NotTaken(fault) => write_refused(writer, fault.code()),
+            Answered::NotTaken(fault) => write_refused(writer, fault.code(), None),
             Answered::Opened { parties } => write_numbered(writer, "opened", *parties),
             Answered::Stepped { reply, .. } => reply.write(writer),
         }
@@ -72,10 +75,7 @@ impl ToJson for Reply {
             Reply::Submitted { k } => write_numbered(writer, "submitted", *k),
             Reply::Routed { k, reach } => write_object(
                 writer,
-                &[
-                    Member::Parties("reach", reach),
-                    Member::Number("routed", u64::from(*k)),
-                ],
+                &[Parties("reach", reach), Number("routed", u64::from(*k))],
             ),
             Reply::Relayed { number } => write_numbered(writer, "relayed", *number),
             Reply::Known(verdict) => write_verdict(writer, *verdict),
@@ -89,12 +89,12 @@ impl ToJson for Reply {
             Reply::Gap { number, expected } => write_object(
                 writer,
                 &[
-                    Member::Number("expected", u64::from(*expected)),
-                    Member::Number("gap", u64::from(*number)),
+                    Number("expected", u64::from(*expected)),
+                    Number("gap", u64::from(*number)),
                 ],
             ),
             Reply::Repeated { number } => write_numbered(writer, "repeated", *number),
-            Reply::Closed => write_object(writer, &[Member::Flag("closed", true)]),
+            Reply::Closed => write_object(writer, &[Flag("closed", true)]),
             Reply::Lost { number } => write_numbered(writer, "lost", *number),
             Reply::Joint(verdict) => write_joint(writer, *verdict),
             Reply::Refused(refusal) => write_refusal(writer, *refusal),
@@ -108,34 +108,63 @@ impl ToJson for LineFault {
 
     fn write(&self, writer: &mut Writer) -> Result<(), AllocError> {
         match self {
-            LineFault::NotJson => write_refused(writer, "M1"),
-            LineFault::NotObject => write_refused(writer, "M2"),
-            LineFault::Missing(field) => write_refused_field(writer, field.as_str(), "M3"),
-            LineFault::Unknown(key) => write_refused_field(writer, key.as_str(), "M4"),
-            LineFault::Kind(field) => write_refused_field(writer, field.as_str(), "M5"),
-            LineFault::Pack(field, fault) => write_refused_pack(writer, *fault, field.as_str()),
-            LineFault::Message(fault) => fault.write(writer),
-            LineFault::Memory => write_refused(writer, "M9"),
+            LineFault::NotJson => write_refused(writer, "M1", None),
+            LineFault::NotObject => write_refused(writer, "M2", None),
+            LineFault::Missing(field) => write_field(writer, field.name(), "M3", None),
+            LineFault::Unknown(key) => write_field(writer, key.as_str(), "M4", None),
+            LineFault::Kind(field) => write_field(writer, field.name(), "M5", None),
+            LineFault::Pack(field, fault) => write_pack(writer, field.name(), *fault, None),
+            LineFault::Message(fault) => write_message_fault(writer, fault, None),
+            LineFault::Memory => write_refused(writer, "M9", None),
         }
     }
 }
 
+/// Writes the refusal of a message behind what the buffer holds, with the number of its line, where one is given. Where memory is
+/// refused the buffer is as it was.
+#[tactic(auto, using(crate::proofs::WritingLemmas::text_written))]
+pub fn append_refusal(
+    alloc: Global,
+    out: &mut Vec<u8>,
+    fault: &MessageFault,
+    line: Option<u32>,
+) -> Result<(), AllocError>
+    ensures { Appended result out.old.items out.new.items (message_fault_value line fault.now) }
+{
+    // A writer makes room ahead of what it holds, so it begins with nothing.
+    let mut writer = Writer::new(Vec::with_capacity(alloc, USUAL_LEN)?);
+    write_message_fault(&mut writer, fault, line)?;
+    out.extend_from_slice(writer.into_inner().as_slice())
+}
+
 /// The refusal of a message.
 impl ToJson for MessageFault {
-    ghost value = { message_fault_value };
+    ghost value = { message_fault_value None };
 
     fn write(&self, writer: &mut Writer) -> Result<(), AllocError> {
-        let code = self.code();
-        match self {
-            MessageFault::Missing(field) => write_refused_field(writer, field.as_str(), code),
-            MessageFault::Unknown(key) => write_refused_field(writer, key.as_str(), code),
-            MessageFault::Kind(field) => write_refused_field(writer, field.as_str(), code),
-            MessageFault::Pack(field, fault) => write_refused_pack(writer, *fault, field.as_str()),
-            MessageFault::Count(field) => write_refused_field(writer, field.as_str(), code),
-            MessageFault::TextLength(field) => write_refused_field(writer, field.as_str(), code),
-            MessageFault::NotJson => write_refused(writer, code),
-            MessageFault::NotObject => write_refused(writer, code),
-            MessageFault::Memory => write_refused(writer, code),
+        write_message_fault(writer, self, None)
+    }
+}
+
+/// Writes the refusal of a message, with the number of its line, where one is given.
+fn write_message_fault(
+    writer: &mut Writer,
+    fault: &MessageFault,
+    line: Option<u32>,
+) -> Result<(), AllocError>
+    ensures before { writer.new.before ≡ writer.old.before }
+    ensures added { Adds result writer.old writer.new (message_fault_value line fault.now) }
+{
+    let code = fault.code();
+    match fault {
+        MessageFault::Unknown(key) => write_field(writer, key.as_str(), code, line),
+        MessageFault::Missing(field)
+        | MessageFault::Kind(field)
+        | MessageFault::Count(field)
+        | MessageFault::TextLength(field) => write_field(writer, field.as_str(), code, line),
+        MessageFault::Pack(field, fault) => write_pack(writer, field.as_str(), *fault, line),
+        MessageFault::NotJson | MessageFault::NotObject | MessageFault::Memory => {
+            write_refused(writer, code, line)
         }
     }
 }
@@ -145,7 +174,7 @@ fn write_numbered(writer: &mut Writer, key: &'static str, number: u32) -> Result
     ensures before { writer.new.before ≡ writer.old.before }
     ensures added { Adds result writer.old writer.new (numbered key.now number) }
 {
-    write_object(writer, &[Member::Number(key, u64::from(number))])
+    write_object(writer, &[Number(key, u64::from(number))])
 }
 
 /// Writes the reply that a frame was applied, and the number of the answer that it called for.
@@ -159,9 +188,9 @@ fn write_applied(
     ensures added { Adds result writer.old writer.new
         (reply_value (Reply.Applied number effect answer)) }
 {
-    let answer = Member::NumberOrNone("answer", answer.map(u64::from));
-    let applied = Member::Number("applied", u64::from(number));
-    let effected = Member::Text("effect", effect.code());
+    let answer = NumberOrNone("answer", answer.map(u64::from));
+    let applied = Number("applied", u64::from(number));
+    let effected = Text("effect", effect.code());
     match effect {
         Effect::Uploaded { new, old } => write_object(
             writer,
@@ -169,8 +198,8 @@ fn write_applied(
                 answer,
                 applied,
                 effected,
-                Member::Number("new", new),
-                Member::Number("old", old),
+                Number("new", new),
+                Number("old", old),
             ],
         ),
         _ => write_object(writer, &[answer, applied, effected]),
@@ -183,12 +212,12 @@ fn write_verdict(writer: &mut Writer, verdict: Verdict) -> Result<(), AllocError
     ensures added { Adds result writer.old writer.new (verdict_value verdict) }
 {
     match verdict {
-        Verdict::Authentic => write_object(writer, &[Member::Text("verdict", "authentic")]),
+        Verdict::Authentic => write_object(writer, &[Text("verdict", "authentic")]),
         Verdict::NotAuthentic { falsification } => write_object(
             writer,
             &[
-                Member::Flag("falsification", falsification),
-                Member::Text("verdict", "not authentic"),
+                Flag("falsification", falsification),
+                Text("verdict", "not authentic"),
             ],
         ),
     }
@@ -200,13 +229,10 @@ fn write_joint(writer: &mut Writer, verdict: Joint) -> Result<(), AllocError>
     ensures added { Adds result writer.old writer.new (reply_value (Reply.Joint verdict)) }
 {
     match verdict {
-        Joint::NotAsked => write_object(writer, &[Member::Text("verdict", "not asked")]),
+        Joint::NotAsked => write_object(writer, &[Text("verdict", "not asked")]),
         Joint::Pending { left } => write_object(
             writer,
-            &[
-                Member::Number("left", u64::from(left)),
-                Member::Text("verdict", "pending"),
-            ],
+            &[Number("left", u64::from(left)), Text("verdict", "pending")],
         ),
         Joint::Decided(verdict) => write_verdict(writer, verdict),
     }
@@ -221,57 +247,62 @@ fn write_refusal(writer: &mut Writer, refusal: Refusal) -> Result<(), AllocError
     match refusal {
         Refusal::Busy(party) => write_object(
             writer,
-            &[
-                Member::Number("party", u64::from(party)),
-                Member::Text("refused", code),
-            ],
+            &[Number("party", u64::from(party)), Text("refused", code)],
         ),
-        _ => write_refused(writer, code),
+        _ => write_refused(writer, code, None),
     }
 }
 
-/// Writes a refusal by its number.
-fn write_refused(writer: &mut Writer, code: &str) -> Result<(), AllocError>
+/// Writes a refusal by its number, with the number of a line, where one is given.
+fn write_refused(writer: &mut Writer, code: &str, line: Option<u32>) -> Result<(), AllocError>
     ensures before { writer.new.before ≡ writer.old.before }
-    ensures added { Adds result writer.old writer.new (refused code.now) }
+    ensures added { Adds result writer.old writer.new (refused_at line code.now) }
 {
-    write_object(writer, &[Member::Text("refused", code)])
+    let line = NumberOrNone("line", line.map(u64::from));
+    write_object(writer, &[line, Text("refused", code)])
 }
 
 /// Writes a refusal that names a field.
-fn write_refused_field(writer: &mut Writer, field: &str, code: &str) -> Result<(), AllocError>
+fn write_field<'a>(
+    writer: &mut Writer,
+    field: &'a str,
+    code: &'a str,
+    line: Option<u32>,
+) -> Result<(), AllocError>
     ensures before { writer.new.before ≡ writer.old.before }
-    ensures added { Adds result writer.old writer.new (refused_field field.now code.now) }
+    ensures added { Adds result writer.old writer.new (refused_field line field.now code.now) }
 {
-    write_object(
-        writer,
-        &[Member::Text("field", field), Member::Text("refused", code)],
-    )
+    let line = NumberOrNone("line", line.map(u64::from));
+    let field = Text("field", field);
+    write_object(writer, &[field, line, Text("refused", code)])
 }
 
 /// Writes the refusal of a text that is no value (M6). That of P6 has the place of the character.
-fn write_refused_pack(writer: &mut Writer, fault: PackFault, field: &str) -> Result<(), AllocError>
+fn write_pack(
+    writer: &mut Writer,
+    field: &str,
+    fault: PackFault,
+    line: Option<u32>,
+) -> Result<(), AllocError>
     ensures before { writer.new.before ≡ writer.old.before }
-    ensures added { Adds result writer.old writer.new (refused_pack fault field.now) }
+    ensures added { Adds result writer.old writer.new (refused_pack line fault field.now) }
 {
-    let code = fault.code();
+    let members = [
+        Text("fault", fault.code()),
+        Text("field", field),
+        NumberOrNone("line", line.map(u64::from)),
+        NumberOrNone("place", place_of(fault)),
+        Text("refused", "M6"),
+    ];
+    write_object(writer, &members)
+}
+
+/// The place of a character that may not be there.
+fn place_of(fault: PackFault) -> Option<u64>
+    ensures { result ≡ place_of fault }
+{
     match fault {
-        PackFault::Character(place) => write_object(
-            writer,
-            &[
-                Member::Text("fault", code),
-                Member::Text("field", field),
-                Member::Number("place", u64::from(place)),
-                Member::Text("refused", "M6"),
-            ],
-        ),
-        _ => write_object(
-            writer,
-            &[
-                Member::Text("fault", code),
-                Member::Text("field", field),
-                Member::Text("refused", "M6"),
-            ],
-        ),
+        PackFault::Character(place) => Some(u64::from(place)),
+        _ => None,
     }
 }

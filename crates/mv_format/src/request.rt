@@ -2,16 +2,19 @@
 #![tactic(auto, unfolding(crate::specs::Requests::request_at))]
 
 ghost use Rattle.mv_format.specs.Words.{GivesOr, view};
+ghost use Rattle.mv_format.specs.LineParts.{MayGive};
 ghost use Rattle.mv_format.specs.Requests.{request_at, read_request, read_line};
 
 use crate::field_reading::{gtin_of, message_of, number_of, serial_of};
-use crate::kind::{LineKind, kind_of, known_kind};
+use crate::kind::{LineKind, kind_of};
+use crate::line_part::LineObject;
 use crate::market_lists::market_lists_of;
-use crate::token_line::read_step;
+use crate::token_line::read_by_tokens;
 use crate::{LineFault, LineField, MarketLists};
 use json::Scratch;
+use mv_json::members::first_unknown;
 use mv_machine::Step;
-use mv_message::Shared;
+use mv_message::Text;
 use mv_pack::PackKey;
 use serde_json::Value;
 use std::alloc::Global;
@@ -61,137 +64,96 @@ impl Request {
     pub fn read_in(alloc: Global, scratch: &mut Scratch, line: &[u8]) -> Result<Request, LineFault>
         ensures { GivesOr result (read_line line.now) LineFault.Memory }
     {
-        match read_step(alloc, scratch, line) {
-            Some(step) => Ok(Request::Step(step)),
+        match read_by_tokens(alloc, scratch, line) {
+            Some(request) => Ok(request),
             None => Request::read(alloc, line),
         }
     }
 
     /// What the value of a line asks.
-    #[tactic(auto, unfolding(crate::specs::Requests::read_request), using(crate::proofs::RequestLawsLemmas::known_gives))]
+    #[tactic(auto, unfolding(crate::specs::Requests::read_request))]
     fn from_value(alloc: Global, value: &Value) -> Result<Request, LineFault>
         ensures { GivesOr result (read_request (view value.now)) LineFault.Memory }
     {
         let members = value.as_object().ok_or(LineFault::NotObject)?;
-        let kind = known_kind(alloc, members, kind_of(value)?)?;
-        Request::of_kind(alloc, kind, value)
+        let object = LineObject::Value(value);
+        let kind = kind_of(object)?;
+        if let Some(key) = first_unknown(members, kind.fields()) {
+            return Err(LineFault::Unknown(Text::new(String::from_str(alloc, key)?)));
+        }
+        Request::of_kind(alloc, kind, object)
     }
 
-    /// What the fields of a line of that kind ask.
-    #[tactic(auto)]
-    fn of_kind(alloc: Global, kind: LineKind, value: &Value) -> Result<Request, LineFault>
-        ensures { GivesOr result (request_at kind (view value.now)) LineFault.Memory }
+    /// What the fields of a line of that kind ask, each of which is read in byte order of its name.
+    pub(crate) fn of_kind(
+        alloc: Global,
+        kind: LineKind,
+        object: LineObject<'_>,
+    ) -> Result<Request, LineFault>
+        ensures { MayGive (request_at kind) object.entry result }
     {
         match kind {
-            LineKind::Open => Request::open_of(alloc, value),
-            LineKind::Submit => Request::submit_of(alloc, value),
-            LineKind::Route => Request::route_of(value),
-            LineKind::Relay => Request::relay_of(value),
-            LineKind::Apply => Request::apply_of(value),
-            LineKind::Repeat => Request::repeat_of(value),
-            LineKind::Close => Request::close_of(value),
-            LineKind::Lose => Request::lose_of(value),
-            LineKind::Verify => Request::verify_of(value),
-            LineKind::Verdict => Request::verdict_of(value),
+            LineKind::Open => Request::open_of(alloc, object),
+            LineKind::Submit => Ok(Request::Step(Step::Submit {
+                from: number_of(object, LineField::From)?,
+                message: message_of(alloc, object)?,
+            })),
+            LineKind::Route => Ok(Request::Step(Step::Route {
+                from: number_of(object, LineField::From)?,
+            })),
+            LineKind::Relay => Ok(Request::Step(Step::Relay {
+                from: number_of(object, LineField::From)?,
+                to: number_of(object, LineField::To)?,
+            })),
+            LineKind::Apply => Ok(Request::Step(Step::Apply {
+                from: number_of(object, LineField::From)?,
+                to: number_of(object, LineField::To)?,
+            })),
+            LineKind::Repeat => Ok(Request::Step(Step::Repeat {
+                from: number_of(object, LineField::From)?,
+                number: number_of(object, LineField::Number)?,
+                to: number_of(object, LineField::To)?,
+            })),
+            LineKind::Close => Ok(Request::Step(Step::Close {
+                from: number_of(object, LineField::From)?,
+                to: number_of(object, LineField::To)?,
+            })),
+            LineKind::Lose => Ok(Request::Step(Step::Lose {
+                from: number_of(object, LineField::From)?,
+                to: number_of(object, LineField::To)?,
+            })),
+            LineKind::Verify => Request::verify_of(object),
+            LineKind::Verdict => Ok(Request::Step(Step::Verdict {
+                party: number_of(object, LineField::Party)?,
+                q: number_of(object, LineField::Q)?,
+            })),
         }
     }
 
-    /// The opening that the fields of a line ask.
-    fn open_of(alloc: Global, value: &Value) -> Result<Request, LineFault>
-        ensures { GivesOr result (request_at LineKind.Open (view value.now)) LineFault.Memory }
+    /// The opening that the fields of a line ask. It is read of a value alone.
+    fn open_of(alloc: Global, object: LineObject<'_>) -> Result<Request, LineFault>
+        ensures { MayGive (request_at LineKind.Open) object.entry result }
     {
+        let LineObject::Value(value) = object else {
+            return Err(LineFault::Memory);
+        };
         Ok(Request::Open {
             parties: market_lists_of(alloc, value, LineField::Parties)?,
-            submissions: number_of(value, LineField::Submissions)?,
-            uplink: number_of(value, LineField::Uplink)?,
-            window: number_of(value, LineField::Window)?,
-            wire: number_of(value, LineField::Wire)?,
+            submissions: number_of(object, LineField::Submissions)?,
+            uplink: number_of(object, LineField::Uplink)?,
+            window: number_of(object, LineField::Window)?,
+            wire: number_of(object, LineField::Wire)?,
         })
     }
 
-    /// The submission that the fields of a line ask.
-    fn submit_of(alloc: Global, value: &Value) -> Result<Request, LineFault>
-        ensures { GivesOr result (request_at LineKind.Submit (view value.now)) LineFault.Memory }
-    {
-        let from = number_of(value, LineField::From)?;
-        let message = message_of(alloc, value)?;
-        let Ok(message) = Shared::new(alloc, message) else {
-            return Err(LineFault::Memory);
-        };
-        Ok(Request::Step(Step::Submit { from, message }))
-    }
-
-    /// The routing that the fields of a line ask.
-    fn route_of(value: &Value) -> Result<Request, LineFault>
-        ensures { GivesOr result (request_at LineKind.Route (view value.now)) LineFault.Memory }
-    {
-        let from = number_of(value, LineField::From)?;
-        Ok(Request::Step(Step::Route { from }))
-    }
-
-    /// The relay that the fields of a line ask.
-    fn relay_of(value: &Value) -> Result<Request, LineFault>
-        ensures { GivesOr result (request_at LineKind.Relay (view value.now)) LineFault.Memory }
-    {
-        let from = number_of(value, LineField::From)?;
-        let to = number_of(value, LineField::To)?;
-        Ok(Request::Step(Step::Relay { from, to }))
-    }
-
-    /// The taking of a frame that the fields of a line ask.
-    fn apply_of(value: &Value) -> Result<Request, LineFault>
-        ensures { GivesOr result (request_at LineKind.Apply (view value.now)) LineFault.Memory }
-    {
-        let from = number_of(value, LineField::From)?;
-        let to = number_of(value, LineField::To)?;
-        Ok(Request::Step(Step::Apply { from, to }))
-    }
-
-    /// The repetition of a frame that the fields of a line ask.
-    fn repeat_of(value: &Value) -> Result<Request, LineFault>
-        ensures { GivesOr result (request_at LineKind.Repeat (view value.now)) LineFault.Memory }
-    {
-        let from = number_of(value, LineField::From)?;
-        let number = number_of(value, LineField::Number)?;
-        let to = number_of(value, LineField::To)?;
-        Ok(Request::Step(Step::Repeat { from, to, number }))
-    }
-
-    /// The closing of a link that the fields of a line ask.
-    fn close_of(value: &Value) -> Result<Request, LineFault>
-        ensures { GivesOr result (request_at LineKind.Close (view value.now)) LineFault.Memory }
-    {
-        let from = number_of(value, LineField::From)?;
-        let to = number_of(value, LineField::To)?;
-        Ok(Request::Step(Step::Close { from, to }))
-    }
-
-    /// The loss of a frame that the fields of a line ask.
-    fn lose_of(value: &Value) -> Result<Request, LineFault>
-        ensures { GivesOr result (request_at LineKind.Lose (view value.now)) LineFault.Memory }
-    {
-        let from = number_of(value, LineField::From)?;
-        let to = number_of(value, LineField::To)?;
-        Ok(Request::Step(Step::Lose { from, to }))
-    }
-
     /// The verifying of a pack that the fields of a line ask.
-    fn verify_of(value: &Value) -> Result<Request, LineFault>
-        ensures { GivesOr result (request_at LineKind.Verify (view value.now)) LineFault.Memory }
+    fn verify_of(object: LineObject<'_>) -> Result<Request, LineFault>
+        ensures { MayGive (request_at LineKind.Verify) object.entry result }
     {
-        let gtin = gtin_of(value, LineField::Gtin)?;
-        let party = number_of(value, LineField::Party)?;
-        let serial = serial_of(value, LineField::Serial)?;
+        let gtin = gtin_of(object, LineField::Gtin)?;
+        let party = number_of(object, LineField::Party)?;
+        let serial = serial_of(object, LineField::Serial)?;
         let key = PackKey { gtin, serial };
         Ok(Request::Step(Step::Verify { party, key }))
-    }
-
-    /// The taking of a verdict that the fields of a line ask.
-    fn verdict_of(value: &Value) -> Result<Request, LineFault>
-        ensures { GivesOr result (request_at LineKind.Verdict (view value.now)) LineFault.Memory }
-    {
-        let party = number_of(value, LineField::Party)?;
-        let q = number_of(value, LineField::Q)?;
-        Ok(Request::Step(Step::Verdict { party, q }))
     }
 }

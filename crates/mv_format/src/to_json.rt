@@ -10,7 +10,7 @@ use mv_pack::Market;
 use std::alloc::{AllocError, Global};
 
 /// How many bytes most replies take; a longer one makes its buffer grow.
-const USUAL_LEN: usize = 256;
+pub(crate) const USUAL_LEN: usize = 256;
 
 /// What is written as a JSON value.
 pub trait ToJson {

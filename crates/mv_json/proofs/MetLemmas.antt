@@ -1,6 +1,6 @@
 -- Fields of an object that are met in any order: its tokens are its members, one after the other.
 use Rattle.std.proofs.Common.{◌≡◌, ◌∙◌, ◌≤◌, ◌<◌, ◌-◌, ℕ, suc, List, [], ◌∷◌, ◌++◌, length, map, ap, sym, subst, refl, arith, Option, Some, All, Contains, ◌≢◌}
-use Rattle.mv_json.proofs.Words.{All-append, All-cons, All-contains, All-map, All-nil, AllByRecursion, BeginWith, Contains-append_left, Contains-append_right, Data, HasMet, HasOnly, Members, Token, begin_object, converted, end_object, get, get_member, get_or-map, key, keys_of, left, length-map, map-append, member, members, members_end, members_more, no_members, number, number_of, object, of_json, of_members, parse_map, put, skip_value-shorter, string, unsigned, value, value-begin_object, value_is}
+use Rattle.mv_json.proofs.Words.{All-append, All-cons, All-contains, All-map, All-nil, AllByRecursion, BeginWith, Contains-append_left, Contains-append_right, Data, HasMet, HasOnly, IsOneOf, Members, Token, begin_object, converted, end_object, get, get_member, get_or-map, key, keys_of, left, length-map, map-append, member, members, members_end, members_more, no_members, number, number_of, object, of_json, of_members, parse_map, put, skip_value-shorter, string, unsigned, value, value-begin_object, value_is}
 use Rattle.serde_json.proofs.Views.{get_member-put, get_member-put_other}
 use Rattle.json.specs.Json as json
 use Rattle.json.specs.Token as token
@@ -36,8 +36,7 @@ come_nowhere deep start depth h = (length start, omega arith, refl)
 -- a value takes tokens
 pub begun_shorter : (deep : ℕ) (ts rest : List Token) (found : Data) → BeginWith deep ts found rest → length rest < length ts
 begun_shorter deep ts rest found begins =
-    let parsed = converted_some of_json (value deep ts) found rest (begins deep (omega arith)) in
-    skip_value-shorter deep ts rest (ap left parsed.1)
+    skip_value-shorter deep ts rest (ap left (converted_some of_json (value deep ts) found rest (begins deep (omega arith))).1)
 
 -- a member more was read
 pub come_on : (deep : ℕ) (start more rest : List Token) (name : List ℕ) (found : Members) (part : Data)
@@ -142,7 +141,9 @@ named_among name listed field at = (at.0, omega (arith, length-map listed name, 
 
 -- an object whose fields are all among these has no other key
 pub known_only : {Met Field : Type 0} (name : Field → List ℕ) (field_of : Met → Field) {Says : Data → Met → Type 0} {value : Data} {entries : List Met} (listed : List Field)
-    → HasMet (λ met. name (field_of met)) Says value entries → All (λ met. Contains listed (field_of met)) entries → HasOnly (map name listed) value
+    → HasMet (λ met. name (field_of met)) Says value entries → All (λ met. IsOneOf listed (field_of met)) entries
+    → HasOnly (map name listed) value
+unfolding IsOneOf
 known_only name field_of {entries = entries} listed has among =
     let P : List ℕ → Type 0 = Contains (map name listed) in
     let known = All-map P (λ met. name (field_of met)) entries (λ k d h. named_among name listed _ (among k d h)) in

@@ -5,7 +5,7 @@ use Rattle.mv_json.proofs.ReadingLemmas.{none_named, Inverts, codes_inverted, ma
 use Rattle.mv_json.proofs.ValueLemmas.{utf8_test}
 use Rattle.mv_json.specs.declared.object.Place.{Place}
 use Rattle.mv_json.specs.declared.part.Part.{Part}
-use Rattle.std.proofs.Common.{◌≡◌, ◌∙◌, ℕ, Bool, true, false, List, [], ◌∷◌, ◌++◌, length, map, set, ap, sym, subst, refl, arith, Option, Some, None, Result, Ok, All, Contains, is_some, IfSome, IsUtf8, ◌≢◌}
+use Rattle.std.proofs.Common.{◌≡◌, ◌∙◌, ℕ, Bool, true, false, List, [], ◌∷◌, ◌++◌, length, map, set, ap, sym, subst, refl, arith, Option, Some, None, Result, Ok, All, Contains, is_some, IsUtf8, ◌≢◌}
 use Rattle.std.proofs.Math.Seq.{map-set_same}
 use Rattle.json.specs.Json as json
 use Rattle.json.specs.Token as token
@@ -147,11 +147,5 @@ is_there field value found place at is = (rw at refl, rw at is)
 -- ---- whole texts
 
 -- the text whose tokens are a message is read as it
-text_read : (s : List ℕ) (message : Message) → IsUtf8 s → BeginWithMessage (tokens s) message [] → read_bytes s ≡ Ok message
+pub text_read : (s : List ℕ) (message : Message) → IsUtf8 s → BeginWithMessage (tokens s) message [] → read_bytes s ≡ Ok message
 text_read s message utf8 (found, begins, is) = grind (arith, utf8_test)
-
--- the same of a message that there may be
-pub maybe_read : (s : List ℕ) (message : Option Message) → IsUtf8 s → IfSome message (λ m. BeginWithMessage (tokens s) m [])
-    → IfSome message (λ m. read_bytes s ≡ Ok m)
-maybe_read s None utf8 are = tt
-maybe_read s (Some message) utf8 are = text_read s message utf8 are

@@ -201,8 +201,7 @@ field_is_read version form d field x h = (parts_agree version field).tells.read 
 
 -- what spells a message has its version and its form
 opened_by : (version : Version) (d : Data) (m : Message) → ReadsIn version d m → IsOfVersion version d × IsOfForm version (form_of m) d × IsIn (form_of m) version
-opened_by version d (messages.Query key) h = search h depth 16 parts 16
-opened_by version d m h = search h depth 16 parts 16
+opened_by version d m h1 = grind arith
 
 -- what a message says makes that message
 made_again : (version : Version) (m : Message) → made Message (meaning_of version (form_of m)) (fields_of (form_of m)) (making_of version (form_of m)) (contents_of version m) ≡ m

@@ -7,9 +7,8 @@ use Rattle.mv_json.proofs.OrderLemmas.{rises, strictly_sorted}
 use Rattle.mv_json.proofs.ReadsLemmas.{reads_back}
 use Rattle.mv_json.specs.Keys.{KeysAscend, ItemsKeysAscend}
 use Rattle.serde_json.proofs.Numbers.{number_of-decimal}
-use Rattle.std.proofs.Common.{◌≡◌, ◌≤◌, ℕ, sym, arith, rules, true, List, [], ◌∷◌, ap, refl, ◌∙◌, ◌<◌, ◌^◌, max, append-nil, option_and_then, option_map, IsUtf8, Some, None, Ok}
+use Rattle.std.proofs.Common.{◌≡◌, ◌≤◌, ℕ, sym, arith, rules, true, List, [], ◌∷◌, ap, refl, ◌∙◌, ◌<◌, ◌^◌, max, append-nil, option_map, IsUtf8, Some, None, Ok}
 use Rattle.std.specs.Str.{is_utf8}
-use Rattle.json.specs.Json as json
 use Rattle.json.specs.Tree as tree
 use Rattle.mv_message.specs.declared.message.Message.TheVariants as messages
 
@@ -62,9 +61,7 @@ record ReadsBack (d : Data) : Type 0 where
 text_of_value : (d : Data) → tree.depth (outline d) ≤ max_depth → ReadsBack d → read (compact_text d) ≡ Some d
 text_of_value d shallow back =
     let text = ap tokens (sym (print-outline d)) ∙ tokens-print (tokens_of d) (ArePrintable-json_tokens (outline d) back.numbers) ∙ sym (append-nil (tokens_of d)) in
-    ap (λ o. option_and_then of_json (option_and_then (λ p. json.if_last p.0 p.1) o))
-    (ap (json.value max_depth) text ∙ value-json_tokens (outline d) max_depth [] shallow)
-    ∙ back.same
+    grind (arith, value-json_tokens)
 
 texts_have_numbers : (texts : List (List ℕ)) → tree.ItemsHaveNumbers (items_outline (strings texts))
 texts_have_numbers [] = tt

@@ -1,5 +1,5 @@
 -- The names of the library, of the definitions, and of the crates below that the proofs cite, passed on from one place. Declares nothing.
-pub use Rattle.mv_json.specs.Words.{AllByRecursion, Count, Field, IsCode, Kind, Message, MessageFault, Missing, NotJson, One, Pack, PackFault, TextLength, Two, Unknown, Version, items_view, list_all, list_any, members_view, ok_or, option_map_or, option_or, read_code, view}
+pub use Rattle.mv_json.specs.Words.{AllByRecursion, Count, Field, IsCode, Kind, Message, MessageFault, One, Pack, PackFault, Two, Unknown, Version, items_view, list_all, list_any, members_view, ok_or, option_map_or, option_or, read_code, view}
 pub use Rattle.json.proofs.Grammar.{closed_array, left, members_end, members_more, skip_value-shorter, value-begin_array, value-begin_object, value_is}
 pub use Rattle.json.specs.Json.{members, parse_map, value}
 unfoldable pub use Rattle.json.specs.Json.{items}
@@ -7,19 +7,20 @@ pub use Rattle.json.specs.Lex.{tokens}
 pub use Rattle.json.specs.Print.{print}
 pub use Rattle.json.specs.Token.{Token, begin_array, begin_object, end_array, end_object, key}
 pub use Rattle.mv_json.specs.Fields.{field_name, names_in}
-pub use Rattle.mv_json.specs.Limits.{most_markets, most_serials, most_text_bytes}
+pub use Rattle.mv_json.specs.Limits.{most_markets, most_serials}
 pub use Rattle.mv_json.specs.Meanings.{AreLegal, AreSpelled, EachHolds, Has, IsFreeText, IsListOf, IsNational, Making, Meaning, Spells, Values, exactly, first_fault, from_two, made_at, part_of, text_of}
 pub use Rattle.mv_json.specs.Members.{HasOnly, first_unknown, keys_of}
 pub use Rattle.mv_json.specs.Messages.{message_version, read_bytes, value_in, value_of}
 unfoldable pub use Rattle.mv_json.specs.Messages.{read_message}
 pub use Rattle.mv_json.specs.Met.{BeginWith, HasMet}
+unfoldable pub use Rattle.mv_json.specs.Met.{IsOneOf}
 pub use Rattle.mv_json.specs.Parts.{BeginWithMessage, BeginWithPart, BeginWithTexts, HasEntries, IsPart, IsPlace, IsTaken, IsThere, StartWithPart, deep_in, entry, entry_name}
 unfoldable pub use Rattle.mv_json.specs.Parts.{there}
 pub use Rattle.mv_json.specs.Reading.{read_items, whole_number}
 unfoldable pub use Rattle.mv_json.specs.Reading.{list_at}
-pub use Rattle.mv_json.specs.Shapes.{HasWords, IsIn, IsLegal, IsLegalFound, Reads, SpellsFound, contents_of, fields_of, form_name, form_named, form_of, forms_of, found_of, found_value, found_version, making_of, meaning_of, names_of, present_at, present_fields, version_of}
+pub use Rattle.mv_json.specs.Shapes.{HasWords, IsIn, IsLegal, IsLegalFound, Reads, SpellsFound, contents_of, fields_of, form_name, form_named, form_of, found_of, found_value, found_version, making_of, meaning_of, names_of, present_at, present_fields, version_of}
 unfoldable pub use Rattle.mv_json.specs.Shapes.{form_at, found_at, message_at, present_of, version_at}
-pub use Rattle.mv_json.specs.Tokens.{Puts, members_of, members_put, said_value, tokens_of, version_member}
+pub use Rattle.mv_json.specs.Tokens.{Puts, members_of, members_put, tokens_of, version_member}
 unfoldable pub use Rattle.mv_json.specs.Tokens.{PutsValue}
 pub use Rattle.mv_json.specs.Values.{since_two, strings, whole}
 pub use Rattle.mv_json.specs.declared.part.Entry.{Entry}
@@ -28,19 +29,19 @@ pub use Rattle.mv_message.specs.declared.found.Found.TheVariants.{Absent, Presen
 pub use Rattle.mv_message.specs.declared.standing.Standing.{Standing}
 pub use Rattle.mv_pack.proofs.ExpiryLemmas.{read_expiry_is_expiry, read_expiry_text}
 pub use Rattle.mv_pack.proofs.GtinLemmas.{read_gtin_is_gtin, read_gtin_of}
-pub use Rattle.mv_pack.specs.Market.{IsMarket, is_capital, read_market}
+pub use Rattle.mv_pack.specs.Market.{IsMarket, read_market}
 pub use Rattle.mv_pack.specs.declared.key.PackKey.{PackKey}
 pub use Rattle.serde_json.proofs.Texts.{print-outline}
 pub use Rattle.serde_json.specs.Data.{Data, Items, Members, array, boolean, item, member, no_items, no_members, null, number, object, put, string, unsigned}
-pub use Rattle.serde_json.specs.Find.{as_array, as_bool, as_null, as_object, as_str, get, get_member}
+pub use Rattle.serde_json.specs.Find.{as_array, as_bool, as_null, as_str, get, get_member}
 pub use Rattle.serde_json.specs.Read.{converted, max_depth, number_of, of_items, of_json, of_members, read}
 pub use Rattle.serde_json.specs.Written.{compact_text, items_outline, members_outline, outline}
 pub use Rattle.serde_json.specs.declared.value.Value.{Value}
-pub use Rattle.std.proofs.lemmas.List.{get_or-map, get_or_read, length-map, map-append, take_all}
-pub use Rattle.std.proofs.lemmas.List.Elements.{All-append, All-cons, All-contains, All-map, All-more, All-nil, All-set, Contains-append_left, Contains-append_right}
+pub use Rattle.std.proofs.lemmas.List.{get_or-map, length-map, map-append, take_all}
+pub use Rattle.std.proofs.lemmas.List.Elements.{All-append, All-cons, All-contains, All-map, All-nil, All-set, Contains-append_left, Contains-append_right}
 pub use Rattle.std.proofs.lemmas.Str.{IsUtf8-from_is_utf8, IsUtf8-string_bytes, is_utf8-from_IsUtf8}
 unfoldable pub use Rattle.std.specs.List.Sorted.{IsStrictlySortedBy}
 pub use Rattle.std.specs.Ordering.{is_eq, is_lt, match_ordering, nat_cmp}
 pub use Rattle.std.specs.declared.alloc.AllocError.{AllocError}
 pub use Rattle.std.specs.declared.cmp.Ordering.{Ordering}
-pub use Rattle.std.specs.declared.cmp.Ordering.TheVariants.{Equal, Greater, Less}
+pub use Rattle.std.specs.declared.cmp.Ordering.TheVariants.{Less}

@@ -15,3 +15,7 @@ pub record HasMet {Met : Type 0} (name : Met → List ℕ) (Says : Data → Met 
   pub is : found ≡ object members
   pub says : All (λ met. (part : Data) × (get (name met) found ≡ Some part) × Says part met) all
   pub only : AllByRecursion (Contains (map name all)) (keys_of members)
+
+-- a field is one of these
+unfoldable pub IsOneOf : {Field : Type 0} → List Field → Field → Type 0
+IsOneOf listed field = Contains listed field

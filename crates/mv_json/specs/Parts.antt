@@ -32,10 +32,6 @@ BeginWithTexts reader ts (x ∷ xs) rest =
 abbrev pub BeginWithMessage : List Token → Message → List Token → Type 0
 BeginWithMessage ts message rest = (found : Data) × BeginWith 3 ts found rest × (read_message found ≡ Ok message)
 
--- a value is a text of which this holds
-abbrev pub IsText : Data → (List ℕ → Type 0) → Type 0
-IsText found Holds = (text : List ℕ) × (found ≡ string text) × Holds text
-
 -- what stands in a field says this part
 abbrev pub IsPart : Data → Part → Type 0
 IsPart found (parts.Found sighting) =

@@ -1,6 +1,8 @@
 //! Why bytes or a value are no message. Each fault has its number, which replies print.
 
 ghost use Rattle.std.specs.Prelude.{◌≡◌};
+ghost use Rattle.mv_json.specs.Fault.{code_of};
+ghost use Rattle.mv_json.specs.declared.fault.MessageFault.TheVariants.{Memory};
 
 use crate::Field;
 use mv_message::Text;
@@ -41,8 +43,6 @@ pub enum MessageFault {
 }
 
 impl MessageFault {
-    ghost use Rattle.mv_json.specs.Fault.{code_of};
-
     /// The number of the fault, as `M3`.
     pub fn code(&self) -> &'static str
         ensures { result.now ≡ code_of self.now }
@@ -62,9 +62,6 @@ impl MessageFault {
 }
 
 impl From<AllocError> for MessageFault {
-    ghost use Rattle.std.specs.Prelude.{◌≡◌};
-    ghost use Rattle.mv_json.specs.declared.fault.MessageFault.TheVariants.{Memory};
-
     ghost from_gives = { λ _ e. e ≡ Memory };
 
     fn from(_refused: AllocError) -> MessageFault {
@@ -73,9 +70,6 @@ impl From<AllocError> for MessageFault {
 }
 
 impl<T: Drop> From<AllocFailed<T>> for MessageFault {
-    ghost use Rattle.std.specs.Prelude.{◌≡◌};
-    ghost use Rattle.mv_json.specs.declared.fault.MessageFault.TheVariants.{Memory};
-
     ghost from_gives = { λ _ e. e ≡ Memory };
 
     fn from(_refused: AllocFailed<T>) -> MessageFault {

@@ -36,6 +36,6 @@ mod writing;
 pub use fault::MessageFault;
 pub use field::Field;
 pub use lists::{MOST_MARKETS, MOST_SERIALS};
-pub use message_reading::{from_value, read, read_by_tokens, take_message};
+pub use message_reading::{from_value, read, read_in, take_message};
 pub use reading::MOST_TEXT_BYTES;
 pub use writing::{text, to_value, write_message, write_text};

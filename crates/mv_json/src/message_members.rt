@@ -175,6 +175,7 @@ fn put_repack<'a>(
 }
 
 /// Writes a withdrawal.
+#[tactic(auto, unfolding(crate::specs::Tokens::PutsValue))]
 fn put_withdraw(writer: &mut Writer, gtin: &Gtin, at: Moment) -> Result<(), AllocError>
     ensures { PutsValue result writer.old writer.new (value_of (Message.Withdraw gtin.now at)) }
 {

@@ -1,8 +1,7 @@
 //! Reads messages: from the bytes of JSON texts, from JSON values, and by their tokens, with no value in between, their keys in any order.
 
-ghost use Rattle.std.specs.Prelude.{◌≡◌, [], IfErr, IfOk, IfSome, Ok};
+ghost use Rattle.std.specs.Prelude.{◌≡◌, IfErr, IfOk, IfSome, Ok};
 ghost use Rattle.mv_json.specs.Words.{Data, view};
-ghost use Rattle.json.specs.Lex.{tokens};
 ghost use Rattle.mv_json.specs.Messages.{MayTakeMemory, read_bytes, read_message};
 ghost use Rattle.mv_json.specs.Parts.{BeginWithMessage, Stands};
 ghost use Rattle.mv_json.specs.Reading.{GivesOr};
@@ -11,8 +10,9 @@ use crate::MessageFault;
 use crate::form::{form_at, version_at};
 use crate::members::first_unknown;
 use crate::object::Object;
-use crate::part_reading::take_entries;
+use crate::part_reading::take_members;
 use crate::readers::message_at;
+use crate::tokens::takes_opening;
 use json::{Reader, Scratch};
 use mv_message::{Message, Text};
 use serde_json::Value;
@@ -34,6 +34,17 @@ pub fn read(alloc: Global, bytes: &[u8]) -> Result<Message, MessageFault>
         }
     })?;
     from_value(alloc, &value)
+}
+
+/// Reads a message as `read` does, in memory that is kept from text to text: what is a legal message by its tokens, and what
+/// these give no message of by its value.
+pub fn read_in(alloc: Global, scratch: &mut Scratch, bytes: &[u8]) -> Result<Message, MessageFault>
+    ensures { GivesOr result (read_bytes bytes.now) MessageFault.Memory }
+{
+    match read_by_tokens(alloc, scratch, bytes) {
+        Some(message) => Ok(message),
+        None => read(alloc, bytes),
+    }
 }
 
 /// Reads a message from a JSON value.
@@ -62,8 +73,10 @@ pub fn from_value(alloc: Global, value: &Value) -> Result<Message, MessageFault>
 pub fn take_message(alloc: Global, reader: &mut Reader<'_>) -> Option<Message>
     ensures { IfSome result (λ message. BeginWithMessage reader.old message reader.new) }
 {
-    let entries = take_entries(alloc, reader)?;
-    let mut object = Object::Met(entries);
+    if !takes_opening(reader) {
+        return None;
+    }
+    let mut object = Object::Met(take_members(alloc, reader, false)?);
     message_in(alloc, &mut object).ok()
 }
 
@@ -83,20 +96,12 @@ fn message_in(alloc: Global, object: &mut Object<'_>) -> Result<Message, Message
 
 /// Reads the message that the bytes of a JSON text are, in memory that is kept from text to text. What is no legal message,
 /// or has a key twice, gives none, and so does a refusal of memory.
-#[tactic(auto, using(crate::proofs::PartLemmas::maybe_read))]
-pub fn read_by_tokens(alloc: Global, scratch: &mut Scratch, bytes: &[u8]) -> Option<Message>
+fn read_by_tokens(alloc: Global, scratch: &mut Scratch, bytes: &[u8]) -> Option<Message>
     ensures { IfSome result (λ message. read_bytes bytes.now ≡ Ok message) }
 {
-    match simdutf8::basic::from_utf8(bytes) {
-        Ok(text) => read_text_by_tokens(alloc, scratch, text),
-        Err(_) => None,
-    }
-}
-
-/// Reads the message that a JSON text is.
-fn read_text_by_tokens(alloc: Global, scratch: &mut Scratch, text: &str) -> Option<Message>
-    ensures { IfSome result (λ message. BeginWithMessage (tokens text.now) message []) }
-{
+    let Ok(text) = simdutf8::basic::from_utf8(bytes) else {
+        return None;
+    };
     let mut reader = Reader::new(text, scratch).ok()?;
     let message = take_message(alloc, &mut reader)?;
     if reader.next().is_some() {

@@ -1,11 +1,12 @@
 //! Objects of JSON, of which messages are read: values, and fields that were met. What stands in a field is read alike of both.
 #![tactic(auto, using(crate::proofs::PartLemmas::part_is))]
 
-ghost use Rattle.std.specs.Prelude.{◌≡◌, All, Contains, IsTrue, MatchOption, None, is_some, map, option_map};
+ghost use Rattle.std.specs.Prelude.{◌≡◌, All, IsTrue, MatchOption, None, is_some, map, option_map};
 ghost use Rattle.mv_json.specs.Words.{Data, as_bool, as_null, as_str, get};
 ghost use Rattle.mv_json.specs.Fields.{field_name};
 ghost use Rattle.mv_json.specs.Reading.{whole_number};
 ghost use Rattle.mv_json.specs.Members.{HasOnly};
+ghost use Rattle.mv_json.specs.Met.{IsOneOf};
 ghost use Rattle.mv_json.specs.Parts.{IsPlace, IsThere, Stands};
 
 use crate::Field;
@@ -57,19 +58,15 @@ impl Object<'_> {
 
 /// Whether each field that was met is one of these.
 fn are_among(entries: &[Entry<'_>], fields: &[Field]) -> bool
-    ensures { IsTrue result → All (λ met. Contains fields.now met.field) entries.now }
+    ensures { IsTrue result → All (λ met. IsOneOf fields.now met.field) entries.now }
 {
-    for met in entries {
-        if !is_one_of(met.field, fields) {
-            return false;
-        }
-    }
-    true
+    entries.iter().all(|met| is_one_of(met.field, fields))
 }
 
 /// Whether a field is one of these.
+#[tactic(auto, unfolding(crate::specs::Met::IsOneOf))]
 fn is_one_of(field: Field, fields: &[Field]) -> bool
-    ensures { IsTrue result → Contains fields.now field }
+    ensures { IsTrue result → IsOneOf fields.now field }
 {
     fields.iter().any(|other| is_same(*other, field))
 }

@@ -11,7 +11,7 @@ use crate::found_reading::sighting_in;
 use crate::lists::{Listed, MOST_MARKETS, MOST_SERIALS};
 use crate::object::Object;
 use crate::part::{Entry, Part, Sighting, adds};
-use crate::tokens::{takes_opening, whole_of};
+use crate::tokens::whole_of;
 use json::{Reader, Token};
 use mv_message::Boxed;
 use std::alloc::Global;
@@ -19,19 +19,9 @@ use std::alloc::Global;
 /// How many fields a message has at most.
 const MOST_FIELDS: usize = 12;
 
-/// Takes an object with its fields in any order, each once.
-pub(crate) fn take_entries<'a>(alloc: Global, reader: &mut Reader<'a>) -> Option<Vec<Entry<'a>>>
-    ensures { IfSome result (λ entries. BeginWithEntries 3 reader.old entries.items reader.new) }
-{
-    if !takes_opening(reader) {
-        return None;
-    }
-    take_members(alloc, reader, false)
-}
-
-/// Takes the rest of an object, behind its opening brace. One inside another holds no further one.
+/// Takes the rest of an object, behind its opening brace, with its fields in any order, each once. One inside another holds no further one.
 #[cycle(members)]
-fn take_members<'a>(
+pub(crate) fn take_members<'a>(
     alloc: Global,
     reader: &mut Reader<'a>,
     is_inside: bool,

@@ -1,5 +1,5 @@
 -- The canonical texts of messages, a line each.
-use Rattle.std.specs.Prelude.{◌≡◌, ℕ, List, map, Option, Some, Result, Ok, Err, ⊤}
+use Rattle.std.specs.Prelude.{◌≡◌, ℕ, List, map, Option, None, Some, Result, Ok, Err, ⊤}
 use Rattle.serde_json.specs.Data.{Data}
 use Rattle.serde_json.specs.Written.{compact_text}
 use Rattle.mv_json.specs.Messages.{read_bytes, value_of}
@@ -12,7 +12,7 @@ use Rattle.mv_format.specs.ReplyLines.{message_fault_value}
 -- the value of the message that was read, or of the refusal of its first fault
 abbrev pub canon_value : Result Message MessageFault → Data
 canon_value (Ok message) = value_of message
-canon_value (Err fault) = message_fault_value fault
+canon_value (Err fault) = message_fault_value None fault
 
 -- the text to a line: the canonical text of the message that it is, or of its refusal
 abbrev pub canon_text : List ℕ → List ℕ

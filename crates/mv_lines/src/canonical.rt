@@ -10,7 +10,7 @@ ghost use Rattle.mv_engine.specs.Served.{Served, Ended};
 
 use json::Scratch;
 use mv_engine::{Answering, ServeFault, answer_lines};
-use mv_format::append_json;
+use mv_format::append_refusal;
 use mv_json::MessageFault;
 use mv_message::Message;
 use std::alloc::{AllocError, Global};
@@ -52,18 +52,15 @@ impl Canonizer {
         match self.read(line) {
             Ok(message) => mv_json::write_text(self.alloc, &message, out),
             Err(MessageFault::Memory) => Err(AllocError),
-            Err(fault) => append_json(self.alloc, out, &fault),
+            Err(fault) => append_refusal(self.alloc, out, &fault, None),
         }
     }
 
-    /// Reads a message: by its tokens, and what these give no message of by its value.
+    /// Reads a message.
     fn read(&mut self, line: &[u8]) -> Result<Message, MessageFault>
         ensures { GivesOr result (read_bytes line.now) MessageFault.Memory }
     {
-        match mv_json::read_by_tokens(self.alloc, &mut self.scratch, line) {
-            Some(message) => Ok(message),
-            None => mv_json::read(self.alloc, line),
-        }
+        mv_json::read_in(self.alloc, &mut self.scratch, line)
     }
 }
 

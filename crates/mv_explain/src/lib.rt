@@ -22,5 +22,5 @@ mod codes;
 mod explaining;
 mod sentences;
 
-pub use codes::sentence;
+pub use codes::{codes_are_listed, sentence};
 pub use explaining::{ExplainFault, explain};

@@ -1,6 +1,6 @@
 -- What the ends keep while their lists grow.
-use Rattle.std.proofs.Common.{◌≡◌, ◌≤◌, ◌<◌, ◌+◌, ℕ, List, [], ◌∷◌, ◌++◌, length, arith, true, append-nil, length-append, length-set, None, Err}
-use Rattle.mv_ends.proofs.Words.{get_or-set_same, get_or-set_other, common_steps, Message, Item, Frame, IsFrameOf, routed_count, is_open, FailsBy, Refused, route_refusal_of, HubState, items_on, close_fault, nat_tests, IsLawfulRecord, stamps_suffice, record-entered, slice_get-append, cell, put-each, put-each_pair, HubEnd, IsUnchanged, Routes, IsFront, IsFor, with_item, with_frame, TookAll, AreOfLinks, AreWithin}
+use Rattle.std.proofs.Common.{◌≡◌, ◌≤◌, ◌<◌, ◌+◌, ℕ, List, [], ◌∷◌, ◌++◌, length, arith, true, append-nil, length-append, None, Err}
+use Rattle.mv_ends.proofs.Words.{get_or-set_same, get_or-set_other, Message, Item, Frame, IsFrameOf, routed_count, is_open, FailsBy, Refused, route_refusal_of, HubState, items_on, close_fault, nat_tests, IsLawfulRecord, stamps_suffice, record-entered, slice_get-append, cell, put-each_pair, HubEnd, IsUnchanged, Routes, IsFront, with_item, with_frame, TookAll, AreOfLinks, AreWithin}
 use Rattle.std.specs.List.{All}
 use Rattle.std.proofs.lemmas.List.Elements.{All-push}
 use Rattle.mv_link.specs.declared.limits.TheConstants.{PARTIES_LIMIT, NUMBER_LIMIT}
@@ -26,10 +26,6 @@ pub of_links_put : (hub : HubState) (put : List (List (List Frame))) (sender rec
 of_links_put hub put sender receiver frame one all from to =
     put-each_pair (λ to from frames. All (IsFrameOf (items_on hub from to)) frames) put receiver sender (cell put receiver sender [] ++ frame ∷ []) []
     (All-push (IsFrameOf (items_on hub sender receiver)) (cell put receiver sender []) frame (all sender receiver) one) (λ to from. all from to) to from
-
--- there is a link for each pair still
-pub for_put : (count : ℕ) (put : List (List (List Frame))) (sender receiver : ℕ) (frame : Frame) → IsFor count put → IsFor count (with_frame put sender receiver frame)
-for_put count put sender receiver frame each = grind (arith, nat_tests, common_steps, length-set, put-each)
 
 -- the message that was taken is the one that was routed
 pub took_routed : (count : ℕ) (entries : List Entry) (sender k : ℕ) (message : Message) (taken : List (List Message)) → sender < length taken

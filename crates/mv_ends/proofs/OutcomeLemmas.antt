@@ -1,6 +1,7 @@
 -- What an outcome shows of its ends, and that the ends of one opening make a lawful one.
-use Rattle.std.proofs.Common.{◌≡◌, ◌<◌, ℕ, zero, suc, List, [], ◌∷◌, length, get_or, slice_index_or, map, set, ◌+◌, inl, inr, sym, ◌∙◌, ap, refl, subst, arith, ltb-true, IsTrue}
-use Rattle.mv_ends.proofs.Words.{common_steps, nat_tests, get_or-map, length-map, cases_lt, IsSquare, square-replicate, new_site, State, is_party, site_of, opening, IsLawful, IsLawfulAt, IsLawfulRecord, IsSiteAt, IsWellFormed, HeadlineHolds, headline, opening-sound, HubEnd, HubSeat, RepoEnd, RepoSeat, SameHubEnd, IsUnchanged, hub_seat, repo_seat, SameRepoEnd, IsRepoUnchanged, IsSeatOf, AreEnds, sites_of, state_of, IsOutcome}
+use Rattle.std.proofs.lemmas.Option.{gets}
+use Rattle.std.proofs.Common.{◌≡◌, ◌<◌, ℕ, zero, suc, List, [], ◌∷◌, length, get_or, slice_index_or, map, set, ◌+◌, inl, inr, sym, ◌∙◌, refl, subst, arith, ltb-true, IsTrue}
+use Rattle.mv_ends.proofs.Words.{nat_tests, length-map, cases_lt, IsSquare, square-replicate, new_site, State, is_party, site_of, opening, IsLawful, IsLawfulAt, IsLawfulRecord, IsSiteAt, IsWellFormed, HeadlineHolds, headline, opening-sound, HubEnd, HubSeat, RepoEnd, RepoSeat, SameHubEnd, IsUnchanged, hub_seat, repo_seat, SameRepoEnd, IsRepoUnchanged, IsSeatOf, AreEnds, sites_of, state_of, IsOutcome}
 use Rattle.mv_ends.proofs.CallerLemmas.{ends_kept, same_but_one}
 use Rattle.mv_ends.proofs.RingLemmas.{shown_at, shows_same}
 
@@ -11,9 +12,7 @@ place_of hub repos st party view ends is = grind (arith, nat_tests, length-map, 
 -- what one end shows of its party is what the state has of it
 pub shown : (hub : HubEnd) (repos : List RepoEnd) (st : State) (party : ℕ) (repo : RepoEnd) → state_of hub repos ≡ st → AreEnds hub repos → IsTrue (is_party st party)
     → repo ≡ slice_index_or repos party repo → repo.site ≡ site_of st party
-shown hub repos st party repo view ends party_is here =
-    let below = place_of hub repos st party view ends party_is in
-    sym (shown_at repos party repo repo below here (λ (r : RepoEnd). r.site) (sites_of repos) refl (new_site 0 0 0)) ∙ ap (λ (it : State). site_of it party) view
+shown hub repos st party repo view ends party_is here = grind (arith, gets, place_of, shown_at)
 
 -- the headline, from the opening on
 pub headline_of : (st : State) → IsWellFormed st → IsLawful st → HeadlineHolds (opening st.hub.parties st.limits) st
@@ -48,8 +47,7 @@ gathering_more st hub next_hub repos k old new was below here same_hub unchanged
 site_seated : (hub : HubSeat) (party : ℕ) (repos : List RepoEnd) (place : ℕ) → place < length repos → ((absent : RepoSeat) → IsSeatOf hub party (get_or (map repo_seat repos) place absent))
     → IsSiteAt party (length hub.parties) hub.limits.submissions (get_or (sites_of repos) place (new_site 0 0 0))
 site_seated hub party [] place below seat = absurd (omega (arith, below))
-site_seated hub party (repo ∷ repos) zero below seat =
-    let here = seat (repo_seat repo) in record { party_is = here.party_is; parties_are = here.parties; limit_is = here.limit }
+site_seated hub party (repo ∷ repos) zero below seat = assumption (seat (repo_seat repo))
 site_seated hub party (repo ∷ repos) (suc place) below seat = site_seated hub party repos place (omega (arith, below)) seat
 
 -- ends of one opening make an outcome, once all parties were found lawful

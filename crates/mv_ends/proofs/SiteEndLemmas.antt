@@ -1,16 +1,17 @@
 -- What a repository's end keeps as it takes frames.
 use Rattle.std.proofs.Common.{◌≡◌, ◌<◌, ℕ, List, [], ◌∷◌, ◌++◌, length, arith, true, false, eqb, append-nil, Option, Err, option_to_list}
-use Rattle.mv_ends.proofs.Words.{nat_tests, get_or-set_same, get_or-set_other, sent, Message, Item, Frame, accepted, one_more, items_from, SiteState, FailsBy, Taken, apply_fault, with_taken, Submitted, Refused, Memory, refusal_of, reply_to, RepoEnd, IsFront, with_item, answer_by, stands_to, AreAccepted, IsRefusedBy, is_uplink_full, IsRepoUnchanged, Submits, TakesFrame, Applies}
+use Rattle.mv_ends.proofs.Words.{nat_tests, get_or-set_same, get_or-set_other, sent, Message, Item, Frame, accepted, one_more, items_from, SiteState, FailsBy, Taken, apply_fault, with_taken, Submitted, Refused, Memory, refusal_of, reply_to, RepoEnd, IsFront, with_item, answer_by, stands_to, AreAccepted, is_uplink_full, IsRepoUnchanged, Submits, TakesFrame, Applies}
 use Rattle.mv_link.specs.declared.incoming.Look.{Look}
 use Rattle.mv_link.specs.declared.incoming.Look.TheVariants as look
 use Rattle.mv_party.specs.declared.fault.SiteFault.{SiteFault}
 use Rattle.mv_party.specs.declared.fault.SiteFault.TheVariants as site_fault
 use Rattle.mv_party.proofs.CallerLemmas.{items_from-push}
 use Rattle.mv_machine.specs.declared.reply.Refusal.{Refusal}
+use Rattle.std.specs.Option.{option_map_or}
 
 -- a fault of the party calls for its refusal
 pub refused_for : (A : Type 0) (expected : Option SiteFault) (fault : SiteFault) → FailsBy {A = A} site_fault.Memory expected (Err fault)
-    → IsRefusedBy refusal_of expected (refusal_of fault)
+    → refusal_of fault ≡ option_map_or refusal_of expected Memory
 refused_for A expected fault is = grind (arith, nat_tests)
 
 -- want of memory is told of no other fault
@@ -19,7 +20,7 @@ memory_told fault is = grind (arith, nat_tests)
 
 -- where the party refuses a frame, no frame was taken
 pub apply_refused : (from : ℕ) (old new : RepoEnd) (frame : Frame) (fault : SiteFault) → IsRepoUnchanged old new
-    → IsFront new.inlets from frame → IsRefusedBy refusal_of (apply_fault (is_uplink_full new) old.site from frame.item (stands_to old.site from frame)) (refusal_of fault)
+    → IsFront new.inlets from frame → refusal_of fault ≡ option_map_or refusal_of (apply_fault (is_uplink_full new) old.site from frame.item (stands_to old.site from frame)) Memory
     → (refusal_of fault ≡ Memory → stands_to old.site from frame ≡ look.Next) → Applies from old new (Refused (refusal_of fault))
 apply_refused from old new frame fault unchanged front why next = grind (arith, nat_tests)
 

@@ -1,13 +1,10 @@
 -- The names of the library, of the definitions, and of the crates below that several files take, passed on from one place. Declares nothing.
-pub use Rattle.mv_ends.specs.Answering.{answer_by, stands_to}
 pub use Rattle.mv_ends.specs.HubEnd.{HubSeat, IsUnchanged, Routes, SameHubEnd, hub_seat}
 pub use Rattle.mv_ends.specs.Opened.{AreLinks, AreOpened, opened_seat}
-pub use Rattle.mv_ends.specs.Outcome.{IsOutcome, sites_of, state_of}
-pub use Rattle.mv_ends.specs.Refusals.{IsRefusedBy}
-pub use Rattle.mv_ends.specs.RepoEnd.{Applies, IsRepoUnchanged, RepoSeat, SameRepoEnd, Submits, TakesFrame, is_uplink_full, repo_seat}
-pub use Rattle.mv_ends.specs.Rings.{Inlet, IsFor, IsFront, Outlet, each_row, inflow_of, ring_put, ring_taken, table_of, with_frame, with_item}
+pub use Rattle.mv_ends.specs.RepoEnd.{Applies, IsRepoUnchanged, RepoSeat, SameRepoEnd, Submits, TakesFrame, answer_by, is_uplink_full, repo_seat, stands_to}
+pub use Rattle.mv_ends.specs.Rings.{Inlet, IsFront, Outlet, each_row, inflow_of, ring_put, ring_taken, table_of, with_frame, with_item}
 pub use Rattle.mv_ends.specs.Valid.{AreAccepted, AreOfLinks, AreWithin, TookAll}
-pub use Rattle.mv_ends.specs.Whole.{AreEnds, AreSeatsOf, IsSeatOf}
+pub use Rattle.mv_ends.specs.Whole.{AreEnds, AreSeatsOf, IsOutcome, IsSeatOf, sites_of, state_of}
 pub use Rattle.mv_ends.specs.declared.hub_end.HubEnd.{HubEnd}
 pub use Rattle.mv_ends.specs.declared.repo_end.RepoEnd.{RepoEnd}
 pub use Rattle.mv_hub.specs.Hub.{HubState, close_fault, items_on, new_hub}
@@ -25,7 +22,7 @@ pub use Rattle.mv_machine.specs.State.{State, is_party, opening, site_of}
 pub use Rattle.mv_machine.specs.declared.reply.Refusal.TheVariants.{Memory}
 pub use Rattle.mv_machine.specs.declared.reply.Reply.TheVariants.{Refused, Submitted}
 pub use Rattle.mv_message.specs.declared.message.Message.{Message}
-pub use Rattle.mv_pairs.proofs.CallerLemmas.{put-each, put-each_pair, square-replicate}
+pub use Rattle.mv_pairs.proofs.CallerLemmas.{put-each_pair, square-put, square-replicate}
 pub use Rattle.mv_pairs.specs.Pairs.{IsSquare, cell}
 pub use Rattle.mv_party.specs.Calls.{apply_fault, with_taken}
 pub use Rattle.mv_party.specs.Site.{IsLawfulParty, SiteState, new_site}

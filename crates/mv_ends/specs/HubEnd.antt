@@ -1,13 +1,13 @@
 -- What a contract sees of the hub's end, and what its calls leave, by their replies.
 use Rattle.std.specs.Prelude.{◌≡◌, ◌⊎◌, ℕ, ◌+◌, ◌<◌, List, length, Option, Some, None, IsTrue}
 use Rattle.mv_ends.specs.Words.{Message, Frame, IsFrameOf, routed_count, sent_of, items_on, are_parties, relay_fault, repeat_fault, close_fault, with_routed, with_relayed, with_closed, Reply, Routed, Relayed, Repeated, Closed, Refused, Refusal, Party, UplinkEmpty, Busy, WireFull, Memory, Bounds, hub_refusal_of}
+use Rattle.mv_ends.specs.Refusals.{IsRefusedBy}
 use Rattle.mv_hub.specs.declared.fault.HubFault.{HubFault}
 use Rattle.mv_hub.specs.declared.fault.RouteFault.{RouteFault}
 use Rattle.mv_hub.specs.declared.fault.RouteFault.TheVariants as route
 use Rattle.mv_hub.specs.Targets.{reach}
 use Rattle.mv_hub.specs.Hub.{route_fault}
 use Rattle.mv_ends.specs.declared.hub_end.HubEnd.{HubEnd}
-use Rattle.mv_ends.specs.Refusals.{IsRefusedBy}
 use Rattle.mv_ends.specs.Rings.{Ring, IsEmptyFrom, IsFront, HasRoomOn, IsFullOn, with_item, with_frame}
 
 -- What stays of the hub's end: its parties, its limits, and the rings that it has ends of.
@@ -68,7 +68,7 @@ pub record PutsOf (from to number : ℕ) (old new : HubEnd) : Type 0 where
   pub taken : new.uplinks.taken ≡ old.uplinks.taken
 
 -- why no frame is put on the ring of a link of two parties: the ring was full; or it had room, and the hub refuses it, for this fault
--- if there is one
+-- if there is one, else for want of memory alone
 abbrev pub IsPutRefused : HubEnd → HubEnd → ℕ → ℕ → Option HubFault → Refusal → Type 0
 IsPutRefused old new from to fault refusal =
     ((refusal ≡ WireFull) × IsTrue (are_parties old.hub from to) × IsFullOn new.wires from to)

@@ -1,11 +1,9 @@
 pub mod Words
+pub mod Refusals
 pub mod Rings
 pub mod Valid
-pub mod Refusals
-pub mod Answering
 pub mod HubEnd
 pub mod RepoEnd
 pub mod Whole
-pub mod Outcome
 pub mod Laws
 pub mod Opened

@@ -1,15 +1,18 @@
 -- What a contract sees of a repository's end, and what its calls leave, by their replies.
-use Rattle.std.specs.Prelude.{◌≡◌, ℕ, ◌+◌, ◌<◌, [], ◌∷◌, ◌++◌, length, List, Bool, false, None, option_to_list}
-use Rattle.mv_ends.specs.Words.{sent, Message, Frame, with_submission, Reply, Submitted, Known, Asked, Refused, Party, WireEmpty, Memory, refusal_of, reply_to}
+use Rattle.std.specs.Prelude.{◌≡◌, ℕ, ◌+◌, ◌<◌, [], ◌∷◌, ◌++◌, length, List, Bool, false, Option, None, option_to_list}
+use Rattle.mv_ends.specs.Words.{sent, Message, Frame, SiteState, entry_from, count_from, with_submission, Reply, Submitted, Known, Asked, Refused, Party, WireEmpty, Memory, refusal_of, reply_to}
+use Rattle.mv_ends.specs.Refusals.{IsRefusedBy}
 use Rattle.mv_pack.specs.declared.key.PackKey.{PackKey}
 use Rattle.mv_message.specs.declared.message.Message.TheVariants.{Query}
+use Rattle.mv_link.specs.declared.item.Item.{Item}
+use Rattle.mv_link.specs.declared.incoming.Look.{Look}
 use Rattle.mv_link.specs.declared.incoming.Look.TheVariants.{Next}
+use Rattle.mv_link.specs.Receiving.{look_at}
 use Rattle.mv_repository.specs.declared.verdict.Local.TheVariants.{Known as KnownPack, Absent}
 use Rattle.mv_repository.specs.Verdict.{local_verdict}
 use Rattle.mv_party.specs.Calls.{ask_fault, submit_fault, apply_fault, taken_by, with_taken}
 use Rattle.mv_ends.specs.declared.repo_end.RepoEnd.{RepoEnd}
-use Rattle.mv_ends.specs.Answering.{answer_by, stands_to}
-use Rattle.mv_ends.specs.Refusals.{IsRefusedBy}
+use Rattle.mv_repository.specs.Verdict.{answer_to}
 use Rattle.mv_ends.specs.Rings.{Ring, ring_put, is_full, IsEmptyFrom, IsFront, with_item}
 
 -- What stays of a repository's end: its party, one of so many, how much it may submit, and the rings that it has ends of.
@@ -51,7 +54,7 @@ pub record Puts (message : Message) (old new : RepoEnd) (number : ℕ) : Type 0 
   pub taken : new.inlets.taken ≡ old.inlets.taken
   pub numbered : number ≡ length old.site.submissions + 1
 
--- what `submit` leaves, by its reply: a refusal is by whether the uplink was full
+-- what `submit` leaves, by its reply: a refusal is by whether the uplink was full, and where there is no fault for want of memory alone
 abbrev pub Submits : Message → RepoEnd → RepoEnd → Reply → Type 0
 Submits message old new (Submitted k) = Puts message old new k × (submit_fault false old.site message ≡ None)
 Submits message old new (Refused refusal) = IsRepoUnchanged old new × IsRefusedBy refusal_of (submit_fault (is_uplink_full new) old.site message) refusal
@@ -67,6 +70,15 @@ Asks key old new reply = ⊥
 abbrev pub Verifies : PackKey → RepoEnd → RepoEnd → Reply → Type 0
 Verifies key old new (Known verdict) = IsRepoUnchanged old new × (local_verdict key old.site.log ≡ KnownPack verdict)
 Verifies key old new reply = Asks key old new reply × (local_verdict key old.site.log ≡ Absent)
+
+-- the answer that goes on the uplink where a frame from a sender stands so, and bears this item
+abbrev pub answer_by : SiteState → ℕ → Item → Look → Option Message
+answer_by site sender item Next = answer_to site.log (entry_from sender item)
+answer_by site sender item stands = None
+
+-- how a frame from a sender stands to what a party applied of it
+abbrev pub stands_to : SiteState → ℕ → Frame → Look
+stands_to site sender frame = look_at (count_from site.log sender) frame.number
 
 -- Just this frame was taken, from the link from a sender; the party took it, what it answers was put on its uplink, and the reply says what it
 -- did with the frame.

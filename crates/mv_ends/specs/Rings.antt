@@ -85,10 +85,6 @@ IsFullOn wires from to = (absent : ℕ) → cell wires.free to from absent ≡ 0
 abbrev pub with_frame : List (List (List Frame)) → ℕ → ℕ → Frame → List (List (List Frame))
 with_frame wires from to frame = put wires to from (cell wires to from [] ++ frame ∷ [])
 
--- there is a link for each ordered pair of so many parties
-abbrev pub IsFor : {A : Type 0} → ℕ → List (List A) → Type 0
-IsFor count table = (length table ≡ count) × ((to : ℕ) → to < count → length (slice_index_or table to []) ≡ count)
-
 -- nothing was put on any ring, or taken from it
 abbrev pub AreEmpty : {A : Type 0} → List (List A) → Type 0
 AreEmpty lists = (from : ℕ) → slice_index_or lists from [] ≡ []

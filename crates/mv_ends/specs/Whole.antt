@@ -1,6 +1,7 @@
--- All ends of one opening.
+-- All ends of one opening, and what they are as the lists of the list machine.
 use Rattle.std.specs.Prelude.{◌≡◌, ℕ, ◌<◌, List, length, map, slice_index_or}
-use Rattle.mv_ends.specs.Words.{All, new_hub, new_site, Bounds}
+use Rattle.mv_ends.specs.Words.{All, new_hub, new_site, Bounds, SiteState, IsLawful, IsWellFormed}
+use Rattle.mv_machine.specs.State.{State, opening}
 use Rattle.mv_ends.specs.declared.hub_end.HubEnd.{HubEnd}
 use Rattle.mv_ends.specs.declared.repo_end.RepoEnd.{RepoEnd}
 use Rattle.mv_ends.specs.Rings.{Ring}
@@ -34,3 +35,17 @@ pub record AreFresh (parties : List (List (List ℕ))) (limits : Bounds) (end : 
   pub limits_are : end.limits ≡ limits
   pub sites : (party : ℕ) (absent : RepoEnd) → party < length repos
       → (slice_index_or repos party absent).site ≡ new_site party (length parties) limits.submissions
+
+-- the parties, in order
+abbrev pub sites_of : List RepoEnd → List SiteState
+sites_of repos = map (λ (repo : RepoEnd). repo.site) repos
+
+-- the lists that all ends have together. Nothing is under way: what was left on the rings is not taken any more.
+abbrev pub state_of : HubEnd → List RepoEnd → State
+state_of end repos = record (opening end.hub.parties end.limits) { hub = end.hub; sites = sites_of repos }
+
+-- what an outcome keeps
+pub record IsOutcome (end : HubEnd) (repos : List RepoEnd) : Type 0 where
+  pub ends : AreEnds end repos
+  pub well_formed : IsWellFormed (state_of end repos)
+  pub lawful : IsLawful (state_of end repos)

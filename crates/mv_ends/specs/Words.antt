@@ -16,6 +16,7 @@ pub use Rattle.mv_party.specs.Site.{IsLawfulParty, SiteState, count_from, entry_
 pub use Rattle.mv_repository.specs.Log.{items_from}
 pub use Rattle.rtrb.specs.Ring.{consumer_capacity, known_free, known_items, producer_capacity, received, sent}
 pub use Rattle.std.specs.List.{All}
+pub use Rattle.std.specs.Option.{option_map_or}
 pub use Rattle.std.specs.declared.alloc.Global.{Global}
 pub use Rattle.std.specs.declared.vec.Vec.{Vec}
 pub use mathlib.Core.List.{IsPrefix}

@@ -3,7 +3,7 @@
 ghost use Rattle.std.specs.Prelude.{◌≡◌, ◌<◌, ◌++◌, true, None, is_some, option_to_list, IfOk, IsFalse, OnErr};
 ghost use Rattle.rtrb.specs.Ring.{sent, known_free};
 ghost use Rattle.mv_party.specs.Calls.{apply_fault};
-ghost use Rattle.mv_ends.specs.Answering.{answer_by, stands_to};
+ghost use Rattle.mv_ends.specs.RepoEnd.{answer_by, stands_to};
 ghost use Rattle.mv_ends.specs.Rings.{ring_put, is_full};
 
 use crate::parcel::Parcel;

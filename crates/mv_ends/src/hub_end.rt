@@ -2,7 +2,7 @@
 
 ghost use Rattle.std.specs.Prelude.{◌≡◌, ◌<◌, ℕ, [], length, slice_index_or, Option, None, Some, IfOk, IfSome, IsTrue, false};
 ghost use Rattle.mv_machine.specs.Lawful.{IsLawfulRecord};
-ghost use Rattle.mv_ends.specs.Rings.{IsFor};
+ghost use Rattle.mv_pairs.specs.Pairs.{IsSquare};
 ghost use Rattle.mv_ends.specs.Valid.{TookAll, AreOfLinks, AreWithin, IsLawfulRecord-prop};
 
 use crate::inlets::Inlets;
@@ -33,7 +33,7 @@ pub struct HubEnd {
     /// There is an uplink for each party.
     ghost each: { length uplinks.taken ≡ length hub.parties },
     /// There is a link for each ordered pair of parties.
-    ghost square: { IsFor (length hub.parties) wires.put },
+    ghost square: { IsSquare (length hub.parties) wires.put },
     /// What was taken from each uplink is what was routed from its party.
     ghost took: { TookAll (length hub.parties) hub.entries uplinks.taken },
     /// What was put on the ring of each link are frames of the link.
@@ -63,7 +63,7 @@ impl HubEnd {
         wires: Wires,
     ) -> Result<HubEnd, AllocError>
         requires each { length uplinks.taken ≡ length parties }
-        requires square { IsFor (length parties) wires.put }
+        requires square { IsSquare (length parties) wires.put }
         requires untaken { AreEmpty uplinks.taken }
         requires unused { (to : ℕ) → AreEmpty (slice_index_or wires.put to []) }
         ensures hub { IfOk result (λ end. end.hub ≡ new_hub parties limits.window) }

@@ -2,7 +2,7 @@
 //! from.
 
 ghost use Rattle.std.specs.Prelude.{◌≡◌, [], length, IfOk, IfErr};
-ghost use Rattle.mv_ends.specs.Words.{sent, refusal_of, IsLawfulParty, new_site};
+ghost use Rattle.mv_ends.specs.Words.{sent, IsLawfulParty, new_site};
 ghost use Rattle.mv_ends.specs.Valid.{AreAccepted};
 ghost use Rattle.mv_repository.specs.Verdict.{joint_verdict};
 
@@ -13,7 +13,7 @@ use mv_link::Frame;
 use mv_machine::{Limits, Refusal, Reply};
 use mv_message::{Message, Party, Shared};
 use mv_pack::PackKey;
-use mv_party::{Site, SiteFault};
+use mv_party::Site;
 use mv_repository::{Local, LogEntry, Repository};
 use rtrb::Producer;
 use std::alloc::{AllocError, Global};
@@ -44,18 +44,6 @@ pub struct Unsubmitted {
     pub message: Parcel<Shared<Message>>,
     /// Why it was not submitted.
     pub refusal: Refusal,
-}
-
-impl Unsubmitted {
-    /// A message that a party does not submit, for this fault.
-    fn new(message: Parcel<Shared<Message>>, fault: SiteFault) -> Unsubmitted
-        ensures { result ≡ record { message = message; refusal = refusal_of fault } }
-    {
-        Unsubmitted {
-            message,
-            refusal: Refusal::from(fault),
-        }
-    }
 }
 
 impl RepoEnd {
@@ -152,17 +140,22 @@ impl RepoEnd {
     {
         let full = is_full(&mut self.uplink);
         if let Err(fault) = self.site.check(message.message(), full) {
-            return Err(Unsubmitted::new(message, fault));
+            let refusal = Refusal::from(fault);
+            return Err(Unsubmitted { message, refusal });
         }
         let Ok(submitted) = Parcel::of_copy(self.alloc, message.message()) else {
-            return Err(Unsubmitted::new(message, SiteFault::Memory));
+            let refusal = Refusal::Memory;
+            return Err(Unsubmitted { message, refusal });
         };
         match self.site.submit(message.inside(), full) {
             Ok(k) => {
                 self.uplink.push_reserved(submitted);
                 Ok(k)
             }
-            Err(fault) => Err(Unsubmitted::new(message, fault)),
+            Err(fault) => {
+                let refusal = Refusal::from(fault);
+                Err(Unsubmitted { message, refusal })
+            }
         }
     }
 

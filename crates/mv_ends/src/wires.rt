@@ -60,23 +60,7 @@ impl Wires {
         self.rows[to as usize][from as usize].push_reserved(parcel);
     }
 
-    /// Looks at both ends of the ring of a link: what its receiver took is a front of what was put there.
-    #[tactic(auto, using(crate::proofs::RingLemmas::cell_same, crate::proofs::RingLemmas::cell_shown))]
-    fn look_at(&mut self, from: Party, to: Party, inlets: &mut Inlets<Frame>)
-        requires to { to < length self.old.put }
-        requires from { from < length inlets.old.taken }
-        requires wide { from < length (slice_index_or self.old.put to []) }
-        requires pairs { slice_index_or self.old.rings to [] ≡ inlets.old.rings }
-        ensures same { self.new.rings ≡ self.old.rings }
-        ensures nothing { self.new.put ≡ self.old.put }
-        ensures inlets { inlets.new.rings ≡ inlets.old.rings }
-        ensures taken { inlets.new.taken ≡ inlets.old.taken }
-        ensures front { IsPrefix (slice_index_or inlets.old.taken from []) (cell self.old.put to from []) }
-    {
-        inlets.look_beside(from, &mut self.rows[to as usize][from as usize]);
-    }
-
-    /// The same of the links to a party from all, so many: what it took from each is a front of what was put there.
+    /// Looks at both ends of the rings of the links to a party from all, so many: what it took from each is a front of what was put there.
     pub(crate) fn look_beside(&mut self, to: Party, count: u32, inlets: &mut Inlets<Frame>)
         requires to { to < length self.old.put }
         requires count { count ≡ length inlets.old.taken }
@@ -90,7 +74,7 @@ impl Wires {
             → IsPrefix (slice_index_or inlets.old.taken from []) (cell self.old.put to from []) }
     {
         for from in 0..count {
-            self.look_at(from, to, inlets);
+            inlets.look_beside(from, &mut self.rows[to as usize][from as usize]);
         }
     }
 }

@@ -1,8 +1,7 @@
 //! The histories of a pack in two repositories.
 
 ghost use Rattle.std.specs.Prelude.{◌↔◌, IsTrue};
-ghost use Rattle.mv_repository.specs.Agreement.{AgreeOn};
-ghost use Rattle.mv_repository.specs.History.{HaveSameHistory};
+ghost use Rattle.mv_repository.specs.Agreement.{AgreeOn, HaveSameHistory};
 
 use mv_pack::PackKey;
 use mv_repository::{Repository, same_histories_agree};

@@ -1,7 +1,7 @@
 -- Lengths decide what is carried out.
 use Rattle.std.proofs.lemmas.Grind.{common_steps}
 use Rattle.mv_workers.proofs.Words.{nat_tests, count_by, Item, LogEntry, items_from, State, submissions_of, log_of, IsLawful}
-use Rattle.std.proofs.Common.{◌≡◌, ◌<◌, ◌+◌, ℕ, Bool, List, ◌∷◌, length, cond, eqb, sym, refl, ◌∙◌, arith, append-nil, length-append}
+use Rattle.std.proofs.Common.{◌≡◌, ◌<◌, ◌+◌, ℕ, Bool, List, ◌∷◌, length, cond, eqb, refl, arith, append-nil, length-append}
 use Rattle.std.proofs.lemmas.List.Recursion.{is_count_by}
 use mathlib.Core.List.{IsPrefix}
 use Rattle.mv_hub.specs.Record.{routed_from}
@@ -14,16 +14,13 @@ front-whole {A = A} front whole prefix same = grind (arith, nat_tests, common_st
 -- where as many messages of a party were routed as it submitted, all were
 pub routed_by_count : (outcome : State) (party count : ℕ) → IsLawful outcome → party < length outcome.hub.parties → count ≡ length (routed_from outcome.hub.entries party)
     → count ≡ length (submissions_of outcome party) → routed_from outcome.hub.entries party ≡ submissions_of outcome party
-routed_by_count outcome party count lawful below routed submitted =
-    front-whole (routed_from outcome.hub.entries party) (submissions_of outcome party) (lawful.of_party party below).routed (sym routed ∙ submitted)
+routed_by_count outcome party count lawful below routed submitted = grind (arith, front-whole)
 
 -- where a repository applied as many items of a party as are on the link, it applied all
 pub applied_by_count : (outcome : State) (from to applied total : ℕ) → IsLawful outcome → from < length outcome.hub.parties → to < length outcome.hub.parties
     → applied ≡ length (items_from (log_of outcome to) from) → total ≡ length (link_items outcome.hub.parties outcome.hub.entries from to) → applied ≡ total
     → items_from (log_of outcome to) from ≡ link_items outcome.hub.parties outcome.hub.entries from to
-applied_by_count outcome from to applied total lawful from_below to_below is put same =
-    front-whole (items_from (log_of outcome to) from) (link_items outcome.hub.parties outcome.hub.entries from to) ((lawful.of_party to to_below).applied from from_below)
-    (sym is ∙ same ∙ put)
+applied_by_count outcome from to applied total lawful from_below to_below is put same = grind (arith, front-whole)
 
 -- the items of a party are as many as the entries that are from it
 pub from_counted : (party : ℕ) (log : List LogEntry) → length (items_from log party) ≡ count_by (λ (entry : LogEntry). eqb entry.sender party) log

@@ -1,11 +1,11 @@
 -- What a plan is beside what its run leaves.
 use Rattle.std.proofs.Common.{◌≡◌, ◌∙◌, ◌<◌, ℕ, zero, suc, Bool, true, false, List, [], ◌∷◌, length, map, get_or, refl, sym, ap, subst, arith, ◌↔◌, ◌&&◌, IsTrue, IsFalse}
-use Rattle.mv_workers.proofs.Words.{nat_tests, AllZip, ext_get_or, length-map, Message, SiteState, new_site, State, submissions_of, IsLawful, RepoEnd, HubSeat, repo_seat, own_among, Begins, AllUnused, own_of, IsCarried, AreBegun, IsCrewOf, IsBack}
+use Rattle.mv_workers.proofs.Words.{nat_tests, ext_get_or, length-map, SiteState, new_site, State, submissions_of, IsLawful, RepoEnd, HubSeat, repo_seat, own_among, Begins, AllUnused, own_of, IsCarried, AreBegun, IsCrewOf, IsBack}
+use Rattle.std.proofs.lemmas.List.Elements.{AllZip-get_or}
 use Rattle.mv_hub.specs.Hub.{HubState}
 use Rattle.mv_machine.specs.Limits.{Bounds}
 use Rattle.mv_ends.specs.declared.hub_end.HubEnd.{HubEnd}
-use Rattle.mv_ends.specs.Whole.{AreEnds, AreFresh}
-use Rattle.mv_ends.specs.Outcome.{sites_of, state_of}
+use Rattle.mv_ends.specs.Whole.{AreEnds, AreFresh, sites_of, state_of}
 use Rattle.mv_workers.specs.declared.plan.Plan.{Plan}
 use Rattle.mv_workers.specs.declared.crew.Crew.{Crew}
 use Rattle.mv_workers.specs.declared.crew.CrewEnds.{CrewEnds}
@@ -26,22 +26,13 @@ own_at [] party = refl
 own_at (repo ∷ repos) zero = refl
 own_at (repo ∷ repos) (suc party) = own_at repos party
 
--- where lists begin one by one, each does
-begins_at : (owns work : List (List Message)) → AllZip Begins owns work → (party : ℕ) → Begins (get_or owns party []) (list_at work party)
-begins_at [] [] all party = refl
-begins_at [] (list ∷ work) all party = absurd all
-begins_at (own ∷ owns) [] all party = absurd all
-begins_at (own ∷ owns) (list ∷ work) all zero = all.0
-begins_at (own ∷ owns) (list ∷ work) all (suc party) = begins_at owns work all.1 party
-
 module _ (plan : Plan) (crew : Crew) (back : CrewEnds) (of_plan : IsCrewOf plan crew) (is_back : IsBack crew back) (outcome : State)
     (is : outcome ≡ state_of back.hub back.repos.items) where
   parties_kept : outcome.hub.parties ≡ plan.parties
   parties_kept = ap (λ (it : State). it.hub.parties) is ∙ ap (λ (seat : HubSeat). seat.parties) is_back.hub_is ∙ of_plan.parties
 
-  as_many : length back.repos.items ≡ length outcome.hub.parties
-  as_many =
-      sym (length-map back.repos.items repo_seat) ∙ ap length is_back.repos ∙ of_plan.ends.each ∙ ap length (of_plan.parties ∙ sym parties_kept)
+  own_each : length (map own_of back.repos.items) ≡ length outcome.hub.parties
+  own_each = grind (arith, length-map)
 
   own_is : (party : ℕ) → get_or (map own_of back.repos.items) party [] ≡ own_among (submissions_of outcome party)
   own_is party = own_at back.repos.items party ∙ ap (λ (it : State). own_among (submissions_of it party)) (sym is)
@@ -55,7 +46,7 @@ module _ (plan : Plan) (crew : Crew) (back : CrewEnds) (of_plan : IsCrewOf plan 
     lawful = lawful;
     parties = parties_kept;
     limits = ap (λ (it : State). it.limits) is ∙ ap (λ (seat : HubSeat). seat.limits) is_back.hub_is ∙ of_plan.limits;
-    submitted = λ party below. subst (λ own. Begins own (list_at plan.work party)) (own_is party) (begins_at (map own_of back.repos.items) plan.work begun.0 party);
+    submitted = λ party below. subst (λ own. Begins own (list_at plan.work party)) (own_is party) (AllZip-get_or Begins (map own_of back.repos.items) plan.work party [] [] begun.0 (subst (λ n. party < n) (sym own_each) below));
   }
 
   -- they have a complete outcome where all was submitted, and all that was submitted was carried
@@ -64,17 +55,11 @@ module _ (plan : Plan) (crew : Crew) (back : CrewEnds) (of_plan : IsCrewOf plan 
   complete_by sound carried means = by back.all begun.1
     where
       by : (all : Bool) → IsTrue all ↔ (map own_of back.repos.items ≡ plan.work) → IsTrue (all && carried) ↔ IsComplete plan outcome
-      by true whole = (
-        λ told party below. record {
-          submitted = sym (own_is party) ∙ ap (λ lists. list_at lists party) (whole.0 refl);
-          carried = means.0 told party below;
-        },
-        λ done. means.1 (λ party below. (done party below).carried),
-      )
+      by true whole = grind (arith, own_is)
       by false whole = (
         λ told. absurd (cc),
-        λ done. whole.1 (ext_get_or [] (map own_of back.repos.items) plan.work (length-map back.repos.items own_of ∙ as_many ∙ ap length parties_kept ∙ sym sound.each)
-            (λ party below. own_is party ∙ (done party (subst (λ n. party < n) (length-map back.repos.items own_of ∙ as_many) below)).submitted)),
+        λ done. whole.1 (ext_get_or [] (map own_of back.repos.items) plan.work (own_each ∙ ap length parties_kept ∙ sym sound.each)
+            (λ party below. own_is party ∙ (done party (subst (λ n. party < n) own_each below)).submitted)),
       )
 
   module _ (sound : IsSound plan) (lawful : IsLawful outcome) (carried : Bool)

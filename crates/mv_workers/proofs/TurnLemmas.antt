@@ -4,7 +4,7 @@ use Rattle.mv_workers.proofs.Words.{nat_tests, Message, Query, Item, LogEntry, S
 use Rattle.mv_pack.specs.declared.key.PackKey.{PackKey}
 use Rattle.mv_message.specs.Kinds.{is_query_or_answer}
 use Rattle.mv_link.specs.declared.incoming.Look.{Look}
-use Rattle.mv_repository.specs.Query.{answer_after}
+use Rattle.mv_repository.specs.Verdict.{answer_after}
 use Rattle.mv_party.specs.Calls.{with_taken}
 use Rattle.mv_party.proofs.CallerLemmas.{submit-free}
 use Rattle.mv_machine.specs.declared.reply.Reply.{Reply}

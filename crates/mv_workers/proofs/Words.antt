@@ -1,7 +1,7 @@
 -- The names of the library, of the definitions, and of the crates below that several files take, passed on from one place. Declares nothing.
 pub use Rattle.mv_ends.specs.HubEnd.{HubSeat, SameHubEnd}
 pub use Rattle.mv_ends.specs.Laws.{AreSameRepos}
-pub use Rattle.mv_ends.specs.RepoEnd.{Applies, Asks, IsRepoUnchanged, Puts, SameRepoEnd, Submits, repo_seat}
+pub use Rattle.mv_ends.specs.RepoEnd.{Applies, Asks, IsRepoUnchanged, Puts, Submits, repo_seat}
 pub use Rattle.mv_ends.specs.declared.repo_end.RepoEnd.{RepoEnd}
 pub use Rattle.mv_link.specs.declared.item.Item.{Item}
 pub use Rattle.mv_machine.specs.Lawful.{IsLawful}
@@ -13,11 +13,11 @@ pub use Rattle.mv_repository.specs.Log.{items_from}
 pub use Rattle.mv_repository.specs.declared.entry.LogEntry.{LogEntry}
 pub use Rattle.mv_workers.specs.Crews.{AreBegun, Handle, IsBack, IsCrewOf, end_of, work_of}
 pub use Rattle.mv_workers.specs.Desks.{AllUnused, IsFurther, own_of}
-pub use Rattle.mv_workers.specs.Done.{IsCarried}
+pub use Rattle.mv_workers.specs.Plans.{IsCarried}
 pub use Rattle.mv_workers.specs.Work.{Begins, is_answer, lists_of, own_among}
 pub use Rattle.std.proofs.lemmas.Bool.Decides.{nat_tests}
 pub use Rattle.std.proofs.lemmas.Bool.{cases_lt}
 pub use Rattle.std.proofs.lemmas.List.{ext_get_or, get_or-map, length-map, map-append, nil_from_length, same_from_push}
-pub use Rattle.std.specs.List.{AllZip, count_by, list_any}
+pub use Rattle.std.specs.List.{count_by, list_any}
 pub use Rattle.std.specs.Vec.Iter.{into_iter_items, into_iter_len}
 pub use Rattle.std.specs.Vec.{vec_capacity}

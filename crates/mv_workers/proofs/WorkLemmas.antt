@@ -1,5 +1,5 @@
 -- What a party submits of its own, and where one list begins another.
-use Rattle.std.proofs.Common.{◌≡◌, ◌<◌, get_or, ℕ, Bool, List, [], ◌∷◌, ◌++◌, length, length-append, append-nil, take, not, sym, ap, ◌∙◌, arith, ◌==◌, ◌↔◌, IsTrue, false}
+use Rattle.std.proofs.Common.{◌≡◌, ◌<◌, get_or, ℕ, Bool, List, [], ◌∷◌, ◌++◌, length, length-append, append-nil, not, sym, ap, ◌∙◌, arith, ◌==◌, ◌↔◌, IsTrue, false}
 use Rattle.mv_workers.proofs.Words.{list_any, nat_tests, length-map, get_or-map, nil_from_length, Message, Answer, answers_in, lists_of, own_among, is_answer, Begins}
 use Rattle.std.proofs.Math.Seq.{take-append_seam}
 use Rattle.std.proofs.lemmas.List.Elements.{filter-append}
@@ -31,12 +31,4 @@ list_found lists place list below is = get_or-map items_of lists place list [] b
 
 -- what was submitted and what is left are the list: so it is begun, and all of it was submitted where nothing is left
 pub begun_of : (own left list : List Message) (all : Bool) → own ++ left ≡ list → all ≡ (length left == 0) → Begins own list × (IsTrue all ↔ (own ≡ list))
-begun_of own left list all whole over = (
-  sym (ap (take (length own)) (sym whole) ∙ take-append_seam own left),
-  (
-    λ told. let nothing : length left ≡ 0 = grind (arith, nat_tests, over, told) in
-        sym (append-nil own) ∙ ap (λ l. own ++ l) (sym (nil_from_length left nothing)) ∙ whole,
-    λ same. let nothing : length left ≡ 0 = omega (arith, length-append own left, ap length whole, ap length same) in
-        grind (arith, nat_tests, over, nothing),
-  ),
-)
+begun_of own left list all whole over = grind (arith, length-append own left, take-append_seam, append-nil, nil_from_length)

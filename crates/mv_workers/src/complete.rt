@@ -8,7 +8,7 @@ ghost use Rattle.mv_hub.specs.Record.{routed_from};
 ghost use Rattle.mv_hub.specs.Hub.{items_on};
 ghost use Rattle.mv_repository.specs.Log.{items_from};
 ghost use Rattle.mv_machine.specs.State.{is_party, submissions_of, log_of};
-ghost use Rattle.mv_workers.specs.Done.{IsCarried};
+ghost use Rattle.mv_workers.specs.Plans.{IsCarried};
 
 use mv_ends::Outcome;
 use mv_message::Party;
@@ -56,10 +56,7 @@ pub(crate) fn is_carried(outcome: &Outcome) -> bool
     ensures { IsTrue result ↔ ((party : ℕ) → party < length outcome.now.hub.parties → IsCarried outcome.now party) }
 {
     for party in 0..outcome.parties().len() {
-        if !is_routed(outcome, party) {
-            return false;
-        }
-        if !has_applied(outcome, party) {
+        if !is_routed(outcome, party) || !has_applied(outcome, party) {
             return false;
         }
     }

@@ -27,12 +27,11 @@ pub(crate) fn repo_turns<R: Wait, G: Gate>(
     rt: &R,
     gate: &G,
     course: &Course,
-    desk: Desk,
+    mut desk: Desk,
 ) -> (Desk, bool)
     ensures { IsFurther desk result.0 }
 {
     repo_end_stays();
-    let mut desk = desk;
     let mut pace = Pace::new(desk.party());
     for _turn in 0..course.turns(rt) {
         let moved = desk.turn(course.parties, gate);
@@ -70,11 +69,10 @@ fn hub_turn(hub: &mut HubEnd, waiting: &mut Waiting, parties: u32) -> Result<boo
 }
 
 /// The turns of the hub's worker. It gives back the hub's end, and whether it ended for want of memory.
-pub(crate) fn hub_turns<R: Wait>(rt: &R, course: &Course, hub: HubEnd) -> (HubEnd, bool)
+pub(crate) fn hub_turns<R: Wait>(rt: &R, course: &Course, mut hub: HubEnd) -> (HubEnd, bool)
     ensures { SameHubEnd hub result.0 }
 {
     hub_end_stays();
-    let mut hub = hub;
     let mut waiting = Waiting::new();
     let mut pace = Pace::new(course.parties);
     for _turn in 0..course.turns(rt) {

@@ -17,8 +17,7 @@ pub(crate) struct Ends {
 
 impl Model for Ends {
     ghost use Rattle.mv_machine.specs.State.{State};
-    ghost use Rattle.mv_ends.specs.Whole.{AreEnds};
-    ghost use Rattle.mv_ends.specs.Outcome.{state_of};
+    ghost use Rattle.mv_ends.specs.Whole.{AreEnds, state_of};
 
     ghost Value = { State };
 

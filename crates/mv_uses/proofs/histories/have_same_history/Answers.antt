@@ -1,5 +1,5 @@
 use Rattle.std.proofs.Common.{◌∙◌, ap, sym}
-use Rattle.mv_repository.specs.History.{as_sent}
+use Rattle.mv_repository.specs.Agreement.{as_sent}
 use Rattle.mv_uses.proofs.histories.have_same_history.Goals as goal
 
 pub returns-clause-agreed : goal.returns-clause-agreed

@@ -1,12 +1,12 @@
 use Rattle.std.proofs.Common.{◌≡◌, ◌<◌, ℕ, [], get_or}
-use Rattle.mv_ends.proofs.Words.{IsPrefix, cell}
+use Rattle.mv_ends.proofs.Words.{IsPrefix, cell, each_row, ring_put, sent}
 use Rattle.mv_ends.proofs.wires.Wires.look_beside.Given as goal
 
 -- the ends of the links so far were looked at, and show what they showed
 abbrev pub invariant-loop-from : goal.invariant-loop-from
 invariant-loop-from l = record {
-  rings : l.self.rings ≡ l.fn.self.rings;
-  put : l.self.put ≡ l.fn.self.put;
+  rings : each_row ring_put l.self-inside.rows.items ≡ l.fn.self.rings;
+  put : each_row sent l.self-inside.rows.items ≡ l.fn.self.put;
   inlets : l.inlets.rings ≡ l.fn.inlets.rings;
   taken : l.inlets.taken ≡ l.fn.inlets.taken;
   front : (from : ℕ) → from < l.from → IsPrefix (get_or l.fn.inlets.taken from []) (cell l.fn.self.put l.to from []);

@@ -1,5 +1,5 @@
 -- Lemmas on what a run over lines has written.
-use Rattle.std.proofs.Common.{◌≡◌, ℕ, ◌<◌, ◌≤◌, List, [], ◌++◌, length, sym, ◌∙◌, ap, arith, append_assoc, append-nil, length-append, take, subst, Option, Result, Ok, Err, OnOk, IfErr}
+use Rattle.std.proofs.Common.{◌≡◌, ℕ, ◌<◌, ◌≤◌, List, [], ◌++◌, length, sym, ◌∙◌, ap, arith, append_assoc, append-nil, length-append, take, subst, Option, Result, OnOk, IfErr}
 use Rattle.mv_engine.proofs.Words.{common_steps, nat_tests, Appends, Consumes, Appends-trans, Consumes-trans, ServeFault, Read, Write, Start, whole_from, pieces, last_piece, Line, line_at, line_limit, lines_limit, WrotePart, GotNoReply, AreAnswered, StoppedAt, WroteAt, Served, EndedAt, Taken, Halted}
 use Rattle.mv_engine.proofs.InputLemmas.{whole_from-append, answered_more, stopped_later}
 
@@ -19,9 +19,8 @@ module _ {S : Type 0} (Reply : S → Line → Option (List ℕ) → S → Type 0
       → ps ≡ whole_from begun bytes ++ more → kept ≡ [] → OnOk came ((out : List ℕ) × (ready ≡ kept ++ out) × AreAnswered Reply count before ps after out)
       → IfErr came (λ fault. (out : List ℕ) × (ready ≡ kept ++ out) × StoppedAt Reply fault begun count before bytes after out)
       → WrotePart ready old new → WroteAt Reply count before ps after old new
-  broken (Ok u) kept ready begun bytes more ps count before after old new are none (out, grown, answered) stopped part = grind (arith, append-nil ps)
-  broken (Err e) kept ready begun bytes more ps count before after old new are none answered (out, grown, s) part =
-      grind (arith, append_assoc, whole_from-append)
+  broken came kept ready begun bytes more ps count before after old new are none answered stopped part =
+      grind (arith, append-nil ps, append_assoc, whole_from-append)
 
   -- the replies to a later part of the input broke off
   wrote_later : (before between after : S) (front begun' out : List ℕ) (count' : ℕ) (ps more all : List (List ℕ)) (a b c : Option (List ℕ)) → Appends a b out
@@ -47,8 +46,7 @@ module _ {S : Type 0} (Reply : S → Line → Option (List ℕ) → S → Type 0
       → EndedAt Reply fault before (front ++ back) after a c
   halted_later Read before between after front back begun' out count' ps more a b c written taken are (other, went, stopped) = absurd stopped.why
   halted_later Start before between after front back begun' out count' ps more a b c written taken are (other, went, stopped) = absurd stopped.why
-  halted_later Write before between after front back begun' out count' ps more a b c written taken are broken =
-      wrote_later before between after front begun' out count' ps more _ a b c written taken are broken
+  halted_later Write before between after front back begun' out count' ps more a b c written taken are broken = search wrote_later
   halted_later fault before between after front back begun' out count' ps more a b c written taken are (other, went, stopped) =
       (out ++ other, Appends-trans a b c out other written went, stopped_later Reply fault [] (ap (λ l. front ++ l) (sym (append-nil back))) taken stopped)
 

@@ -140,12 +140,8 @@ impl Input {
             return answer_piece(answering, self.lines, part, &mut self.replies);
         }
         self.begun.extend_from_slice(part)?;
-        answer_piece(
-            answering,
-            self.lines,
-            self.begun.as_slice(),
-            &mut self.replies,
-        )
+        let line = self.begun.as_slice();
+        answer_piece(answering, self.lines, line, &mut self.replies)
     }
 
     /// Takes the next bytes of a line, of which none ends it.
@@ -194,12 +190,7 @@ impl Input {
         if self.begun.is_empty() {
             return Ok(());
         }
-        answer_piece(
-            answering,
-            self.lines,
-            self.begun.as_slice(),
-            &mut self.replies,
-        )?;
+        self.answer_line(answering, &[])?;
         Ok(())
     }
 }

@@ -1,9 +1,9 @@
 -- Lemmas on plans that grow.
-use Rattle.std.proofs.Common.{◌≡◌, ℕ, ◌<◌, List, [], ◌∷◌, ◌++◌, arith, length, slice_index_or, slice_set, rules, OnOk, OnErr, Result}
+use Rattle.std.proofs.Common.{◌≡◌, ℕ, ◌<◌, List, [], ◌∷◌, ◌++◌, ap, arith, length, slice_index_or, slice_set, rules}
 use Rattle.std.proofs.Math.Seq.{map-set_same}
 use Rattle.std.specs.declared.alloc.Global.{Global}
 use Rattle.std.specs.declared.vec.Vec.{Vec}
-use Rattle.std.proofs.lemmas.List.{map-set, length-set, get_or-set_same, get_or-set_other, get_or-map}
+use Rattle.std.proofs.lemmas.List.{map-set, length-map, length-set, get_or-set_same, get_or-set_other, get_or-map}
 use Rattle.mv_message.specs.declared.message.Message.{Message}
 use Rattle.mv_party.specs.Site.{answers_in}
 use Rattle.mv_party.proofs.CallerLemmas.{answers_in-append}
@@ -25,19 +25,20 @@ set_can_run : (plan : Parts) (party : ℕ) (list : List Message) → CanRun plan
     → CanRun (record plan { work = slice_set plan.work party list })
 set_can_run plan party list runs below none = grind (arith, length-set, get_or-set_same, get_or-set_other)
 
-module _ {E : Type 0} (parties : List (List (List ℕ))) (limits : Bounds) (work : List (Vec Message Global)) (party : ℕ) (message : Message)
-    (was now : Vec Message Global) (found : was ≡ slice_index_or work party was) where
-  -- a plan whose list of one party grew by a message, or stayed as it was
-  pub grown : (r : Result (Unit {0}) E) (plan : Parts) → parts_in parties limits work ≡ plan → party < length work → OnOk r (now.items ≡ was.items ++ message ∷ [])
-      → OnOk r (parts_in parties limits (slice_set work party now) ≡ with_message plan party message)
-  grown r plan same below more = grind (arith, lists_more)
+module _ (parties : List (List (List ℕ))) (limits : Bounds) (work : List (Vec Message Global)) (party : ℕ) (was now : Vec Message Global)
+    (found : was ≡ slice_index_or work party was) (plan : Parts) (same : parts_in parties limits work ≡ plan) where
+  -- where the list of a party stayed as it was, so did the plan
+  pub kept : now.items ≡ was.items → parts_in parties limits (slice_set work party now) ≡ plan
+  kept stays = grind (arith, map-set_same)
 
-  -- where that list stayed as it was, so did the plan
-  pub not_grown : (r : Result (Unit {0}) E) (plan : Parts) → parts_in parties limits work ≡ plan → OnErr r (now.items ≡ was.items)
-      → OnErr r (parts_in parties limits (slice_set work party now) ≡ plan)
-  not_grown r plan same kept = grind (arith, map-set_same)
+  module _ (message : Message) (runs : CanRun (parts_in parties limits work)) (is_party : party < length plan.parties) (more : now.items ≡ was.items ++ message ∷ []) where
+    has_list : party < length work
+    has_list = let count = ap (λ (p : Parts). length p.parties) same in omega (arith, is_party, count, runs.each, length-map work items_of)
 
-  -- it can be run, where the message is no answer
-  pub grown_can_run : (r : Result (Unit {0}) E) → CanRun (parts_in parties limits work) → party < length work → answers_in (message ∷ []) ≡ []
-      → OnOk r (now.items ≡ was.items ++ message ∷ []) → OnErr r (now.items ≡ was.items) → CanRun (parts_in parties limits (slice_set work party now))
-  grown_can_run r runs below own more same = search (rules, get_or-map, map-set, answers_in-append)
+    -- where it grew by a message, so did the plan
+    pub grown : parts_in parties limits (slice_set work party now) ≡ with_message plan party message
+    grown = grind (arith, lists_more, has_list)
+
+    -- which can be run, where the message is no answer
+    pub grown_can_run : answers_in (message ∷ []) ≡ [] → CanRun (parts_in parties limits (slice_set work party now))
+    grown_can_run own = search (rules, has_list, get_or-map, map-set, answers_in-append)

@@ -1,9 +1,9 @@
 -- Lemmas on an input that was read.
-use Rattle.std.proofs.Common.{◌≡◌, ◌≢◌, ℕ, List, [], ◌∷◌, refl, arith, IfSome, map, Option, None, Ok, true, false, is_some, option_map}
+use Rattle.std.proofs.Common.{◌≡◌, ◌≢◌, ℕ, List, [], ◌∷◌, arith, IfSome, map, Option, None, Ok, true, false, is_some, option_map}
 use Rattle.std.specs.List.{fold}
 use Rattle.std.specs.Io.KnownBytes.{Consumes}
 use Rattle.mv_engine.specs.declared.fault.ServeFault.{ServeFault}
-use Rattle.mv_engine.specs.declared.fault.ServeFault.TheVariants.{Write, Memory}
+use Rattle.mv_engine.specs.declared.fault.ServeFault.TheVariants.{Write}
 use Rattle.mv_engine.specs.Replies.{ReplyRule, AreReplies}
 use Rattle.mv_engine.specs.Served.{Served, Ended}
 use Rattle.mv_engine.specs.Lines.{Line}
@@ -38,7 +38,3 @@ read_whole input before after planned old new nothing same served = grind (arith
 pub unread : {S : Type 0} (rule : ReplyRule S) (fault : ServeFault) (before : S) (input rest old new : Option (List ℕ)) → fault ≢ Write
     → (bytes : List ℕ) × Consumes input rest bytes × Ended rule fault before bytes old new → Unread fault input rest
 unread rule fault before input rest old new read h8 = grind arith
-
--- memory may be refused before anything was read
-pub unread_memory : (input rest : Option (List ℕ)) (bytes : List ℕ) → Consumes input rest bytes → Unread Memory input rest
-unread_memory input rest bytes took = (bytes, took, ([], bytes, refl, tt, record { few = omega (arith); short = λ k d below. omega (arith, below) }))

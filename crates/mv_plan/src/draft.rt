@@ -1,6 +1,6 @@
 //! A plan that grows by a message at a time.
 
-ghost use Rattle.std.specs.Prelude.{◌≡◌, ◌<◌, ◌++◌, ◌∷◌, [], length, replicate, nat_lt, IfOk, OnOk, OnErr};
+ghost use Rattle.std.specs.Prelude.{◌≡◌, ◌<◌, ◌∷◌, [], length, replicate, nat_lt, IfOk, OnOk, OnErr};
 ghost use Rattle.mv_party.specs.Site.{answers_in};
 ghost use Rattle.mv_plan.specs.Drafts.{lists_of};
 
@@ -60,7 +60,8 @@ impl Draft {
         ensures ok { OnOk result (self.new ≡ with_message self.old party message) }
         ensures err { OnErr result (self.new ≡ self.old) }
     {
-        add_to(&mut self.work[party as usize], message)
+        self.work[party as usize].push(message)?;
+        Ok(())
     }
 
     /// The parties, the limits, and what each party is to submit, party 0 first.
@@ -70,16 +71,6 @@ impl Draft {
     {
         (self.parties, self.limits, self.work)
     }
-}
-
-/// Adds a message to a list.
-fn add_to(list: &mut Vec<Message>, message: Message) -> Result<(), AllocError>
-    ensures ok { OnOk result (list.new.items ≡ list.old.items ++ message ∷ []) }
-    ensures err { OnErr result (list.new.items ≡ list.old.items) }
-{
-    list.reserve(1)?;
-    list.push_reserved(message);
-    Ok(())
 }
 
 /// So many lists of nothing.

@@ -1,3 +1,2 @@
 pub mod CommandLemmas
 pub mod WorkLemmas
-pub mod TellingLemmas

@@ -22,14 +22,6 @@ sound_of plan parts same runs =
     let kept : CanRun (parts_of plan) = subst CanRun (sym same) runs in
     record { each = kept.each; no_answers = kept.no_answers }
 
--- what was reported is what is written of an outcome
-pub reported_of : {E : Type 0} (r : Result Output E) (ran : Result State WorkFault) (outcome : State) (finished : Bool)
-    → output_of ran ≡ Ok (report_of finished outcome)
-    → IfOk r (λ output. string_bytes output.text ≡ report_text outcome ++ end_line finished) → IfOk r (λ output. output.finished ≡ finished)
-    → IfOk r (λ output. output_of ran ≡ Ok (string_bytes output.text, output.finished))
-reported_of (Ok output) ran outcome finished same text done = rw (text, done) same
-reported_of (Err e) ran outcome finished same text done = tt
-
 -- what is written of an outcome of a plan is its report
 reported_as : (output : Output) (plan : Plan) (outcome : State) (finished : Bool) → KeepsPlan plan outcome → IsTrue finished ↔ IsComplete plan outcome
     → report_of finished outcome ≡ (string_bytes output.text, output.finished)

@@ -1,6 +1,6 @@
 //! The status of a run that has ended, and what standard error is told of it.
 
-ghost use Rattle.std.specs.Prelude.{◌≡◌, ⊤, IfOk, MatchResult, map, string_bytes, if◌then◌else◌};
+ghost use Rattle.std.specs.Prelude.{◌≡◌, ℕ, ⊤, List, IfOk, MatchResult, map, string_bytes, if◌then◌else◌};
 ghost use Rattle.std.specs.Io.KnownBytes.{Keeps};
 ghost use Rattle.mv_engine.specs.Output.{WrotePart};
 ghost use Rattle.mv_tool.specs.Telling.{ToldCodes, ToldStrict, no_code_line, untaken_line};
@@ -49,22 +49,20 @@ pub(crate) fn status_of_strict<F: Write>(alloc: Global, run: StrictRun, faults: 
     match run.untaken {
         None => status_of(run.ended, faults),
         Some(untaken) => {
-            tell_untaken(alloc, untaken, faults);
+            tell(untaken_line(alloc, untaken), faults);
             let _ = status_of(run.ended, faults);
             Status::Failed
         }
     }
 }
 
-/// Tells which lines were not taken. A write that fails is passed over.
-fn tell_untaken<F: Write>(alloc: Global, untaken: Untaken, faults: &mut F)
-    ensures { WrotePart (untaken_line untaken) (F.contents faults.old) (F.contents faults.new) }
+/// Tells a line, where there was memory for it. A write that fails is passed over.
+fn tell<F: Write>(line: Result<String, AllocError>, faults: &mut F)
+    ensures { (text : List ℕ) → IfOk line (λ told. string_bytes told ≡ text)
+        → WrotePart text (F.contents faults.old) (F.contents faults.new) }
 {
-    match untaken_line(alloc, untaken) {
-        Ok(text) => {
-            let _ = put_out(faults, text.as_bytes());
-        }
-        Err(_) => {}
+    if let Ok(text) = line {
+        let _ = put_out(faults, text.as_bytes());
     }
 }
 
@@ -73,10 +71,7 @@ fn untaken_line(alloc: Global, untaken: Untaken) -> Result<String, AllocError>
     ensures { IfOk result (λ text. string_bytes text ≡ untaken_line untaken) }
 {
     let Untaken { count, first } = untaken;
-    let mut text = format!(in alloc; "mvhub: lines not taken: {count}")?;
-    let rest = format!(in alloc; ", the first: {first}\n")?;
-    text.push_str(rest.as_str())?;
-    Ok(text)
+    format!(in alloc; "mvhub: lines not taken: {count}, the first: {first}\n")
 }
 
 /// Writes what codes mean to `writer`; the first word that is no code is told on `faults`, and so is a fault, by its number.
@@ -93,22 +88,10 @@ pub(crate) fn explain_codes<W: Write, F: Write>(
     match explain(alloc, words) {
         Ok(text) => status_of(put_out(writer, text.as_bytes()), faults),
         Err(ExplainFault::NoCode(word)) => {
-            tell_no_code(alloc, word, faults);
+            tell(no_code_line(alloc, word), faults);
             Status::Refused
         }
         Err(ExplainFault::Memory) => status_of(Err(ServeFault::Memory), faults),
-    }
-}
-
-/// Tells that a word is no code. A write that fails is passed over.
-fn tell_no_code<F: Write>(alloc: Global, word: &str, faults: &mut F)
-    ensures { WrotePart (no_code_line word.now) (F.contents faults.old) (F.contents faults.new) }
-{
-    match no_code_line(alloc, word) {
-        Ok(text) => {
-            let _ = put_out(faults, text.as_bytes());
-        }
-        Err(_) => {}
     }
 }
 

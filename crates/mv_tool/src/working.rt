@@ -4,8 +4,7 @@ ghost use Rattle.std.specs.Prelude.{◌≡◌, ◌++◌, ◌∷◌, [], ◌⊎�
 ghost use Rattle.mv_workers.specs.Plans.{IsSound};
 ghost use Rattle.mv_plan.specs.Planning.{planned_of};
 ghost use Rattle.mv_plan.specs.Drafts.{Parts};
-ghost use Rattle.mv_report.specs.Report.{report_text};
-ghost use Rattle.mv_tool.specs.Working.{end_line, parts_of, output_of, IsOutput, Worked, Failed};
+ghost use Rattle.mv_tool.specs.Working.{end_line, parts_of, report_of, output_of, IsOutput, Worked, Failed};
 
 use mv_ends::Outcome;
 use mv_lines::{OpenFault, ServeFault, put_out, refusal_text};
@@ -124,8 +123,8 @@ fn output_of(alloc: Global, run: Result<Outcome, WorkFault>) -> Result<Output, S
 
 /// The report of an outcome, and whether it is complete. The outcome is not taken apart.
 fn reported(alloc: Global, outcome: Outcome, finished: bool) -> Result<Output, ServeFault>
-    ensures text { IfOk result (λ output. string_bytes output.text ≡ report_text outcome ++ end_line finished) }
-    ensures finished { IfOk result (λ output. output.finished ≡ finished) }
+    ensures ok { IfOk result (λ output.
+        report_of finished outcome ≡ (string_bytes output.text, output.finished)) }
     ensures err { IfErr result (λ fault. fault ≡ ServeFault.Memory) }
 {
     let written = report(alloc, &outcome);

@@ -149,9 +149,7 @@ fn explain_task<'a>(alloc: Global, given: &ArgMatches<'a>) -> Result<Option<Task
     let Some(words) = given.get_strs("code") else {
         return Ok(None);
     };
-    let mut codes = Vec::new(alloc);
-    codes.extend_from_slice(words)?;
-    Ok(Some(Task::Explain {
-        codes: Codes { words: codes },
-    }))
+    let words = Vec::from_slice(alloc, words)?;
+    let codes = Codes { words };
+    Ok(Some(Task::Explain { codes }))
 }

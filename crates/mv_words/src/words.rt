@@ -6,9 +6,7 @@ ghost use Rattle.clap.specs.declared.builder.command.Command.TheViews.{out-Comma
 ghost use Rattle.mv_words.specs.Words.{code_rule, command_line, flag_rule, mvhub, turns_rule};
 
 use crate::texts::{
-    CANON, CANON_EXAMPLE, CHECK, CODES, EXPLAIN, EXPLAIN_EXAMPLE, PROGRAM, SHOW, SHOW_EXAMPLE,
-    STEPS, STEPS_EXAMPLE, STRICT, TRAIL, TRAIL_EXAMPLE, TURNS, VERSION, WHERE_TO_READ, WORK,
-    WORK_EXAMPLE,
+    CANON, CHECK, CODES, EXPLAIN, Help, PROGRAM, SHOW, STEPS, STRICT, TRAIL, TURNS, VERSION, WORK,
 };
 use clap::builder::ValueParser;
 use clap::{Arg, ArgAction, Command};
@@ -19,51 +17,40 @@ pub fn command_line<'a>(alloc: Global) -> Result<Command<'a>, AllocError>
     ensures { IfOk result (λ line. app_of line ≡ command_line) }
 {
     program(alloc)
-        .subcommand(taking(
-            alloc,
-            "steps",
-            STEPS,
-            STEPS_EXAMPLE,
-            flag(alloc, "strict", STRICT),
-        )?)?
-        .subcommand(told(alloc, "trail", TRAIL, TRAIL_EXAMPLE))?
-        .subcommand(told(alloc, "show", SHOW, SHOW_EXAMPLE))?
-        .subcommand(taking(
-            alloc,
-            "canon",
-            CANON,
-            CANON_EXAMPLE,
-            flag(alloc, "check", CHECK),
-        )?)?
-        .subcommand(taking(alloc, "work", WORK, WORK_EXAMPLE, turns(alloc))?)?
-        .subcommand(taking(alloc, "explain", EXPLAIN, EXPLAIN_EXAMPLE, codes(alloc))?)
+        .subcommand(taking(alloc, "steps", STEPS, flag(alloc, "strict", STRICT))?)?
+        .subcommand(told(alloc, "trail", TRAIL))?
+        .subcommand(told(alloc, "show", SHOW))?
+        .subcommand(taking(alloc, "canon", CANON, flag(alloc, "check", CHECK))?)?
+        .subcommand(taking(alloc, "work", WORK, turns(alloc))?)?
+        .subcommand(taking(alloc, "explain", EXPLAIN, codes(alloc))?)
 }
 
 /// The program, with no subcommand yet.
 fn program<'a>(alloc: Global) -> Command<'a>
     ensures { app_of result ≡ mvhub }
 {
-    told(alloc, "mvhub", PROGRAM, WHERE_TO_READ)
+    told(alloc, "mvhub", PROGRAM)
         .version(VERSION)
         .arg_required_else_help(true)
         .subcommand_required(true)
 }
 
-/// A command of this name, with what its help says first and last.
-fn told<'a>(alloc: Global, name: &'a str, first: &'a str, last: &'a str) -> Command<'a>
+/// A command of this name, with its help.
+fn told<'a>(alloc: Global, name: &'a str, help: Help) -> Command<'a>
     ensures app { app_of result ≡ new_app name.entry.now }
     ensures shape { shape_of result ≡ (new_app name.entry.now).top }
     ensures local { (fields_of result).has_globals ≡ false }
 {
-    Command::new(alloc, name).about(first).after_help(last)
+    Command::new(alloc, name)
+        .about(help.about)
+        .after_help(help.below)
 }
 
 /// A command of this name that takes an argument.
 fn taking<'a>(
     alloc: Global,
     name: &'a str,
-    first: &'a str,
-    last: &'a str,
+    help: Help,
     arg: Arg<'a>,
 ) -> Result<Command<'a>, AllocError>
     requires { arg.global ≡ false }
@@ -71,7 +58,7 @@ fn taking<'a>(
         → IfOk result (λ command. shape_of command ≡ (with_rule (new_app name.entry.now) rule).top) }
     ensures local { IfOk result (λ command. (fields_of command).has_globals ≡ false) }
 {
-    told(alloc, name, first, last).arg(arg)
+    told(alloc, name, help).arg(arg)
 }
 
 /// An option that is given or not, with no value.

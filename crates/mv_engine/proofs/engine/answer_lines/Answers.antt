@@ -1,4 +1,4 @@
-use Rattle.std.proofs.Common.{rules}
+use Rattle.std.proofs.Common.{arith, rules}
 use Rattle.mv_engine.proofs.Words.{Consumes-kept, Consumes-whole, Consumes-trans, Appends-trans, err_from_is_err_and, IfErr-weaker, MatchResult-weaker}
 use Rattle.mv_engine.proofs.InputLemmas.{taken_more}
 use Rattle.mv_engine.proofs.ServedLemmas.{unread_at, halted_block, halted_last, served_whole, read_none}
@@ -8,21 +8,13 @@ use Rattle.mv_engine.proofs.engine.answer_lines.Goals as goal
 pub returns-in_err-count-clause-ended : goal.returns-in_err-count-clause-ended
 returns-in_err-count-clause-ended g c =
     let p = err_from_is_err_and c.from_residual.result c.from_residual.ensures.1 in
-    rw (p.1, p.2, c.in_err-count.ensures.fault) (
-      c.loop.invariant.0,
-      Consumes-kept _ _ _ _ c.loop.invariant.1 c.in_err-count.ensures.err,
-      unread_at g.S.Answering.replies _ _ _ _ _ _ _ _ c.loop.invariant.3 c.loop.invariant.4 c.loop.input.few c.loop.input.not_behind c.loop.input.short,
-    )
+    rw (p.1, p.2, c.in_err-count.ensures.fault) (c.loop.invariant.0, search (rules, Consumes-kept), search (rules, unread_at))
 
 -- the bytes that were read stopped it
 pub returns-in_err-answer_block-clause-ended : goal.returns-in_err-answer_block-clause-ended
 returns-in_err-answer_block-clause-ended g c =
     let p = err_from_is_err_and c.from_residual-in_err-answer_block.result c.from_residual-in_err-answer_block.ensures.1 in
-    rw (p.1, p.2) (
-      _,
-      Consumes-trans _ _ _ _ _ c.loop.invariant.1 c.in_ok-count.ensures.read,
-      halted_block g.S.Answering.replies _ _ _ _ _ _ _ _ _ _ _ _ c.loop.invariant.3 c.loop.invariant.4 c.in_err-answer_block.ensures.err,
-    )
+    rw (p.1, p.2) (_, Consumes-trans _ _ _ _ _ c.loop.invariant.1 c.in_ok-count.ensures.read, grind (arith, halted_block))
 
 -- one more block is answered
 pub loop-preserved : goal.loop-preserved
@@ -45,11 +37,8 @@ returns-then-count-eq0-clause-ok g c =
 -- the input ended, and the answering of the last line failed
 pub returns-then-count-eq0-clause-ended : goal.returns-then-count-eq0-clause-ended
 returns-then-count-eq0-clause-ended g c =
-    MatchResult-weaker c.answer_last.result c.answer_last.ensures.err (λ u t. t) (λ fault halted. (
-      c.loop.invariant.0,
-      read_none _ _ _ _ _ _ c.loop.invariant.1 c.in_ok-count.ensures.read c.if-count-eq0.true,
-      halted_last g.S.Answering.replies fault _ _ _ _ _ _ _ _ _ _ c.loop.invariant.3 c.loop.invariant.4 halted,
-    ))
+    MatchResult-weaker c.answer_last.result c.answer_last.ensures.err (λ u t. t) (λ fault halted.
+    (c.loop.invariant.0, read_none _ _ _ _ _ _ c.loop.invariant.1 c.in_ok-count.ensures.read c.if-count-eq0.true, grind (arith, halted, halted_last)))
 
 -- no more reads are made
 pub returns-clause-ended : goal.returns-clause-ended

@@ -1,4 +1,4 @@
-use Rattle.std.proofs.Common.{◌≡◌, ◌∙◌, None, Some, ap, map, option_map, string_bytes, subst, sym}
+use Rattle.std.proofs.Common.{◌≡◌, ◌∙◌, ap, map, string_bytes, subst, sym}
 use Rattle.mv_words.specs.Words.{AreMistaken, AsksFor}
 use Rattle.mv_tool.specs.Statuses.{status_code}
 use Rattle.mv_tool.proofs.CommandLemmas.{kind_mistaken}

@@ -1,7 +1,6 @@
-use Rattle.std.proofs.Common.{◌∙◌}
-use Rattle.mv_tool.proofs.TellingLemmas.{untaken_joined}
+use Rattle.std.proofs.Common.{◌∙◌, append_assoc}
+use Rattle.std.proofs.lemmas.Result.{IfOk-weaker}
 use Rattle.mv_tool.proofs.telling.untaken_line.Goals as goal
 
 pub returns : goal.returns
-returns c =
-    untaken_joined _ _ _ c.args.untaken c.in_ok-push_str.ensures.bytes c.in_ok-text.ensures.ok (c.as_str.ensures.value ∙ c.in_ok-rest.ensures.ok)
+returns c = IfOk-weaker c.format.result _ _ (λ text is. is ∙ simp append_assoc) c.format.ensures.ok

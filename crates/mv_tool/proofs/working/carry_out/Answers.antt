@@ -1,6 +1,5 @@
-use Rattle.std.proofs.Common.{ap, string_bytes, subst}
-use Rattle.std.proofs.lemmas.Result.{IfOk-weaker, IfErr-weaker}
-use Rattle.mv_plan.specs.Planning.{planned_of}
+use Rattle.std.proofs.Common.{arith, string_bytes, subst}
+use Rattle.std.proofs.lemmas.Result.{IfOk-weaker}
 use Rattle.mv_tool.specs.Working.{IsReported}
 use Rattle.mv_tool.proofs.WorkLemmas.{run_reported, run_fails}
 use Rattle.mv_tool.proofs.working.carry_out.Goals as goal
@@ -13,6 +12,4 @@ returns-in-Plan-clause-ok g c =
 
 -- or there is none
 pub returns-in-Plan-clause-err : goal.returns-in-Plan-clause-err
-returns-in-Plan-clause-err g c =
-    IfErr-weaker c.output_of.result _ _ (λ fault is. run_fails fault (planned_of c.args.planned) c.in-Plan.draft c.run_workers.result (ap planned_of c.in-Plan.is) is)
-    c.output_of.ensures.err
+returns-in-Plan-clause-err g c = grind (arith, run_fails)

@@ -1,21 +1,16 @@
+use Rattle.std.proofs.Common.{arith}
 use Rattle.std.proofs.lemmas.Result.{err_from_is_err_and}
 use Rattle.mv_tool.proofs.WorkLemmas.{worked_whole, worked_part, work_stopped}
 use Rattle.mv_tool.proofs.working.work.Goals as goal
 
 -- memory was refused, or a plan could not be started
 pub returns-in_err-output-clause-err : goal.returns-in_err-output-clause-err
-returns-in_err-output-clause-err g c =
-    let p = err_from_is_err_and c.from_residual-in_err-output.result c.from_residual-in_err-output.ensures.1 in
-    rw (p.1, p.2) (work_stopped _ _ _ _ _ c.in_err-output.ensures.err c.in_ok-planned.ensures.ok)
+returns-in_err-output-clause-err g c = grind (arith, err_from_is_err_and, work_stopped)
 
 -- the write failed
 pub returns-in_err-put_out-clause-err : goal.returns-in_err-put_out-clause-err
-returns-in_err-put_out-clause-err g c =
-    let p = err_from_is_err_and c.from_residual-in_err-put_out.result c.from_residual-in_err-put_out.ensures.1 in
-    rw (p.1, p.2, c.in_err-put_out.ensures.fault)
-    (worked_part _ _ _ _ _ _ c.in_ok-output.output.finished c.in_ok-planned.ensures.ok c.in_ok-output.ensures.ok c.as_bytes.ensures.value c.in_err-put_out.ensures.err)
+returns-in_err-put_out-clause-err g c = grind (arith, err_from_is_err_and, worked_part)
 
 -- the output went out
 pub returns-clause-ok : goal.returns-clause-ok
-returns-clause-ok g c =
-    worked_whole _ _ _ _ _ _ c.in_ok-output.output.finished c.in_ok-planned.ensures.ok c.in_ok-output.ensures.ok c.as_bytes.ensures.value c.in_ok-put_out.ensures.ok
+returns-clause-ok g c = grind (arith, worked_whole)

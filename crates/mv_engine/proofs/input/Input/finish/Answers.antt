@@ -1,16 +1,15 @@
-use Rattle.std.proofs.Common.{[], append-nil}
+use Rattle.std.proofs.Common.{refl, []}
 use Rattle.mv_engine.proofs.Words.{err_from_is_err_and, Memory}
 use Rattle.mv_engine.proofs.InputLemmas.{none_added, part_stopped}
 use Rattle.mv_engine.proofs.PartLemmas.{unended_nil}
 use Rattle.mv_engine.proofs.input.Input.finish.Goals as goal
 
 -- the line got no reply
-pub returns-in_err-answer_piece-clause-err : goal.returns-in_err-answer_piece-clause-err
-returns-in_err-answer_piece-clause-err g c =
+pub returns-in_err-answer_line-clause-err : goal.returns-in_err-answer_line-clause-err
+returns-in_err-answer_line-clause-err g c =
     let p = err_from_is_err_and c.from_residual.result c.from_residual.ensures.1 in
-    rw (p.1, p.2, c.in_err-answer_piece.ensures.fault) (
+    rw (p.1, p.2, c.in_err-answer_line.ensures.fault) (
       [],
-      none_added _ _ c.in_err-answer_piece.ensures.err,
-      part_stopped g.S.Answering.replies Memory _ [] [] _ _ _ unended_nil c.args.self.now.few tt
-          (rw (append-nil c.args.self.now.begun.items, ← c.as_slice.ensures.value) c.in_err-answer_piece.ensures.left),
+      none_added _ _ c.in_err-answer_line.ensures.err,
+      part_stopped g.S.Answering.replies Memory _ [] [] _ _ _ unended_nil c.args.self.now.few tt c.in_err-answer_line.ensures.left,
     )

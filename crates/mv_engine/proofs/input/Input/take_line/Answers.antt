@@ -7,11 +7,7 @@ use Rattle.mv_engine.proofs.input.Input.take_line.Goals as goal
 pub returns-in_err-check_part-clause-err : goal.returns-in_err-check_part-clause-err
 returns-in_err-check_part-clause-err g c =
     let p = err_from_is_err_and c.from_residual.result c.from_residual.ensures.1 in
-    rw (p.1, p.2) (
-      [],
-      none_added _ _ refl,
-      stopped_in g.S.Answering.replies _ _ _ (10 ∷ []) _ _ c.requires.unended c.args.self.now.few c.in_err-check_part.ensures.err,
-    )
+    rw (p.1, p.2) ([], none_added _ _ refl, grind (arith, stopped_in))
 
 -- no line may follow
 pub returns-then-self-eq-LINES_LIMIT-clause-err : goal.returns-then-self-eq-LINES_LIMIT-clause-err
@@ -21,11 +17,7 @@ returns-then-self-eq-LINES_LIMIT-clause-err g c = grind (arith, common_steps)
 pub returns-in_err-answer_line-clause-err : goal.returns-in_err-answer_line-clause-err
 returns-in_err-answer_line-clause-err g c =
     let p = err_from_is_err_and c.from_residual-in_err-answer_line.result c.from_residual-in_err-answer_line.ensures.1 in
-    rw (p.1, p.2, c.in_err-answer_line.ensures.fault) (
-      [],
-      none_added _ _ c.in_err-answer_line.ensures.err,
-      part_stopped g.S.Answering.replies Memory _ _ (10 ∷ []) _ _ _ c.requires.unended c.args.self.now.few tt c.in_err-answer_line.ensures.left,
-    )
+    rw (p.1, p.2, c.in_err-answer_line.ensures.fault) ([], none_added _ _ c.in_err-answer_line.ensures.err, grind (arith, part_stopped))
 
 -- the line is answered
 pub returns-clause-ok : goal.returns-clause-ok

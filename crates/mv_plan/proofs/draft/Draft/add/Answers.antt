@@ -1,27 +1,24 @@
-use Rattle.std.proofs.Common.{◌<◌, ap, arith, length}
-use Rattle.std.proofs.lemmas.List.{length-map}
-use Rattle.mv_plan.specs.Drafts.{Parts}
-use Rattle.mv_plan.proofs.DraftLemmas.{items_of, grown, grown_can_run, not_grown}
+use Rattle.std.proofs.Common.{refl, subst, sym}
+use Rattle.std.proofs.lemmas.Result.{err_from_is_err_and}
+use Rattle.mv_plan.specs.Drafts.{CanRun}
+use Rattle.mv_plan.proofs.DraftLemmas.{grown, grown_can_run, kept}
 use Rattle.mv_plan.proofs.draft.Draft.add.Goals as goal
 
 pub invariant_of-self : goal.invariant_of-self
 invariant_of-self c =
-    let d = c.self.inside in
-    let same = ap (λ (p : Parts). length p.parties) c.self.view_is in
-    let below : c.args.party < length d.work.items = omega (arith, c.requires.party, same, c.self.invariant.each, length-map d.work.items items_of) in
-    grown_can_run d.parties d.limits d.work.items c.args.party c.args.message c.index_mut.result.now c.add_to.new.list c.index_mut.ensures.value c.add_to.result
-    c.self.invariant below c.requires.own c.add_to.ensures.ok c.add_to.ensures.err
+    subst CanRun (sym (kept _ _ c.self.inside.work.items c.args.party _ c.push.new.self c.index_mut.ensures.value _ refl c.in_err-push.ensures.items)) c.self.invariant
+
+pub returns-in_err-push-clause-err : goal.returns-in_err-push-clause-err
+returns-in_err-push-clause-err c =
+    rw (err_from_is_err_and c.from_residual.result c.from_residual.ensures.1).1
+    (kept _ _ c.self.inside.work.items c.args.party _ c.push.new.self c.index_mut.ensures.value _ c.self.view_is c.in_err-push.ensures.items)
+
+pub invariant_of-self-2 : goal.invariant_of-self-2
+invariant_of-self-2 c =
+    grown_can_run _ _ c.self.inside.work.items c.args.party _ c.push.new.self c.index_mut.ensures.value _ c.self.view_is c.args.message c.self.invariant c.requires.party
+    c.in_ok-push.ensures.items c.requires.own
 
 pub returns-clause-ok : goal.returns-clause-ok
 returns-clause-ok c =
-    let d = c.self.inside in
-    let same = ap (λ (p : Parts). length p.parties) c.self.view_is in
-    let below : c.args.party < length d.work.items = omega (arith, c.requires.party, same, c.self.invariant.each, length-map d.work.items items_of) in
-    grown d.parties d.limits d.work.items c.args.party c.args.message c.index_mut.result.now c.add_to.new.list c.index_mut.ensures.value c.add_to.result
-    c.args.self.now c.self.view_is below c.add_to.ensures.ok
-
-pub returns-clause-err : goal.returns-clause-err
-returns-clause-err c =
-    let d = c.self.inside in
-    not_grown d.parties d.limits d.work.items c.args.party c.args.message c.index_mut.result.now c.add_to.new.list c.index_mut.ensures.value c.add_to.result
-    c.args.self.now c.self.view_is c.add_to.ensures.err
+    grown _ _ c.self.inside.work.items c.args.party _ c.push.new.self c.index_mut.ensures.value _ c.self.view_is c.args.message c.self.invariant c.requires.party
+    c.in_ok-push.ensures.items

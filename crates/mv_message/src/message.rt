@@ -152,19 +152,25 @@ impl Message {
                 expiry,
                 national,
                 serials,
-            } => Ok(Message::Upload {
-                gtin: *gtin,
-                batch: batch.copy(),
-                expiry: *expiry,
-                national: national_copy(national),
-                serials: serials.copy(alloc)?,
-            }),
-            Message::Status { key, to, user, at } => Ok(Message::Status {
-                key: key.copy(),
-                to: *to,
-                user: user.copy(alloc)?,
-                at: *at,
-            }),
+            } => {
+                let serials = serials.copy(alloc)?;
+                Ok(Message::Upload {
+                    gtin: *gtin,
+                    batch: batch.copy(),
+                    expiry: *expiry,
+                    national: national_copy(national),
+                    serials,
+                })
+            }
+            Message::Status { key, to, user, at } => {
+                let user = user.copy(alloc)?;
+                Ok(Message::Status {
+                    key: key.copy(),
+                    to: *to,
+                    user,
+                    at: *at,
+                })
+            }
             Message::Recall { key, at } => Ok(Message::Recall {
                 key: key.copy(),
                 at: *at,
@@ -175,13 +181,17 @@ impl Message {
                 after,
                 after_serials,
                 at,
-            } => Ok(Message::Repack {
-                before: Boxed::new(alloc, before.get().copy())?,
-                before_serials: before_serials.copy(alloc)?,
-                after: Boxed::new(alloc, after.get().copy())?,
-                after_serials: after_serials.copy(alloc)?,
-                at: *at,
-            }),
+            } => {
+                let (before, before_serials) = side_copy(alloc, before.get(), before_serials)?;
+                let (after, after_serials) = side_copy(alloc, after.get(), after_serials)?;
+                Ok(Message::Repack {
+                    before,
+                    before_serials,
+                    after,
+                    after_serials,
+                    at: *at,
+                })
+            }
             Message::Withdraw { gtin, at } => Ok(Message::Withdraw {
                 gtin: *gtin,
                 at: *at,
@@ -200,4 +210,15 @@ impl Message {
             }),
         }
     }
+}
+
+/// One side of a repackaging, with the same values: its batch, and the serial numbers of its packs.
+fn side_copy(
+    alloc: Global,
+    batch: &BatchKey,
+    serials: &Serials,
+) -> Result<(Boxed<BatchKey>, Serials), AllocError>
+    ensures { IfOk result (λ side. (side.0 ≡ batch.now) × (side.1 ≡ serials.now)) }
+{
+    Ok((Boxed::new(alloc, batch.copy())?, serials.copy(alloc)?))
 }

@@ -74,12 +74,24 @@ impl<T: Drop> PairTable<T> {
     {
         let mut rows = Vec::new(alloc);
         for _from in 0..count {
-            let mut row = Vec::new(alloc);
-            for _to in 0..count {
-                row.push(make()?)?;
-            }
-            rows.push(row)?;
+            rows.push(row_from_fn(alloc, count, &make)?)?;
         }
         Ok(PairTable { rows })
     }
+}
+
+/// A row of so many values that `make` gives.
+fn row_from_fn<T: Drop, F: Fn() -> Result<T, AllocError>>(
+    alloc: Global,
+    count: u32,
+    make: &F,
+) -> Result<Vec<T>, AllocError>
+    requires { F.IsAlwaysCallable make.now }
+    ensures { IfOk result (λ row. (length row.items ≡ count) × All (λ value. F.post make.now (Ok value)) row.items) }
+{
+    let mut row = Vec::new(alloc);
+    for _to in 0..count {
+        row.push(make()?)?;
+    }
+    Ok(row)
 }

@@ -9,9 +9,3 @@ invariant-loop-from g l = record {
   long : All (λ row. length row ≡ l.count) (rows_of l.rows.items);
   each : All (All (λ v. goal.F-post g l.make (Ok v))) (rows_of l.rows.items);
 }
-
-abbrev pub invariant-loop-to : goal.invariant-loop-to
-invariant-loop-to g l = record {
-  len : length l.row.items ≡ l._to;
-  each : All (λ v. goal.F-post g l.make (Ok v)) l.row.items;
-}
